@@ -1,0 +1,6 @@
+pub mod Seen
+pub mod Who
+pub mod ReportsSeen
+pub mod PathLevels
+pub mod Handlers
+pub mod Cell

@@ -1,0 +1,40 @@
+//! What drivers ask of a line (`kernel/irq/manage.c`).
+use crate::lists::ItemList;
+use crate::numbers::{DevNo, DriverNo};
+
+/// The flags of a request (`IRQF_SHARED`, `IRQF_ONESHOT`, `IRQF_NO_AUTOEN`, `include/linux/interrupt.h`).
+#[derive(Clone, Copy, PartialEq, Eq)]
+pub struct Flags {
+    /// The line may have other actions.
+    pub shared: bool,
+    /// The line stays masked until the thread has run.
+    pub oneshot: bool,
+    /// The request doesn't enable the line.
+    pub noauto: bool,
+}
+
+/// A call of a driver's script, on the one line that it is about.
+#[derive(Clone, Copy, PartialEq, Eq)]
+pub enum Call {
+    /// The device raises one request for service.
+    Ask { dev: DevNo },
+    /// `request_threaded_irq`.
+    Request { dev: DevNo, flags: Flags },
+    /// `free_irq`.
+    Free { dev: DevNo },
+    /// `disable_irq`.
+    Disable,
+    /// `disable_irq_nosync`.
+    DisableNosync,
+    /// `enable_irq`.
+    Enable,
+    /// `synchronize_irq`.
+    Sync,
+    /// `irq_set_affinity`: bit c of the mask stands for processor c.
+    Affinity { mask: u32 },
+    /// The time in milliseconds, handed in (`jiffies`, as `kernel/irq/spurious.c` reads it).
+    Moment { at: u32 },
+}
+
+/// The calls on a line, each with its driver. Each driver's stand in the order of its script.
+pub type CallList = ItemList<(DriverNo, Call)>;

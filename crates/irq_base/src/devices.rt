@@ -1,0 +1,46 @@
+//! Devices: what raises interrupts, and how its handlers answer.
+use crate::lists::ItemList;
+use crate::numbers::{DevNo, LineNo};
+
+/// What a run of a handler answers (`enum irqreturn`, `include/linux/irqreturn.h`).
+#[derive(Clone, Copy, PartialEq, Eq)]
+pub enum Answer {
+    /// `IRQ_NONE`: the device had nothing to be served.
+    Nothing,
+    /// `IRQ_HANDLED`.
+    Handled,
+    /// `IRQ_WAKE_THREAD`: the device's thread is to run.
+    Wake,
+}
+
+/// Which of a device's two handlers runs (`handler` and `thread_fn` of `struct irqaction`).
+#[derive(Clone, Copy, PartialEq, Eq)]
+pub enum Part {
+    Primary,
+    Thread,
+}
+
+/// How a device's handlers work (ours).
+#[derive(Clone, Copy, PartialEq, Eq)]
+pub enum Kind {
+    /// The primary handler serves. There is no thread.
+    Direct,
+    /// The primary handler looks whether an ask is unserved, and wakes the thread, which serves.
+    Check,
+    /// The default primary handler (`irq_default_primary_handler`, `kernel/irq/manage.c`) always wakes the
+    /// thread, which serves.
+    Null,
+    /// The handler never serves and never recognises its device.
+    Stuck,
+}
+
+/// A device, the line it raises, and its kind.
+#[derive(Clone, Copy, PartialEq, Eq)]
+pub struct DeviceDef {
+    pub dev: DevNo,
+    pub line: LineNo,
+    pub kind: Kind,
+}
+
+/// The devices of a line, in order.
+pub type DeviceList = ItemList<DeviceDef>;

@@ -1,0 +1,32 @@
+//! The words of the interrupt layer: what a line is made of, what its drivers ask of it, and the entries of
+//! its history.
+//!
+//! Everything here is plain data, but for the lists, which contracts see as lists. One entry stands for one
+//! hold of a line's descriptor lock (`raw_spin_lock` of `struct irq_desc`, `include/linux/irqdesc.h`), and
+//! `History` is what those holds left behind, the oldest first.
+#![tactic(auto)]
+
+pub mod calls;
+pub mod devices;
+pub mod domains;
+pub mod entries;
+pub mod histories;
+pub mod lines;
+pub mod lists;
+pub mod memory;
+pub mod numbers;
+pub mod reporting;
+
+pub use calls::{Call, CallList, Flags};
+pub use devices::{Answer, DeviceDef, DeviceList, Kind, Part};
+pub use domains::{DomainDef, LevelKind, MapKind, Path};
+pub use entries::{
+    Actor, AffinityAnswer, EnableAnswer, Entry, Errno, LinkAnswer, Note, Opened, Resend,
+    TakeAnswer, UnlinkAnswer, Way,
+};
+pub use histories::History;
+pub use lines::{FlowKind, LineDef, Trigger};
+pub use lists::ItemList;
+pub use memory::NoMemory;
+pub use numbers::{CpuNo, DevNo, DriverNo, LineNo};
+pub use reporting::{LineReport, Reports};

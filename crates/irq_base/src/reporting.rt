@@ -1,0 +1,87 @@
+//! The histories that a run of the program hands out.
+ghost use Rattle.std.specs.Prelude.{◌≡◌, ℕ, ◌+◌, ◌-◌, ◌<◌, ◌≤◌, ◌==◌, [], ◌∷◌, ◌++◌, length, IfOk, OnOk, OnErr, IsOk, slice_get};
+ghost use Rattle.std.specs.Option.{option_copied};
+
+use crate::histories::History;
+use crate::memory::NoMemory;
+use crate::numbers::LineNo;
+use std::alloc::Global;
+use std::marker::Model;
+
+/// A line's number and its history.
+#[derive(Drop)]
+pub struct LineReport {
+    pub line: LineNo,
+    pub history: History,
+}
+
+/// One report a line. Contracts see the list of them, and `spare`, how many more fit without memory.
+#[derive(Drop)]
+pub struct Reports {
+    reports: Vec<LineReport>,
+}
+
+impl Model for Reports {
+    ghost use Rattle.std.specs.Prelude.{◌-◌, vec_len, vec_capacity};
+    ghost use Rattle.irq_base.specs.ReportsSeen.{ReportsSeen};
+
+    ghost Value = { ReportsSeen };
+
+    ghost view = { λ r. record { reports = r.reports.items; spare = vec_capacity r.reports - vec_len r.reports } };
+}
+
+impl Reports {
+    /// The empty list. It takes no memory yet.
+    pub fn new(alloc: Global) -> Reports
+        ensures { result.reports ≡ [] }
+    {
+        Reports {
+            reports: Vec::new(alloc),
+        }
+    }
+
+    /// Makes room for `n` more reports. Refused, all is as before.
+    pub fn reserve(&mut self, n: usize) -> Result<(), NoMemory>
+        ensures room { OnOk result (n ≤ self.new.spare) }
+        ensures same { self.new.reports ≡ self.old.reports }
+        ensures refused { OnErr result (self.new ≡ self.old) }
+    {
+        self.reports.reserve(n)?;
+        Ok(())
+    }
+
+    /// Adds the report at the end. Refused, the list is as before; with spare room it isn't refused.
+    pub fn push(&mut self, report: LineReport) -> Result<(), NoMemory>
+        ensures ok { OnOk result (self.new.reports ≡ self.old.reports ++ report ∷ []) }
+        ensures err { OnErr result (self.new ≡ self.old) }
+        ensures succeeds { 1 ≤ self.old.spare → IsOk result }
+        ensures spare { 1 ≤ self.old.spare → self.new.spare ≡ self.old.spare - 1 }
+    {
+        if self.reports.len() == self.reports.capacity() {
+            self.reports.reserve(1)?;
+        }
+        self.reports.push_reserved(report);
+        Ok(())
+    }
+
+    /// The number of reports.
+    pub fn len(&self) -> usize
+        ensures { result ≡ length self.now.reports }
+    {
+        self.reports.len()
+    }
+
+    /// Whether there are none.
+    pub fn is_empty(&self) -> bool
+        ensures { result ≡ (length self.now.reports == 0) }
+    {
+        self.reports.is_empty()
+    }
+
+    /// The report at the place, counted from 0.
+    pub fn get(&self, i: usize) -> Option<&LineReport>
+        ensures { option_copied result ≡ slice_get self.now.reports i }
+    {
+        self.reports.get(i)
+    }
+}
