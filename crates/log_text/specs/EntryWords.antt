@@ -35,8 +35,7 @@ entry_words (entries.Affinity driver mask answer) =
     driver_word driver ∷ codes "affinity" ∷ decimal mask ∷ affinity_words answer
 entry_words (entries.Moment driver at) = driver_word driver ∷ codes "moment" ∷ decimal at ∷ []
 
--- A refused request opened nothing, and a mask is refused as invalid. A row says neither, so that it tells
--- two entries apart only where both are so.
+-- A request that was refused opened nothing, and a mask is only refused as invalid: other entries have no row.
 abbrev pub IsPrintable : Entry → Type 0
 IsPrintable (entries.Request driver dev flags (links.Refused errno) opened) = opened ≡ openings.No
 IsPrintable (entries.Affinity driver mask (affinities.Refused errno)) = errno ≡ errnos.Inval

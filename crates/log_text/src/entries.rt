@@ -1,5 +1,5 @@
 //! The row of an entry.
-ghost use Rattle.std.specs.Prelude.{◌≡◌, ◌+◌, ◌≤◌, [], ◌∷◌, ◌++◌, length, codes, decimal};
+ghost use Rattle.std.specs.Prelude.{◌≡◌, ◌≤◌, [], ◌∷◌, ◌++◌, length, codes};
 ghost use Rattle.log_text.specs.Words.{driver_word, cpu_word, thread_word, resend_word, error_word, opened_words};
 ghost use Rattle.log_text.specs.EntryWords.{entry_words, IsPrintable};
 ghost use Rattle.log_text.specs.Rows.{entry_text};
@@ -12,10 +12,10 @@ use irq_base::{
     LinkAnswer, Note, Opened, Resend, TakeAnswer, UnlinkAnswer, Way,
 };
 
-/// The row of an entry of that line: its words with one space between each two, ended by a line feed.
+/// The row of an entry of that line: the line's number and the entry's words, with one space between each
+/// two, ended by a line feed.
 ///
-/// It tells any two entries apart, since a refused request opened nothing, and a mask is only refused as
-/// invalid.
+/// The format has no row for a refused request that opened the line, nor for a mask refused as busy.
 pub fn entry_row(line: LineNo, e: &Entry) -> Row
     requires { IsPrintable e.now }
     ensures { result ≡ entry_text line e.now }

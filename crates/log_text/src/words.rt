@@ -1,4 +1,4 @@
-//! The words for what an entry answers.
+//! The words for what an entry answers, each of at most nine letters.
 ghost use Rattle.std.specs.Prelude.{◌≡◌, ◌≤◌, length};
 ghost use Rattle.log_text.specs.Words.{way_word, take_word, answer_word, loop_word, mask_word, note_word, bit_word, resend_word, error_word, flags_word, unlink_word};
 
@@ -93,7 +93,7 @@ pub(crate) fn of_error(errno: Errno) -> &'static [u8]
     }
 }
 
-// The letters of the flags that stand: s(hared), o(neshot), n(oauto).
+// The letters of the flags that stand, in the order shared, oneshot, noauto.
 pub(crate) fn of_flags(flags: Flags) -> &'static [u8]
     ensures word { result.now ≡ flags_word flags }
     ensures short { length result.now ≤ 9 }
