@@ -23,6 +23,11 @@ pub enum StepRefused {
 }
 
 impl From<NoMemory> for StepRefused {
+    ghost use Rattle.std.specs.Prelude.{◌≡◌};
+    ghost use Rattle.line_core.specs.declared.answers.StepRefused.TheVariants as refusals;
+
+    ghost from_gives = { λ _ refusal. refusal ≡ refusals.NoMemory };
+
     fn from(_refused: NoMemory) -> StepRefused {
         StepRefused::NoMemory
     }

@@ -5,7 +5,7 @@ ghost use Rattle.line_core.specs.Counting.{note_of, counts_after, no_counts};
 use irq_base::Note;
 
 /// What the rule keeps of the rounds so far (`irq_count` and `irqs_unhandled` of `struct irq_desc`).
-#[derive(Clone, Copy, PartialEq, Eq)]
+#[derive(Clone, Copy)]
 pub struct Counts {
     /// The rounds that were counted since the last judgement.
     pub irq_count: u32,
@@ -14,7 +14,7 @@ pub struct Counts {
 }
 
 /// What the rule makes of a round.
-#[derive(Clone, Copy, PartialEq, Eq)]
+#[derive(Clone, Copy)]
 pub struct Noted {
     pub note: Note,
     pub counts: Counts,

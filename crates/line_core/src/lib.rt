@@ -6,9 +6,10 @@
 
 pub mod answers;
 pub mod counting;
-
-
+pub mod due;
+pub mod line;
 pub mod marking;
 pub mod script;
 
 pub use answers::{StepRefused, Stepped};
+pub use line::Line;

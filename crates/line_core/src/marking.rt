@@ -6,7 +6,7 @@ use crate::counting::Counts;
 use irq_base::{Answer, CpuNo, Entry, LineDef, TakeAnswer};
 
 /// The marks of an edge line with one device that has no thread.
-#[derive(Clone, Copy, PartialEq, Eq)]
+#[derive(Clone, Copy)]
 pub struct Marks {
     /// The device has an action on the line.
     pub linked: bool,
@@ -74,7 +74,7 @@ impl Marks {
                 ..
             } => self.take(cpu),
             Entry::Begin { .. } => self.begin(),
-            Entry::Return { answer, .. } => self.give_back(answer == Answer::Handled),
+            Entry::Return { answer, .. } => self.returned(answer == Answer::Handled),
             Entry::End { .. } => self.end(def.window, def.limit),
             Entry::Unlink { .. } => self.unlink(),
             _ => {}
@@ -130,7 +130,7 @@ impl Marks {
     }
 
     /// The handler returns: the asks that came since it was called are left.
-    fn give_back(&mut self, handled: bool)
+    fn returned(&mut self, handled: bool)
         ensures { self.new ≡ after_return handled self.old }
     {
         self.running = false;

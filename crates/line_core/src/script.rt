@@ -5,7 +5,7 @@ ghost use Rattle.line_core.specs.Scripts.{script_after};
 use irq_base::Entry;
 
 /// The place of the driver's call that isn't complete, counted from 0, and how many entries it has made.
-#[derive(Clone, Copy, PartialEq, Eq)]
+#[derive(Clone, Copy)]
 pub struct Script {
     pub place: usize,
     pub within: u32,
