@@ -7,13 +7,13 @@ use Rattle.irq_base.specs.declared.entries.TakeAnswer.TheVariants as takes
 use Rattle.irq_base.specs.declared.lines.LineDef.{LineDef}
 use Rattle.irq_base.specs.declared.numbers.DevNo.{DevNo}
 use Rattle.line_core.specs.Built.{count_of_asks}
-use Rattle.line_core.specs.Counting.{counts_after, no_counts}
+use Rattle.line_core.specs.Counts.{counts_after, no_counts}
 use Rattle.line_core.specs.Due.{Comes, IsExpected}
 use Rattle.line_core.specs.Line.{IsSane, AreEarned, AreBounded, IsConsistent, IsLine, count_of_rounds, one_if}
-use Rattle.line_core.specs.Marking.{marks_after, after_ask, after_request, after_take, after_end, after_unlink, HasRoom}
-use Rattle.line_core.specs.Scripts.{script_after}
-use Rattle.line_core.specs.declared.counting.Counts.{Counts}
-use Rattle.line_core.specs.declared.marking.Marks.{Marks}
+use Rattle.line_core.specs.Marks.{marks_after, after_ask, after_request, after_take, after_end, after_unlink, HasRoom}
+use Rattle.line_core.specs.Script.{script_after}
+use Rattle.line_core.specs.declared.counts.Counts.{Counts}
+use Rattle.line_core.specs.declared.marks.Marks.{Marks}
 use Rattle.line_core.specs.declared.script.Script.{Script}
 
 pub counted_more : (window : ℕ) (handled : Bool) (c : Counts) → (counts_after window handled c).irq_count ≤ c.irq_count + 1

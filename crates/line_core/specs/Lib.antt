@@ -1,8 +1,8 @@
 pub mod Built
-pub mod Counting
+pub mod Counts
 pub mod Due
 pub mod Line
-pub mod Marking
-pub mod Scripts
+pub mod Marks
+pub mod Script
 pub mod Seen
 pub mod Steps

@@ -4,7 +4,7 @@ use Rattle.irq_base.specs.declared.entries.Entry.{Entry}
 use Rattle.irq_base.specs.declared.lines.LineDef.{LineDef}
 use Rattle.irq_base.specs.declared.numbers.DevNo.{DevNo}
 use Rattle.line_core.specs.Built.{Built, device_of, count_of_asks}
-use Rattle.line_core.specs.declared.marking.Marks.{Marks}
+use Rattle.line_core.specs.declared.marks.Marks.{Marks}
 use Rattle.line_core.specs.declared.script.Script.{Script}
 
 -- Between the marks: the line is open exactly while the device is linked, and an edge is sent only while it is

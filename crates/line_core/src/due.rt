@@ -5,11 +5,11 @@ ghost use Rattle.irq_base.specs.declared.entries.Actor.TheVariants as actors;
 ghost use Rattle.irq_base.specs.declared.entries.Resend.TheVariants as resends;
 ghost use Rattle.irq_base.specs.declared.entries.TakeAnswer.TheVariants as takes;
 ghost use Rattle.irq_base.specs.declared.lines.LineDef.{LineDef};
-ghost use Rattle.line_core.specs.Built.{device_of};
+ghost use Rattle.line_core.specs.Built.{device_of, driver_of};
 ghost use Rattle.line_core.specs.Due.{Comes, IsExpected, CallFits};
 ghost use Rattle.line_core.specs.Line.{IsConsistent, IsSane};
 
-use crate::marking::Marks;
+use crate::marks::Marks;
 use crate::script::Script;
 use irq_base::{
     Actor, Answer, Call, CpuNo, DevNo, DriverNo, Entry, LineDef, LinkAnswer, Opened, Resend,
@@ -32,10 +32,10 @@ pub fn due_entry(
     match actor {
         Actor::Thread(..) => None,
         Actor::Cpu(cpu) => due_of_cpu(def, dev, marks, script, cpu),
-        Actor::Driver(driver) => match due_call(def, script, driver) {
-            Some(call) => due_of_call(marks, script, driver, call),
-            None => None,
-        },
+        Actor::Driver(driver) => {
+            let call = due_call(def, script, driver)?;
+            due_of_call(marks, script, driver, call)
+        }
     }
 }
 
@@ -127,8 +127,8 @@ fn due_call(def: &LineDef, script: Script, who: DriverNo) -> Option<Call>
 fn due_of_call(marks: &Marks, script: Script, driver: DriverNo, call: Call) -> Option<Entry>
     requires { IsSane marks.now }
     ensures actor { (def : LineDef) → IfSome result (λ e. actor_of def.line e ≡ actors.Driver driver) }
-    ensures comes { (def : LineDef) → CallFits def script.place call → IfSome result (Comes def) }
-    ensures expected { (def : LineDef) → CallFits def script.place call → IfSome result (IsExpected def marks.now script) }
+    ensures comes { (def : LineDef) → CallFits def script.place driver call → IfSome result (Comes def) }
+    ensures expected { (def : LineDef) → CallFits def script.place driver call → IfSome result (IsExpected def marks.now script) }
 {
     match call {
         Call::Ask { dev } => Some(Entry::Ask { driver, dev }),
@@ -142,6 +142,7 @@ fn due_of_call(marks: &Marks, script: Script, driver: DriverNo, call: Call) -> O
             },
         }),
         Call::Free { dev } => due_of_free(marks, script, driver, dev),
+        // No other call stands in the script.
         _ => None,
     }
 }
@@ -161,7 +162,7 @@ fn resend_of(marks: &Marks) -> Resend
 /// thread to wait for.
 fn due_of_free(marks: &Marks, script: Script, driver: DriverNo, dev: DevNo) -> Option<Entry>
     ensures actor { (def : LineDef) → IfSome result (λ e. actor_of def.line e ≡ actors.Driver driver) }
-    ensures comes { (def : LineDef) → dev ≡ device_of def → IfSome result (Comes def) }
+    ensures comes { (def : LineDef) → driver ≡ driver_of def → dev ≡ device_of def → IfSome result (Comes def) }
     ensures expected { (def : LineDef) → IfSome result (IsExpected def marks.now script) }
 {
     match script.within {

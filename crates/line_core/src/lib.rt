@@ -5,10 +5,10 @@
 #![tactic(auto)]
 
 pub mod answers;
-pub mod counting;
+pub mod counts;
 pub mod due;
 pub mod line;
-pub mod marking;
+pub mod marks;
 pub mod script;
 
 pub use answers::{StepRefused, Stepped};

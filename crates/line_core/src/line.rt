@@ -1,11 +1,11 @@
 //! The line.
-ghost use Rattle.std.specs.Prelude.{◌≡◌, ℕ, ◌+◌, ◌-◌, ◌<◌, ◌≤◌, ◌^◌, [], ◌∷◌, ◌++◌, length, IfOk, OnOk, IsOk, IfErr, OnErr};
+ghost use Rattle.std.specs.Prelude.{◌≡◌, ℕ, ◌+◌, ◌-◌, ◌<◌, ◌≤◌, ◌^◌, [], ◌∷◌, ◌++◌, length, IfOk, OnOk, IsOk, IfErr, OnErr, IsTrue};
 ghost use Rattle.line_core.specs.Built.{Built, device_of};
 ghost use Rattle.line_core.specs.Steps.{Steps, HasCause};
 
 use crate::answers::{StepRefused, Stepped};
 use crate::due::due_entry;
-use crate::marking::Marks;
+use crate::marks::Marks;
 use crate::script::Script;
 use irq_base::{Actor, CpuNo, DevNo, Entry, History, LineDef, NoMemory};
 use std::alloc::Global;
@@ -73,8 +73,10 @@ impl Line {
         Ok(Stepped::Added(entry))
     }
 
-    /// Whether a take of the processor is due.
-    pub fn present(&self, cpu: CpuNo) -> bool {
+    /// Whether a take of the processor is due. It is never one of another processor than 0.
+    pub fn present(&self, cpu: CpuNo) -> bool
+        ensures { IsTrue result → cpu.0 ≡ 0 }
+    {
         let due = due_entry(
             &self.def,
             self.dev,
@@ -144,7 +146,7 @@ fn device(def: &LineDef) -> DevNo
 {
     match def.devices.get(0) {
         Some(device) => device.dev,
-        None => DevNo(0),
+        None => unreachable!(),
     }
 }
 

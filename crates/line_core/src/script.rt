@@ -1,6 +1,6 @@
 //! How far the driver is.
 ghost use Rattle.std.specs.Prelude.{◌≡◌, ℕ, ◌+◌, ◌-◌, ◌<◌, ◌^◌};
-ghost use Rattle.line_core.specs.Scripts.{script_after};
+ghost use Rattle.line_core.specs.Script.{script_after};
 
 use irq_base::Entry;
 

@@ -2,7 +2,7 @@
 use Rattle.std.specs.Prelude.{ℕ, ◌+◌, ◌==◌, nat_lt, Bool, if◌then◌else◌}
 use Rattle.irq_base.specs.declared.entries.Note.{Note}
 use Rattle.irq_base.specs.declared.entries.Note.TheVariants as notes
-use Rattle.line_core.specs.declared.counting.Counts.{Counts}
+use Rattle.line_core.specs.declared.counts.Counts.{Counts}
 
 abbrev pub no_counts : Counts
 no_counts = record { irq_count = 0; irqs_unhandled = 0 }

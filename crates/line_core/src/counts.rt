@@ -1,6 +1,6 @@
 //! The rule on spurious interrupts (`note_interrupt`, `kernel/irq/spurious.c`).
 ghost use Rattle.std.specs.Prelude.{◌≡◌, ℕ, ◌+◌, ◌-◌, ◌<◌, ◌^◌};
-ghost use Rattle.line_core.specs.Counting.{note_of, counts_after, no_counts};
+ghost use Rattle.line_core.specs.Counts.{note_of, counts_after, no_counts};
 
 use irq_base::Note;
 

@@ -1,8 +1,8 @@
 //! The marks of a line, and what each entry makes of them.
 ghost use Rattle.std.specs.Prelude.{◌≡◌, ℕ, ◌+◌, ◌-◌, ◌<◌, ◌^◌};
-ghost use Rattle.line_core.specs.Marking.{first_marks, after_ask, after_request, after_take, after_begin, after_return, after_end, after_unlink, marks_after, HasRoom};
+ghost use Rattle.line_core.specs.Marks.{first_marks, after_ask, after_request, after_take, after_begin, after_return, after_end, after_unlink, marks_after, HasRoom};
 
-use crate::counting::Counts;
+use crate::counts::Counts;
 use irq_base::{Answer, CpuNo, Entry, LineDef, TakeAnswer};
 
 /// The marks of an edge line with one device that has no thread.

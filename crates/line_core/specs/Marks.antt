@@ -6,8 +6,8 @@ use Rattle.irq_base.specs.declared.entries.Entry.{Entry}
 use Rattle.irq_base.specs.declared.entries.Entry.TheVariants as entries
 use Rattle.irq_base.specs.declared.entries.TakeAnswer.TheVariants as takes
 use Rattle.irq_base.specs.declared.numbers.CpuNo.{CpuNo}
-use Rattle.line_core.specs.declared.marking.Marks.{Marks}
-use Rattle.line_core.specs.Counting.{counts_after, no_counts}
+use Rattle.line_core.specs.declared.marks.Marks.{Marks}
+use Rattle.line_core.specs.Counts.{counts_after, no_counts}
 
 -- a line to which nothing has happened is masked, with depth 1
 abbrev pub first_marks : Marks
