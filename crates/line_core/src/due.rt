@@ -41,13 +41,7 @@ pub fn due_entry(
 
 /// What the processor adds: in its flow the next of the round, else a take where an edge was sent. A flow in
 /// progress is its own, as there is no other processor.
-fn due_of_cpu(
-    def: &LineDef,
-    dev: DevNo,
-    marks: &Marks,
-    script: Script,
-    cpu: CpuNo,
-) -> Option<Entry>
+fn due_of_cpu(def: &LineDef, dev: DevNo, marks: &Marks, script: Script, cpu: CpuNo) -> Option<Entry>
     requires { IsConsistent def.now dev marks.now script }
     ensures actor { IfSome result (λ e. actor_of def.now.line e ≡ actors.Cpu cpu) }
     ensures comes { IfSome result (Comes def.now) }

@@ -13,3 +13,6 @@ pub mod script;
 
 pub use answers::{StepRefused, Stepped};
 pub use line::Line;
+
+#[cfg(test)]
+mod tests;

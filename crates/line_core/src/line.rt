@@ -48,7 +48,10 @@ impl Line {
             dev,
             history,
             marks: Marks::new(),
-            script: Script { place: 0, within: 0 },
+            script: Script {
+                place: 0,
+                within: 0,
+            },
         })
     }
 
