@@ -110,7 +110,8 @@ impl Line {
         ensures entries { result.entries ≡ self.entries }
         ensures spare { result.spare ≡ self.spare }
     {
-        self.history
+        let Line { history, .. } = self;
+        history
     }
 
     /// Makes room for one more entry, so that the next step takes no memory. Refused, all is as before.
