@@ -1,16 +1,15 @@
 -- One more entry keeps what holds of a line.
-use Rattle.std.proofs.Common.{◌≡◌, ℕ, ◌+◌, ◌-◌, ◌<◌, ◌≤◌, ◌^◌, Bool, true, false, not, ◌||◌, is_some, Some, None, List, [], ◌∷◌, ◌++◌, length, refl, sym, ap, subst, ◌∙◌, arith, length-append}
+use Rattle.std.proofs.Common.{◌≡◌, ℕ, ◌+◌, ◌<◌, ◌≤◌, Bool, true, false, not, ◌||◌, is_some, List, [], ◌∷◌, ◌++◌, length, refl, sym, ap, subst, arith, length-append}
 use Rattle.std.proofs.lemmas.Bool.Decides.{nat_tests}
 use Rattle.irq_base.specs.declared.entries.Entry.{Entry}
 use Rattle.irq_base.specs.declared.entries.Entry.TheVariants as entries
 use Rattle.irq_base.specs.declared.entries.TakeAnswer.TheVariants as takes
 use Rattle.irq_base.specs.declared.lines.LineDef.{LineDef}
 use Rattle.irq_base.specs.declared.numbers.DevNo.{DevNo}
-use Rattle.line_core.specs.Built.{count_of_asks}
-use Rattle.line_core.specs.Counts.{counts_after, no_counts}
+use Rattle.line_core.specs.Counts.{counts_after}
 use Rattle.line_core.specs.Due.{Comes, IsExpected}
-use Rattle.line_core.specs.Line.{IsSane, AreEarned, AreBounded, IsConsistent, IsLine, count_of_rounds, one_if}
-use Rattle.line_core.specs.Marks.{marks_after, after_ask, after_request, after_take, after_end, after_unlink, HasRoom}
+use Rattle.line_core.specs.Line.{IsSane, AreEarned, AreBounded, IsLine, one_if}
+use Rattle.line_core.specs.Marks.{marks_after}
 use Rattle.line_core.specs.Script.{script_after}
 use Rattle.line_core.specs.declared.counts.Counts.{Counts}
 use Rattle.line_core.specs.declared.marks.Marks.{Marks}

@@ -1,4 +1,4 @@
-use Rattle.std.proofs.Common.{arith, ◌≡◌, ◌<◌, length, sym}
+use Rattle.std.proofs.Common.{arith, ◌<◌, length}
 use Rattle.std.proofs.lemmas.Result.{err_from_is_err_and}
 use Rattle.line_core.proofs.More.{line_more}
 use Rattle.line_core.proofs.line.Line.step.Goals as goal
