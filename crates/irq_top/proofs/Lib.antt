@@ -1,0 +1,4 @@
+mod Texts
+mod Whole
+mod Writing
+mod Printable

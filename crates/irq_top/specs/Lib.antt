@@ -1,0 +1,5 @@
+pub mod FirstBoard
+pub mod Report
+pub mod Reading
+pub mod Playing
+pub mod Printing
