@@ -1,0 +1,5 @@
+mod RowWords
+mod EdgeRows
+mod LevelRows
+mod ThreadRows
+mod DriverRows

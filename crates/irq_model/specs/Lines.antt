@@ -1,0 +1,50 @@
+-- What is fixed of a line, read off its definition.
+use Rattle.std.specs.Prelude.{ℕ, Bool, true, false, ◌&&◌, ◌||◌, ◌==◌, if◌then◌else◌, not, List, [], ◌∷◌, filter}
+use Rattle.std.specs.List.{list_any}
+use Rattle.std.specs.Int.{bit_at}
+use Rattle.irq_base.specs.declared.numbers.DevNo.{DevNo}
+use Rattle.irq_base.specs.declared.devices.Kind.{Kind}
+use Rattle.irq_base.specs.declared.devices.Kind.TheVariants as kinds
+use Rattle.irq_base.specs.declared.devices.DeviceDef.{DeviceDef}
+use Rattle.irq_base.specs.declared.lines.FlowKind.{FlowKind}
+use Rattle.irq_base.specs.declared.lines.FlowKind.TheVariants as flows
+use Rattle.irq_base.specs.declared.lines.LineDef.{LineDef}
+use Rattle.irq_base.specs.Cell.{is_edge_trigger}
+use Rattle.irq_model.specs.Kinds.{same_dev}
+
+abbrev pub is_edge_line : LineDef → Bool
+is_edge_line def = is_edge_trigger def.trigger
+
+abbrev pub is_level_line : LineDef → Bool
+is_level_line def = not (is_edge_trigger def.trigger)
+
+abbrev pub is_edge_flow : FlowKind → Bool
+is_edge_flow flows.Edge = true
+is_edge_flow _ = false
+
+abbrev pub is_level_flow : FlowKind → Bool
+is_level_flow flows.Level = true
+is_level_flow _ = false
+
+abbrev pub is_eoi_flow : FlowKind → Bool
+is_eoi_flow flows.Eoi = true
+is_eoi_flow _ = false
+
+-- the line's cell keeps an interrupt in service from its take to its end
+abbrev pub serves : LineDef → Bool
+serves def = is_level_line def && is_eoi_flow def.flow
+
+abbrev pub is_device : DevNo → DeviceDef → Bool
+is_device d x = same_dev d x.dev
+
+-- the kind of a device; one that the line lacks never serves, as a stuck one
+abbrev pub kind_in : List DeviceDef → DevNo → Kind
+kind_in [] d = kinds.Stuck
+kind_in (x ∷ xs) d = if is_device d x then x.kind else kind_in xs d
+
+abbrev pub kind_of : LineDef → DevNo → Kind
+kind_of def d = kind_in def.devices d
+
+-- processor c is in the mask
+abbrev pub is_in_mask : ℕ → ℕ → Bool
+is_in_mask mask c = bit_at mask c == 1

@@ -1,0 +1,250 @@
+-- The table of steps: the one entry that an actor may add, a row a definition.
+use Rattle.std.specs.Prelude.{ℕ, ◌+◌, Bool, true, false, not, ◌||◌, ◌&&◌, ◌==◌, if◌then◌else◌, Option, Some, None, is_some, List, [], ◌∷◌, nat_lt, length, reverse}
+use Rattle.std.specs.List.{list_any}
+use Rattle.irq_base.specs.declared.numbers.LineNo.{LineNo}
+use Rattle.irq_base.specs.declared.numbers.CpuNo.{CpuNo}
+use Rattle.irq_base.specs.declared.numbers.DevNo.{DevNo}
+use Rattle.irq_base.specs.declared.numbers.DriverNo.{DriverNo}
+use Rattle.irq_base.specs.declared.calls.Flags.{Flags}
+use Rattle.irq_base.specs.declared.calls.Call.{Call}
+use Rattle.irq_base.specs.declared.calls.Call.TheVariants as calls
+use Rattle.irq_base.specs.declared.devices.Kind.{Kind}
+use Rattle.irq_base.specs.declared.devices.Kind.TheVariants as kinds
+use Rattle.irq_base.specs.declared.devices.Part.TheVariants as parts
+use Rattle.irq_base.specs.declared.lines.FlowKind.{FlowKind}
+use Rattle.irq_base.specs.declared.lines.FlowKind.TheVariants as flows
+use Rattle.irq_base.specs.declared.lines.LineDef.{LineDef}
+use Rattle.irq_base.specs.declared.entries.Actor.{Actor}
+use Rattle.irq_base.specs.declared.entries.Actor.TheVariants as actors
+use Rattle.irq_base.specs.declared.entries.Entry.{Entry}
+use Rattle.irq_base.specs.declared.entries.Entry.TheVariants as entries
+use Rattle.irq_base.specs.declared.entries.Errno.TheVariants as errors
+use Rattle.irq_base.specs.declared.entries.Way.TheVariants as ways
+use Rattle.irq_base.specs.declared.entries.TakeAnswer.{TakeAnswer}
+use Rattle.irq_base.specs.declared.entries.TakeAnswer.TheVariants as takes
+use Rattle.irq_base.specs.declared.entries.Note.{Note}
+use Rattle.irq_base.specs.declared.entries.Resend.{Resend}
+use Rattle.irq_base.specs.declared.entries.Resend.TheVariants as resends
+use Rattle.irq_base.specs.declared.entries.EnableAnswer.{EnableAnswer}
+use Rattle.irq_base.specs.declared.entries.EnableAnswer.TheVariants as enables
+use Rattle.irq_base.specs.declared.entries.Opened.{Opened}
+use Rattle.irq_base.specs.declared.entries.Opened.TheVariants as opens
+use Rattle.irq_base.specs.declared.entries.LinkAnswer.{LinkAnswer}
+use Rattle.irq_base.specs.declared.entries.LinkAnswer.TheVariants as links
+use Rattle.irq_base.specs.declared.entries.UnlinkAnswer.{UnlinkAnswer}
+use Rattle.irq_base.specs.declared.entries.UnlinkAnswer.TheVariants as unlinks
+use Rattle.irq_base.specs.declared.entries.AffinityAnswer.{AffinityAnswer}
+use Rattle.irq_base.specs.declared.entries.AffinityAnswer.TheVariants as moves
+use Rattle.irq_base.specs.Handlers.{answer_of}
+use Rattle.irq_model.specs.Places.{since, before}
+use Rattle.irq_model.specs.Kinds.{same_line, same_dev, is_begin, is_thread_begin, is_thread_return, is_finish, is_kill, opened_by_enable}
+use Rattle.irq_model.specs.Lines.{is_edge_line, kind_of}
+use Rattle.irq_model.specs.Links.{linked, is_linked, is_empty, is_none_linked, depth, is_disabled, is_oneshot, linking_flags, has_spurious_mark}
+use Rattle.irq_model.specs.Asks.{unserved_asks}
+use Rattle.irq_model.specs.Masks.{is_masked}
+use Rattle.irq_model.specs.Rounds.{flow, has_flow, is_cpu, first_left, at_work}
+use Rattle.irq_model.specs.Waiting.{is_pending, is_soft}
+use Rattle.irq_model.specs.Signal.{signals, target, lowest_in}
+use Rattle.irq_model.specs.Threads.{is_woken, is_running, is_some_unfinished, is_other_unfinished, active_count}
+use Rattle.irq_model.specs.Due.{due_call, holds_mutex}
+use Rattle.irq_model.specs.Spurious.{note_of}
+
+-- ---- threads (`irq_thread`, `irq_finalize_oneshot`)
+
+-- the asks that were unserved as the thread's run began
+abbrev pub asks_of_thread : LineDef → DevNo → List Entry → ℕ
+asks_of_thread def d past = unserved_asks def d (before (is_thread_begin d) past)
+
+abbrev pub finish_unmasks : LineDef → DevNo → List Entry → Bool
+finish_unmasks def d past =
+    not (is_woken past d) && (not (is_disabled past) && (is_masked def past && not (is_other_unfinished def past d)))
+
+-- after the thread's handler returned: on a one-shot line it gives its bit up, once no flow is in progress
+abbrev pub finish_or_done : LineDef → DevNo → List Entry → Option Entry
+finish_or_done def d past =
+    if is_oneshot past && not (list_any (is_finish d) (since (is_thread_return d) past))
+    then (if has_flow def past then None else Some (entries.Finish d (is_woken past d) (finish_unmasks def d past)))
+    else Some (entries.Done d)
+
+abbrev pub next_of_thread : LineDef → DevNo → List Entry → Option Entry
+next_of_thread def d past =
+    if not (is_running past d) then (if is_woken past d then Some (entries.ThreadBegin d) else None)
+    else (if not (list_any (is_thread_return d) (since (is_thread_begin d) past)) then Some (entries.ThreadReturn d (asks_of_thread def d past)) else finish_or_done def d past)
+
+-- ---- processors: in the flow (`handle_irq_event`, and the ends of the flow handlers)
+
+-- the asks that were unserved as the handler began
+abbrev pub asks_of_handler : LineDef → DevNo → List Entry → ℕ
+asks_of_handler def d past = unserved_asks def d (before (is_begin d) past)
+
+-- only a direct device's handler serves
+abbrev pub served_by_handler : Kind → ℕ → ℕ
+served_by_handler kinds.Direct unserved = unserved
+served_by_handler _ unserved = 0
+
+abbrev pub return_of : LineDef → CpuNo → DevNo → List Entry → Entry
+return_of def c d past =
+    entries.Return c d (answer_of (kind_of def d) parts.Primary (asks_of_handler def d past)) (served_by_handler (kind_of def d) (asks_of_handler def d past))
+
+-- disabled already, or by this very note
+abbrev pub is_off_now : List Entry → Note → Bool
+is_off_now past note = is_disabled past || is_kill (entries.End (record { 0 = 0 }) false false note)
+
+abbrev pub end_edge : LineDef → CpuNo → List Entry → Note → Bool → Entry
+end_edge def c past note again = entries.End c again (again && is_masked def past) note
+
+abbrev pub end_level : LineDef → CpuNo → List Entry → Note → Bool → Entry
+end_level def c past note may_open = entries.End c false (may_open && (is_masked def past && not (is_some_unfinished def past))) note
+
+-- the flow's end: the edge flow goes on with what is pending; the level flow opens the line unless a thread
+-- still holds it; the fast-EOI flow does so on a one-shot level line, and on an edge line sends what is
+-- pending again
+abbrev pub end_by_flow : LineDef → FlowKind → CpuNo → List Entry → Note → Entry
+end_by_flow def flows.Edge c past note = end_edge def c past note (is_pending def past && not (is_off_now past note))
+end_by_flow def flows.Level c past note = end_level def c past note (not (is_off_now past note))
+end_by_flow def flows.Eoi c past note =
+    if is_edge_line def then entries.End c (is_pending def past && not (is_off_now past note)) false note
+    else end_level def c past note (not (is_off_now past note) && is_oneshot past)
+
+abbrev pub end_of : LineDef → CpuNo → List Entry → Entry
+end_of def c past = end_by_flow def def.flow c past (note_of def past)
+
+abbrev pub begin_or_end : LineDef → CpuNo → List Entry → Option DevNo → Entry
+begin_or_end def c past None = end_of def c past
+begin_or_end def c past (Some d) = entries.Begin c d
+
+-- a handler that was called returns; else the first that is left is called; else the round ends
+abbrev pub next_in_flow : LineDef → CpuNo → List Entry → Option DevNo → Entry
+next_in_flow def c past (Some d) = return_of def c d past
+next_in_flow def c past None = begin_or_end def c past (first_left def past (linked past))
+
+-- ---- processors: taking an interrupt (the flow handlers' beginnings)
+
+abbrev pub take_answer : LineDef → List Entry → TakeAnswer
+take_answer def past = if has_flow def past then takes.Busy else (if is_disabled past || is_none_linked past then takes.Off else takes.Handle)
+
+-- the target takes what is signalled, or else what the software resends
+abbrev pub next_take : LineDef → CpuNo → List Entry → Option Entry
+next_take def c past =
+    if not (is_cpu c (target def past)) then None
+    else (if signals def past then Some (entries.Take c ways.Line (take_answer def past))
+    else (if is_soft past then Some (entries.Take c ways.Resend (take_answer def past)) else None))
+
+abbrev pub next_of_cpu : LineDef → CpuNo → List Entry → Option Entry
+next_of_cpu def c past = if is_cpu c (flow def past) then Some (next_in_flow def c past (at_work past)) else next_take def c past
+
+-- ---- drivers (`kernel/irq/manage.c`)
+
+-- how a start sends again what is pending (`check_irq_resend`); a level shows by itself
+abbrev pub resend_of : LineDef → List Entry → Resend
+resend_of def past =
+    if is_edge_line def && is_pending def past then (if def.retriggers then resends.Chip else resends.Soft) else resends.No
+
+abbrev pub enable_answer : LineDef → List Entry → EnableAnswer
+enable_answer def past =
+    if is_none_linked past || (depth past == 0) then enables.Unbalanced
+    else (if depth past == 1 then enables.Started (resend_of def past) else enables.Lowered)
+
+abbrev pub same_flag : Bool → Bool → Bool
+same_flag a b = (a && b) || (not a && not b)
+
+-- the new flags don't go with those of some linked action
+abbrev pub flags_differ : Flags → Flags → Bool
+flags_differ new old = not new.shared || (not old.shared || not (same_flag new.oneshot old.oneshot))
+
+abbrev pub is_mismatch : Flags → List Entry → Bool
+is_mismatch new past = list_any (λ d. flags_differ new (linking_flags past d)) (linked past)
+
+abbrev pub is_null : Kind → Bool
+is_null kinds.Null = true
+is_null _ = false
+
+abbrev pub link_answer : LineDef → DevNo → Flags → List Entry → LinkAnswer
+link_answer def d flags past =
+    if flags.shared && flags.noauto then links.Refused errors.Inval
+    else (if is_mismatch flags past then links.Refused errors.Busy
+    else (if flags.oneshot && not (nat_lt (length (linked past)) 64) then links.Refused errors.Busy
+    else (if is_null (kind_of def d) && not flags.oneshot then links.Refused errors.Inval
+    else links.Linked)))
+
+-- what a request that is linked makes of the depth: the first starts the line unless it is told not to; a
+-- further one enables a line that the rule on spurious interrupts disabled
+abbrev pub opened_by_request : LineDef → Flags → List Entry → Opened
+opened_by_request def flags past =
+    if is_none_linked past then (if flags.noauto then opens.No else opens.Started (resend_of def past))
+    else (if has_spurious_mark past then opened_by_enable (enable_answer def past) else opens.No)
+
+abbrev pub request_with : LineDef → DriverNo → DevNo → Flags → List Entry → LinkAnswer → Entry
+request_with def r d flags past links.Linked = entries.Request r d flags links.Linked (opened_by_request def flags past)
+request_with def r d flags past (links.Refused error) = entries.Request r d flags (links.Refused error) opens.No
+
+abbrev pub request_of : LineDef → DriverNo → DevNo → Flags → List Entry → Entry
+request_of def r d flags past = request_with def r d flags past (link_answer def d flags past)
+
+-- d is linked, and nothing else is
+abbrev pub is_only : DevNo → List DevNo → Bool
+is_only d [] = false
+is_only d (e ∷ ds) = same_dev d e && is_empty ds
+
+abbrev pub unlink_answer : DevNo → List Entry → UnlinkAnswer
+unlink_answer d past = if is_linked past d then unlinks.Unlinked (is_only d (linked past)) else unlinks.NotThere
+
+abbrev pub affinity_answer : LineDef → ℕ → AffinityAnswer
+affinity_answer def mask =
+    if is_some (lowest_in def.cpus mask) then (if def.later then moves.Later else moves.Now) else moves.Refused errors.Inval
+
+-- `__synchronize_hardirq`: once no flow is in progress
+abbrev pub hard_clear_of : LineDef → DriverNo → List Entry → Option Entry
+hard_clear_of def r past = if has_flow def past then None else Some (entries.HardClear r)
+
+-- `synchronize_irq`: once no thread is woken or in a run
+abbrev pub synced_of : LineDef → DriverNo → List Entry → Option Entry
+synced_of def r past = if active_count def past == 0 then Some (entries.Synced r) else None
+
+-- the end of `__free_irq`: once the device's thread is at rest
+abbrev pub freed_of : DriverNo → DevNo → List Entry → Option Entry
+freed_of r d past = if is_woken past d || is_running past d then None else Some (entries.Freed r d)
+
+-- `synchronize_irq`, of which n entries are there
+abbrev pub next_of_sync : LineDef → DriverNo → ℕ → List Entry → Option Entry
+next_of_sync def r n past = if n == 0 then hard_clear_of def r past else synced_of def r past
+
+-- `disable_irq`
+abbrev pub next_of_disable : LineDef → DriverNo → ℕ → List Entry → Option Entry
+next_of_disable def r n past =
+    if n == 0 then Some (entries.Disable r) else (if n == 1 then hard_clear_of def r past else synced_of def r past)
+
+-- `free_irq`
+abbrev pub next_of_free : LineDef → DriverNo → DevNo → ℕ → List Entry → Option Entry
+next_of_free def r d n past =
+    if n == 0 then (if holds_mutex past then None else Some (entries.Unlink r d (unlink_answer d past)))
+    else (if n == 1 then hard_clear_of def r past else freed_of r d past)
+
+-- `request_threaded_irq`
+abbrev pub next_of_request : LineDef → DriverNo → DevNo → Flags → List Entry → Option Entry
+next_of_request def r d flags past = if holds_mutex past then None else Some (request_of def r d flags past)
+
+-- the driver's due call, and how many of its entries are there
+abbrev pub next_of_call : LineDef → DriverNo → List Entry → Option (Call × ℕ) → Option Entry
+next_of_call def r past None = None
+next_of_call def r past (Some (calls.Ask d, n)) = Some (entries.Ask r d)
+next_of_call def r past (Some (calls.Request d flags, n)) = next_of_request def r d flags past
+next_of_call def r past (Some (calls.Free d, n)) = next_of_free def r d n past
+next_of_call def r past (Some (calls.Disable, n)) = next_of_disable def r n past
+next_of_call def r past (Some (calls.DisableNosync, n)) = Some (entries.Disable r)
+next_of_call def r past (Some (calls.Enable, n)) = Some (entries.Enable r (enable_answer def past))
+next_of_call def r past (Some (calls.Sync, n)) = next_of_sync def r n past
+next_of_call def r past (Some (calls.Affinity mask, n)) = Some (entries.Affinity r mask (affinity_answer def mask))
+next_of_call def r past (Some (calls.Moment at, n)) = Some (entries.Moment r at)
+
+-- ---- the table
+
+-- the entry that is due for the actor, where the newest entry comes first; none for a thread of another line
+abbrev pub next_past : LineDef → List Entry → Actor → Option Entry
+next_past def past (actors.Thread line d) = if same_line line def.line then next_of_thread def d past else None
+next_past def past (actors.Cpu c) = next_of_cpu def c past
+next_past def past (actors.Driver r) = next_of_call def r past (due_call def r past)
+
+-- the same over a history, whose oldest entry comes first
+abbrev pub next : LineDef → List Entry → Actor → Option Entry
+next def h a = next_past def (reverse h) a

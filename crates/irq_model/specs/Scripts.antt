@@ -1,0 +1,39 @@
+-- Each driver's entries are those of its calls, in the order of its script, each once.
+use Rattle.std.specs.Prelude.{◌≡◌, ◌⊎◌, List, [], ◌∷◌, ◌++◌, reverse}
+use Rattle.irq_base.specs.declared.numbers.DriverNo.{DriverNo}
+use Rattle.irq_base.specs.declared.calls.Call.{Call}
+use Rattle.irq_base.specs.declared.calls.Call.TheVariants as calls
+use Rattle.irq_base.specs.declared.lines.LineDef.{LineDef}
+use Rattle.irq_base.specs.declared.entries.Entry.{Entry}
+use Rattle.irq_base.specs.declared.entries.Entry.TheVariants as entries
+use Rattle.irq_base.specs.declared.entries.UnlinkAnswer.TheVariants as unlinks
+use Rattle.irq_model.specs.Due.{calls_by, entries_by}
+
+-- the entries that a complete call makes
+abbrev pub MakesAll : Call → List Entry → Type 0
+MakesAll (calls.Ask d) (entries.Ask r dev ∷ []) = dev ≡ d
+MakesAll (calls.Request d flags) (entries.Request r dev given answer opened ∷ []) = (dev ≡ d) × (given ≡ flags)
+MakesAll (calls.Free d) (entries.Unlink r dev unlinks.NotThere ∷ []) = dev ≡ d
+MakesAll (calls.Free d) (entries.Unlink r dev (unlinks.Unlinked last) ∷ entries.HardClear s ∷ entries.Freed t freed ∷ []) = (dev ≡ d) × (freed ≡ d)
+MakesAll calls.Disable (entries.Disable r ∷ entries.HardClear s ∷ entries.Synced t ∷ []) = Unit {0}
+MakesAll calls.DisableNosync (entries.Disable r ∷ []) = Unit {0}
+MakesAll calls.Enable (entries.Enable r answer ∷ []) = Unit {0}
+MakesAll calls.Sync (entries.HardClear r ∷ entries.Synced s ∷ []) = Unit {0}
+MakesAll (calls.Affinity mask) (entries.Affinity r given answer ∷ []) = given ≡ mask
+MakesAll (calls.Moment at) (entries.Moment r given ∷ []) = given ≡ at
+MakesAll _ _ = ⊥
+
+-- some of the entries that a call makes, from its first one on
+abbrev pub MakesSome : Call → List Entry → Type 0
+MakesSome c es = (more : List Entry) × MakesAll c (es ++ more)
+
+-- the calls one after another, up to some point within one of them
+abbrev pub AreMadeBy : List Call → List Entry → Type 0
+AreMadeBy [] es = es ≡ []
+AreMadeBy (c ∷ cs) es = MakesSome c es ⊎ ((own rest : List Entry) × (es ≡ own ++ rest) × MakesAll c own × AreMadeBy cs rest)
+
+abbrev pub FollowsScriptsPast : LineDef → List Entry → Type 0
+FollowsScriptsPast def past = (r : DriverNo) → AreMadeBy (calls_by r def.calls) (entries_by r past)
+
+abbrev pub FollowsScripts : LineDef → List Entry → Type 0
+FollowsScripts def h = FollowsScriptsPast def (reverse h)

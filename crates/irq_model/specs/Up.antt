@@ -1,0 +1,23 @@
+-- When the line's domains are activated: from its first action to the free of its last
+-- (`irq_domain_activate_irq`, `irq_domain_deactivate_irq` in `__setup_irq` and `__free_irq`).
+use Rattle.std.specs.Prelude.{Bool, true, false, not, ◌||◌, ◌&&◌, List, [], ◌∷◌}
+use Rattle.std.specs.List.{list_any}
+use Rattle.irq_base.specs.declared.entries.Entry.{Entry}
+use Rattle.irq_base.specs.declared.entries.Entry.TheVariants as entries
+use Rattle.irq_base.specs.declared.entries.UnlinkAnswer.TheVariants as unlinks
+use Rattle.irq_model.specs.Places.{some_place, since_place, upto_place}
+use Rattle.irq_model.specs.Kinds.{is_freed_by}
+use Rattle.irq_model.specs.Links.{is_first_request, is_empty}
+
+-- the newest entry of `upto` is a last unlink, and its driver's free was completed after it
+abbrev pub is_freed_last : List Entry → List Entry → Bool
+is_freed_last after (entries.Unlink driver dev (unlinks.Unlinked true) ∷ past) = list_any (is_freed_by driver) after
+is_freed_last after _ = false
+
+abbrev pub is_some_entry : List Entry → Bool
+is_some_entry [] = false
+is_some_entry (e ∷ past) = true
+
+-- a first request stands, and no last unlink after the last of them was freed
+abbrev pub is_up : List Entry → Bool
+is_up past = is_some_entry (upto_place is_first_request past) && not (some_place is_freed_last (since_place is_first_request past))

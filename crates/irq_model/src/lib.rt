@@ -1,0 +1,2 @@
+//! The rules of one interrupt line, as definitions over the list of its entries.
+#![tactic(auto)]
