@@ -14,7 +14,7 @@ abbrev pub Counts : ℕ → ℕ → Bool → Type 0
 Counts before now true = (before ≤ now) × Rose before now
 Counts before now false = now ≡ before
 
--- the same, of a count that is exact: it stands still at its greatest
+-- the count after a call, exactly: a fault adds one
 abbrev pub count_after : ℕ → Bool → ℕ
 count_after before true = next_count before
 count_after before false = before

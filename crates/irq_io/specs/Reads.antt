@@ -3,6 +3,7 @@ use Rattle.std.specs.Prelude.{◌≡◌, ℕ, ◌≤◌, Bool, true, false, Opti
 use Rattle.irq_io.specs.declared.sources.ReadAnswer.{ReadAnswer}
 use Rattle.irq_io.specs.declared.sources.ReadAnswer.TheVariants as answers
 
+-- whether the read failed
 abbrev pub read_failed : ReadAnswer → Bool
 read_failed (answers.Got n) = false
 read_failed answers.End = false

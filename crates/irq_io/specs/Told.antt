@@ -10,6 +10,7 @@ abbrev pub with_more : Option (List ℕ) → List ℕ → Option (List ℕ)
 with_more None bytes = None
 with_more (Some content) bytes = Some (content ++ bytes)
 
+-- the second list begins with the first
 abbrev pub IsBeginning : List ℕ → List ℕ → Type 0
 IsBeginning first all = (rest : List ℕ) × (all ≡ first ++ rest)
 

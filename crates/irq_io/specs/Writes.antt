@@ -6,10 +6,12 @@ use Rattle.irq_io.specs.declared.sinks.WriteAnswer.TheVariants as writes
 use Rattle.irq_io.specs.declared.sinks.FlushAnswer.{FlushAnswer}
 use Rattle.irq_io.specs.declared.sinks.FlushAnswer.TheVariants as flushes
 
+-- whether the write failed
 abbrev pub write_failed : WriteAnswer → Bool
 write_failed (writes.Took n) = false
 write_failed writes.Failed = true
 
+-- whether the flush failed
 abbrev pub flush_failed : FlushAnswer → Bool
 flush_failed flushes.Done = false
 flush_failed flushes.Failed = true

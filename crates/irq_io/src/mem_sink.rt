@@ -1,5 +1,5 @@
 //! A sink in memory, whose writes and flushes fail where they are told to.
-ghost use Rattle.std.specs.Prelude.{◌≡◌, ℕ, Option, Some, List, [], ◌++◌, ◌+◌, ◌-◌, ◌<◌, ◌≤◌, ◌↔◌, ◌⊎◌, min, length, IfOk, take};
+ghost use Rattle.std.specs.Prelude.{◌≡◌, Some, [], ◌-◌, ◌<◌, ◌↔◌, ◌⊎◌, min, length, IfOk};
 ghost use Rattle.std.specs.List.{Contains};
 ghost use Rattle.std.proofs.Common.{sym};
 ghost use Rattle.std.proofs.lemmas.List.{append-nil};
@@ -15,7 +15,7 @@ use std::marker::Model;
 
 /// A sink into memory, which takes bytes while it has room. Its writes of the numbers `fails` and its flushes
 /// of the numbers `flush_fails`, each counted from 1, fail. What it took it has handed on. Contracts see
-/// `content`, the `room` that is left, both lists, and the numbers `writes`, `flushes` and `faults` so far.
+/// `content`, the `room` that is left, both lists, and how many `writes`, `flushes` and `faults` there were.
 #[derive(Drop)]
 pub struct MemSink {
     content: Vec<u8>,
@@ -39,7 +39,8 @@ impl Model for MemSink {
 }
 
 impl MemSink {
-    /// The empty sink with that room, whose flushes never fail.
+    /// The empty sink with that room, whose flushes never fail. The memory for the room is taken at once, so
+    /// no write wants any.
     pub fn new(alloc: Global, fails: &[u32], room: usize) -> Result<MemSink, NoMemory>
         ensures content { IfOk result (λ s. (s.content ≡ []) × (s.room ≡ room)) }
         ensures settings { IfOk result (λ s. (s.fails ≡ fails.now) × (s.flush_fails ≡ [])) }
@@ -48,7 +49,7 @@ impl MemSink {
         MemSink::with_failing_flushes(alloc, fails, &[], room)
     }
 
-    /// The empty sink with that room.
+    /// The empty sink with that room, for which the memory is taken at once.
     pub fn with_failing_flushes(
         alloc: Global,
         fails: &[u32],
@@ -80,7 +81,7 @@ impl MemSink {
         self.content.as_slice()
     }
 
-    /// The number of faults so far.
+    /// The number of faults so far, which stands still at the greatest u64.
     pub fn faults(&self) -> u64
         ensures { result ≡ self.now.faults }
     {

@@ -1,5 +1,5 @@
 //! A source in memory, whose reads fail where they are told to.
-ghost use Rattle.std.specs.Prelude.{◌≡◌, ℕ, Option, Some, List, ◌+◌, ◌<◌, ◌≤◌, ◌↔◌, min, length, IfOk};
+ghost use Rattle.std.specs.Prelude.{◌≡◌, Some, ◌<◌, ◌≤◌, ◌↔◌, min, length, IfOk};
 ghost use Rattle.std.specs.List.{Contains};
 ghost use Rattle.irq_io.specs.Faults.{Counts, next_count, count_after};
 ghost use Rattle.irq_io.specs.Reads.{GotWithin, IfGot, Reads, read_failed};
@@ -11,8 +11,8 @@ use std::alloc::Global;
 use std::marker::Model;
 
 /// A source over bytes in memory, which gives at most `piece` bytes a read, and whose reads of the numbers
-/// `fails`, counted from 1, fail. Contracts see `left`, `piece`, `fails`, and the numbers `reads` and `faults`
-/// of both so far.
+/// `fails`, counted from 1, fail. Contracts see what is `left`, `piece`, `fails`, and how many `reads` and
+/// `faults` there were.
 #[derive(Drop)]
 pub struct MemSource {
     bytes: Vec<u8>,
@@ -35,7 +35,7 @@ impl Model for MemSource {
 }
 
 impl MemSource {
-    /// The source of these bytes.
+    /// The source of these bytes. `piece` is at least 1.
     pub fn new(
         alloc: Global,
         bytes: &[u8],
@@ -59,7 +59,7 @@ impl MemSource {
         })
     }
 
-    /// The number of faults so far.
+    /// The number of faults so far, which stands still at the greatest u64.
     pub fn faults(&self) -> u64
         ensures { result ≡ self.now.faults }
     {

@@ -36,7 +36,7 @@ impl<W> StdSink<W> {
         StdSink { writer, faults: 0 }
     }
 
-    /// The number of faults so far.
+    /// The number of faults so far, which stands still at the greatest u64.
     pub fn faults(&self) -> u64
         ensures { result ≡ self.now.faults }
     {

@@ -34,7 +34,7 @@ impl<R> StdSource<R> {
         StdSource { reader, faults: 0 }
     }
 
-    /// The number of faults so far.
+    /// The number of faults so far, which stands still at the greatest u64.
     pub fn faults(&self) -> u64
         ensures { result ≡ self.now.faults }
     {

@@ -1,5 +1,5 @@
 //! Reading up to a bound, and writing to the end, in as many pieces as it takes.
-ghost use Rattle.std.specs.Prelude.{◌≡◌, ℕ, ◌<◌, ◌≤◌, [], IfOk, OnErr, Option, List, vec_len};
+ghost use Rattle.std.specs.Prelude.{◌≡◌, ◌≤◌, [], IfOk, OnErr, vec_len};
 ghost use Rattle.irq_io.specs.Faults.{Counts};
 ghost use Rattle.irq_io.specs.Told.{IsToldBeginning};
 ghost use Rattle.irq_io.specs.Whole.{TakesAtMost, TakesUpTo, WritesAll, met_fault, writing_failed};
@@ -43,8 +43,8 @@ pub enum WriteEnd {
 /// The size of the pieces in which a source is read, in bytes.
 const PIECE: usize = 4096;
 
-/// What is left of the source, at most `most` bytes, of which it takes no more. So fewer than `most` bytes
-/// come only from a source that answered `End`. After a fault or want of memory the bytes that came are lost.
+/// What is left of the source, at most `most` bytes (at least 1), and it takes no more. Fewer
+/// than `most` bytes come only from a source that answered `End`. After a fault or want of memory the bytes that came are lost.
 /// The count of faults rises exactly with `Fault`.
 pub fn read_up_to<S: Source>(
     alloc: Global,

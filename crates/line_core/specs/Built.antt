@@ -34,13 +34,15 @@ no_flags = record { shared = false; oneshot = false; noauto = false }
 -- asks of the device, then at most one free, all of one driver
 abbrev pub IsAsksThenFree : DriverNo → DevNo → List (DriverNo × Call) → Type 0
 IsAsksThenFree driver dev [] = Unit {0}
-IsAsksThenFree driver dev ((who, calls.Ask of) ∷ cs) = (who ≡ driver) × (of ≡ dev) × IsAsksThenFree driver dev cs
+IsAsksThenFree driver dev ((who, calls.Ask of) ∷ cs) =
+    (who ≡ driver) × (of ≡ dev) × IsAsksThenFree driver dev cs
 IsAsksThenFree driver dev ((who, calls.Free of) ∷ cs) = (who ≡ driver) × (of ≡ dev) × (cs ≡ [])
 IsAsksThenFree driver dev _ = ⊥
 
 -- first a request of the device without flags, then asks, then at most one free
 abbrev pub IsScript : DriverNo → DevNo → List (DriverNo × Call) → Type 0
-IsScript driver dev ((who, calls.Request of flags) ∷ cs) = (who ≡ driver) × (of ≡ dev) × (flags ≡ no_flags) × IsAsksThenFree driver dev cs
+IsScript driver dev ((who, calls.Request of flags) ∷ cs) =
+    (who ≡ driver) × (of ≡ dev) × (flags ≡ no_flags) × IsAsksThenFree driver dev cs
 IsScript driver dev _ = ⊥
 
 -- how many of the calls are asks

@@ -25,4 +25,5 @@ note_of window limit handled c =
 abbrev pub counts_after : ℕ → Bool → Counts → Counts
 counts_after window handled c =
     if unhandled_with handled c == 0 then c
-    else (if nat_lt (c.irq_count + 1) window then record { irq_count = c.irq_count + 1; irqs_unhandled = unhandled_with handled c } else no_counts)
+    else (if nat_lt (c.irq_count + 1) window
+    then record { irq_count = c.irq_count + 1; irqs_unhandled = unhandled_with handled c } else no_counts)

@@ -25,12 +25,16 @@ use Rattle.line_core.specs.declared.script.Script.{Script}
 abbrev pub Comes : LineDef → Entry → Type 0
 Comes def (entries.Ask driver dev) = (driver ≡ driver_of def) × (dev ≡ device_of def)
 Comes def (entries.Request driver dev flags answer opened) =
-    (driver ≡ driver_of def) × (dev ≡ device_of def) × (flags ≡ no_flags) × (answer ≡ links.Linked) × (opened ≡ opens.Started resends.No)
+    (driver ≡ driver_of def) × (dev ≡ device_of def) × (flags ≡ no_flags)
+    × (answer ≡ links.Linked) × (opened ≡ opens.Started resends.No)
 Comes def (entries.Take cpu way answer) = (cpu.0 ≡ 0) × (way ≡ ways.Line) × (answer ≡ takes.Handle)
 Comes def (entries.Begin cpu dev) = (cpu.0 ≡ 0) × (dev ≡ device_of def)
-Comes def (entries.Return cpu dev answer served) = (cpu.0 ≡ 0) × (dev ≡ device_of def) × (answer ≡ answer_of kinds.Direct parts.Primary served)
-Comes def (entries.End cpu again unmask note) = (cpu.0 ≡ 0) × (again ≡ false) × (unmask ≡ false) × (note ≢ notes.Killed)
-Comes def (entries.Unlink driver dev answer) = (driver ≡ driver_of def) × (dev ≡ device_of def) × (answer ≡ unlinks.Unlinked true)
+Comes def (entries.Return cpu dev answer served) =
+    (cpu.0 ≡ 0) × (dev ≡ device_of def) × (answer ≡ answer_of kinds.Direct parts.Primary served)
+Comes def (entries.End cpu again unmask note) =
+    (cpu.0 ≡ 0) × (again ≡ false) × (unmask ≡ false) × (note ≢ notes.Killed)
+Comes def (entries.Unlink driver dev answer) =
+    (driver ≡ driver_of def) × (dev ≡ device_of def) × (answer ≡ unlinks.Unlinked true)
 Comes def (entries.HardClear driver) = driver ≡ driver_of def
 Comes def (entries.Freed driver dev) = (driver ≡ driver_of def) × (dev ≡ device_of def)
 Comes def _ = ⊥
@@ -47,7 +51,9 @@ IsExpected def m s _ = Unit {0}
 
 -- a call at a place of the script, and whose it is
 abbrev pub CallFits : LineDef → ℕ → DriverNo → Call → Type 0
-CallFits def place who (calls.Ask dev) = (who ≡ driver_of def) × (dev ≡ device_of def) × (1 ≤ place) × (place ≤ count_of_asks def.calls)
-CallFits def place who (calls.Request dev flags) = (who ≡ driver_of def) × (dev ≡ device_of def) × (flags ≡ no_flags) × (place ≡ 0)
+CallFits def place who (calls.Ask dev) =
+    (who ≡ driver_of def) × (dev ≡ device_of def) × (1 ≤ place) × (place ≤ count_of_asks def.calls)
+CallFits def place who (calls.Request dev flags) =
+    (who ≡ driver_of def) × (dev ≡ device_of def) × (flags ≡ no_flags) × (place ≡ 0)
 CallFits def place who (calls.Free dev) = (who ≡ driver_of def) × (dev ≡ device_of def)
 CallFits def place who _ = ⊥

@@ -11,15 +11,43 @@ use Rattle.line_core.specs.Counts.{counts_after, no_counts}
 
 -- a line to which nothing has happened is masked, with depth 1
 abbrev pub first_marks : Marks
-first_marks = record { linked = false; disabled = true; masked = true; sent = false; stored = false; pending = false; flow = None; running = false; begun = false; handled = false; unserved = 0; fresh = 0; met = 0; counts = no_counts }
+first_marks = record {
+  linked = false;
+  disabled = true;
+  masked = true;
+  sent = false;
+  stored = false;
+  pending = false;
+  flow = None;
+  running = false;
+  begun = false;
+  handled = false;
+  unserved = 0;
+  fresh = 0;
+  met = 0;
+  counts = no_counts;
+}
 
 -- an edge comes: it is sent, or stored where the line is masked
 abbrev pub after_ask : Marks → Marks
-after_ask m = record m { unserved = m.unserved + 1; fresh = m.fresh + 1; sent = m.sent || not m.masked; stored = m.stored || m.masked }
+after_ask m = record m {
+  unserved = m.unserved + 1;
+  fresh = m.fresh + 1;
+  sent = m.sent || not m.masked;
+  stored = m.stored || m.masked;
+}
 
 -- the device is linked, and the line opens: what was stored is sent
 abbrev pub after_request : Marks → Marks
-after_request m = record m { linked = true; disabled = false; masked = false; sent = m.sent || m.stored; stored = false; pending = false; counts = no_counts }
+after_request m = record m {
+  linked = true;
+  disabled = false;
+  masked = false;
+  sent = m.sent || m.stored;
+  stored = false;
+  pending = false;
+  counts = no_counts;
+}
 
 -- the edge is acknowledged, and a round begins
 abbrev pub after_take : CpuNo → Marks → Marks
@@ -39,7 +67,13 @@ after_end window m = record m { flow = None; counts = counts_after window m.hand
 
 -- the device leaves, and the line closes: what was sent is stored again
 abbrev pub after_unlink : Marks → Marks
-after_unlink m = record m { linked = false; disabled = true; masked = true; stored = m.sent || m.stored; sent = false }
+after_unlink m = record m {
+  linked = false;
+  disabled = true;
+  masked = true;
+  stored = m.sent || m.stored;
+  sent = false;
+}
 
 abbrev pub is_handled : Answer → Bool
 is_handled answers.Handled = true

@@ -122,7 +122,8 @@ fn due_of_call(marks: &Marks, script: Script, driver: DriverNo, call: Call) -> O
     requires { IsSane marks.now }
     ensures actor { (def : LineDef) → IfSome result (λ e. actor_of def.line e ≡ actors.Driver driver) }
     ensures comes { (def : LineDef) → CallFits def script.place driver call → IfSome result (Comes def) }
-    ensures expected { (def : LineDef) → CallFits def script.place driver call → IfSome result (IsExpected def marks.now script) }
+    ensures expected { (def : LineDef) → CallFits def script.place driver call
+        → IfSome result (IsExpected def marks.now script) }
 {
     match call {
         Call::Ask { dev } => Some(Entry::Ask { driver, dev }),

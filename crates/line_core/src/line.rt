@@ -34,7 +34,7 @@ impl Model for Line {
 }
 
 impl Line {
-    /// The line of that definition, to which nothing has happened.
+    /// The line of that definition, to which nothing has happened. Refused only for want of memory.
     pub fn new(alloc: Global, def: &LineDef) -> Result<Line, NoMemory>
         requires { Built def.now }
         ensures def { IfOk result (λ l. l.def ≡ def.now) }

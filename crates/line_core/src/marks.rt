@@ -77,6 +77,7 @@ impl Marks {
             Entry::Return { answer, .. } => self.returned(answer == Answer::Handled),
             Entry::End { .. } => self.end(def.window, def.limit),
             Entry::Unlink { .. } => self.unlink(),
+            // A hard clear and a freed change no mark, and no other entry comes on this line.
             _ => {}
         }
     }
