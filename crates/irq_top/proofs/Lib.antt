@@ -2,3 +2,5 @@ mod Texts
 mod Whole
 mod Writing
 mod Printable
+mod Made
+mod OneWord

@@ -15,7 +15,7 @@ use Rattle.irq_top.specs.Playing.{Grows}
 pub printable : (def : LineDef) (e : Entry) → Comes def e → IsPrintable e
 printable def (entries.Request r d flags (links.Refused error) opened) h = cc
 printable def (entries.Affinity r mask (moves.Refused error)) h = absurd h
-printable def _ h = ?
+printable def _ h = tt
 
 pub printable_more : (old new : LineSeen) (e : Entry) → Grows old e new → All IsPrintable old.entries → All IsPrintable new.entries
 printable_more old new e g all = subst (All IsPrintable) (sym g.entries) (All-push IsPrintable old.entries e all (printable old.def e g.comes))

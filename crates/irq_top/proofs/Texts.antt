@@ -6,9 +6,6 @@ use Rattle.std.proofs.lemmas.List.{append_cancel_left, append-nil}
 use Rattle.irq_top.specs.declared.boards.FirstBoard.{FirstBoard}
 use Rattle.irq_top.specs.FirstBoard.{text_line, board_text, ask_text, asks_text, end_text}
 
-
-
-
 abbrev pub head_text : List ℕ
 head_text = codes "board 1\ndomain intc linear 4 latch\nline 1 intc 2\ndevice 1 1 direct\ndriver 1\nrequest 1\n"
 

@@ -32,7 +32,9 @@ found (Some bytes) now text b few read is =
 
 pub refused : (before now : Option (List ℕ)) (text : List ℕ) → TakesUpTo 1048577 before now text → (IsAccepted text → ⊥) → ReadsBoard before now (Err refusals.NotBuilt)
 refused None now text read none = tt
-refused (Some bytes) now text read none =
-    (λ known.
-    let all : length bytes ≤ 1048577 = omega (arith, short known.0 known.1, ap length known.2) in
-    none (known.0, known.1, read.0 ∙ (take_all 1048577 bytes all ∙ known.2)), read.1)
+refused (Some bytes) now text read none = (
+  λ known.
+      let all : length bytes ≤ 1048577 = omega (arith, short known.0 known.1, ap length known.2) in
+      none (known.0, known.1, read.0 ∙ (take_all 1048577 bytes all ∙ known.2)),
+  read.1,
+)

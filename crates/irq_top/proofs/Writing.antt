@@ -1,7 +1,7 @@
 -- One writing after another.
-use Rattle.std.proofs.Common.{◌≡◌, ℕ, suc, ◌+◌, ◌<◌, ◌≤◌, Bool, true, false, Option, Some, None, List, [], ◌∷◌, ◌++◌, get_or, slice_get, take, length, refl, sym, ap, subst, ◌∙◌, append_assoc, arith}
+use Rattle.std.proofs.Common.{◌≡◌, ℕ, suc, ◌+◌, ◌<◌, ◌≤◌, Bool, true, false, Option, Some, None, List, [], ◌∷◌, ◌++◌, get_or, slice_get, take, drop, length, refl, sym, ap, subst, ◌∙◌, append_assoc, arith}
 use Rattle.std.specs.List.{flat_map, All}
-use Rattle.std.proofs.lemmas.List.{take_more, flat_map_more, take_all, append-nil}
+use Rattle.std.proofs.lemmas.List.{take_more, flat_map_more, take-append-drop, append-nil}
 use Rattle.std.proofs.lemmas.List.Elements.{All-get_or, All-push}
 use Rattle.std.proofs.lemmas.Option.{slice_get-get_or, slice_get_within, get_or_from_slice_get}
 use Rattle.irq_base.specs.declared.numbers.LineNo.{LineNo}
@@ -49,3 +49,25 @@ rows_more line es i e at =
 
 pub at_place : (P : Entry → Type 0) (es : List Entry) (i : ℕ) (e : Entry) → All P es → slice_get es i ≡ Some e → P e
 at_place P es i e all at = subst P (get_or_from_slice_get es i e e at) (All-get_or P es i e (slice_get_within es i e at) all)
+
+history_append : (line : LineNo) (xs ys : List Entry) → history_text line (xs ++ ys) ≡ history_text line xs ++ history_text line ys
+history_append line [] ys = refl
+history_append line (x ∷ xs) ys = ap (λ zs. entry_text line x ++ zs) (history_append line xs ys) ∙ sym (append_assoc (entry_text line x) (history_text line xs) (history_text line ys))
+
+-- the rows after one more row
+pub rows_done : (a b c : Option (List ℕ)) (line : LineNo) (es : List Entry) (i : ℕ) (e : Entry) (row : List ℕ) → slice_get es i ≡ Some e → row ≡ entry_text line e
+    → WritesAll a b (history_text line (take i es)) ends.Done → WritesAll b c row ends.Done → WritesAll a c (history_text line (take (i + 1) es)) ends.Done
+rows_done a b c line es i e row at is so_far next =
+    let now = and_then a b c (history_text line (take i es)) row ends.Done so_far next in
+    subst (λ (text : List ℕ). WritesAll a c text ends.Done) (ap (λ zs. history_text line (take i es) ++ zs) is ∙ sym (rows_more line es i e at)) now
+
+-- the rows after a row that failed
+pub rows_failed : (a b c : Option (List ℕ)) (line : LineNo) (es : List Entry) (i : ℕ) (e : Entry) (row : List ℕ) → slice_get es i ≡ Some e → row ≡ entry_text line e
+    → WritesAll a b (history_text line (take i es)) ends.Done → WritesAll b c row ends.Failed → WritesAll a c (history_text line es) ends.Failed
+rows_failed a b c line es i e row at is so_far next =
+    let now = and_then a b c (history_text line (take i es)) row ends.Failed so_far next in
+    let upto : history_text line (take i es) ++ row ≡ history_text line (take (i + 1) es) = ap (λ zs. history_text line (take i es) ++ zs) is ∙ sym (rows_more line es i e at) in
+    let all : (history_text line (take i es) ++ row) ++ history_text line (drop (i + 1) es) ≡ history_text line es =
+    ap (λ zs. zs ++ history_text line (drop (i + 1) es)) upto
+    ∙ (sym (history_append line (take (i + 1) es) (drop (i + 1) es)) ∙ ap (history_text line) (take-append-drop (i + 1) es)) in
+    subst (λ (text : List ℕ). WritesAll a c text ends.Failed) all (failed_within a c (history_text line (take i es) ++ row) (history_text line (drop (i + 1) es)) now)

@@ -62,10 +62,19 @@ board_calls b =
 abbrev pub line_of_board : FirstBoard → LineDef
 line_of_board b =
     record {
-      line = line_one; flow = flows.Edge; trigger = triggers.Edge;
-      keeps = true; recalls = true; retriggers = true;
-      unlazy = false; later = false; mask = 1; cpus = 1;
-      window = 100000; limit = 99900; log = 10000;
+      line = line_one;
+      flow = flows.Edge;
+      trigger = triggers.Edge;
+      keeps = true;
+      recalls = true;
+      retriggers = true;
+      unlazy = false;
+      later = false;
+      mask = 1;
+      cpus = 1;
+      window = 100000;
+      limit = 99900;
+      log = 10000;
       devices = record { dev = dev_one; line = line_one; kind = kinds.Direct } ∷ [];
       calls = board_calls b;
     }

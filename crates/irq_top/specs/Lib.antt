@@ -3,3 +3,5 @@ pub mod Report
 pub mod Reading
 pub mod Playing
 pub mod Printing
+pub mod Words
+pub mod Ending

@@ -22,11 +22,13 @@ pub fn print_report<O: Sink>(out: &mut O, line: LineNo, history: &History) -> Wr
     ensures handed { HandsOn (O.handed_on out.new) (O.written out.new) result }
     ensures cause { Counts (O.faults out.old) (O.faults out.new) (writing_failed result) }
 {
-    if write_all(out, LAYOUT) == WriteEnd::Failed {
-        return WriteEnd::Failed;
+    match write_all(out, LAYOUT) {
+        WriteEnd::Done => {}
+        WriteEnd::Failed => return WriteEnd::Failed,
     }
-    if print_rows(out, line, history) == WriteEnd::Failed {
-        return WriteEnd::Failed;
+    match print_rows(out, line, history) {
+        WriteEnd::Done => {}
+        WriteEnd::Failed => return WriteEnd::Failed,
     }
     match out.flush() {
         FlushAnswer::Done => WriteEnd::Done,
@@ -45,8 +47,9 @@ fn print_rows<O: Sink>(out: &mut O, line: LineNo, history: &History) -> WriteEnd
             unreachable!();
         };
         let row = entry_row(line, &entry);
-        if write_all(out, row.bytes()) == WriteEnd::Failed {
-            return WriteEnd::Failed;
+        match write_all(out, row.bytes()) {
+            WriteEnd::Done => {}
+            WriteEnd::Failed => return WriteEnd::Failed,
         }
     }
     WriteEnd::Done
