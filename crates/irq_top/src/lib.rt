@@ -13,3 +13,6 @@ pub mod top;
 pub use boards::{BoardRefused, FirstBoard};
 pub use ending::Ending;
 pub use top::{Outcome, irq_main};
+
+#[cfg(test)]
+mod tests;
