@@ -1,2 +1,5 @@
 pub mod Calls
 pub mod More
+pub mod Latch
+pub mod Noting
+pub mod Agreeing
