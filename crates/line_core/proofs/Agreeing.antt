@@ -214,7 +214,7 @@ return_agrees def cpu a n past m plain h =
       met = h.met;
       counts = h.counts;
       moment = h.moment;
-      woken = no_wake (same_dev d d) (is_woken past d) (is_wake a) false plain h.woken;
+      woken = λ x. no_wake (same_dev x d) (is_woken past x) (is_wake a) false plain (h.woken x);
       thread = h.thread;
     }
 

@@ -3,3 +3,6 @@ pub mod More
 pub mod Latch
 pub mod Noting
 pub mod Agreeing
+pub mod Nexts
+pub mod Driven
+pub mod Past

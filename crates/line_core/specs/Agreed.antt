@@ -62,7 +62,7 @@ pub record Agreed (def : LineDef) (past : List Entry) (m : Marks) : Type 0 where
   pub fresh : asks_since_begin (device_of def) past ≡ m.fresh
   pub met : asks_of_handler def (device_of def) past ≡ m.met
   pub counts : spurious.counts_of def past ≡ rule_counts m.counts
-  -- no moment was handed in, and the device has no thread at work
+  -- no moment was handed in, and no thread is at work
   pub moment : spurious.now past ≡ 0
-  pub woken : is_woken past (device_of def) ≡ false
-  pub thread : is_running past (device_of def) ≡ false
+  pub woken : (d : DevNo) → is_woken past d ≡ false
+  pub thread : (d : DevNo) → is_running past d ≡ false
