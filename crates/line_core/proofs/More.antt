@@ -1,14 +1,21 @@
 -- One more entry keeps what holds of a line.
-use Rattle.std.proofs.Common.{◌≡◌, ℕ, ◌+◌, ◌<◌, ◌≤◌, Bool, true, false, not, ◌||◌, is_some, List, [], ◌∷◌, ◌++◌, length, refl, sym, ap, subst, arith, length-append}
+use Rattle.std.proofs.Common.{◌≡◌, ℕ, ◌+◌, ◌<◌, ◌≤◌, Bool, true, false, not, ◌||◌, is_some, List, [], ◌∷◌, ◌++◌, length, Some, reverse, refl, sym, ap, subst, ◌∙◌, arith, length-append}
+use Rattle.std.proofs.lemmas.List.{reverse-append}
 use Rattle.std.proofs.lemmas.Bool.Decides.{nat_tests}
+use Rattle.irq_base.specs.Who.{actor_of}
+use Rattle.irq_base.specs.declared.entries.Actor.{Actor}
 use Rattle.irq_base.specs.declared.entries.Entry.{Entry}
 use Rattle.irq_base.specs.declared.entries.Entry.TheVariants as entries
 use Rattle.irq_base.specs.declared.entries.TakeAnswer.TheVariants as takes
 use Rattle.irq_base.specs.declared.lines.LineDef.{LineDef}
 use Rattle.irq_base.specs.declared.numbers.DevNo.{DevNo}
+use Rattle.irq_model.specs.Legal.{IsLegalPast}
+use Rattle.irq_model.specs.Next.{next, next_past}
+use Rattle.line_core.proofs.Past.{past_more, linked_more}
 use Rattle.line_core.specs.Counts.{counts_after}
 use Rattle.line_core.specs.Due.{Comes, IsExpected}
-use Rattle.line_core.specs.Line.{IsSane, AreEarned, AreBounded, IsLine, one_if}
+use Rattle.line_core.specs.Line.{IsSane, AreEarned, AreBounded, IsLinkedByScript, IsConsistent, IsPast, IsLine, one_if}
+use Rattle.line_core.specs.Built.{Built, count_of_asks}
 use Rattle.line_core.specs.Marks.{marks_after}
 use Rattle.line_core.specs.Script.{script_after}
 use Rattle.line_core.specs.declared.counts.Counts.{Counts}
@@ -91,12 +98,18 @@ bounded_more n window m s (entries.HardClear driver) h = record { unserved = ome
 bounded_more n window m s (entries.Freed driver dev) h = record { unserved = omega (arith, h.unserved); fresh = omega (arith, h.fresh); place = omega (arith, h.place); within = omega arith }
 bounded_more n window m s _ h = record { unserved = omega (arith, h.unserved); fresh = omega (arith, h.fresh); place = omega (arith, h.place); within = omega (arith, h.within) }
 
-pub line_more : (def : LineDef) (dev : DevNo) (h : List Entry) (m : Marks) (s : Script) (e : Entry)
-    → IsLine def dev h m s → Comes def e → IsExpected def m s e → length h < def.log
+-- read from the newest end, an entry at the end is the head
+pub newest : (h : List Entry) (e : Entry) → reverse (h ++ e ∷ []) ≡ e ∷ reverse h
+newest h e = reverse-append h (e ∷ [])
+
+pub line_more : (def : LineDef) (dev : DevNo) (h : List Entry) (m : Marks) (s : Script) (a : Actor) (e : Entry)
+    → IsLine def dev h m s → next def h a ≡ Some e → actor_of def.line e ≡ a → Comes def e → IsExpected def m s e → length h < def.log
     → IsLine def dev (h ++ e ∷ []) (marks_after def.window e m) (script_after e s)
-line_more def dev h m s e is comes expected room =
+line_more def dev h m s a e is due who comes expected room =
     let n : length (h ++ e ∷ []) ≡ length h + 1 = omega (arith, length-append h (e ∷ [])) in
     let B : ℕ → Type 0 = λ k. AreBounded k (marks_after def.window e m) (script_after e s) in
+    let L : List Entry → Type 0 = λ past. IsLegalPast def past in
+    let P : List Entry → Type 0 = λ past. IsPast def past (marks_after def.window e m) (script_after e s) in
     let old = is.consistent in
     record {
       consistent = record {
@@ -104,7 +117,10 @@ line_more def dev h m s e is comes expected room =
         device = old.device;
         sane = sane_more def m s e old.sane comes expected;
         earned = earned_more def m s e old.earned comes expected;
+        linked = linked_more def (reverse h) m s e old.built old.linked is.past comes expected;
       };
+      legal = subst L (sym (newest h e)) (ap (next_past def (reverse h)) who ∙ due, is.legal);
+      past = subst P (sym (newest h e)) (past_more def dev (reverse h) m s e old is.past comes expected);
       bounded = subst B (sym n) (bounded_more (length h) def.window m s e is.bounded);
       room = omega (arith, n, room);
     }

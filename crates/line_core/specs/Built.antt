@@ -1,5 +1,5 @@
 -- The definitions of which this crate makes lines.
-use Rattle.std.specs.Prelude.{◌≡◌, ℕ, ◌+◌, ◌%◌, ◌<◌, ◌≤◌, true, false, List, [], ◌∷◌}
+use Rattle.std.specs.Prelude.{◌≡◌, ℕ, ◌+◌, ◌%◌, ◌<◌, ◌≤◌, true, false, List, [], ◌∷◌, length}
 use Rattle.irq_base.specs.declared.calls.Call.{Call}
 use Rattle.irq_base.specs.declared.calls.Call.TheVariants as calls
 use Rattle.irq_base.specs.declared.calls.Flags.{Flags}
@@ -70,4 +70,6 @@ pub record Built (def : LineDef) : Type 0 where
   -- the rounds are too few to be judged: each needs an ask
   pub window : count_of_asks def.calls < def.window
   pub limit : def.limit < def.window
+  pub small_window : def.window ≤ 1000000
+  pub few_calls : length def.calls ≤ 16384
   pub log : (1 ≤ def.log) × (def.log ≤ 100000000)

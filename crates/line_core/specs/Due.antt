@@ -1,5 +1,5 @@
 -- The entries that come on such a line, and what holds just before each.
-use Rattle.std.specs.Prelude.{◌≡◌, ℕ, ◌≤◌, true, false, ◌≢◌, Some, None}
+use Rattle.std.specs.Prelude.{◌≡◌, ℕ, ◌+◌, ◌≤◌, true, false, ◌≢◌, Some, None, slice_get}
 use Rattle.irq_base.specs.declared.calls.Call.{Call}
 use Rattle.irq_base.specs.declared.calls.Call.TheVariants as calls
 use Rattle.irq_base.specs.Handlers.{answer_of}
@@ -39,14 +39,26 @@ Comes def (entries.HardClear driver) = driver ≡ driver_of def
 Comes def (entries.Freed driver dev) = (driver ≡ driver_of def) × (dev ≡ device_of def)
 Comes def _ = ⊥
 
+-- the call at a place of the script is the driver's
+abbrev pub IsCallAt : LineDef → ℕ → DriverNo → Call → Type 0
+IsCallAt def place who call = slice_get def.calls place ≡ Some (who, call)
+
 -- what the marks and the place say just before the entry
 abbrev pub IsExpected : LineDef → Marks → Script → Entry → Type 0
-IsExpected def m s (entries.Ask driver dev) = (1 ≤ s.place) × (s.place ≤ count_of_asks def.calls)
-IsExpected def m s (entries.Request driver dev flags answer opened) = s.place ≡ 0
+IsExpected def m s (entries.Ask driver dev) =
+    (1 ≤ s.place) × (s.place ≤ count_of_asks def.calls) × IsCallAt def s.place driver (calls.Ask dev)
+IsExpected def m s (entries.Request driver dev flags answer opened) =
+    (s.place ≡ 0) × IsCallAt def s.place driver (calls.Request dev flags)
 IsExpected def m s (entries.Take cpu way answer) = (m.flow ≡ None) × (m.sent ≡ true)
 IsExpected def m s (entries.Begin cpu dev) = m.linked ≡ true
 IsExpected def m s (entries.Return cpu dev answer served) = m.running ≡ true
 IsExpected def m s (entries.End cpu again unmask note) = m.flow ≡ Some cpu
+IsExpected def m s (entries.Unlink driver dev answer) =
+    (s.place ≡ count_of_asks def.calls + 1) × IsCallAt def s.place driver (calls.Free dev) × (s.within ≡ 0)
+IsExpected def m s (entries.HardClear driver) =
+    (s.place ≡ count_of_asks def.calls + 1) × IsCallAt def s.place driver (calls.Free (device_of def)) × (s.within ≡ 1)
+IsExpected def m s (entries.Freed driver dev) =
+    (s.place ≡ count_of_asks def.calls + 1) × IsCallAt def s.place driver (calls.Free dev) × (2 ≤ s.within)
 IsExpected def m s _ = Unit {0}
 
 -- a call at a place of the script, and whose it is
@@ -55,5 +67,6 @@ CallFits def place who (calls.Ask dev) =
     (who ≡ driver_of def) × (dev ≡ device_of def) × (1 ≤ place) × (place ≤ count_of_asks def.calls)
 CallFits def place who (calls.Request dev flags) =
     (who ≡ driver_of def) × (dev ≡ device_of def) × (flags ≡ no_flags) × (place ≡ 0)
-CallFits def place who (calls.Free dev) = (who ≡ driver_of def) × (dev ≡ device_of def)
+CallFits def place who (calls.Free dev) =
+    (who ≡ driver_of def) × (dev ≡ device_of def) × (place ≡ count_of_asks def.calls + 1)
 CallFits def place who _ = ⊥

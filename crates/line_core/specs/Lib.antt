@@ -1,3 +1,4 @@
+pub mod Agreed
 pub mod Built
 pub mod Counts
 pub mod Due

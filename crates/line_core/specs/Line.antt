@@ -1,9 +1,15 @@
 -- What holds of a line at every moment.
-use Rattle.std.specs.Prelude.{◌≡◌, ℕ, ◌+◌, ◌-◌, ◌≤◌, Bool, true, false, not, is_some, IfSome, List, length, if◌then◌else◌}
+use Rattle.std.specs.Prelude.{◌≡◌, ℕ, ◌+◌, ◌-◌, ◌≤◌, Bool, true, false, not, is_some, IfSome, List, length, reverse, nat_lt, if◌then◌else◌}
 use Rattle.irq_base.specs.declared.entries.Entry.{Entry}
 use Rattle.irq_base.specs.declared.lines.LineDef.{LineDef}
 use Rattle.irq_base.specs.declared.numbers.DevNo.{DevNo}
-use Rattle.line_core.specs.Built.{Built, device_of, count_of_asks}
+use Rattle.irq_model.specs.Due.{calls_by, entries_by, holds_mutex}
+use Rattle.irq_model.specs.Legal.{IsLegal}
+use Rattle.irq_model.specs.Places.{EachEntry}
+use Rattle.irq_steps.specs.Laid.{Laid}
+use Rattle.line_core.specs.Agreed.{Agreed}
+use Rattle.line_core.specs.Built.{Built, device_of, driver_of, count_of_asks}
+use Rattle.line_core.specs.Due.{Comes}
 use Rattle.line_core.specs.declared.marks.Marks.{Marks}
 use Rattle.line_core.specs.declared.script.Script.{Script}
 
@@ -36,14 +42,31 @@ pub record AreBounded (n : ℕ) (m : Marks) (s : Script) : Type 0 where
   pub place : s.place ≤ n
   pub within : s.within ≤ n
 
+-- The device is linked from its request to its unlink.
+pub record IsLinkedByScript (def : LineDef) (m : Marks) (s : Script) : Type 0 where
+  pub before : s.place ≡ 0 → m.linked ≡ false
+  pub during : 1 ≤ s.place → s.place ≤ count_of_asks def.calls + 1 → s.within ≡ 0 → m.linked ≡ true
+
 -- The definition, the marks and the place fit one another. What is due depends on them alone.
 pub record IsConsistent (def : LineDef) (dev : DevNo) (m : Marks) (s : Script) : Type 0 where
   pub built : Built def
   pub device : dev ≡ device_of def
   pub sane : IsSane m
   pub earned : AreEarned def m s
+  pub linked : IsLinkedByScript def m s
+
+-- The marks and the place are those of the history, whose newest entry comes first: each entry is of a kind that
+-- comes on such a line, the driver's entries make its calls up to the place, and the request mutex is held from the
+-- first entry of the free to its last.
+pub record IsPast (def : LineDef) (past : List Entry) (m : Marks) (s : Script) : Type 0 where
+  pub agreed : Agreed def past m
+  pub comes : EachEntry (λ e before. Comes def e) past
+  pub laid : Laid (calls_by (driver_of def) def.calls) (entries_by (driver_of def) past) s.place s.within
+  pub mutex : holds_mutex past ≡ nat_lt 0 s.within
 
 pub record IsLine (def : LineDef) (dev : DevNo) (entries : List Entry) (m : Marks) (s : Script) : Type 0 where
   pub consistent : IsConsistent def dev m s
+  pub legal : IsLegal def entries
+  pub past : IsPast def (reverse entries) m s
   pub bounded : AreBounded (length entries) m s
   pub room : length entries ≤ def.log

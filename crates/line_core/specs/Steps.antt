@@ -1,8 +1,12 @@
 -- What a step answers, and what it leaves.
-use Rattle.std.specs.Prelude.{◌≡◌, ◌+◌, ◌<◌, ◌≤◌, [], ◌∷◌, ◌++◌, length}
+use Rattle.std.specs.Prelude.{◌≡◌, ◌+◌, ◌<◌, ◌≤◌, Bool, true, false, IsTrue, Option, Some, None, IsSome, [], ◌∷◌, ◌++◌, length}
 use Rattle.irq_base.specs.Who.{actor_of}
 use Rattle.irq_base.specs.declared.entries.Actor.{Actor}
 use Rattle.irq_base.specs.declared.entries.Entry.{Entry}
+use Rattle.irq_base.specs.declared.entries.Actor.TheVariants as actors
+use Rattle.irq_base.specs.declared.numbers.CpuNo.{CpuNo}
+use Rattle.irq_model.specs.Kinds.{is_take}
+use Rattle.irq_model.specs.Next.{next}
 use Rattle.line_core.specs.Due.{Comes}
 use Rattle.line_core.specs.Seen.{LineSeen}
 use Rattle.line_core.specs.declared.answers.StepRefused.{StepRefused}
@@ -10,9 +14,10 @@ use Rattle.line_core.specs.declared.answers.StepRefused.TheVariants as refusals
 use Rattle.line_core.specs.declared.answers.Stepped.{Stepped}
 use Rattle.line_core.specs.declared.answers.Stepped.TheVariants as stepped
 
--- The entry is the actor's, and of a kind that comes on such a line. It stands at the end, and there was a place
--- for it. At most one of the places that were free is gone.
+-- The entry is the one that is due of the actor, and of a kind that comes on such a line. It stands at the end, and
+-- there was a place for it. At most one of the places that were free is gone.
 pub record AddsEntry (old : LineSeen) (who : Actor) (entry : Entry) (new : LineSeen) : Type 0 where
+  pub due : next old.def old.entries who ≡ Some entry
   pub actor : actor_of old.def.line entry ≡ who
   pub comes : Comes old.def entry
   pub def : new.def ≡ old.def
@@ -23,6 +28,18 @@ pub record AddsEntry (old : LineSeen) (who : Actor) (entry : Entry) (new : LineS
 abbrev pub Steps : LineSeen → Actor → Stepped → LineSeen → Type 0
 Steps old actor (stepped.Added entry) new = AddsEntry old actor entry new
 Steps old actor stepped.NotYet new = new ≡ old
+
+-- an entry is due of the actor
+abbrev pub IsDueOf : LineSeen → Actor → Type 0
+IsDueOf line actor = IsSome (next line.def line.entries actor)
+
+abbrev pub is_some_take : Option Entry → Bool
+is_some_take (Some e) = is_take e
+is_some_take None = false
+
+-- a take is due of the processor
+abbrev pub IsPresented : LineSeen → CpuNo → Type 0
+IsPresented line cpu = IsTrue (is_some_take (next line.def line.entries (actors.Cpu cpu)))
 
 -- The cause of a refusal: the history has its greatest length, which is told; or it hasn't, and has no room.
 abbrev pub HasCause : LineSeen → StepRefused → Type 0

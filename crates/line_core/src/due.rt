@@ -1,13 +1,21 @@
 //! Which entry is due. Nothing changes here.
-ghost use Rattle.std.specs.Prelude.{◌≡◌, ℕ, true, not, ◌||◌, if◌then◌else◌, IfSome, Some, slice_get};
+ghost use Rattle.std.specs.Prelude.{◌≡◌, ℕ, ◌+◌, true, not, ◌||◌, if◌then◌else◌, IfSome, Some, List};
 ghost use Rattle.irq_base.specs.Who.{actor_of};
+ghost use Rattle.irq_base.specs.declared.calls.Call.TheVariants as calls;
 ghost use Rattle.irq_base.specs.declared.entries.Actor.TheVariants as actors;
+ghost use Rattle.irq_base.specs.declared.entries.Entry.{Entry};
 ghost use Rattle.irq_base.specs.declared.entries.Resend.TheVariants as resends;
 ghost use Rattle.irq_base.specs.declared.entries.TakeAnswer.TheVariants as takes;
 ghost use Rattle.irq_base.specs.declared.lines.LineDef.{LineDef};
-ghost use Rattle.line_core.specs.Built.{device_of, driver_of};
-ghost use Rattle.line_core.specs.Due.{Comes, IsExpected, CallFits};
-ghost use Rattle.line_core.specs.Line.{IsConsistent, IsSane};
+ghost use Rattle.irq_base.specs.declared.numbers.DevNo.{DevNo};
+ghost use Rattle.irq_model.specs.Due.{due_call as call_of};
+ghost use Rattle.irq_model.specs.Next.{next_past, next_of_cpu, next_in_flow, next_of_call, next_of_free};
+ghost use Rattle.irq_model.specs.Rounds.{at_work};
+ghost use Rattle.irq_steps.specs.Laid.{with_count};
+ghost use Rattle.line_core.specs.Built.{Built, device_of, driver_of, count_of_asks};
+ghost use Rattle.line_core.specs.Due.{Comes, IsExpected, CallFits, IsCallAt};
+ghost use Rattle.line_core.specs.Line.{IsConsistent, IsPast, IsSane};
+ghost use Rattle.line_core.specs.declared.marks.Marks.{Marks};
 
 use crate::marks::Marks;
 use crate::script::Script;
@@ -28,6 +36,7 @@ pub fn due_entry(
     ensures actor { IfSome result (λ e. actor_of def.now.line e ≡ actor) }
     ensures comes { IfSome result (Comes def.now) }
     ensures expected { IfSome result (IsExpected def.now marks.now script) }
+    ensures next { (past : List Entry) → IsPast def.now past marks.now script → result ≡ next_past def.now past actor }
 {
     match actor {
         Actor::Thread(..) => None,
@@ -46,6 +55,7 @@ fn due_of_cpu(def: &LineDef, dev: DevNo, marks: &Marks, script: Script, cpu: Cpu
     ensures actor { IfSome result (λ e. actor_of def.now.line e ≡ actors.Cpu cpu) }
     ensures comes { IfSome result (Comes def.now) }
     ensures expected { IfSome result (IsExpected def.now marks.now script) }
+    ensures next { (past : List Entry) → IsPast def.now past marks.now script → result ≡ next_of_cpu def.now cpu past }
 {
     if let Some(busy) = marks.flow {
         if busy.0 == cpu.0 {
@@ -82,6 +92,8 @@ fn due_in_flow(def: &LineDef, dev: DevNo, marks: &Marks, script: Script, cpu: Cp
     ensures actor { actor_of def.now.line result ≡ actors.Cpu cpu }
     ensures comes { Comes def.now result }
     ensures expected { IsExpected def.now marks.now script result }
+    ensures next { (past : List Entry) → IsPast def.now past marks.now script
+        → result ≡ next_in_flow def.now cpu past (at_work past) }
 {
     if marks.running {
         return Entry::Return {
@@ -109,12 +121,15 @@ fn due_in_flow(def: &LineDef, dev: DevNo, marks: &Marks, script: Script, cpu: Cp
 
 /// The driver's first call that isn't complete.
 fn due_call(def: &LineDef, script: Script, who: DriverNo) -> Option<Call>
-    ensures { IfSome result (λ call. slice_get def.now.calls script.place ≡ Some (who, call)) }
+    ensures at { IfSome result (IsCallAt def.now script.place who) }
+    ensures due { (past : List Entry) (marks : Marks) → Built def.now → IsPast def.now past marks script
+        → call_of def.now who past ≡ with_count result script.within }
 {
-    match def.calls.get(script.place) {
-        Some((driver, call)) if driver == who => Some(call),
-        _ => None,
+    let (driver, call) = def.calls.get(script.place)?;
+    if driver.0 != who.0 {
+        return None;
     }
+    Some(call)
 }
 
 /// What the driver adds at its call.
@@ -123,7 +138,10 @@ fn due_of_call(marks: &Marks, script: Script, driver: DriverNo, call: Call) -> O
     ensures actor { (def : LineDef) → IfSome result (λ e. actor_of def.line e ≡ actors.Driver driver) }
     ensures comes { (def : LineDef) → CallFits def script.place driver call → IfSome result (Comes def) }
     ensures expected { (def : LineDef) → CallFits def script.place driver call
-        → IfSome result (IsExpected def marks.now script) }
+        → IsCallAt def script.place driver call → IfSome result (IsExpected def marks.now script) }
+    ensures next { (def : LineDef) (dev : DevNo) (past : List Entry) → IsConsistent def dev marks.now script
+        → IsPast def past marks.now script → IsCallAt def script.place driver call
+        → result ≡ next_of_call def driver past (Some (call, script.within)) }
 {
     match call {
         Call::Ask { dev } => Some(Entry::Ask { driver, dev }),
@@ -158,7 +176,11 @@ fn resend_of(marks: &Marks) -> Resend
 fn due_of_free(marks: &Marks, script: Script, driver: DriverNo, dev: DevNo) -> Option<Entry>
     ensures actor { (def : LineDef) → IfSome result (λ e. actor_of def.line e ≡ actors.Driver driver) }
     ensures comes { (def : LineDef) → driver ≡ driver_of def → dev ≡ device_of def → IfSome result (Comes def) }
-    ensures expected { (def : LineDef) → IfSome result (IsExpected def marks.now script) }
+    ensures expected { (def : LineDef) → CallFits def script.place driver (calls.Free dev)
+        → IsCallAt def script.place driver (calls.Free dev) → IfSome result (IsExpected def marks.now script) }
+    ensures next { (def : LineDef) (of : DevNo) (past : List Entry) → IsConsistent def of marks.now script
+        → IsPast def past marks.now script → IsCallAt def script.place driver (calls.Free dev)
+        → result ≡ next_of_free def driver dev script.within past }
 {
     match script.within {
         0 => Some(Entry::Unlink {

@@ -1,7 +1,12 @@
 //! The line.
-ghost use Rattle.std.specs.Prelude.{◌≡◌, ℕ, ◌+◌, ◌-◌, ◌<◌, ◌≤◌, ◌^◌, [], ◌∷◌, ◌++◌, length, IfOk, OnOk, IsOk, IfErr, OnErr, IsTrue};
+ghost use Rattle.std.specs.Prelude.{◌≡◌, ℕ, ◌+◌, ◌-◌, ◌<◌, ◌≤◌, ◌^◌, ◌↔◌, [], ◌∷◌, ◌++◌, length, IfOk, OnOk, IsOk, IfErr, OnErr, IsTrue, Ok, Err, None};
+ghost use Rattle.irq_model.specs.Legal.{IsLegal};
+ghost use Rattle.irq_model.specs.Next.{next};
+ghost use Rattle.irq_model.specs.Valid.{IsValid};
 ghost use Rattle.line_core.specs.Built.{Built, device_of};
-ghost use Rattle.line_core.specs.Steps.{Steps, HasCause};
+ghost use Rattle.line_core.specs.Steps.{Steps, HasCause, IsDueOf, IsPresented};
+ghost use Rattle.line_core.specs.declared.answers.StepRefused.TheVariants as refusals;
+ghost use Rattle.line_core.specs.declared.answers.Stepped.TheVariants as stepped;
 
 use crate::answers::{StepRefused, Stepped};
 use crate::due::due_entry;
@@ -58,8 +63,13 @@ impl Line {
     /// Adds the entry that is due of the actor, if there is one. Where none is due, nothing else is asked; then
     /// comes the greatest length, then memory.
     pub fn step(&mut self, actor: Actor) -> Result<Stepped, StepRefused>
-        ensures ok { IfOk result (λ stepped. Steps self.old actor stepped self.new) }
+        ensures ok { IfOk result (λ answer. Steps self.old actor answer self.new) }
+        ensures not_yet { (result ≡ Ok stepped.NotYet) ↔ (next self.old.def self.old.entries actor ≡ None) }
+        ensures full { (result ≡ Err (refusals.Full (length self.old.entries)))
+            ↔ (IsDueOf self.old actor × (length self.old.entries ≡ self.old.def.log)) }
+        // Where there is room a step takes none: so memory is wanted only where `spare` is 0.
         ensures cause { IfErr result (HasCause self.old) }
+        ensures due { OnErr result (IsDueOf self.old actor) }
         ensures refused { OnErr result (self.new ≡ self.old) }
     {
         let Some(entry) = due_entry(&self.def, self.dev, &self.marks, self.script, actor) else {
@@ -78,7 +88,8 @@ impl Line {
 
     /// Whether a take of the processor is due. It is never one of another processor than 0.
     pub fn present(&self, cpu: CpuNo) -> bool
-        ensures { IsTrue result → cpu.0 ≡ 0 }
+        ensures take { IsTrue result ↔ IsPresented self.now cpu }
+        ensures target { IsTrue result → cpu.0 ≡ 0 }
     {
         let due = due_entry(
             &self.def,
@@ -131,6 +142,13 @@ impl Line {
         ensures { result ≡ self.now.spare }
     {
         self.history.spare()
+    }
+
+    /// What holds of every line: each entry is the one that was due of its actor after those before it.
+    pub fn is_legal(&self)
+        ensures { IsLegal self.now.def self.now.entries }
+    {
+        let _history = &self.history;
     }
 
     /// What holds of every line: its definition is one of those of which lines are made, and the history isn't

@@ -1,5 +1,6 @@
-use Rattle.std.proofs.Common.{arith, ◌<◌, length}
+use Rattle.std.proofs.Common.{◌≡◌, arith, ◌<◌, length, reverse, Some, sym}
 use Rattle.std.proofs.lemmas.Result.{err_from_is_err_and}
+use Rattle.irq_model.specs.Next.{next}
 use Rattle.line_core.proofs.More.{line_more}
 use Rattle.line_core.proofs.line.Line.step.Goals as goal
 
@@ -11,6 +12,8 @@ returns-in_err-make_room-clause-cause c =
 pub invariant_of-self-2 : goal.invariant_of-self-2
 invariant_of-self-2 c =
     let f = c.self.inside in
+    let is = c.self.invariant in
     let below : length f.history.entries < f.def.log = omega arith in
+    let due : next f.def f.history.entries c.args.actor ≡ Some c.in-Some.entry = sym (c.in-Some.ensures.next (reverse f.history.entries) is.past) in
     rw (c.push.ensures.entries, c.in_ok-make_room.ensures.entries, c.apply.ensures, c.after-self-inside.ensures)
-    (line_more f.def f.dev f.history.entries f.marks f.script c.in-Some.entry c.self.invariant c.in-Some.ensures.comes c.in-Some.ensures.expected below)
+    (line_more f.def f.dev f.history.entries f.marks f.script c.args.actor c.in-Some.entry is due c.in-Some.ensures.actor c.in-Some.ensures.comes c.in-Some.ensures.expected below)
