@@ -11,13 +11,11 @@ ghost use Rattle.play_laws.specs.Actors.{actors_of, IsOneOf};
 ghost use Rattle.play_laws.specs.Play.{End, Done, Plays};
 
 /// A play is one function of the line's definition and the picks: at most one history and one end are its play.
-#[tactic(auto, using(crate::proofs::OnePlay::play_is_one))]
 pub fn play_is_one()
     ensures law { (def : LineDef) (picks : List Actor) (g h : List Entry) (a b : End) → Plays def picks g a → Plays def picks h b → (g ≡ h) × (a ≡ b) }
 {}
 
 /// Where a play is done, none of the line's actors has a due entry.
-#[tactic(auto, using(crate::proofs::AtRest::done_at_rest))]
 pub fn done_at_rest()
     ensures law { (def : LineDef) (picks : List Actor) (h : List Entry) (a : Actor) → Plays def picks h Done → IsOneOf a (actors_of def) → next def h a ≡ None }
 {}
