@@ -1,0 +1,21 @@
+//! The play of a line by the stated order, and its laws, over the definitions alone. Each law is the clause of a
+//! function with an empty body, so that crates above can call it or cite its lemma.
+#![tactic(auto)]
+
+ghost use Rattle.std.specs.Prelude.{◌≡◌, None, List};
+ghost use Rattle.irq_base.specs.declared.lines.LineDef.{LineDef};
+ghost use Rattle.irq_base.specs.declared.entries.Actor.{Actor};
+ghost use Rattle.irq_base.specs.declared.entries.Entry.{Entry};
+ghost use Rattle.irq_model.specs.Next.{next};
+ghost use Rattle.play_laws.specs.Actors.{actors_of, IsOneOf};
+ghost use Rattle.play_laws.specs.Play.{End, Done, Plays};
+
+/// A play is one function of the line's definition and the picks: at most one history and one end are its play.
+pub fn play_is_one()
+    ensures law { (def : LineDef) (picks : List Actor) (g h : List Entry) (a b : End) → Plays def picks g a → Plays def picks h b → (g ≡ h) × (a ≡ b) }
+{}
+
+/// Where a play is done, none of the line's actors has a due entry.
+pub fn done_at_rest()
+    ensures law { (def : LineDef) (picks : List Actor) (h : List Entry) (a : Actor) → Plays def picks h Done → IsOneOf a (actors_of def) → next def h a ≡ None }
+{}
