@@ -1,5 +1,5 @@
 -- How the top call ends, by its ending: the exit status, the row on the error sink, and what holds then.
-use Rattle.std.specs.Prelude.{◌≡◌, ℕ, ◌+◌, Bool, true, false, Option, Some, None, List, [], ◌∷◌, ◌++◌, codes, length, map}
+use Rattle.std.specs.Prelude.{◌≡◌, ℕ, ◌≤◌, Bool, true, false, Option, Some, None, List, [], ◌∷◌, ◌++◌, codes}
 use Rattle.irq_base.specs.Seen.{HistorySeen}
 use Rattle.irq_base.specs.declared.reporting.LineReport.{LineReport}
 use Rattle.irq_io.specs.Faults.{Counts}
@@ -10,7 +10,9 @@ use Rattle.irq_top.specs.declared.boards.BoardRefused.{BoardRefused}
 use Rattle.irq_top.specs.declared.boards.BoardRefused.TheVariants as refusals
 use Rattle.irq_top.specs.declared.ending.Ending.{Ending}
 use Rattle.irq_top.specs.declared.ending.Ending.TheVariants as endings
-use Rattle.irq_top.specs.FirstBoard.{line_one, IsAccepted}
+use Rattle.irq_top.specs.declared.boards.FirstBoard.{FirstBoard}
+use Rattle.irq_top.specs.FirstBoard.{line_one, board_text, line_of_board, IsAccepted}
+use Rattle.irq_top.specs.Headline.{Headline, FullLog}
 use Rattle.irq_top.specs.Reading.{left_after}
 use Rattle.irq_top.specs.Printing.{HandsOn}
 
@@ -77,12 +79,25 @@ Reads (Some bytes) now ending = ReadsInput bytes now ending
 abbrev pub IsOneReport : HistorySeen → List LineReport → Type 0
 IsOneReport history reports = reports ≡ record { line = line_one; history = history } ∷ []
 
--- the one history is handed out where the board was played; where its log is full, it has the greatest length
-abbrev pub HasReports : List LineReport → Ending → Type 0
-HasReports reports endings.Done = (history : HistorySeen) × IsOneReport history reports
-HasReports reports endings.WriteFault = (history : HistorySeen) × IsOneReport history reports
-HasReports reports endings.LogFull = (history : HistorySeen) × IsOneReport history reports × (length history.entries ≡ 10000)
-HasReports reports _ = reports ≡ []
+-- the one history is handed out where the board was played: as the headline says where the play came to its
+-- end, else as it was when its log was full
+abbrev pub HasReports : FirstBoard → List LineReport → Ending → Type 0
+HasReports b reports endings.Done = (history : HistorySeen) × IsOneReport history reports × Headline (line_of_board b) history.entries
+HasReports b reports endings.WriteFault = (history : HistorySeen) × IsOneReport history reports × Headline (line_of_board b) history.entries
+HasReports b reports endings.LogFull = (history : HistorySeen) × IsOneReport history reports × FullLog (line_of_board b) history.entries
+HasReports b reports _ = reports ≡ []
+
+-- the source told the text of the board, where it tells
+abbrev pub ToldBoard : Option (List ℕ) → FirstBoard → Type 0
+ToldBoard None b = Unit {0}
+ToldBoard (Some bytes) b = bytes ≡ board_text b
+
+-- the reports are those of the board that was told; none is handed out where no board was played
+abbrev pub ReportsOf : Option (List ℕ) → List LineReport → Ending → Type 0
+ReportsOf told reports endings.Done = (b : FirstBoard) × (b.asks ≤ 1000) × ToldBoard told b × HasReports b reports endings.Done
+ReportsOf told reports endings.WriteFault = (b : FirstBoard) × (b.asks ≤ 1000) × ToldBoard told b × HasReports b reports endings.WriteFault
+ReportsOf told reports endings.LogFull = (b : FirstBoard) × (b.asks ≤ 1000) × ToldBoard told b × HasReports b reports endings.LogFull
+ReportsOf told reports _ = reports ≡ []
 
 -- what the output gained, where it tells: the whole text, or after a fault a beginning of it
 abbrev pub Prints : Option (List ℕ) → Option (List ℕ) → List ℕ → Ending → Type 0

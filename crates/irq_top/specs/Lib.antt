@@ -4,4 +4,5 @@ pub mod Reading
 pub mod Playing
 pub mod Printing
 pub mod Words
+pub mod Headline
 pub mod Ending

@@ -1,25 +1,33 @@
 -- What a move of a line and a play of it come to.
-use Rattle.std.specs.Prelude.{◌≡◌, ℕ, ◌+◌, ◌<◌, ◌≤◌, [], ◌∷◌, ◌++◌, length}
+use Rattle.std.specs.Prelude.{◌≡◌, ℕ, ◌<◌, IsSome, Some, None, List, [], ◌∷◌, ◌++◌, length, reverse}
+use Rattle.irq_base.specs.declared.entries.Actor.{Actor}
 use Rattle.irq_base.specs.declared.entries.Entry.{Entry}
 use Rattle.line_core.specs.Due.{Comes}
 use Rattle.line_core.specs.Seen.{LineSeen}
 use Rattle.line_core.specs.declared.answers.Stepped.{Stepped}
 use Rattle.line_core.specs.declared.answers.Stepped.TheVariants as stepped
+use Rattle.play_laws.specs.Play.{Done, Full, first_move, Plays}
 use Rattle.irq_top.specs.declared.play.PlayEnd.{PlayEnd}
 use Rattle.irq_top.specs.declared.play.PlayEnd.TheVariants as ends
 
--- one entry more, of a kind that comes on such a line
-pub record Grows (old : LineSeen) (entry : Entry) (new : LineSeen) : Type 0 where
+-- the move of the lowest of the actors that can move: its due entry stands at the end
+pub record MovesLowest (old : LineSeen) (among : List Actor) (entry : Entry) (new : LineSeen) : Type 0 where
+  pub lowest : first_move old.def (reverse old.entries) among ≡ Some entry
   pub comes : Comes old.def entry
   pub def : new.def ≡ old.def
   pub entries : new.entries ≡ old.entries ++ entry ∷ []
   pub below : length old.entries < old.def.log
 
-abbrev pub Moves : LineSeen → Stepped → LineSeen → Type 0
-Moves old (stepped.Added entry) new = Grows old entry new
-Moves old stepped.NotYet new = new ≡ old
+abbrev pub Moves : LineSeen → List Actor → Stepped → LineSeen → Type 0
+Moves old among (stepped.Added entry) new = MovesLowest old among entry new
+Moves old among stepped.NotYet new = (first_move old.def (reverse old.entries) among ≡ None) × (new ≡ old)
 
--- a play that ends full leaves a history of the greatest length, which is told
-abbrev pub IsFullPlay : LineSeen → PlayEnd → Type 0
-IsFullPlay line (ends.Full len) = (length line.entries ≡ len) × (len ≡ line.def.log)
-IsFullPlay line _ = Unit {0}
+-- one of the actors can move
+abbrev pub CanMove : LineSeen → List Actor → Type 0
+CanMove line among = IsSome (first_move line.def (reverse line.entries) among)
+
+-- the history is the play of the line, done or full as was answered; a full one has the length that is told
+abbrev pub IsPlay : LineSeen → PlayEnd → Type 0
+IsPlay line ends.Done = Plays line.def [] line.entries Done
+IsPlay line (ends.Full len) = Plays line.def [] line.entries Full × (length line.entries ≡ len)
+IsPlay line ends.NoMemory = Unit {0}

@@ -4,11 +4,12 @@ ghost use Rattle.irq_io.specs.Faults.{Counts};
 ghost use Rattle.irq_top.specs.FirstBoard.{board_text, ask_text, asks_text, end_text, line_of_board, board_calls, driver_one, dev_one, IsAccepted};
 ghost use Rattle.std.proofs.Math.ListN.{replicate};
 ghost use Rattle.irq_base.specs.declared.calls.Call.TheVariants as kinds;
+ghost use Rattle.play_laws.specs.Actors.{actors_of};
 ghost use Rattle.irq_top.specs.Reading.{ReadsBoard, is_read_fault};
 
 use irq_base::{
-    Call, CallList, DevNo, DeviceDef, DeviceList, DriverNo, Flags, FlowKind, Kind, LineDef, LineNo,
-    NoMemory, Trigger,
+    Actor, Call, CallList, CpuNo, DevNo, DeviceDef, DeviceList, DriverNo, Flags, FlowKind, Kind,
+    LineDef, LineNo, NoMemory, Trigger,
 };
 use irq_io::{ReadRefused, Source, read_up_to};
 use std::alloc::Global;
@@ -153,6 +154,17 @@ impl FirstBoard {
             devices,
             calls: self.calls(alloc)?,
         })
+    }
+
+    /// The actors of the line, the lowest first.
+    pub fn actors(self) -> [Actor; 3]
+        ensures { result ≡ actors_of (line_of_board self) }
+    {
+        [
+            Actor::Thread(LINE, DEVICE),
+            Actor::Cpu(CpuNo(0)),
+            Actor::Driver(DRIVER),
+        ]
     }
 
     /// The calls of its script.

@@ -1,11 +1,13 @@
 //! The top call.
-ghost use Rattle.std.specs.Prelude.{◌≡◌, ℕ, ◌≤◌, ◌↔◌, ◌⊎◌, ◌∷◌, [], false, true, length, map, codes, All, IfOk};
+ghost use Rattle.std.specs.Prelude.{◌≡◌, ℕ, ◌≤◌, ◌↔◌, ◌⊎◌, ◌∷◌, [], false, true, length, map, codes, All, IfOk, IsTrue};
 ghost use Rattle.irq_base.specs.Seen.{HistorySeen};
 ghost use Rattle.irq_io.specs.Faults.{Counts};
 ghost use Rattle.log_text.specs.EntryWords.{IsPrintable};
-ghost use Rattle.irq_top.specs.Report.{report_text};
+ghost use Rattle.irq_top.specs.Report.{report_text, one_report_text};
+ghost use Rattle.irq_top.specs.FirstBoard.{line_of_board};
+ghost use Rattle.irq_top.specs.Headline.{HasEnded};
 ghost use Rattle.irq_top.specs.Words.{IsPlay};
-ghost use Rattle.irq_top.specs.Ending.{Reads, HasReports, Prints, Tells, error_text, is_played, is_printing, is_read_fault_end, is_write_fault_end};
+ghost use Rattle.irq_top.specs.Ending.{Reads, ReportsOf, HasReports, Prints, Tells, error_text, is_played, is_printing, is_read_fault_end, is_write_fault_end};
 
 use crate::boards::{FirstBoard, read_board};
 use crate::ending::Ending;
@@ -38,7 +40,7 @@ pub fn irq_main<S: Source, O: Sink, E: Sink>(
     ensures reads { IsPlay words.now → Reads (S.left src.old) (S.left src.new) result.ending }
     ensures read_fault { Counts (S.faults src.old) (S.faults src.new) (is_read_fault_end result.ending) }
 
-    ensures reports { HasReports result.reports.reports result.ending }
+    ensures reports { ReportsOf (S.left src.old) result.reports.reports result.ending }
     ensures prints { Prints (O.written out.old) (O.written out.new) (report_text result.reports.reports) result.ending }
     ensures handed_on { result.ending ≡ Ending.Done → O.handed_on out.new ≡ O.written out.new }
     ensures write_fault { Counts (O.faults out.old) (O.faults out.new) (is_write_fault_end result.ending) }
@@ -60,7 +62,7 @@ fn work<S: Source, O: Sink>(alloc: Global, words: &[&str], src: &mut S, out: &mu
     ensures unread { result.ending ≡ Ending.Usage → src.new ≡ src.old }
     ensures reads { IsPlay words.now → Reads (S.left src.old) (S.left src.new) result.ending }
     ensures read_fault { Counts (S.faults src.old) (S.faults src.new) (is_read_fault_end result.ending) }
-    ensures reports { HasReports result.reports.reports result.ending }
+    ensures reports { ReportsOf (S.left src.old) result.reports.reports result.ending }
     ensures prints { Prints (O.written out.old) (O.written out.new) (report_text result.reports.reports) result.ending }
     ensures handed_on { result.ending ≡ Ending.Done → O.handed_on out.new ≡ O.written out.new }
     ensures write_fault { Counts (O.faults out.old) (O.faults out.new) (is_write_fault_end result.ending) }
@@ -96,30 +98,26 @@ fn without_reports(alloc: Global, ending: Ending) -> Outcome
     }
 }
 
-/// A line's history after its play.
+/// A line's history after its play, and how the play ended.
 #[derive(Drop)]
 struct Played {
     history: History,
-    /// The play ended since the history has the greatest length.
-    is_full: bool,
+    end: PlayEnd,
 }
 
 /// Plays the line of the board.
 fn play_board(alloc: Global, board: FirstBoard) -> Result<Played, NoMemory>
     requires { board.asks ≤ 1000 }
     ensures printable { IfOk result (λ played. All IsPrintable played.history.entries) }
-    ensures full { IfOk result (λ played. played.is_full ≡ true → length played.history.entries ≡ 10000) }
+    ensures ended { IfOk result (λ played. HasEnded (line_of_board board) played.history.entries played.end) }
 {
     let def = board.line_def(alloc)?;
     let mut line = Line::new(alloc, &def)?;
-    let is_full = match play(&mut line) {
-        PlayEnd::Done => false,
-        PlayEnd::Full { .. } => true,
-        PlayEnd::NoMemory => return Err(NoMemory),
-    };
+    let end = play(&mut line, &board.actors());
+    line.is_legal();
     Ok(Played {
         history: line.into_history(),
-        is_full,
+        end,
     })
 }
 
@@ -128,7 +126,7 @@ fn play_board(alloc: Global, board: FirstBoard) -> Result<Played, NoMemory>
 fn play_and_print<O: Sink>(alloc: Global, board: FirstBoard, out: &mut O) -> Outcome
     requires { board.asks ≤ 1000 }
     ensures played { is_played result.ending ≡ true ⊎ (result.ending ≡ Ending.NoMemory) }
-    ensures reports { HasReports result.reports.reports result.ending }
+    ensures reports { HasReports board result.reports.reports result.ending }
     ensures prints { Prints (O.written out.old) (O.written out.new) (report_text result.reports.reports) result.ending }
     ensures handed_on { result.ending ≡ Ending.Done → O.handed_on out.new ≡ O.written out.new }
     ensures write_fault { Counts (O.faults out.old) (O.faults out.new) (is_write_fault_end result.ending) }
@@ -142,17 +140,28 @@ fn play_and_print<O: Sink>(alloc: Global, board: FirstBoard, out: &mut O) -> Out
         return without_reports(alloc, Ending::NoMemory);
     }
     let line = LineNo(1);
-    let ending = if played.is_full {
-        Ending::LogFull
-    } else {
-        match print_report(out, line, &played.history) {
-            WriteEnd::Done => Ending::Done,
-            WriteEnd::Failed => Ending::WriteFault,
-        }
+    let ending = match played.end {
+        PlayEnd::NoMemory => return without_reports(alloc, Ending::NoMemory),
+        PlayEnd::Full { .. } => Ending::LogFull,
+        PlayEnd::Done => print_ending(out, line, &played.history),
     };
     let history = played.history;
     reports.push(LineReport { line, history }).unwrap();
     Outcome { ending, reports }
+}
+
+/// Prints the report, and says how that ended.
+fn print_ending<O: Sink>(out: &mut O, line: LineNo, history: &History) -> Ending
+    requires { All IsPrintable history.now.entries }
+    ensures printing { IsTrue (is_printing result) }
+    ensures prints { Prints (O.written out.old) (O.written out.new) (one_report_text line history.now.entries) result }
+    ensures handed_on { result ≡ Ending.Done → O.handed_on out.new ≡ O.written out.new }
+    ensures write_fault { Counts (O.faults out.old) (O.faults out.new) (is_write_fault_end result) }
+{
+    match print_report(out, line, history) {
+        WriteEnd::Done => Ending::Done,
+        WriteEnd::Failed => Ending::WriteFault,
+    }
 }
 
 /// Tells on the error sink how the call ended.
