@@ -1,7 +1,7 @@
--- What the walks over entries ask of the tests that they are handed.
+-- What a walk asks of the test that it is handed.
 use Rattle.std.specs.Prelude.{◌≡◌, Bool}
-use Rattle.irq_base.specs.declared.entries.Entry.{Entry}
 
--- each answer of the call, at an entry, is the test's
-abbrev pub Computes : (Entry → Bool → Type 0) → (Entry → Bool) → Type 0
-Computes post p = (e : Entry) (answer : Bool) → post e answer → answer ≡ p e
+module _ {A : Type 0} where
+  -- each answer of the call is the test's
+  abbrev pub Computes : (A → Bool → Type 0) → (A → Bool) → Type 0
+  Computes post p = (x : A) (answer : Bool) → post x answer → answer ≡ p x

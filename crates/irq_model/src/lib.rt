@@ -1,6 +1,11 @@
 //! The rules of one interrupt line, as definitions over the list of its entries.
 #![tactic(auto)]
 
-mod places;
+mod asks;
 mod kinds;
+mod lines;
 mod links;
+mod places;
+mod rounds;
+mod threads;
+mod waiting;
