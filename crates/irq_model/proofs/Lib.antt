@@ -1,2 +1,5 @@
 pub mod Lists
 pub mod Linked
+pub mod Somewhere
+pub mod EdgeWalk
+pub mod Lowest

@@ -22,3 +22,4 @@ pub mod Reason
 pub mod Laws
 pub mod Bounds
 pub mod Tests
+pub mod MaskTable
