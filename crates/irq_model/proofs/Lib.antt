@@ -3,3 +3,4 @@ pub mod Linked
 pub mod Somewhere
 pub mod EdgeWalk
 pub mod Lowest
+pub mod Counts

@@ -5,11 +5,18 @@ mod asks;
 mod kinds;
 mod lines;
 mod links;
+mod next;
+mod next_cpu;
+mod next_driver;
+mod next_thread;
 mod places;
 mod due;
 mod edges;
 mod masks;
 mod rounds;
 mod signal;
+mod spurious;
 mod threads;
 mod waiting;
+
+pub use next::next_slow;
