@@ -28,8 +28,8 @@ by_threads_within : (window limit now n : ℕ) (c : Counts) → IsWithin n c →
 by_threads_within window limit now n c h =
     let since : Counts = record c { last = c.threads_handled } in
     elim (c.threads_handled == c.last) as (λ b. IsWithin (n + 1) (cond b (judged window limit now false c) (judged window limit now true since)).counts) [
-      true ↦ judged_within window limit now n false c h
-    | false ↦ judged_within window limit now n true since (record { irq_count = h.irq_count; irqs_unhandled = h.irqs_unhandled; threads_handled = h.threads_handled })
+      | true ↦ judged_within window limit now n false c h
+      | false ↦ judged_within window limit now n true since (record { irq_count = h.irq_count; irqs_unhandled = h.irqs_unhandled; threads_handled = h.threads_handled })
     ]
 
 noted_within : (window limit now n : ℕ) (wake handled : Bool) (c : Counts) → IsWithin n c → IsWithin (n + 1) (noted window limit now wake handled c).counts
@@ -39,8 +39,8 @@ noted_within window limit now n true true c h =
 noted_within window limit now n true false c h =
     let waiting : Noted = record { note = notes.Quiet; counts = record c { deferred = true } } in
     elim c.deferred as (λ b. IsWithin (n + 1) (cond b (judged_by_threads window limit now c) waiting).counts) [
-      true ↦ by_threads_within window limit now n c h
-    | false ↦ more n waiting.counts (record { irq_count = h.irq_count; irqs_unhandled = h.irqs_unhandled; threads_handled = h.threads_handled })
+      | true ↦ by_threads_within window limit now n c h
+      | false ↦ more n waiting.counts (record { irq_count = h.irq_count; irqs_unhandled = h.irqs_unhandled; threads_handled = h.threads_handled })
     ]
 
 after : (n : ℕ) (c : Counts) → IsWithin (n + 1) c → IsWithin (suc n) c
@@ -53,8 +53,8 @@ counts_within def (entries.ThreadReturn dev served ∷ past) =
     let h = counts_within def past in
     let served_more : Counts = record c { threads_handled = c.threads_handled + 1 } in
     elim (nat_lt 0 served) as (λ b. IsWithin (suc (length past)) (cond b served_more c)) [
-      true ↦ record { irq_count = omega (arith, h.irq_count); irqs_unhandled = omega (arith, h.irqs_unhandled); threads_handled = omega (arith, h.threads_handled) }
-    | false ↦ after (length past) c (more (length past) c h)
+      | true ↦ record { irq_count = omega (arith, h.irq_count); irqs_unhandled = omega (arith, h.irqs_unhandled); threads_handled = omega (arith, h.threads_handled) }
+      | false ↦ after (length past) c (more (length past) c h)
     ]
 counts_within def (entries.Request driver dev flags links.Linked opened ∷ past) =
     let h = counts_within def past in

@@ -1,12 +1,13 @@
 -- A walk from an edge's place to the newest entry.
-use Rattle.std.proofs.Common.{◌≡◌, ℕ, suc, ◌+◌, ◌-◌, ◌<◌, ◌≤◌, Bool, not, ◌||◌, ◌&&◌, List, [], ◌∷◌, ◌++◌, length, take, drop, get_or, refl, sym, ap, ◌∙◌, arith, drop-cons}
+use Rattle.std.proofs.Common.{◌≡◌, ℕ, suc, ◌-◌, ◌<◌, ◌≤◌, Bool, true, false, not, ◌||◌, ◌&&◌, List, ◌∷◌, ◌++◌, length, take, drop, get_or, sym, ap, ◌∙◌, arith, drop-cons}
 use Rattle.std.proofs.lemmas.List.{take-append-drop, length-take-le, get_or-take, drop-append-le}
 use Rattle.irq_base.specs.declared.lines.LineDef.{LineDef}
 use Rattle.irq_base.specs.declared.entries.Entry.{Entry}
 use Rattle.irq_base.specs.declared.entries.Entry.TheVariants as entries
 use Rattle.irq_model.specs.Kinds.{is_take}
 use Rattle.irq_model.specs.Masks.{is_masked}
-use Rattle.irq_model.specs.Edges.{was_open, is_taken, is_sent_edge}
+use Rattle.irq_model.specs.Edges.{was_open, is_taken, is_alive, is_sent, is_sent_edge}
+use Rattle.irq_model.proofs.Somewhere.{some_at, some_nowhere}
 
 -- the entries from a place on up to the edge, and those up to the edge, are all from that place on
 front-append-rest : {A : Type 0} (past : List A) (place i : ℕ) → i ≤ place → place ≤ length past → drop i (take place past) ++ drop place past ≡ drop i past
@@ -60,3 +61,13 @@ taken_more def past place i d t o m a b l p q r =
     ∙ (ap (λ v. (is_take x && (not v || (not def.recalls && was_open def front rest))) || is_taken def front rest) r
     ∙ (ap (λ ys. (is_take x && (not (is_masked def ys) || (not def.recalls && was_open def front rest))) || is_taken def front rest) (sym whole)
     ∙ ap (λ ys. is_taken def ys rest) (sym step))))
+
+-- some edge is presented where one at a place is, and none where none is
+pub sent_at : (def : LineDef) (past : List Entry) (i : ℕ) → i < length past
+    → true ≡ (is_alive def (take i past) (drop i past) && is_sent_edge def (take i past) (drop i past)) → true ≡ is_sent def past
+sent_at def past i h e = sym (some_at (λ after upto. is_alive def after upto && is_sent_edge def after upto) past i h (sym e))
+
+pub sent_nowhere : (def : LineDef) (past : List Entry) (n : ℕ) → length past ≤ n
+    → ((k : ℕ) → k < n → (is_alive def (take k past) (drop k past) && is_sent_edge def (take k past) (drop k past)) ≡ false) → false ≡ is_sent def past
+sent_nowhere def past n h none =
+    sym (some_nowhere (λ after upto. is_alive def after upto && is_sent_edge def after upto) past (λ i l. none i (omega arith)))

@@ -21,8 +21,8 @@ filter-filter : {A : Type 0} (p q : A → Bool) (xs : List A) → filter p (filt
 filter-filter p q [] = refl
 filter-filter p q (x ∷ xs) =
     elim (q x) as (λ b. filter p (cond b (x ∷ filter q xs) (filter q xs)) ≡ cond (b && p x) (x ∷ filter (λ y. q y && p y) xs) (filter (λ y. q y && p y) xs)) [
-      true ↦ ap (λ ys. cond (p x) (x ∷ ys) ys) (filter-filter p q xs)
-    | false ↦ filter-filter p q xs
+      | true ↦ ap (λ ys. cond (p x) (x ∷ ys) ys) (filter-filter p q xs)
+      | false ↦ filter-filter p q xs
     ]
 
 linked_else : (s q : Bool) → (not s && ((s && true) || (true && q))) ≡ (q && not s)

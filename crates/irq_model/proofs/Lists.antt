@@ -1,5 +1,5 @@
 -- Lists that are walked by their places.
-use Rattle.std.proofs.Common.{◌≡◌, ℕ, suc, ◌+◌, ◌<◌, Bool, true, false, cond, Option, Some, List, [], ◌∷◌, ◌++◌, length, take, drop, get_or, refl, sym, ap, ◌∙◌, add-one, drop-cons}
+use Rattle.std.proofs.Common.{◌≡◌, ℕ, suc, ◌+◌, ◌<◌, Bool, true, false, cond, Some, List, [], ◌∷◌, ◌++◌, length, take, drop, refl, sym, ap, ◌∙◌, add-one, drop-cons}
 use Rattle.std.specs.List.{slice_get}
 use Rattle.std.proofs.lemmas.Option.{slice_get_within, get_or_from_slice_get}
 use Rattle.std.proofs.lemmas.List.{take-append-drop, append_cancel_right}
@@ -16,8 +16,8 @@ since-append-upto : {A : Type 0} (p : List A → Bool) (xs : List A) → since_p
 since-append-upto p [] = refl
 since-append-upto p (x ∷ xs) =
     elim (p (x ∷ xs)) as (λ b. cond b [] (x ∷ since_place p xs) ++ cond b (x ∷ xs) (upto_place p xs) ≡ x ∷ xs) [
-      true ↦ refl
-    | false ↦ ap (λ ys. x ∷ ys) (since-append-upto p xs)
+      | true ↦ refl
+      | false ↦ ap (λ ys. x ∷ ys) (since-append-upto p xs)
     ]
 
 -- so the one follows from the other

@@ -1,5 +1,5 @@
 -- What holds at some place, and the last such place, by the places' numbers.
-use Rattle.std.proofs.Common.{◌≡◌, ℕ, zero, suc, ◌+◌, ◌<◌, Bool, true, false, List, [], ◌∷◌, length, take, drop, refl, ◌∙◌, arith}
+use Rattle.std.proofs.Common.{◌≡◌, ℕ, zero, suc, ◌<◌, Bool, true, false, List, [], ◌∷◌, length, take, drop, refl, ◌∙◌, arith}
 use Rattle.std.proofs.lemmas.Bool.{or_left, or_right, or_from, cond-true, cond-false}
 use Rattle.irq_model.specs.Places.{some_place, last_place}
 
@@ -14,7 +14,7 @@ module _ {A : Type 0} where
   some_nowhere P (x ∷ xs) h = or_from _ _ (h 0 (omega arith)) (some_nowhere (λ after upto. P (x ∷ after) upto) xs (λ i l. h (suc i) (omega arith)))
 
   pub last_at : (P : List A → List A → Bool) (xs : List A) (i : ℕ) → i < length xs → P (take i xs) (drop i xs) ≡ true
-    → ((k : ℕ) → k < i → P (take k xs) (drop k xs) ≡ false) → last_place P xs ≡ drop i xs
+      → ((k : ℕ) → k < i → P (take k xs) (drop k xs) ≡ false) → last_place P xs ≡ drop i xs
   last_at P [] i h e n = absurd (omega arith)
   last_at P (x ∷ xs) zero h e n = cond-true _ _ _ e
   last_at P (x ∷ xs) (suc i) h e n =

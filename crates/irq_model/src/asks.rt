@@ -35,7 +35,10 @@ fn unserved_by(kind: Kind, d: DevNo, past: &[Entry]) -> u32
     ensures { result ≡ unserved_by kind d past.now }
 {
     let since_end = since(past, |e| ends_serving(kind, d, e));
-    let run = since(before(past, |e| ends_serving(kind, d, e)), |e| begins_serving(kind, d, e));
+    let run = since(
+        before(past, |e| ends_serving(kind, d, e)),
+        |e| begins_serving(kind, d, e),
+    );
     count_of(since_end, |e| is_ask(d, e)) + count_of(run, |e| is_ask(d, e))
 }
 

@@ -59,7 +59,12 @@ fn entries_of_call(call: Call, entries: &[Entry]) -> usize
 }
 
 /// The first call of the driver that isn't complete, and how many of its entries are there.
-pub fn due_call(alloc: Global, def: &LineDef, r: DriverNo, past: &[Entry]) -> Result<Option<(Call, usize)>, NoMemory>
+pub fn due_call(
+    alloc: Global,
+    def: &LineDef,
+    r: DriverNo,
+    past: &[Entry],
+) -> Result<Option<(Call, usize)>, NoMemory>
     ensures { IfOk result (λ due. due ≡ due_call def.now r past.now) }
 {
     let entries = entries_by(alloc, r, past)?;
@@ -96,11 +101,13 @@ fn is_being_freed_at(after: &[Entry], upto: &[Entry]) -> bool
     ensures { result ≡ is_being_freed_at after.now upto.now }
 {
     match upto.first().copied() {
-        Some(Entry::Unlink {
-            driver,
-            answer: UnlinkAnswer::Unlinked { .. },
-            ..
-        }) => !is_freed(after, driver),
+        Some(
+            Entry::Unlink {
+                driver,
+                answer: UnlinkAnswer::Unlinked { .. },
+                ..
+            },
+        ) => !is_freed(after, driver),
         _ => false,
     }
 }

@@ -47,14 +47,26 @@ pub fn is_begin_or_return(e: Entry) -> bool
 pub fn returns_wake(e: Entry) -> bool
     ensures { result ≡ returns_wake e }
 {
-    matches!(e, Entry::Return { answer: Answer::Wake, .. })
+    matches!(
+        e,
+        Entry::Return {
+            answer: Answer::Wake,
+            ..
+        }
+    )
 }
 
 /// A handler returns and has handled.
 pub fn returns_handled(e: Entry) -> bool
     ensures { result ≡ returns_handled e }
 {
-    matches!(e, Entry::Return { answer: Answer::Handled, .. })
+    matches!(
+        e,
+        Entry::Return {
+            answer: Answer::Handled,
+            ..
+        }
+    )
 }
 
 /// The device's handler returns and wakes its thread.
@@ -110,28 +122,52 @@ pub fn is_take(e: Entry) -> bool
 pub fn is_resend_take(e: Entry) -> bool
     ensures { result ≡ is_resend_take e }
 {
-    matches!(e, Entry::Take { way: Way::Resend, .. })
+    matches!(
+        e,
+        Entry::Take {
+            way: Way::Resend,
+            ..
+        }
+    )
 }
 
 /// A take whose handlers are to run.
 pub fn is_handle(e: Entry) -> bool
     ensures { result ≡ is_handle e }
 {
-    matches!(e, Entry::Take { answer: TakeAnswer::Handle, .. })
+    matches!(
+        e,
+        Entry::Take {
+            answer: TakeAnswer::Handle,
+            ..
+        }
+    )
 }
 
 /// A take that found a flow in progress.
 pub fn is_busy(e: Entry) -> bool
     ensures { result ≡ is_busy e }
 {
-    matches!(e, Entry::Take { answer: TakeAnswer::Busy, .. })
+    matches!(
+        e,
+        Entry::Take {
+            answer: TakeAnswer::Busy,
+            ..
+        }
+    )
 }
 
 /// A take that found the line disabled, or nothing linked.
 pub fn is_off(e: Entry) -> bool
     ensures { result ≡ is_off e }
 {
-    matches!(e, Entry::Take { answer: TakeAnswer::Off, .. })
+    matches!(
+        e,
+        Entry::Take {
+            answer: TakeAnswer::Off,
+            ..
+        }
+    )
 }
 
 /// An end that goes on with what came meanwhile.
@@ -152,21 +188,36 @@ pub fn is_leave(e: Entry) -> bool
 pub fn is_kill(e: Entry) -> bool
     ensures { result ≡ is_kill e }
 {
-    matches!(e, Entry::End { note: Note::Killed, .. })
+    matches!(
+        e,
+        Entry::End {
+            note: Note::Killed,
+            ..
+        }
+    )
 }
 
 /// An end or a finish that unmasks.
 pub fn is_reopening(e: Entry) -> bool
     ensures { result ≡ is_reopening e }
 {
-    matches!(e, Entry::End { unmask: true, .. } | Entry::Finish { unmask: true, .. })
+    matches!(
+        e,
+        Entry::End { unmask: true, .. } | Entry::Finish { unmask: true, .. }
+    )
 }
 
 /// A request that was linked.
 pub fn is_linked_request(e: Entry) -> bool
     ensures { result ≡ is_linked_request e }
 {
-    matches!(e, Entry::Request { answer: LinkAnswer::Linked, .. })
+    matches!(
+        e,
+        Entry::Request {
+            answer: LinkAnswer::Linked,
+            ..
+        }
+    )
 }
 
 /// The request of the device was linked.
@@ -187,7 +238,13 @@ pub fn unlinks_dev(d: DevNo, e: Entry) -> bool
 pub fn is_last_unlink(e: Entry) -> bool
     ensures { result ≡ is_last_unlink e }
 {
-    matches!(e, Entry::Unlink { answer: UnlinkAnswer::Unlinked { last: true }, .. })
+    matches!(
+        e,
+        Entry::Unlink {
+            answer: UnlinkAnswer::Unlinked { last: true },
+            ..
+        }
+    )
 }
 
 /// What the answer of an enable says of the depth.
@@ -223,14 +280,24 @@ pub fn is_start(e: Entry) -> bool
 pub fn is_chip_start(e: Entry) -> bool
     ensures { result ≡ is_chip_start e }
 {
-    matches!(opened_of(e), Opened::Started { resend: Resend::Chip })
+    matches!(
+        opened_of(e),
+        Opened::Started {
+            resend: Resend::Chip
+        }
+    )
 }
 
 /// A start whose resend the software makes.
 pub fn is_soft_start(e: Entry) -> bool
     ensures { result ≡ is_soft_start e }
 {
-    matches!(opened_of(e), Opened::Started { resend: Resend::Soft })
+    matches!(
+        opened_of(e),
+        Opened::Started {
+            resend: Resend::Soft
+        }
+    )
 }
 
 /// A disable.

@@ -2,17 +2,17 @@
 #![tactic(auto)]
 
 mod asks;
+mod due;
+mod edges;
 mod kinds;
 mod lines;
 mod links;
+mod masks;
 mod next;
 mod next_cpu;
 mod next_driver;
 mod next_thread;
 mod places;
-mod due;
-mod edges;
-mod masks;
 mod rounds;
 mod signal;
 mod spurious;

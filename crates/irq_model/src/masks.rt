@@ -3,7 +3,8 @@ ghost use Rattle.std.specs.Prelude.{◌≡◌};
 ghost use Rattle.irq_model.specs.Masks.{take_masks, masks, unmasks, is_masked};
 
 use crate::kinds::{
-    is_busy, is_disable, is_handle, is_kill, is_last_unlink, is_off, is_reopening, is_start, is_take,
+    is_busy, is_disable, is_handle, is_kill, is_last_unlink, is_off, is_reopening, is_start,
+    is_take,
 };
 use crate::lines::is_level_line;
 use crate::links::is_oneshot;

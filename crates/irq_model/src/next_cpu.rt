@@ -103,7 +103,13 @@ fn end_level(def: &LineDef, c: CpuNo, past: &[Entry], note: Note, may_open: bool
 
 /// The flow's end: the edge flow goes on with what is pending; the level flow opens the line; the fast-EOI flow
 /// does so on a one-shot level line, and on an edge line sends what is pending again.
-fn end_by_flow(alloc: Global, def: &LineDef, c: CpuNo, past: &[Entry], note: Note) -> Result<Entry, NoMemory>
+fn end_by_flow(
+    alloc: Global,
+    def: &LineDef,
+    c: CpuNo,
+    past: &[Entry],
+    note: Note,
+) -> Result<Entry, NoMemory>
     requires { length past.now ≤ 100000000 }
     ensures { IfOk result (λ entry. entry ≡ end_by_flow def.now def.now.flow c past.now note) }
 {
@@ -130,7 +136,13 @@ fn end_of(alloc: Global, def: &LineDef, c: CpuNo, past: &[Entry]) -> Result<Entr
 }
 
 /// The first device that is left is called, or else the round ends.
-fn begin_or_end(alloc: Global, def: &LineDef, c: CpuNo, past: &[Entry], left: Option<DevNo>) -> Result<Entry, NoMemory>
+fn begin_or_end(
+    alloc: Global,
+    def: &LineDef,
+    c: CpuNo,
+    past: &[Entry],
+    left: Option<DevNo>,
+) -> Result<Entry, NoMemory>
     requires { length past.now ≤ 100000000 }
     ensures { IfOk result (λ entry. entry ≡ begin_or_end def.now c past.now left) }
 {
@@ -141,7 +153,13 @@ fn begin_or_end(alloc: Global, def: &LineDef, c: CpuNo, past: &[Entry], left: Op
 }
 
 /// A handler that was called returns; else the first that is left is called; else the round ends.
-fn next_in_flow(alloc: Global, def: &LineDef, c: CpuNo, past: &[Entry], working: Option<DevNo>) -> Result<Entry, NoMemory>
+fn next_in_flow(
+    alloc: Global,
+    def: &LineDef,
+    c: CpuNo,
+    past: &[Entry],
+    working: Option<DevNo>,
+) -> Result<Entry, NoMemory>
     requires { length past.now ≤ 100000000 }
     ensures { IfOk result (λ entry. entry ≡ next_in_flow def.now c past.now working) }
 {
@@ -179,7 +197,12 @@ fn is_cpu(c: CpuNo, other: Option<CpuNo>) -> bool
 }
 
 /// The target takes what is signalled, or else what the software resends.
-fn next_take(alloc: Global, def: &LineDef, c: CpuNo, past: &[Entry]) -> Result<Option<Entry>, NoMemory>
+fn next_take(
+    alloc: Global,
+    def: &LineDef,
+    c: CpuNo,
+    past: &[Entry],
+) -> Result<Option<Entry>, NoMemory>
     requires few { length past.now ≤ 100000000 }
     requires cpus { def.now.cpus ≤ 32 }
     ensures { IfOk result (λ entry. entry ≡ next_take def.now c past.now) }
@@ -203,7 +226,12 @@ fn next_take(alloc: Global, def: &LineDef, c: CpuNo, past: &[Entry]) -> Result<O
 }
 
 /// The entry that is due for the processor.
-pub fn next_of_cpu(alloc: Global, def: &LineDef, c: CpuNo, past: &[Entry]) -> Result<Option<Entry>, NoMemory>
+pub fn next_of_cpu(
+    alloc: Global,
+    def: &LineDef,
+    c: CpuNo,
+    past: &[Entry],
+) -> Result<Option<Entry>, NoMemory>
     requires few { length past.now ≤ 100000000 }
     requires cpus { def.now.cpus ≤ 32 }
     ensures { IfOk result (λ entry. entry ≡ next_of_cpu def.now c past.now) }

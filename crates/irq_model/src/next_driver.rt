@@ -60,11 +60,19 @@ fn flags_differ(new: Flags, old: Flags) -> bool
 fn is_mismatch(flags: Flags, past: &[Entry], devices: &[DevNo]) -> bool
     ensures { result ≡ list_any (λ d. flags_differ flags (linking_flags past.now d)) devices.now }
 {
-    devices.iter().any(|d| flags_differ(flags, linking_flags(past, *d)))
+    devices
+        .iter()
+        .any(|d| flags_differ(flags, linking_flags(past, *d)))
 }
 
 /// Whether a request is linked.
-fn link_answer(alloc: Global, def: &LineDef, d: DevNo, flags: Flags, past: &[Entry]) -> Result<LinkAnswer, NoMemory>
+fn link_answer(
+    alloc: Global,
+    def: &LineDef,
+    d: DevNo,
+    flags: Flags,
+    past: &[Entry],
+) -> Result<LinkAnswer, NoMemory>
     ensures { IfOk result (λ answer. answer ≡ link_answer def.now d flags past.now) }
 {
     let devices = linked(alloc, past)?;
@@ -85,7 +93,12 @@ fn link_answer(alloc: Global, def: &LineDef, d: DevNo, flags: Flags, past: &[Ent
 
 /// What a request that is linked makes of the depth: the first starts the line unless it is told not to; a
 /// further one enables a line that the rule on spurious interrupts disabled.
-fn opened_by_request(alloc: Global, def: &LineDef, flags: Flags, past: &[Entry]) -> Result<Opened, NoMemory>
+fn opened_by_request(
+    alloc: Global,
+    def: &LineDef,
+    flags: Flags,
+    past: &[Entry],
+) -> Result<Opened, NoMemory>
     requires { length past.now ≤ 100000000 }
     ensures { IfOk result (λ opened. opened ≡ opened_by_request def.now flags past.now) }
 {
@@ -105,7 +118,14 @@ fn opened_by_request(alloc: Global, def: &LineDef, flags: Flags, past: &[Entry])
 }
 
 /// The entry of a request.
-fn request_of(alloc: Global, def: &LineDef, r: DriverNo, d: DevNo, flags: Flags, past: &[Entry]) -> Result<Entry, NoMemory>
+fn request_of(
+    alloc: Global,
+    def: &LineDef,
+    r: DriverNo,
+    d: DevNo,
+    flags: Flags,
+    past: &[Entry],
+) -> Result<Entry, NoMemory>
     requires { length past.now ≤ 100000000 }
     ensures { IfOk result (λ entry. entry ≡ request_of def.now r d flags past.now) }
 {
@@ -218,7 +238,14 @@ fn next_of_disable(def: &LineDef, r: DriverNo, n: usize, past: &[Entry]) -> Opti
 }
 
 /// The next entry of a free, of which `n` are there.
-fn next_of_free(alloc: Global, def: &LineDef, r: DriverNo, d: DevNo, n: usize, past: &[Entry]) -> Result<Option<Entry>, NoMemory>
+fn next_of_free(
+    alloc: Global,
+    def: &LineDef,
+    r: DriverNo,
+    d: DevNo,
+    n: usize,
+    past: &[Entry],
+) -> Result<Option<Entry>, NoMemory>
     ensures { IfOk result (λ entry. entry ≡ next_of_free def.now r d n past.now) }
 {
     match n {
@@ -237,7 +264,14 @@ fn next_of_free(alloc: Global, def: &LineDef, r: DriverNo, d: DevNo, n: usize, p
 }
 
 /// The entry of a request, once the request mutex is free.
-fn next_of_request(alloc: Global, def: &LineDef, r: DriverNo, d: DevNo, flags: Flags, past: &[Entry]) -> Result<Option<Entry>, NoMemory>
+fn next_of_request(
+    alloc: Global,
+    def: &LineDef,
+    r: DriverNo,
+    d: DevNo,
+    flags: Flags,
+    past: &[Entry],
+) -> Result<Option<Entry>, NoMemory>
     requires { length past.now ≤ 100000000 }
     ensures { IfOk result (λ entry. entry ≡ next_of_request def.now r d flags past.now) }
 {
@@ -248,7 +282,14 @@ fn next_of_request(alloc: Global, def: &LineDef, r: DriverNo, d: DevNo, flags: F
 }
 
 /// The next entry of the driver's due call, of which `n` are there.
-fn next_of_call(alloc: Global, def: &LineDef, r: DriverNo, past: &[Entry], call: Call, n: usize) -> Result<Option<Entry>, NoMemory>
+fn next_of_call(
+    alloc: Global,
+    def: &LineDef,
+    r: DriverNo,
+    past: &[Entry],
+    call: Call,
+    n: usize,
+) -> Result<Option<Entry>, NoMemory>
     requires few { length past.now ≤ 100000000 }
     requires cpus { def.now.cpus ≤ 32 }
     requires devices { length def.now.devices ≤ 256 }
@@ -275,7 +316,12 @@ fn next_of_call(alloc: Global, def: &LineDef, r: DriverNo, past: &[Entry], call:
 }
 
 /// The entry that is due for the driver.
-pub fn next_of_driver(alloc: Global, def: &LineDef, r: DriverNo, past: &[Entry]) -> Result<Option<Entry>, NoMemory>
+pub fn next_of_driver(
+    alloc: Global,
+    def: &LineDef,
+    r: DriverNo,
+    past: &[Entry],
+) -> Result<Option<Entry>, NoMemory>
     requires few { length past.now ≤ 100000000 }
     requires cpus { def.now.cpus ≤ 32 }
     requires devices { length def.now.devices ≤ 256 }

@@ -27,14 +27,18 @@ fn asks_of_thread(def: &LineDef, d: DevNo, past: &[Entry]) -> u32
 fn has_returned(past: &[Entry], d: DevNo) -> bool
     ensures { result ≡ list_any (is_thread_return d) (since (is_thread_begin d) past.now) }
 {
-    since(past, |e| is_thread_begin(d, e)).iter().any(|e| is_thread_return(d, *e))
+    since(past, |e| is_thread_begin(d, e))
+        .iter()
+        .any(|e| is_thread_return(d, *e))
 }
 
 /// The thread finished after its handler returned.
 fn has_finished(past: &[Entry], d: DevNo) -> bool
     ensures { result ≡ list_any (is_finish d) (since (is_thread_return d) past.now) }
 {
-    since(past, |e| is_thread_return(d, e)).iter().any(|e| is_finish(d, *e))
+    since(past, |e| is_thread_return(d, e))
+        .iter()
+        .any(|e| is_finish(d, *e))
 }
 
 /// Whether a finish unmasks the line.
@@ -43,11 +47,21 @@ fn finish_unmasks(alloc: Global, def: &LineDef, d: DevNo, past: &[Entry]) -> Res
     ensures { IfOk result (λ unmask. unmask ≡ finish_unmasks def.now d past.now) }
 {
     let disabled = is_disabled(alloc, past)?;
-    Ok(!is_woken(past, d) && !disabled && is_masked(def, past) && !is_other_unfinished(def, past, d))
+    Ok(
+        !is_woken(past, d)
+            && !disabled
+            && is_masked(def, past)
+            && !is_other_unfinished(def, past, d),
+    )
 }
 
 /// After the thread's handler returned: on a one-shot line it gives its bit up, once no flow is in progress.
-fn finish_or_done(alloc: Global, def: &LineDef, d: DevNo, past: &[Entry]) -> Result<Option<Entry>, NoMemory>
+fn finish_or_done(
+    alloc: Global,
+    def: &LineDef,
+    d: DevNo,
+    past: &[Entry],
+) -> Result<Option<Entry>, NoMemory>
     requires { length past.now ≤ 100000000 }
     ensures { IfOk result (λ entry. entry ≡ finish_or_done def.now d past.now) }
 {
@@ -66,7 +80,12 @@ fn finish_or_done(alloc: Global, def: &LineDef, d: DevNo, past: &[Entry]) -> Res
 }
 
 /// The entry that is due for the device's thread.
-pub fn next_of_thread(alloc: Global, def: &LineDef, d: DevNo, past: &[Entry]) -> Result<Option<Entry>, NoMemory>
+pub fn next_of_thread(
+    alloc: Global,
+    def: &LineDef,
+    d: DevNo,
+    past: &[Entry],
+) -> Result<Option<Entry>, NoMemory>
     requires { length past.now ≤ 100000000 }
     ensures { IfOk result (λ entry. entry ≡ next_of_thread def.now d past.now) }
 {

@@ -7,7 +7,11 @@ ghost use Rattle.irq_model.specs.Tests.{Computes};
 use irq_base::Entry;
 
 /// Whether some `p` has no `q` after it.
-pub fn stands<P: Fn(Entry) -> bool + Drop, Q: Fn(Entry) -> bool + Drop>(past: &[Entry], p: P, q: Q) -> bool
+pub fn stands<P: Fn(Entry) -> bool + Drop, Q: Fn(Entry) -> bool + Drop>(
+    past: &[Entry],
+    p: P,
+    q: Q,
+) -> bool
     requires p { P.IsAlwaysCallable p }
     requires q { Q.IsAlwaysCallable q }
     ensures { (x y : Entry → Bool) → Computes (P.post p) x → Computes (Q.post q) y → result ≡ stands x y past.now }

@@ -37,14 +37,18 @@ fn puts_in_force(after: &[Entry], upto: &[Entry]) -> bool
     ensures { result ≡ puts_in_force after.now upto.now }
 {
     match upto.first().copied() {
-        Some(Entry::Affinity {
-            answer: AffinityAnswer::Now,
-            ..
-        }) => true,
-        Some(Entry::Affinity {
-            answer: AffinityAnswer::Later,
-            ..
-        }) => has_take(after),
+        Some(
+            Entry::Affinity {
+                answer: AffinityAnswer::Now,
+                ..
+            },
+        ) => true,
+        Some(
+            Entry::Affinity {
+                answer: AffinityAnswer::Later,
+                ..
+            },
+        ) => has_take(after),
         _ => false,
     }
 }

@@ -132,7 +132,14 @@ fn judged_by_threads(window: u32, limit: u32, now: u32, c: SpuriousCounts) -> No
 }
 
 /// The note of an end, by the union of the answers of its round, and what the line keeps after it.
-fn noted(window: u32, limit: u32, now: u32, wake: bool, handled: bool, c: SpuriousCounts) -> NotedEnd
+fn noted(
+    window: u32,
+    limit: u32,
+    now: u32,
+    wake: bool,
+    handled: bool,
+    c: SpuriousCounts,
+) -> NotedEnd
     requires count { c.irq_count ≤ 100000000 }
     requires unhandled { c.irqs_unhandled ≤ 100000000 }
     ensures { result ≡ noted window limit now wake handled c }

@@ -2,9 +2,7 @@
 ghost use Rattle.std.specs.Prelude.{◌≡◌};
 ghost use Rattle.irq_model.specs.Waiting.{sets_pending, clears_pending, is_pending, is_soft};
 
-use crate::kinds::{
-    is_again, is_busy, is_handle, is_off, is_resend_take, is_soft_start, is_start,
-};
+use crate::kinds::{is_again, is_busy, is_handle, is_off, is_resend_take, is_soft_start, is_start};
 use crate::lines::is_edge_line;
 use crate::places::stands;
 use irq_base::{Entry, LineDef};

@@ -1,4 +1,4 @@
-use Rattle.std.proofs.Common.{sym, arith, ◌∙◌}
+use Rattle.std.proofs.Common.{sym, arith}
 use Rattle.std.proofs.lemmas.Grind.{common_steps}
 use Rattle.irq_model.specs.Due.{is_being_freed_at}
 use Rattle.irq_model.proofs.Somewhere.{some_at, some_nowhere}

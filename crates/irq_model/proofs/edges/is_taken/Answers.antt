@@ -1,6 +1,5 @@
 use Rattle.std.proofs.Common.{◌≡◌, ◌∙◌, ◌-◌, ◌+◌, ◌&&◌, ◌||◌, not, get_or, false, arith, ap}
 use Rattle.std.proofs.lemmas.Grind.{common_steps}
-use Rattle.irq_model.specs.Masks.{is_masked}
 use Rattle.irq_model.proofs.EdgeWalk.{opened_more, taken_more}
 use Rattle.irq_model.proofs.edges.is_taken.Goals as goal
 

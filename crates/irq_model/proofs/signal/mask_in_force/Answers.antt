@@ -1,4 +1,4 @@
-use Rattle.std.proofs.Common.{sym, ap, arith, ◌∙◌}
+use Rattle.std.proofs.Common.{sym, ap, arith}
 use Rattle.std.proofs.lemmas.Grind.{common_steps}
 use Rattle.irq_model.specs.Signal.{puts_in_force, mask_of}
 use Rattle.irq_model.proofs.Somewhere.{last_at, last_nowhere}

@@ -1,4 +1,4 @@
-use Rattle.std.proofs.Common.{◌≡◌, ap, arith}
+use Rattle.std.proofs.Common.{ap, arith}
 use Rattle.irq_model.specs.Spurious.{Counts}
 use Rattle.irq_model.proofs.Counts.{within_length}
 use Rattle.irq_model.proofs.spurious.counts_after.Goals as goal

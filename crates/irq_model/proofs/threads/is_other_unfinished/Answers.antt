@@ -1,4 +1,4 @@
-use Rattle.std.proofs.Common.{rules, not, ◌&&◌, arith}
+use Rattle.std.proofs.Common.{not, ◌&&◌, arith}
 use Rattle.std.proofs.lemmas.Grind.{common_steps}
 use Rattle.irq_model.specs.Kinds.{same_dev}
 use Rattle.irq_model.specs.Threads.{is_unfinished}
