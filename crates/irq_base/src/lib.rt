@@ -30,3 +30,6 @@ pub use lists::ItemList;
 pub use memory::NoMemory;
 pub use numbers::{CpuNo, DevNo, DriverNo, LineNo};
 pub use reporting::{LineReport, Reports};
+
+#[cfg(test)]
+mod tests;

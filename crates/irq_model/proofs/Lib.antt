@@ -1,3 +1,8 @@
+mod RowWords
+mod EdgeRows
+mod LevelRows
+mod ThreadRows
+mod DriverRows
 pub mod Lists
 pub mod Linked
 pub mod Somewhere

@@ -1,0 +1,195 @@
+-- Worked histories of what drivers call.
+use Rattle.std.specs.Prelude.{◌≡◌, List, [], ◌∷◌, refl, true, false, None}
+use Rattle.irq_base.specs.declared.calls.Call.TheVariants as calls
+use Rattle.irq_base.specs.declared.devices.Kind.TheVariants as kinds
+use Rattle.irq_base.specs.declared.devices.Answer.TheVariants as answers
+use Rattle.irq_base.specs.declared.lines.LineDef.{LineDef}
+use Rattle.irq_base.specs.declared.entries.Actor.TheVariants as actors
+use Rattle.irq_base.specs.declared.entries.Entry.{Entry}
+use Rattle.irq_base.specs.declared.entries.Entry.TheVariants as entries
+use Rattle.irq_base.specs.declared.entries.Errno.TheVariants as errors
+use Rattle.irq_base.specs.declared.entries.Way.TheVariants as ways
+use Rattle.irq_base.specs.declared.entries.TakeAnswer.TheVariants as takes
+use Rattle.irq_base.specs.declared.entries.Note.TheVariants as notes
+use Rattle.irq_base.specs.declared.entries.Resend.TheVariants as resends
+use Rattle.irq_base.specs.declared.entries.EnableAnswer.TheVariants as enables
+use Rattle.irq_base.specs.declared.entries.Opened.TheVariants as opens
+use Rattle.irq_base.specs.declared.entries.LinkAnswer.TheVariants as links
+use Rattle.irq_base.specs.declared.entries.UnlinkAnswer.TheVariants as unlinks
+use Rattle.irq_model.specs.Legal.{IsLegal}
+use Rattle.irq_model.specs.Next.{next}
+use Rattle.irq_model.proofs.RowWords.{line, cpu, dev, driver, device, no_flags, shared, oneshot, shared_oneshot, shared_noauto, latch, plain}
+
+-- A request, an ask and a free.
+abbrev pub first_line : LineDef
+first_line = record latch {
+  devices = device 1 kinds.Direct ∷ [];
+  calls =
+      (driver 1, calls.Request (dev 1) no_flags) ∷
+      (driver 1, calls.Ask (dev 1)) ∷
+      (driver 1, calls.Free (dev 1)) ∷ [];
+}
+
+abbrev pub first_log : List Entry
+first_log =
+    entries.Request (driver 1) (dev 1) no_flags links.Linked (opens.Started resends.No) ∷
+    entries.Ask (driver 1) (dev 1) ∷
+    entries.Take (cpu 0) ways.Line takes.Handle ∷
+    entries.Begin (cpu 0) (dev 1) ∷
+    entries.Return (cpu 0) (dev 1) answers.Handled 1 ∷
+    entries.End (cpu 0) false false notes.Quiet ∷
+    entries.Unlink (driver 1) (dev 1) (unlinks.Unlinked true) ∷
+    entries.HardClear (driver 1) ∷
+    entries.Freed (driver 1) (dev 1) ∷ []
+
+pub first_is_legal : IsLegal first_line first_log
+first_is_legal = (refl, (refl, (refl, (refl, (refl, (refl, (refl, (refl, (refl, tt)))))))))
+
+-- no actor of the line has a due entry
+pub first_is_still :
+    (next first_line first_log (actors.Cpu (cpu 0)) ≡ None)
+    × (next first_line first_log (actors.Driver (driver 1)) ≡ None)
+first_is_still = (refl, refl)
+
+-- Nested disables, and the resend of what came meanwhile, by the chip.
+abbrev pub nested_latch_line : LineDef
+nested_latch_line = record latch {
+  devices = device 1 kinds.Direct ∷ [];
+  calls =
+      (driver 1, calls.Request (dev 1) no_flags) ∷
+      (driver 1, calls.DisableNosync) ∷
+      (driver 1, calls.DisableNosync) ∷
+      (driver 1, calls.Enable) ∷
+      (driver 1, calls.Ask (dev 1)) ∷
+      (driver 1, calls.Enable) ∷
+      (driver 1, calls.Enable) ∷ [];
+}
+
+abbrev pub nested_latch_log : List Entry
+nested_latch_log =
+    entries.Request (driver 1) (dev 1) no_flags links.Linked (opens.Started resends.No) ∷
+    entries.Disable (driver 1) ∷
+    entries.Disable (driver 1) ∷
+    entries.Enable (driver 1) enables.Lowered ∷
+    entries.Ask (driver 1) (dev 1) ∷
+    entries.Take (cpu 0) ways.Line takes.Off ∷
+    entries.Enable (driver 1) (enables.Started resends.Chip) ∷
+    entries.Take (cpu 0) ways.Line takes.Handle ∷
+    entries.Begin (cpu 0) (dev 1) ∷
+    entries.Return (cpu 0) (dev 1) answers.Handled 1 ∷
+    entries.End (cpu 0) false false notes.Quiet ∷
+    entries.Enable (driver 1) enables.Unbalanced ∷ []
+
+pub nested_latch_is_legal : IsLegal nested_latch_line nested_latch_log
+nested_latch_is_legal = (refl, (refl, (refl, (refl, (refl, (refl, (refl, (refl, (refl, (refl, (refl, (refl, tt))))))))))))
+
+-- no actor of the line has a due entry
+pub nested_latch_is_still :
+    (next nested_latch_line nested_latch_log (actors.Cpu (cpu 0)) ≡ None)
+    × (next nested_latch_line nested_latch_log (actors.Driver (driver 1)) ≡ None)
+nested_latch_is_still = (refl, refl)
+
+-- The same where the chip can't send again: the software does.
+abbrev pub nested_plain_line : LineDef
+nested_plain_line = record plain {
+  devices = device 1 kinds.Direct ∷ [];
+  calls =
+      (driver 1, calls.Request (dev 1) no_flags) ∷
+      (driver 1, calls.DisableNosync) ∷
+      (driver 1, calls.DisableNosync) ∷
+      (driver 1, calls.Enable) ∷
+      (driver 1, calls.Ask (dev 1)) ∷
+      (driver 1, calls.Enable) ∷
+      (driver 1, calls.Enable) ∷ [];
+}
+
+abbrev pub nested_plain_log : List Entry
+nested_plain_log =
+    entries.Request (driver 1) (dev 1) no_flags links.Linked (opens.Started resends.No) ∷
+    entries.Disable (driver 1) ∷
+    entries.Disable (driver 1) ∷
+    entries.Enable (driver 1) enables.Lowered ∷
+    entries.Ask (driver 1) (dev 1) ∷
+    entries.Take (cpu 0) ways.Line takes.Off ∷
+    entries.Enable (driver 1) (enables.Started resends.Soft) ∷
+    entries.Take (cpu 0) ways.Resend takes.Handle ∷
+    entries.Begin (cpu 0) (dev 1) ∷
+    entries.Return (cpu 0) (dev 1) answers.Handled 1 ∷
+    entries.End (cpu 0) false false notes.Quiet ∷
+    entries.Enable (driver 1) enables.Unbalanced ∷ []
+
+pub nested_plain_is_legal : IsLegal nested_plain_line nested_plain_log
+nested_plain_is_legal = (refl, (refl, (refl, (refl, (refl, (refl, (refl, (refl, (refl, (refl, (refl, (refl, tt))))))))))))
+
+-- no actor of the line has a due entry
+pub nested_plain_is_still :
+    (next nested_plain_line nested_plain_log (actors.Cpu (cpu 0)) ≡ None)
+    × (next nested_plain_line nested_plain_log (actors.Driver (driver 1)) ≡ None)
+nested_plain_is_still = (refl, refl)
+
+-- A free while the handler is at work waits for it, and for the thread that it woke.
+abbrev pub free_running_line : LineDef
+free_running_line = record latch {
+  devices = device 1 kinds.Check ∷ [];
+  calls =
+      (driver 1, calls.Request (dev 1) no_flags) ∷
+      (driver 1, calls.Ask (dev 1)) ∷
+      (driver 1, calls.Free (dev 1)) ∷
+      (driver 1, calls.Free (dev 1)) ∷ [];
+}
+
+abbrev pub free_running_log : List Entry
+free_running_log =
+    entries.Request (driver 1) (dev 1) no_flags links.Linked (opens.Started resends.No) ∷
+    entries.Ask (driver 1) (dev 1) ∷
+    entries.Take (cpu 0) ways.Line takes.Handle ∷
+    entries.Begin (cpu 0) (dev 1) ∷
+    entries.Unlink (driver 1) (dev 1) (unlinks.Unlinked true) ∷
+    entries.Return (cpu 0) (dev 1) answers.Wake 0 ∷
+    entries.End (cpu 0) false false notes.Quiet ∷
+    entries.HardClear (driver 1) ∷
+    entries.ThreadBegin (dev 1) ∷
+    entries.ThreadReturn (dev 1) 1 ∷
+    entries.Done (dev 1) ∷
+    entries.Freed (driver 1) (dev 1) ∷
+    entries.Unlink (driver 1) (dev 1) unlinks.NotThere ∷ []
+
+pub free_running_is_legal : IsLegal free_running_line free_running_log
+free_running_is_legal = (refl, (refl, (refl, (refl, (refl, (refl, (refl, (refl, (refl, (refl, (refl, (refl, (refl, tt)))))))))))))
+
+-- no actor of the line has a due entry
+pub free_running_is_still :
+    (next free_running_line free_running_log (actors.Cpu (cpu 0)) ≡ None)
+    × (next free_running_line free_running_log (actors.Driver (driver 1)) ≡ None)
+    × (next free_running_line free_running_log (actors.Thread line (dev 1)) ≡ None)
+free_running_is_still = (refl, refl, refl)
+
+-- Requests that are refused, each for a reason of its own.
+abbrev pub refused_line : LineDef
+refused_line = record latch {
+  devices = device 1 kinds.Direct ∷ device 2 kinds.Null ∷ device 3 kinds.Direct ∷ device 4 kinds.Direct ∷ device 5 kinds.Direct ∷ [];
+  calls =
+      (driver 1, calls.Request (dev 1) shared_noauto) ∷
+      (driver 1, calls.Request (dev 2) no_flags) ∷
+      (driver 1, calls.Request (dev 3) shared_oneshot) ∷
+      (driver 1, calls.Request (dev 4) shared) ∷
+      (driver 1, calls.Request (dev 5) oneshot) ∷ [];
+}
+
+abbrev pub refused_log : List Entry
+refused_log =
+    entries.Request (driver 1) (dev 1) shared_noauto (links.Refused errors.Inval) opens.No ∷
+    entries.Request (driver 1) (dev 2) no_flags (links.Refused errors.Inval) opens.No ∷
+    entries.Request (driver 1) (dev 3) shared_oneshot links.Linked (opens.Started resends.No) ∷
+    entries.Request (driver 1) (dev 4) shared (links.Refused errors.Busy) opens.No ∷
+    entries.Request (driver 1) (dev 5) oneshot (links.Refused errors.Busy) opens.No ∷ []
+
+pub refused_is_legal : IsLegal refused_line refused_log
+refused_is_legal = (refl, (refl, (refl, (refl, (refl, tt)))))
+
+-- no actor of the line has a due entry
+pub refused_is_still :
+    (next refused_line refused_log (actors.Cpu (cpu 0)) ≡ None)
+    × (next refused_line refused_log (actors.Driver (driver 1)) ≡ None)
+    × (next refused_line refused_log (actors.Thread line (dev 2)) ≡ None)
+refused_is_still = (refl, refl, refl)

@@ -1,0 +1,200 @@
+-- Worked histories of edge lines.
+use Rattle.std.specs.Prelude.{◌≡◌, List, [], ◌∷◌, refl, true, false, None}
+use Rattle.irq_base.specs.declared.calls.Call.TheVariants as calls
+use Rattle.irq_base.specs.declared.devices.Kind.TheVariants as kinds
+use Rattle.irq_base.specs.declared.devices.Answer.TheVariants as answers
+use Rattle.irq_base.specs.declared.lines.LineDef.{LineDef}
+use Rattle.irq_base.specs.declared.entries.Actor.TheVariants as actors
+use Rattle.irq_base.specs.declared.entries.Entry.{Entry}
+use Rattle.irq_base.specs.declared.entries.Entry.TheVariants as entries
+use Rattle.irq_base.specs.declared.entries.Way.TheVariants as ways
+use Rattle.irq_base.specs.declared.entries.TakeAnswer.TheVariants as takes
+use Rattle.irq_base.specs.declared.entries.Note.TheVariants as notes
+use Rattle.irq_base.specs.declared.entries.Resend.TheVariants as resends
+use Rattle.irq_base.specs.declared.entries.EnableAnswer.TheVariants as enables
+use Rattle.irq_base.specs.declared.entries.Opened.TheVariants as opens
+use Rattle.irq_base.specs.declared.entries.LinkAnswer.TheVariants as links
+use Rattle.irq_base.specs.declared.entries.AffinityAnswer.TheVariants as moves
+use Rattle.irq_model.specs.Legal.{IsLegal}
+use Rattle.irq_model.specs.Next.{next}
+use Rattle.irq_model.proofs.RowWords.{line, cpu, dev, driver, device, no_flags, latch, plain, lpi, msi}
+
+-- Two asks before the take share one run.
+abbrev pub coalescing_line : LineDef
+coalescing_line = record latch {
+  devices = device 1 kinds.Direct ∷ [];
+  calls =
+      (driver 1, calls.Request (dev 1) no_flags) ∷
+      (driver 1, calls.Ask (dev 1)) ∷
+      (driver 1, calls.Ask (dev 1)) ∷ [];
+}
+
+abbrev pub coalescing_log : List Entry
+coalescing_log =
+    entries.Request (driver 1) (dev 1) no_flags links.Linked (opens.Started resends.No) ∷
+    entries.Ask (driver 1) (dev 1) ∷
+    entries.Ask (driver 1) (dev 1) ∷
+    entries.Take (cpu 0) ways.Line takes.Handle ∷
+    entries.Begin (cpu 0) (dev 1) ∷
+    entries.Return (cpu 0) (dev 1) answers.Handled 2 ∷
+    entries.End (cpu 0) false false notes.Quiet ∷ []
+
+pub coalescing_is_legal : IsLegal coalescing_line coalescing_log
+coalescing_is_legal = (refl, (refl, (refl, (refl, (refl, (refl, (refl, tt)))))))
+
+-- no actor of the line has a due entry
+pub coalescing_is_still :
+    (next coalescing_line coalescing_log (actors.Cpu (cpu 0)) ≡ None)
+    × (next coalescing_line coalescing_log (actors.Driver (driver 1)) ≡ None)
+coalescing_is_still = (refl, refl)
+
+-- An edge that comes during the handler is taken busy by another processor, and handled in a second round.
+abbrev pub busy_latch_line : LineDef
+busy_latch_line = record latch {
+  cpus = 2;
+  mask = 3;
+  devices = device 1 kinds.Direct ∷ [];
+  calls =
+      (driver 1, calls.Request (dev 1) no_flags) ∷
+      (driver 1, calls.Ask (dev 1)) ∷
+      (driver 1, calls.Affinity 2) ∷
+      (driver 1, calls.Ask (dev 1)) ∷ [];
+}
+
+abbrev pub busy_latch_log : List Entry
+busy_latch_log =
+    entries.Request (driver 1) (dev 1) no_flags links.Linked (opens.Started resends.No) ∷
+    entries.Ask (driver 1) (dev 1) ∷
+    entries.Take (cpu 0) ways.Line takes.Handle ∷
+    entries.Begin (cpu 0) (dev 1) ∷
+    entries.Affinity (driver 1) 2 moves.Now ∷
+    entries.Ask (driver 1) (dev 1) ∷
+    entries.Take (cpu 1) ways.Line takes.Busy ∷
+    entries.Return (cpu 0) (dev 1) answers.Handled 1 ∷
+    entries.End (cpu 0) true true notes.Quiet ∷
+    entries.Begin (cpu 0) (dev 1) ∷
+    entries.Return (cpu 0) (dev 1) answers.Handled 1 ∷
+    entries.End (cpu 0) false false notes.Quiet ∷ []
+
+pub busy_latch_is_legal : IsLegal busy_latch_line busy_latch_log
+busy_latch_is_legal = (refl, (refl, (refl, (refl, (refl, (refl, (refl, (refl, (refl, (refl, (refl, (refl, tt))))))))))))
+
+-- no actor of the line has a due entry
+pub busy_latch_is_still :
+    (next busy_latch_line busy_latch_log (actors.Cpu (cpu 0)) ≡ None)
+    × (next busy_latch_line busy_latch_log (actors.Cpu (cpu 1)) ≡ None)
+    × (next busy_latch_line busy_latch_log (actors.Driver (driver 1)) ≡ None)
+busy_latch_is_still = (refl, refl, refl)
+
+-- The same where the masked chip drops edges: the third ask is dropped, and covered by what is pending.
+abbrev pub busy_plain_line : LineDef
+busy_plain_line = record plain {
+  cpus = 2;
+  mask = 3;
+  devices = device 1 kinds.Direct ∷ [];
+  calls =
+      (driver 1, calls.Request (dev 1) no_flags) ∷
+      (driver 1, calls.Ask (dev 1)) ∷
+      (driver 1, calls.Affinity 2) ∷
+      (driver 1, calls.Ask (dev 1)) ∷
+      (driver 1, calls.Ask (dev 1)) ∷ [];
+}
+
+abbrev pub busy_plain_log : List Entry
+busy_plain_log =
+    entries.Request (driver 1) (dev 1) no_flags links.Linked (opens.Started resends.No) ∷
+    entries.Ask (driver 1) (dev 1) ∷
+    entries.Take (cpu 0) ways.Line takes.Handle ∷
+    entries.Begin (cpu 0) (dev 1) ∷
+    entries.Affinity (driver 1) 2 moves.Now ∷
+    entries.Ask (driver 1) (dev 1) ∷
+    entries.Take (cpu 1) ways.Line takes.Busy ∷
+    entries.Ask (driver 1) (dev 1) ∷
+    entries.Return (cpu 0) (dev 1) answers.Handled 1 ∷
+    entries.End (cpu 0) true true notes.Quiet ∷
+    entries.Begin (cpu 0) (dev 1) ∷
+    entries.Return (cpu 0) (dev 1) answers.Handled 2 ∷
+    entries.End (cpu 0) false false notes.Quiet ∷ []
+
+pub busy_plain_is_legal : IsLegal busy_plain_line busy_plain_log
+busy_plain_is_legal = (refl, (refl, (refl, (refl, (refl, (refl, (refl, (refl, (refl, (refl, (refl, (refl, (refl, tt)))))))))))))
+
+-- no actor of the line has a due entry
+pub busy_plain_is_still :
+    (next busy_plain_line busy_plain_log (actors.Cpu (cpu 0)) ≡ None)
+    × (next busy_plain_line busy_plain_log (actors.Cpu (cpu 1)) ≡ None)
+    × (next busy_plain_line busy_plain_log (actors.Driver (driver 1)) ≡ None)
+busy_plain_is_still = (refl, refl, refl)
+
+-- On the fast-EOI flow the end sends the edge again, and the other processor takes it.
+abbrev pub busy_lpi_line : LineDef
+busy_lpi_line = record lpi {
+  cpus = 2;
+  mask = 3;
+  devices = device 1 kinds.Direct ∷ [];
+  calls =
+      (driver 1, calls.Request (dev 1) no_flags) ∷
+      (driver 1, calls.Ask (dev 1)) ∷
+      (driver 1, calls.Affinity 2) ∷
+      (driver 1, calls.Ask (dev 1)) ∷ [];
+}
+
+abbrev pub busy_lpi_log : List Entry
+busy_lpi_log =
+    entries.Request (driver 1) (dev 1) no_flags links.Linked (opens.Started resends.No) ∷
+    entries.Ask (driver 1) (dev 1) ∷
+    entries.Take (cpu 0) ways.Line takes.Handle ∷
+    entries.Begin (cpu 0) (dev 1) ∷
+    entries.Affinity (driver 1) 2 moves.Now ∷
+    entries.Ask (driver 1) (dev 1) ∷
+    entries.Take (cpu 1) ways.Line takes.Busy ∷
+    entries.Return (cpu 0) (dev 1) answers.Handled 1 ∷
+    entries.End (cpu 0) true false notes.Quiet ∷
+    entries.Take (cpu 1) ways.Line takes.Handle ∷
+    entries.Begin (cpu 1) (dev 1) ∷
+    entries.Return (cpu 1) (dev 1) answers.Handled 1 ∷
+    entries.End (cpu 1) false false notes.Quiet ∷ []
+
+pub busy_lpi_is_legal : IsLegal busy_lpi_line busy_lpi_log
+busy_lpi_is_legal = (refl, (refl, (refl, (refl, (refl, (refl, (refl, (refl, (refl, (refl, (refl, (refl, (refl, tt)))))))))))))
+
+-- no actor of the line has a due entry
+pub busy_lpi_is_still :
+    (next busy_lpi_line busy_lpi_log (actors.Cpu (cpu 0)) ≡ None)
+    × (next busy_lpi_line busy_lpi_log (actors.Cpu (cpu 1)) ≡ None)
+    × (next busy_lpi_line busy_lpi_log (actors.Driver (driver 1)) ≡ None)
+busy_lpi_is_still = (refl, refl, refl)
+
+-- A message line over a vector: the first edge stays sent while the line is disabled, the second is stored.
+abbrev pub msi_line : LineDef
+msi_line = record msi {
+  devices = device 1 kinds.Direct ∷ [];
+  calls =
+      (driver 1, calls.Request (dev 1) no_flags) ∷
+      (driver 1, calls.Ask (dev 1)) ∷
+      (driver 1, calls.DisableNosync) ∷
+      (driver 1, calls.Ask (dev 1)) ∷
+      (driver 1, calls.Enable) ∷ [];
+}
+
+abbrev pub msi_log : List Entry
+msi_log =
+    entries.Request (driver 1) (dev 1) no_flags links.Linked (opens.Started resends.No) ∷
+    entries.Ask (driver 1) (dev 1) ∷
+    entries.Disable (driver 1) ∷
+    entries.Ask (driver 1) (dev 1) ∷
+    entries.Take (cpu 0) ways.Line takes.Off ∷
+    entries.Enable (driver 1) (enables.Started resends.Chip) ∷
+    entries.Take (cpu 0) ways.Line takes.Handle ∷
+    entries.Begin (cpu 0) (dev 1) ∷
+    entries.Return (cpu 0) (dev 1) answers.Handled 2 ∷
+    entries.End (cpu 0) false false notes.Quiet ∷ []
+
+pub msi_is_legal : IsLegal msi_line msi_log
+msi_is_legal = (refl, (refl, (refl, (refl, (refl, (refl, (refl, (refl, (refl, (refl, tt))))))))))
+
+-- no actor of the line has a due entry
+pub msi_is_still :
+    (next msi_line msi_log (actors.Cpu (cpu 0)) ≡ None)
+    × (next msi_line msi_log (actors.Driver (driver 1)) ≡ None)
+msi_is_still = (refl, refl)

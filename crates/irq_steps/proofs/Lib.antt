@@ -1,0 +1,4 @@
+pub mod Same
+pub mod Somewhere
+pub mod LinkSteps
+pub mod EdgeSteps

@@ -1,0 +1,31 @@
+-- Numbers that are the same.
+use Rattle.std.proofs.Common.{◌≡◌, ℕ, true, refl, ap, eq-eqb, eqb-true}
+use Rattle.irq_base.specs.declared.numbers.LineNo.{LineNo}
+use Rattle.irq_base.specs.declared.numbers.CpuNo.{CpuNo}
+use Rattle.irq_base.specs.declared.numbers.DevNo.{DevNo}
+use Rattle.irq_base.specs.declared.numbers.DriverNo.{DriverNo}
+use Rattle.irq_model.specs.Kinds.{same_line, same_cpu, same_dev, same_driver}
+
+pub same_self : (d : DevNo) → same_dev d d ≡ true
+same_self d = eq-eqb d.0 d.0 refl
+
+pub same_self_driver : (r : DriverNo) → same_driver r r ≡ true
+same_self_driver r = eq-eqb r.0 r.0 refl
+
+pub same_self_cpu : (c : CpuNo) → same_cpu c c ≡ true
+same_self_cpu c = eq-eqb c.0 c.0 refl
+
+pub same_self_line : (l : LineNo) → same_line l l ≡ true
+same_self_line l = eq-eqb l.0 l.0 refl
+
+pub dev_from_same : (a b : DevNo) → same_dev a b ≡ true → a ≡ b
+dev_from_same a b h = let named : ℕ → DevNo = λ n. record { 0 = n } in ap named (eqb-true a.0 b.0 h)
+
+pub driver_from_same : (a b : DriverNo) → same_driver a b ≡ true → a ≡ b
+driver_from_same a b h = let named : ℕ → DriverNo = λ n. record { 0 = n } in ap named (eqb-true a.0 b.0 h)
+
+pub cpu_from_same : (a b : CpuNo) → same_cpu a b ≡ true → a ≡ b
+cpu_from_same a b h = let named : ℕ → CpuNo = λ n. record { 0 = n } in ap named (eqb-true a.0 b.0 h)
+
+pub line_from_same : (a b : LineNo) → same_line a b ≡ true → a ≡ b
+line_from_same a b h = let named : ℕ → LineNo = λ n. record { 0 = n } in ap named (eqb-true a.0 b.0 h)

@@ -1,0 +1,4 @@
+pub mod Words
+pub mod EntryWords
+pub mod Rows
+pub mod Spaced
