@@ -1,4 +1,8 @@
-//! The rules of one interrupt line, as definitions over the list of its entries.
+//! The rules of one interrupt line, as definitions over the list of its entries, and the plain program of the due
+//! entry, which is read off them.
+//!
+//! `next_slow` looks back over the whole history at each call, and takes up to the square of its length: it is there
+//! to compare faster bodies with.
 #![tactic(auto)]
 
 mod asks;

@@ -1,9 +1,9 @@
 //! Which devices are linked, and how deep the line is disabled.
-ghost use Rattle.std.specs.Prelude.{◌≡◌, ◌≤◌, ◌+◌, List, [], ◌∷◌, take, drop, length, filter, not, IfOk, OnOk};
+ghost use Rattle.std.specs.Prelude.{◌≡◌, ◌≤◌, ◌+◌, List, [], ◌∷◌, ◌++◌, take, drop, length, filter, not, IfOk, OnOk};
 ghost use Rattle.irq_base.specs.declared.entries.Entry.{Entry};
 ghost use Rattle.irq_model.specs.Places.{since_place, upto_place, last_of};
 ghost use Rattle.irq_model.specs.Kinds.{same_dev, is_linked_request, links_dev};
-ghost use Rattle.irq_model.specs.Links.{is_linked, linked, is_none_linked, is_reset, base, depth, is_disabled, is_started, flags_in, linking_flags, is_oneshot, has_spurious_mark};
+ghost use Rattle.irq_model.specs.Links.{is_linked, requested, linked, is_none_linked, is_reset, base, depth, is_disabled, flags_in, linking_flags, is_oneshot, has_spurious_mark};
 
 use crate::kinds::{
     is_deepening, is_kill, is_last_unlink, is_linked_request, is_lowering, is_start, links_dev,
@@ -27,38 +27,39 @@ fn take_out(devices: &mut Vec<DevNo>, dev: DevNo)
     devices.retain(|d| *d != dev);
 }
 
-/// What one more entry makes of the linked devices: a request that is linked puts its device last, an unlink
-/// takes its device out.
-fn link_or_unlink(devices: &mut Vec<DevNo>, e: Entry) -> Result<(), NoMemory>
-    ensures { OnOk result ((past : List Entry) → devices.old.items ≡ linked past → devices.new.items ≡ linked (e ∷ past)) }
+/// Puts the device last in the list.
+fn put_last(devices: &mut Vec<DevNo>, dev: DevNo) -> Result<(), NoMemory>
+    ensures { OnOk result (devices.new.items ≡ filter (λ d. not (same_dev d dev)) devices.old.items ++ dev ∷ []) }
 {
-    match e {
-        Entry::Request {
+    take_out(devices, dev);
+    devices.push(dev)?;
+    Ok(())
+}
+
+/// The devices that were ever linked, in the order of their last such requests.
+fn requested(alloc: Global, past: &[Entry]) -> Result<Vec<DevNo>, NoMemory>
+    ensures { IfOk result (λ devices. devices.items ≡ requested past.now) }
+{
+    let mut devices = Vec::new(alloc);
+    for i in (0..past.len()).rev() {
+        if let Entry::Request {
             dev,
             answer: LinkAnswer::Linked,
             ..
-        } => {
-            take_out(devices, dev);
-            devices.push(dev)?;
+        } = past[i]
+        {
+            put_last(&mut devices, dev)?;
         }
-        Entry::Unlink {
-            dev,
-            answer: UnlinkAnswer::Unlinked { .. },
-            ..
-        } => take_out(devices, dev),
-        _ => {}
     }
-    Ok(())
+    Ok(devices)
 }
 
 /// The linked devices, in the order in which they are walked.
 pub fn linked(alloc: Global, past: &[Entry]) -> Result<Vec<DevNo>, NoMemory>
     ensures { IfOk result (λ devices. devices.items ≡ linked past.now) }
 {
-    let mut devices = Vec::new(alloc);
-    for i in (0..past.len()).rev() {
-        link_or_unlink(&mut devices, past[i])?;
-    }
+    let mut devices = requested(alloc, past)?;
+    devices.retain(|d| is_linked(past, *d));
     Ok(devices)
 }
 
@@ -69,6 +70,27 @@ pub fn is_none_linked(alloc: Global, past: &[Entry]) -> Result<bool, NoMemory>
     Ok(linked(alloc, past)?.is_empty())
 }
 
+/// What one more entry makes of the linked devices: a request that is linked puts its device last, an unlink
+/// takes its device out.
+fn link_or_unlink(devices: &mut Vec<DevNo>, e: Entry) -> Result<(), NoMemory>
+    ensures { OnOk result ((past : List Entry) → devices.old.items ≡ linked past → devices.new.items ≡ linked (e ∷ past)) }
+{
+    match e {
+        Entry::Request {
+            dev,
+            answer: LinkAnswer::Linked,
+            ..
+        } => put_last(devices, dev)?,
+        Entry::Unlink {
+            dev,
+            answer: UnlinkAnswer::Unlinked { .. },
+            ..
+        } => take_out(devices, dev),
+        _ => {}
+    }
+    Ok(())
+}
+
 /// How many entries stand after the last that gives the depth a value of its own: a first request, or a last
 /// unlink.
 #[tactic(auto, using(crate::proofs::Lists::since_from_upto))]
@@ -77,6 +99,7 @@ fn since_reset(alloc: Global, past: &[Entry]) -> Result<usize, NoMemory>
     ensures upto { IfOk result (λ k. upto_place is_reset past.now ≡ drop k past.now) }
     ensures within { IfOk result (λ k. k ≤ length past.now) }
 {
+    // The linked devices up to each place, entry by entry: `linked` at each place would take the cube of the length.
     let mut devices = Vec::new(alloc);
     let mut place = past.len();
     for i in (0..past.len()).rev() {
