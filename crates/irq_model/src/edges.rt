@@ -1,6 +1,6 @@
 //! The edges of an edge line: where each of them is, by places of the history.
-ghost use Rattle.std.specs.Prelude.{◌≡◌, ℕ, ◌+◌, ◌<◌, ◌≤◌, ◌&&◌, ◌||◌, not, take, drop, length, slice_index_or, IfOk, true};
-ghost use Rattle.irq_model.specs.Edges.{is_edge, ends_in_edge, was_open, is_sent_edge, is_taken, is_alive, is_sent};
+ghost use Rattle.std.specs.Prelude.{◌≡◌, ◌<◌, ◌&&◌, ◌||◌, not, take, drop, length, IfOk};
+ghost use Rattle.irq_model.specs.Edges.{is_edge, was_open, is_sent_edge, is_taken, is_alive, is_sent};
 ghost use Rattle.irq_model.specs.MaskTable.{IsMaskTable};
 
 use crate::kinds::{is_again, is_any_ask, is_chip_start, is_take};

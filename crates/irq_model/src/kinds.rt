@@ -1,6 +1,6 @@
 //! Tests on one entry.
 ghost use Rattle.std.specs.Prelude.{◌≡◌};
-ghost use Rattle.irq_model.specs.Kinds.{is_any_ask, is_ask, is_begin, is_return, is_begin_or_return, is_wake, is_handled, returns_wake, returns_handled, wakes, is_thread_begin, is_thread_return, is_finish, is_cleared_finish, is_done, is_take, is_resend_take, is_handle, is_busy, is_off, is_again, is_leave, is_kill, is_reopening, is_linked_request, links_dev, unlinks_dev, is_last_unlink, opened_by_enable, opened_of, is_start, is_chip_start, is_soft_start, is_disable, is_by_driver, is_freed_by};
+ghost use Rattle.irq_model.specs.Kinds.{is_any_ask, is_ask, is_begin, is_return, is_begin_or_return, returns_wake, returns_handled, wakes, is_thread_begin, is_thread_return, is_finish, is_cleared_finish, is_done, is_take, is_resend_take, is_handle, is_busy, is_off, is_again, is_leave, is_kill, is_reopening, is_linked_request, links_dev, unlinks_dev, is_last_unlink, opened_by_enable, opened_of, is_start, is_chip_start, is_soft_start, is_disable, is_by_driver, is_freed_by};
 ghost use Rattle.irq_model.specs.Links.{is_deepening, is_lowering};
 
 use irq_base::{

@@ -1,9 +1,9 @@
 //! The rows of the table for drivers.
-ghost use Rattle.std.specs.Prelude.{◌≡◌, ◌≤◌, length, IfOk, Option, Some, None};
+ghost use Rattle.std.specs.Prelude.{◌≡◌, ◌≤◌, length, IfOk, Some};
 ghost use Rattle.std.specs.List.{list_any};
-ghost use Rattle.irq_model.specs.Next.{resend_of, enable_answer, flags_differ, is_mismatch, is_null, link_answer, opened_by_request, request_with, request_of, is_only, unlink_answer, affinity_answer, hard_clear_of, synced_of, freed_of, next_of_sync, next_of_disable, next_of_free, next_of_request, next_of_call};
+ghost use Rattle.irq_model.specs.Next.{resend_of, enable_answer, flags_differ, link_answer, opened_by_request, request_of, is_only, unlink_answer, affinity_answer, hard_clear_of, synced_of, freed_of, next_of_sync, next_of_disable, next_of_free, next_of_request, next_of_call};
 ghost use Rattle.irq_model.specs.Due.{due_call};
-ghost use Rattle.irq_model.specs.Links.{linked, linking_flags};
+ghost use Rattle.irq_model.specs.Links.{linking_flags};
 
 use crate::due::{due_call, holds_mutex};
 use crate::kinds::opened_by_enable;

@@ -1,5 +1,5 @@
 //! The rows of the table for threads.
-ghost use Rattle.std.specs.Prelude.{◌≡◌, ◌≤◌, length, not, IfOk};
+ghost use Rattle.std.specs.Prelude.{◌≡◌, ◌≤◌, length, IfOk};
 ghost use Rattle.std.specs.List.{list_any};
 ghost use Rattle.irq_model.specs.Places.{since};
 ghost use Rattle.irq_model.specs.Kinds.{is_finish, is_thread_begin, is_thread_return};

@@ -1,5 +1,5 @@
 //! Walks over a list of entries, the newest first.
-ghost use Rattle.std.specs.Prelude.{◌≡◌, ℕ, ◌≤◌, Bool, length};
+ghost use Rattle.std.specs.Prelude.{◌≡◌, ◌≤◌, Bool, length};
 ghost use Rattle.irq_base.specs.declared.entries.Entry.{Entry};
 ghost use Rattle.irq_model.specs.Places.{stands, since, before, count_of, last_of};
 ghost use Rattle.irq_model.specs.Tests.{Computes};

@@ -1,6 +1,6 @@
 //! The rule on spurious interrupts.
-ghost use Rattle.std.specs.Prelude.{◌≡◌, ◌≤◌, List, ◌∷◌, length};
-ghost use Rattle.irq_model.specs.Spurious.{counted, unhandled, judged, judged_by_threads, noted, now, round_wakes, round_handles, noted_end, no_counts, counts_of, note_of};
+ghost use Rattle.std.specs.Prelude.{◌≡◌, ◌≤◌, ◌∷◌, length};
+ghost use Rattle.irq_model.specs.Spurious.{counted, unhandled, judged, judged_by_threads, noted, now, round_wakes, round_handles, noted_end, counts_of, note_of};
 
 use crate::kinds::{returns_handled, returns_wake};
 use crate::rounds::round;
