@@ -1,6 +1,5 @@
 //! The table of steps: the one entry that an actor may add.
 ghost use Rattle.std.specs.Prelude.{◌≡◌, ◌+◌, ◌<◌, ◌≤◌, ◌∷◌, drop, length, reverse, IfOk};
-ghost use Rattle.irq_model.specs.Valid.{IsValid};
 ghost use Rattle.irq_model.specs.Next.{next, next_past};
 
 use crate::next_cpu::next_of_cpu;
@@ -72,6 +71,9 @@ fn next_past(
 /// body, read off the definitions, with which faster ones are compared. It takes up to the square of the
 /// history's length.
 ///
+/// The definition need not be one that a board can have: whatever it says, as long as it has at most 32
+/// processors and 256 devices, the answer is what the table of steps says of it.
+///
 /// # Errors
 ///
 /// `NoMemory` where memory was wanted and refused, and nothing else.
@@ -81,8 +83,9 @@ pub fn next_slow(
     h: &History,
     actor: Actor,
 ) -> Result<Option<Entry>, NoMemory>
-    requires valid { IsValid def.now }
     requires few { length h.now.entries ≤ 100000000 }
+    requires cpus { def.now.cpus ≤ 32 }
+    requires devices { length def.now.devices ≤ 256 }
     ensures { IfOk result (λ x. x ≡ next def.now h.now.entries actor) }
 {
     let past = newest_first(alloc, h)?;
@@ -106,7 +109,8 @@ mod tests {
 
     /// A line with one device, which one driver requests.
     fn small_line(alloc: Global) -> Result<LineDef, NoMemory>
-        ensures { IfOk result (λ def. IsValid def) }
+        ensures cpus { IfOk result (λ def. def.cpus ≤ 32) }
+        ensures devices { IfOk result (λ def. length def.devices ≤ 256) }
     {
         let line = LineNo(1);
         let dev = DevNo(1);
