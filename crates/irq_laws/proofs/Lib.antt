@@ -1,3 +1,4 @@
 pub mod Chosen
 pub mod ImpliesFlow
 pub mod ImpliesThread
+pub mod ImpliesDriver
