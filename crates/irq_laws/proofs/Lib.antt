@@ -4,3 +4,4 @@ pub mod ImpliesThread
 pub mod ImpliesDriver
 pub mod Lists
 pub mod Progress
+pub mod RunsKept
