@@ -5,3 +5,5 @@ pub mod ImpliesDriver
 pub mod Lists
 pub mod Progress
 pub mod RunsKept
+pub mod Mutex
+pub mod FreesKept

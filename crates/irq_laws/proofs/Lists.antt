@@ -1,7 +1,11 @@
 -- Tests of the elements of a list.
-use Rattle.std.proofs.Common.{◌≡◌, ℕ, ◌+◌, ◌⊎◌, inl, inr, Bool, true, false, not, ◌||◌, ◌&&◌, cond, List, [], ◌∷◌, filter, refl, sym, ap, ◌∙◌, arith}
+use Rattle.std.proofs.Common.{◌≡◌, ℕ, ◌+◌, ◌⊎◌, inl, inr, Bool, true, false, not, ◌||◌, ◌&&◌, cond, List, [], ◌∷◌, filter, refl, sym, ap, ◌∙◌, subst, arith}
 use Rattle.std.specs.List.{list_any}
 use Rattle.std.proofs.lemmas.Bool.{or_cases, or_left, or_right, or_parts, and_parts, false_from_ne_true}
+use Rattle.irq_base.specs.declared.numbers.DevNo.{DevNo}
+use Rattle.irq_base.specs.declared.numbers.DriverNo.{DriverNo}
+use Rattle.irq_model.specs.Kinds.{same_dev, same_driver}
+use Rattle.irq_steps.proofs.Same.{same_self, same_self_driver}
 use Rattle.irq_model.specs.Places.{some_place, count_of, stands}
 
 pub both_ways : {P : Type 0} (b : Bool) → b ≡ true → b ≡ false → P
@@ -20,6 +24,17 @@ pub stands_cases : (p q : Bool) (s : Bool) → (p || (not q && s)) ≡ true → 
 stands_cases true q s h = inl refl
 stands_cases false false s h = inr (refl, h)
 stands_cases false true s h = inl h
+
+differs_test : {P : Type 0} (b : Bool) → b ≡ true → not b ≡ true → P
+differs_test true h n = cc
+differs_test false h n = cc
+
+-- a device isn't another than itself
+pub differs_dev : {P : Type 0} (d x : DevNo) → d ≡ x → not (same_dev d x) ≡ true → P
+differs_dev d x same differs = differs_test (same_dev d x) (subst (λ (y : DevNo). same_dev d y ≡ true) same (same_self d)) differs
+
+pub differs_driver : {P : Type 0} (r s : DriverNo) → r ≡ s → not (same_driver r s) ≡ true → P
+differs_driver r s same differs = differs_test (same_driver r s) (subst (λ (y : DriverNo). same_driver r y ≡ true) same (same_self_driver r)) differs
 
 module _ {A : Type 0} where
   pub any_ext : (p q : A → Bool) (xs : List A) → ((x : A) → p x ≡ q x) → list_any p xs ≡ list_any q xs

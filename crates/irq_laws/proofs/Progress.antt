@@ -167,14 +167,14 @@ free_below def r d past n is =
 -- a driver that is within a free after the entry of s, whose call was c: it was there before, or the entry is of that free
 pub free_before : (def : LineDef) (r s : DriverNo) (e : Entry) (past : List Entry) (c : Call) (n : ℕ) (d : DevNo) (m : ℕ) → is_by_driver r e ≡ same_driver r s → due_call def s past ≡ Some (c, n)
     → due_call def r (e ∷ past) ≡ Some (calls.Free d, suc m)
-    → (due_call def r past ≡ Some (calls.Free d, suc m)) ⊎ ((r ≡ s) × (calls.Free d ≡ c) × (m ≡ n) × (n ≡ 0 → nat_lt (suc m) (entries_of_call c (e ∷ [])) ≡ true))
+    → ((same_driver r s ≡ false) × (due_call def r past ≡ Some (calls.Free d, suc m))) ⊎ ((r ≡ s) × (calls.Free d ≡ c) × (m ≡ n) × (n ≡ 0 → nat_lt (suc m) (entries_of_call c (e ∷ [])) ≡ true))
 free_before def r s e past c n d m by was is = by_driver (same_driver r s) refl
   where
-    by_case : r ≡ s → OneMore c n e (calls.Free d) (suc m) → (due_call def r past ≡ Some (calls.Free d, suc m)) ⊎ ((r ≡ s) × (calls.Free d ≡ c) × (m ≡ n) × (n ≡ 0 → nat_lt (suc m) (entries_of_call c (e ∷ [])) ≡ true))
+    by_case : r ≡ s → OneMore c n e (calls.Free d) (suc m) → ((same_driver r s ≡ false) × (due_call def r past ≡ Some (calls.Free d, suc m))) ⊎ ((r ≡ s) × (calls.Free d ≡ c) × (m ≡ n) × (n ≡ 0 → nat_lt (suc m) (entries_of_call c (e ∷ [])) ≡ true))
     by_case same (inl h) = inr (same, h.0, (let k = h.1 in omega (arith, k)), h.2)
     by_case same (inr h) = absurd (omega (arith, h))
-    by_driver : (b : Bool) → same_driver r s ≡ b → (due_call def r past ≡ Some (calls.Free d, suc m)) ⊎ ((r ≡ s) × (calls.Free d ≡ c) × (m ≡ n) × (n ≡ 0 → nat_lt (suc m) (entries_of_call c (e ∷ [])) ≡ true))
+    by_driver : (b : Bool) → same_driver r s ≡ b → ((same_driver r s ≡ false) × (due_call def r past ≡ Some (calls.Free d, suc m))) ⊎ ((r ≡ s) × (calls.Free d ≡ c) × (m ≡ n) × (n ≡ 0 → nat_lt (suc m) (entries_of_call c (e ∷ [])) ≡ true))
     by_driver true same =
         let equal = driver_from_same r s same in
         by_case equal (one_more def r e past c n (calls.Free d) (suc m) (by ∙ same) (subst (λ (t : DriverNo). due_call def t past ≡ Some (c, n)) (sym equal) was) is)
-    by_driver false other = inl (sym (no_more def r e past (by ∙ other)) ∙ is)
+    by_driver false other = inl (other, sym (no_more def r e past (by ∙ other)) ∙ is)

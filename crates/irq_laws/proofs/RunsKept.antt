@@ -18,7 +18,7 @@ use Rattle.irq_steps.proofs.Same.{same_self, dev_from_same}
 use Rattle.irq_steps.proofs.RoundSteps.{flow_quiet}
 use Rattle.irq_laws.specs.Kept.{KeepsRuns}
 use Rattle.irq_laws.proofs.Chosen.{the_same}
-use Rattle.irq_laws.proofs.Lists.{both_ways, stands_cases}
+use Rattle.irq_laws.proofs.Lists.{both_ways, differs_dev}
 use Rattle.irq_laws.proofs.ImpliesFlow.{take_due, begin_due, return_due, end_due, has_a_flow}
 
 -- what a take's answer tells
@@ -30,14 +30,6 @@ not_busy false false h = (refl, refl)
 pub handle_idle : (def : LineDef) (past : List Entry) → takes.Handle ≡ take_answer def past → (has_flow def past ≡ false) × ((is_disabled past || is_none_linked past) ≡ false)
 handle_idle def past h = not_busy (has_flow def past) (is_disabled past || is_none_linked past) h
 
--- the device that returns is the one at work
-other_dev : (d x : DevNo) → d ≡ x → not (same_dev d x) ≡ true → {P : Type 0} → P
-other_dev d x same differs = both_ways (same_dev d x) (subst (λ (y : DevNo). same_dev d y ≡ true) same (same_self d)) (let n = differs in not_true (same_dev d x) n)
-  where
-    not_true : (b : Bool) → not b ≡ true → b ≡ false
-    not_true true h = sym h
-    not_true false h = refl
-
 called_more : (def : LineDef) (e : Entry) (past : List Entry) → IsDue def e past → KeepsRuns def past → (d : DevNo) → is_called (e ∷ past) d ≡ true → at_work (e ∷ past) ≡ Some d
 called_more def (entries.Begin c x) past due k d h = by_case (or_cases (same_dev d x) (is_called past d) h)
   where
@@ -48,11 +40,8 @@ called_more def (entries.Return c x answer served) past due k d h =
     let parts = and_parts (not (same_dev d x)) (is_called past d) h in
     let a = k.called d parts.1 in
     let b = (return_due def c x answer served past due).is_at_work in
-    other_dev d x (the_same d x (sym a ∙ b)) parts.0
+    differs_dev d x (the_same d x (sym a ∙ b)) parts.0
 called_more def e past due k d h = k.called d h
-
-Working : LineDef → List Entry → DevNo → Type 0
-Working def past d = (is_called past d ≡ true) × (has_flow def past ≡ true) × (has_begun def past d ≡ true)
 
 stays : (def : LineDef) (e : Entry) (past : List Entry) → flow def (e ∷ past) ≡ flow def past → has_flow def past ≡ true → has_flow def (e ∷ past) ≡ true
 stays def e past same h = ap is_some same ∙ h
