@@ -7,3 +7,4 @@ pub mod Progress
 pub mod RunsKept
 pub mod Mutex
 pub mod FreesKept
+pub mod Requested
