@@ -8,3 +8,4 @@ pub mod RunsKept
 pub mod Mutex
 pub mod FreesKept
 pub mod Requested
+pub mod RestKept

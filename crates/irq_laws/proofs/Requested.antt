@@ -29,10 +29,6 @@ was_linked (e ∷ past) d h = by_case (stands_cases (links_dev d e) (unlinks_dev
     by_case (inl now) deeper = or_left (links_dev d e) _ now
     by_case (inr was) deeper = or_right (links_dev d e) _ (deeper was.1)
 
--- the list without x, and then x
-others : (a l n : Bool) → (not a && l) ≡ true → (n ≡ a) → (not n && l) ≡ true
-others a l n h same = grind arith
-
 kept_others : (x d : DevNo) (xs : List DevNo) → same_dev d x ≡ false → list_any (same_dev d) xs ≡ true → list_any (same_dev d) (filter (λ y. not (same_dev y x)) xs) ≡ true
 kept_others x d xs differs h =
     any_filter (same_dev d) (λ y. not (same_dev y x)) xs ∙ any_imply (same_dev d) (λ y. not (same_dev y x) && same_dev d y) xs here h
