@@ -225,7 +225,7 @@ unlinked_more def e past due k r d h = k.unlinked r d h
 
 -- ---- no handler of a device is at work past its hard clear
 
-nothing_called : (def : LineDef) (past : List Entry) → KeepsRuns def past → has_flow def past ≡ false → (d : DevNo) → is_called past d ≡ false
+pub nothing_called : (def : LineDef) (past : List Entry) → KeepsRuns def past → has_flow def past ≡ false → (d : DevNo) → is_called past d ≡ false
 nothing_called def past runs idle d = false_from_ne_true (is_called past d) (λ h. both_ways (has_flow def past) (runs.working d (runs.called d h)).1 idle)
 
 -- what is called is linked

@@ -9,3 +9,5 @@ pub mod Mutex
 pub mod FreesKept
 pub mod Requested
 pub mod RestKept
+pub mod KeptAlways
+pub mod RunLaws

@@ -32,7 +32,7 @@ use Rattle.irq_steps.proofs.Same.{same_self, dev_from_same}
 use Rattle.irq_laws.specs.Kept.{Kept, KeepsRest}
 use Rattle.irq_laws.proofs.Chosen.{the_same}
 use Rattle.irq_laws.proofs.Lists.{both_ways, differs_dev}
-use Rattle.irq_laws.proofs.Requested.{due_passes, of_linked}
+use Rattle.irq_laws.proofs.Requested.{due_passes, was_linked, of_linked}
 use Rattle.irq_laws.proofs.FreesKept.{freed_is, begun_is_linked, not_freeing}
 use Rattle.irq_laws.proofs.ImpliesFlow.{begin_due, return_due}
 use Rattle.irq_laws.proofs.ImpliesThread.{thread_begin_due, thread_return_due, finish_due, done_due, has_returned, has_finished}
@@ -73,6 +73,26 @@ there_when false last v h = cc
 
 pub unlinked_was_linked : (def : LineDef) (r : DriverNo) (x : DevNo) (last : Bool) (past : List Entry) → IsDue def (entries.Unlink r x (unlinks.Unlinked last)) past → is_linked past x ≡ true
 unlinked_was_linked def r x last past due = there_when (is_linked past x) last _ (unlink_due def r x (unlinks.Unlinked last) past due).answer_is
+
+freed_named_more : (def : LineDef) (e : Entry) (past : List Entry) → IsDue def e past → Kept def past → (d : DevNo) → is_being_freed (e ∷ past) d ≡ true → list_any (is_device d) def.devices ≡ true
+freed_named_more def (entries.Unlink s x (unlinks.Unlinked last)) past due k d h = by_case (or_cases (same_dev d x && true) _ h)
+  where
+    by_case : ((same_dev d x && true) ≡ true) ⊎ (is_being_freed past d ≡ true) → list_any (is_device d) def.devices ≡ true
+    by_case (inl now) =
+        let there = subst (λ (y : DevNo). is_linked past y ≡ true) (sym (dev_from_same d x (and_parts (same_dev d x) true now).0)) (unlinked_was_linked def s x last past due) in
+        k.rest.named d (was_linked past d there)
+    by_case (inr was) = k.rest.freed_named d was
+freed_named_more def (entries.Unlink s x unlinks.NotThere) past due k d h = k.rest.freed_named d (sym (not_here (same_dev d x) (is_being_freed past d)) ∙ h)
+freed_named_more def (entries.Freed s x) past due k d h = k.rest.freed_named d (and_parts (not (same_dev d x)) _ h).1
+freed_named_more def e past due k d h = k.rest.freed_named d h
+
+-- a device that is linked or being freed is a device of the line
+pub there_named : (def : LineDef) (past : List Entry) → Kept def past → (d : DevNo) → (is_linked past d || is_being_freed past d) ≡ true → list_any (is_device d) def.devices ≡ true
+there_named def past k d h = by_case (or_cases (is_linked past d) (is_being_freed past d) h)
+  where
+    by_case : (is_linked past d ≡ true) ⊎ (is_being_freed past d ≡ true) → list_any (is_device d) def.devices ≡ true
+    by_case (inl linked) = k.rest.named d (was_linked past d linked)
+    by_case (inr freed) = k.rest.freed_named d freed
 
 -- d isn't x, since something holds of x alone
 apart : (d x : DevNo) (p : DevNo → Bool) → p x ≡ true → p d ≡ false → same_dev d x ≡ false
@@ -205,10 +225,22 @@ finish_in_run b r f (e ∷ past) h g = by_test (b e) (r e) refl refl (λ x y. fi
 not_oneshot : (o f : Bool) → (o && not f) ≡ false → f ≡ false → o ≡ false
 not_oneshot o f h g = grind arith
 
--- a thread that is in a run belongs to a device that is linked or being freed
-running_there : (def : LineDef) (past : List Entry) → Kept def past → (x : DevNo) → is_running past x ≡ true → (is_linked past x || is_being_freed past x) ≡ true
+-- what is at work belongs to a device that is linked or being freed
+pub running_there : (def : LineDef) (past : List Entry) → Kept def past → (x : DevNo) → is_running past x ≡ true → (is_linked past x || is_being_freed past x) ≡ true
 running_there def past k x running =
     true_from_ne_false (is_linked past x || is_being_freed past x) (λ none. let p = or_parts _ _ none in both_ways (is_running past x) running (parts_of past x (k.rest.at_rest x p.0 p.1)).1)
+
+pub woken_there : (def : LineDef) (past : List Entry) → Kept def past → (x : DevNo) → is_woken past x ≡ true → (is_linked past x || is_being_freed past x) ≡ true
+woken_there def past k x woken =
+    true_from_ne_false (is_linked past x || is_being_freed past x) (λ none. let p = or_parts _ _ none in both_ways (is_woken past x) woken (parts_of past x (k.rest.at_rest x p.0 p.1)).0)
+
+pub unfinished_there : (def : LineDef) (past : List Entry) → Kept def past → (x : DevNo) → is_unfinished past x ≡ true → (is_linked past x || is_being_freed past x) ≡ true
+unfinished_there def past k x bit =
+    true_from_ne_false (is_linked past x || is_being_freed past x) (λ none. let p = or_parts _ _ none in both_ways (is_unfinished past x) bit (parts_of past x (k.rest.at_rest x p.0 p.1)).2)
+
+pub called_there : (def : LineDef) (past : List Entry) → Kept def past → (x : DevNo) → is_called past x ≡ true → (is_linked past x || is_being_freed past x) ≡ true
+called_there def past k x called =
+    true_from_ne_false (is_linked past x || is_being_freed past x) (λ none. let p = or_parts _ _ none in both_ways (is_called past x) called (parts_of past x (k.rest.at_rest x p.0 p.1)).3)
 
 -- a run ends with the thread's bit only where the thread was woken again
 done_woken : (def : LineDef) (x : DevNo) (past : List Entry) → IsDue def (entries.Done x) past → Kept def past → is_unfinished past x ≡ true → is_woken past x ≡ true
@@ -309,6 +341,7 @@ pub rest_kept : (def : LineDef) (e : Entry) (past : List Entry) → IsValid def 
 rest_kept def e past valid due k =
     record {
       named = named_more def e past valid due k;
+      freed_named = freed_named_more def e past due k;
       after_free = after_more def e past due k;
       at_rest = rest_more def e past due k;
       at_work = work_more def e past due k;
@@ -316,4 +349,4 @@ rest_kept def e past valid due k =
     }
 
 pub no_rest : (def : LineDef) → KeepsRest def []
-no_rest def = record { named = λ d h. cc; after_free = λ d h. cc; at_rest = λ d l f. refl; at_work = λ d h. cc; flags = λ d h. cc }
+no_rest def = record { named = λ d h. cc; freed_named = λ d h. cc; after_free = λ d h. cc; at_rest = λ d l f. refl; at_work = λ d h. cc; flags = λ d h. cc }

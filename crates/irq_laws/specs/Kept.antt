@@ -46,8 +46,9 @@ pub record KeepsFrees (def : LineDef) (past : List Entry) : Type 0 where
   pub cleared : ClearedIsNotCalled def past
 
 pub record KeepsRest (def : LineDef) (past : List Entry) : Type 0 where
-  -- a device that was ever linked is a device of the line
+  -- a device that was ever linked, or is being freed, is a device of the line
   pub named : (d : DevNo) → list_any (links_dev d) past ≡ true → list_any (is_device d) def.devices ≡ true
+  pub freed_named : (d : DevNo) → is_being_freed past d ≡ true → list_any (is_device d) def.devices ≡ true
   -- a device that was freed, and not linked since, is neither linked nor being freed
   pub after_free : (d : DevNo) → stands (is_freed d) (links_dev d) past ≡ true → (is_linked past d ≡ false) × (is_being_freed past d ≡ false)
   pub at_rest : UnlinkedIsAtRest def past
