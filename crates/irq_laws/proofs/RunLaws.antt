@@ -10,22 +10,25 @@ use Rattle.irq_base.specs.declared.lines.LineDef.{LineDef}
 use Rattle.irq_base.specs.declared.entries.Entry.{Entry}
 use Rattle.irq_base.specs.declared.entries.Entry.TheVariants as entries
 use Rattle.irq_base.specs.declared.entries.Note.{Note}
-use Rattle.irq_model.specs.Places.{stands, count_of}
-use Rattle.irq_model.specs.Kinds.{same_dev, is_begin, is_thread_begin, is_hard_clear, is_synced, is_freed, links_dev, is_reopening}
-use Rattle.irq_model.specs.Lines.{is_device, is_edge_line, is_level_line}
-use Rattle.irq_model.specs.Links.{is_linked}
-use Rattle.irq_model.specs.Threads.{is_woken, is_running, is_unfinished, is_some_unfinished, active_count}
+use Rattle.irq_model.specs.Places.{stands, since, count_of}
+use Rattle.irq_model.specs.Kinds.{same_dev, is_begin, is_thread_begin, is_hard_clear, is_synced, is_freed, links_dev, wakes, is_cleared_finish, is_reopening}
+use Rattle.irq_model.specs.Lines.{is_device, is_edge_line, is_level_line, is_edge_flow}
+use Rattle.irq_model.specs.Links.{is_linked, is_disabled, is_oneshot, linking_flags}
+use Rattle.irq_model.specs.Masks.{is_masked}
+use Rattle.irq_model.specs.Spurious.{note_of}
+use Rattle.irq_model.specs.Next.{is_off_now}
+use Rattle.irq_model.specs.Threads.{is_woken, is_running, is_unfinished, is_some_unfinished, is_other_unfinished, active_count}
 use Rattle.irq_model.specs.Reason.{is_called, is_being_freed}
 use Rattle.irq_model.specs.Legal.{IsDue, IsLegal}
 use Rattle.irq_model.specs.Laws.{NoOverlap, IsSilentAfterFree, IsSynchronised, KeepsOneshot, is_run_of}
 use Rattle.irq_model.specs.Valid.{IsValid}
-use Rattle.irq_steps.proofs.Same.{dev_from_same}
+use Rattle.irq_steps.proofs.Same.{dev_from_same, same_both}
 use Rattle.irq_laws.specs.Kept.{Kept}
-use Rattle.irq_laws.proofs.Lists.{any_imply, none_counted, both_ways}
+use Rattle.irq_laws.proofs.Lists.{any_ext, any_imply, none_counted, both_ways}
 use Rattle.irq_laws.proofs.FreesKept.{begun_is_linked, nothing_called}
 use Rattle.irq_laws.proofs.RestKept.{running_there, woken_there, called_there, there_named}
 use Rattle.irq_laws.proofs.KeptAlways.{each}
-use Rattle.irq_laws.proofs.ImpliesFlow.{begin_due, return_due, end_due}
+use Rattle.irq_laws.proofs.ImpliesFlow.{unmask_by, begin_due, return_due, end_due}
 use Rattle.irq_laws.proofs.ImpliesThread.{thread_begin_due, thread_return_due, finish_due, done_due}
 use Rattle.irq_laws.proofs.ImpliesDriver.{hard_clear_due, synced_due}
 
@@ -92,3 +95,48 @@ synchronised_at def e past due k d = (λ none. cc, λ none. cc)
 pub synchronised : (def : LineDef) (h : List Entry) → IsValid def → IsLegal def h → IsSynchronised def h
 synchronised def h valid legal =
     each def valid (λ e past. (d : DevNo) → (is_hard_clear e ≡ true → is_called past d ≡ false) × (is_synced e ≡ true → (is_woken past d || is_running past d) ≡ false)) (synchronised_at def) (reverse h) legal
+
+-- ---- the one-shot promise
+
+not_edge : {P : Type 0} (b : Bool) → b ≡ true → not b ≡ true → P
+not_edge true h n = cc
+not_edge false h n = cc
+
+unheld : (a m u : Bool) → (a && (m && not u)) ≡ true → u ≡ false
+unheld a m u h = grind arith
+
+-- a flow's end opens a level line only where no thread is unfinished
+opens_unheld : (def : LineDef) (f : FlowKind) (past : List Entry) (note : Note) → IsValid def → is_level_line def ≡ true → def.flow ≡ f → unmask_by def f past note ≡ true → is_some_unfinished def past ≡ false
+opens_unheld def flows.Edge past note valid level is h = not_edge (is_edge_line def) (valid.edge_flow (ap is_edge_flow is)) level
+opens_unheld def flows.Level past note valid level is h = unheld (not (is_off_now past note)) (is_masked def past) (is_some_unfinished def past) h
+opens_unheld def flows.Eoi past note valid level is h =
+    unheld (not (is_off_now past note) && is_oneshot past) (is_masked def past) (is_some_unfinished def past) (and_parts (not (is_edge_line def)) _ h).1
+
+woken_kept : (w d m o : Bool) → (not w && (not d && (m && not o))) ≡ true → (w ≡ false) × (o ≡ false)
+woken_kept w d m o h = (grind arith, grind arith)
+
+-- once d's bit is given up, no other thread is unfinished
+given_up : (def : LineDef) (x : DevNo) (unmask : Bool) (past : List Entry) → is_other_unfinished def past x ≡ false → is_some_unfinished def (entries.Finish x false unmask ∷ past) ≡ false
+given_up def x unmask past none =
+    any_ext (λ (y : DeviceDef). is_unfinished (entries.Finish x false unmask ∷ past) y.dev) (λ y. not (same_dev x y.dev) && is_unfinished past y.dev) def.devices
+    (λ y. moved (linking_flags past y.dev).oneshot (same_dev y.dev x) (same_dev x y.dev) (stands (wakes y.dev) (is_cleared_finish y.dev) (since (links_dev y.dev) past)) (same_both y.dev x)) ∙ none
+  where
+    moved : (o s t b : Bool) → s ≡ t → (o && (not s && b)) ≡ (not t && (o && b))
+    moved o s t b h = grind arith
+
+oneshot_at : (def : LineDef) (e : Entry) (past : List Entry) → IsValid def → is_level_line def ≡ true → IsDue def e past → is_reopening e ≡ true → is_some_unfinished def (e ∷ past) ≡ false
+oneshot_at def (entries.End c again unmask note) past valid level due h =
+    opens_unheld def def.flow past (note_of def past) valid level refl (sym (end_due def c again unmask note past due).unmask_is ∙ h)
+oneshot_at def (entries.Finish x true unmask) past valid level due h =
+    let u = finish_due def x true unmask past due in
+    let p = woken_kept (is_woken past x) (is_disabled past) (is_masked def past) (is_other_unfinished def past x) (sym u.unmask_is ∙ h) in
+    both_ways (is_woken past x) (sym u.kept_is) p.0
+oneshot_at def (entries.Finish x false unmask) past valid level due h =
+    let u = finish_due def x false unmask past due in
+    let p = woken_kept (is_woken past x) (is_disabled past) (is_masked def past) (is_other_unfinished def past x) (sym u.unmask_is ∙ h) in
+    given_up def x unmask past p.1
+oneshot_at def e past valid level due h = cc
+
+pub keeps_oneshot : (def : LineDef) (h : List Entry) → IsValid def → IsLegal def h → KeepsOneshot def h
+keeps_oneshot def h valid legal level =
+    each def valid (λ e past. is_reopening e ≡ true → is_some_unfinished def (e ∷ past) ≡ false) (λ e past due k. oneshot_at def e past valid level due) (reverse h) legal

@@ -3,3 +3,6 @@ pub mod Somewhere
 pub mod LinkSteps
 pub mod EdgeSteps
 pub mod RoundSteps
+pub mod MaskSteps
+pub mod WaitSteps
+pub mod DepthSteps
