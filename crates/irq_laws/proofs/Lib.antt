@@ -11,3 +11,4 @@ pub mod Requested
 pub mod RestKept
 pub mod KeptAlways
 pub mod RunLaws
+pub mod DepthKept

@@ -1,6 +1,6 @@
 -- What every entry keeps, beside the parts of the reasons: facts of a legal past, whose newest entry comes
 -- first.
-use Rattle.std.specs.Prelude.{◌≡◌, ℕ, suc, Bool, true, false, ◌||◌, ◌&&◌, Option, Some, None, List, [], ◌∷◌}
+use Rattle.std.specs.Prelude.{◌≡◌, ℕ, suc, ◌+◌, ◌≤◌, Bool, true, false, ◌||◌, ◌&&◌, Option, Some, None, List, [], ◌∷◌}
 use Rattle.std.specs.List.{list_any}
 use Rattle.irq_base.specs.declared.numbers.DevNo.{DevNo}
 use Rattle.irq_base.specs.declared.numbers.DriverNo.{DriverNo}
@@ -9,13 +9,13 @@ use Rattle.irq_base.specs.declared.lines.LineDef.{LineDef}
 use Rattle.irq_base.specs.declared.entries.Entry.{Entry}
 use Rattle.irq_base.specs.declared.entries.Entry.TheVariants as entries
 use Rattle.irq_base.specs.declared.entries.UnlinkAnswer.TheVariants as unlinks
-use Rattle.irq_model.specs.Places.{stands}
+use Rattle.irq_model.specs.Places.{stands, since_place, upto_place, count_of}
 use Rattle.irq_model.specs.Kinds.{same_dev, same_driver, is_freed, is_freed_by, links_dev, is_unlinked_answer}
 use Rattle.irq_model.specs.Lines.{is_device}
-use Rattle.irq_model.specs.Links.{is_linked}
+use Rattle.irq_model.specs.Links.{is_linked, is_reset, base, is_deepening, is_lowering}
 use Rattle.irq_model.specs.Rounds.{has_flow, has_begun, at_work}
 use Rattle.irq_model.specs.Due.{due_call}
-use Rattle.irq_model.specs.Reason.{is_called, is_being_freed, ClearedIsNotCalled, UnlinkedIsAtRest, UnfinishedIsAtWork, FlagsAgree}
+use Rattle.irq_model.specs.Reason.{is_called, is_being_freed, ClearedIsNotCalled, UnlinkedIsAtRest, UnfinishedIsAtWork, FlagsAgree, EnabledIsStarted}
 
 -- the handler that is at work is the one that was called and hasn't returned, in the round of the flow
 pub record KeepsRuns (def : LineDef) (past : List Entry) : Type 0 where
@@ -59,3 +59,8 @@ pub record Kept (def : LineDef) (past : List Entry) : Type 0 where
   pub runs : KeepsRuns def past
   pub frees : KeepsFrees def past
   pub rest : KeepsRest def past
+
+-- the depth never falls below zero, and a line that isn't disabled is started
+pub record KeepsDepth (def : LineDef) (past : List Entry) : Type 0 where
+  pub exact : count_of is_lowering (since_place is_reset past) ≤ base (upto_place is_reset past) + count_of is_deepening (since_place is_reset past)
+  pub enabled : EnabledIsStarted def past

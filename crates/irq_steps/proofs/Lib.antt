@@ -6,3 +6,4 @@ pub mod RoundSteps
 pub mod MaskSteps
 pub mod WaitSteps
 pub mod DepthSteps
+pub mod ListSteps
