@@ -178,3 +178,81 @@ enabled_before def e past due k zero = by_start (is_start e) refl
     by_start : (b : Bool) → is_start e ≡ b → (is_start e ≡ true) ⊎ StaysEnabled e past
     by_start true is = inl is
     by_start false is = inr (zero_by def e past due k.exact zero is (is_reset (e ∷ past)) refl)
+
+-- ---- something stays linked
+
+some_last : (xs : List DevNo) (d : DevNo) → is_empty (xs ++ d ∷ []) ≡ false
+some_last [] d = refl
+some_last (x ∷ xs) d = refl
+
+some_kept : (x y : DevNo) (ys : List DevNo) → same_dev x y ≡ false → is_empty (filter (λ z. not (same_dev z x)) (y ∷ ys)) ≡ false
+some_kept x y ys other = ap (λ (b : Bool). is_empty (cond (not b) (y ∷ filter (λ z. not (same_dev z x)) ys) (filter (λ z. not (same_dev z x)) ys))) (same_both y x ∙ other)
+
+some_behind : (x y : DevNo) (ys : List DevNo) → same_dev x y ≡ true → is_empty ys ≡ false → count_of (same_dev x) ys ≡ 0 → is_empty (filter (λ z. not (same_dev z x)) (y ∷ ys)) ≡ false
+some_behind x y [] same h none = cc
+some_behind x y (z ∷ zs) same h none =
+    ap (λ (b : Bool). is_empty (cond (not b) (y ∷ filter (λ z. not (same_dev z x)) (z ∷ zs)) (filter (λ z. not (same_dev z x)) (z ∷ zs)))) (same_both y x ∙ same) ∙ some_kept x z zs (differs (same_dev x z) none)
+  where
+    differs : (b : Bool) → cond b (count_of (same_dev x) zs + 1) (count_of (same_dev x) zs) ≡ 0 → b ≡ false
+    differs true h = absurd (omega (arith, h))
+    differs false h = refl
+
+-- one of several is taken out
+some_left : (x : DevNo) (xs : List DevNo) → is_only x xs ≡ false → is_empty xs ≡ false → count_of (same_dev x) xs ≤ 1 → is_empty (filter (λ z. not (same_dev z x)) xs) ≡ false
+some_left x [] only h once = h
+some_left x (y ∷ ys) only h once = by_test (same_dev x y) refl
+  where
+    by_test : (b : Bool) → same_dev x y ≡ b → is_empty (filter (λ z. not (same_dev z x)) (y ∷ ys)) ≡ false
+    by_test true same =
+        let more : is_empty ys ≡ false = ap (λ (b : Bool). b && is_empty ys) (sym same) ∙ only in
+        let count : count_of (same_dev x) ys + 1 ≤ 1 = subst (λ (b : Bool). cond b (count_of (same_dev x) ys + 1) (count_of (same_dev x) ys) ≤ 1) same once in
+        some_behind x y ys same more (omega (arith, count))
+    by_test false other = some_kept x y ys other
+
+last_when : (b last v : Bool) → unlinks.Unlinked last ≡ cond b (unlinks.Unlinked v) unlinks.NotThere → last ≡ v
+last_when true last v h = cc
+last_when false last v h = cc
+
+still_some : (def : LineDef) (e : Entry) (past : List Entry) → IsDue def e past → is_last_unlink e ≡ false → is_none_linked past ≡ false → is_none_linked (e ∷ past) ≡ false
+still_some def (entries.Request s x flags links.Linked opened) past due no_last some = ap is_empty (linked_request s x flags opened past) ∙ some_last (filter (λ y. not (same_dev y x)) (linked past)) x
+still_some def (entries.Request s x flags (links.Refused error) opened) past due no_last some = ap is_empty (linked_refused s x flags error opened past) ∙ some
+still_some def (entries.Unlink s x (unlinks.Unlinked last)) past due no_last some =
+    let is = last_when (is_linked past x) last (is_only x (linked past)) (unlink_due def s x (unlinks.Unlinked last) past due).answer_is in
+    let once : count_of (same_dev x) (linked past) ≤ 1 = (let n = count_filter (same_dev x) (is_linked past) (requested past) in let m = requested_once x past in omega (arith, n, m)) in
+    ap is_empty (linked_unlink s x last past) ∙ some_left x (linked past) (sym is ∙ no_last) some once
+still_some def (entries.Unlink s x unlinks.NotThere) past due no_last some = ap is_empty (linked_not_there s x past) ∙ some
+still_some def e past due no_last some = some
+
+-- a line that is started has something linked
+started_some : (def : LineDef) (e : Entry) (past : List Entry) → IsDue def e past → is_start e ≡ true → is_none_linked (e ∷ past) ≡ false
+started_some def (entries.Enable s answer) past due starts = (opens_at def (entries.Enable s answer) past due refl).some_linked (lowers_by (opened_by_enable answer) starts)
+  where
+    lowers_by : (o : Opened) → is_started_opened o ≡ true → is_lowering_opened o ≡ true
+    lowers_by (opens.Started resend) h = refl
+    lowers_by opens.No h = cc
+    lowers_by opens.Unbalanced h = cc
+    lowers_by opens.Lowered h = cc
+started_some def (entries.Request s x flags links.Linked opened) past due starts = ap is_empty (linked_request s x flags opened past) ∙ some_last (filter (λ y. not (same_dev y x)) (linked past)) x
+started_some def (entries.Request s x flags (links.Refused error) opened) past due starts =
+    let u = request_due def s x flags (links.Refused error) opened past due in
+    let is : opened ≡ opens.No = u.opened_is ∙ ap (λ (a : LinkAnswer). opened_with def flags past a) (sym u.answer_is) in
+    let n : is_started_opened opened ≡ false = ap is_started_opened is in
+    both_ways (is_started_opened opened) starts n
+started_some def e past due starts = cc
+
+-- ---- an enabled line is started
+
+enabled_more : (def : LineDef) (e : Entry) (past : List Entry) → IsDue def e past → KeepsDepth def past → depth (e ∷ past) ≡ 0 → (is_started (e ∷ past) ≡ true) × (is_none_linked (e ∷ past) ≡ false)
+enabled_more def e past due k zero = by_case (enabled_before def e past due k zero)
+  where
+    by_case : (is_start e ≡ true) ⊎ StaysEnabled e past → (is_started (e ∷ past) ≡ true) × (is_none_linked (e ∷ past) ≡ false)
+    by_case (inl starts) = (or_left (is_start e) _ starts, started_some def e past due starts)
+    by_case (inr q) =
+        let n = k.enabled q.was in
+        (or_right (is_start e) _ (and_from _ _ (ap not q.no_last) n.0), still_some def e past due q.no_last n.1)
+
+pub depth_more : (def : LineDef) (e : Entry) (past : List Entry) → IsDue def e past → KeepsDepth def past → KeepsDepth def (e ∷ past)
+depth_more def e past due k = record { exact = exact_more def e past due k.exact; enabled = enabled_more def e past due k }
+
+pub no_depth : (def : LineDef) → KeepsDepth def []
+no_depth def = record { exact = omega arith; enabled = λ h. absurd (omega (arith, h)) }
