@@ -12,3 +12,5 @@ pub mod RestKept
 pub mod KeptAlways
 pub mod RunLaws
 pub mod DepthKept
+pub mod Masking
+pub mod EdgesKept

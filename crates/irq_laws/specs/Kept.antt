@@ -15,7 +15,7 @@ use Rattle.irq_model.specs.Lines.{is_device}
 use Rattle.irq_model.specs.Links.{is_linked, is_reset, base, is_deepening, is_lowering}
 use Rattle.irq_model.specs.Rounds.{has_flow, has_begun, at_work}
 use Rattle.irq_model.specs.Due.{due_call}
-use Rattle.irq_model.specs.Reason.{is_called, is_being_freed, ClearedIsNotCalled, UnlinkedIsAtRest, UnfinishedIsAtWork, FlagsAgree, EnabledIsStarted}
+use Rattle.irq_model.specs.Reason.{is_called, is_being_freed, ClearedIsNotCalled, UnlinkedIsAtRest, UnfinishedIsAtWork, FlagsAgree, EnabledIsStarted, EdgeFlowMaskIsPending, EoiEdgeIsOpen, EdgePendingHasFlow, DroppedIsPending}
 
 -- the handler that is at work is the one that was called and hasn't returned, in the round of the flow
 pub record KeepsRuns (def : LineDef) (past : List Entry) : Type 0 where
@@ -64,3 +64,10 @@ pub record Kept (def : LineDef) (past : List Entry) : Type 0 where
 pub record KeepsDepth (def : LineDef) (past : List Entry) : Type 0 where
   pub exact : count_of is_lowering (since_place is_reset past) ≤ base (upto_place is_reset past) + count_of is_deepening (since_place is_reset past)
   pub enabled : EnabledIsStarted def past
+
+-- why an edge line is masked, and what is pending then
+pub record KeepsEdges (def : LineDef) (past : List Entry) : Type 0 where
+  pub edge_flow : EdgeFlowMaskIsPending def past
+  pub eoi_edge : EoiEdgeIsOpen def past
+  pub pending : EdgePendingHasFlow def past
+  pub dropped : DroppedIsPending def past
