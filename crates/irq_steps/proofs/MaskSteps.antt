@@ -22,7 +22,7 @@ pub masked_more : (def : LineDef) (e : Entry) (past : List Entry) → is_masked 
 masked_more def e past =
     ap not (joined (masks def (e ∷ past)) e (since_place (masks def) past)) ∙ by_masking (masks def (e ∷ past)) (unmasks e) (list_any unmasks (since_place (masks def) past))
 
-no_take_masks : (def : LineDef) (f : FlowKind) (e : Entry) (past : List Entry) → is_take e ≡ false → take_masks def f e past ≡ false
+pub no_take_masks : (def : LineDef) (f : FlowKind) (e : Entry) (past : List Entry) → is_take e ≡ false → take_masks def f e past ≡ false
 no_take_masks def flows.Level e past h = h
 no_take_masks def flows.Edge (entries.Take cpu way answer) past h = cc
 no_take_masks def flows.Edge e past h = refl
