@@ -14,3 +14,4 @@ pub mod RunLaws
 pub mod DepthKept
 pub mod Masking
 pub mod EdgesKept
+pub mod Scripted

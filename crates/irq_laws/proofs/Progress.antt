@@ -60,7 +60,7 @@ same_call x c m n h =
     let same : p ≡ q = the_same p q h in
     (ap (λ (y : Call × ℕ). y.0) same, ap (λ (y : Call × ℕ). y.1) same)
 
-passes : (x : Call) (cs : List Call) (y e : Entry) (ys : List Entry) → nat_lt (length (y ∷ ys)) (entries_of_call x (y ∷ ys)) ≡ false
+pub passes : (x : Call) (cs : List Call) (y e : Entry) (ys : List Entry) → nat_lt (length (y ∷ ys)) (entries_of_call x (y ∷ ys)) ≡ false
     → due_of (x ∷ cs) ((y ∷ ys) ++ e ∷ []) ≡ due_of cs (drop (entries_of_call x (y ∷ ys)) (y ∷ ys) ++ e ∷ [])
 passes x cs y e ys full =
     let k = entries_of_call x (y ∷ ys) in
