@@ -15,3 +15,4 @@ pub mod DepthKept
 pub mod Masking
 pub mod EdgesKept
 pub mod Scripted
+pub mod WantedKept

@@ -126,7 +126,7 @@ goes_on c rest own e d n some h = by_test (nat_lt (length (own ++ e ∷ [])) (en
 abbrev pub OneMore : Call → ℕ → Entry → Call → ℕ → Type 0
 OneMore c n e d m = ((d ≡ c) × (m ≡ n + 1) × (n ≡ 0 → nat_lt m (entries_of_call c (e ∷ [])) ≡ true)) ⊎ (m ≡ 0)
 
-entries_more : (r : DriverNo) (e : Entry) (past : List Entry) → is_by_driver r e ≡ true → entries_by r (e ∷ past) ≡ entries_by r past ++ e ∷ []
+pub entries_more : (r : DriverNo) (e : Entry) (past : List Entry) → is_by_driver r e ≡ true → entries_by r (e ∷ past) ≡ entries_by r past ++ e ∷ []
 entries_more r e past mine = ap (λ (b : Bool). reverse (cond b (e ∷ filter (is_by_driver r) past) (filter (is_by_driver r) past))) mine ∙ reverse_onto (filter (is_by_driver r) past) e []
 
 none_own : (own : List Entry) → length own ≡ 0 → own ≡ []

@@ -18,9 +18,13 @@ use Rattle.irq_laws.proofs.Progress.{makes_one, same_count, passes, same_call, d
 
 -- ---- one more entry
 
--- either the same calls are complete, or the due call too
-abbrev pub Completes : Call → List Call → List Call → Type 0
-Completes c was now = (now ≡ was) ⊎ (now ≡ c ∷ was)
+-- the due call isn't complete with e as its last entry
+abbrev pub GoesOn : Call → Entry → Type 0
+GoesOn c e = (xs : List Entry) × (nat_lt (length (xs ++ e ∷ [])) (entries_of_call c (xs ++ e ∷ [])) ≡ true)
+
+-- after e either the same calls are complete, or the due call too
+abbrev pub Completes : Call → Entry → List Call → List Call → Type 0
+Completes c e was now = ((now ≡ was) × GoesOn c e) ⊎ (now ≡ c ∷ was)
 
 none_complete : (done cs : List Call) → complete done cs [] ≡ done
 none_complete done [] = refl
@@ -28,7 +32,7 @@ none_complete done (c ∷ cs) =
     ap (λ (b : Bool). cond b done (complete (c ∷ done) cs (drop (entries_of_call c []) []))) (lt-ltb 0 (entries_of_call c []) (let one = makes_one c [] in omega (arith, one)))
 
 at_due : (done cs : List Call) (x : Call) (es : List Entry) (e : Entry) → nat_lt (length es) (entries_of_call x es) ≡ true
-    → Completes x done (complete done (x ∷ cs) (es ++ e ∷ []))
+    → Completes x e done (complete done (x ∷ cs) (es ++ e ∷ []))
 at_due done cs x es e some = by_test (nat_lt (length (es ++ e ∷ [])) (entries_of_call x (es ++ e ∷ []))) refl
   where
     enough : (xs : List Entry) → nat_lt (length xs) (entries_of_call x xs) ≡ true → length (xs ++ e ∷ []) ≤ entries_of_call x (xs ++ e ∷ [])
@@ -38,8 +42,8 @@ at_due done cs x es e some = by_test (nat_lt (length (es ++ e ∷ [])) (entries_
         let below = ltb-true (length (y ∷ ys)) (entries_of_call x (y ∷ ys)) lt in
         let l = length-append (y ∷ ys) (e ∷ []) in
         omega (arith, same, below, l)
-    by_test : (b : Bool) → nat_lt (length (es ++ e ∷ [])) (entries_of_call x (es ++ e ∷ [])) ≡ b → Completes x done (complete done (x ∷ cs) (es ++ e ∷ []))
-    by_test true is = inl (ap (λ (b : Bool). cond b done (complete (x ∷ done) cs (drop (entries_of_call x (es ++ e ∷ [])) (es ++ e ∷ [])))) is)
+    by_test : (b : Bool) → nat_lt (length (es ++ e ∷ [])) (entries_of_call x (es ++ e ∷ [])) ≡ b → Completes x e done (complete done (x ∷ cs) (es ++ e ∷ []))
+    by_test true is = inl (ap (λ (b : Bool). cond b done (complete (x ∷ done) cs (drop (entries_of_call x (es ++ e ∷ [])) (es ++ e ∷ [])))) is, (es, is))
     by_test false is =
         let none : drop (entries_of_call x (es ++ e ∷ [])) (es ++ e ∷ []) ≡ [] = drop_of_length-le (es ++ e ∷ []) (enough es some) in
         inr (ap (λ (b : Bool). cond b done (complete (x ∷ done) cs (drop (entries_of_call x (es ++ e ∷ [])) (es ++ e ∷ [])))) is
@@ -61,22 +65,22 @@ past_any : (done cs : List Call) (x : Call) (es : List Entry) (e : Entry) → na
 past_any done cs x [] e full = absurd (let le = ltb-false 0 (entries_of_call x []) full in let one = makes_one x [] in omega (arith, le, one))
 past_any done cs x (y ∷ ys) e full = past_it done cs x y e ys full
 
-pub completes : (done cs : List Call) (es : List Entry) (e : Entry) (c : Call) (n : ℕ) → due_of cs es ≡ Some (c, n) → Completes c (complete done cs es) (complete done cs (es ++ e ∷ []))
+pub completes : (done cs : List Call) (es : List Entry) (e : Entry) (c : Call) (n : ℕ) → due_of cs es ≡ Some (c, n) → Completes c e (complete done cs es) (complete done cs (es ++ e ∷ []))
 completes done [] es e c n h = cc
 completes done (x ∷ cs) es e c n h = by_test (nat_lt (length es) (entries_of_call x es)) refl (λ g. completes (x ∷ done) cs (drop (entries_of_call x es) es) e c n g)
   where
     by_test : (b : Bool) → nat_lt (length es) (entries_of_call x es) ≡ b
-        → (due_of cs (drop (entries_of_call x es) es) ≡ Some (c, n) → Completes c (complete (x ∷ done) cs (drop (entries_of_call x es) es)) (complete (x ∷ done) cs (drop (entries_of_call x es) es ++ e ∷ [])))
-        → Completes c (complete done (x ∷ cs) es) (complete done (x ∷ cs) (es ++ e ∷ []))
+        → (due_of cs (drop (entries_of_call x es) es) ≡ Some (c, n) → Completes c e (complete (x ∷ done) cs (drop (entries_of_call x es) es)) (complete (x ∷ done) cs (drop (entries_of_call x es) es ++ e ∷ [])))
+        → Completes c e (complete done (x ∷ cs) es) (complete done (x ∷ cs) (es ++ e ∷ []))
     by_test true is deeper =
         let same = (same_call x c (length es) n (ap (λ (b : Bool). cond b (due_at x (length es)) (due_of cs (drop (entries_of_call x es) es))) (sym is) ∙ h)).0 in
         let was : complete done (x ∷ cs) es ≡ done = ap (λ (b : Bool). cond b done (complete (x ∷ done) cs (drop (entries_of_call x es) es))) is in
-        subst (λ (w : List Call). Completes c w (complete done (x ∷ cs) (es ++ e ∷ []))) (sym was) (subst (λ (y : Call). Completes y done (complete done (x ∷ cs) (es ++ e ∷ []))) same (at_due done cs x es e is))
+        subst (λ (w : List Call). Completes c e w (complete done (x ∷ cs) (es ++ e ∷ []))) (sym was) (subst (λ (y : Call). Completes y e done (complete done (x ∷ cs) (es ++ e ∷ []))) same (at_due done cs x es e is))
     by_test false is deeper =
         let n = deeper (ap (λ (b : Bool). cond b (due_at x (length es)) (due_of cs (drop (entries_of_call x es) es))) (sym is) ∙ h) in
         let was : complete done (x ∷ cs) es ≡ complete (x ∷ done) cs (drop (entries_of_call x es) es) = ap (λ (b : Bool). cond b done (complete (x ∷ done) cs (drop (entries_of_call x es) es))) is in
-        subst (λ (w : List Call). Completes c w (complete done (x ∷ cs) (es ++ e ∷ []))) (sym was)
-        (subst (λ (w : List Call). Completes c (complete (x ∷ done) cs (drop (entries_of_call x es) es)) w) (sym (past_any done cs x es e is)) n)
+        subst (λ (w : List Call). Completes c e w (complete done (x ∷ cs) (es ++ e ∷ []))) (sym was)
+        (subst (λ (w : List Call). Completes c e (complete (x ∷ done) cs (drop (entries_of_call x es) es)) w) (sym (past_any done cs x es e is)) n)
 
 -- ---- requests and frees by turns
 
