@@ -16,3 +16,5 @@ pub mod Masking
 pub mod EdgesKept
 pub mod Scripted
 pub mod WantedKept
+pub mod Unfinished
+pub mod LevelsKept

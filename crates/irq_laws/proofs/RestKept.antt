@@ -40,7 +40,7 @@ use Rattle.irq_laws.proofs.ImpliesDriver.{request_due, unlink_due, freed_due}
 
 -- ---- a test with false beside it
 
-no_part : (s : Bool) → (s && false) ≡ false
+pub no_part : (s : Bool) → (s && false) ≡ false
 no_part true = refl
 no_part false = refl
 
@@ -133,7 +133,7 @@ rest_parts false true u c h = cc
 rest_parts false false true c h = cc
 rest_parts false false false true h = cc
 
-parts_of : (past : List Entry) (d : DevNo) → (is_woken past d || (is_running past d || (is_unfinished past d || is_called past d))) ≡ false
+pub parts_of : (past : List Entry) (d : DevNo) → (is_woken past d || (is_running past d || (is_unfinished past d || is_called past d))) ≡ false
     → (is_woken past d ≡ false) × (is_running past d ≡ false) × (is_unfinished past d ≡ false) × (is_called past d ≡ false)
 parts_of past d h = rest_parts (is_woken past d) (is_running past d) (is_unfinished past d) (is_called past d) h
 
@@ -301,7 +301,7 @@ not_mismatch true m b3 b4 h = cc
 not_mismatch false true b3 b4 h = cc
 not_mismatch false false b3 b4 h = refl
 
-goes_with : (def : LineDef) (s : DriverNo) (x : DevNo) (flags : Flags) (opened : Opened) (past : List Entry) → IsDue def (entries.Request s x flags links.Linked opened) past → (d : DevNo) → is_linked past d ≡ true
+pub goes_with : (def : LineDef) (s : DriverNo) (x : DevNo) (flags : Flags) (opened : Opened) (past : List Entry) → IsDue def (entries.Request s x flags links.Linked opened) past → (d : DevNo) → is_linked past d ≡ true
     → (linking_flags past d).oneshot ≡ flags.oneshot
 goes_with def s x flags opened past due d there =
     let u = request_due def s x flags links.Linked opened past due in
@@ -310,7 +310,7 @@ goes_with def s x flags opened past due d there =
     agree flags.shared flags.shared (linking_flags past d).shared flags.oneshot (linking_flags past d).oneshot same
 
 -- nothing is being freed while the mutex is free
-none_freed : (def : LineDef) (past : List Entry) → Kept def past → holds_mutex past ≡ false → (d : DevNo) → is_being_freed past d ≡ false
+pub none_freed : (def : LineDef) (past : List Entry) → Kept def past → holds_mutex past ≡ false → (d : DevNo) → is_being_freed past d ≡ false
 none_freed def past k free d = false_from_ne_true (is_being_freed past d) (λ h. let f = k.frees.one_device d h in not_freeing past _ free f.1)
 
 flags_more : (def : LineDef) (e : Entry) (past : List Entry) → IsDue def e past → Kept def past → (d : DevNo) → (is_linked (e ∷ past) d || is_being_freed (e ∷ past) d) ≡ true → (linking_flags (e ∷ past) d).oneshot ≡ is_oneshot (e ∷ past)

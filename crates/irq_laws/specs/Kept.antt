@@ -17,7 +17,7 @@ use Rattle.irq_model.specs.Links.{is_linked, is_reset, base, is_deepening, is_lo
 use Rattle.irq_model.specs.Rounds.{has_flow, has_begun, at_work}
 use Rattle.irq_model.specs.Due.{calls_by, entries_by, entries_of_call, due_call}
 use Rattle.irq_model.specs.Valid.{requests_dev, frees_dev}
-use Rattle.irq_model.specs.Reason.{is_called, is_being_freed, ClearedIsNotCalled, UnlinkedIsAtRest, UnfinishedIsAtWork, FlagsAgree, EnabledIsStarted, EdgeFlowMaskIsPending, EoiEdgeIsOpen, EdgePendingHasFlow, DroppedIsPending}
+use Rattle.irq_model.specs.Reason.{is_called, is_being_freed, ClearedIsNotCalled, UnlinkedIsAtRest, UnfinishedIsAtWork, FlagsAgree, EnabledIsStarted, EdgeFlowMaskIsPending, EoiEdgeIsOpen, EdgePendingHasFlow, DroppedIsPending, LevelMaskIsHeld, EoiLevelMaskIsOneshot}
 
 -- the handler that is at work is the one that was called and hasn't returned, in the round of the flow
 pub record KeepsRuns (def : LineDef) (past : List Entry) : Type 0 where
@@ -95,3 +95,8 @@ pub record KeepsEdges (def : LineDef) (past : List Entry) : Type 0 where
   pub eoi_edge : EoiEdgeIsOpen def past
   pub pending : EdgePendingHasFlow def past
   pub dropped : DroppedIsPending def past
+
+-- why a level line is masked
+pub record KeepsLevels (def : LineDef) (past : List Entry) : Type 0 where
+  pub level : LevelMaskIsHeld def past
+  pub eoi_level : EoiLevelMaskIsOneshot def past
