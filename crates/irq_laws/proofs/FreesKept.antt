@@ -32,7 +32,7 @@ use Rattle.irq_laws.proofs.ImpliesDriver.{ask_due, request_due, unlink_due, free
 pub not_freeing : {P : Type 0} (past : List Entry) (f : DriverNo × DevNo) → holds_mutex past ≡ false → freeing past ≡ Some f → P
 not_freeing past f free is = both_ways (holds_mutex past) (freeing_holds past f is) free
 
-same_free : (past : List Entry) (r s : DriverNo) (d x : DevNo) → freeing past ≡ Some (r, d) → freeing past ≡ Some (s, x) → (r ≡ s) × (d ≡ x)
+pub same_free : (past : List Entry) (r s : DriverNo) (d x : DevNo) → freeing past ≡ Some (r, d) → freeing past ≡ Some (s, x) → (r ≡ s) × (d ≡ x)
 same_free past r s d x a b =
     let p : DriverNo × DevNo = (r, d) in
     let q : DriverNo × DevNo = (s, x) in

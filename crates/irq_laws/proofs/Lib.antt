@@ -18,3 +18,5 @@ pub mod Scripted
 pub mod WantedKept
 pub mod Unfinished
 pub mod LevelsKept
+pub mod ReasonLaws
+pub mod ScriptLaws

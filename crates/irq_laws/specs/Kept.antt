@@ -57,11 +57,6 @@ pub record KeepsRest (def : LineDef) (past : List Entry) : Type 0 where
   pub at_work : UnfinishedIsAtWork def past
   pub flags : FlagsAgree def past
 
-pub record Kept (def : LineDef) (past : List Entry) : Type 0 where
-  pub runs : KeepsRuns def past
-  pub frees : KeepsFrees def past
-  pub rest : KeepsRest def past
-
 -- the calls that are complete, the last first, before those of `done`
 abbrev pub complete : List Call → List Call → List Entry → List Call
 complete done [] es = done
@@ -100,3 +95,13 @@ pub record KeepsEdges (def : LineDef) (past : List Entry) : Type 0 where
 pub record KeepsLevels (def : LineDef) (past : List Entry) : Type 0 where
   pub level : LevelMaskIsHeld def past
   pub eoi_level : EoiLevelMaskIsOneshot def past
+
+-- all of it, together
+pub record Kept (def : LineDef) (past : List Entry) : Type 0 where
+  pub runs : KeepsRuns def past
+  pub frees : KeepsFrees def past
+  pub rest : KeepsRest def past
+  pub wanted : LinkedIsWanted def past
+  pub depth : KeepsDepth def past
+  pub edges : KeepsEdges def past
+  pub levels : KeepsLevels def past

@@ -7,8 +7,10 @@ ghost use Rattle.std.specs.Prelude.{List};
 ghost use Rattle.irq_base.specs.declared.lines.LineDef.{LineDef};
 ghost use Rattle.irq_base.specs.declared.entries.Entry.{Entry};
 ghost use Rattle.irq_model.specs.Laws.{NoOverlap, IsSilentAfterFree, KeepsOneshot, IsSynchronised};
-ghost use Rattle.irq_model.specs.Legal.{IsLegal};
+ghost use Rattle.irq_model.specs.Legal.{IsLegal, IsLegalPast};
+ghost use Rattle.irq_model.specs.Reason.{HasReason, OneIsCalled, OneIsFreed};
 ghost use Rattle.irq_model.specs.Valid.{IsValid};
+ghost use Rattle.irq_laws.specs.Kept.{Kept};
 
 /// No overlap: a device's handler is called only where it isn't at work, and its thread's run begins only where
 /// it isn't in one.
@@ -36,5 +38,33 @@ pub fn keeps_oneshot()
 #[tactic(auto, using(crate::proofs::RunLaws::synchronised))]
 pub fn synchronised()
     ensures law { (def : LineDef) (h : List Entry) → IsValid def → IsLegal def h → IsSynchronised def h }
+{
+}
+
+/// A started line with linked devices is masked for a reason: it is disabled, or a flow is in progress, or on a
+/// level line a thread isn't finished.
+#[tactic(auto, using(crate::proofs::ReasonLaws::has_reason))]
+pub fn has_reason()
+    ensures law { (def : LineDef) (h : List Entry) → IsValid def → IsLegal def h → HasReason def h }
+{
+}
+
+/// What every entry keeps holds of every legal past, whose newest entry comes first.
+pub fn kept()
+    ensures law { (def : LineDef) (past : List Entry) → IsValid def → IsLegalPast def past → Kept def past }
+{
+}
+
+/// At most one handler is at work, and it was called in the round of the flow that is there.
+#[tactic(auto, using(crate::proofs::ReasonLaws::one_is_called))]
+pub fn one_is_called()
+    ensures law { (def : LineDef) (past : List Entry) → IsValid def → IsLegalPast def past → OneIsCalled def past }
+{
+}
+
+/// At most one device is being freed, and the request mutex is held exactly while one is.
+#[tactic(auto, using(crate::proofs::ReasonLaws::one_is_freed))]
+pub fn one_is_freed()
+    ensures law { (def : LineDef) (past : List Entry) → IsValid def → IsLegalPast def past → OneIsFreed def past }
 {
 }
