@@ -9,6 +9,7 @@ ghost use Rattle.irq_base.specs.declared.entries.Entry.{Entry};
 ghost use Rattle.irq_model.specs.Laws.{NoOverlap, IsSilentAfterFree, KeepsOneshot, IsSynchronised};
 ghost use Rattle.irq_model.specs.Legal.{IsLegal, IsLegalPast};
 ghost use Rattle.irq_model.specs.Reason.{HasReason, OneIsCalled, OneIsFreed};
+ghost use Rattle.irq_model.specs.Scripts.{FollowsScripts};
 ghost use Rattle.irq_model.specs.Valid.{IsValid};
 ghost use Rattle.irq_laws.specs.Kept.{Kept};
 
@@ -46,6 +47,13 @@ pub fn synchronised()
 #[tactic(auto, using(crate::proofs::ReasonLaws::has_reason))]
 pub fn has_reason()
     ensures law { (def : LineDef) (h : List Entry) → IsValid def → IsLegal def h → HasReason def h }
+{
+}
+
+/// Each driver's entries are those of its calls, in the order of its script, each once.
+#[tactic(auto, using(crate::proofs::ScriptLaws::follows_scripts))]
+pub fn follows_scripts()
+    ensures law { (def : LineDef) (h : List Entry) → IsLegal def h → FollowsScripts def h }
 {
 }
 
