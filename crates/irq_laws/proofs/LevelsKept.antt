@@ -1,7 +1,6 @@
 -- Each entry keeps: why a level line is masked.
-use Rattle.std.proofs.Common.{◌≡◌, ℕ, ◌⊎◌, inl, inr, Bool, true, false, not, ◌||◌, ◌&&◌, cond, Some, None, is_some, List, [], ◌∷◌, filter, refl, sym, ap, ◌∙◌, subst, arith}
-use Rattle.std.proofs.lemmas.Bool.{and_parts, and_from, and_right, or_cases, or_left, or_right, or_from, or_parts, false_from_ne_true}
-use Rattle.irq_base.specs.declared.numbers.CpuNo.{CpuNo}
+use Rattle.std.proofs.Common.{◌≡◌, ◌⊎◌, inl, inr, Bool, true, false, not, ◌||◌, ◌&&◌, cond, is_some, List, [], ◌∷◌, filter, refl, sym, ap, ◌∙◌, subst, arith}
+use Rattle.std.proofs.lemmas.Bool.{and_parts, or_cases, or_left, or_right}
 use Rattle.irq_base.specs.declared.numbers.DevNo.{DevNo}
 use Rattle.irq_base.specs.declared.numbers.DriverNo.{DriverNo}
 use Rattle.irq_base.specs.declared.calls.Flags.{Flags}
@@ -17,11 +16,11 @@ use Rattle.irq_base.specs.declared.entries.Errno.{Errno}
 use Rattle.irq_base.specs.declared.entries.Opened.{Opened}
 use Rattle.irq_base.specs.declared.entries.Note.{Note}
 use Rattle.irq_model.specs.Kinds.{is_take, is_start, same_dev}
-use Rattle.irq_model.specs.Lines.{is_edge_line, is_level_line, is_edge_flow, is_level_flow, is_eoi_flow}
-use Rattle.irq_model.specs.Links.{depth, linked, requested, is_linked, is_none_linked, is_empty, is_disabled, is_oneshot, linking_flags}
+use Rattle.irq_model.specs.Lines.{is_edge_line, is_level_line, is_edge_flow, is_eoi_flow}
+use Rattle.irq_model.specs.Links.{depth, requested, is_linked, is_none_linked, is_empty, is_disabled, is_oneshot}
 use Rattle.irq_model.specs.Masks.{is_masked}
 use Rattle.irq_model.specs.Rounds.{flow, has_flow}
-use Rattle.irq_model.specs.Threads.{is_woken, is_running, is_unfinished, is_some_unfinished, is_other_unfinished}
+use Rattle.irq_model.specs.Threads.{is_woken, is_unfinished, is_some_unfinished, is_other_unfinished}
 use Rattle.irq_model.specs.Spurious.{note_of}
 use Rattle.irq_model.specs.Next.{is_off_now}
 use Rattle.irq_model.specs.Legal.{IsDue}
@@ -62,6 +61,7 @@ level_plain def e past due kd k plain stays level m zero = by_case (enabled_befo
     by_held : (has_flow def past ≡ true) ⊎ (is_some_unfinished def past ≡ true) → (has_flow def (e ∷ past) || is_some_unfinished def (e ∷ past)) ≡ true
     by_held (inl f) = or_left _ _ (flow_same def e past plain ∙ f)
     by_held (inr u) = or_right _ _ (stays u)
+
     by_case : (is_start e ≡ true) ⊎ StaysEnabled e past → (has_flow def (e ∷ past) || is_some_unfinished def (e ∷ past)) ≡ true
     by_case (inl starts) = both_ways (is_masked def (e ∷ past)) m (start_opens def e past starts)
     by_case (inr q) = by_held (or_cases _ _ (k level (masked_before def e past plain.no_take q m).0 q.was))
@@ -76,9 +76,11 @@ request_stays def s x flags opened past valid due k w h =
     idle =
         let u = request_due def s x flags links.Linked opened past due in
         (parts_of past x (k.rest.at_rest x (requested_unlinked def s x flags u.count past valid w u.call) (none_freed def past k u.no_mutex x))).2
+
     by_test : (d : DevNo) → is_unfinished past d ≡ true → (b : Bool) → same_dev d x ≡ b → is_unfinished (entries.Request s x flags links.Linked opened ∷ past) d ≡ true
     by_test d is true same = both_ways (is_unfinished past d) is (subst (λ (y : DevNo). is_unfinished past y ≡ false) (sym (dev_from_same d x same)) idle)
     by_test d is false other = rw other is
+
     at_dev : (d : DevNo) → is_unfinished past d ≡ true → is_unfinished (entries.Request s x flags links.Linked opened ∷ past) d ≡ true
     at_dev d is = by_test d is (same_dev d x) refl
 

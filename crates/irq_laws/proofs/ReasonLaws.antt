@@ -1,5 +1,5 @@
 -- Why a line is masked, and the parts of the reasons that are read off what every entry keeps.
-use Rattle.std.proofs.Common.{◌≡◌, ℕ, ◌⊎◌, inl, inr, Bool, true, false, not, ◌||◌, ◌&&◌, Some, None, List, [], ◌∷◌, reverse, refl, sym, ap, ◌∙◌, subst, arith}
+use Rattle.std.proofs.Common.{◌≡◌, ◌⊎◌, inl, inr, Bool, true, false, not, ◌||◌, ◌&&◌, Some, List, [], ◌∷◌, reverse, refl, sym, ap, ◌∙◌, subst, arith}
 use Rattle.std.proofs.lemmas.Bool.{and_from, or_cases, or_left, or_right}
 use Rattle.irq_base.specs.declared.numbers.DevNo.{DevNo}
 use Rattle.irq_base.specs.declared.numbers.DriverNo.{DriverNo}
@@ -11,12 +11,11 @@ use Rattle.irq_base.specs.declared.entries.Entry.TheVariants as entries
 use Rattle.irq_base.specs.declared.entries.UnlinkAnswer.TheVariants as unlinks
 use Rattle.irq_model.specs.Kinds.{same_dev}
 use Rattle.irq_model.specs.Lines.{is_edge_line, is_level_line, is_edge_flow, is_level_flow, is_eoi_flow}
-use Rattle.irq_model.specs.Links.{depth, is_disabled, is_started, is_none_linked}
+use Rattle.irq_model.specs.Links.{depth, is_disabled}
 use Rattle.irq_model.specs.Masks.{is_masked}
 use Rattle.irq_model.specs.Rounds.{has_flow}
 use Rattle.irq_model.specs.Threads.{is_some_unfinished}
-use Rattle.irq_model.specs.Due.{holds_mutex}
-use Rattle.irq_model.specs.Reason.{is_called, is_being_freed, HasReason, HasReasonPast, OneIsCalled, OneIsFreed}
+use Rattle.irq_model.specs.Reason.{is_being_freed, HasReason, OneIsCalled, OneIsFreed}
 use Rattle.irq_model.specs.Legal.{IsLegal, IsLegalPast}
 use Rattle.irq_model.specs.Valid.{IsValid}
 use Rattle.irq_steps.proofs.Same.{same_self}
@@ -42,9 +41,11 @@ reason def past valid k m = by_disabled (is_disabled past) refl
     by_held : is_edge_line def ≡ false → (has_flow def past ≡ true) ⊎ (is_some_unfinished def past ≡ true) → (is_disabled past || (has_flow def past || (is_level_line def && is_some_unfinished def past))) ≡ true
     by_held level (inl f) = or_right (is_disabled past) _ (or_left (has_flow def past) _ f)
     by_held level (inr u) = or_right (is_disabled past) _ (or_right (has_flow def past) _ (and_from _ _ (ap not level) u))
+
     by_line : (b : Bool) → is_edge_line def ≡ b → depth past ≡ 0 → (is_disabled past || (has_flow def past || (is_level_line def && is_some_unfinished def past))) ≡ true
     by_line true edge zero = or_right (is_disabled past) _ (or_left (has_flow def past) _ (edge_reason def def.flow past valid k edge refl m zero))
     by_line false level zero = by_held level (or_cases _ _ (k.levels.level (ap not level) m zero))
+
     by_disabled : (b : Bool) → is_disabled past ≡ b → (is_disabled past || (has_flow def past || (is_level_line def && is_some_unfinished def past))) ≡ true
     by_disabled true is = or_left (is_disabled past) _ is
     by_disabled false is = by_line (is_edge_line def) refl (zero_depth past is)

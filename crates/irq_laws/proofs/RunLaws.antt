@@ -1,6 +1,6 @@
 -- No overlap, silence after free, synchronised calls, and the one-shot promise.
-use Rattle.std.proofs.Common.{◌≡◌, ℕ, ◌+◌, ◌⊎◌, inl, inr, Bool, true, false, not, ◌||◌, ◌&&◌, Some, None, List, [], ◌∷◌, reverse, refl, sym, ap, ◌∙◌, subst, arith}
-use Rattle.std.proofs.lemmas.Bool.{and_parts, or_parts, or_from, or_left, or_right, false_from_ne_true, not-true}
+use Rattle.std.proofs.Common.{◌≡◌, ℕ, ◌+◌, Bool, true, false, not, ◌||◌, ◌&&◌, List, ◌∷◌, reverse, refl, sym, ap, ◌∙◌, subst, arith}
+use Rattle.std.proofs.lemmas.Bool.{and_parts, or_from, or_left, false_from_ne_true}
 use Rattle.std.specs.List.{list_any}
 use Rattle.irq_base.specs.declared.numbers.DevNo.{DevNo}
 use Rattle.irq_base.specs.declared.devices.DeviceDef.{DeviceDef}
@@ -10,14 +10,14 @@ use Rattle.irq_base.specs.declared.lines.LineDef.{LineDef}
 use Rattle.irq_base.specs.declared.entries.Entry.{Entry}
 use Rattle.irq_base.specs.declared.entries.Entry.TheVariants as entries
 use Rattle.irq_base.specs.declared.entries.Note.{Note}
-use Rattle.irq_model.specs.Places.{stands, since, count_of}
-use Rattle.irq_model.specs.Kinds.{same_dev, is_begin, is_thread_begin, is_hard_clear, is_synced, is_freed, links_dev, wakes, is_cleared_finish, is_reopening}
+use Rattle.irq_model.specs.Places.{stands}
+use Rattle.irq_model.specs.Kinds.{same_dev, is_begin, is_thread_begin, is_hard_clear, is_synced, is_freed, links_dev, is_reopening}
 use Rattle.irq_model.specs.Lines.{is_device, is_edge_line, is_level_line, is_edge_flow}
-use Rattle.irq_model.specs.Links.{is_linked, is_disabled, is_oneshot, linking_flags}
+use Rattle.irq_model.specs.Links.{is_linked, is_disabled, is_oneshot}
 use Rattle.irq_model.specs.Masks.{is_masked}
 use Rattle.irq_model.specs.Spurious.{note_of}
 use Rattle.irq_model.specs.Next.{is_off_now}
-use Rattle.irq_model.specs.Threads.{is_woken, is_running, is_unfinished, is_some_unfinished, is_other_unfinished, active_count}
+use Rattle.irq_model.specs.Threads.{is_woken, is_running, is_some_unfinished, is_other_unfinished, active_count}
 use Rattle.irq_model.specs.Reason.{is_called, is_being_freed}
 use Rattle.irq_model.specs.Legal.{IsDue, IsLegal}
 use Rattle.irq_model.specs.Laws.{NoOverlap, IsSilentAfterFree, IsSynchronised, KeepsOneshot, is_run_of}

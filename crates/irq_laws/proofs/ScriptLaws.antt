@@ -1,5 +1,5 @@
 -- Each driver's entries are those of its calls, in the order of its script, each once.
-use Rattle.std.proofs.Common.{◌≡◌, ℕ, zero, suc, ◌+◌, ◌<◌, ◌≤◌, ◌==◌, ◌⊎◌, inl, inr, Bool, true, false, not, ◌||◌, ◌&&◌, cond, Some, None, List, [], ◌∷◌, ◌++◌, filter, reverse, length, drop, nat_lt, refl, sym, ap, ◌∙◌, subst, arith, length-append, drop_of_length-le, append_assoc, append-nil}
+use Rattle.std.proofs.Common.{◌≡◌, ℕ, ◌<◌, ◌≤◌, ◌==◌, ◌⊎◌, inl, inr, Bool, true, false, cond, Some, List, [], ◌∷◌, ◌++◌, filter, reverse, length, drop, nat_lt, refl, sym, ap, ◌∙◌, subst, arith, length-append, drop_of_length-le, append_assoc, append-nil}
 use Rattle.std.proofs.lemmas.List.{drop_at}
 use Rattle.std.proofs.lemmas.Bool.{ltb-true, ltb-false, eqb-false}
 use Rattle.irq_base.specs.declared.numbers.DevNo.{DevNo}
@@ -24,7 +24,6 @@ use Rattle.irq_model.specs.Kinds.{same_driver, is_by_driver}
 use Rattle.irq_model.specs.Due.{calls_by, entries_by, begins_not_there, entries_of_call, due_of, due_call}
 use Rattle.irq_model.specs.Scripts.{MakesAll, MakesSome, AreMadeBy, FollowsScriptsPast, FollowsScripts}
 use Rattle.irq_model.specs.Legal.{IsDue, IsLegal, IsLegalPast}
-use Rattle.irq_model.specs.Valid.{IsValid}
 use Rattle.irq_steps.proofs.Same.{driver_from_same}
 use Rattle.irq_laws.proofs.Progress.{makes_one, same_count, same_call, due_at, entries_more}
 use Rattle.irq_laws.proofs.ImpliesDriver.{ask_due, request_due, unlink_due, freed_due, disable_due, hard_clear_due, synced_due, enable_due, affinity_due, moment_due}

@@ -1,6 +1,6 @@
 -- The complete calls of a script, and that no two requests of a device stand without a free between them.
-use Rattle.std.proofs.Common.{◌≡◌, ℕ, zero, suc, ◌+◌, ◌<◌, ◌≤◌, ◌⊎◌, inl, inr, Bool, true, false, not, ◌||◌, ◌&&◌, cond, Option, Some, None, List, [], ◌∷◌, ◌++◌, length, drop, nat_lt, slice_get, refl, sym, ap, ◌∙◌, subst, arith, length-append, drop_of_length-le}
-use Rattle.std.proofs.lemmas.Bool.{or_right, and_parts, ltb-false, ltb-true, lt-ltb, le-ltb, false_from_ne_true}
+use Rattle.std.proofs.Common.{◌≡◌, ℕ, zero, suc, ◌<◌, ◌≤◌, ◌⊎◌, inl, inr, Bool, true, false, ◌||◌, cond, Option, Some, List, [], ◌∷◌, ◌++◌, length, drop, nat_lt, slice_get, refl, sym, ap, ◌∙◌, subst, arith, length-append, drop_of_length-le}
+use Rattle.std.proofs.lemmas.Bool.{or_right, ltb-false, ltb-true, lt-ltb, le-ltb, false_from_ne_true}
 use Rattle.std.proofs.lemmas.List.{drop-append-le}
 use Rattle.irq_base.specs.declared.numbers.DevNo.{DevNo}
 use Rattle.irq_base.specs.declared.numbers.DriverNo.{DriverNo}
@@ -9,12 +9,12 @@ use Rattle.irq_base.specs.declared.entries.Entry.{Entry}
 use Rattle.irq_model.specs.Places.{stands}
 use Rattle.irq_model.specs.Kinds.{same_driver}
 use Rattle.irq_model.specs.Due.{calls_by, entries_of_call, due_of}
-use Rattle.irq_model.specs.Valid.{requests_dev, frees_dev, HasOneOwner, IsFreedBetween}
+use Rattle.irq_model.specs.Valid.{requests_dev, frees_dev, IsFreedBetween}
 use Rattle.irq_steps.proofs.Same.{driver_from_same, same_self_driver}
 use Rattle.irq_laws.specs.Kept.{complete}
 use Rattle.irq_laws.proofs.Chosen.{chosen, the_same}
-use Rattle.irq_laws.proofs.Lists.{both_ways, stands_cases, differs_driver}
-use Rattle.irq_laws.proofs.Progress.{makes_one, same_count, passes, same_call, due_at}
+use Rattle.irq_laws.proofs.Lists.{both_ways, stands_cases}
+use Rattle.irq_laws.proofs.Progress.{makes_one, same_count, same_call, due_at}
 
 -- ---- one more entry
 
@@ -42,6 +42,7 @@ at_due done cs x es e some = by_test (nat_lt (length (es ++ e ∷ [])) (entries_
         let below = ltb-true (length (y ∷ ys)) (entries_of_call x (y ∷ ys)) lt in
         let l = length-append (y ∷ ys) (e ∷ []) in
         omega (arith, same, below, l)
+
     by_test : (b : Bool) → nat_lt (length (es ++ e ∷ [])) (entries_of_call x (es ++ e ∷ [])) ≡ b → Completes x e done (complete done (x ∷ cs) (es ++ e ∷ []))
     by_test true is = inl (ap (λ (b : Bool). cond b done (complete (x ∷ done) cs (drop (entries_of_call x (es ++ e ∷ [])) (es ++ e ∷ [])))) is, (es, is))
     by_test false is =
@@ -101,6 +102,7 @@ between_tail x cs d between i j a b lt at bt ra rb = shifted (between (suc i) (s
     at_place : (k : ℕ) (c : DriverNo × Call) → suc i < k → k < suc j → slice_get (x ∷ cs) k ≡ Some c → frees_dev d c.1 ≡ true → (k : ℕ) × (c : DriverNo × Call) × (i < k) × (k < j) × (slice_get cs k ≡ Some c) × (frees_dev d c.1 ≡ true)
     at_place zero c low high there frees = absurd (omega (arith, low))
     at_place (suc k) c low high there frees = (k, c, omega (arith, low), omega (arith, high), there, frees)
+
     shifted : (k : ℕ) × (c : DriverNo × Call) × (suc i < k) × (k < suc j) × (slice_get (x ∷ cs) k ≡ Some c) × (frees_dev d c.1 ≡ true) → (k : ℕ) × (c : DriverNo × Call) × (i < k) × (k < j) × (slice_get cs k ≡ Some c) × (frees_dev d c.1 ≡ true)
     shifted h = at_place h.0 h.1 h.2 h.3 h.4 h.5
 
@@ -111,6 +113,7 @@ first_tail x cs r d first differs j b at is = shifted (first (suc j) b at is)
     at_place : (k : ℕ) (c : DriverNo × Call) → k < suc j → slice_get (x ∷ cs) k ≡ Some c → frees_dev d c.1 ≡ true → (k : ℕ) × (c : DriverNo × Call) × (k < j) × (slice_get cs k ≡ Some c) × (frees_dev d c.1 ≡ true)
     at_place zero c high there frees = absurd (differs (subst (λ (y : DriverNo × Call). frees_dev d y.1 ≡ true) (sym (the_same x c there)) frees))
     at_place (suc k) c high there frees = (k, c, omega (arith, high), there, frees)
+
     shifted : (k : ℕ) × (c : DriverNo × Call) × (k < suc j) × (slice_get (x ∷ cs) k ≡ Some c) × (frees_dev d c.1 ≡ true) → (k : ℕ) × (c : DriverNo × Call) × (k < j) × (slice_get cs k ≡ Some c) × (frees_dev d c.1 ≡ true)
     shifted h = at_place h.0 h.1 h.2 h.3 h.4
 
@@ -121,6 +124,7 @@ first_behind x cs r d between now j b at is = shifted (between zero (suc j) x b 
     at_place : (k : ℕ) (c : DriverNo × Call) → zero < k → k < suc j → slice_get (x ∷ cs) k ≡ Some c → frees_dev d c.1 ≡ true → (k : ℕ) × (c : DriverNo × Call) × (k < j) × (slice_get cs k ≡ Some c) × (frees_dev d c.1 ≡ true)
     at_place zero c low high there frees = absurd (omega (arith, low))
     at_place (suc k) c low high there frees = (k, c, omega (arith, high), there, frees)
+
     shifted : (k : ℕ) × (c : DriverNo × Call) × (zero < k) × (k < suc j) × (slice_get (x ∷ cs) k ≡ Some c) × (frees_dev d c.1 ≡ true) → (k : ℕ) × (c : DriverNo × Call) × (k < j) × (slice_get cs k ≡ Some c) × (frees_dev d c.1 ≡ true)
     shifted h = at_place h.0 h.1 h.2 h.3 h.4 h.5
 
@@ -137,6 +141,7 @@ unrequested r d (x ∷ cs) done es c n own between first due now =
         by_call : (requests_dev d x.1 ≡ true) ⊎ ((frees_dev d x.1 ≡ false) × (stands (requests_dev d) (frees_dev d) done ≡ true)) → FreedFirst cs r d
         by_call (inl is) = first_behind x cs r d between is
         by_call (inr h) = first_tail x cs r d (first h.1) (λ f. both_ways (frees_dev d x.1) f h.0)
+
     by_test : (b : Bool) → nat_lt (length es) (entries_of_call x.1 es) ≡ b → due_of (x.1 ∷ calls_by r cs) es ≡ Some (c, n)
         → ((more : List Call) (es : List Entry) → (stands (requests_dev d) (frees_dev d) more ≡ true → FreedFirst cs r d) → due_of (calls_by r cs) es ≡ Some (c, n) → stands (requests_dev d) (frees_dev d) (complete more (calls_by r cs) es) ≡ false)
         → stands (requests_dev d) (frees_dev d) (complete done (x.1 ∷ calls_by r cs) es) ≡ false
@@ -148,6 +153,7 @@ unrequested r d (x ∷ cs) done es c n own between first due now =
     by_test false is due deeper =
         ap (λ (b : Bool). stands (requests_dev d) (frees_dev d) (cond b done (complete (x.1 ∷ done) (calls_by r cs) (drop (entries_of_call x.1 es) es)))) is
         ∙ deeper (x.1 ∷ done) (drop (entries_of_call x.1 es) es) later (ap (λ (b : Bool). cond b (due_at x.1 (length es)) (due_of (calls_by r cs) (drop (entries_of_call x.1 es) es))) (sym is) ∙ due)
+
     by_driver : (b : Bool) → same_driver r x.0 ≡ b
         → ((more : List Call) (es : List Entry) → (stands (requests_dev d) (frees_dev d) more ≡ true → FreedFirst cs r d) → due_of (calls_by r cs) es ≡ Some (c, n) → stands (requests_dev d) (frees_dev d) (complete more (calls_by r cs) es) ≡ false)
         → stands (requests_dev d) (frees_dev d) (complete done (calls_by r (x ∷ cs)) es) ≡ false
@@ -183,6 +189,7 @@ place_of r (x ∷ cs) es c n h = by_driver (same_driver r x.0) refl (λ es g. pl
         → ((es : List Entry) → due_of (calls_by r cs) es ≡ Some (c, n) → Place cs r c) → Place (x ∷ cs) r c
     by_test mine (inl now) deeper = record { place = zero; call = x; there = refl; own = mine; is = (same_call x.1 c (length es) n now.1).0 }
     by_test mine (inr more) deeper = behind x cs r c (deeper (drop (entries_of_call x.1 es) es) more.1)
+
     by_driver : (b : Bool) → same_driver r x.0 ≡ b → ((es : List Entry) → due_of (calls_by r cs) es ≡ Some (c, n) → Place cs r c) → Place (x ∷ cs) r c
     by_driver true is deeper =
         by_test (sym (driver_from_same r x.0 is)) (chosen (nat_lt (length es) (entries_of_call x.1 es)) (due_at x.1 (length es)) (due_of (calls_by r cs) (drop (entries_of_call x.1 es) es)) (c, n) (ap (λ (b : Bool). due_of (cond b (x.1 ∷ calls_by r cs) (calls_by r cs)) es) (sym is) ∙ h)) deeper

@@ -1,6 +1,6 @@
 -- Each entry keeps: a linked device is wanted, so that no request of it is due.
-use Rattle.std.proofs.Common.{◌≡◌, ℕ, suc, ◌+◌, ◌<◌, ◌==◌, ◌⊎◌, inl, inr, Bool, true, false, not, ◌||◌, ◌&&◌, cond, Some, None, List, [], ◌∷◌, ◌++◌, filter, reverse, length, nat_lt, slice_get, refl, sym, ap, ◌∙◌, subst, arith, length-append}
-use Rattle.std.proofs.lemmas.Bool.{and_parts, and_from, or_cases, or_left, or_right, not-true, ltb-true, false_from_ne_true}
+use Rattle.std.proofs.Common.{◌≡◌, ℕ, ◌==◌, ◌⊎◌, inl, inr, Bool, true, false, not, ◌||◌, ◌&&◌, cond, Some, List, [], ◌∷◌, ◌++◌, filter, reverse, length, refl, sym, ap, ◌∙◌, subst, arith, length-append}
+use Rattle.std.proofs.lemmas.Bool.{and_parts, and_from, or_cases, or_left, or_right, ltb-true, false_from_ne_true}
 use Rattle.irq_base.specs.declared.numbers.DevNo.{DevNo}
 use Rattle.irq_base.specs.declared.numbers.DriverNo.{DriverNo}
 use Rattle.irq_base.specs.declared.calls.Call.{Call}
@@ -9,9 +9,7 @@ use Rattle.irq_base.specs.declared.calls.Flags.{Flags}
 use Rattle.irq_base.specs.declared.lines.LineDef.{LineDef}
 use Rattle.irq_base.specs.declared.entries.Entry.{Entry}
 use Rattle.irq_base.specs.declared.entries.Entry.TheVariants as entries
-use Rattle.irq_base.specs.declared.entries.LinkAnswer.{LinkAnswer}
 use Rattle.irq_base.specs.declared.entries.LinkAnswer.TheVariants as links
-use Rattle.irq_base.specs.declared.entries.Opened.{Opened}
 use Rattle.irq_base.specs.declared.entries.UnlinkAnswer.TheVariants as unlinks
 use Rattle.irq_model.specs.Places.{stands}
 use Rattle.irq_model.specs.Kinds.{same_dev, same_driver, is_by_driver}
@@ -23,9 +21,9 @@ use Rattle.irq_steps.proofs.Same.{same_self, same_self_driver, dev_from_same, dr
 use Rattle.irq_laws.specs.Kept.{KeepsFrees, Wanted, LinkedIsWanted, complete, complete_by, freeing}
 use Rattle.irq_laws.proofs.Lists.{both_ways}
 use Rattle.irq_laws.proofs.Progress.{entries_more}
-use Rattle.irq_laws.proofs.Scripted.{Completes, GoesOn, completes, unrequested, place_of}
+use Rattle.irq_laws.proofs.Scripted.{Completes, completes, unrequested, place_of}
 use Rattle.irq_laws.proofs.FreesKept.{freed_is}
-use Rattle.irq_laws.proofs.ImpliesDriver.{ask_due, request_due, unlink_due, freed_due, disable_due, hard_clear_due, synced_due, enable_due, affinity_due, moment_due}
+use Rattle.irq_laws.proofs.ImpliesDriver.{ask_due, request_due, unlink_due, disable_due, hard_clear_due, synced_due, enable_due, affinity_due, moment_due}
 
 -- ---- the complete calls after one more entry
 
@@ -44,6 +42,7 @@ stays_wanted def r s e past c n d by was other h = by_driver (same_driver r s) r
     by_case : Completes c e (complete_by def r past) (complete_by def r (e ∷ past)) → stands (requests_dev d) (frees_dev d) (complete_by def r (e ∷ past)) ≡ true
     by_case (inl same) = ap (λ (xs : List Call). stands (requests_dev d) (frees_dev d) xs) same.0 ∙ h
     by_case (inr more) = ap (λ (xs : List Call). stands (requests_dev d) (frees_dev d) xs) more ∙ or_right (requests_dev d c) _ (and_from _ _ (ap not other) h)
+
     by_driver : (b : Bool) → same_driver r s ≡ b → stands (requests_dev d) (frees_dev d) (complete_by def r (e ∷ past)) ≡ true
     by_driver true same = by_case (own_complete def r e past c n (by ∙ same) (subst (λ (t : DriverNo). due_call def t past ≡ Some (c, n)) (sym (driver_from_same r s same)) was))
     by_driver false differs = ap (λ (xs : List Call). stands (requests_dev d) (frees_dev d) xs) (other_complete def r e past (by ∙ differs)) ∙ h

@@ -18,61 +18,52 @@ ghost use Rattle.irq_laws.specs.Kept.{Kept};
 #[tactic(auto, using(crate::proofs::RunLaws::no_overlap))]
 pub fn no_overlap()
     ensures law { (def : LineDef) (h : List Entry) → IsValid def → IsLegal def h → NoOverlap def h }
-{
-}
+{}
 
 /// Silence after free: no run of a device comes after its free before it is linked again.
 #[tactic(auto, using(crate::proofs::RunLaws::silent_after_free))]
 pub fn silent_after_free()
     ensures law { (def : LineDef) (h : List Entry) → IsValid def → IsLegal def h → IsSilentAfterFree def h }
-{
-}
+{}
 
 /// The one-shot promise: where an end or a finish opens a level line, no thread is unfinished.
 #[tactic(auto, using(crate::proofs::RunLaws::keeps_oneshot))]
 pub fn keeps_oneshot()
     ensures law { (def : LineDef) (h : List Entry) → IsValid def → IsLegal def h → KeepsOneshot def h }
-{
-}
+{}
 
 /// Synchronised calls: a hard clear comes where no handler is at work, a sync's end where no thread is.
 #[tactic(auto, using(crate::proofs::RunLaws::synchronised))]
 pub fn synchronised()
     ensures law { (def : LineDef) (h : List Entry) → IsValid def → IsLegal def h → IsSynchronised def h }
-{
-}
+{}
 
 /// A started line with linked devices is masked for a reason: it is disabled, or a flow is in progress, or on a
 /// level line a thread isn't finished.
 #[tactic(auto, using(crate::proofs::ReasonLaws::has_reason))]
 pub fn has_reason()
     ensures law { (def : LineDef) (h : List Entry) → IsValid def → IsLegal def h → HasReason def h }
-{
-}
+{}
 
 /// Each driver's entries are those of its calls, in the order of its script, each once.
 #[tactic(auto, using(crate::proofs::ScriptLaws::follows_scripts))]
 pub fn follows_scripts()
     ensures law { (def : LineDef) (h : List Entry) → IsLegal def h → FollowsScripts def h }
-{
-}
+{}
 
 /// What every entry keeps holds of every legal past, whose newest entry comes first.
 pub fn kept()
     ensures law { (def : LineDef) (past : List Entry) → IsValid def → IsLegalPast def past → Kept def past }
-{
-}
+{}
 
 /// At most one handler is at work, and it was called in the round of the flow that is there.
 #[tactic(auto, using(crate::proofs::ReasonLaws::one_is_called))]
 pub fn one_is_called()
     ensures law { (def : LineDef) (past : List Entry) → IsValid def → IsLegalPast def past → OneIsCalled def past }
-{
-}
+{}
 
 /// At most one device is being freed, and the request mutex is held exactly while one is.
 #[tactic(auto, using(crate::proofs::ReasonLaws::one_is_freed))]
 pub fn one_is_freed()
     ensures law { (def : LineDef) (past : List Entry) → IsValid def → IsLegalPast def past → OneIsFreed def past }
-{
-}
+{}
