@@ -20,3 +20,5 @@ pub mod Unfinished
 pub mod LevelsKept
 pub mod ReasonLaws
 pub mod ScriptLaws
+pub mod Owing
+pub mod CoverLaws
