@@ -8,6 +8,7 @@ ghost use Rattle.irq_base.specs.declared.lines.LineDef.{LineDef};
 ghost use Rattle.irq_base.specs.declared.entries.Entry.{Entry};
 ghost use Rattle.irq_model.specs.Laws.{NoOverlap, IsSilentAfterFree, KeepsOneshot, IsSynchronised};
 ghost use Rattle.irq_model.specs.Legal.{IsLegal, IsLegalPast};
+ghost use Rattle.irq_model.specs.Owed.{IsCovered};
 ghost use Rattle.irq_model.specs.Reason.{HasReason, OneIsCalled, OneIsFreed};
 ghost use Rattle.irq_model.specs.Scripts.{FollowsScripts};
 ghost use Rattle.irq_model.specs.Valid.{IsValid};
@@ -44,6 +45,14 @@ pub fn synchronised()
 pub fn has_reason()
     ensures law { (def : LineDef) (h : List Entry) → IsValid def → IsLegal def h → HasReason def h }
 {}
+
+/// Each owed edge is somewhere: presented, kept, pending, in a software resend, or its device is still ahead in the
+/// round.
+#[tactic(auto, using(crate::proofs::CoverLaws::is_covered_law))]
+pub fn covers_owed()
+    ensures law { (def : LineDef) (h : List Entry) → IsValid def → IsLegal def h → IsCovered def h }
+{
+}
 
 /// Each driver's entries are those of its calls, in the order of its script, each once.
 #[tactic(auto, using(crate::proofs::ScriptLaws::follows_scripts))]
