@@ -22,3 +22,4 @@ pub mod ReasonLaws
 pub mod ScriptLaws
 pub mod Owing
 pub mod CoverLaws
+pub mod TakeLaws
