@@ -78,7 +78,7 @@ new_mark def e past no_take edge shown = by_marks def e past no_take (marks_new 
 four : (s w p f a : Bool) → (s || (w || (p || (f || a)))) ≡ ((s || w) || (p || (f || a)))
 four s w p f a = grind arith
 
-by_place : {P : Type 0} (def : LineDef) (past : List Entry) (d : DevNo) → is_covered def past d ≡ true → ((is_sent def past || is_stored def past) ≡ true → P) → (is_pending def past ≡ true → P) → (is_soft past ≡ true → P) → (is_ahead def past d ≡ true → P) → P
+pub by_place : {P : Type 0} (def : LineDef) (past : List Entry) (d : DevNo) → is_covered def past d ≡ true → ((is_sent def past || is_stored def past) ≡ true → P) → (is_pending def past ≡ true → P) → (is_soft past ≡ true → P) → (is_ahead def past d ≡ true → P) → P
 by_place {P} def past d h marks pending soft ahead = first (or_cases _ _ (sym (four (is_sent def past) (is_stored def past) (is_pending def past) (is_soft past) (is_ahead def past d)) ∙ h))
   where
     third : (is_soft past ≡ true) ⊎ (is_ahead def past d ≡ true) → P

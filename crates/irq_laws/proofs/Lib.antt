@@ -23,3 +23,4 @@ pub mod ScriptLaws
 pub mod Owing
 pub mod CoverLaws
 pub mod TakeLaws
+pub mod ServedLaws

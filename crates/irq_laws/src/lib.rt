@@ -3,14 +3,15 @@
 //! above can call it or cite its lemma.
 #![tactic(auto)]
 
-ghost use Rattle.std.specs.Prelude.{List};
+ghost use Rattle.std.specs.Prelude.{List, IsSome};
 ghost use Rattle.irq_base.specs.declared.lines.LineDef.{LineDef};
 ghost use Rattle.irq_base.specs.declared.entries.Entry.{Entry};
-ghost use Rattle.irq_model.specs.Laws.{NoOverlap, IsSilentAfterFree, KeepsOneshot, IsSynchronised};
+ghost use Rattle.irq_model.specs.Laws.{NoOverlap, IsSilentAfterFree, KeepsOneshot, TakesAreCounted, IsSynchronised, IsServedWhenIdle};
 ghost use Rattle.irq_model.specs.Legal.{IsLegal, IsLegalPast};
 ghost use Rattle.irq_model.specs.Owed.{IsCovered};
 ghost use Rattle.irq_model.specs.Reason.{HasReason, OneIsCalled, OneIsFreed};
 ghost use Rattle.irq_model.specs.Scripts.{FollowsScripts};
+ghost use Rattle.irq_model.specs.Signal.{target};
 ghost use Rattle.irq_model.specs.Valid.{IsValid};
 ghost use Rattle.irq_laws.specs.Kept.{Kept};
 
@@ -51,6 +52,29 @@ pub fn has_reason()
 #[tactic(auto, using(crate::proofs::CoverLaws::is_covered_law))]
 pub fn covers_owed()
     ensures law { (def : LineDef) (h : List Entry) → IsValid def → IsLegal def h → IsCovered def h }
+{
+}
+
+/// Takes are counted: an edge line takes no more interrupts by its signal than came, and no more software resends
+/// than starts asked for.
+#[tactic(auto, using(crate::proofs::TakeLaws::takes_are_counted))]
+pub fn takes_are_counted()
+    ensures law { (def : LineDef) (h : List Entry) → IsLegal def h → TakesAreCounted def h }
+{
+}
+
+/// Served when idle: on an enabled line without a flow, what is owed, or high with no thread unfinished, is handled
+/// next.
+#[tactic(auto, using(crate::proofs::ServedLaws::served_when_idle))]
+pub fn served_when_idle()
+    ensures law { (def : LineDef) (h : List Entry) → IsValid def → IsLegal def h → IsServedWhenIdle def h }
+{
+}
+
+/// Some processor of the machine takes the line's interrupts.
+#[tactic(auto, using(crate::proofs::ServedLaws::has_target))]
+pub fn has_target()
+    ensures law { (def : LineDef) (past : List Entry) → IsValid def → IsLegalPast def past → IsSome (target def past) }
 {
 }
 
