@@ -24,3 +24,4 @@ pub mod Owing
 pub mod CoverLaws
 pub mod TakeLaws
 pub mod ServedLaws
+pub mod RestLaws
