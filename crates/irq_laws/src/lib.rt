@@ -3,14 +3,17 @@
 //! above can call it or cite its lemma.
 #![tactic(auto)]
 
-ghost use Rattle.std.specs.Prelude.{List, IsSome};
+ghost use Rattle.std.specs.Prelude.{◌≡◌, List, IsSome, None};
 ghost use Rattle.irq_base.specs.declared.lines.LineDef.{LineDef};
+ghost use Rattle.irq_base.specs.declared.entries.Actor.{Actor};
 ghost use Rattle.irq_base.specs.declared.entries.Entry.{Entry};
 ghost use Rattle.irq_model.specs.Laws.{NoOverlap, IsSilentAfterFree, KeepsOneshot, TakesAreCounted, IsSynchronised, IsServedWhenIdle};
 ghost use Rattle.irq_model.specs.Legal.{IsLegal, IsLegalPast};
-ghost use Rattle.irq_model.specs.Owed.{IsCovered};
+ghost use Rattle.irq_model.specs.Owed.{IsCovered, IsDelivered};
 ghost use Rattle.irq_model.specs.Reason.{HasReason, OneIsCalled, OneIsFreed};
 ghost use Rattle.irq_model.specs.Scripts.{FollowsScripts};
+ghost use Rattle.irq_model.specs.Settled.{IsSettled};
+ghost use Rattle.irq_model.specs.Next.{next};
 ghost use Rattle.irq_model.specs.Signal.{target};
 ghost use Rattle.irq_model.specs.Valid.{IsValid};
 ghost use Rattle.irq_laws.specs.Kept.{Kept};
@@ -75,6 +78,23 @@ pub fn served_when_idle()
 #[tactic(auto, using(crate::proofs::ServedLaws::has_target))]
 pub fn has_target()
     ensures law { (def : LineDef) (past : List Entry) → IsValid def → IsLegalPast def past → IsSome (target def past) }
+{
+}
+
+/// No standstill: where no actor may add an entry, every driver's calls are complete.
+#[tactic(auto, using(crate::proofs::RestLaws::no_standstill))]
+pub fn no_standstill()
+    ensures law {
+        (def : LineDef) (h : List Entry) → IsValid def → IsLegal def h → ((a : Actor) → next def h a ≡ None) → IsSettled def h
+    }
+{
+}
+
+/// Delivered: at rest no edge is owed on a line that isn't left disabled, and on a level line every linked device
+/// that works has all its asks served.
+#[tactic(auto, using(crate::proofs::RestLaws::settled_is_delivered))]
+pub fn settled_is_delivered()
+    ensures law { (def : LineDef) (h : List Entry) → IsValid def → IsLegal def h → IsSettled def h → IsDelivered def h }
 {
 }
 
