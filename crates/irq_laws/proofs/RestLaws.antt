@@ -1,6 +1,6 @@
 -- A line at rest: no flow is in progress, no thread is at work, and all was delivered.
-use Rattle.std.proofs.Common.{◌≡◌, ℕ, zero, suc, ◌+◌, ◌≤◌, ◌<◌, ◌==◌, ◌⊎◌, inl, inr, Bool, true, false, not, ◌||◌, ◌&&◌, cond, Option, Some, None, is_some, List, [], ◌∷◌, ◌++◌, length, drop, nat_lt, reverse, refl, sym, ap, ◌∙◌, subst, arith, length-append, eqb-true, eq-eqb}
-use Rattle.std.proofs.lemmas.Bool.{and_parts, and_from, or_cases, or_left, or_from, or_parts, and_left, false_from_ne_true, ltb-false, ltb-true, lt-ltb}
+use Rattle.std.proofs.Common.{◌≡◌, ℕ, suc, ◌+◌, ◌<◌, ◌==◌, ◌⊎◌, inl, inr, Bool, true, false, ◌||◌, cond, Option, Some, None, is_some, List, [], ◌∷◌, ◌++◌, length, drop, nat_lt, reverse, refl, sym, ap, ◌∙◌, subst, arith, length-append, eqb-true, eq-eqb}
+use Rattle.std.proofs.lemmas.Bool.{and_from, or_left, or_from, and_left, false_from_ne_true, ltb-false, ltb-true, lt-ltb}
 use Rattle.std.specs.List.{list_any}
 use Rattle.irq_base.specs.declared.numbers.CpuNo.{CpuNo}
 use Rattle.irq_base.specs.declared.numbers.DevNo.{DevNo}
@@ -17,15 +17,15 @@ use Rattle.irq_base.specs.declared.entries.TakeAnswer.TheVariants as takes
 use Rattle.irq_base.specs.declared.entries.UnlinkAnswer.TheVariants as unlinks
 use Rattle.irq_model.specs.Places.{count_of}
 use Rattle.irq_model.specs.Kinds.{same_line, same_driver, is_by_driver}
-use Rattle.irq_model.specs.Lines.{is_level_line, kind_of}
+use Rattle.irq_model.specs.Lines.{is_level_line}
 use Rattle.irq_model.specs.Links.{depth, is_linked, is_oneshot}
 use Rattle.irq_model.specs.Asks.{unserved_asks, is_high}
 use Rattle.irq_model.specs.Rounds.{flow, has_flow, is_cpu, at_work}
 use Rattle.irq_model.specs.Threads.{is_woken, is_running, is_unfinished, is_some_unfinished, active_count}
 use Rattle.irq_model.specs.Due.{calls_by, entries_by, begins_not_there, entries_of_call, due_of, due_call, holds_mutex}
 use Rattle.irq_model.specs.Reason.{is_finishing}
-use Rattle.irq_model.specs.Owed.{is_owed, IsDelivered, is_stuck}
-use Rattle.irq_model.specs.Next.{next_in_flow, next_take, next_of_cpu, next_of_thread, next_of_call, next_of_free, next_of_disable, next_of_sync, next_of_request, next_past, next, asks_of_thread, finish_unmasks, hard_clear_of, synced_of, freed_of}
+use Rattle.irq_model.specs.Owed.{is_owed, IsDelivered}
+use Rattle.irq_model.specs.Next.{next_in_flow, next_take, next_of_cpu, next_of_thread, next_of_call, next_past, next, hard_clear_of, synced_of}
 use Rattle.irq_model.specs.Laws.{IsHandledNext, IsServedWhenIdle}
 use Rattle.irq_model.specs.Legal.{IsDue, IsLegal, IsLegalPast}
 use Rattle.irq_model.specs.Settled.{IsSettled}
@@ -114,10 +114,13 @@ delivered def h valid legal still =
   where
     k : Kept def (reverse h)
     k = kept def (reverse h) valid legal
+
     served : IsServedWhenIdle def h
     served = served_when_idle def h valid legal
+
     idle : has_flow def (reverse h) ≡ false
     idle = no_flow_still def (reverse h) still
+
     none_unserved : depth (reverse h) ≡ 0 → is_level_line def ≡ true → (d : DevNo) → is_linked (reverse h) d ≡ true → (b : Bool) → nat_lt 0 (unserved_asks def d (reverse h)) ≡ b → unserved_asks def d (reverse h) ≡ 0
     none_unserved on level d there false is = let n = ltb-false 0 (unserved_asks def d (reverse h)) is in omega (arith, n)
     none_unserved on level d there true is =
@@ -176,6 +179,7 @@ clear_due def s past r d n due h = by_call (hard_clear_due def s past due).call
         let is : due_call def r past ≡ Some (calls.Free d, 1) = mine ∙ ap (λ (c : Call). due_at c 1) (sym here) in
         (1, goes_on_with def r (entries.HardClear s) past (calls.Free d) 1 same is (clear_goes d (entries.HardClear s)))
     of_free x call false other = (n, no_more def r (entries.HardClear s) past other ∙ h)
+
     by_call : ((x : DevNo) × (due_call def s past ≡ Some (calls.Free x, 1))) ⊎ ((due_call def s past ≡ Some (calls.Disable, 1)) ⊎ (due_call def s past ≡ Some (calls.Sync, 0))) → Within def (entries.HardClear s ∷ past) r d
     by_call (inl u) = of_free u.0 u.1 (same_driver r s) refl
     by_call (inr (inl u)) = (n, other_due def r s (entries.HardClear s) past calls.Disable 1 d n refl refl u h)

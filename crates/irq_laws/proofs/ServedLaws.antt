@@ -1,12 +1,10 @@
 -- The mask in force has a processor of the machine, and what waits on an enabled line without a flow is handled
 -- next.
-use Rattle.std.proofs.Common.{◌≡◌, ℕ, ◌⊎◌, inl, inr, Bool, true, false, not, ◌||◌, ◌&&◌, cond, Option, Some, None, is_some, List, [], ◌∷◌, reverse, refl, sym, ap, ◌∙◌, subst, arith}
-use Rattle.std.proofs.lemmas.Bool.{and_parts, and_from, or_cases, or_from, or_parts, false_from_ne_true}
+use Rattle.std.proofs.Common.{◌≡◌, ◌⊎◌, inl, inr, Bool, true, false, not, ◌||◌, ◌&&◌, cond, Option, Some, None, is_some, List, [], ◌∷◌, reverse, refl, sym, ap, ◌∙◌, arith}
+use Rattle.std.proofs.lemmas.Bool.{and_parts, or_cases, or_from, false_from_ne_true}
 use Rattle.irq_base.specs.declared.numbers.CpuNo.{CpuNo}
 use Rattle.irq_base.specs.declared.numbers.DevNo.{DevNo}
-use Rattle.irq_base.specs.declared.numbers.DriverNo.{DriverNo}
 use Rattle.irq_base.specs.declared.lines.LineDef.{LineDef}
-use Rattle.irq_base.specs.declared.entries.Actor.TheVariants as actors
 use Rattle.irq_base.specs.declared.entries.Entry.{Entry}
 use Rattle.irq_base.specs.declared.entries.Entry.TheVariants as entries
 use Rattle.irq_base.specs.declared.entries.AffinityAnswer.{AffinityAnswer}
@@ -22,12 +20,12 @@ use Rattle.irq_model.specs.Links.{depth, is_disabled, is_none_linked, is_linked}
 use Rattle.irq_model.specs.Asks.{is_high}
 use Rattle.irq_model.specs.Masks.{is_masked}
 use Rattle.irq_model.specs.Rounds.{flow, has_flow, has_begun, is_cpu}
-use Rattle.irq_model.specs.Waiting.{is_pending, is_soft}
+use Rattle.irq_model.specs.Waiting.{is_soft}
 use Rattle.irq_model.specs.Edges.{is_sent, is_stored}
-use Rattle.irq_model.specs.Signal.{signals, puts_in_force, mask_of, mask_in_force, lowest_in, target}
+use Rattle.irq_model.specs.Signal.{signals, puts_in_force, mask_of, lowest_in, target}
 use Rattle.irq_model.specs.Threads.{is_some_unfinished}
 use Rattle.irq_model.specs.Owed.{is_owed}
-use Rattle.irq_model.specs.Next.{affinity_answer, take_answer, next_in_flow, next_take, next_of_cpu, next}
+use Rattle.irq_model.specs.Next.{take_answer, next_of_cpu}
 use Rattle.irq_model.specs.Laws.{IsHandledNext, IsServedWhenIdle}
 use Rattle.irq_model.specs.Legal.{IsDue, IsLegal, IsLegalPast}
 use Rattle.irq_model.specs.Valid.{IsValid}
@@ -115,12 +113,16 @@ handled def past c of_target idle on waits = by_signal (signals def past) refl
   where
     outside : is_cpu c (flow def past) ≡ false
     outside = ap (is_cpu c) (no_flow (flow def past) idle)
+
     aimed : is_cpu c (target def past) ≡ true
     aimed = ap (is_cpu c) of_target ∙ same_self_cpu c
+
     answer : take_answer def past ≡ takes.Handle
     answer = idle_answer def past idle on
+
     soft_when : (a b : Bool) → (a || b) ≡ true → a ≡ false → b ≡ true
     soft_when a b h i = grind arith
+
     by_signal : (b : Bool) → signals def past ≡ b → (way : Way) × (next_of_cpu def c past ≡ Some (entries.Take c way takes.Handle))
     by_signal true is =
         (ways.Line, by_take (is_cpu c (flow def past)) (is_cpu c (target def past)) (signals def past) (is_soft past) _ (entries.Take c ways.Line (take_answer def past)) _ outside aimed is ∙ ap (λ (a : TakeAnswer). Some (entries.Take c ways.Line a)) answer)
@@ -163,13 +165,17 @@ owed_waits def past valid legal zero idle d owed =
   where
     k : Kept def past
     k = kept def past valid legal
+
     edge : is_edge_line def ≡ true
     edge = (and_parts (is_edge_line def) (some_place (owes d) past) owed).0
+
     opened : is_masked def past ≡ false
     opened = false_from_ne_true (is_masked def past) (λ m. both_ways (has_flow def past) (edge_reason def def.flow past valid k edge refl m zero) idle)
+
     by_mark : (is_sent def past ≡ true) ⊎ (is_stored def past ≡ true) → (signals def past || is_soft past) ≡ true
     by_mark (inl s) = either (signals def past) (is_soft past) (edge_signals def past edge s)
     by_mark (inr w) = both_ways (is_stored def past) w (none_stored def past opened)
+
     marks : (is_sent def past || is_stored def past) ≡ true → (signals def past || is_soft past) ≡ true
     marks m = by_mark (or_cases (is_sent def past) (is_stored def past) m)
 

@@ -55,48 +55,40 @@ pub fn has_reason()
 #[tactic(auto, using(crate::proofs::CoverLaws::is_covered_law))]
 pub fn covers_owed()
     ensures law { (def : LineDef) (h : List Entry) → IsValid def → IsLegal def h → IsCovered def h }
-{
-}
+{}
 
 /// Takes are counted: an edge line takes no more interrupts by its signal than came, and no more software resends
 /// than starts asked for.
 #[tactic(auto, using(crate::proofs::TakeLaws::takes_are_counted))]
 pub fn takes_are_counted()
     ensures law { (def : LineDef) (h : List Entry) → IsLegal def h → TakesAreCounted def h }
-{
-}
+{}
 
 /// Served when idle: on an enabled line without a flow, what is owed, or high with no thread unfinished, is handled
 /// next.
 #[tactic(auto, using(crate::proofs::ServedLaws::served_when_idle))]
 pub fn served_when_idle()
     ensures law { (def : LineDef) (h : List Entry) → IsValid def → IsLegal def h → IsServedWhenIdle def h }
-{
-}
+{}
 
 /// Some processor of the machine takes the line's interrupts.
 #[tactic(auto, using(crate::proofs::ServedLaws::has_target))]
 pub fn has_target()
     ensures law { (def : LineDef) (past : List Entry) → IsValid def → IsLegalPast def past → IsSome (target def past) }
-{
-}
+{}
 
 /// No standstill: where no actor may add an entry, every driver's calls are complete.
 #[tactic(auto, using(crate::proofs::RestLaws::no_standstill))]
 pub fn no_standstill()
-    ensures law {
-        (def : LineDef) (h : List Entry) → IsValid def → IsLegal def h → ((a : Actor) → next def h a ≡ None) → IsSettled def h
-    }
-{
-}
+    ensures law { (def : LineDef) (h : List Entry) → IsValid def → IsLegal def h → ((a : Actor) → next def h a ≡ None) → IsSettled def h }
+{}
 
 /// Delivered: at rest no edge is owed on a line that isn't left disabled, and on a level line every linked device
 /// that works has all its asks served.
 #[tactic(auto, using(crate::proofs::RestLaws::settled_is_delivered))]
 pub fn settled_is_delivered()
     ensures law { (def : LineDef) (h : List Entry) → IsValid def → IsLegal def h → IsSettled def h → IsDelivered def h }
-{
-}
+{}
 
 /// Each driver's entries are those of its calls, in the order of its script, each once.
 #[tactic(auto, using(crate::proofs::ScriptLaws::follows_scripts))]
