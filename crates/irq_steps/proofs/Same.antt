@@ -1,5 +1,5 @@
 -- Numbers that are the same.
-use Rattle.std.proofs.Common.{◌≡◌, ℕ, true, refl, ap, eq-eqb, eqb-true}
+use Rattle.std.proofs.Common.{◌≡◌, ℕ, Bool, true, false, refl, sym, ap, ◌∙◌, eq-eqb, eqb-true}
 use Rattle.irq_base.specs.declared.numbers.LineNo.{LineNo}
 use Rattle.irq_base.specs.declared.numbers.CpuNo.{CpuNo}
 use Rattle.irq_base.specs.declared.numbers.DevNo.{DevNo}
@@ -29,3 +29,13 @@ cpu_from_same a b h = let named : ℕ → CpuNo = λ n. record { 0 = n } in ap n
 
 pub line_from_same : (a b : LineNo) → same_line a b ≡ true → a ≡ b
 line_from_same a b h = let named : ℕ → LineNo = λ n. record { 0 = n } in ap named (eqb-true a.0 b.0 h)
+
+-- the same either way round
+pub same_both : (a b : DevNo) → same_dev a b ≡ same_dev b a
+same_both a b = by_tests (same_dev a b) (same_dev b a) refl refl
+  where
+    by_tests : (x y : Bool) → same_dev a b ≡ x → same_dev b a ≡ y → x ≡ y
+    by_tests true true p q = refl
+    by_tests false false p q = refl
+    by_tests true false p q = sym (eq-eqb b.0 a.0 (sym (eqb-true a.0 b.0 p))) ∙ q
+    by_tests false true p q = sym p ∙ eq-eqb a.0 b.0 (sym (eqb-true b.0 a.0 q))

@@ -1,0 +1,107 @@
+-- What every entry keeps, beside the parts of the reasons: facts of a legal past, whose newest entry comes
+-- first.
+use Rattle.std.specs.Prelude.{◌≡◌, ℕ, suc, ◌+◌, ◌≤◌, Bool, true, false, ◌&&◌, if◌then◌else◌, Option, Some, None, List, [], ◌∷◌, nat_lt, length, drop, slice_get}
+use Rattle.std.specs.List.{list_any}
+use Rattle.irq_base.specs.declared.numbers.DevNo.{DevNo}
+use Rattle.irq_base.specs.declared.numbers.DriverNo.{DriverNo}
+use Rattle.irq_base.specs.declared.calls.Call.{Call}
+use Rattle.irq_base.specs.declared.calls.Call.TheVariants as calls
+use Rattle.irq_base.specs.declared.lines.LineDef.{LineDef}
+use Rattle.irq_base.specs.declared.entries.Entry.{Entry}
+use Rattle.irq_base.specs.declared.entries.Entry.TheVariants as entries
+use Rattle.irq_base.specs.declared.entries.UnlinkAnswer.TheVariants as unlinks
+use Rattle.irq_model.specs.Places.{stands, since_place, upto_place, count_of}
+use Rattle.irq_model.specs.Kinds.{same_dev, same_driver, is_freed, is_freed_by, links_dev, is_unlinked_answer}
+use Rattle.irq_model.specs.Lines.{is_device}
+use Rattle.irq_model.specs.Links.{is_linked, is_reset, base, is_deepening, is_lowering}
+use Rattle.irq_model.specs.Rounds.{has_flow, has_begun, at_work}
+use Rattle.irq_model.specs.Due.{calls_by, entries_by, entries_of_call, due_call}
+use Rattle.irq_model.specs.Valid.{requests_dev, frees_dev}
+use Rattle.irq_model.specs.Reason.{is_called, is_being_freed, ClearedIsNotCalled, UnlinkedIsAtRest, UnfinishedIsAtWork, FlagsAgree, EnabledIsStarted, EdgeFlowMaskIsPending, EoiEdgeIsOpen, EdgePendingHasFlow, DroppedIsPending, LevelMaskIsHeld, EoiLevelMaskIsOneshot}
+
+-- the handler that is at work is the one that was called and hasn't returned, in the round of the flow
+pub record KeepsRuns (def : LineDef) (past : List Entry) : Type 0 where
+  pub called : (d : DevNo) → is_called past d ≡ true → at_work past ≡ Some d
+  pub working : (d : DevNo) → at_work past ≡ Some d → (is_called past d ≡ true) × (has_flow def past ≡ true) × (has_begun def past d ≡ true)
+
+-- the driver and the device of the last unlink, where no free was completed after it
+abbrev pub freeing : List Entry → Option (DriverNo × DevNo)
+freeing [] = None
+freeing (entries.Unlink driver dev (unlinks.Unlinked last) ∷ past) = Some (driver, dev)
+freeing (entries.Freed driver dev ∷ past) = None
+freeing (_ ∷ past) = freeing past
+
+-- r unlinked d
+abbrev pub unlinks_of : DriverNo → DevNo → Entry → Bool
+unlinks_of r d (entries.Unlink driver dev answer) = (same_driver r driver && same_dev d dev) && is_unlinked_answer answer
+unlinks_of r d _ = false
+
+-- one free at a time, and its driver is within it
+pub record KeepsFrees (def : LineDef) (past : List Entry) : Type 0 where
+  pub one_driver : (r : DriverNo) (d : DevNo) → stands (unlinks_of r d) (is_freed_by r) past ≡ true → freeing past ≡ Some (r, d)
+  pub one_device : (d : DevNo) → is_being_freed past d ≡ true → (r : DriverNo) × (freeing past ≡ Some (r, d))
+  pub within : (r : DriverNo) (d : DevNo) (n : ℕ) → due_call def r past ≡ Some (calls.Free d, suc n) → freeing past ≡ Some (r, d)
+  -- what is being freed isn't linked
+  pub unlinked : (r : DriverNo) (d : DevNo) → freeing past ≡ Some (r, d) → is_linked past d ≡ false
+  -- past the hard clear of the free no handler of the device is at work
+  pub past_clear : (r : DriverNo) (d : DevNo) → due_call def r past ≡ Some (calls.Free d, 2) → is_called past d ≡ false
+  pub cleared : ClearedIsNotCalled def past
+
+pub record KeepsRest (def : LineDef) (past : List Entry) : Type 0 where
+  -- a device that was ever linked, or is being freed, is a device of the line
+  pub named : (d : DevNo) → list_any (links_dev d) past ≡ true → list_any (is_device d) def.devices ≡ true
+  pub freed_named : (d : DevNo) → is_being_freed past d ≡ true → list_any (is_device d) def.devices ≡ true
+  -- a device that was freed, and not linked since, is neither linked nor being freed
+  pub after_free : (d : DevNo) → stands (is_freed d) (links_dev d) past ≡ true → (is_linked past d ≡ false) × (is_being_freed past d ≡ false)
+  pub at_rest : UnlinkedIsAtRest def past
+  pub at_work : UnfinishedIsAtWork def past
+  pub flags : FlagsAgree def past
+
+-- the calls that are complete, the last first, before those of `done`
+abbrev pub complete : List Call → List Call → List Entry → List Call
+complete done [] es = done
+complete done (c ∷ cs) es = if nat_lt (length es) (entries_of_call c es) then done else complete (c ∷ done) cs (drop (entries_of_call c es) es)
+
+abbrev pub complete_by : LineDef → DriverNo → List Entry → List Call
+complete_by def r past = complete [] (calls_by r def.calls) (entries_by r past)
+
+-- a driver of a request of d, the last of whose complete requests and frees of d is a request
+pub record Wanted (def : LineDef) (past : List Entry) (d : DevNo) : Type 0 where
+  pub driver : DriverNo
+  pub place : ℕ
+  pub call : DriverNo × Call
+  pub there : slice_get def.calls place ≡ Some call
+  pub own : call.0 ≡ driver
+  pub requests : requests_dev d call.1 ≡ true
+  pub wanted : stands (requests_dev d) (frees_dev d) (complete_by def driver past) ≡ true
+
+-- a linked device is wanted, so that no request of it is due
+abbrev pub LinkedIsWanted : LineDef → List Entry → Type 0
+LinkedIsWanted def past = (d : DevNo) → is_linked past d ≡ true → Wanted def past d
+
+-- the depth never falls below zero, and a line that isn't disabled is started
+pub record KeepsDepth (def : LineDef) (past : List Entry) : Type 0 where
+  pub exact : count_of is_lowering (since_place is_reset past) ≤ base (upto_place is_reset past) + count_of is_deepening (since_place is_reset past)
+  pub enabled : EnabledIsStarted def past
+
+-- why an edge line is masked, and what is pending then
+pub record KeepsEdges (def : LineDef) (past : List Entry) : Type 0 where
+  pub edge_flow : EdgeFlowMaskIsPending def past
+  pub eoi_edge : EoiEdgeIsOpen def past
+  pub pending : EdgePendingHasFlow def past
+  pub dropped : DroppedIsPending def past
+
+-- why a level line is masked
+pub record KeepsLevels (def : LineDef) (past : List Entry) : Type 0 where
+  pub level : LevelMaskIsHeld def past
+  pub eoi_level : EoiLevelMaskIsOneshot def past
+
+-- all of it, together
+pub record Kept (def : LineDef) (past : List Entry) : Type 0 where
+  pub runs : KeepsRuns def past
+  pub frees : KeepsFrees def past
+  pub rest : KeepsRest def past
+  pub wanted : LinkedIsWanted def past
+  pub depth : KeepsDepth def past
+  pub edges : KeepsEdges def past
+  pub levels : KeepsLevels def past

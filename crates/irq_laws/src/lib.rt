@@ -1,0 +1,114 @@
+//! The laws of every legal history of an interrupt line, for every valid definition: sentences over the
+//! definitions alone, with no line of code. Each is the clause of a function with an empty body, so that crates
+//! above can call it or cite its lemma.
+#![tactic(auto)]
+
+ghost use Rattle.std.specs.Prelude.{◌≡◌, List, IsSome, None};
+ghost use Rattle.irq_base.specs.declared.lines.LineDef.{LineDef};
+ghost use Rattle.irq_base.specs.declared.entries.Actor.{Actor};
+ghost use Rattle.irq_base.specs.declared.entries.Entry.{Entry};
+ghost use Rattle.irq_model.specs.Laws.{NoOverlap, IsSilentAfterFree, KeepsOneshot, TakesAreCounted, IsSynchronised, IsServedWhenIdle};
+ghost use Rattle.irq_model.specs.Legal.{IsLegal, IsLegalPast};
+ghost use Rattle.irq_model.specs.Owed.{IsCovered, IsDelivered};
+ghost use Rattle.irq_model.specs.Reason.{HasReason, OneIsCalled, OneIsFreed};
+ghost use Rattle.irq_model.specs.Scripts.{FollowsScripts};
+ghost use Rattle.irq_model.specs.Settled.{IsSettled};
+ghost use Rattle.irq_model.specs.Next.{next};
+ghost use Rattle.irq_model.specs.Signal.{target};
+ghost use Rattle.irq_model.specs.Valid.{IsValid};
+ghost use Rattle.irq_laws.specs.Kept.{Kept};
+
+/// No overlap: a device's handler is called only where it isn't at work, and its thread's run begins only where
+/// it isn't in one.
+#[tactic(auto, using(crate::proofs::RunLaws::no_overlap))]
+pub fn no_overlap()
+    ensures law { (def : LineDef) (h : List Entry) → IsValid def → IsLegal def h → NoOverlap def h }
+{}
+
+/// Silence after free: no run of a device comes after its free before it is linked again.
+#[tactic(auto, using(crate::proofs::RunLaws::silent_after_free))]
+pub fn silent_after_free()
+    ensures law { (def : LineDef) (h : List Entry) → IsValid def → IsLegal def h → IsSilentAfterFree def h }
+{}
+
+/// The one-shot promise: where an end or a finish opens a level line, no thread is unfinished.
+#[tactic(auto, using(crate::proofs::RunLaws::keeps_oneshot))]
+pub fn keeps_oneshot()
+    ensures law { (def : LineDef) (h : List Entry) → IsValid def → IsLegal def h → KeepsOneshot def h }
+{}
+
+/// Synchronised calls: a hard clear comes where no handler is at work, a sync's end where no thread is.
+#[tactic(auto, using(crate::proofs::RunLaws::synchronised))]
+pub fn synchronised()
+    ensures law { (def : LineDef) (h : List Entry) → IsValid def → IsLegal def h → IsSynchronised def h }
+{}
+
+/// A started line with linked devices is masked for a reason: it is disabled, or a flow is in progress, or on a
+/// level line a thread isn't finished.
+#[tactic(auto, using(crate::proofs::ReasonLaws::has_reason))]
+pub fn has_reason()
+    ensures law { (def : LineDef) (h : List Entry) → IsValid def → IsLegal def h → HasReason def h }
+{}
+
+/// Each owed edge is somewhere: presented, kept, pending, in a software resend, or its device is still ahead in the
+/// round.
+#[tactic(auto, using(crate::proofs::CoverLaws::is_covered_law))]
+pub fn covers_owed()
+    ensures law { (def : LineDef) (h : List Entry) → IsValid def → IsLegal def h → IsCovered def h }
+{}
+
+/// Takes are counted: an edge line takes no more interrupts by its signal than came, and no more software resends
+/// than starts asked for.
+#[tactic(auto, using(crate::proofs::TakeLaws::takes_are_counted))]
+pub fn takes_are_counted()
+    ensures law { (def : LineDef) (h : List Entry) → IsLegal def h → TakesAreCounted def h }
+{}
+
+/// Served when idle: on an enabled line without a flow, what is owed, or high with no thread unfinished, is handled
+/// next.
+#[tactic(auto, using(crate::proofs::ServedLaws::served_when_idle))]
+pub fn served_when_idle()
+    ensures law { (def : LineDef) (h : List Entry) → IsValid def → IsLegal def h → IsServedWhenIdle def h }
+{}
+
+/// Some processor of the machine takes the line's interrupts.
+#[tactic(auto, using(crate::proofs::ServedLaws::has_target))]
+pub fn has_target()
+    ensures law { (def : LineDef) (past : List Entry) → IsValid def → IsLegalPast def past → IsSome (target def past) }
+{}
+
+/// No standstill: where no actor may add an entry, every driver's calls are complete.
+#[tactic(auto, using(crate::proofs::RestLaws::no_standstill))]
+pub fn no_standstill()
+    ensures law { (def : LineDef) (h : List Entry) → IsValid def → IsLegal def h → ((a : Actor) → next def h a ≡ None) → IsSettled def h }
+{}
+
+/// Delivered: at rest no edge is owed on a line that isn't left disabled, and on a level line every linked device
+/// that works has all its asks served.
+#[tactic(auto, using(crate::proofs::RestLaws::settled_is_delivered))]
+pub fn settled_is_delivered()
+    ensures law { (def : LineDef) (h : List Entry) → IsValid def → IsLegal def h → IsSettled def h → IsDelivered def h }
+{}
+
+/// Each driver's entries are those of its calls, in the order of its script, each once.
+#[tactic(auto, using(crate::proofs::ScriptLaws::follows_scripts))]
+pub fn follows_scripts()
+    ensures law { (def : LineDef) (h : List Entry) → IsLegal def h → FollowsScripts def h }
+{}
+
+/// What every entry keeps holds of every legal past, whose newest entry comes first.
+pub fn kept()
+    ensures law { (def : LineDef) (past : List Entry) → IsValid def → IsLegalPast def past → Kept def past }
+{}
+
+/// At most one handler is at work, and it was called in the round of the flow that is there.
+#[tactic(auto, using(crate::proofs::ReasonLaws::one_is_called))]
+pub fn one_is_called()
+    ensures law { (def : LineDef) (past : List Entry) → IsValid def → IsLegalPast def past → OneIsCalled def past }
+{}
+
+/// At most one device is being freed, and the request mutex is held exactly while one is.
+#[tactic(auto, using(crate::proofs::ReasonLaws::one_is_freed))]
+pub fn one_is_freed()
+    ensures law { (def : LineDef) (past : List Entry) → IsValid def → IsLegalPast def past → OneIsFreed def past }
+{}
