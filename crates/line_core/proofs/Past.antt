@@ -40,23 +40,17 @@ use Rattle.line_core.specs.declared.script.Script.{Script}
 
 -- ---- the marks
 
-first_cpu_is : (c : CpuNo) → c.0 ≡ 0 → c ≡ record { 0 = 0 }
-first_cpu_is c h = let named : ℕ → CpuNo = λ n. record { 0 = n } in ap named h
-
-answer_is_plain : (n : ℕ) (b : Bool) → is_wake (cond b answers.Handled answers.Nothing) ≡ false
-answer_is_plain n true = refl
-answer_is_plain n false = refl
+answer_is_plain : (b : Bool) → is_wake (cond b answers.Handled answers.Nothing) ≡ false
+answer_is_plain true = refl
+answer_is_plain false = refl
 
 is_plain : (a : Answer) (n : ℕ) → a ≡ answer_of kinds.Direct parts.Primary n → is_wake a ≡ false
-is_plain a n h = ap is_wake h ∙ answer_is_plain n (ltb 0 n)
+is_plain a n h = ap is_wake h ∙ answer_is_plain (ltb 0 n)
 
 is_mild : (c : CpuNo) (note : Note) → (note ≡ notes.Killed → ⊥) → is_kill (entries.End c false false note) ≡ false
 is_mild c notes.Quiet h = refl
 is_mild c notes.Counted h = refl
 is_mild c notes.Killed h = absurd (h refl)
-
-Agree : LineDef → List Entry → Marks → Entry → Type 0
-Agree def past m e = Agreed (latch def) (e ∷ past) (marks_after def.window e m)
 
 latch_more : (def : LineDef) (d : DevNo) (past : List Entry) (m : Marks) (s : Script) (e : Entry) → IsConsistent def d m s → Agreed (latch def) past m → Comes def e → IsExpected def m s e
     → Agreed (latch def) (e ∷ past) (marks_after def.window e m)

@@ -69,7 +69,8 @@ impl Line {
         ensures not_yet { (result ≡ Ok stepped.NotYet) ↔ (next self.old.def self.old.entries actor ≡ None) }
         ensures full { (result ≡ Err (refusals.Full (length self.old.entries)))
             ↔ (IsDueOf self.old actor × (length self.old.entries ≡ self.old.def.log)) }
-        // Where there is room a step takes none: so memory is wanted only where `spare` is 0.
+        // Memory is wanted for the entry alone: with room for it none is. (On a line of more devices a request may
+        // want some for its action. There is none here.)
         ensures cause { IfErr result (HasCause self.old) }
         ensures due { OnErr result (IsDueOf self.old actor) }
         ensures refused { OnErr result (self.new ≡ self.old) }
