@@ -1,5 +1,5 @@
 -- What one more entry makes of the request mutex.
-use Rattle.std.proofs.Common.{◌≡◌, Bool, true, false, not, ◌||◌, subst, List, [], ◌∷◌, ◌++◌, refl, sym, ap, ◌∙◌, arith}
+use Rattle.std.proofs.Common.{◌≡◌, Bool, true, false, ◌||◌, subst, List, [], ◌∷◌, ◌++◌, refl, sym, ap, ◌∙◌, arith}
 use Rattle.std.specs.List.{list_any}
 use Rattle.std.proofs.lemmas.List.Folds.{list_any-append}
 use Rattle.irq_base.specs.declared.entries.Entry.{Entry}

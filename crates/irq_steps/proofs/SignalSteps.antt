@@ -1,13 +1,12 @@
 -- The mask in force, and the processor that takes a line's interrupts.
-use Rattle.std.proofs.Common.{◌≡◌, ℕ, ◌%◌, ◌||◌, Bool, true, false, Some, List, [], ◌∷◌, refl, ap, ◌∙◌, arith}
+use Rattle.std.proofs.Common.{◌≡◌, ℕ, ◌%◌, ◌||◌, Bool, true, false, Some, List, [], ◌∷◌, refl, ap, arith}
 use Rattle.std.specs.List.{list_any}
 use Rattle.std.proofs.lemmas.Nat.Bits.{bit_at_lowest}
 use Rattle.irq_base.specs.declared.entries.Entry.{Entry}
 use Rattle.irq_base.specs.declared.entries.Entry.TheVariants as entries
 use Rattle.irq_base.specs.declared.lines.LineDef.{LineDef}
-use Rattle.irq_base.specs.declared.numbers.CpuNo.{CpuNo}
 use Rattle.irq_model.specs.Places.{last_place}
-use Rattle.irq_model.specs.Signal.{puts_in_force, mask_of, mask_in_force, lowest_in, target}
+use Rattle.irq_model.specs.Signal.{puts_in_force, mask_of, mask_in_force, lowest_in}
 
 abbrev pub is_affinity : Entry → Bool
 is_affinity (entries.Affinity driver mask answer) = true

@@ -1,14 +1,12 @@
 -- What agrees with a history agrees with the history and one more entry: one lemma an entry.
-use Rattle.std.proofs.Common.{◌≡◌, ℕ, ◌+◌, Bool, true, false, not, ◌||◌, ◌&&◌, cond, Some, None, List, [], ◌∷◌, ◌++◌, filter, refl, sym, ap, ◌∙◌, arith}
+use Rattle.std.proofs.Common.{◌≡◌, ℕ, ◌+◌, Bool, true, false, not, ◌||◌, ◌&&◌, cond, List, [], ◌∷◌, ◌++◌, filter, refl, sym, ap, ◌∙◌, arith}
 use Rattle.irq_base.specs.declared.devices.Answer.{Answer}
 use Rattle.irq_base.specs.declared.devices.Answer.TheVariants as answers
-use Rattle.irq_base.specs.declared.devices.Kind.{Kind}
 use Rattle.irq_base.specs.declared.devices.Kind.TheVariants as kinds
 use Rattle.irq_base.specs.declared.entries.Entry.{Entry}
 use Rattle.irq_base.specs.declared.entries.Entry.TheVariants as entries
 use Rattle.irq_base.specs.declared.entries.LinkAnswer.TheVariants as links
 use Rattle.irq_base.specs.declared.entries.Note.{Note}
-use Rattle.irq_base.specs.declared.entries.Note.TheVariants as notes
 use Rattle.irq_base.specs.declared.entries.Opened.TheVariants as opens
 use Rattle.irq_base.specs.declared.entries.Resend.TheVariants as resends
 use Rattle.irq_base.specs.declared.entries.TakeAnswer.TheVariants as takes
@@ -35,7 +33,6 @@ use Rattle.line_core.proofs.Latch.{latch}
 use Rattle.line_core.specs.Agreed.{Agreed, linked_as, rule_counts}
 use Rattle.line_core.proofs.Noting.{same_counts}
 use Rattle.line_core.specs.Built.{device_of, no_flags}
-use Rattle.line_core.specs.Line.{IsSane}
 use Rattle.line_core.specs.Marks.{after_ask, after_request, after_take, after_begin, after_return, after_end, after_unlink, is_handled}
 use Rattle.line_core.specs.declared.marks.Marks.{Marks}
 

@@ -1,5 +1,5 @@
 -- Which entry the table of steps has for a driver, told by the marks and the place in the script.
-use Rattle.std.proofs.Common.{◌≡◌, ℕ, ◌+◌, ◌<◌, ◌≤◌, ◌≢◌, Bool, true, false, not, ◌==◌, cond, eqb, ltb, eq-eqb, eqb-true, option_map, Option, Some, None, is_some, List, [], ◌∷◌, ◌++◌, slice_get, refl, sym, ap, subst, ◌∙◌, arith}
+use Rattle.std.proofs.Common.{◌≡◌, ℕ, ◌+◌, ◌<◌, ◌≤◌, ◌≢◌, Bool, true, false, ◌==◌, cond, eqb, ltb, option_map, Option, Some, None, List, [], ◌∷◌, slice_get, refl, sym, ap, subst, ◌∙◌, arith}
 use Rattle.std.proofs.lemmas.Bool.Decides.{nat_tests}
 use Rattle.irq_base.specs.declared.calls.Call.{Call}
 use Rattle.irq_base.specs.declared.calls.Call.TheVariants as calls
@@ -12,15 +12,12 @@ use Rattle.irq_base.specs.declared.entries.Resend.{Resend}
 use Rattle.irq_base.specs.declared.entries.Resend.TheVariants as resends
 use Rattle.irq_base.specs.declared.entries.UnlinkAnswer.TheVariants as unlinks
 use Rattle.irq_base.specs.declared.lines.LineDef.{LineDef}
-use Rattle.irq_base.specs.declared.numbers.CpuNo.{CpuNo}
 use Rattle.irq_base.specs.declared.numbers.DevNo.{DevNo}
 use Rattle.irq_base.specs.declared.numbers.DriverNo.{DriverNo}
-use Rattle.irq_model.specs.Due.{due_of, due_call, calls_by, entries_by, entries_of_call, begins_not_there, holds_mutex}
-use Rattle.irq_model.specs.Kinds.{same_driver, same_dev}
+use Rattle.irq_model.specs.Due.{due_of, due_call, calls_by, entries_by, entries_of_call, holds_mutex}
+use Rattle.irq_model.specs.Kinds.{same_driver}
 use Rattle.irq_model.specs.Links.{linked, is_linked, is_empty, is_none_linked}
 use Rattle.irq_model.specs.Next.{next_of_request, next_of_free, link_answer, opened_by_request, request_with}
-use Rattle.irq_model.specs.Rounds.{flow}
-use Rattle.irq_model.specs.Waiting.{is_pending}
 use Rattle.irq_steps.proofs.DueSteps.{due_laid, all_by, none_by, laid_within, part_at}
 use Rattle.irq_steps.proofs.Same.{same_self, driver_from_same}
 use Rattle.irq_steps.specs.Laid.{with_count}
@@ -126,10 +123,6 @@ unlink_next def past m r h free on =
     let is : is_linked past (device_of def) ≡ true = h.linked ∙ on in
     rw (free, is, one, same_self (device_of def)) refl
 
-waits_next : (def : LineDef) (past : List Entry) (m : Marks) (r : DriverNo) (d : DevNo) (o : Option CpuNo) → Agreed (latch def) past m → m.flow ≡ o
-    → next_of_free (latch def) r d 1 past ≡ cond (is_some o) None (Some (entries.HardClear r))
-waits_next def past m r d o h is = let at : flow (latch def) past ≡ o = h.flow ∙ is in rw at refl
-
 freed_next : (def : LineDef) (past : List Entry) (m : Marks) (r : DriverNo) (d : DevNo) (n : ℕ) → Agreed (latch def) past m → 2 ≤ n
     → next_of_free (latch def) r d n past ≡ Some (entries.Freed r d)
 freed_next def past m r d n h many =
@@ -164,11 +157,6 @@ unlink_due def d past m s r c h last none =
     let on : m.linked ≡ true = c.linked.during (omega arith) (omega arith) none in
     ap (λ n. next_of_free def r (device_of def) n past) none
     ∙ of_free def past r (device_of def) 0 _ c.built (unlink_next def past m r (as_latch def past m c.built h.agreed) (h.mutex ∙ ap (ltb 0) none) on)
-
-pub waits_due : (def : LineDef) (d : DevNo) (past : List Entry) (m : Marks) (s : Script) (r : DriverNo) (of : DevNo) → IsConsistent def d m s → IsPast def past m s → s.within ≡ 1
-    → next_of_free def r of s.within past ≡ cond (is_some m.flow) None (Some (entries.HardClear r))
-waits_due def d past m s r of c h one =
-    ap (λ n. next_of_free def r of n past) one ∙ of_free def past r of 1 _ c.built (waits_next def past m r of m.flow (as_latch def past m c.built h.agreed) refl)
 
 pub freed_due : (def : LineDef) (d : DevNo) (past : List Entry) (m : Marks) (s : Script) (r : DriverNo) (of : DevNo) → IsConsistent def d m s → IsPast def past m s → 2 ≤ s.within
     → next_of_free def r of s.within past ≡ Some (entries.Freed r of)

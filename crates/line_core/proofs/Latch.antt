@@ -1,11 +1,9 @@
 -- A built definition with the fields that are the same of all of them, so that the rules compute.
-use Rattle.std.proofs.Common.{◌≡◌, ℕ, true, false, List, [], ◌∷◌, refl, ap, ◌∙◌, subst, sym}
+use Rattle.std.proofs.Common.{◌≡◌, true, false, List, [], ◌∷◌, ap, ◌∙◌}
 use Rattle.irq_base.specs.declared.devices.DeviceDef.{DeviceDef}
 use Rattle.irq_base.specs.declared.devices.Kind.TheVariants as kinds
-use Rattle.irq_base.specs.declared.lines.FlowKind.{FlowKind}
 use Rattle.irq_base.specs.declared.lines.FlowKind.TheVariants as flows
 use Rattle.irq_base.specs.declared.lines.LineDef.{LineDef}
-use Rattle.irq_base.specs.declared.lines.Trigger.{Trigger}
 use Rattle.irq_base.specs.declared.lines.Trigger.TheVariants as triggers
 use Rattle.line_core.specs.Built.{Built, device_of}
 

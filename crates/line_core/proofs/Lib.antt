@@ -6,3 +6,4 @@ pub mod Agreeing
 pub mod Nexts
 pub mod Driven
 pub mod Past
+pub mod Validity

@@ -14,8 +14,7 @@ use Rattle.irq_model.specs.Next.{next, next_past}
 use Rattle.line_core.proofs.Past.{past_more, linked_more}
 use Rattle.line_core.specs.Counts.{counts_after}
 use Rattle.line_core.specs.Due.{Comes, IsExpected}
-use Rattle.line_core.specs.Line.{IsSane, AreEarned, AreBounded, IsLinkedByScript, IsConsistent, IsPast, IsLine, one_if}
-use Rattle.line_core.specs.Built.{Built, count_of_asks}
+use Rattle.line_core.specs.Line.{IsSane, AreEarned, AreBounded, IsPast, IsLine, one_if}
 use Rattle.line_core.specs.Marks.{marks_after}
 use Rattle.line_core.specs.Script.{script_after}
 use Rattle.line_core.specs.declared.counts.Counts.{Counts}

@@ -1,8 +1,7 @@
 -- One more entry keeps that the marks and the place are those of the history.
-use Rattle.std.proofs.Common.{◌≡◌, ℕ, ◌+◌, ◌<◌, ◌≤◌, Bool, true, false, not, ◌||◌, ◌&&◌, ltb, cond, Some, List, [], ◌∷◌, ◌++◌, length, slice_get, refl, sym, ap, subst, ◌∙◌, arith, add-one}
+use Rattle.std.proofs.Common.{◌≡◌, ℕ, ◌+◌, ◌<◌, ◌≤◌, Bool, true, false, ◌||◌, ◌&&◌, ltb, cond, List, [], ◌∷◌, ◌++◌, length, refl, sym, ap, subst, ◌∙◌, arith, add-one}
 use Rattle.std.proofs.lemmas.Bool.Decides.{nat_tests}
 use Rattle.std.specs.List.{list_any}
-use Rattle.irq_base.specs.Who.{actor_of}
 use Rattle.irq_base.specs.declared.calls.Call.{Call}
 use Rattle.irq_base.specs.declared.calls.Call.TheVariants as calls
 use Rattle.irq_base.specs.declared.devices.Answer.{Answer}
@@ -12,20 +11,16 @@ use Rattle.irq_base.specs.declared.devices.Part.TheVariants as parts
 use Rattle.irq_base.specs.Handlers.{answer_of}
 use Rattle.irq_base.specs.declared.entries.Entry.{Entry}
 use Rattle.irq_base.specs.declared.entries.Entry.TheVariants as entries
-use Rattle.irq_base.specs.declared.entries.LinkAnswer.TheVariants as links
 use Rattle.irq_base.specs.declared.entries.Note.{Note}
 use Rattle.irq_base.specs.declared.entries.Note.TheVariants as notes
-use Rattle.irq_base.specs.declared.entries.Opened.TheVariants as opens
-use Rattle.irq_base.specs.declared.entries.Resend.TheVariants as resends
 use Rattle.irq_base.specs.declared.entries.TakeAnswer.TheVariants as takes
 use Rattle.irq_base.specs.declared.entries.UnlinkAnswer.TheVariants as unlinks
-use Rattle.irq_base.specs.declared.entries.Way.TheVariants as ways
 use Rattle.irq_base.specs.declared.lines.LineDef.{LineDef}
 use Rattle.irq_base.specs.declared.numbers.CpuNo.{CpuNo}
 use Rattle.irq_base.specs.declared.numbers.DevNo.{DevNo}
 use Rattle.irq_base.specs.declared.numbers.DriverNo.{DriverNo}
-use Rattle.irq_model.specs.Due.{calls_by, entries_by, entries_of_call, holds_mutex, is_being_freed_at}
-use Rattle.irq_model.specs.Kinds.{same_driver, is_by_driver, is_driver, is_freed_by, unlinks_by, is_wake, is_kill, is_unlinked_answer}
+use Rattle.irq_model.specs.Due.{calls_by, entries_by, entries_of_call, holds_mutex}
+use Rattle.irq_model.specs.Kinds.{same_driver, is_by_driver, unlinks_by, is_wake, is_kill, is_unlinked_answer}
 use Rattle.irq_model.specs.Places.{EachEntry}
 use Rattle.irq_steps.proofs.DueSteps.{laid_more, laid_done, goes_on, part_at, part_length, entries_more, entries_same}
 use Rattle.irq_steps.proofs.MutexSteps.{mutex_more, mutex_freed}
@@ -35,33 +30,27 @@ use Rattle.line_core.proofs.Agreeing.{ask_agrees, request_agrees, take_agrees, b
 use Rattle.line_core.proofs.Driven.{own_call, within_call, within_free}
 use Rattle.line_core.proofs.Latch.{latch, is_latch}
 use Rattle.line_core.specs.Agreed.{Agreed}
-use Rattle.line_core.specs.Built.{Built, device_of, driver_of, no_flags, count_of_asks}
+use Rattle.line_core.specs.Built.{Built, device_of, driver_of}
 use Rattle.line_core.specs.Due.{Comes, IsExpected, IsCallAt}
 use Rattle.line_core.specs.Line.{IsConsistent, IsPast, IsLinkedByScript}
-use Rattle.line_core.specs.Marks.{marks_after, after_ask, after_request, after_take, after_begin, after_return, after_end, after_unlink, is_handled}
+use Rattle.line_core.specs.Marks.{marks_after, after_ask}
 use Rattle.line_core.specs.Script.{script_after}
 use Rattle.line_core.specs.declared.marks.Marks.{Marks}
 use Rattle.line_core.specs.declared.script.Script.{Script}
 
 -- ---- the marks
 
-first_cpu_is : (c : CpuNo) → c.0 ≡ 0 → c ≡ record { 0 = 0 }
-first_cpu_is c h = let named : ℕ → CpuNo = λ n. record { 0 = n } in ap named h
-
-answer_is_plain : (n : ℕ) (b : Bool) → is_wake (cond b answers.Handled answers.Nothing) ≡ false
-answer_is_plain n true = refl
-answer_is_plain n false = refl
+answer_is_plain : (b : Bool) → is_wake (cond b answers.Handled answers.Nothing) ≡ false
+answer_is_plain true = refl
+answer_is_plain false = refl
 
 is_plain : (a : Answer) (n : ℕ) → a ≡ answer_of kinds.Direct parts.Primary n → is_wake a ≡ false
-is_plain a n h = ap is_wake h ∙ answer_is_plain n (ltb 0 n)
+is_plain a n h = ap is_wake h ∙ answer_is_plain (ltb 0 n)
 
 is_mild : (c : CpuNo) (note : Note) → (note ≡ notes.Killed → ⊥) → is_kill (entries.End c false false note) ≡ false
 is_mild c notes.Quiet h = refl
 is_mild c notes.Counted h = refl
 is_mild c notes.Killed h = absurd (h refl)
-
-Agree : LineDef → List Entry → Marks → Entry → Type 0
-Agree def past m e = Agreed (latch def) (e ∷ past) (marks_after def.window e m)
 
 latch_more : (def : LineDef) (d : DevNo) (past : List Entry) (m : Marks) (s : Script) (e : Entry) → IsConsistent def d m s → Agreed (latch def) past m → Comes def e → IsExpected def m s e
     → Agreed (latch def) (e ∷ past) (marks_after def.window e m)
@@ -166,7 +155,7 @@ laid_next def past m s _ b h comes expected = absurd comes
 
 pub linked_more : (def : LineDef) (past : List Entry) (m : Marks) (s : Script) (e : Entry) → Built def → IsLinkedByScript def m s → IsPast def past m s → Comes def e → IsExpected def m s e
     → IsLinkedByScript def (marks_after def.window e m) (script_after e s)
-linked_more def past m s (entries.Ask driver dev) b h is comes expected = 
+linked_more def past m s (entries.Ask driver dev) b h is comes expected =
     let one : s.within < 1 = within_call def past m s driver (calls.Ask dev) b is expected.2 in
     record { before = λ z. absurd (omega arith); during = λ x y z. h.during expected.0 (omega (arith, expected.1)) (omega arith) }
 linked_more def past m s (entries.Request driver dev flags answer opened) b h is comes expected = record { before = λ z. absurd (omega arith); during = λ x y z. refl }

@@ -36,7 +36,8 @@ pub fn due_entry(
     ensures actor { IfSome result (λ e. actor_of def.now.line e ≡ actor) }
     ensures comes { IfSome result (Comes def.now) }
     ensures expected { IfSome result (IsExpected def.now marks.now script) }
-    ensures next { (past : List Entry) → IsPast def.now past marks.now script → result ≡ next_past def.now past actor }
+    ensures next { (past : List Entry) → IsPast def.now past marks.now script
+        → result ≡ next_past def.now past actor }
 {
     match actor {
         Actor::Thread(..) => None,
@@ -55,7 +56,8 @@ fn due_of_cpu(def: &LineDef, dev: DevNo, marks: &Marks, script: Script, cpu: Cpu
     ensures actor { IfSome result (λ e. actor_of def.now.line e ≡ actors.Cpu cpu) }
     ensures comes { IfSome result (Comes def.now) }
     ensures expected { IfSome result (IsExpected def.now marks.now script) }
-    ensures next { (past : List Entry) → IsPast def.now past marks.now script → result ≡ next_of_cpu def.now cpu past }
+    ensures next { (past : List Entry) → IsPast def.now past marks.now script
+        → result ≡ next_of_cpu def.now cpu past }
 {
     if let Some(busy) = marks.flow {
         if busy.0 == cpu.0 {

@@ -1,7 +1,9 @@
 //! One interrupt line of one processor: an edge line with one device that has no thread, and one driver.
 //!
-//! Each step adds exactly one entry to the line's history, or changes nothing. What is due is decided before
-//! anything changes. A step takes constant time, and no memory but the room of the history.
+//! Each step adds the one entry that is due of its actor, by the table of steps of `irq_model`, or changes nothing
+//! where none is due. The marks that a line keeps are the values of the definitions at its history, which is never
+//! read: a step takes constant time, and no memory but the room of the history. What is due is decided before
+//! anything changes.
 #![tactic(auto)]
 
 pub mod answers;

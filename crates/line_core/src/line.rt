@@ -1,9 +1,11 @@
 //! The line.
-ghost use Rattle.std.specs.Prelude.{◌≡◌, ℕ, ◌+◌, ◌-◌, ◌<◌, ◌≤◌, ◌^◌, ◌↔◌, [], ◌∷◌, ◌++◌, length, IfOk, OnOk, IsOk, IfErr, OnErr, IsTrue, Ok, Err, None};
+ghost use Rattle.std.specs.Prelude.{◌≡◌, ℕ, ◌+◌, ◌-◌, ◌<◌, ◌≤◌, ◌^◌, ◌↔◌, [], ◌∷◌, ◌++◌, length, IfOk, OnOk, IsOk, IfErr, OnErr, IsTrue, Ok, Err, None, reverse};
 ghost use Rattle.irq_model.specs.Legal.{IsLegal};
 ghost use Rattle.irq_model.specs.Next.{next};
+ghost use Rattle.irq_model.specs.Places.{EachEntry};
 ghost use Rattle.irq_model.specs.Valid.{IsValid};
 ghost use Rattle.line_core.specs.Built.{Built, device_of};
+ghost use Rattle.line_core.specs.Due.{Comes};
 ghost use Rattle.line_core.specs.Steps.{Steps, HasCause, IsDueOf, IsPresented};
 ghost use Rattle.line_core.specs.declared.answers.StepRefused.TheVariants as refusals;
 ghost use Rattle.line_core.specs.declared.answers.Stepped.TheVariants as stepped;
@@ -67,7 +69,8 @@ impl Line {
         ensures not_yet { (result ≡ Ok stepped.NotYet) ↔ (next self.old.def self.old.entries actor ≡ None) }
         ensures full { (result ≡ Err (refusals.Full (length self.old.entries)))
             ↔ (IsDueOf self.old actor × (length self.old.entries ≡ self.old.def.log)) }
-        // Where there is room a step takes none: so memory is wanted only where `spare` is 0.
+        // Memory is wanted for the entry alone: with room for it none is. (On a line of more devices a request may
+        // want some for its action. There is none here.)
         ensures cause { IfErr result (HasCause self.old) }
         ensures due { OnErr result (IsDueOf self.old actor) }
         ensures refused { OnErr result (self.new ≡ self.old) }
@@ -144,17 +147,20 @@ impl Line {
         self.history.spare()
     }
 
-    /// What holds of every line: each entry is the one that was due of its actor after those before it.
+    /// What holds of every line: each entry is the one that was due of its actor after those before it, and of a kind
+    /// that comes on such a line.
     pub fn is_legal(&self)
-        ensures { IsLegal self.now.def self.now.entries }
+        ensures legal { IsLegal self.now.def self.now.entries }
+        ensures comes { EachEntry (λ entry past. Comes self.now.def entry) (reverse self.now.entries) }
     {
         let _history = &self.history;
     }
 
-    /// What holds of every line: its definition is one of those of which lines are made, and the history isn't
-    /// longer than it allows.
+    /// What holds of every line: its definition is one of those of which lines are made, it is valid, and the history
+    /// isn't longer than it allows.
     pub fn is_within_log(&self)
         ensures built { Built self.now.def }
+        ensures valid { IsValid self.now.def }
         ensures log { length self.now.entries ≤ self.now.def.log }
     {
         let _history = &self.history;

@@ -250,6 +250,7 @@ fn fills_its_log(rt: HostRuntime) -> Result<(), Fail> {
 fn keeps_room(rt: HostRuntime) -> Result<(), Fail> {
     let mut line = Line::new(rt.alloc(), &definition(rt.alloc(), 5)?)?;
     line.is_within_log();
+    line.is_legal();
     line.reserve()?;
     assert!(rt; line.spare() > 0);
     assert!(rt; line.step(Actor::Driver(DRIVER)) == Ok(request()));

@@ -1,5 +1,4 @@
-use Rattle.std.proofs.Common.{◌≡◌, None, sym, ap, ◌∙◌, slice_get, arith}
-use Rattle.irq_steps.specs.Laid.{with_count}
+use Rattle.std.proofs.Common.{◌≡◌, None, sym, ◌∙◌, slice_get}
 use Rattle.line_core.proofs.Driven.{call_due, none_due, other_due, driver_is}
 use Rattle.line_core.specs.Due.{IsCallAt}
 use Rattle.line_core.proofs.due.due_call.Goals as goal

@@ -1,8 +1,10 @@
-use Rattle.std.proofs.Common.{sym}
+use Rattle.std.proofs.Common.{◌≡◌, true, sym, arith}
 use Rattle.line_core.proofs.Nexts.{take_due}
 use Rattle.line_core.proofs.due.due_of_cpu.Goals as goal
 
 pub returns-then-marks-clause-next : goal.returns-then-marks-clause-next
 returns-then-marks-clause-next c = λ past h.
+    let first : c.args.cpu.0 ≡ 0 = omega arith in
+    let sent : c.args.marks.now.sent ≡ true = cc in
     rw c.take_answer.ensures
-    (sym (take_due c.args.def.now past c.args.marks.now c.args.cpu c.requires.built h.agreed h.comes c.in_default.is c.if-cpu-eq0.true c.if-marks.true))
+    (sym (take_due c.args.def.now past c.args.marks.now c.args.cpu c.requires.built h.agreed h.comes c.in_default.is first sent))

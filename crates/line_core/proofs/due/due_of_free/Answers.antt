@@ -1,11 +1,11 @@
-use Rattle.std.proofs.Common.{◌≡◌, ◌≤◌, ◌≢◌, true, Some, sym, ap, subst, ◌∙◌, arith}
+use Rattle.std.proofs.Common.{◌≡◌, true, Some, sym, subst, arith}
 use Rattle.irq_base.specs.declared.calls.Call.TheVariants as calls
 use Rattle.irq_base.specs.declared.entries.Entry.TheVariants as entries
 use Rattle.irq_base.specs.declared.entries.UnlinkAnswer.TheVariants as unlinks
 use Rattle.irq_base.specs.declared.numbers.DevNo.{DevNo}
 use Rattle.irq_model.specs.Next.{next_of_free}
 use Rattle.line_core.proofs.Calls.{call_fits}
-use Rattle.line_core.proofs.Driven.{unlink_due, waits_due, freed_due}
+use Rattle.line_core.proofs.Driven.{unlink_due, freed_due}
 use Rattle.line_core.proofs.due.due_of_free.Goals as goal
 
 pub returns-in-0-clause-next : goal.returns-in-0-clause-next
