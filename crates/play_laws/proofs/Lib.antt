@@ -1,2 +1,4 @@
 pub mod OnePlay
 pub mod AtRest
+pub mod Listed
+pub mod Rest

@@ -7,6 +7,9 @@ ghost use Rattle.irq_base.specs.declared.lines.LineDef.{LineDef};
 ghost use Rattle.irq_base.specs.declared.entries.Actor.{Actor};
 ghost use Rattle.irq_base.specs.declared.entries.Entry.{Entry};
 ghost use Rattle.irq_model.specs.Next.{next};
+ghost use Rattle.irq_model.specs.Legal.{IsLegal};
+ghost use Rattle.irq_model.specs.Settled.{IsSettled};
+ghost use Rattle.irq_model.specs.Valid.{IsValid};
 ghost use Rattle.play_laws.specs.Actors.{actors_of, IsOneOf};
 ghost use Rattle.play_laws.specs.Play.{End, Done, Plays};
 
@@ -18,4 +21,14 @@ pub fn play_is_one()
 /// Where a play is done, none of the line's actors has a due entry.
 pub fn done_at_rest()
     ensures law { (def : LineDef) (picks : List Actor) (h : List Entry) (a : Actor) → Plays def picks h Done → IsOneOf a (actors_of def) → next def h a ≡ None }
+{}
+
+/// Only the line's own actors ever have a due entry.
+pub fn others_rest()
+    ensures law { (def : LineDef) (h : List Entry) (a : Actor) → IsValid def → IsLegal def h → (IsOneOf a (actors_of def) → ⊥) → next def h a ≡ None }
+{}
+
+/// Where the play of a legal history is done, the line is settled: nothing is due, and every script is complete.
+pub fn done_is_settled()
+    ensures law { (def : LineDef) (picks : List Actor) (h : List Entry) → IsValid def → IsLegal def h → Plays def picks h Done → IsSettled def h }
 {}
