@@ -4,3 +4,4 @@ mod Writing
 mod Printable
 mod Made
 mod OneWord
+mod Ended

@@ -1,11 +1,11 @@
 -- A board's text is shorter than what is read, so reading it reaches the end of the source.
-use Rattle.std.proofs.Common.{◌≡◌, ◌≢◌, ℕ, zero, suc, ◌+◌, ◌*◌, ◌<◌, ◌≤◌, min, Bool, true, false, Option, Some, None, Ok, Err, List, [], ◌∷◌, ◌++◌, codes, take, drop, length, refl, sym, ap, ◌∙◌, arith, length-append, length-take}
+use Rattle.std.proofs.Common.{◌≡◌, ℕ, zero, suc, ◌*◌, ◌<◌, ◌≤◌, Bool, true, false, Option, Some, None, Ok, Err, List, ◌++◌, take, length, refl, sym, ap, ◌∙◌, arith, length-append, length-take}
 use Rattle.std.proofs.lemmas.List.{take_all, drop_all}
 use Rattle.irq_io.specs.Whole.{TakesUpTo}
 use Rattle.irq_top.specs.declared.boards.FirstBoard.{FirstBoard}
 use Rattle.irq_top.specs.declared.boards.BoardRefused.TheVariants as refusals
 use Rattle.irq_top.specs.FirstBoard.{board_text, ask_text, asks_text, end_text, IsAccepted}
-use Rattle.irq_top.specs.Reading.{ReadsBoard, left_after}
+use Rattle.irq_top.specs.Reading.{ReadsBoard}
 use Rattle.irq_top.proofs.Texts.{head_text, board_text_is}
 
 length_asks : (n : ℕ) → length (asks_text n) ≡ 6 * n

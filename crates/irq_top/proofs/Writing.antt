@@ -1,9 +1,9 @@
 -- One writing after another.
-use Rattle.std.proofs.Common.{◌≡◌, ℕ, suc, ◌+◌, ◌<◌, ◌≤◌, Bool, true, false, Option, Some, None, List, [], ◌∷◌, ◌++◌, get_or, slice_get, take, drop, length, refl, sym, ap, subst, ◌∙◌, append_assoc, arith}
-use Rattle.std.specs.List.{flat_map, All}
+use Rattle.std.proofs.Common.{◌≡◌, ℕ, ◌+◌, ◌<◌, Bool, false, Option, Some, None, List, [], ◌∷◌, ◌++◌, get_or, slice_get, take, drop, length, refl, sym, ap, subst, ◌∙◌, append_assoc}
+use Rattle.std.specs.List.{All}
 use Rattle.std.proofs.lemmas.List.{take_more, flat_map_more, take-append-drop, append-nil}
-use Rattle.std.proofs.lemmas.List.Elements.{All-get_or, All-push}
-use Rattle.std.proofs.lemmas.Option.{slice_get-get_or, slice_get_within, get_or_from_slice_get}
+use Rattle.std.proofs.lemmas.List.Elements.{All-get_or}
+use Rattle.std.proofs.lemmas.Option.{slice_get_within, get_or_from_slice_get}
 use Rattle.irq_base.specs.declared.numbers.LineNo.{LineNo}
 use Rattle.irq_base.specs.declared.entries.Entry.{Entry}
 use Rattle.irq_io.specs.Faults.{Counts}

@@ -2,7 +2,11 @@
 use Rattle.std.specs.Prelude.{◌≡◌, List, [], length}
 use Rattle.irq_base.specs.declared.lines.LineDef.{LineDef}
 use Rattle.irq_base.specs.declared.entries.Entry.{Entry}
+use Rattle.irq_model.specs.Laws.{NoOverlap, IsSilentAfterFree}
 use Rattle.irq_model.specs.Legal.{IsLegal}
+use Rattle.irq_model.specs.Owed.{IsDelivered}
+use Rattle.irq_model.specs.Scripts.{FollowsScripts}
+use Rattle.irq_model.specs.Settled.{IsSettled}
 use Rattle.play_laws.specs.Play.{Done, Full, Plays}
 use Rattle.irq_top.specs.declared.play.PlayEnd.{PlayEnd}
 use Rattle.irq_top.specs.declared.play.PlayEnd.TheVariants as ends
@@ -13,6 +17,14 @@ pub record Headline (def : LineDef) (h : List Entry) : Type 0 where
   pub play : Plays def [] h Done
   -- each entry was the due one of its actor
   pub legal : IsLegal def h
+  -- nothing is due any more, and the driver's calls are complete
+  pub settled : IsSettled def h
+  -- where the line isn't left disabled, no edge is owed to a linked device
+  pub delivered : IsDelivered def h
+  pub no_overlap : NoOverlap def h
+  pub silent_after_free : IsSilentAfterFree def h
+  -- the driver's entries are those of its calls, in the order of its script, each once
+  pub scripts : FollowsScripts def h
 
 -- the history of a line whose play ended at the greatest length, where a further entry was due
 pub record FullLog (def : LineDef) (h : List Entry) : Type 0 where

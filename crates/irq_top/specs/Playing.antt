@@ -1,5 +1,5 @@
 -- What a move of a line and a play of it come to.
-use Rattle.std.specs.Prelude.{◌≡◌, ℕ, ◌<◌, IsSome, Some, None, List, [], ◌∷◌, ◌++◌, length, reverse}
+use Rattle.std.specs.Prelude.{◌≡◌, ◌<◌, IsSome, Some, None, List, [], ◌∷◌, ◌++◌, length, reverse}
 use Rattle.irq_base.specs.declared.entries.Actor.{Actor}
 use Rattle.irq_base.specs.declared.entries.Entry.{Entry}
 use Rattle.line_core.specs.Due.{Comes}

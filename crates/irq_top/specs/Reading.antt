@@ -1,5 +1,5 @@
 -- What reading a board comes to.
-use Rattle.std.specs.Prelude.{◌≡◌, ℕ, ◌≤◌, ◌+◌, Bool, true, false, Option, Some, None, List, [], drop, Result, Ok, Err}
+use Rattle.std.specs.Prelude.{◌≡◌, ℕ, ◌+◌, Bool, true, false, Option, Some, List, [], drop, Result, Ok, Err}
 use Rattle.irq_top.specs.declared.boards.FirstBoard.{FirstBoard}
 use Rattle.irq_top.specs.declared.boards.BoardRefused.{BoardRefused}
 use Rattle.irq_top.specs.declared.boards.BoardRefused.TheVariants as refusals

@@ -1,5 +1,5 @@
 -- What the program prints.
-use Rattle.std.specs.Prelude.{ℕ, List, [], ◌∷◌, ◌++◌, codes}
+use Rattle.std.specs.Prelude.{ℕ, List, ◌++◌, codes}
 use Rattle.std.specs.List.{flat_map}
 use Rattle.irq_base.specs.declared.numbers.LineNo.{LineNo}
 use Rattle.irq_base.specs.declared.entries.Entry.{Entry}

@@ -115,6 +115,7 @@ fn play_board(alloc: Global, board: FirstBoard) -> Result<Played, NoMemory>
     let mut line = Line::new(alloc, &def)?;
     let end = play(&mut line, &board.actors());
     line.is_legal();
+    line.is_within_log();
     Ok(Played {
         history: line.into_history(),
         end,

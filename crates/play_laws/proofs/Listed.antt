@@ -1,6 +1,6 @@
 -- Only the line's own actors ever have a due entry.
-use Rattle.std.proofs.Common.{◌≡◌, ℕ, zero, suc, ◌+◌, ◌==◌, ◌⊎◌, inl, inr, Bool, true, false, ◌||◌, ◌&&◌, cond, nat_lt, Option, Some, None, List, [], ◌∷◌, ◌++◌, map, refl, sym, ap, ◌∙◌, subst, arith, eqb-true}
-use Rattle.std.proofs.lemmas.Bool.{or_cases, or_left, or_right, and_right}
+use Rattle.std.proofs.Common.{◌≡◌, ℕ, zero, suc, ◌+◌, ◌==◌, ◌⊎◌, inl, inr, Bool, true, false, ◌||◌, ◌&&◌, cond, nat_lt, Option, Some, None, List, [], ◌∷◌, ◌++◌, map, refl, sym, ap, ◌∙◌, subst, eqb-true}
+use Rattle.std.proofs.lemmas.Bool.{or_cases, or_left, or_right}
 use Rattle.std.specs.List.{list_any}
 use Rattle.irq_base.specs.declared.numbers.LineNo.{LineNo}
 use Rattle.irq_base.specs.declared.numbers.CpuNo.{CpuNo}
@@ -13,10 +13,8 @@ use Rattle.irq_base.specs.declared.entries.Actor.{Actor}
 use Rattle.irq_base.specs.declared.entries.Actor.TheVariants as actors
 use Rattle.irq_base.specs.declared.entries.Entry.{Entry}
 use Rattle.irq_base.specs.declared.entries.Entry.TheVariants as entries
-use Rattle.irq_base.specs.declared.entries.Way.{Way}
-use Rattle.irq_base.specs.declared.entries.TakeAnswer.{TakeAnswer}
 use Rattle.irq_base.specs.declared.entries.TakeAnswer.TheVariants as takes
-use Rattle.irq_model.specs.Kinds.{same_line, same_driver, is_handle, is_leave, is_again}
+use Rattle.irq_model.specs.Kinds.{same_line, same_driver, is_handle}
 use Rattle.irq_model.specs.Lines.{is_device, is_in_mask, is_eoi_flow}
 use Rattle.irq_model.specs.Links.{is_linked}
 use Rattle.irq_model.specs.Places.{last_of}
@@ -33,7 +31,6 @@ use Rattle.irq_model.specs.Legal.{IsDue, IsLegalPast}
 use Rattle.irq_model.specs.Valid.{IsValid}
 use Rattle.irq_steps.proofs.Same.{line_from_same, cpu_from_same}
 use Rattle.irq_laws.specs.Kept.{Kept}
-use Rattle.irq_laws.proofs.Lists.{both_ways}
 use Rattle.irq_laws.proofs.RestKept.{there_named}
 use Rattle.irq_laws.proofs.KeptAlways.{kept}
 use Rattle.irq_laws.proofs.Chosen.{chosen, the_same}

@@ -1,5 +1,5 @@
 -- Where a play is done, the line is settled.
-use Rattle.std.proofs.Common.{◌≡◌, Option, Some, None, List, reverse, refl, sym, ◌∙◌}
+use Rattle.std.proofs.Common.{◌≡◌, Option, Some, None, List, reverse, refl}
 use Rattle.irq_base.specs.declared.lines.LineDef.{LineDef}
 use Rattle.irq_base.specs.declared.entries.Actor.{Actor}
 use Rattle.irq_base.specs.declared.entries.Entry.{Entry}

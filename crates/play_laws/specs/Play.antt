@@ -1,6 +1,6 @@
 -- The play of a line by the stated order: the picks first, then always the lowest actor that can move, until
 -- none can, or the log is full (ours). The newest entry comes first here, as in the definitions of a line.
-use Rattle.std.specs.Prelude.{◌≡◌, ℕ, ◌<◌, IsSome, Option, Some, None, List, [], ◌∷◌, reverse, length}
+use Rattle.std.specs.Prelude.{◌≡◌, ◌<◌, IsSome, Option, Some, None, List, [], ◌∷◌, reverse, length}
 use Rattle.irq_base.specs.declared.lines.LineDef.{LineDef}
 use Rattle.irq_base.specs.declared.entries.Actor.{Actor}
 use Rattle.irq_base.specs.declared.entries.Entry.{Entry}

@@ -1,4 +1,4 @@
-use Rattle.std.proofs.Common.{◌≡◌, ◌∙◌, sym}
+use Rattle.std.proofs.Common.{◌∙◌, sym}
 use Rattle.irq_top.proofs.Whole.{found, refused}
 use Rattle.irq_top.proofs.boards.read_board.Goals as goal
 

@@ -1,8 +1,7 @@
-use Rattle.std.proofs.Common.{◌∙◌, sym}
 use Rattle.irq_io.specs.declared.whole.WriteEnd.TheVariants as ends
 use Rattle.log_text.specs.Rows.{history_text}
 use Rattle.irq_top.specs.Report.{layout_text}
-use Rattle.irq_top.proofs.Writing.{and_then, failed_within, failed_after}
+use Rattle.irq_top.proofs.Writing.{and_then, failed_within}
 use Rattle.irq_top.proofs.printing.print_report.Goals as goal
 
 pub returns-in-Failed-clause-content : goal.returns-in-Failed-clause-content
