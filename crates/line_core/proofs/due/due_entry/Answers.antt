@@ -7,6 +7,9 @@ use Rattle.line_core.proofs.due.due_entry.Goals as goal
 pub returns-in-Thread-clause-next : goal.returns-in-Thread-clause-next
 returns-in-Thread-clause-next c = λ past h. rw c.in-Thread.is (sym (thread_due c.args.def.now past c.args.marks.now _ _ h.agreed))
 
+pub returns-in_ok-call-in-Driver-clause-actor : goal.returns-in_ok-call-in-Driver-clause-actor
+returns-in_ok-call-in-Driver-clause-actor c = rw c.in-Driver.is (c.due_of_call.ensures.actor c.args.def.now)
+
 pub returns-in_ok-call-in-Driver-clause-comes : goal.returns-in_ok-call-in-Driver-clause-comes
 returns-in_ok-call-in-Driver-clause-comes c =
     c.due_of_call.ensures.comes c.args.def.now (call_fits c.args.def.now _ _ _ c.requires.built c.in_ok-call-in-Driver.ensures.at)
