@@ -14,3 +14,6 @@ pub mod RunLaws
 pub mod DepthKept
 pub mod Masking
 pub mod EdgesKept
+pub mod CellSteps
+pub mod Starts
+pub mod CellKept
