@@ -17,3 +17,4 @@ pub mod EdgesKept
 pub mod CellSteps
 pub mod Starts
 pub mod CellKept
+pub mod CountKept

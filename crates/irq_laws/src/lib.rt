@@ -6,7 +6,7 @@
 ghost use Rattle.std.specs.Prelude.{List};
 ghost use Rattle.irq_base.specs.declared.lines.LineDef.{LineDef};
 ghost use Rattle.irq_base.specs.declared.entries.Entry.{Entry};
-ghost use Rattle.irq_model.specs.Laws.{NoOverlap, IsSilentAfterFree, KeepsOneshot, IsSynchronised};
+ghost use Rattle.irq_model.specs.Laws.{NoOverlap, IsSilentAfterFree, KeepsOneshot, IsSynchronised, TakesAreCounted};
 ghost use Rattle.irq_model.specs.Legal.{IsLegal};
 ghost use Rattle.irq_model.specs.Valid.{IsValid};
 ghost use Rattle.irq_laws.specs.Driven.{IsDrivenCell};
@@ -16,29 +16,42 @@ ghost use Rattle.irq_laws.specs.Driven.{IsDrivenCell};
 #[tactic(auto, using(crate::proofs::RunLaws::no_overlap))]
 pub fn no_overlap()
     ensures law { (def : LineDef) (h : List Entry) → IsValid def → IsLegal def h → NoOverlap def h }
-{}
+{
+}
 
 /// Silence after free: no run of a device comes after its free before it is linked again.
 #[tactic(auto, using(crate::proofs::RunLaws::silent_after_free))]
 pub fn silent_after_free()
     ensures law { (def : LineDef) (h : List Entry) → IsValid def → IsLegal def h → IsSilentAfterFree def h }
-{}
+{
+}
 
 /// The one-shot promise: where an end or a finish opens a level line, no thread is unfinished.
 #[tactic(auto, using(crate::proofs::RunLaws::keeps_oneshot))]
 pub fn keeps_oneshot()
     ensures law { (def : LineDef) (h : List Entry) → IsValid def → IsLegal def h → KeepsOneshot def h }
-{}
+{
+}
 
 /// Synchronised calls: a hard clear comes where no handler is at work, a sync's end where no thread is.
 #[tactic(auto, using(crate::proofs::RunLaws::synchronised))]
 pub fn synchronised()
     ensures law { (def : LineDef) (h : List Entry) → IsValid def → IsLegal def h → IsSynchronised def h }
-{}
+{
+}
 
 /// The cell: masked, stored, sent, high and in service, as they are read off the entries, are what the signal cell
 /// of the line keeps when the entries drive it, each by the operations of its flow or its call.
 #[tactic(auto, using(crate::proofs::CellKept::is_driven_cell))]
 pub fn driven_cell()
     ensures law { (def : LineDef) (h : List Entry) → IsValid def → IsLegal def h → IsDrivenCell def h }
-{}
+{
+}
+
+/// Takes are counted: an edge line takes no more interrupts by its signal than there were asks, starts that the
+/// chip resent and ends that it sent again, and no more by software than there were such resends.
+#[tactic(auto, using(crate::proofs::CountKept::takes_are_counted))]
+pub fn takes_are_counted()
+    ensures law { (def : LineDef) (h : List Entry) → IsValid def → IsLegal def h → TakesAreCounted def h }
+{
+}
