@@ -18,3 +18,4 @@ pub mod CellSteps
 pub mod Starts
 pub mod CellKept
 pub mod CountKept
+pub mod CoverKept
