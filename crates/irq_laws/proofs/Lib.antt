@@ -18,4 +18,3 @@ pub mod CellSteps
 pub mod Starts
 pub mod CellKept
 pub mod CountKept
-pub mod CoverKept

@@ -8,7 +8,6 @@ ghost use Rattle.irq_base.specs.declared.lines.LineDef.{LineDef};
 ghost use Rattle.irq_base.specs.declared.entries.Entry.{Entry};
 ghost use Rattle.irq_model.specs.Laws.{NoOverlap, IsSilentAfterFree, KeepsOneshot, IsSynchronised, TakesAreCounted};
 ghost use Rattle.irq_model.specs.Legal.{IsLegal};
-ghost use Rattle.irq_model.specs.Owed.{IsCovered};
 ghost use Rattle.irq_model.specs.Valid.{IsValid};
 ghost use Rattle.irq_laws.specs.Driven.{IsDrivenCell};
 
@@ -54,13 +53,5 @@ pub fn driven_cell()
 #[tactic(auto, using(crate::proofs::CountKept::takes_are_counted))]
 pub fn takes_are_counted()
     ensures law { (def : LineDef) (h : List Entry) → IsValid def → IsLegal def h → TakesAreCounted def h }
-{
-}
-
-/// Covered: each edge that is owed to a device is sent, stored, pending or in a software resend, or the device is
-/// still to be called in the round.
-#[tactic(auto, using(crate::proofs::CoverKept::is_covered))]
-pub fn covered()
-    ensures law { (def : LineDef) (h : List Entry) → IsValid def → IsLegal def h → IsCovered def h }
 {
 }
