@@ -39,8 +39,7 @@ use Rattle.irq_laws.specs.Kept.{KeepsDepth, KeepsEdges}
 use Rattle.irq_laws.specs.Driven.{cell_with, cell_of, accepted, taken_on_eoi_edge, taken_on_eoi_level, taken, masked_if, unmasked_if, retriggered_if, ended, asked, served, driven, cell_after, IsDrivenCell}
 use Rattle.irq_laws.proofs.Lists.{any_ext, both_ways}
 use Rattle.irq_laws.proofs.Masking.{take_masked, IsPlain, flow_same, zero_depth}
-use Rattle.irq_laws.proofs.DepthKept.{depth_more, no_depth}
-use Rattle.irq_laws.proofs.EdgesKept.{edges_more, no_edges}
+use Rattle.irq_laws.proofs.KeptAlways.{kept}
 use Rattle.irq_laws.proofs.ImpliesFlow.{again_by, unmask_by, take_due, end_due}
 use Rattle.irq_laws.proofs.Starts.{chip_resend, soft_has_edges}
 use Rattle.irq_laws.proofs.CellSteps.{mask_is, accept_is, ack_is, eoi_is, same_rest, level_sent, marks, mask_to, unmask_to, leaves, resend_to, again_to, edge_to, take_to}
@@ -521,11 +520,6 @@ cell_more def e past valid due k soft =
 
 -- ---- every legal past
 
-pub kept_edges : (def : LineDef) → IsValid def → (past : List Entry) → IsLegalPast def past → KeepsDepth def past × KeepsEdges def past
-kept_edges def valid [] legal = (no_depth def, no_edges def)
-kept_edges def valid (e ∷ past) legal =
-    let k = kept_edges def valid past legal.1 in (depth_more def e past legal.0 k.0, edges_more def e past valid legal.0 k.0 k.1)
-
 cell_none : (def : LineDef) → cell_after def [] ≡ cell_of def []
 cell_none def = same_rest def _ _ _ _ _ _ _ (low (is_level_line def) def.devices) (idle (serves def))
   where
@@ -547,7 +541,7 @@ driven_cell : (def : LineDef) → IsValid def → (past : List Entry) → IsLega
 driven_cell def valid [] legal = cell_none def
 driven_cell def valid (e ∷ past) legal =
     ap (λ (x : Cell). driven def e past x) (driven_cell def valid past legal.1)
-    ∙ cell_more def e past valid legal.0 (kept_edges def valid past legal.1).1 (soft_has_edges def past legal.1)
+    ∙ cell_more def e past valid legal.0 (kept def past valid legal.1).edges (soft_has_edges def past legal.1)
 
 pub is_driven_cell : (def : LineDef) (h : List Entry) → IsValid def → IsLegal def h → IsDrivenCell def h
 is_driven_cell def h valid legal = let same = driven_cell def valid (reverse h) legal in record { keeps = same; presents = ap presents same }

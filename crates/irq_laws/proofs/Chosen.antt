@@ -1,5 +1,5 @@
 -- Which branch gave an entry.
-use Rattle.std.proofs.Common.{◌≡◌, ◌⊎◌, inl, inr, Bool, true, false, not, ◌&&◌, cond, Option, Some, None, refl}
+use Rattle.std.proofs.Common.{◌≡◌, ◌⊎◌, inl, inr, Bool, true, false, cond, Option, Some, None, refl}
 
 module _ {A : Type 0} where
   pub chosen : (b : Bool) (x y : Option A) (e : A) → cond b x y ≡ Some e → ((b ≡ true) × (x ≡ Some e)) ⊎ ((b ≡ false) × (y ≡ Some e))

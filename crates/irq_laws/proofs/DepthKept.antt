@@ -1,8 +1,7 @@
 -- Each entry keeps: the depth is exact, and a line that isn't disabled is started.
-use Rattle.std.proofs.Common.{◌≡◌, ℕ, ◌+◌, ◌-◌, ◌≤◌, ◌==◌, ◌⊎◌, inl, inr, Bool, true, false, not, ◌||◌, ◌&&◌, cond, Some, None, List, [], ◌∷◌, ◌++◌, filter, refl, sym, ap, ◌∙◌, subst, arith, eqb-true}
-use Rattle.std.proofs.lemmas.Bool.{and_parts, and_from, or_cases, or_left, or_right, or_parts, eqb-false, false_from_ne_true}
+use Rattle.std.proofs.Common.{◌≡◌, ℕ, ◌+◌, ◌-◌, ◌≤◌, ◌==◌, ◌⊎◌, inl, inr, Bool, true, false, not, ◌||◌, ◌&&◌, cond, List, [], ◌∷◌, ◌++◌, filter, refl, sym, ap, ◌∙◌, subst, arith, eqb-true}
+use Rattle.std.proofs.lemmas.Bool.{and_from, or_left, or_right, or_parts, eqb-false}
 use Rattle.irq_base.specs.declared.numbers.DevNo.{DevNo}
-use Rattle.irq_base.specs.declared.numbers.DriverNo.{DriverNo}
 use Rattle.irq_base.specs.declared.calls.Flags.{Flags}
 use Rattle.irq_base.specs.declared.lines.LineDef.{LineDef}
 use Rattle.irq_base.specs.declared.entries.Entry.{Entry}
@@ -15,18 +14,17 @@ use Rattle.irq_base.specs.declared.entries.Opened.TheVariants as opens
 use Rattle.irq_base.specs.declared.entries.LinkAnswer.{LinkAnswer}
 use Rattle.irq_base.specs.declared.entries.LinkAnswer.TheVariants as links
 use Rattle.irq_base.specs.declared.entries.UnlinkAnswer.TheVariants as unlinks
-use Rattle.irq_model.specs.Places.{since_place, upto_place, count_of}
-use Rattle.irq_model.specs.Kinds.{same_dev, opened_of, opened_by_enable, is_start, is_started_opened, is_lowering_opened, is_last_unlink, is_disable, is_kill, is_linked_request}
-use Rattle.irq_model.specs.Links.{linked, requested, is_linked, is_none_linked, is_empty, is_first_request, is_reset, base, is_deepening, is_lowering, depth, is_started, has_spurious_mark}
-use Rattle.irq_model.specs.Next.{enable_answer, opened_by_request, resend_of, unlink_answer, is_only, link_answer}
+use Rattle.irq_model.specs.Places.{count_of}
+use Rattle.irq_model.specs.Kinds.{same_dev, opened_of, opened_by_enable, is_start, is_started_opened, is_lowering_opened, is_last_unlink, is_disable, is_kill}
+use Rattle.irq_model.specs.Links.{linked, requested, is_linked, is_none_linked, is_empty, is_first_request, is_reset, is_deepening, is_lowering, depth, is_started, has_spurious_mark}
+use Rattle.irq_model.specs.Next.{enable_answer, opened_by_request, resend_of, is_only}
 use Rattle.irq_model.specs.Legal.{IsDue}
 use Rattle.irq_steps.proofs.LinkSteps.{linked_request, linked_unlink}
 use Rattle.irq_steps.proofs.ListSteps.{linked_refused, linked_not_there, count_filter, requested_once}
 use Rattle.irq_steps.proofs.DepthSteps.{raised, lowered, raised_reset, raised_more}
-use Rattle.irq_steps.proofs.Same.{same_self, dev_from_same, same_both}
+use Rattle.irq_steps.proofs.Same.{same_both}
 use Rattle.irq_laws.specs.Kept.{KeepsDepth}
 use Rattle.irq_laws.proofs.Lists.{both_ways}
-use Rattle.irq_laws.proofs.Requested.{of_linked}
 use Rattle.irq_laws.proofs.ImpliesDriver.{enable_due, request_due, unlink_due, opened_with}
 
 -- ---- what an enable, or the enable within a request, tells of the depth

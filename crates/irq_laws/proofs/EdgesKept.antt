@@ -1,6 +1,6 @@
 -- Each entry keeps: why an edge line is masked, and what is pending then.
-use Rattle.std.proofs.Common.{◌≡◌, ℕ, ◌⊎◌, inl, inr, Bool, true, false, not, ◌||◌, ◌&&◌, cond, Some, None, is_some, List, [], ◌∷◌, refl, sym, ap, ◌∙◌, subst, arith}
-use Rattle.std.proofs.lemmas.Bool.{and_parts, and_from, and_right, or_parts, false_from_ne_true}
+use Rattle.std.proofs.Common.{◌≡◌, ◌⊎◌, inl, inr, Bool, true, false, not, ◌||◌, ◌&&◌, is_some, List, [], ◌∷◌, refl, sym, ap, ◌∙◌, arith}
+use Rattle.std.proofs.lemmas.Bool.{and_from, or_parts, false_from_ne_true}
 use Rattle.irq_base.specs.declared.numbers.CpuNo.{CpuNo}
 use Rattle.irq_base.specs.declared.lines.FlowKind.{FlowKind}
 use Rattle.irq_base.specs.declared.lines.FlowKind.TheVariants as flows
@@ -10,11 +10,11 @@ use Rattle.irq_base.specs.declared.entries.Entry.TheVariants as entries
 use Rattle.irq_base.specs.declared.entries.TakeAnswer.TheVariants as takes
 use Rattle.irq_base.specs.declared.entries.Note.{Note}
 use Rattle.irq_model.specs.Kinds.{is_take, is_start, is_again, is_handle, is_disable, is_kill, is_last_unlink, is_reopening}
-use Rattle.irq_model.specs.Lines.{is_edge_line, is_level_line, is_edge_flow, is_level_flow, is_eoi_flow}
+use Rattle.irq_model.specs.Lines.{is_edge_line, is_edge_flow, is_level_flow, is_eoi_flow}
 use Rattle.irq_model.specs.Links.{depth, is_started, is_disabled, is_none_linked, is_oneshot}
 use Rattle.irq_model.specs.Masks.{take_masks, unmasks, is_masked}
-use Rattle.irq_model.specs.Rounds.{flow, has_flow}
-use Rattle.irq_model.specs.Waiting.{is_pending, clears_pending}
+use Rattle.irq_model.specs.Rounds.{has_flow}
+use Rattle.irq_model.specs.Waiting.{is_pending}
 use Rattle.irq_model.specs.Spurious.{note_of}
 use Rattle.irq_model.specs.Next.{is_off_now}
 use Rattle.irq_model.specs.Legal.{IsDue}
@@ -28,7 +28,7 @@ use Rattle.irq_laws.proofs.Lists.{both_ways}
 use Rattle.irq_laws.proofs.RunsKept.{handle_idle}
 use Rattle.irq_laws.proofs.DepthKept.{StaysEnabled, enabled_before}
 use Rattle.irq_laws.proofs.Masking.{edge_is, eoi_is, level_is_not, busy_has_flow, never_off, zero_depth, take_masked, start_opens, masked_before, IsPlain, flow_same, off_now}
-use Rattle.irq_laws.proofs.ImpliesFlow.{again_by, unmask_by, has_a_flow, take_due, end_due}
+use Rattle.irq_laws.proofs.ImpliesFlow.{again_by, unmask_by, take_due, end_due}
 
 -- ---- what is pending
 
@@ -102,9 +102,10 @@ edge_more : (def : LineDef) (e : Entry) (past : List Entry) → IsValid def → 
 edge_more def (entries.Take c way takes.Handle) past valid due kd k edge m zero =
     let was : is_masked def past ≡ true = sym (take_masked def flows.Edge c way takes.Handle past (edge_is def.flow edge)) ∙ m in
     both_ways (has_flow def past) (k edge was zero).0 (handle_idle def past (take_due def c way takes.Handle past due).answer_is).0
-edge_more def (entries.Take c way takes.Busy) past valid due kd k edge m zero =
-    (ap is_some (flow_quiet def (entries.Take c way takes.Busy) past refl refl refl) ∙ busy_has_flow def c way past due,
-    ap (λ (b : Bool). (b && true) || is_pending def past) (valid.edge_flow edge))
+edge_more def (entries.Take c way takes.Busy) past valid due kd k edge m zero = (
+  ap is_some (flow_quiet def (entries.Take c way takes.Busy) past refl refl refl) ∙ busy_has_flow def c way past due,
+  ap (λ (b : Bool). (b && true) || is_pending def past) (valid.edge_flow edge),
+)
 edge_more def (entries.Take c way takes.Off) past valid due kd k edge m zero = never_off def c way past due kd zero
 edge_more def (entries.End c again unmask note) past valid due kd k edge m zero = by_case (enabled_before def (entries.End c again unmask note) past due kd zero)
   where

@@ -1,6 +1,6 @@
 -- Each entry keeps: one free at a time, and its driver is within it.
-use Rattle.std.proofs.Common.{◌≡◌, ℕ, suc, ◌+◌, ◌<◌, ◌==◌, ◌⊎◌, inl, inr, Bool, true, false, not, ◌||◌, ◌&&◌, cond, Option, Some, None, List, [], ◌∷◌, filter, nat_lt, refl, sym, ap, ◌∙◌, subst, arith}
-use Rattle.std.proofs.lemmas.Bool.{and_parts, or_cases, and_right, or_from, ltb-true, eqb-false, false_from_ne_true, and_left}
+use Rattle.std.proofs.Common.{◌≡◌, ℕ, suc, ◌<◌, ◌==◌, ◌⊎◌, inl, inr, Bool, true, false, not, ◌&&◌, cond, Option, Some, List, [], ◌∷◌, filter, nat_lt, refl, sym, ap, ◌∙◌, subst, arith}
+use Rattle.std.proofs.lemmas.Bool.{and_parts, or_cases, and_right, or_from, ltb-true, eqb-false, false_from_ne_true}
 use Rattle.irq_base.specs.declared.numbers.CpuNo.{CpuNo}
 use Rattle.irq_base.specs.declared.numbers.DevNo.{DevNo}
 use Rattle.irq_base.specs.declared.numbers.DriverNo.{DriverNo}
@@ -11,7 +11,7 @@ use Rattle.irq_base.specs.declared.entries.Entry.{Entry}
 use Rattle.irq_base.specs.declared.entries.Entry.TheVariants as entries
 use Rattle.irq_base.specs.declared.entries.UnlinkAnswer.TheVariants as unlinks
 use Rattle.irq_model.specs.Places.{stands}
-use Rattle.irq_model.specs.Kinds.{same_dev, same_driver, is_freed_by, is_by_driver, is_begin}
+use Rattle.irq_model.specs.Kinds.{same_dev, same_driver, is_freed_by, is_by_driver}
 use Rattle.irq_model.specs.Links.{linked, is_linked, requested}
 use Rattle.irq_model.specs.Rounds.{has_flow, has_begun, first_left}
 use Rattle.irq_model.specs.Due.{calls_by, due_call, entries_of_call, holds_mutex}
@@ -20,7 +20,7 @@ use Rattle.irq_model.specs.Legal.{IsDue}
 use Rattle.irq_steps.proofs.Same.{same_self, same_self_driver, dev_from_same, driver_from_same}
 use Rattle.irq_laws.specs.Kept.{KeepsRuns, KeepsFrees, freeing, unlinks_of}
 use Rattle.irq_laws.proofs.Chosen.{the_same}
-use Rattle.irq_laws.proofs.Lists.{both_ways, stands_cases, differs_dev, differs_driver}
+use Rattle.irq_laws.proofs.Lists.{both_ways, differs_dev, differs_driver}
 use Rattle.irq_laws.proofs.Progress.{fresh, free_before, free_below}
 use Rattle.irq_laws.proofs.Mutex.{freeing_holds, clearer, cleared_before}
 use Rattle.irq_laws.proofs.ImpliesFlow.{begin_due}
@@ -32,7 +32,7 @@ use Rattle.irq_laws.proofs.ImpliesDriver.{ask_due, request_due, unlink_due, free
 pub not_freeing : {P : Type 0} (past : List Entry) (f : DriverNo × DevNo) → holds_mutex past ≡ false → freeing past ≡ Some f → P
 not_freeing past f free is = both_ways (holds_mutex past) (freeing_holds past f is) free
 
-same_free : (past : List Entry) (r s : DriverNo) (d x : DevNo) → freeing past ≡ Some (r, d) → freeing past ≡ Some (s, x) → (r ≡ s) × (d ≡ x)
+pub same_free : (past : List Entry) (r s : DriverNo) (d x : DevNo) → freeing past ≡ Some (r, d) → freeing past ≡ Some (s, x) → (r ≡ s) × (d ≡ x)
 same_free past r s d x a b =
     let p : DriverNo × DevNo = (r, d) in
     let q : DriverNo × DevNo = (s, x) in
@@ -121,6 +121,7 @@ within_clear def s past due k r d n h = by_call (hard_clear_due def s past due).
     of_free : (x : DevNo) → due_call def s past ≡ Some (calls.Free x, 1) → FreeStep def r s (entries.HardClear s) past (calls.Free x) 1 d n → freeing past ≡ Some (r, d)
     of_free x call (inl h) = k.within r d n h.1
     of_free x call (inr h) = k.within s x 0 call ∙ this_free r s d x h.0 (dev_of_free d x h.1)
+
     by_call : ((x : DevNo) × (due_call def s past ≡ Some (calls.Free x, 1))) ⊎ ((due_call def s past ≡ Some (calls.Disable, 1)) ⊎ (due_call def s past ≡ Some (calls.Sync, 0))) → freeing past ≡ Some (r, d)
     by_call (inl u) = of_free u.0 u.1 (free_before def r s (entries.HardClear s) past (calls.Free u.0) 1 d n refl u.1 h)
     by_call (inr (inl u)) = k.within r d n (other_call def r s (entries.HardClear s) past calls.Disable 1 d n refl refl u h)
@@ -238,6 +239,7 @@ first_of def past p (x ∷ xs) d h = by_test (p x) refl (λ is. first_of def pas
     here false begun passes is deeper =
         let same = the_same x d is in
         (subst (λ (y : DevNo). p y ≡ true) same passes, subst (λ (y : DevNo). has_begun def past y ≡ false) same begun)
+
     by_test : (b : Bool) → p x ≡ b → (first_left def past (filter p xs) ≡ Some d → (p d ≡ true) × (has_begun def past d ≡ false)) → (p d ≡ true) × (has_begun def past d ≡ false)
     by_test true is deeper = here (has_begun def past x) refl is (ap (λ (b : Bool). first_left def past (cond b (x ∷ filter p xs) (filter p xs))) (sym is) ∙ h) deeper
     by_test false is deeper = deeper (ap (λ (b : Bool). first_left def past (cond b (x ∷ filter p xs) (filter p xs))) (sym is) ∙ h)

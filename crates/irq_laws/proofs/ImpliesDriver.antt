@@ -1,5 +1,5 @@
 -- What a driver's entry implies, where it is due: the call that it belongs to, and the conditions of its row.
-use Rattle.std.proofs.Common.{◌≡◌, ℕ, ◌+◌, ◌⊎◌, inl, inr, Bool, true, false, not, ◌||◌, ◌&&◌, ◌==◌, cond, Option, Some, None, List, refl, sym, ap, ap₂, ◌∙◌, eqb-true}
+use Rattle.std.proofs.Common.{◌≡◌, ℕ, ◌⊎◌, inl, inr, true, false, ◌||◌, ◌==◌, cond, Option, Some, None, List, refl, sym, ap, ap₂, ◌∙◌, eqb-true}
 use Rattle.std.proofs.lemmas.Bool.{or_parts}
 use Rattle.irq_base.specs.declared.numbers.DevNo.{DevNo}
 use Rattle.irq_base.specs.declared.numbers.DriverNo.{DriverNo}
@@ -68,6 +68,7 @@ row_of_free def r d n due past e is h = first (chosen (n == 0) _ _ e h)
     rest : (n == 0) ≡ false → ((n == 1) ≡ true) × (hard_clear_of def r past ≡ Some e) ⊎ ((n == 1) ≡ false) × (freed_of r d past ≡ Some e) → Row def r due past e
     rest some (inl h) = let c = clears def r past e h.1 in free_clear d (at_one (calls.Free d) n due is h.0) c.0 c.1
     rest some (inr h) = let f = from_else (is_woken past d || is_running past d) (entries.Freed r d) e h.1 in freed d n is some h.0 f.0 f.1
+
     first : ((n == 0) ≡ true) × (cond (holds_mutex past) None (Some (entries.Unlink r d (unlink_answer d past))) ≡ Some e)
         ⊎ ((n == 0) ≡ false) × (cond (n == 1) (hard_clear_of def r past) (freed_of r d past) ≡ Some e) → Row def r due past e
     first (inl h) = let u = from_else (holds_mutex past) _ e h.1 in unlink d (at_zero (calls.Free d) n due is h.0) u.0 u.1
@@ -79,6 +80,7 @@ row_of_disable def r n due past e is h = first (chosen (n == 0) _ _ e h)
     rest : (n == 0) ≡ false → ((n == 1) ≡ true) × (hard_clear_of def r past ≡ Some e) ⊎ ((n == 1) ≡ false) × (synced_of def r past ≡ Some e) → Row def r due past e
     rest some (inl h) = let c = clears def r past e h.1 in disable_clear (at_one calls.Disable n due is h.0) c.0 c.1
     rest some (inr h) = let s = syncs def r past e h.1 in disable_synced n is some h.0 s.0 s.1
+
     first : ((n == 0) ≡ true) × (Some (entries.Disable r) ≡ Some e)
         ⊎ ((n == 0) ≡ false) × (cond (n == 1) (hard_clear_of def r past) (synced_of def r past) ≡ Some e) → Row def r due past e
     first (inl h) = disable (at_zero calls.Disable n due is h.0) (the_same _ _ h.1)

@@ -17,14 +17,14 @@ use Rattle.irq_base.specs.Handlers.{answer_of}
 use Rattle.irq_model.specs.Lines.{is_edge_line, kind_of}
 use Rattle.irq_model.specs.Links.{linked, is_oneshot}
 use Rattle.irq_model.specs.Masks.{is_masked}
-use Rattle.irq_model.specs.Rounds.{flow, has_flow, is_cpu, first_left, at_work}
+use Rattle.irq_model.specs.Rounds.{flow, is_cpu, first_left, at_work}
 use Rattle.irq_model.specs.Waiting.{is_pending, is_soft}
 use Rattle.irq_model.specs.Signal.{signals, target}
 use Rattle.irq_model.specs.Threads.{is_some_unfinished}
 use Rattle.irq_model.specs.Spurious.{note_of}
-use Rattle.irq_model.specs.Next.{asks_of_handler, served_by_handler, is_off_now, end_by_flow, end_level, end_of, begin_or_end, next_in_flow, take_answer, next_take, next_of_cpu}
+use Rattle.irq_model.specs.Next.{asks_of_handler, is_off_now, end_by_flow, end_of, begin_or_end, next_in_flow, take_answer, next_take, next_of_cpu}
 use Rattle.irq_model.specs.Legal.{IsDue}
-use Rattle.irq_laws.proofs.Chosen.{chosen, from_then, the_same}
+use Rattle.irq_laws.proofs.Chosen.{chosen, the_same}
 
 -- ---- the end of a flow, a flag each
 
@@ -170,6 +170,7 @@ take_due def c way answer past due = by_case (cpu_cases def c past (entries.Take
         let a : answer ≡ take_answer def past = cc (h.2) in
         let w : way ≡ ways.Resend = cc (h.2) in
         record { not_of_flow = no_flow; of_target = of_target; answer_is = a; by_line = λ is. absurd (let n : ⊥ = cc (sym w ∙ is) in n); by_resend = λ is. (h.0, h.1) }
+
     by_case : ((is_cpu c (flow def past) ≡ true) × (next_in_flow def c past (at_work past) ≡ entries.Take c way answer)) ⊎ ((is_cpu c (flow def past) ≡ false) × (next_take def c past ≡ Some (entries.Take c way answer)))
         → IsTakeDue def c way answer past
     by_case (inl h) = absurd (not_take def c past (at_work past) way answer h.1)
@@ -183,6 +184,7 @@ in_flow def c past e differs due = by_case (cpu_cases def c past e due)
     by_way : ((signals def past ≡ true) × (entries.Take c ways.Line (take_answer def past) ≡ e)) ⊎ ((signals def past ≡ false) × (is_soft past ≡ true) × (entries.Take c ways.Resend (take_answer def past) ≡ e)) → ⊥
     by_way (inl h) = differs ways.Line (take_answer def past) h.1
     by_way (inr h) = differs ways.Resend (take_answer def past) h.2
+
     by_case : ((is_cpu c (flow def past) ≡ true) × (next_in_flow def c past (at_work past) ≡ e)) ⊎ ((is_cpu c (flow def past) ≡ false) × (next_take def c past ≡ Some e))
         → (is_cpu c (flow def past) ≡ true) × (next_in_flow def c past (at_work past) ≡ e)
     by_case (inl h) = h

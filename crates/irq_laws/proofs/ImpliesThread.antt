@@ -1,5 +1,5 @@
 -- What a thread's entry implies, where it is due: the conditions of its row.
-use Rattle.std.proofs.Common.{◌≡◌, ℕ, ◌⊎◌, inl, inr, Bool, true, false, not, ◌||◌, ◌&&◌, cond, Option, Some, None, List, refl, sym, ap, ◌∙◌, arith}
+use Rattle.std.proofs.Common.{◌≡◌, ℕ, ◌⊎◌, inl, inr, Bool, true, false, not, ◌&&◌, cond, Option, Some, None, List, refl}
 use Rattle.std.specs.List.{list_any}
 use Rattle.irq_base.specs.declared.numbers.DevNo.{DevNo}
 use Rattle.irq_base.specs.declared.lines.LineDef.{LineDef}
@@ -10,7 +10,7 @@ use Rattle.irq_model.specs.Kinds.{same_line, is_thread_begin, is_thread_return, 
 use Rattle.irq_model.specs.Links.{is_oneshot}
 use Rattle.irq_model.specs.Rounds.{has_flow}
 use Rattle.irq_model.specs.Threads.{is_woken, is_running}
-use Rattle.irq_model.specs.Next.{asks_of_thread, finish_unmasks, finish_or_done, next_of_thread}
+use Rattle.irq_model.specs.Next.{asks_of_thread, finish_unmasks, next_of_thread}
 use Rattle.irq_model.specs.Legal.{IsDue}
 use Rattle.irq_steps.proofs.Same.{same_self_line}
 use Rattle.irq_laws.proofs.Chosen.{the_same}

@@ -14,7 +14,16 @@ pub mod RunLaws
 pub mod DepthKept
 pub mod Masking
 pub mod EdgesKept
+pub mod Scripted
+pub mod WantedKept
+pub mod Unfinished
+pub mod LevelsKept
+pub mod ReasonLaws
+pub mod ScriptLaws
+pub mod Owing
+pub mod CoverLaws
 pub mod CellSteps
 pub mod Starts
 pub mod CellKept
 pub mod CountKept
+pub mod IdleLaws

@@ -1,12 +1,12 @@
 -- Tests of the elements of a list.
-use Rattle.std.proofs.Common.{◌≡◌, ℕ, ◌+◌, ◌⊎◌, inl, inr, Bool, true, false, not, ◌||◌, ◌&&◌, cond, List, [], ◌∷◌, filter, refl, sym, ap, ◌∙◌, subst, arith}
+use Rattle.std.proofs.Common.{◌≡◌, ℕ, ◌+◌, ◌⊎◌, inl, inr, Bool, true, false, not, ◌||◌, ◌&&◌, cond, List, [], ◌∷◌, filter, refl, sym, ◌∙◌, subst, arith}
 use Rattle.std.specs.List.{list_any}
-use Rattle.std.proofs.lemmas.Bool.{or_cases, or_left, or_right, or_parts, and_parts, false_from_ne_true}
+use Rattle.std.proofs.lemmas.Bool.{or_left, or_right}
 use Rattle.irq_base.specs.declared.numbers.DevNo.{DevNo}
 use Rattle.irq_base.specs.declared.numbers.DriverNo.{DriverNo}
 use Rattle.irq_model.specs.Kinds.{same_dev, same_driver}
 use Rattle.irq_steps.proofs.Same.{same_self, same_self_driver}
-use Rattle.irq_model.specs.Places.{some_place, count_of, stands}
+use Rattle.irq_model.specs.Places.{some_place, count_of}
 
 pub both_ways : {P : Type 0} (b : Bool) → b ≡ true → b ≡ false → P
 both_ways b t f = let n = sym t ∙ f in cc

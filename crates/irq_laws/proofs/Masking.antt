@@ -1,6 +1,6 @@
 -- What an entry that is due makes of the mask, of the flow and of what is pending, by its kind.
-use Rattle.std.proofs.Common.{◌≡◌, ℕ, ◌+◌, ◌≤◌, ◌⊎◌, inl, inr, Bool, true, false, not, ◌||◌, ◌&&◌, cond, Some, None, is_some, List, [], ◌∷◌, nat_lt, refl, sym, ap, ◌∙◌, subst, arith}
-use Rattle.std.proofs.lemmas.Bool.{and_parts, or_parts, ltb-false}
+use Rattle.std.proofs.Common.{◌≡◌, ℕ, Bool, true, false, not, ◌||◌, ◌&&◌, cond, is_some, List, ◌∷◌, nat_lt, refl, sym, ap, ◌∙◌, arith}
+use Rattle.std.proofs.lemmas.Bool.{ltb-false}
 use Rattle.irq_base.specs.declared.numbers.CpuNo.{CpuNo}
 use Rattle.irq_base.specs.declared.lines.FlowKind.{FlowKind}
 use Rattle.irq_base.specs.declared.lines.FlowKind.TheVariants as flows
@@ -12,20 +12,18 @@ use Rattle.irq_base.specs.declared.entries.TakeAnswer.{TakeAnswer}
 use Rattle.irq_base.specs.declared.entries.TakeAnswer.TheVariants as takes
 use Rattle.irq_base.specs.declared.entries.Note.{Note}
 use Rattle.irq_model.specs.Kinds.{is_take, is_handle, is_again, is_leave, is_start, is_disable, is_kill, is_last_unlink, is_reopening}
-use Rattle.irq_model.specs.Lines.{is_edge_line, is_level_line, is_edge_flow, is_level_flow, is_eoi_flow}
+use Rattle.irq_model.specs.Lines.{is_edge_flow, is_eoi_flow}
 use Rattle.irq_model.specs.Links.{depth, is_disabled, is_none_linked}
-use Rattle.irq_model.specs.Masks.{take_masks, masks, unmasks, is_masked}
-use Rattle.irq_model.specs.Rounds.{flow, has_flow}
-use Rattle.irq_model.specs.Waiting.{is_pending}
-use Rattle.irq_model.specs.Next.{take_answer, is_off_now}
+use Rattle.irq_model.specs.Masks.{take_masks, is_masked}
+use Rattle.irq_model.specs.Rounds.{has_flow}
+use Rattle.irq_model.specs.Next.{is_off_now}
 use Rattle.irq_model.specs.Legal.{IsDue}
-use Rattle.irq_model.specs.Valid.{IsValid}
 use Rattle.irq_steps.proofs.RoundSteps.{flow_quiet}
 use Rattle.irq_steps.proofs.MaskSteps.{masked_more, masked_by_opening}
 use Rattle.irq_laws.specs.Kept.{KeepsDepth}
 use Rattle.irq_laws.proofs.Lists.{both_ways}
 use Rattle.irq_laws.proofs.DepthKept.{StaysEnabled}
-use Rattle.irq_laws.proofs.ImpliesFlow.{has_a_flow, take_due, end_due}
+use Rattle.irq_laws.proofs.ImpliesFlow.{take_due}
 
 -- ---- flows by their tests
 

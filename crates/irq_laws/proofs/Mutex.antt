@@ -1,5 +1,5 @@
 -- The request mutex, and who holds it: laws of any past.
-use Rattle.std.proofs.Common.{◌≡◌, ◌⊎◌, inl, inr, Bool, true, false, not, ◌||◌, ◌&&◌, Option, Some, None, List, [], ◌∷◌, refl, sym, ap, ap₂, ◌∙◌, arith, subst}
+use Rattle.std.proofs.Common.{◌≡◌, ◌⊎◌, inl, inr, Bool, true, false, not, ◌||◌, ◌&&◌, Some, List, [], ◌∷◌, refl, sym, ap, ◌∙◌, arith}
 use Rattle.std.proofs.lemmas.Bool.{and_parts, and_from, or_cases, or_left, or_right, or_parts}
 use Rattle.std.specs.List.{list_any}
 use Rattle.irq_base.specs.declared.numbers.DevNo.{DevNo}
@@ -8,10 +8,10 @@ use Rattle.irq_base.specs.declared.entries.Entry.{Entry}
 use Rattle.irq_base.specs.declared.entries.Entry.TheVariants as entries
 use Rattle.irq_base.specs.declared.entries.UnlinkAnswer.TheVariants as unlinks
 use Rattle.irq_model.specs.Places.{some_place, stands}
-use Rattle.irq_model.specs.Kinds.{same_dev, same_driver, is_freed_by, is_by_driver, is_hard_clear}
+use Rattle.irq_model.specs.Kinds.{same_dev, is_freed_by, is_by_driver, is_hard_clear}
 use Rattle.irq_model.specs.Due.{is_being_freed_at, holds_mutex}
 use Rattle.irq_model.specs.Reason.{is_cleared_at, is_cleared}
-use Rattle.irq_steps.proofs.Same.{same_self, same_self_driver, dev_from_same}
+use Rattle.irq_steps.proofs.Same.{same_self, same_self_driver}
 use Rattle.irq_steps.proofs.Somewhere.{some_ext}
 use Rattle.irq_laws.specs.Kept.{freeing, unlinks_of}
 use Rattle.irq_laws.proofs.Lists.{place_imply}
@@ -81,6 +81,7 @@ owner t f (e ∷ past) h = by_case (or_cases _ _ h) (λ is. owner t (λ r. f r |
         let n = or_parts (f o.driver) (is_freed_by o.driver e) o.unfreed in
         let goes : (not (is_freed_by o.driver e) && stands (unlinks_of o.driver o.dev) (is_freed_by o.driver) past) ≡ true = and_from _ _ (ap not n.1) o.stands_there in
         record { driver = o.driver; dev = o.dev; passes = o.passes; unfreed = n.0; stands_there = or_right (unlinks_of o.driver o.dev e) _ goes }
+
     by_case : (owned t f [] (e ∷ past) ≡ true) ⊎ (some_place (λ a u. owned t f (e ∷ a) u) past ≡ true)
         → (some_place (owned t (λ r. f r || is_freed_by r e)) past ≡ true → Owner t (λ r. f r || is_freed_by r e) past) → Owner t f (e ∷ past)
     by_case (inl is) deeper = owner_here t f e past is

@@ -1,9 +1,8 @@
 -- How far a driver is in its script, after one more entry of its own.
-use Rattle.std.proofs.Common.{◌≡◌, ℕ, zero, suc, ◌+◌, ◌-◌, ◌<◌, ◌≤◌, ◌⊎◌, inl, inr, Bool, true, false, not, ◌||◌, ◌&&◌, cond, Option, Some, None, List, [], ◌∷◌, ◌++◌, length, drop, filter, reverse, All, nat_lt, refl, sym, ap, ◌∙◌, subst, arith, length-append, drop_of_length-le}
+use Rattle.std.proofs.Common.{◌≡◌, ℕ, suc, ◌+◌, ◌<◌, ◌≤◌, ◌⊎◌, inl, inr, Bool, true, false, cond, Option, Some, List, [], ◌∷◌, ◌++◌, length, drop, filter, reverse, nat_lt, refl, sym, ap, ◌∙◌, subst, arith, length-append, drop_of_length-le}
 use Rattle.std.proofs.lemmas.List.{drop-append-le}
 use Rattle.std.proofs.lemmas.Grind.{reverse_onto}
 use Rattle.std.proofs.lemmas.Bool.{ltb-true, ltb-false, lt-ltb, le-ltb}
-use Rattle.std.specs.List.{list_any}
 use Rattle.irq_base.specs.declared.numbers.DevNo.{DevNo}
 use Rattle.irq_base.specs.declared.numbers.DriverNo.{DriverNo}
 use Rattle.irq_base.specs.declared.calls.Call.{Call}
@@ -60,7 +59,7 @@ same_call x c m n h =
     let same : p ≡ q = the_same p q h in
     (ap (λ (y : Call × ℕ). y.0) same, ap (λ (y : Call × ℕ). y.1) same)
 
-passes : (x : Call) (cs : List Call) (y e : Entry) (ys : List Entry) → nat_lt (length (y ∷ ys)) (entries_of_call x (y ∷ ys)) ≡ false
+pub passes : (x : Call) (cs : List Call) (y e : Entry) (ys : List Entry) → nat_lt (length (y ∷ ys)) (entries_of_call x (y ∷ ys)) ≡ false
     → due_of (x ∷ cs) ((y ∷ ys) ++ e ∷ []) ≡ due_of cs (drop (entries_of_call x (y ∷ ys)) (y ∷ ys) ++ e ∷ [])
 passes x cs y e ys full =
     let k = entries_of_call x (y ∷ ys) in
@@ -84,9 +83,11 @@ standing (x ∷ cs) es c n h = at_head (nat_lt (length es) (entries_of_call x es
           incomplete = subst (λ (y : Call). nat_lt (length es) (entries_of_call y es) ≡ true) same some;
           more = λ e. ap (λ (y : Call). due_of (y ∷ cs) (es ++ e ∷ [])) same;
         }
+
     later : (es : List Entry) → nat_lt (length es) (entries_of_call x es) ≡ false → Standing cs (drop (entries_of_call x es) es) c n → Standing (x ∷ cs) es c n
     later [] full s = absurd (let le = ltb-false 0 (entries_of_call x []) full in let one = makes_one x [] in omega (arith, le, one))
     later (y ∷ ys) full s = record { rest = s.rest; own = s.own; counts = s.counts; incomplete = s.incomplete; more = λ e. passes x cs y e ys full ∙ s.more e }
+
     at_head : (b : Bool) → nat_lt (length es) (entries_of_call x es) ≡ b → (due_of cs (drop (entries_of_call x es) es) ≡ Some (c, n) → Standing cs (drop (entries_of_call x es) es) c n) → Standing (x ∷ cs) es c n
     at_head true is deeper = let s = same_call x c (length es) n (ap (λ (b : Bool). cond b (due_at x (length es)) (due_of cs (drop (entries_of_call x es) es))) (sym is) ∙ h) in here s.0 (sym s.1) is
     at_head false is deeper = later es is (deeper (ap (λ (b : Bool). cond b (due_at x (length es)) (due_of cs (drop (entries_of_call x es) es))) (sym is) ∙ h))
@@ -105,6 +106,7 @@ goes_on c rest own e d n some h = by_test (nat_lt (length (own ++ e ∷ [])) (en
   where
     count : length (own ++ e ∷ []) ≡ length own + 1
     count = length-append own (e ∷ [])
+
     enough : (xs : List Entry) → nat_lt (length xs) (entries_of_call c xs) ≡ true → length (xs ++ e ∷ []) ≤ entries_of_call c (xs ++ e ∷ [])
     enough [] lt = makes_one c (e ∷ [])
     enough (y ∷ ys) lt =
@@ -112,6 +114,7 @@ goes_on c rest own e d n some h = by_test (nat_lt (length (own ++ e ∷ [])) (en
         let below = ltb-true (length (y ∷ ys)) (entries_of_call c (y ∷ ys)) lt in
         let l = length-append (y ∷ ys) (e ∷ []) in
         omega (arith, same, below, l)
+
     by_test : (b : Bool) → nat_lt (length (own ++ e ∷ [])) (entries_of_call c (own ++ e ∷ [])) ≡ b → ((d ≡ c) × (n ≡ length own + 1) × (nat_lt n (entries_of_call c (own ++ e ∷ [])) ≡ true)) ⊎ (n ≡ 0)
     by_test true is =
         let s = same_call c d (length (own ++ e ∷ [])) n (ap (λ (b : Bool). cond b (due_at c (length (own ++ e ∷ []))) (due_of rest (drop (entries_of_call c (own ++ e ∷ [])) (own ++ e ∷ [])))) (sym is) ∙ h) in
@@ -126,7 +129,7 @@ goes_on c rest own e d n some h = by_test (nat_lt (length (own ++ e ∷ [])) (en
 abbrev pub OneMore : Call → ℕ → Entry → Call → ℕ → Type 0
 OneMore c n e d m = ((d ≡ c) × (m ≡ n + 1) × (n ≡ 0 → nat_lt m (entries_of_call c (e ∷ [])) ≡ true)) ⊎ (m ≡ 0)
 
-entries_more : (r : DriverNo) (e : Entry) (past : List Entry) → is_by_driver r e ≡ true → entries_by r (e ∷ past) ≡ entries_by r past ++ e ∷ []
+pub entries_more : (r : DriverNo) (e : Entry) (past : List Entry) → is_by_driver r e ≡ true → entries_by r (e ∷ past) ≡ entries_by r past ++ e ∷ []
 entries_more r e past mine = ap (λ (b : Bool). reverse (cond b (e ∷ filter (is_by_driver r) past) (filter (is_by_driver r) past))) mine ∙ reverse_onto (filter (is_by_driver r) past) e []
 
 none_own : (own : List Entry) → length own ≡ 0 → own ≡ []
@@ -173,6 +176,7 @@ free_before def r s e past c n d m by was is = by_driver (same_driver r s) refl
     by_case : r ≡ s → OneMore c n e (calls.Free d) (suc m) → ((same_driver r s ≡ false) × (due_call def r past ≡ Some (calls.Free d, suc m))) ⊎ ((r ≡ s) × (calls.Free d ≡ c) × (m ≡ n) × (n ≡ 0 → nat_lt (suc m) (entries_of_call c (e ∷ [])) ≡ true))
     by_case same (inl h) = inr (same, h.0, (let k = h.1 in omega (arith, k)), h.2)
     by_case same (inr h) = absurd (omega (arith, h))
+
     by_driver : (b : Bool) → same_driver r s ≡ b → ((same_driver r s ≡ false) × (due_call def r past ≡ Some (calls.Free d, suc m))) ⊎ ((r ≡ s) × (calls.Free d ≡ c) × (m ≡ n) × (n ≡ 0 → nat_lt (suc m) (entries_of_call c (e ∷ [])) ≡ true))
     by_driver true same =
         let equal = driver_from_same r s same in

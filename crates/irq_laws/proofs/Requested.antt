@@ -1,6 +1,6 @@
 -- The devices that are linked, and the calls that linked them.
-use Rattle.std.proofs.Common.{◌≡◌, ℕ, ◌⊎◌, inl, inr, Bool, true, false, not, ◌||◌, ◌&&◌, cond, Option, Some, None, List, [], ◌∷◌, ◌++◌, filter, drop, length, nat_lt, All, refl, sym, ap, ◌∙◌, subst, arith}
-use Rattle.std.proofs.lemmas.Bool.{and_parts, and_from, or_cases, or_left, or_right, or_parts, not-false}
+use Rattle.std.proofs.Common.{◌≡◌, ℕ, ◌⊎◌, inl, inr, Bool, true, false, not, ◌||◌, ◌&&◌, cond, Option, Some, List, [], ◌∷◌, filter, drop, length, nat_lt, All, refl, sym, ap, ◌∙◌, subst}
+use Rattle.std.proofs.lemmas.Bool.{and_parts, and_from, or_cases, or_left, or_right}
 use Rattle.std.proofs.lemmas.List.Folds.{list_any-append}
 use Rattle.std.proofs.lemmas.List.Elements.{recursion_from_All}
 use Rattle.std.specs.List.{list_any, AllByRecursion}
@@ -10,13 +10,12 @@ use Rattle.irq_base.specs.declared.calls.Call.{Call}
 use Rattle.irq_base.specs.declared.entries.Entry.{Entry}
 use Rattle.irq_base.specs.declared.entries.Entry.TheVariants as entries
 use Rattle.irq_base.specs.declared.entries.LinkAnswer.TheVariants as links
-use Rattle.irq_model.specs.Places.{stands}
 use Rattle.irq_model.specs.Kinds.{same_dev, same_driver, links_dev, unlinks_dev}
 use Rattle.irq_model.specs.Links.{is_linked, requested, linked}
 use Rattle.irq_model.specs.Due.{calls_by, entries_of_call, due_of}
-use Rattle.irq_steps.proofs.Same.{same_self, dev_from_same}
+use Rattle.irq_steps.proofs.Same.{dev_from_same}
 use Rattle.irq_laws.proofs.Chosen.{chosen}
-use Rattle.irq_laws.proofs.Lists.{any_imply, any_filter, stands_cases, both_ways}
+use Rattle.irq_laws.proofs.Lists.{any_imply, any_filter, stands_cases}
 use Rattle.irq_laws.proofs.Progress.{same_call}
 
 -- ---- what is linked was requested

@@ -1,46 +1,40 @@
 -- Each entry keeps: a device that is neither linked nor being freed is at rest, and what this needs.
-use Rattle.std.proofs.Common.{◌≡◌, ℕ, ◌⊎◌, inl, inr, Bool, true, false, not, ◌||◌, ◌&&◌, cond, Option, Some, None, List, [], ◌∷◌, All, refl, sym, ap, ◌∙◌, subst, arith}
+use Rattle.std.proofs.Common.{◌≡◌, ℕ, ◌⊎◌, inl, inr, Bool, true, false, not, ◌||◌, ◌&&◌, cond, Some, List, [], ◌∷◌, refl, sym, ap, ◌∙◌, subst, arith}
 use Rattle.std.proofs.lemmas.Bool.{and_parts, and_from, and_left, and_right, or_cases, or_left, or_right, or_from, or_parts, false_from_ne_true, true_from_ne_false, not-true}
 use Rattle.std.specs.List.{list_any}
-use Rattle.irq_base.specs.declared.numbers.CpuNo.{CpuNo}
 use Rattle.irq_base.specs.declared.numbers.DevNo.{DevNo}
 use Rattle.irq_base.specs.declared.numbers.DriverNo.{DriverNo}
-use Rattle.irq_base.specs.declared.calls.Call.{Call}
 use Rattle.irq_base.specs.declared.calls.Call.TheVariants as calls
 use Rattle.irq_base.specs.declared.calls.Flags.{Flags}
-use Rattle.irq_base.specs.declared.devices.Answer.{Answer}
 use Rattle.irq_base.specs.declared.lines.LineDef.{LineDef}
 use Rattle.irq_base.specs.declared.entries.Entry.{Entry}
 use Rattle.irq_base.specs.declared.entries.Entry.TheVariants as entries
 use Rattle.irq_base.specs.declared.entries.Errno.TheVariants as errors
 use Rattle.irq_base.specs.declared.entries.Opened.{Opened}
-use Rattle.irq_base.specs.declared.entries.LinkAnswer.{LinkAnswer}
 use Rattle.irq_base.specs.declared.entries.LinkAnswer.TheVariants as links
-use Rattle.irq_base.specs.declared.entries.UnlinkAnswer.{UnlinkAnswer}
 use Rattle.irq_base.specs.declared.entries.UnlinkAnswer.TheVariants as unlinks
 use Rattle.irq_model.specs.Places.{stands, since}
 use Rattle.irq_model.specs.Kinds.{same_dev, links_dev, is_freed, is_thread_begin, is_thread_return, is_finish, is_wake, wakes, is_cleared_finish}
 use Rattle.irq_model.specs.Lines.{is_device}
 use Rattle.irq_model.specs.Links.{linked, is_linked, is_oneshot, linking_flags}
 use Rattle.irq_model.specs.Threads.{is_woken, is_running, is_unfinished}
-use Rattle.irq_model.specs.Due.{calls_by, entries_by, due_call, holds_mutex}
-use Rattle.irq_model.specs.Next.{unlink_answer, link_answer, flags_differ, is_mismatch, same_flag}
+use Rattle.irq_model.specs.Due.{entries_by, due_call, holds_mutex}
+use Rattle.irq_model.specs.Next.{flags_differ, is_mismatch, same_flag}
 use Rattle.irq_model.specs.Reason.{is_called, is_being_freed, is_finishing}
 use Rattle.irq_model.specs.Legal.{IsDue}
 use Rattle.irq_model.specs.Valid.{IsValid, names_one_of}
-use Rattle.irq_steps.proofs.Same.{same_self, dev_from_same}
+use Rattle.irq_steps.proofs.Same.{dev_from_same}
 use Rattle.irq_laws.specs.Kept.{Kept, KeepsRest}
-use Rattle.irq_laws.proofs.Chosen.{the_same}
-use Rattle.irq_laws.proofs.Lists.{both_ways, differs_dev}
+use Rattle.irq_laws.proofs.Lists.{both_ways}
 use Rattle.irq_laws.proofs.Requested.{due_passes, was_linked, of_linked}
 use Rattle.irq_laws.proofs.FreesKept.{freed_is, begun_is_linked, not_freeing}
 use Rattle.irq_laws.proofs.ImpliesFlow.{begin_due, return_due}
-use Rattle.irq_laws.proofs.ImpliesThread.{thread_begin_due, thread_return_due, finish_due, done_due, has_returned, has_finished}
+use Rattle.irq_laws.proofs.ImpliesThread.{thread_begin_due, finish_due, done_due, has_finished}
 use Rattle.irq_laws.proofs.ImpliesDriver.{request_due, unlink_due, freed_due}
 
 -- ---- a test with false beside it
 
-no_part : (s : Bool) → (s && false) ≡ false
+pub no_part : (s : Bool) → (s && false) ≡ false
 no_part true = refl
 no_part false = refl
 
@@ -133,7 +127,7 @@ rest_parts false true u c h = cc
 rest_parts false false true c h = cc
 rest_parts false false false true h = cc
 
-parts_of : (past : List Entry) (d : DevNo) → (is_woken past d || (is_running past d || (is_unfinished past d || is_called past d))) ≡ false
+pub parts_of : (past : List Entry) (d : DevNo) → (is_woken past d || (is_running past d || (is_unfinished past d || is_called past d))) ≡ false
     → (is_woken past d ≡ false) × (is_running past d ≡ false) × (is_unfinished past d ≡ false) × (is_called past d ≡ false)
 parts_of past d h = rest_parts (is_woken past d) (is_running past d) (is_unfinished past d) (is_called past d) h
 
@@ -213,6 +207,7 @@ finish_in_run b r f (e ∷ past) h g = by_test (b e) (r e) refl refl (λ x y. fi
     by_case : (f e ≡ true) ⊎ (list_any f (since r past) ≡ true) → list_any r (since b past) ≡ true → (list_any r (since b past) ≡ true → list_any f (since r past) ≡ true → list_any f (since b past) ≡ true) → (f e || list_any f (since b past)) ≡ true
     by_case (inl here) returned deeper = or_left (f e) _ here
     by_case (inr later) returned deeper = or_right (f e) _ (deeper returned later)
+
     by_test : (p q : Bool) → b e ≡ p → r e ≡ q → (list_any r (since b past) ≡ true → list_any f (since r past) ≡ true → list_any f (since b past) ≡ true) → list_any f (since b (e ∷ past)) ≡ true
     by_test true q is iq deeper = let n : list_any r (cond true [] (e ∷ since b past)) ≡ true = ap (λ (c : Bool). list_any r (cond c [] (e ∷ since b past))) (sym is) ∙ h in cc
     by_test false true is iq deeper = let n : list_any f (cond true [] (e ∷ since r past)) ≡ true = ap (λ (c : Bool). list_any f (cond c [] (e ∷ since r past))) (sym iq) ∙ g in cc
@@ -301,7 +296,7 @@ not_mismatch true m b3 b4 h = cc
 not_mismatch false true b3 b4 h = cc
 not_mismatch false false b3 b4 h = refl
 
-goes_with : (def : LineDef) (s : DriverNo) (x : DevNo) (flags : Flags) (opened : Opened) (past : List Entry) → IsDue def (entries.Request s x flags links.Linked opened) past → (d : DevNo) → is_linked past d ≡ true
+pub goes_with : (def : LineDef) (s : DriverNo) (x : DevNo) (flags : Flags) (opened : Opened) (past : List Entry) → IsDue def (entries.Request s x flags links.Linked opened) past → (d : DevNo) → is_linked past d ≡ true
     → (linking_flags past d).oneshot ≡ flags.oneshot
 goes_with def s x flags opened past due d there =
     let u = request_due def s x flags links.Linked opened past due in
@@ -310,7 +305,7 @@ goes_with def s x flags opened past due d there =
     agree flags.shared flags.shared (linking_flags past d).shared flags.oneshot (linking_flags past d).oneshot same
 
 -- nothing is being freed while the mutex is free
-none_freed : (def : LineDef) (past : List Entry) → Kept def past → holds_mutex past ≡ false → (d : DevNo) → is_being_freed past d ≡ false
+pub none_freed : (def : LineDef) (past : List Entry) → Kept def past → holds_mutex past ≡ false → (d : DevNo) → is_being_freed past d ≡ false
 none_freed def past k free d = false_from_ne_true (is_being_freed past d) (λ h. let f = k.frees.one_device d h in not_freeing past _ free f.1)
 
 flags_more : (def : LineDef) (e : Entry) (past : List Entry) → IsDue def e past → Kept def past → (d : DevNo) → (is_linked (e ∷ past) d || is_being_freed (e ∷ past) d) ≡ true → (linking_flags (e ∷ past) d).oneshot ≡ is_oneshot (e ∷ past)
@@ -318,6 +313,7 @@ flags_more def (entries.Request s x flags links.Linked opened) past due k d h = 
   where
     was_there : (l f : Bool) → f ≡ false → (l || f) ≡ true → l ≡ true
     was_there l f a b = grind arith
+
     by_test : (b : Bool) → same_dev d x ≡ b → (linking_flags (entries.Request s x flags links.Linked opened ∷ past) d).oneshot ≡ flags.oneshot
     by_test true same = rw same refl
     by_test false other =

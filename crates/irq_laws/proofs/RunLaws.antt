@@ -1,6 +1,6 @@
 -- No overlap, silence after free, synchronised calls, and the one-shot promise.
-use Rattle.std.proofs.Common.{◌≡◌, ℕ, ◌+◌, ◌⊎◌, inl, inr, Bool, true, false, not, ◌||◌, ◌&&◌, Some, None, List, [], ◌∷◌, reverse, refl, sym, ap, ◌∙◌, subst, arith}
-use Rattle.std.proofs.lemmas.Bool.{and_parts, or_parts, or_from, or_left, or_right, false_from_ne_true, not-true}
+use Rattle.std.proofs.Common.{◌≡◌, ℕ, ◌+◌, Bool, true, false, not, ◌||◌, ◌&&◌, List, ◌∷◌, reverse, refl, sym, ap, ◌∙◌, subst, arith}
+use Rattle.std.proofs.lemmas.Bool.{and_parts, or_from, or_left, false_from_ne_true}
 use Rattle.std.specs.List.{list_any}
 use Rattle.irq_base.specs.declared.numbers.DevNo.{DevNo}
 use Rattle.irq_base.specs.declared.devices.DeviceDef.{DeviceDef}
@@ -10,23 +10,24 @@ use Rattle.irq_base.specs.declared.lines.LineDef.{LineDef}
 use Rattle.irq_base.specs.declared.entries.Entry.{Entry}
 use Rattle.irq_base.specs.declared.entries.Entry.TheVariants as entries
 use Rattle.irq_base.specs.declared.entries.Note.{Note}
-use Rattle.irq_model.specs.Places.{stands, since, count_of}
-use Rattle.irq_model.specs.Kinds.{same_dev, is_begin, is_thread_begin, is_hard_clear, is_synced, is_freed, links_dev, wakes, is_cleared_finish, is_reopening}
+use Rattle.irq_model.specs.Places.{stands}
+use Rattle.irq_model.specs.Kinds.{same_dev, is_begin, is_thread_begin, is_hard_clear, is_synced, is_freed, links_dev, is_reopening}
 use Rattle.irq_model.specs.Lines.{is_device, is_edge_line, is_level_line, is_edge_flow}
-use Rattle.irq_model.specs.Links.{is_linked, is_disabled, is_oneshot, linking_flags}
+use Rattle.irq_model.specs.Links.{is_linked, is_disabled, is_oneshot}
 use Rattle.irq_model.specs.Masks.{is_masked}
 use Rattle.irq_model.specs.Spurious.{note_of}
 use Rattle.irq_model.specs.Next.{is_off_now}
-use Rattle.irq_model.specs.Threads.{is_woken, is_running, is_unfinished, is_some_unfinished, is_other_unfinished, active_count}
+use Rattle.irq_model.specs.Threads.{is_woken, is_running, is_some_unfinished, is_other_unfinished, active_count}
 use Rattle.irq_model.specs.Reason.{is_called, is_being_freed}
 use Rattle.irq_model.specs.Legal.{IsDue, IsLegal}
 use Rattle.irq_model.specs.Laws.{NoOverlap, IsSilentAfterFree, IsSynchronised, KeepsOneshot, is_run_of}
 use Rattle.irq_model.specs.Valid.{IsValid}
-use Rattle.irq_steps.proofs.Same.{dev_from_same, same_both}
+use Rattle.irq_steps.proofs.Same.{dev_from_same}
 use Rattle.irq_laws.specs.Kept.{Kept}
-use Rattle.irq_laws.proofs.Lists.{any_ext, any_imply, none_counted, both_ways}
+use Rattle.irq_laws.proofs.Lists.{any_imply, none_counted, both_ways}
 use Rattle.irq_laws.proofs.FreesKept.{begun_is_linked, nothing_called}
 use Rattle.irq_laws.proofs.RestKept.{running_there, woken_there, called_there, there_named}
+use Rattle.irq_laws.proofs.Unfinished.{others_left}
 use Rattle.irq_laws.proofs.KeptAlways.{each}
 use Rattle.irq_laws.proofs.ImpliesFlow.{unmask_by, begin_due, return_due, end_due}
 use Rattle.irq_laws.proofs.ImpliesThread.{thread_begin_due, thread_return_due, finish_due, done_due}
@@ -115,15 +116,6 @@ opens_unheld def flows.Eoi past note valid level is h =
 woken_kept : (w d m o : Bool) → (not w && (not d && (m && not o))) ≡ true → (w ≡ false) × (o ≡ false)
 woken_kept w d m o h = (grind arith, grind arith)
 
--- once d's bit is given up, no other thread is unfinished
-given_up : (def : LineDef) (x : DevNo) (unmask : Bool) (past : List Entry) → is_other_unfinished def past x ≡ false → is_some_unfinished def (entries.Finish x false unmask ∷ past) ≡ false
-given_up def x unmask past none =
-    any_ext (λ (y : DeviceDef). is_unfinished (entries.Finish x false unmask ∷ past) y.dev) (λ y. not (same_dev x y.dev) && is_unfinished past y.dev) def.devices
-    (λ y. moved (linking_flags past y.dev).oneshot (same_dev y.dev x) (same_dev x y.dev) (stands (wakes y.dev) (is_cleared_finish y.dev) (since (links_dev y.dev) past)) (same_both y.dev x)) ∙ none
-  where
-    moved : (o s t b : Bool) → s ≡ t → (o && (not s && b)) ≡ (not t && (o && b))
-    moved o s t b h = grind arith
-
 oneshot_at : (def : LineDef) (e : Entry) (past : List Entry) → IsValid def → is_level_line def ≡ true → IsDue def e past → is_reopening e ≡ true → is_some_unfinished def (e ∷ past) ≡ false
 oneshot_at def (entries.End c again unmask note) past valid level due h =
     opens_unheld def def.flow past (note_of def past) valid level refl (sym (end_due def c again unmask note past due).unmask_is ∙ h)
@@ -134,7 +126,7 @@ oneshot_at def (entries.Finish x true unmask) past valid level due h =
 oneshot_at def (entries.Finish x false unmask) past valid level due h =
     let u = finish_due def x false unmask past due in
     let p = woken_kept (is_woken past x) (is_disabled past) (is_masked def past) (is_other_unfinished def past x) (sym u.unmask_is ∙ h) in
-    given_up def x unmask past p.1
+    others_left def x unmask past ∙ p.1
 oneshot_at def e past valid level due h = cc
 
 pub keeps_oneshot : (def : LineDef) (h : List Entry) → IsValid def → IsLegal def h → KeepsOneshot def h

@@ -1,9 +1,10 @@
 -- What every entry keeps, beside the parts of the reasons: facts of a legal past, whose newest entry comes
 -- first.
-use Rattle.std.specs.Prelude.{◌≡◌, ℕ, suc, ◌+◌, ◌≤◌, Bool, true, false, ◌||◌, ◌&&◌, Option, Some, None, List, [], ◌∷◌}
+use Rattle.std.specs.Prelude.{◌≡◌, ℕ, suc, ◌+◌, ◌≤◌, Bool, true, false, ◌&&◌, if◌then◌else◌, Option, Some, None, List, [], ◌∷◌, nat_lt, length, drop, slice_get}
 use Rattle.std.specs.List.{list_any}
 use Rattle.irq_base.specs.declared.numbers.DevNo.{DevNo}
 use Rattle.irq_base.specs.declared.numbers.DriverNo.{DriverNo}
+use Rattle.irq_base.specs.declared.calls.Call.{Call}
 use Rattle.irq_base.specs.declared.calls.Call.TheVariants as calls
 use Rattle.irq_base.specs.declared.lines.LineDef.{LineDef}
 use Rattle.irq_base.specs.declared.entries.Entry.{Entry}
@@ -14,8 +15,9 @@ use Rattle.irq_model.specs.Kinds.{same_dev, same_driver, is_freed, is_freed_by, 
 use Rattle.irq_model.specs.Lines.{is_device}
 use Rattle.irq_model.specs.Links.{is_linked, is_reset, base, is_deepening, is_lowering}
 use Rattle.irq_model.specs.Rounds.{has_flow, has_begun, at_work}
-use Rattle.irq_model.specs.Due.{due_call}
-use Rattle.irq_model.specs.Reason.{is_called, is_being_freed, ClearedIsNotCalled, UnlinkedIsAtRest, UnfinishedIsAtWork, FlagsAgree, EnabledIsStarted, EdgeFlowMaskIsPending, EoiEdgeIsOpen, EdgePendingHasFlow, DroppedIsPending}
+use Rattle.irq_model.specs.Due.{calls_by, entries_by, entries_of_call, due_call}
+use Rattle.irq_model.specs.Valid.{requests_dev, frees_dev}
+use Rattle.irq_model.specs.Reason.{is_called, is_being_freed, ClearedIsNotCalled, UnlinkedIsAtRest, UnfinishedIsAtWork, FlagsAgree, EnabledIsStarted, EdgeFlowMaskIsPending, EoiEdgeIsOpen, EdgePendingHasFlow, DroppedIsPending, LevelMaskIsHeld, EoiLevelMaskIsOneshot}
 
 -- the handler that is at work is the one that was called and hasn't returned, in the round of the flow
 pub record KeepsRuns (def : LineDef) (past : List Entry) : Type 0 where
@@ -55,10 +57,27 @@ pub record KeepsRest (def : LineDef) (past : List Entry) : Type 0 where
   pub at_work : UnfinishedIsAtWork def past
   pub flags : FlagsAgree def past
 
-pub record Kept (def : LineDef) (past : List Entry) : Type 0 where
-  pub runs : KeepsRuns def past
-  pub frees : KeepsFrees def past
-  pub rest : KeepsRest def past
+-- the calls that are complete, the last first, before those of `done`
+abbrev pub complete : List Call → List Call → List Entry → List Call
+complete done [] es = done
+complete done (c ∷ cs) es = if nat_lt (length es) (entries_of_call c es) then done else complete (c ∷ done) cs (drop (entries_of_call c es) es)
+
+abbrev pub complete_by : LineDef → DriverNo → List Entry → List Call
+complete_by def r past = complete [] (calls_by r def.calls) (entries_by r past)
+
+-- a driver of a request of d, the last of whose complete requests and frees of d is a request
+pub record Wanted (def : LineDef) (past : List Entry) (d : DevNo) : Type 0 where
+  pub driver : DriverNo
+  pub place : ℕ
+  pub call : DriverNo × Call
+  pub there : slice_get def.calls place ≡ Some call
+  pub own : call.0 ≡ driver
+  pub requests : requests_dev d call.1 ≡ true
+  pub wanted : stands (requests_dev d) (frees_dev d) (complete_by def driver past) ≡ true
+
+-- a linked device is wanted, so that no request of it is due
+abbrev pub LinkedIsWanted : LineDef → List Entry → Type 0
+LinkedIsWanted def past = (d : DevNo) → is_linked past d ≡ true → Wanted def past d
 
 -- the depth never falls below zero, and a line that isn't disabled is started
 pub record KeepsDepth (def : LineDef) (past : List Entry) : Type 0 where
@@ -71,3 +90,18 @@ pub record KeepsEdges (def : LineDef) (past : List Entry) : Type 0 where
   pub eoi_edge : EoiEdgeIsOpen def past
   pub pending : EdgePendingHasFlow def past
   pub dropped : DroppedIsPending def past
+
+-- why a level line is masked
+pub record KeepsLevels (def : LineDef) (past : List Entry) : Type 0 where
+  pub level : LevelMaskIsHeld def past
+  pub eoi_level : EoiLevelMaskIsOneshot def past
+
+-- all of it, together
+pub record Kept (def : LineDef) (past : List Entry) : Type 0 where
+  pub runs : KeepsRuns def past
+  pub frees : KeepsFrees def past
+  pub rest : KeepsRest def past
+  pub wanted : LinkedIsWanted def past
+  pub depth : KeepsDepth def past
+  pub edges : KeepsEdges def past
+  pub levels : KeepsLevels def past

@@ -6,9 +6,13 @@
 ghost use Rattle.std.specs.Prelude.{List};
 ghost use Rattle.irq_base.specs.declared.lines.LineDef.{LineDef};
 ghost use Rattle.irq_base.specs.declared.entries.Entry.{Entry};
-ghost use Rattle.irq_model.specs.Laws.{NoOverlap, IsSilentAfterFree, KeepsOneshot, IsSynchronised, TakesAreCounted};
-ghost use Rattle.irq_model.specs.Legal.{IsLegal};
+ghost use Rattle.irq_model.specs.Laws.{NoOverlap, IsSilentAfterFree, KeepsOneshot, IsSynchronised, TakesAreCounted, IsServedWhenIdle};
+ghost use Rattle.irq_model.specs.Legal.{IsLegal, IsLegalPast};
+ghost use Rattle.irq_model.specs.Owed.{IsCovered};
+ghost use Rattle.irq_model.specs.Reason.{HasReason, OneIsCalled, OneIsFreed};
+ghost use Rattle.irq_model.specs.Scripts.{FollowsScripts};
 ghost use Rattle.irq_model.specs.Valid.{IsValid};
+ghost use Rattle.irq_laws.specs.Kept.{Kept};
 ghost use Rattle.irq_laws.specs.Driven.{IsDrivenCell};
 
 /// No overlap: a device's handler is called only where it isn't at work, and its thread's run begins only where
@@ -16,29 +20,63 @@ ghost use Rattle.irq_laws.specs.Driven.{IsDrivenCell};
 #[tactic(auto, using(crate::proofs::RunLaws::no_overlap))]
 pub fn no_overlap()
     ensures law { (def : LineDef) (h : List Entry) → IsValid def → IsLegal def h → NoOverlap def h }
-{
-}
+{}
 
 /// Silence after free: no run of a device comes after its free before it is linked again.
 #[tactic(auto, using(crate::proofs::RunLaws::silent_after_free))]
 pub fn silent_after_free()
     ensures law { (def : LineDef) (h : List Entry) → IsValid def → IsLegal def h → IsSilentAfterFree def h }
-{
-}
+{}
 
 /// The one-shot promise: where an end or a finish opens a level line, no thread is unfinished.
 #[tactic(auto, using(crate::proofs::RunLaws::keeps_oneshot))]
 pub fn keeps_oneshot()
     ensures law { (def : LineDef) (h : List Entry) → IsValid def → IsLegal def h → KeepsOneshot def h }
-{
-}
+{}
 
 /// Synchronised calls: a hard clear comes where no handler is at work, a sync's end where no thread is.
 #[tactic(auto, using(crate::proofs::RunLaws::synchronised))]
 pub fn synchronised()
     ensures law { (def : LineDef) (h : List Entry) → IsValid def → IsLegal def h → IsSynchronised def h }
+{}
+
+/// A started line with linked devices is masked for a reason: it is disabled, or a flow is in progress, or on a
+/// level line a thread isn't finished.
+#[tactic(auto, using(crate::proofs::ReasonLaws::has_reason))]
+pub fn has_reason()
+    ensures law { (def : LineDef) (h : List Entry) → IsValid def → IsLegal def h → HasReason def h }
+{}
+
+/// Each owed edge is somewhere: presented, kept, pending, in a software resend, or its device is still ahead in the
+/// round.
+#[tactic(auto, using(crate::proofs::CoverLaws::is_covered_law))]
+pub fn covers_owed()
+    ensures law { (def : LineDef) (h : List Entry) → IsValid def → IsLegal def h → IsCovered def h }
 {
 }
+
+/// Each driver's entries are those of its calls, in the order of its script, each once.
+#[tactic(auto, using(crate::proofs::ScriptLaws::follows_scripts))]
+pub fn follows_scripts()
+    ensures law { (def : LineDef) (h : List Entry) → IsLegal def h → FollowsScripts def h }
+{}
+
+/// What every entry keeps holds of every legal past, whose newest entry comes first.
+pub fn kept()
+    ensures law { (def : LineDef) (past : List Entry) → IsValid def → IsLegalPast def past → Kept def past }
+{}
+
+/// At most one handler is at work, and it was called in the round of the flow that is there.
+#[tactic(auto, using(crate::proofs::ReasonLaws::one_is_called))]
+pub fn one_is_called()
+    ensures law { (def : LineDef) (past : List Entry) → IsValid def → IsLegalPast def past → OneIsCalled def past }
+{}
+
+/// At most one device is being freed, and the request mutex is held exactly while one is.
+#[tactic(auto, using(crate::proofs::ReasonLaws::one_is_freed))]
+pub fn one_is_freed()
+    ensures law { (def : LineDef) (past : List Entry) → IsValid def → IsLegalPast def past → OneIsFreed def past }
+{}
 
 /// The cell: masked, stored, sent, high and in service, as they are read off the entries, are what the signal cell
 /// of the line keeps when the entries drive it, each by the operations of its flow or its call.
@@ -53,5 +91,13 @@ pub fn driven_cell()
 #[tactic(auto, using(crate::proofs::CountKept::takes_are_counted))]
 pub fn takes_are_counted()
     ensures law { (def : LineDef) (h : List Entry) → IsValid def → IsLegal def h → TakesAreCounted def h }
+{
+}
+
+/// Served when idle: on an enabled line without a flow, what is owed, or a high level with no thread unfinished, is
+/// what the target handles next.
+#[tactic(auto, using(crate::proofs::IdleLaws::served_when_idle))]
+pub fn served_when_idle()
+    ensures law { (def : LineDef) (h : List Entry) → IsValid def → IsLegal def h → IsServedWhenIdle def h }
 {
 }

@@ -1,9 +1,9 @@
 -- What one more entry makes of the depth.
-use Rattle.std.proofs.Common.{◌≡◌, ℕ, ◌+◌, ◌-◌, ◌≤◌, Bool, true, false, ◌||◌, ◌&&◌, cond, List, [], ◌∷◌, refl, ap, ◌∙◌, arith}
+use Rattle.std.proofs.Common.{◌≡◌, ℕ, ◌+◌, Bool, true, false, cond, List, [], ◌∷◌, refl, ◌∙◌, arith}
 use Rattle.irq_base.specs.declared.entries.Entry.{Entry}
 use Rattle.irq_model.specs.Places.{since_place, upto_place, count_of}
 use Rattle.irq_model.specs.Kinds.{is_start}
-use Rattle.irq_model.specs.Links.{is_reset, base, is_deepening, is_lowering, depth}
+use Rattle.irq_model.specs.Links.{is_reset, base, is_deepening, is_lowering}
 
 -- the two sides of the depth: what it was raised to, and how often it was lowered
 abbrev pub raised : List Entry → ℕ

@@ -77,6 +77,7 @@ requested_once d (entries.Request r x flags links.Linked o ∷ past) = by_test (
   where
     last : count_of (same_dev d) (filter (λ y. not (same_dev y x)) (requested past) ++ x ∷ []) ≡ count_of (same_dev d) (filter (λ y. not (same_dev y x)) (requested past)) + cond (same_dev d x) 1 0
     last = count_last (same_dev d) (filter (λ y. not (same_dev y x)) (requested past)) x
+
     by_test : (b : Bool) → same_dev d x ≡ b → count_of (same_dev d) (requested past) ≤ 1 → count_of (same_dev d) (filter (λ y. not (same_dev y x)) (requested past) ++ x ∷ []) ≤ 1
     by_test true is h =
         let equal = dev_from_same d x is in
