@@ -27,3 +27,4 @@ pub mod Starts
 pub mod CellKept
 pub mod CountKept
 pub mod IdleLaws
+pub mod StillLaws

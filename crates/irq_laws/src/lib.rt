@@ -8,12 +8,14 @@ ghost use Rattle.irq_base.specs.declared.lines.LineDef.{LineDef};
 ghost use Rattle.irq_base.specs.declared.entries.Entry.{Entry};
 ghost use Rattle.irq_model.specs.Laws.{NoOverlap, IsSilentAfterFree, KeepsOneshot, IsSynchronised, TakesAreCounted, IsServedWhenIdle};
 ghost use Rattle.irq_model.specs.Legal.{IsLegal, IsLegalPast};
-ghost use Rattle.irq_model.specs.Owed.{IsCovered};
+ghost use Rattle.irq_model.specs.Owed.{IsCovered, IsDelivered};
 ghost use Rattle.irq_model.specs.Reason.{HasReason, OneIsCalled, OneIsFreed};
 ghost use Rattle.irq_model.specs.Scripts.{FollowsScripts};
+ghost use Rattle.irq_model.specs.Settled.{IsSettled};
 ghost use Rattle.irq_model.specs.Valid.{IsValid};
 ghost use Rattle.irq_laws.specs.Kept.{Kept};
 ghost use Rattle.irq_laws.specs.Driven.{IsDrivenCell};
+ghost use Rattle.irq_laws.specs.Still.{IsStill};
 
 /// No overlap: a device's handler is called only where it isn't at work, and its thread's run begins only where
 /// it isn't in one.
@@ -99,5 +101,20 @@ pub fn takes_are_counted()
 #[tactic(auto, using(crate::proofs::IdleLaws::served_when_idle))]
 pub fn served_when_idle()
     ensures law { (def : LineDef) (h : List Entry) → IsValid def → IsLegal def h → IsServedWhenIdle def h }
+{
+}
+
+/// No standstill: where nothing is due for any actor of the line, every driver's calls on it are complete.
+#[tactic(auto, using(crate::proofs::StillLaws::no_standstill))]
+pub fn no_standstill()
+    ensures law { (def : LineDef) (h : List Entry) → IsValid def → IsLegal def h → IsStill def h → IsSettled def h }
+{
+}
+
+/// Delivered: at rest, on a line that isn't left disabled, no edge is owed, and on a level line every linked device
+/// that works has all its asks served.
+#[tactic(auto, using(crate::proofs::StillLaws::delivered))]
+pub fn delivered()
+    ensures law { (def : LineDef) (h : List Entry) → IsValid def → IsLegal def h → IsSettled def h → IsDelivered def h }
 {
 }
