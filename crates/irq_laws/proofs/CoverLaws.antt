@@ -1,14 +1,11 @@
 -- Each owed edge is somewhere: presented, kept, pending, in a software resend, or its device is still ahead in the
 -- round.
-use Rattle.std.proofs.Common.{◌≡◌, ◌⊎◌, inl, inr, Bool, true, false, not, ◌||◌, ◌&&◌, ◌==◌, cond, Some, None, is_some, List, [], ◌∷◌, filter, reverse, refl, sym, ap, ◌∙◌, subst, arith}
-use Rattle.std.proofs.lemmas.Bool.{and_parts, and_from, or_cases, or_left, or_right, or_parts, not-true, false_from_ne_true}
+use Rattle.std.proofs.Common.{◌≡◌, ◌⊎◌, inl, inr, Bool, true, false, not, ◌||◌, ◌&&◌, ◌==◌, cond, Some, None, is_some, List, [], ◌∷◌, reverse, refl, sym, ap, ◌∙◌, subst, arith}
+use Rattle.std.proofs.lemmas.Bool.{and_parts, and_from, or_cases, or_left, or_right}
 use Rattle.std.specs.List.{list_any}
 use Rattle.irq_base.specs.declared.numbers.CpuNo.{CpuNo}
 use Rattle.irq_base.specs.declared.numbers.DevNo.{DevNo}
 use Rattle.irq_base.specs.declared.numbers.DriverNo.{DriverNo}
-use Rattle.irq_base.specs.declared.calls.Flags.{Flags}
-use Rattle.irq_base.specs.declared.lines.FlowKind.{FlowKind}
-use Rattle.irq_base.specs.declared.lines.FlowKind.TheVariants as flows
 use Rattle.irq_base.specs.declared.lines.LineDef.{LineDef}
 use Rattle.irq_base.specs.declared.entries.Entry.{Entry}
 use Rattle.irq_base.specs.declared.entries.Entry.TheVariants as entries
@@ -23,19 +20,18 @@ use Rattle.irq_base.specs.declared.entries.LinkAnswer.{LinkAnswer}
 use Rattle.irq_base.specs.declared.entries.LinkAnswer.TheVariants as links
 use Rattle.irq_base.specs.declared.entries.TakeAnswer.TheVariants as takes
 use Rattle.irq_model.specs.Places.{some_place, since, last_of}
-use Rattle.irq_model.specs.Kinds.{same_dev, opened_by_enable, is_any_ask, is_begin, unlinks_dev, links_dev, is_take, is_again, is_handle, is_leave, is_start, is_soft_start, is_chip_start, is_resend_take, is_chip_opened, is_soft_opened, is_started_opened, opened_of}
+use Rattle.irq_model.specs.Kinds.{opened_by_enable, is_any_ask, is_begin, unlinks_dev, links_dev, is_take, is_again, is_handle, is_start, is_soft_start, is_chip_start, is_resend_take, is_chip_opened, is_soft_opened, is_started_opened, opened_of}
 use Rattle.irq_model.specs.Lines.{is_edge_line, is_eoi_flow}
-use Rattle.irq_model.specs.Links.{linked, requested, is_linked, is_started, is_none_linked, depth, has_spurious_mark}
+use Rattle.irq_model.specs.Links.{linked, is_linked, is_started, is_none_linked, depth, has_spurious_mark}
 use Rattle.irq_model.specs.Masks.{is_masked}
 use Rattle.irq_model.specs.Rounds.{flow, has_flow, has_begun, is_ahead, first_left, begins_round, closes, cpu_of_handle}
 use Rattle.irq_model.specs.Waiting.{is_pending, is_soft}
 use Rattle.irq_model.specs.Edges.{is_edge, is_sent, is_stored}
-use Rattle.irq_model.specs.Owed.{comes_to, is_owed, IsCovered, IsCoveredPast}
+use Rattle.irq_model.specs.Owed.{comes_to, IsCovered, IsCoveredPast}
 use Rattle.irq_model.specs.Next.{resend_of, enable_answer, opened_by_request}
 use Rattle.irq_model.specs.Legal.{IsDue, IsLegal, IsLegalPast}
 use Rattle.irq_model.specs.Valid.{IsValid}
 use Rattle.irq_steps.proofs.EdgeSteps.{goes_sent, goes_stored, sent_more, stored_more}
-use Rattle.irq_steps.proofs.RoundSteps.{flow_quiet}
 use Rattle.irq_steps.proofs.MaskSteps.{masked_by_opening}
 use Rattle.irq_steps.proofs.WaitSteps.{pending_by_clearing}
 use Rattle.irq_laws.specs.Kept.{Kept}
@@ -78,15 +74,17 @@ new_mark def e past no_take edge shown = by_marks def e past no_take (marks_new 
 four : (s w p f a : Bool) → (s || (w || (p || (f || a)))) ≡ ((s || w) || (p || (f || a)))
 four s w p f a = grind arith
 
-by_place : {P : Type 0} (def : LineDef) (past : List Entry) (d : DevNo) → is_covered def past d ≡ true → ((is_sent def past || is_stored def past) ≡ true → P) → (is_pending def past ≡ true → P) → (is_soft past ≡ true → P) → (is_ahead def past d ≡ true → P) → P
+pub by_place : {P : Type 0} (def : LineDef) (past : List Entry) (d : DevNo) → is_covered def past d ≡ true → ((is_sent def past || is_stored def past) ≡ true → P) → (is_pending def past ≡ true → P) → (is_soft past ≡ true → P) → (is_ahead def past d ≡ true → P) → P
 by_place {P} def past d h marks pending soft ahead = first (or_cases _ _ (sym (four (is_sent def past) (is_stored def past) (is_pending def past) (is_soft past) (is_ahead def past d)) ∙ h))
   where
     third : (is_soft past ≡ true) ⊎ (is_ahead def past d ≡ true) → P
     third (inl x) = soft x
     third (inr x) = ahead x
+
     second : (is_pending def past ≡ true) ⊎ ((is_soft past || is_ahead def past d) ≡ true) → P
     second (inl x) = pending x
     second (inr x) = third (or_cases _ _ x)
+
     first : ((is_sent def past || is_stored def past) ≡ true) ⊎ ((is_pending def past || (is_soft past || is_ahead def past d)) ≡ true) → P
     first (inl x) = marks x
     first (inr x) = second (or_cases _ _ x)
@@ -260,8 +258,10 @@ covered_ask def r x past d k edge started = by_test (is_masked def past) def.kee
   where
     same : is_masked def (entries.Ask r x ∷ past) ≡ is_masked def past
     same = masked_by_opening def (entries.Ask r x) past refl refl refl
+
     shown : (not (is_masked def (entries.Ask r x ∷ past)) || def.keeps) ≡ true → is_covered def (entries.Ask r x ∷ past) d ≡ true
     shown h = by_mark def (entries.Ask r x ∷ past) d (new_mark def (entries.Ask r x) past refl (and_from _ _ edge refl) h)
+
     by_test : (m k : Bool) → is_masked def past ≡ m → def.keeps ≡ k → is_covered def (entries.Ask r x ∷ past) d ≡ true
     by_test false b is it = shown (or_left _ _ (ap not (same ∙ is)))
     by_test true true is it = shown (or_right (not (is_masked def (entries.Ask r x ∷ past))) def.keeps it)

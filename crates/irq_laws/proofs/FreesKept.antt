@@ -39,15 +39,15 @@ same_free past r s d x a b =
     let same : p ≡ q = the_same p q (sym a ∙ b) in
     (ap (λ (y : DriverNo × DevNo). y.0) same, ap (λ (y : DriverNo × DevNo). y.1) same)
 
-this_free : (r s : DriverNo) (d x : DevNo) → r ≡ s → d ≡ x → ◌≡◌ {A = Option (DriverNo × DevNo)} (Some (s, x)) (Some (r, d))
+pub this_free : (r s : DriverNo) (d x : DevNo) → r ≡ s → d ≡ x → ◌≡◌ {A = Option (DriverNo × DevNo)} (Some (s, x)) (Some (r, d))
 this_free r s d x a b = let f : DriverNo → DevNo → Option (DriverNo × DevNo) = λ y z. Some (y, z) in let e : f s x ≡ f r d = cc in e
 
 -- the calls that are no free
-abbrev is_free : Call → Bool
+abbrev pub is_free : Call → Bool
 is_free (calls.Free dev) = true
 is_free _ = false
 
-never : {P : Type 0} (d : DevNo) (c : Call) → calls.Free d ≡ c → is_free c ≡ false → P
+pub never : {P : Type 0} (d : DevNo) (c : Call) → calls.Free d ≡ c → is_free c ≡ false → P
 never d c same other = let n : true ≡ is_free c = ap is_free same in let m = n ∙ other in cc
 
 -- ---- who is within a free, by the due calls

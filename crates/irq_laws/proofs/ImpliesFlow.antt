@@ -58,7 +58,7 @@ end_shape def c past = shape_by def def.flow c past (note_of def past)
 
 -- ---- the records
 
--- the processor's own flow is in progress
+-- the line's target takes what is signalled, or else what the software resends, outside its own flow
 pub record IsTakeDue (def : LineDef) (c : CpuNo) (way : Way) (answer : TakeAnswer) (past : List Entry) : Type 0 where
   pub not_of_flow : is_cpu c (flow def past) ≡ false
   pub of_target : is_cpu c (target def past) ≡ true
@@ -66,16 +66,19 @@ pub record IsTakeDue (def : LineDef) (c : CpuNo) (way : Way) (answer : TakeAnswe
   pub by_line : way ≡ ways.Line → signals def past ≡ true
   pub by_resend : way ≡ ways.Resend → (signals def past ≡ false) × (is_soft past ≡ true)
 
+-- the first linked device that is left is called
 pub record IsBeginDue (def : LineDef) (c : CpuNo) (d : DevNo) (past : List Entry) : Type 0 where
   pub of_flow : is_cpu c (flow def past) ≡ true
   pub none_at_work : at_work past ≡ None
   pub first : first_left def past (linked past) ≡ Some d
 
+-- the handler that is at work returns
 pub record IsReturnDue (def : LineDef) (c : CpuNo) (d : DevNo) (answer : Answer) (past : List Entry) : Type 0 where
   pub of_flow : is_cpu c (flow def past) ≡ true
   pub is_at_work : at_work past ≡ Some d
   pub answer_is : answer ≡ answer_of (kind_of def d) parts.Primary (asks_of_handler def d past)
 
+-- nothing is at work, and no linked device is left
 pub record IsEndDue (def : LineDef) (c : CpuNo) (again unmask : Bool) (note : Note) (past : List Entry) : Type 0 where
   pub of_flow : is_cpu c (flow def past) ≡ true
   pub none_at_work : at_work past ≡ None

@@ -23,15 +23,18 @@ has_returned past d = list_any (is_thread_return d) (since (is_thread_begin d) p
 abbrev pub has_finished : List Entry → DevNo → Bool
 has_finished past d = list_any (is_finish d) (since (is_thread_return d) past)
 
+-- a thread that is woken begins a run
 pub record IsThreadBeginDue (d : DevNo) (past : List Entry) : Type 0 where
   pub not_running : is_running past d ≡ false
   pub woken : is_woken past d ≡ true
 
+-- its handler returns, having served what was unserved as the run began
 pub record IsThreadReturnDue (def : LineDef) (d : DevNo) (served : ℕ) (past : List Entry) : Type 0 where
   pub running : is_running past d ≡ true
   pub not_returned : has_returned past d ≡ false
   pub served_is : served ≡ asks_of_thread def d past
 
+-- on a one-shot line it gives its bit up, or keeps it where it was woken again, while no flow is in progress
 pub record IsFinishDue (def : LineDef) (d : DevNo) (kept unmask : Bool) (past : List Entry) : Type 0 where
   pub running : is_running past d ≡ true
   pub returned : has_returned past d ≡ true
@@ -41,6 +44,7 @@ pub record IsFinishDue (def : LineDef) (d : DevNo) (kept unmask : Bool) (past : 
   pub kept_is : kept ≡ is_woken past d
   pub unmask_is : unmask ≡ finish_unmasks def d past
 
+-- the run ends, after its finish on a one-shot line
 pub record IsDoneDue (d : DevNo) (past : List Entry) : Type 0 where
   pub running : is_running past d ≡ true
   pub returned : has_returned past d ≡ true

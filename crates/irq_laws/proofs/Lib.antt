@@ -22,9 +22,9 @@ pub mod ReasonLaws
 pub mod ScriptLaws
 pub mod Owing
 pub mod CoverLaws
+pub mod TakeLaws
+pub mod ServedLaws
+pub mod RestLaws
 pub mod CellSteps
 pub mod Starts
 pub mod CellKept
-pub mod CountKept
-pub mod IdleLaws
-pub mod StillLaws

@@ -1,16 +1,14 @@
 -- What one more entry makes of the devices that an edge is owed to: laws of any past.
-use Rattle.std.proofs.Common.{◌≡◌, ◌⊎◌, inl, inr, Bool, true, false, not, ◌||◌, ◌&&◌, List, [], ◌∷◌, refl, sym, ap, ◌∙◌, arith}
-use Rattle.std.proofs.lemmas.Bool.{and_parts, and_from, or_cases, or_right}
+use Rattle.std.proofs.Common.{◌≡◌, ◌⊎◌, inl, inr, Bool, true, false, not, ◌||◌, ◌&&◌, List, [], ◌∷◌, refl, arith}
+use Rattle.std.proofs.lemmas.Bool.{and_parts, or_cases, or_right}
 use Rattle.std.specs.List.{list_any}
 use Rattle.irq_base.specs.declared.numbers.DevNo.{DevNo}
-use Rattle.irq_base.specs.declared.lines.LineDef.{LineDef}
 use Rattle.irq_base.specs.declared.entries.Entry.{Entry}
 use Rattle.irq_base.specs.declared.entries.Entry.TheVariants as entries
 use Rattle.irq_model.specs.Places.{some_place}
 use Rattle.irq_model.specs.Kinds.{is_any_ask, is_begin, unlinks_dev, links_dev}
-use Rattle.irq_model.specs.Lines.{is_edge_line}
 use Rattle.irq_model.specs.Links.{is_linked, is_started}
-use Rattle.irq_model.specs.Owed.{comes_to, is_owed}
+use Rattle.irq_model.specs.Owed.{comes_to}
 use Rattle.irq_steps.proofs.Somewhere.{some_none}
 use Rattle.irq_laws.proofs.Lists.{place_imply, both_ways}
 
@@ -30,10 +28,12 @@ owed_before d e past h = by_test (unlinks_dev d e) (is_begin d e) refl refl
   where
     was : some_place (owes d) past ≡ true
     was = place_imply (λ a u. owes d (e ∷ a) u) (owes d) past (λ a u. still_owes (comes_to d u) (unlinks_dev d e) (is_begin d e) (list_any (unlinks_dev d) a) (list_any (is_begin d) a)) h
+
     none : (unlinks_dev d e || is_begin d e) ≡ true → ⊥
     none is =
         let n = place_imply (λ a u. owes d (e ∷ a) u) (λ a u. false) past (λ a u. never_owes (comes_to d u) (unlinks_dev d e) (is_begin d e) (list_any (unlinks_dev d) a) (list_any (is_begin d) a) is) h in
         both_ways (some_place (λ a u. false) past) n (some_none past)
+
     by_test : (p q : Bool) → unlinks_dev d e ≡ p → is_begin d e ≡ q → (some_place (owes d) past ≡ true) × (unlinks_dev d e ≡ false) × (is_begin d e ≡ false)
     by_test false false p q = (was, p, q)
     by_test true y p q = absurd (none (or_left_of (unlinks_dev d e) (is_begin d e) p))

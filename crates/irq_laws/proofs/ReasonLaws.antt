@@ -30,7 +30,7 @@ use Rattle.irq_laws.proofs.KeptAlways.{kept}
 -- ---- a masked line
 
 -- an enabled edge line is masked within a flow
-edge_reason : (def : LineDef) (f : FlowKind) (past : List Entry) → IsValid def → Kept def past → is_edge_line def ≡ true → def.flow ≡ f → is_masked def past ≡ true → depth past ≡ 0 → has_flow def past ≡ true
+pub edge_reason : (def : LineDef) (f : FlowKind) (past : List Entry) → IsValid def → Kept def past → is_edge_line def ≡ true → def.flow ≡ f → is_masked def past ≡ true → depth past ≡ 0 → has_flow def past ≡ true
 edge_reason def flows.Edge past valid k edge is m zero = (k.edges.edge_flow (ap is_edge_flow is) m zero).0
 edge_reason def flows.Level past valid k edge is m zero = level_is_not (is_edge_line def) edge (valid.level_flow (ap is_level_flow is))
 edge_reason def flows.Eoi past valid k edge is m zero = both_ways (is_masked def past) m (k.edges.eoi_edge edge (ap is_eoi_flow is) zero)

@@ -76,7 +76,7 @@ silent_after_free def h valid legal = each def valid (λ e past. (d : DevNo) →
 none_in_sum : (a b : ℕ) → a + b ≡ 0 → (a ≡ 0) × (b ≡ 0)
 none_in_sum a b h = (omega arith, omega arith)
 
-at_device : (def : LineDef) (p : DevNo → Bool) (d : DevNo) → list_any (is_device d) def.devices ≡ true → p d ≡ true → list_any (λ x. p x.dev) def.devices ≡ true
+pub at_device : (def : LineDef) (p : DevNo → Bool) (d : DevNo) → list_any (is_device d) def.devices ≡ true → p d ≡ true → list_any (λ x. p x.dev) def.devices ≡ true
 at_device def p d there passes = any_imply (is_device d) (λ x. p x.dev) def.devices (λ x same. subst (λ (y : DevNo). p y ≡ true) (dev_from_same d x.dev same) passes) there
 
 all_idle : (def : LineDef) (past : List Entry) → Kept def past → active_count def past ≡ 0 → (d : DevNo) → (is_woken past d || is_running past d) ≡ false

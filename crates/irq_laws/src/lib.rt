@@ -3,19 +3,21 @@
 //! above can call it or cite its lemma.
 #![tactic(auto)]
 
-ghost use Rattle.std.specs.Prelude.{List};
+ghost use Rattle.std.specs.Prelude.{◌≡◌, List, IsSome, None};
 ghost use Rattle.irq_base.specs.declared.lines.LineDef.{LineDef};
+ghost use Rattle.irq_base.specs.declared.entries.Actor.{Actor};
 ghost use Rattle.irq_base.specs.declared.entries.Entry.{Entry};
-ghost use Rattle.irq_model.specs.Laws.{NoOverlap, IsSilentAfterFree, KeepsOneshot, IsSynchronised, TakesAreCounted, IsServedWhenIdle};
+ghost use Rattle.irq_model.specs.Laws.{NoOverlap, IsSilentAfterFree, KeepsOneshot, TakesAreCounted, IsSynchronised, IsServedWhenIdle};
 ghost use Rattle.irq_model.specs.Legal.{IsLegal, IsLegalPast};
 ghost use Rattle.irq_model.specs.Owed.{IsCovered, IsDelivered};
 ghost use Rattle.irq_model.specs.Reason.{HasReason, OneIsCalled, OneIsFreed};
 ghost use Rattle.irq_model.specs.Scripts.{FollowsScripts};
 ghost use Rattle.irq_model.specs.Settled.{IsSettled};
+ghost use Rattle.irq_model.specs.Next.{next};
+ghost use Rattle.irq_model.specs.Signal.{target};
 ghost use Rattle.irq_model.specs.Valid.{IsValid};
-ghost use Rattle.irq_laws.specs.Kept.{Kept};
 ghost use Rattle.irq_laws.specs.Driven.{IsDrivenCell};
-ghost use Rattle.irq_laws.specs.Still.{IsStill};
+ghost use Rattle.irq_laws.specs.Kept.{Kept};
 
 /// No overlap: a device's handler is called only where it isn't at work, and its thread's run begins only where
 /// it isn't in one.
@@ -54,8 +56,40 @@ pub fn has_reason()
 #[tactic(auto, using(crate::proofs::CoverLaws::is_covered_law))]
 pub fn covers_owed()
     ensures law { (def : LineDef) (h : List Entry) → IsValid def → IsLegal def h → IsCovered def h }
-{
-}
+{}
+
+/// Takes are counted: an edge line takes no more interrupts by its signal than came, and no more software resends
+/// than starts asked for.
+#[tactic(auto, using(crate::proofs::TakeLaws::takes_are_counted))]
+pub fn takes_are_counted()
+    ensures law { (def : LineDef) (h : List Entry) → IsLegal def h → TakesAreCounted def h }
+{}
+
+/// Served when idle: on an enabled line without a flow, what is owed, or high with no thread unfinished, is handled
+/// next.
+#[tactic(auto, using(crate::proofs::ServedLaws::served_when_idle))]
+pub fn served_when_idle()
+    ensures law { (def : LineDef) (h : List Entry) → IsValid def → IsLegal def h → IsServedWhenIdle def h }
+{}
+
+/// Some processor of the machine takes the line's interrupts.
+#[tactic(auto, using(crate::proofs::ServedLaws::has_target))]
+pub fn has_target()
+    ensures law { (def : LineDef) (past : List Entry) → IsValid def → IsLegalPast def past → IsSome (target def past) }
+{}
+
+/// No standstill: where no actor may add an entry, every driver's calls are complete.
+#[tactic(auto, using(crate::proofs::RestLaws::no_standstill))]
+pub fn no_standstill()
+    ensures law { (def : LineDef) (h : List Entry) → IsValid def → IsLegal def h → ((a : Actor) → next def h a ≡ None) → IsSettled def h }
+{}
+
+/// Delivered: at rest no edge is owed on a line that isn't left disabled, and on a level line every linked device
+/// that works has all its asks served.
+#[tactic(auto, using(crate::proofs::RestLaws::settled_is_delivered))]
+pub fn settled_is_delivered()
+    ensures law { (def : LineDef) (h : List Entry) → IsValid def → IsLegal def h → IsSettled def h → IsDelivered def h }
+{}
 
 /// Each driver's entries are those of its calls, in the order of its script, each once.
 #[tactic(auto, using(crate::proofs::ScriptLaws::follows_scripts))]
@@ -81,40 +115,9 @@ pub fn one_is_freed()
 {}
 
 /// The cell: masked, stored, sent, high and in service, as they are read off the entries, are what the signal cell
-/// of the line keeps when the entries drive it, each by the operations of its flow or its call.
+/// of the line keeps when the entries drive it, each by the operations of its flow or its call; and what the line
+/// signals is what the cell presents.
 #[tactic(auto, using(crate::proofs::CellKept::is_driven_cell))]
 pub fn driven_cell()
     ensures law { (def : LineDef) (h : List Entry) → IsValid def → IsLegal def h → IsDrivenCell def h }
-{
-}
-
-/// Takes are counted: an edge line takes no more interrupts by its signal than there were asks, starts that the
-/// chip resent and ends that it sent again, and no more by software than there were such resends.
-#[tactic(auto, using(crate::proofs::CountKept::takes_are_counted))]
-pub fn takes_are_counted()
-    ensures law { (def : LineDef) (h : List Entry) → IsValid def → IsLegal def h → TakesAreCounted def h }
-{
-}
-
-/// Served when idle: on an enabled line without a flow, what is owed, or a high level with no thread unfinished, is
-/// what the target handles next.
-#[tactic(auto, using(crate::proofs::IdleLaws::served_when_idle))]
-pub fn served_when_idle()
-    ensures law { (def : LineDef) (h : List Entry) → IsValid def → IsLegal def h → IsServedWhenIdle def h }
-{
-}
-
-/// No standstill: where nothing is due for any actor of the line, every driver's calls on it are complete.
-#[tactic(auto, using(crate::proofs::StillLaws::no_standstill))]
-pub fn no_standstill()
-    ensures law { (def : LineDef) (h : List Entry) → IsValid def → IsLegal def h → IsStill def h → IsSettled def h }
-{
-}
-
-/// Delivered: at rest, on a line that isn't left disabled, no edge is owed, and on a level line every linked device
-/// that works has all its asks served.
-#[tactic(auto, using(crate::proofs::StillLaws::delivered))]
-pub fn delivered()
-    ensures law { (def : LineDef) (h : List Entry) → IsValid def → IsLegal def h → IsSettled def h → IsDelivered def h }
-{
-}
+{}
