@@ -3,10 +3,7 @@ use Rattle.std.proofs.Common.{◌≡◌, ℕ, Bool, true, false, not, ◌||◌, 
 use Rattle.std.proofs.lemmas.Bool.{and_parts, or_parts, false_from_ne_true}
 use Rattle.std.specs.List.{list_any}
 use Rattle.irq_base.specs.declared.numbers.CpuNo.{CpuNo}
-use Rattle.irq_base.specs.declared.numbers.DevNo.{DevNo}
 use Rattle.irq_base.specs.declared.devices.DeviceDef.{DeviceDef}
-use Rattle.irq_base.specs.declared.devices.Kind.{Kind}
-use Rattle.irq_base.specs.declared.devices.Kind.TheVariants as kinds
 use Rattle.irq_base.specs.declared.lines.FlowKind.{FlowKind}
 use Rattle.irq_base.specs.declared.lines.FlowKind.TheVariants as flows
 use Rattle.irq_base.specs.declared.lines.LineDef.{LineDef}
@@ -24,7 +21,7 @@ use Rattle.irq_base.specs.Cell.{Cell, after_edge, after_high, after_mask, after_
 use Rattle.irq_model.specs.Kinds.{is_any_ask, is_take, is_handle, is_again, is_leave, is_disable, is_kill, is_last_unlink, is_start, is_reopening, is_chip_start, is_chip_opened, opened_of, is_started_opened}
 use Rattle.irq_model.specs.Lines.{is_edge_line, is_level_line, is_level_flow, is_eoi_flow, serves}
 use Rattle.irq_model.specs.Links.{is_oneshot, is_disabled}
-use Rattle.irq_model.specs.Asks.{unserved_by, unserved_asks, is_high}
+use Rattle.irq_model.specs.Asks.{unserved_asks, is_high}
 use Rattle.irq_model.specs.Masks.{take_masks, is_masked}
 use Rattle.irq_model.specs.Rounds.{flow, has_flow}
 use Rattle.irq_model.specs.Waiting.{is_pending, is_soft}
@@ -35,37 +32,17 @@ use Rattle.irq_model.specs.Legal.{IsDue, IsLegal, IsLegalPast}
 use Rattle.irq_model.specs.Valid.{IsValid}
 use Rattle.irq_steps.proofs.RoundSteps.{flow_quiet}
 use Rattle.irq_steps.proofs.MaskSteps.{masked_more, no_take_masks, masked_by_opening}
-use Rattle.irq_laws.specs.Kept.{KeepsDepth, KeepsEdges}
+use Rattle.irq_laws.specs.Kept.{KeepsEdges, Kept}
 use Rattle.irq_laws.specs.Driven.{cell_with, cell_of, accepted, taken_on_eoi_edge, taken_on_eoi_level, taken, masked_if, unmasked_if, retriggered_if, ended, asked, served, driven, cell_after, IsDrivenCell}
-use Rattle.irq_laws.proofs.Lists.{any_ext, both_ways}
+use Rattle.irq_laws.proofs.Lists.{both_ways}
 use Rattle.irq_laws.proofs.Masking.{take_masked, IsPlain, flow_same, zero_depth}
 use Rattle.irq_laws.proofs.KeptAlways.{kept}
 use Rattle.irq_laws.proofs.ImpliesFlow.{again_by, unmask_by, take_due, end_due}
 use Rattle.irq_laws.proofs.Starts.{chip_resend, soft_has_edges}
+use Rattle.irq_laws.proofs.LevelSteps.{moves_level, high_quiet, high_return, high_thread_return}
 use Rattle.irq_laws.proofs.CellSteps.{mask_is, accept_is, ack_is, eoi_is, same_rest, level_sent, marks, mask_to, unmask_to, leaves, resend_to, again_to, edge_to, take_to}
 
 -- ---- the level
-
--- the entries at which the level can change
-abbrev moves_level : Entry → Bool
-moves_level (entries.Ask driver dev) = true
-moves_level (entries.Return cpu dev answer served) = true
-moves_level (entries.ThreadReturn dev served) = true
-moves_level _ = false
-
-unserved_quiet : (kind : Kind) (d : DevNo) (e : Entry) (past : List Entry) → moves_level e ≡ false → unserved_by kind d (e ∷ past) ≡ unserved_by kind d past
-unserved_quiet kind d (entries.Ask driver dev) past h = cc
-unserved_quiet kind d (entries.Return cpu dev answer served) past h = cc
-unserved_quiet kind d (entries.ThreadReturn dev served) past h = cc
-unserved_quiet kinds.Direct d e past h = refl
-unserved_quiet kinds.Check d e past h = refl
-unserved_quiet kinds.Null d e past h = refl
-unserved_quiet kinds.Stuck d e past h = refl
-
-high_quiet : (def : LineDef) (e : Entry) (past : List Entry) → moves_level e ≡ false → is_high def (e ∷ past) ≡ is_high def past
-high_quiet def e past h =
-    ap (λ (b : Bool). is_level_line def && b)
-    (any_ext (λ (x : DeviceDef). nat_lt 0 (unserved_asks def x.dev (e ∷ past))) (λ (x : DeviceDef). nat_lt 0 (unserved_asks def x.dev past)) def.devices (λ x. ap (λ (n : ℕ). nat_lt 0 n) (unserved_quiet _ x.dev e past h)))
 
 edge_high : (def : LineDef) (past : List Entry) → is_edge_line def ≡ true → is_high def past ≡ false
 edge_high def past edge = ap (λ (b : Bool). not b && list_any (λ (x : DeviceDef). nat_lt 0 (unserved_asks def x.dev past)) def.devices) edge
@@ -114,16 +91,25 @@ asks def e past p ask same = by_line (is_edge_line def) refl
         leaves def e past (is_high def (e ∷ past)) (serves def && has_flow def past) p.no_take (is_none (is_edge_line def) _ level) same
         ∙ same_rest def _ _ _ _ _ _ _ refl (in_service_same def e past p)
 
-returns : (def : LineDef) (e : Entry) (past : List Entry) → IsPlain e → is_edge def e ≡ false → is_masked def (e ∷ past) ≡ is_masked def past → served def (e ∷ past) (cell_of def past) ≡ cell_of def (e ∷ past)
-returns def e past p edgeless same = by_line (is_edge_line def) refl
+-- a run that served sets the level anew; one that served nothing leaves it
+returns : (def : LineDef) (e : Entry) (past : List Entry) (count : ℕ) → IsPlain e → is_edge def e ≡ false → is_masked def (e ∷ past) ≡ is_masked def past → (nat_lt 0 count ≡ false → is_high def (e ∷ past) ≡ is_high def past)
+    → served def count (e ∷ past) (cell_of def past) ≡ cell_of def (e ∷ past)
+returns def e past count p edgeless same idle = by_test (is_level_line def) (nat_lt 0 count) refl refl
   where
-    by_line : (b : Bool) → is_edge_line def ≡ b → cond b (cell_of def past) (after_high (is_high def (e ∷ past)) (cell_of def past)) ≡ cell_of def (e ∷ past)
-    by_line true edge =
+    stays : is_high def past ≡ is_high def (e ∷ past) → cell_of def past ≡ cell_of def (e ∷ past)
+    stays high =
         leaves def e past (is_high def past) (serves def && has_flow def past) p.no_take edgeless same
-        ∙ same_rest def _ _ _ _ _ _ _ (edge_high def past edge ∙ sym (edge_high def (e ∷ past) edge)) (in_service_same def e past p)
-    by_line false level =
+        ∙ same_rest def _ _ _ _ _ _ _ high (in_service_same def e past p)
+
+    off : (l x : Bool) → l ≡ false → (l && x) ≡ false
+    off l x h = grind arith
+
+    by_test : (l s : Bool) → is_level_line def ≡ l → nat_lt 0 count ≡ s → cond (l && s) (after_high (is_high def (e ∷ past)) (cell_of def past)) (cell_of def past) ≡ cell_of def (e ∷ past)
+    by_test true true level some =
         leaves def e past (is_high def (e ∷ past)) (serves def && has_flow def past) p.no_take edgeless same
         ∙ same_rest def _ _ _ _ _ _ _ refl (in_service_same def e past p)
+    by_test true false level none = stays (sym (idle none))
+    by_test false s edge served = stays (off _ _ edge ∙ sym (off _ _ edge))
 
 -- ---- disables and unlinks
 
@@ -491,15 +477,17 @@ asks_nothing : (def : LineDef) (e : Entry) (past : List Entry) → IsPlain e →
 asks_nothing def e past p still edgeless no_deepening no_last no_open =
     quiet def e past p still edgeless (masked_by_opening def e past p.no_take no_deepening no_last ∙ ap (λ (b : Bool). not b && is_masked def past) no_open)
 
-cell_more : (def : LineDef) (e : Entry) (past : List Entry) → IsValid def → IsDue def e past → KeepsEdges def past → (is_soft past ≡ true → is_edge_line def ≡ true) → driven def e past (cell_of def past) ≡ cell_of def (e ∷ past)
+pub cell_more : (def : LineDef) (e : Entry) (past : List Entry) → IsValid def → IsDue def e past → Kept def past → (is_soft past ≡ true → is_edge_line def ≡ true) → driven def e past (cell_of def past) ≡ cell_of def (e ∷ past)
 cell_more def (entries.Ask r d) past valid due k soft = asks def (entries.Ask r d) past (plain _ refl refl refl refl) refl (masked_by_opening def (entries.Ask r d) past refl refl refl)
 cell_more def (entries.Return c d answer count) past valid due k soft =
-    returns def (entries.Return c d answer count) past (plain _ refl refl refl refl) (no_edge (is_edge_line def) (is_eoi_flow def.flow)) (masked_by_opening def (entries.Return c d answer count) past refl refl refl)
+    returns def (entries.Return c d answer count) past count (plain _ refl refl refl refl) (no_edge (is_edge_line def) (is_eoi_flow def.flow)) (masked_by_opening def (entries.Return c d answer count) past refl refl refl)
+    (high_return def c d answer count past due k.runs)
 cell_more def (entries.ThreadReturn d count) past valid due k soft =
-    returns def (entries.ThreadReturn d count) past (plain _ refl refl refl refl) (no_edge (is_edge_line def) (is_eoi_flow def.flow)) (masked_by_opening def (entries.ThreadReturn d count) past refl refl refl)
+    returns def (entries.ThreadReturn d count) past count (plain _ refl refl refl refl) (no_edge (is_edge_line def) (is_eoi_flow def.flow)) (masked_by_opening def (entries.ThreadReturn d count) past refl refl refl)
+    (high_thread_return def d count past due)
 cell_more def (entries.Take c way answer) past valid due k soft =
     ap (λ (x : Cell). taken def def.flow (is_oneshot past) answer x) (accepted_is def c way answer past due soft) ∙ take_by def def.flow c way answer past valid due soft refl
-cell_more def (entries.End c again unmask note) past valid due k soft = end_by def def.flow c again unmask note past valid due k refl
+cell_more def (entries.End c again unmask note) past valid due k soft = end_by def def.flow c again unmask note past valid due k.edges refl
 cell_more def (entries.Finish d kept true) past valid due k soft =
     opening def (entries.Finish d kept true) past (plain _ refl refl refl refl) refl (no_edge (is_edge_line def) (is_eoi_flow def.flow)) (masked_by_opening def (entries.Finish d kept true) past refl refl refl)
 cell_more def (entries.Finish d kept false) past valid due k soft =
@@ -541,7 +529,7 @@ driven_cell : (def : LineDef) → IsValid def → (past : List Entry) → IsLega
 driven_cell def valid [] legal = cell_none def
 driven_cell def valid (e ∷ past) legal =
     ap (λ (x : Cell). driven def e past x) (driven_cell def valid past legal.1)
-    ∙ cell_more def e past valid legal.0 (kept def past valid legal.1).edges (soft_has_edges def past legal.1)
+    ∙ cell_more def e past valid legal.0 (kept def past valid legal.1) (soft_has_edges def past legal.1)
 
 pub is_driven_cell : (def : LineDef) (h : List Entry) → IsValid def → IsLegal def h → IsDrivenCell def h
 is_driven_cell def h valid legal = let same = driven_cell def valid (reverse h) legal in record { keeps = same; presents = ap presents same }

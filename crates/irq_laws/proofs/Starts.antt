@@ -60,18 +60,8 @@ soft_by : (E p g : Bool) → resends.Soft ≡ cond (E && p) (cond g resends.Chip
 soft_by true p g h = refl
 soft_by false p g h = cc
 
-some_by : (E p g : Bool) → E ≡ true → p ≡ true → resends.No ≡ cond (E && p) (cond g resends.Chip resends.Soft) resends.No → ⊥
-some_by true true true a b h = cc
-some_by true true false a b h = cc
-some_by true false g a b h = cc
-some_by false p g a b h = cc
-
 pub chip_resend : (def : LineDef) (e : Entry) (past : List Entry) → IsDue def e past → opened_of e ≡ opens.Started resends.Chip → (is_edge_line def ≡ true) × (def.retriggers ≡ true)
 chip_resend def e past due h = chip_by (is_edge_line def) (is_pending def past) def.retriggers (resends_what_is_pending def e past resends.Chip due h)
-
--- what is pending is resent
-pub no_resend : (def : LineDef) (e : Entry) (past : List Entry) → IsDue def e past → is_edge_line def ≡ true → is_pending def past ≡ true → opened_of e ≡ opens.Started resends.No → ⊥
-no_resend def e past due edge p h = some_by (is_edge_line def) (is_pending def past) def.retriggers edge p (resends_what_is_pending def e past resends.No due h)
 
 -- ---- a software resend is on an edge line
 

@@ -1,6 +1,6 @@
 -- The cell of a line, driven by the entries: what each of them does to it, in the order in which the flow
 -- handlers and the calls do it. The newest entry comes first.
-use Rattle.std.specs.Prelude.{◌≡◌, Bool, ◌&&◌, if◌then◌else◌, List, [], ◌∷◌, reverse}
+use Rattle.std.specs.Prelude.{ℕ, nat_lt, ◌≡◌, Bool, ◌&&◌, if◌then◌else◌, List, [], ◌∷◌, reverse}
 use Rattle.irq_base.specs.declared.lines.FlowKind.{FlowKind}
 use Rattle.irq_base.specs.declared.lines.FlowKind.TheVariants as flows
 use Rattle.irq_base.specs.declared.lines.LineDef.{LineDef}
@@ -12,7 +12,7 @@ use Rattle.irq_base.specs.declared.entries.TakeAnswer.{TakeAnswer}
 use Rattle.irq_base.specs.declared.entries.TakeAnswer.TheVariants as takes
 use Rattle.irq_base.specs.Cell.{Cell, fresh_cell, after_edge, after_high, after_mask, after_unmask, after_accept, after_ack, after_eoi, after_retrigger, signals as presents}
 use Rattle.irq_model.specs.Kinds.{is_kill, is_last_unlink, is_start, is_chip_start}
-use Rattle.irq_model.specs.Lines.{is_edge_line, serves}
+use Rattle.irq_model.specs.Lines.{is_edge_line, is_level_line, serves}
 use Rattle.irq_model.specs.Links.{is_oneshot}
 use Rattle.irq_model.specs.Asks.{is_high}
 use Rattle.irq_model.specs.Masks.{is_masked}
@@ -85,18 +85,18 @@ abbrev pub ended : LineDef → FlowKind → Bool → Bool → Cell → Cell
 ended def flows.Eoi again unmask c = retriggered_if (is_edge_line def && again) (unmasked_if unmask (after_eoi c))
 ended def _ again unmask c = unmasked_if unmask c
 
--- a device asks, or a run of it returned: an edge comes, or the level is what the devices make of it now
+-- a device asks, or a run that served it returned: an edge comes, or the level is what the devices make of it now
 abbrev pub asked : LineDef → List Entry → Cell → Cell
 asked def past c = if is_edge_line def then after_edge c else after_high (is_high def past) c
 
-abbrev pub served : LineDef → List Entry → Cell → Cell
-served def past c = if is_edge_line def then c else after_high (is_high def past) c
+abbrev pub served : LineDef → ℕ → List Entry → Cell → Cell
+served def count past c = if is_level_line def && nat_lt 0 count then after_high (is_high def past) c else c
 
 -- what the entry does, where `past` stands before it
 abbrev pub driven : LineDef → Entry → List Entry → Cell → Cell
 driven def (entries.Ask driver dev) past c = asked def (entries.Ask driver dev ∷ past) c
-driven def (entries.Return cpu dev answer count) past c = served def (entries.Return cpu dev answer count ∷ past) c
-driven def (entries.ThreadReturn dev count) past c = served def (entries.ThreadReturn dev count ∷ past) c
+driven def (entries.Return cpu dev answer count) past c = served def count (entries.Return cpu dev answer count ∷ past) c
+driven def (entries.ThreadReturn dev count) past c = served def count (entries.ThreadReturn dev count ∷ past) c
 driven def (entries.Take cpu way answer) past c = taken def def.flow (is_oneshot past) answer (accepted way c)
 driven def (entries.End cpu again unmask note) past c = ended def def.flow again unmask (masked_if (def.unlazy && is_kill (entries.End cpu again unmask note)) c)
 driven def (entries.Finish dev kept unmask) past c = unmasked_if unmask c
