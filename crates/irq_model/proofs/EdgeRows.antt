@@ -17,7 +17,7 @@ use Rattle.irq_base.specs.declared.entries.LinkAnswer.TheVariants as links
 use Rattle.irq_base.specs.declared.entries.AffinityAnswer.TheVariants as moves
 use Rattle.irq_model.specs.Legal.{IsLegal}
 use Rattle.irq_model.specs.Next.{next}
-use Rattle.irq_model.proofs.RowWords.{line, cpu, dev, driver, device, no_flags, latch, plain, lpi, msi}
+use Rattle.irq_model.proofs.RowWords.{cpu, dev, driver, device, no_flags, latch, plain, lpi, msi}
 
 -- Two asks before the take share one run.
 abbrev pub coalescing_line : LineDef

@@ -16,7 +16,7 @@ use Rattle.irq_base.specs.declared.entries.Opened.TheVariants as opens
 use Rattle.irq_base.specs.declared.entries.LinkAnswer.TheVariants as links
 use Rattle.irq_model.specs.Legal.{IsLegal}
 use Rattle.irq_model.specs.Next.{next}
-use Rattle.irq_model.proofs.RowWords.{line, cpu, dev, driver, device, no_flags, shared, level}
+use Rattle.irq_model.proofs.RowWords.{cpu, dev, driver, device, no_flags, shared, level}
 
 -- A level that is still high after the end is taken again.
 abbrev pub retaken_line : LineDef

@@ -3,3 +3,9 @@ mod EdgeRows
 mod LevelRows
 mod ThreadRows
 mod DriverRows
+pub mod Lists
+pub mod Linked
+pub mod Somewhere
+pub mod EdgeWalk
+pub mod Lowest
+pub mod Counts

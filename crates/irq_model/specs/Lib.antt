@@ -21,3 +21,5 @@ pub mod Scripts
 pub mod Reason
 pub mod Laws
 pub mod Bounds
+pub mod Tests
+pub mod MaskTable

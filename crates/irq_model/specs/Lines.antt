@@ -1,6 +1,5 @@
 -- What is fixed of a line, read off its definition.
-use Rattle.std.specs.Prelude.{ℕ, Bool, true, false, ◌&&◌, ◌||◌, ◌==◌, if◌then◌else◌, not, List, [], ◌∷◌, filter}
-use Rattle.std.specs.List.{list_any}
+use Rattle.std.specs.Prelude.{ℕ, Bool, true, false, ◌&&◌, ◌==◌, if◌then◌else◌, not, List, [], ◌∷◌}
 use Rattle.std.specs.Int.{bit_at}
 use Rattle.irq_base.specs.declared.numbers.DevNo.{DevNo}
 use Rattle.irq_base.specs.declared.devices.Kind.{Kind}

@@ -1,6 +1,6 @@
 -- Places of a list of entries. The newest entry comes first here, so that "the last ..", "since ..", "with
 -- no .. after it" are read off from the front, and one more entry is one more head.
-use Rattle.std.specs.Prelude.{ℕ, ◌+◌, Bool, true, false, not, ◌||◌, ◌&&◌, if◌then◌else◌, Option, Some, None, List, [], ◌∷◌}
+use Rattle.std.specs.Prelude.{ℕ, ◌+◌, Bool, false, not, ◌||◌, ◌&&◌, if◌then◌else◌, Option, Some, None, List, [], ◌∷◌}
 
 module _ {A : Type 0} where
   -- what stands after the last that is p, or all where none is

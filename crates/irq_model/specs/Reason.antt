@@ -1,15 +1,14 @@
 -- Why a started line is masked, and what each entry keeps so that there is a reason. Each part is a fact of
 -- the past, whose newest entry comes first.
-use Rattle.std.specs.Prelude.{◌≡◌, ℕ, Bool, true, false, not, ◌||◌, ◌&&◌, ◌⊎◌, Option, Some, None, List, [], ◌∷◌, reverse}
+use Rattle.std.specs.Prelude.{◌≡◌, Bool, true, false, not, ◌||◌, ◌&&◌, List, ◌∷◌, reverse}
 use Rattle.std.specs.List.{list_any}
 use Rattle.irq_base.specs.declared.numbers.DevNo.{DevNo}
-use Rattle.irq_base.specs.declared.numbers.DriverNo.{DriverNo}
 use Rattle.irq_base.specs.declared.lines.LineDef.{LineDef}
 use Rattle.irq_base.specs.declared.entries.Entry.{Entry}
 use Rattle.irq_base.specs.declared.entries.Entry.TheVariants as entries
 use Rattle.irq_base.specs.declared.entries.UnlinkAnswer.TheVariants as unlinks
 use Rattle.irq_model.specs.Places.{stands, since, some_place}
-use Rattle.irq_model.specs.Kinds.{same_dev, same_driver, is_begin, is_return, is_hard_clear, is_by_driver, is_freed, is_freed_by, is_finish, is_thread_begin, unlinks_dev}
+use Rattle.irq_model.specs.Kinds.{same_dev, is_begin, is_return, is_hard_clear, is_by_driver, is_freed, is_freed_by, is_finish, is_thread_begin, unlinks_dev}
 use Rattle.irq_model.specs.Lines.{is_edge_line, is_level_line, is_edge_flow, is_eoi_flow}
 use Rattle.irq_model.specs.Links.{is_linked, is_none_linked, depth, is_disabled, is_started, is_oneshot, linking_flags}
 use Rattle.irq_model.specs.Masks.{is_masked}
@@ -17,7 +16,6 @@ use Rattle.irq_model.specs.Rounds.{has_flow, has_begun}
 use Rattle.irq_model.specs.Waiting.{is_pending}
 use Rattle.irq_model.specs.Threads.{is_woken, is_running, is_unfinished, is_some_unfinished}
 use Rattle.irq_model.specs.Due.{holds_mutex}
-use Rattle.irq_model.specs.Scripts.{FollowsScriptsPast}
 
 -- d's handler was called and hasn't returned
 abbrev pub is_called : List Entry → DevNo → Bool

@@ -1,11 +1,11 @@
 -- What the threads of a line's devices do (`irq_thread`, `irq_finalize_oneshot` of `kernel/irq/manage.c`;
 -- `IRQTF_RUNTHREAD`, `desc->threads_oneshot`, `desc->threads_active`).
-use Rattle.std.specs.Prelude.{ℕ, ◌+◌, Bool, true, false, not, ◌||◌, ◌&&◌, List, [], ◌∷◌}
+use Rattle.std.specs.Prelude.{ℕ, ◌+◌, Bool, not, ◌&&◌, List}
 use Rattle.std.specs.List.{list_any}
 use Rattle.irq_base.specs.declared.numbers.DevNo.{DevNo}
 use Rattle.irq_base.specs.declared.lines.LineDef.{LineDef}
 use Rattle.irq_base.specs.declared.entries.Entry.{Entry}
-use Rattle.irq_model.specs.Places.{stands, since, last_of, count_of}
+use Rattle.irq_model.specs.Places.{stands, since, count_of}
 use Rattle.irq_model.specs.Kinds.{same_dev, wakes, is_thread_begin, is_done, is_cleared_finish, links_dev}
 use Rattle.irq_model.specs.Links.{linking_flags}
 

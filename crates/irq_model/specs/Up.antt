@@ -1,13 +1,13 @@
 -- When the line's domains are activated: from its first action to the free of its last
 -- (`irq_domain_activate_irq`, `irq_domain_deactivate_irq` in `__setup_irq` and `__free_irq`).
-use Rattle.std.specs.Prelude.{Bool, true, false, not, ◌||◌, ◌&&◌, List, [], ◌∷◌}
+use Rattle.std.specs.Prelude.{Bool, true, false, not, ◌&&◌, List, [], ◌∷◌}
 use Rattle.std.specs.List.{list_any}
 use Rattle.irq_base.specs.declared.entries.Entry.{Entry}
 use Rattle.irq_base.specs.declared.entries.Entry.TheVariants as entries
 use Rattle.irq_base.specs.declared.entries.UnlinkAnswer.TheVariants as unlinks
 use Rattle.irq_model.specs.Places.{some_place, since_place, upto_place}
 use Rattle.irq_model.specs.Kinds.{is_freed_by}
-use Rattle.irq_model.specs.Links.{is_first_request, is_empty}
+use Rattle.irq_model.specs.Links.{is_first_request}
 
 -- the newest entry of `upto` is a last unlink, and its driver's free was completed after it
 abbrev pub is_freed_last : List Entry → List Entry → Bool

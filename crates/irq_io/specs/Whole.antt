@@ -1,0 +1,35 @@
+-- What a reading and a writing of many pieces come to.
+use Rattle.std.specs.Prelude.{◌≡◌, ℕ, Bool, true, false, Option, Some, None, List, ◌++◌, ◌≤◌, length, take, drop, Result, Ok, Err}
+use Rattle.irq_io.specs.Told.{IsBeginning}
+use Rattle.irq_io.specs.declared.whole.ReadRefused.{ReadRefused}
+use Rattle.irq_io.specs.declared.whole.ReadRefused.TheVariants as refusals
+use Rattle.irq_io.specs.declared.whole.WriteEnd.{WriteEnd}
+use Rattle.irq_io.specs.declared.whole.WriteEnd.TheVariants as ends
+
+-- whether a reading ended with a fault
+abbrev pub met_fault : {T : Type 0} → Result T ReadRefused → Bool
+met_fault (Ok v) = false
+met_fault (Err refusals.Fault) = true
+met_fault (Err refusals.NoMemory) = false
+
+-- whether a writing ended with a fault
+abbrev pub writing_failed : WriteEnd → Bool
+writing_failed ends.Done = false
+writing_failed ends.Failed = true
+
+-- where the source tells what is left: the bytes are the first `most` of it, or all, and exactly they were taken
+abbrev pub TakesUpTo : ℕ → Option (List ℕ) → Option (List ℕ) → List ℕ → Type 0
+TakesUpTo most None now bytes = now ≡ None
+TakesUpTo most (Some before) now bytes = (bytes ≡ take most before) × (now ≡ Some (drop most before))
+
+-- where the source tells what is left: what was taken is a beginning of it, of at most `most` bytes
+abbrev pub TakesAtMost : ℕ → Option (List ℕ) → Option (List ℕ) → Type 0
+TakesAtMost most None now = now ≡ None
+TakesAtMost most (Some before) now =
+    (taken : List ℕ) × (rest : List ℕ) × (length taken ≤ most) × (before ≡ taken ++ rest) × (now ≡ Some rest)
+
+-- where the sink tells its content: it grew by the bytes, or after a fault by a beginning of them
+abbrev pub WritesAll : Option (List ℕ) → Option (List ℕ) → List ℕ → WriteEnd → Type 0
+WritesAll None now bytes end = now ≡ None
+WritesAll (Some before) now bytes ends.Done = now ≡ Some (before ++ bytes)
+WritesAll (Some before) now bytes ends.Failed = (taken : List ℕ) × IsBeginning taken bytes × (now ≡ Some (before ++ taken))

@@ -1,0 +1,41 @@
+-- What a write and a flush answer, and what the sink holds after them.
+use Rattle.std.specs.Prelude.{◌≡◌, ℕ, ◌≤◌, Bool, true, false, Option, List, take}
+use Rattle.irq_io.specs.Told.{with_more}
+use Rattle.irq_io.specs.declared.sinks.WriteAnswer.{WriteAnswer}
+use Rattle.irq_io.specs.declared.sinks.WriteAnswer.TheVariants as writes
+use Rattle.irq_io.specs.declared.sinks.FlushAnswer.{FlushAnswer}
+use Rattle.irq_io.specs.declared.sinks.FlushAnswer.TheVariants as flushes
+
+-- whether the write failed
+abbrev pub write_failed : WriteAnswer → Bool
+write_failed (writes.Took n) = false
+write_failed writes.Failed = true
+
+-- whether the flush failed
+abbrev pub flush_failed : FlushAnswer → Bool
+flush_failed flushes.Done = false
+flush_failed flushes.Failed = true
+
+-- the fact holds of the number of bytes, if some were taken
+abbrev pub IfTook : WriteAnswer → (ℕ → Type 0) → Type 0
+IfTook (writes.Took n) P = P n
+IfTook writes.Failed P = Unit {0}
+
+-- at least one byte was taken, and no more than were given
+abbrev pub TookWithin : ℕ → WriteAnswer → Type 0
+TookWithin given answer = IfTook answer (λ n. (1 ≤ n) × (n ≤ given))
+
+-- the content grew by the bytes that were taken; a fault adds nothing
+abbrev pub written_after : Option (List ℕ) → List ℕ → WriteAnswer → Option (List ℕ)
+written_after content bytes (writes.Took n) = with_more content (take n bytes)
+written_after content bytes writes.Failed = content
+
+-- after a flush that is done all that was written has been handed on
+abbrev pub HandsAllOn : Option (List ℕ) → Option (List ℕ) → FlushAnswer → Type 0
+HandsAllOn handed_on written flushes.Done = handed_on ≡ written
+HandsAllOn handed_on written flushes.Failed = Unit {0}
+
+-- how many bytes were taken
+abbrev pub taken_of : WriteAnswer → ℕ
+taken_of (writes.Took n) = n
+taken_of writes.Failed = 0

@@ -1,0 +1,27 @@
+//! The ends of the program: where its bytes come from and go to, with counts of faults.
+//!
+//! A `Source` gives bytes and a `Sink` takes them. Each counts its faults: the count rises exactly with an
+//! answer `Failed`, so whoever hands an end to a call sees afterwards whether it failed in that call. The ends
+//! in memory tell their content to contracts, those over std's `Read` and `Write` don't. A write may hand on
+//! less than it took; after a flush that is `Done` all is handed on.
+#![tactic(auto)]
+
+mod listed;
+pub mod mem_sink;
+pub mod mem_source;
+pub mod sinks;
+pub mod sources;
+pub mod std_sink;
+pub mod std_source;
+pub mod whole;
+
+pub use mem_sink::MemSink;
+pub use mem_source::MemSource;
+pub use sinks::{FlushAnswer, Sink, WriteAnswer};
+pub use sources::{ReadAnswer, Source};
+pub use std_sink::StdSink;
+pub use std_source::StdSource;
+pub use whole::{ReadRefused, WriteEnd, read_up_to, write_all};
+
+#[cfg(test)]
+mod tests;

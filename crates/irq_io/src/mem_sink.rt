@@ -1,0 +1,153 @@
+//! A sink in memory, whose writes and flushes fail where they are told to.
+ghost use Rattle.std.specs.Prelude.{◌≡◌, Some, [], ◌-◌, ◌<◌, ◌↔◌, ◌⊎◌, min, length, IfOk};
+ghost use Rattle.std.specs.List.{Contains};
+ghost use Rattle.std.proofs.Common.{sym};
+ghost use Rattle.std.proofs.lemmas.List.{append-nil};
+ghost use Rattle.irq_io.specs.Faults.{Counts, next_count, count_after};
+ghost use Rattle.irq_io.specs.Told.{IsToldBeginning};
+ghost use Rattle.irq_io.specs.Writes.{HandsAllOn, IfTook, TookWithin, flush_failed, taken_of, write_failed, written_after};
+
+use crate::listed::is_listed;
+use crate::sinks::{FlushAnswer, Sink, WriteAnswer};
+use irq_base::NoMemory;
+use std::alloc::Global;
+use std::marker::Model;
+
+/// A sink into memory, which takes bytes while it has room. Its writes of the numbers `fails` and its flushes
+/// of the numbers `flush_fails`, each counted from 1, fail. What it took it has handed on. Contracts see
+/// `content`, the `room` that is left, both lists, and how many `writes`, `flushes` and `faults` there were.
+#[derive(Drop)]
+pub struct MemSink {
+    content: Vec<u8>,
+    room: usize,
+    fails: Vec<u32>,
+    flush_fails: Vec<u32>,
+    writes: u64,
+    flushes: u64,
+    faults: u64,
+}
+
+impl Model for MemSink {
+    ghost use Rattle.std.specs.Prelude.{◌≤◌, ◌+◌, vec_len, vec_capacity};
+    ghost use Rattle.irq_io.specs.MemEnds.{MemSinkSeen};
+
+    ghost Value = { MemSinkSeen };
+
+    ghost view = { λ s. record { content = s.content.items; room = s.room; fails = s.fails.items; flush_fails = s.flush_fails.items; writes = s.writes; flushes = s.flushes; faults = s.faults } };
+
+    ghost invariant = { λ s. vec_len s.content + s.room ≤ vec_capacity s.content };
+}
+
+impl MemSink {
+    /// The empty sink with that room, whose flushes never fail. The memory for the room is taken at once, so
+    /// no write wants any.
+    pub fn new(alloc: Global, fails: &[u32], room: usize) -> Result<MemSink, NoMemory>
+        ensures content { IfOk result (λ s. (s.content ≡ []) × (s.room ≡ room)) }
+        ensures settings { IfOk result (λ s. (s.fails ≡ fails.now) × (s.flush_fails ≡ [])) }
+        ensures counts { IfOk result (λ s. (s.writes ≡ 0) × (s.flushes ≡ 0) × (s.faults ≡ 0)) }
+    {
+        MemSink::with_failing_flushes(alloc, fails, &[], room)
+    }
+
+    /// The empty sink with that room, for which the memory is taken at once.
+    pub fn with_failing_flushes(
+        alloc: Global,
+        fails: &[u32],
+        flush_fails: &[u32],
+        room: usize,
+    ) -> Result<MemSink, NoMemory>
+        ensures content { IfOk result (λ s. (s.content ≡ []) × (s.room ≡ room)) }
+        ensures settings { IfOk result (λ s. (s.fails ≡ fails.now) × (s.flush_fails ≡ flush_fails.now)) }
+        ensures counts { IfOk result (λ s. (s.writes ≡ 0) × (s.flushes ≡ 0) × (s.faults ≡ 0)) }
+    {
+        let content = Vec::with_capacity(alloc, room)?;
+        let fails = Vec::from_slice(alloc, fails)?;
+        let flush_fails = Vec::from_slice(alloc, flush_fails)?;
+        Ok(MemSink {
+            content,
+            room,
+            fails,
+            flush_fails,
+            writes: 0,
+            flushes: 0,
+            faults: 0,
+        })
+    }
+
+    /// The bytes that it took.
+    pub fn written(&self) -> &[u8]
+        ensures { result.now ≡ self.now.content }
+    {
+        self.content.as_slice()
+    }
+
+    /// The number of faults so far, which stands still at the greatest u64.
+    pub fn faults(&self) -> u64
+        ensures { result ≡ self.now.faults }
+    {
+        self.faults
+    }
+}
+
+impl Sink for MemSink {
+    ghost written = { λ s. Some s.content };
+
+    ghost handed_on = { λ s. Some s.content };
+
+    ghost faults = { λ s. s.faults };
+
+    ghost in_order = { λ s. ([], sym (append-nil s.content)) };
+
+    fn write(&mut self, bytes: &[u8]) -> WriteAnswer
+        requires { 0 < length bytes.now }
+        ensures bound { TookWithin (length bytes.now) result }
+        ensures content { Some self.new.content ≡ written_after (Some self.old.content) bytes.now result }
+        ensures handed { IsToldBeginning (Some self.old.content) (Some self.new.content) }
+        ensures cause { Counts self.old.faults self.new.faults (write_failed result) }
+
+        // It takes all, or as much as fits. A listed write fails, and one that finds no room.
+        ensures amount { IfTook result (λ n. n ≡ min self.old.room (length bytes.now)) }
+        ensures fails { (result ≡ WriteAnswer.Failed)
+            ↔ (Contains self.old.fails (next_count self.old.writes) ⊎ (self.old.room ≡ 0)) }
+        ensures faults { self.new.faults ≡ count_after self.old.faults (write_failed result) }
+
+        // The number of writes stands still at the greatest u64, where no list has it.
+        ensures writes { self.new.writes ≡ next_count self.old.writes }
+        ensures room { self.new.room ≡ self.old.room - taken_of result }
+        ensures settings { (self.new.fails ≡ self.old.fails)
+            × (self.new.flush_fails ≡ self.old.flush_fails) × (self.new.flushes ≡ self.old.flushes) }
+    {
+        self.writes = self.writes.saturating_add(1);
+        if self.room == 0 || is_listed(&self.fails, self.writes) {
+            self.faults = self.faults.saturating_add(1);
+            return WriteAnswer::Failed;
+        }
+        let count = self.room.min(bytes.len());
+        self.content.extend_from_slice(&bytes[..count]).unwrap();
+        self.room -= count;
+        WriteAnswer::Took(count)
+    }
+
+    fn flush(&mut self) -> FlushAnswer
+        ensures content { Some self.new.content ≡ Some self.old.content }
+        ensures handed { IsToldBeginning (Some self.old.content) (Some self.new.content) }
+        ensures all { HandsAllOn (Some self.new.content) (Some self.new.content) result }
+        ensures cause { Counts self.old.faults self.new.faults (flush_failed result) }
+
+        ensures fails { (result ≡ FlushAnswer.Failed)
+            ↔ Contains self.old.flush_fails (next_count self.old.flushes) }
+        ensures faults { self.new.faults ≡ count_after self.old.faults (flush_failed result) }
+
+        // The number of flushes stands still at the greatest u64, where no list has it.
+        ensures flushes { self.new.flushes ≡ next_count self.old.flushes }
+        ensures settings { (self.new.fails ≡ self.old.fails) × (self.new.flush_fails ≡ self.old.flush_fails)
+            × (self.new.writes ≡ self.old.writes) × (self.new.room ≡ self.old.room) }
+    {
+        self.flushes = self.flushes.saturating_add(1);
+        if is_listed(&self.flush_fails, self.flushes) {
+            self.faults = self.faults.saturating_add(1);
+            return FlushAnswer::Failed;
+        }
+        FlushAnswer::Done
+    }
+}

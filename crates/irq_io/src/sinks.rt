@@ -1,0 +1,54 @@
+//! Where bytes go to.
+
+/// What a write answers.
+#[derive(Clone, Copy, Debug, PartialEq, Eq)]
+pub enum WriteAnswer {
+    /// So many bytes were taken, at least one, the first ones.
+    Took(usize),
+    /// A fault. Nothing was taken.
+    Failed,
+}
+
+/// What a flush answers.
+#[derive(Clone, Copy, Debug, PartialEq, Eq)]
+pub enum FlushAnswer {
+    /// All that was written has been handed on.
+    Done,
+    /// A fault.
+    Failed,
+}
+
+/// A sink of bytes, which counts its faults. It may keep bytes back until it is flushed.
+pub trait Sink {
+    ghost use Rattle.std.specs.Prelude.{◌≡◌, ℕ, Option, List, ◌<◌, length};
+    ghost use Rattle.irq_io.specs.Faults.{Counts};
+    ghost use Rattle.irq_io.specs.Told.{IsToldBeginning};
+    ghost use Rattle.irq_io.specs.Writes.{HandsAllOn, TookWithin, flush_failed, write_failed, written_after};
+
+    /// The bytes that it took so far, where the sink tells them.
+    ghost written: { Self → Option (List ℕ) };
+
+    /// Those of them that it has handed on.
+    ghost handed_on: { Self → Option (List ℕ) };
+
+    /// The number of faults so far.
+    ghost faults: { Self → ℕ };
+
+    /// Takes bytes from the front of those given, which must not be empty. How much it hands on is left open.
+    fn write(&mut self, bytes: &[u8]) -> WriteAnswer
+        requires { 0 < length bytes.now }
+        ensures bound { TookWithin (length bytes.now) result }
+        ensures content { written self.new ≡ written_after (written self.old) bytes.now result }
+        ensures handed { IsToldBeginning (handed_on self.old) (handed_on self.new) }
+        ensures cause { Counts (faults self.old) (faults self.new) (write_failed result) };
+
+    /// Hands on all that was taken.
+    fn flush(&mut self) -> FlushAnswer
+        ensures content { written self.new ≡ written self.old }
+        ensures handed { IsToldBeginning (handed_on self.old) (handed_on self.new) }
+        ensures all { HandsAllOn (handed_on self.new) (written self.new) result }
+        ensures cause { Counts (faults self.old) (faults self.new) (flush_failed result) };
+
+    /// What was handed on is a beginning of what was written, and both are told or neither.
+    ghost in_order: { (s : Self) → IsToldBeginning (handed_on s) (written s) };
+}

@@ -1,0 +1,242 @@
+//! The rows of the table for processors.
+ghost use Rattle.std.specs.Prelude.{◌≡◌, ◌≤◌, length, IfOk};
+ghost use Rattle.irq_base.specs.Handlers.{answer_of};
+ghost use Rattle.irq_model.specs.Rounds.{is_cpu};
+ghost use Rattle.irq_model.specs.Next.{asks_of_handler, served_by_handler, return_of, is_off_now, end_edge, end_level, end_by_flow, end_of, begin_or_end, next_in_flow, take_answer, next_take, next_of_cpu};
+
+use crate::asks::unserved_asks;
+use crate::kinds::is_begin;
+use crate::lines::{is_edge_line, kind_of};
+use crate::links::{is_disabled, is_none_linked, is_oneshot, linked};
+use crate::masks::is_masked;
+use crate::places::before;
+use crate::rounds::{at_work, first_left, flow, has_flow};
+use crate::signal::{signals, target};
+use crate::spurious::note_of;
+use crate::threads::is_some_unfinished;
+use crate::waiting::{is_pending, is_soft};
+use irq_base::{
+    Answer, CpuNo, DevNo, Entry, FlowKind, Kind, LineDef, NoMemory, Note, Part, TakeAnswer, Way,
+};
+use std::alloc::Global;
+
+// ---- in the flow
+
+/// The asks that were unserved as the handler began.
+fn asks_of_handler(def: &LineDef, d: DevNo, past: &[Entry]) -> u32
+    requires { length past.now ≤ 100000000 }
+    ensures { result ≡ asks_of_handler def.now d past.now }
+{
+    unserved_asks(def, d, before(past, |e| is_begin(d, e)))
+}
+
+/// The answer of a handler that begins with that many unserved asks.
+fn primary_answer(kind: Kind, unserved: u32) -> Answer
+    ensures { result ≡ answer_of kind Part.Primary unserved }
+{
+    match kind {
+        Kind::Direct if unserved > 0 => Answer::Handled,
+        Kind::Check if unserved > 0 => Answer::Wake,
+        Kind::Null => Answer::Wake,
+        _ => Answer::Nothing,
+    }
+}
+
+/// How many asks a handler serves; only a direct device's handler does.
+fn served_by_handler(kind: Kind, unserved: u32) -> u32
+    ensures { result ≡ served_by_handler kind unserved }
+{
+    match kind {
+        Kind::Direct => unserved,
+        _ => 0,
+    }
+}
+
+/// The return of the device's handler.
+fn return_of(def: &LineDef, c: CpuNo, d: DevNo, past: &[Entry]) -> Entry
+    requires { length past.now ≤ 100000000 }
+    ensures { result ≡ return_of def.now c d past.now }
+{
+    let kind = kind_of(def, d);
+    let unserved = asks_of_handler(def, d, past);
+    Entry::Return {
+        cpu: c,
+        dev: d,
+        answer: primary_answer(kind, unserved),
+        served: served_by_handler(kind, unserved),
+    }
+}
+
+/// Disabled already, or by this very note.
+fn is_off_now(alloc: Global, past: &[Entry], note: Note) -> Result<bool, NoMemory>
+    requires { length past.now ≤ 100000000 }
+    ensures { IfOk result (λ off. off ≡ is_off_now past.now note) }
+{
+    let disabled = is_disabled(alloc, past)?;
+    Ok(disabled || matches!(note, Note::Killed))
+}
+
+/// The end of an edge flow.
+fn end_edge(def: &LineDef, c: CpuNo, past: &[Entry], note: Note, again: bool) -> Entry
+    ensures { result ≡ end_edge def.now c past.now note again }
+{
+    Entry::End {
+        cpu: c,
+        again,
+        unmask: again && is_masked(def, past),
+        note,
+    }
+}
+
+/// The end of a flow that may open the line, unless a thread still holds it.
+fn end_level(def: &LineDef, c: CpuNo, past: &[Entry], note: Note, may_open: bool) -> Entry
+    ensures { result ≡ end_level def.now c past.now note may_open }
+{
+    Entry::End {
+        cpu: c,
+        again: false,
+        unmask: may_open && is_masked(def, past) && !is_some_unfinished(def, past),
+        note,
+    }
+}
+
+/// The flow's end: the edge flow goes on with what is pending; the level flow opens the line; the fast-EOI flow
+/// does so on a one-shot level line, and on an edge line sends what is pending again.
+fn end_by_flow(
+    alloc: Global,
+    def: &LineDef,
+    c: CpuNo,
+    past: &[Entry],
+    note: Note,
+) -> Result<Entry, NoMemory>
+    requires { length past.now ≤ 100000000 }
+    ensures { IfOk result (λ entry. entry ≡ end_by_flow def.now def.now.flow c past.now note) }
+{
+    let off = is_off_now(alloc, past, note)?;
+    Ok(match def.flow {
+        FlowKind::Edge => end_edge(def, c, past, note, is_pending(def, past) && !off),
+        FlowKind::Level => end_level(def, c, past, note, !off),
+        FlowKind::Eoi if is_edge_line(def) => Entry::End {
+            cpu: c,
+            again: is_pending(def, past) && !off,
+            unmask: false,
+            note,
+        },
+        FlowKind::Eoi => end_level(def, c, past, note, !off && is_oneshot(past)),
+    })
+}
+
+/// The end of the flow's round.
+fn end_of(alloc: Global, def: &LineDef, c: CpuNo, past: &[Entry]) -> Result<Entry, NoMemory>
+    requires { length past.now ≤ 100000000 }
+    ensures { IfOk result (λ entry. entry ≡ end_of def.now c past.now) }
+{
+    end_by_flow(alloc, def, c, past, note_of(def, past))
+}
+
+/// The first device that is left is called, or else the round ends.
+fn begin_or_end(
+    alloc: Global,
+    def: &LineDef,
+    c: CpuNo,
+    past: &[Entry],
+    left: Option<DevNo>,
+) -> Result<Entry, NoMemory>
+    requires { length past.now ≤ 100000000 }
+    ensures { IfOk result (λ entry. entry ≡ begin_or_end def.now c past.now left) }
+{
+    match left {
+        Some(d) => Ok(Entry::Begin { cpu: c, dev: d }),
+        None => end_of(alloc, def, c, past),
+    }
+}
+
+/// A handler that was called returns; else the first that is left is called; else the round ends.
+fn next_in_flow(
+    alloc: Global,
+    def: &LineDef,
+    c: CpuNo,
+    past: &[Entry],
+    working: Option<DevNo>,
+) -> Result<Entry, NoMemory>
+    requires { length past.now ≤ 100000000 }
+    ensures { IfOk result (λ entry. entry ≡ next_in_flow def.now c past.now working) }
+{
+    if let Some(d) = working {
+        return Ok(return_of(def, c, d, past));
+    }
+    let devices = linked(alloc, past)?;
+    begin_or_end(alloc, def, c, past, first_left(def, past, &devices))
+}
+
+// ---- taking an interrupt
+
+/// What the flow handler makes of a take.
+fn take_answer(alloc: Global, def: &LineDef, past: &[Entry]) -> Result<TakeAnswer, NoMemory>
+    requires { length past.now ≤ 100000000 }
+    ensures { IfOk result (λ answer. answer ≡ take_answer def.now past.now) }
+{
+    if has_flow(def, past) {
+        return Ok(TakeAnswer::Busy);
+    }
+    if is_disabled(alloc, past)? || is_none_linked(alloc, past)? {
+        return Ok(TakeAnswer::Off);
+    }
+    Ok(TakeAnswer::Handle)
+}
+
+/// The processor is that one.
+fn is_cpu(c: CpuNo, other: Option<CpuNo>) -> bool
+    ensures { result ≡ is_cpu c other }
+{
+    match other {
+        Some(f) => c == f,
+        None => false,
+    }
+}
+
+/// The target takes what is signalled, or else what the software resends.
+fn next_take(
+    alloc: Global,
+    def: &LineDef,
+    c: CpuNo,
+    past: &[Entry],
+) -> Result<Option<Entry>, NoMemory>
+    requires few { length past.now ≤ 100000000 }
+    requires cpus { def.now.cpus ≤ 32 }
+    ensures { IfOk result (λ entry. entry ≡ next_take def.now c past.now) }
+{
+    if !is_cpu(c, target(def, past)) {
+        return Ok(None);
+    }
+    let answer = take_answer(alloc, def, past)?;
+    let way = if signals(alloc, def, past)? {
+        Way::Line
+    } else if is_soft(past) {
+        Way::Resend
+    } else {
+        return Ok(None);
+    };
+    Ok(Some(Entry::Take {
+        cpu: c,
+        way,
+        answer,
+    }))
+}
+
+/// The entry that is due for the processor.
+pub fn next_of_cpu(
+    alloc: Global,
+    def: &LineDef,
+    c: CpuNo,
+    past: &[Entry],
+) -> Result<Option<Entry>, NoMemory>
+    requires few { length past.now ≤ 100000000 }
+    requires cpus { def.now.cpus ≤ 32 }
+    ensures { IfOk result (λ entry. entry ≡ next_of_cpu def.now c past.now) }
+{
+    if is_cpu(c, flow(def, past)) {
+        return Ok(Some(next_in_flow(alloc, def, c, past, at_work(past))?));
+    }
+    next_take(alloc, def, c, past)
+}

@@ -1,0 +1,102 @@
+//! The rows of the table for threads.
+ghost use Rattle.std.specs.Prelude.{◌≡◌, ◌≤◌, length, IfOk};
+ghost use Rattle.std.specs.List.{list_any};
+ghost use Rattle.irq_model.specs.Places.{since};
+ghost use Rattle.irq_model.specs.Kinds.{is_finish, is_thread_begin, is_thread_return};
+ghost use Rattle.irq_model.specs.Next.{asks_of_thread, finish_unmasks, finish_or_done, next_of_thread};
+
+use crate::asks::unserved_asks;
+use crate::kinds::{is_finish, is_thread_begin, is_thread_return};
+use crate::links::{is_disabled, is_oneshot};
+use crate::masks::is_masked;
+use crate::places::{before, since};
+use crate::rounds::has_flow;
+use crate::threads::{is_other_unfinished, is_running, is_woken};
+use irq_base::{DevNo, Entry, LineDef, NoMemory};
+use std::alloc::Global;
+
+/// The asks that were unserved as the thread's run began.
+fn asks_of_thread(def: &LineDef, d: DevNo, past: &[Entry]) -> u32
+    requires { length past.now ≤ 100000000 }
+    ensures { result ≡ asks_of_thread def.now d past.now }
+{
+    unserved_asks(def, d, before(past, |e| is_thread_begin(d, e)))
+}
+
+/// The thread's handler returned in this run.
+fn has_returned(past: &[Entry], d: DevNo) -> bool
+    ensures { result ≡ list_any (is_thread_return d) (since (is_thread_begin d) past.now) }
+{
+    since(past, |e| is_thread_begin(d, e))
+        .iter()
+        .any(|e| is_thread_return(d, *e))
+}
+
+/// The thread finished after its handler returned.
+fn has_finished(past: &[Entry], d: DevNo) -> bool
+    ensures { result ≡ list_any (is_finish d) (since (is_thread_return d) past.now) }
+{
+    since(past, |e| is_thread_return(d, e))
+        .iter()
+        .any(|e| is_finish(d, *e))
+}
+
+/// Whether a finish unmasks the line.
+fn finish_unmasks(alloc: Global, def: &LineDef, d: DevNo, past: &[Entry]) -> Result<bool, NoMemory>
+    requires { length past.now ≤ 100000000 }
+    ensures { IfOk result (λ unmask. unmask ≡ finish_unmasks def.now d past.now) }
+{
+    let disabled = is_disabled(alloc, past)?;
+    Ok(
+        !is_woken(past, d)
+            && !disabled
+            && is_masked(def, past)
+            && !is_other_unfinished(def, past, d),
+    )
+}
+
+/// After the thread's handler returned: on a one-shot line it gives its bit up, once no flow is in progress.
+fn finish_or_done(
+    alloc: Global,
+    def: &LineDef,
+    d: DevNo,
+    past: &[Entry],
+) -> Result<Option<Entry>, NoMemory>
+    requires { length past.now ≤ 100000000 }
+    ensures { IfOk result (λ entry. entry ≡ finish_or_done def.now d past.now) }
+{
+    if !is_oneshot(past) || has_finished(past, d) {
+        return Ok(Some(Entry::Done { dev: d }));
+    }
+    if has_flow(def, past) {
+        return Ok(None);
+    }
+    let unmask = finish_unmasks(alloc, def, d, past)?;
+    Ok(Some(Entry::Finish {
+        dev: d,
+        kept: is_woken(past, d),
+        unmask,
+    }))
+}
+
+/// The entry that is due for the device's thread.
+pub fn next_of_thread(
+    alloc: Global,
+    def: &LineDef,
+    d: DevNo,
+    past: &[Entry],
+) -> Result<Option<Entry>, NoMemory>
+    requires { length past.now ≤ 100000000 }
+    ensures { IfOk result (λ entry. entry ≡ next_of_thread def.now d past.now) }
+{
+    if !is_running(past, d) {
+        return Ok(is_woken(past, d).then_some(Entry::ThreadBegin { dev: d }));
+    }
+    if !has_returned(past, d) {
+        return Ok(Some(Entry::ThreadReturn {
+            dev: d,
+            served: asks_of_thread(def, d, past),
+        }));
+    }
+    finish_or_done(alloc, def, d, past)
+}

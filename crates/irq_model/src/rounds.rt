@@ -1,0 +1,91 @@
+//! The flow in progress and its rounds.
+ghost use Rattle.std.specs.Prelude.{◌≡◌};
+ghost use Rattle.irq_model.specs.Rounds.{closes, cpu_of_handle, flow, has_flow, begins_round, round, has_begun, first_left, dev_of_begin, at_work};
+
+use crate::kinds::{is_again, is_begin, is_begin_or_return, is_handle, is_leave};
+use crate::lines::is_eoi_flow;
+use crate::places::{last_of, since};
+use irq_base::{CpuNo, DevNo, Entry, LineDef};
+
+/// An end that closes the flow: each on the fast-EOI flow, one that leaves on the others.
+fn closes(def: &LineDef, e: Entry) -> bool
+    ensures { result ≡ closes def.now e }
+{
+    is_leave(e) || (is_eoi_flow(def) && is_again(e))
+}
+
+/// The processor of a take.
+fn cpu_of_handle(e: Option<Entry>) -> Option<CpuNo>
+    ensures { result ≡ cpu_of_handle e }
+{
+    match e {
+        Some(Entry::Take { cpu, .. }) => Some(cpu),
+        _ => None,
+    }
+}
+
+/// The processor of the last take that is handled, where no end that closes follows it.
+pub fn flow(def: &LineDef, past: &[Entry]) -> Option<CpuNo>
+    ensures { result ≡ flow def.now past.now }
+{
+    cpu_of_handle(last_of(past, |e| is_handle(e) || closes(def, e)))
+}
+
+/// A flow is in progress.
+pub fn has_flow(def: &LineDef, past: &[Entry]) -> bool
+    ensures { result ≡ has_flow def.now past.now }
+{
+    flow(def, past).is_some()
+}
+
+/// A take that is handled, or an end that goes on within the flow.
+fn begins_round(def: &LineDef, e: Entry) -> bool
+    ensures { result ≡ begins_round def.now e }
+{
+    is_handle(e) || (is_again(e) && !is_eoi_flow(def))
+}
+
+/// The entries of the round so far.
+pub fn round<'a>(def: &LineDef, past: &'a [Entry]) -> &'a [Entry]
+    ensures { result.now ≡ round def.now past.now }
+{
+    since(past, |e| begins_round(def, e))
+}
+
+/// The device's handler was called in this round.
+fn has_begun(def: &LineDef, past: &[Entry], d: DevNo) -> bool
+    ensures { result ≡ has_begun def.now past.now d }
+{
+    round(def, past).iter().any(|e| is_begin(d, *e))
+}
+
+/// The first linked device that is still to be called.
+pub fn first_left(def: &LineDef, past: &[Entry], linked: &[DevNo]) -> Option<DevNo>
+    ensures { result ≡ first_left def.now past.now linked.now }
+{
+    let mut rest = linked;
+    while let Some((d, others)) = rest.split_first() {
+        if !has_begun(def, past, *d) {
+            return Some(*d);
+        }
+        rest = others;
+    }
+    None
+}
+
+/// The device of a begin.
+fn dev_of_begin(e: Option<Entry>) -> Option<DevNo>
+    ensures { result ≡ dev_of_begin e }
+{
+    match e {
+        Some(Entry::Begin { dev, .. }) => Some(dev),
+        _ => None,
+    }
+}
+
+/// The device whose handler is at work: that of the last begin, where no return stands after it.
+pub fn at_work(past: &[Entry]) -> Option<DevNo>
+    ensures { result ≡ at_work past.now }
+{
+    dev_of_begin(last_of(past, is_begin_or_return))
+}

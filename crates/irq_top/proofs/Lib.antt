@@ -1,0 +1,6 @@
+mod Texts
+mod Whole
+mod Writing
+mod Printable
+mod Made
+mod OneWord

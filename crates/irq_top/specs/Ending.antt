@@ -1,0 +1,99 @@
+-- How the top call ends, by its ending: the exit status, the row on the error sink, and what holds then.
+use Rattle.std.specs.Prelude.{◌≡◌, ℕ, ◌+◌, Bool, true, false, Option, Some, None, List, [], ◌∷◌, ◌++◌, codes, length, map}
+use Rattle.irq_base.specs.Seen.{HistorySeen}
+use Rattle.irq_base.specs.declared.reporting.LineReport.{LineReport}
+use Rattle.irq_io.specs.Faults.{Counts}
+use Rattle.irq_io.specs.Whole.{WritesAll, writing_failed}
+use Rattle.irq_io.specs.declared.whole.WriteEnd.{WriteEnd}
+use Rattle.irq_io.specs.declared.whole.WriteEnd.TheVariants as writes
+use Rattle.irq_top.specs.declared.boards.BoardRefused.{BoardRefused}
+use Rattle.irq_top.specs.declared.boards.BoardRefused.TheVariants as refusals
+use Rattle.irq_top.specs.declared.ending.Ending.{Ending}
+use Rattle.irq_top.specs.declared.ending.Ending.TheVariants as endings
+use Rattle.irq_top.specs.FirstBoard.{line_one, IsAccepted}
+use Rattle.irq_top.specs.Reading.{left_after}
+use Rattle.irq_top.specs.Printing.{HandsOn}
+
+abbrev pub status_of : Ending → ℕ
+status_of endings.Done = 0
+status_of endings.Usage = 2
+status_of endings.NotBuilt = 3
+status_of endings.ReadFault = 4
+status_of endings.WriteFault = 5
+status_of endings.LogFull = 6
+status_of endings.NoMemory = 7
+
+abbrev pub error_text : Ending → List ℕ
+error_text endings.Done = []
+error_text endings.Usage = codes "usage: genirq run [--summary] | play [--summary] | check | gen N\n"
+error_text endings.NotBuilt = codes "board: line 0: not built yet\n"
+error_text endings.ReadFault = codes "read fault\n"
+error_text endings.WriteFault = codes "write fault\n"
+error_text endings.LogFull = codes "log full: line 1 at 10000 entries\n"
+error_text endings.NoMemory = codes "out of memory\n"
+
+abbrev pub ending_of_refusal : BoardRefused → Ending
+ending_of_refusal refusals.NotBuilt = endings.NotBuilt
+ending_of_refusal refusals.ReadFault = endings.ReadFault
+ending_of_refusal refusals.NoMemory = endings.NoMemory
+
+abbrev pub is_read_fault_end : Ending → Bool
+is_read_fault_end endings.ReadFault = true
+is_read_fault_end _ = false
+
+abbrev pub is_write_fault_end : Ending → Bool
+is_write_fault_end endings.WriteFault = true
+is_write_fault_end _ = false
+
+-- the board was played to its end or to a full log
+abbrev pub is_played : Ending → Bool
+is_played endings.Done = true
+is_played endings.WriteFault = true
+is_played endings.LogFull = true
+is_played _ = false
+
+-- the ending at which something may have been printed
+abbrev pub is_printing : Ending → Bool
+is_printing endings.Done = true
+is_printing endings.WriteFault = true
+is_printing _ = false
+
+-- what an ending says of an input that was told: it was read to its end and is an accepted text; or it is
+-- none, and was read to its end or one byte past the longest text
+abbrev pub ReadsInput : List ℕ → Option (List ℕ) → Ending → Type 0
+ReadsInput bytes now endings.Done = IsAccepted bytes × (now ≡ Some [])
+ReadsInput bytes now endings.WriteFault = IsAccepted bytes × (now ≡ Some [])
+ReadsInput bytes now endings.LogFull = IsAccepted bytes × (now ≡ Some [])
+ReadsInput bytes now endings.NotBuilt = (IsAccepted bytes → ⊥) × (now ≡ Some (left_after bytes))
+ReadsInput bytes now endings.ReadFault = Unit {0}
+ReadsInput bytes now endings.NoMemory = Unit {0}
+ReadsInput bytes now endings.Usage = ⊥
+
+-- the same where the source tells its content
+abbrev pub Reads : Option (List ℕ) → Option (List ℕ) → Ending → Type 0
+Reads None now ending = Unit {0}
+Reads (Some bytes) now ending = ReadsInput bytes now ending
+
+abbrev pub IsOneReport : HistorySeen → List LineReport → Type 0
+IsOneReport history reports = reports ≡ record { line = line_one; history = history } ∷ []
+
+-- the one history is handed out where the board was played; where its log is full, it has the greatest length
+abbrev pub HasReports : List LineReport → Ending → Type 0
+HasReports reports endings.Done = (history : HistorySeen) × IsOneReport history reports
+HasReports reports endings.WriteFault = (history : HistorySeen) × IsOneReport history reports
+HasReports reports endings.LogFull = (history : HistorySeen) × IsOneReport history reports × (length history.entries ≡ 10000)
+HasReports reports _ = reports ≡ []
+
+-- what the output gained, where it tells: the whole text, or after a fault a beginning of it
+abbrev pub Prints : Option (List ℕ) → Option (List ℕ) → List ℕ → Ending → Type 0
+Prints before now text endings.Done = WritesAll before now text writes.Done
+Prints before now text endings.WriteFault = WritesAll before now text writes.Failed
+Prints before now text _ = Unit {0}
+
+-- The error sink gained the row and has handed it on; or its count of faults rose, and it gained a beginning
+-- of the row.
+pub record Tells (row : List ℕ) (written_before written_now handed_on_now : Option (List ℕ)) (faults_before faults_now : ℕ) : Type 0 where
+  pub end : WriteEnd
+  pub content : WritesAll written_before written_now row end
+  pub handed : HandsOn handed_on_now written_now end
+  pub cause : Counts faults_before faults_now (writing_failed end)

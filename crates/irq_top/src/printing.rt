@@ -1,0 +1,56 @@
+//! Prints a report: the layout, then each row of the history by itself.
+ghost use Rattle.std.specs.Prelude.{◌≡◌, ℕ, ◌++◌, All};
+ghost use Rattle.irq_io.specs.Faults.{Counts};
+ghost use Rattle.irq_io.specs.Told.{IsToldBeginning};
+ghost use Rattle.irq_io.specs.Whole.{WritesAll, writing_failed};
+ghost use Rattle.log_text.specs.EntryWords.{IsPrintable};
+ghost use Rattle.log_text.specs.Rows.{history_text};
+ghost use Rattle.irq_top.specs.Report.{layout_text, one_report_text};
+ghost use Rattle.irq_top.specs.Printing.{HandsOn};
+
+use irq_base::{History, LineNo};
+use irq_io::{FlushAnswer, Sink, WriteEnd, write_all};
+use log_text::entry_row;
+
+/// The layout row of the one line.
+const LAYOUT: &[u8] = b"# irq 1 virq 1 intc:2\n";
+
+/// Prints the layout and the rows of the history, and hands all of it on.
+pub fn print_report<O: Sink>(out: &mut O, line: LineNo, history: &History) -> WriteEnd
+    requires { All IsPrintable history.now.entries }
+    ensures content { WritesAll (O.written out.old) (O.written out.new) (one_report_text line history.now.entries) result }
+    ensures handed { HandsOn (O.handed_on out.new) (O.written out.new) result }
+    ensures cause { Counts (O.faults out.old) (O.faults out.new) (writing_failed result) }
+{
+    match write_all(out, LAYOUT) {
+        WriteEnd::Done => {}
+        WriteEnd::Failed => return WriteEnd::Failed,
+    }
+    match print_rows(out, line, history) {
+        WriteEnd::Done => {}
+        WriteEnd::Failed => return WriteEnd::Failed,
+    }
+    match out.flush() {
+        FlushAnswer::Done => WriteEnd::Done,
+        FlushAnswer::Failed => WriteEnd::Failed,
+    }
+}
+
+/// Prints the rows of the history, the oldest entry's first.
+fn print_rows<O: Sink>(out: &mut O, line: LineNo, history: &History) -> WriteEnd
+    requires { All IsPrintable history.now.entries }
+    ensures content { WritesAll (O.written out.old) (O.written out.new) (history_text line history.now.entries) result }
+    ensures cause { Counts (O.faults out.old) (O.faults out.new) (writing_failed result) }
+{
+    for i in 0..history.len() {
+        let Some(entry) = history.get(i) else {
+            unreachable!();
+        };
+        let row = entry_row(line, &entry);
+        match write_all(out, row.bytes()) {
+            WriteEnd::Done => {}
+            WriteEnd::Failed => return WriteEnd::Failed,
+        }
+    }
+    WriteEnd::Done
+}

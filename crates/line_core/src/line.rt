@@ -1,0 +1,169 @@
+//! The line.
+ghost use Rattle.std.specs.Prelude.{◌≡◌, ℕ, ◌+◌, ◌-◌, ◌<◌, ◌≤◌, ◌^◌, [], ◌∷◌, ◌++◌, length, IfOk, OnOk, IsOk, IfErr, OnErr, IsTrue};
+ghost use Rattle.line_core.specs.Built.{Built, device_of};
+ghost use Rattle.line_core.specs.Steps.{Steps, HasCause};
+
+use crate::answers::{StepRefused, Stepped};
+use crate::due::due_entry;
+use crate::marks::Marks;
+use crate::script::Script;
+use irq_base::{Actor, CpuNo, DevNo, Entry, History, LineDef, NoMemory};
+use std::alloc::Global;
+use std::marker::Model;
+
+/// A line. Contracts see its definition, its entries, the oldest first, and `spare`, how many more fit without
+/// memory.
+#[derive(Drop)]
+pub struct Line {
+    def: LineDef,
+    dev: DevNo,
+    history: History,
+    marks: Marks,
+    script: Script,
+}
+
+impl Model for Line {
+    ghost use Rattle.line_core.specs.Seen.{LineSeen};
+    ghost use Rattle.line_core.specs.Line.{IsLine};
+
+    ghost Value = { LineSeen };
+
+    ghost view = { λ l. record { def = l.def; entries = l.history.entries; spare = l.history.spare } };
+
+    ghost invariant = { λ l. IsLine l.def l.dev l.history.entries l.marks l.script };
+}
+
+impl Line {
+    /// The line of that definition, to which nothing has happened. Refused only for want of memory.
+    pub fn new(alloc: Global, def: &LineDef) -> Result<Line, NoMemory>
+        requires { Built def.now }
+        ensures def { IfOk result (λ l. l.def ≡ def.now) }
+        ensures empty { IfOk result (λ l. l.entries ≡ []) }
+    {
+        let dev = device(def);
+        let def = def.try_clone(alloc)?;
+        let history = History::with_room(alloc, 0)?;
+        Ok(Line {
+            def,
+            dev,
+            history,
+            marks: Marks::new(),
+            script: Script {
+                place: 0,
+                within: 0,
+            },
+        })
+    }
+
+    /// Adds the entry that is due of the actor, if there is one. Where none is due, nothing else is asked; then
+    /// comes the greatest length, then memory.
+    pub fn step(&mut self, actor: Actor) -> Result<Stepped, StepRefused>
+        ensures ok { IfOk result (λ stepped. Steps self.old actor stepped self.new) }
+        ensures cause { IfErr result (HasCause self.old) }
+        ensures refused { OnErr result (self.new ≡ self.old) }
+    {
+        let Some(entry) = due_entry(&self.def, self.dev, &self.marks, self.script, actor) else {
+            return Ok(Stepped::NotYet);
+        };
+        let len = self.history.len();
+        if len >= self.def.log as usize {
+            return Err(StepRefused::Full { len: len as u32 });
+        }
+        make_room(&mut self.history)?;
+        self.marks.apply(&self.def, entry);
+        self.script = self.script.after(entry);
+        self.history.push(entry);
+        Ok(Stepped::Added(entry))
+    }
+
+    /// Whether a take of the processor is due. It is never one of another processor than 0.
+    pub fn present(&self, cpu: CpuNo) -> bool
+        ensures { IsTrue result → cpu.0 ≡ 0 }
+    {
+        let due = due_entry(
+            &self.def,
+            self.dev,
+            &self.marks,
+            self.script,
+            Actor::Cpu(cpu),
+        );
+        matches!(due, Some(Entry::Take { .. }))
+    }
+
+    /// What the line was made of.
+    pub fn definition(&self) -> &LineDef
+        ensures { result.now ≡ self.now.def }
+    {
+        &self.def
+    }
+
+    /// The entries so far.
+    pub fn history(&self) -> &History
+        ensures entries { result.now.entries ≡ self.now.entries }
+        ensures spare { result.now.spare ≡ self.now.spare }
+    {
+        &self.history
+    }
+
+    /// The entries so far, without the line.
+    pub fn into_history(self) -> History
+        ensures entries { result.entries ≡ self.entries }
+        ensures spare { result.spare ≡ self.spare }
+    {
+        let Line { history, .. } = self;
+        history
+    }
+
+    /// Makes room for one more entry, so that the next step takes no memory. Refused, all is as before.
+    pub fn reserve(&mut self) -> Result<(), NoMemory>
+        ensures room { OnOk result (1 ≤ self.new.spare) }
+        ensures def { self.new.def ≡ self.old.def }
+        ensures entries { self.new.entries ≡ self.old.entries }
+        ensures grows { self.old.spare ≤ self.new.spare }
+        ensures needed { OnErr result (self.old.spare ≡ 0) }
+        ensures refused { OnErr result (self.new ≡ self.old) }
+    {
+        make_room(&mut self.history)
+    }
+
+    /// How many more entries fit without memory.
+    pub fn spare(&self) -> usize
+        ensures { result ≡ self.now.spare }
+    {
+        self.history.spare()
+    }
+
+    /// What holds of every line: its definition is one of those of which lines are made, and the history isn't
+    /// longer than it allows.
+    pub fn is_within_log(&self)
+        ensures built { Built self.now.def }
+        ensures log { length self.now.entries ≤ self.now.def.log }
+    {
+        let _history = &self.history;
+    }
+}
+
+/// The device of the line.
+fn device(def: &LineDef) -> DevNo
+    requires { Built def.now }
+    ensures { result ≡ device_of def.now }
+{
+    match def.devices.get(0) {
+        Some(device) => device.dev,
+        None => unreachable!(),
+    }
+}
+
+/// Makes room for one more entry, where there is none.
+fn make_room(history: &mut History) -> Result<(), NoMemory>
+    ensures room { OnOk result (1 ≤ history.new.spare) }
+    ensures entries { history.new.entries ≡ history.old.entries }
+    ensures grows { history.old.spare ≤ history.new.spare }
+    ensures needed { OnErr result (history.old.spare ≡ 0) }
+    ensures refused { OnErr result (history.new ≡ history.old) }
+{
+    if history.spare() == 0 {
+        history.reserve(1)?;
+    }
+    Ok(())
+}
