@@ -25,3 +25,7 @@ pub mod CoverLaws
 pub mod TakeLaws
 pub mod ServedLaws
 pub mod RestLaws
+pub mod LevelSteps
+pub mod CellSteps
+pub mod Starts
+pub mod CellKept

@@ -16,6 +16,7 @@ ghost use Rattle.irq_model.specs.Settled.{IsSettled};
 ghost use Rattle.irq_model.specs.Next.{next};
 ghost use Rattle.irq_model.specs.Signal.{target};
 ghost use Rattle.irq_model.specs.Valid.{IsValid};
+ghost use Rattle.irq_laws.specs.Driven.{IsDrivenCell};
 ghost use Rattle.irq_laws.specs.Kept.{Kept};
 
 /// No overlap: a device's handler is called only where it isn't at work, and its thread's run begins only where
@@ -111,4 +112,12 @@ pub fn one_is_called()
 #[tactic(auto, using(crate::proofs::ReasonLaws::one_is_freed))]
 pub fn one_is_freed()
     ensures law { (def : LineDef) (past : List Entry) → IsValid def → IsLegalPast def past → OneIsFreed def past }
+{}
+
+/// The cell: masked, stored, sent, high and in service, as they are read off the entries, are what the signal cell
+/// of the line keeps when the entries drive it, each by the operations of its flow or its call; and what the line
+/// signals is what the cell presents.
+#[tactic(auto, using(crate::proofs::CellKept::is_driven_cell))]
+pub fn driven_cell()
+    ensures law { (def : LineDef) (h : List Entry) → IsValid def → IsLegal def h → IsDrivenCell def h }
 {}
