@@ -1,4 +1,4 @@
-use Rattle.std.proofs.Common.{arith, true, ◌≡◌}
+use Rattle.std.proofs.Common.{true, ◌≡◌}
 use Rattle.irq_vectors.proofs.FirstUndue.{first_undue}
 use Rattle.irq_vectors.proofs.judging.judge.Goals as goal
 
