@@ -1,0 +1,2 @@
+mod SameEntries
+mod FirstUndue

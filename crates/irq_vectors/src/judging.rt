@@ -1,0 +1,140 @@
+//! Judges the entries of a line by the plain program of the due entry.
+ghost use Rattle.std.specs.Prelude.{◌≡◌, ◌+◌, ◌≤◌, ◌↔◌, length, reverse, IfOk, IsTrue};
+ghost use Rattle.irq_model.specs.Legal.{IsDue};
+ghost use Rattle.irq_vectors.specs.Verdict.{IsVerdict};
+
+use irq_base::{Entry, History, LineDef, NoMemory};
+use irq_model::next_slow;
+use std::alloc::Global;
+use std::fmt;
+
+/// What is said of the entries of a line.
+#[derive(Clone, Copy, Debug, PartialEq, Eq)]
+pub enum Verdict {
+    /// Each entry is the due one of its actor after those before it.
+    Lawful,
+    /// That entry, counted from 1, is the first that isn't.
+    Unlawful { entry: usize },
+}
+
+impl fmt::Display for Verdict {
+    fn fmt<W: fmt::Write>(&self, f: &mut fmt::Formatter<W>) -> fmt::Result {
+        match self {
+            Verdict::Lawful => write!(f, "lawful"),
+            Verdict::Unlawful { entry } => write!(f, "unlawful {entry}"),
+        }
+    }
+}
+
+/// Whether the entry is the due one of its actor after that history.
+fn is_due(alloc: Global, def: &LineDef, history: &History, entry: Entry) -> Result<bool, NoMemory>
+    requires few { length history.now.entries ≤ 100000000 }
+    requires cpus { def.now.cpus ≤ 32 }
+    requires devices { length def.now.devices ≤ 256 }
+    ensures { IfOk result (λ due. IsTrue due ↔ IsDue def.now entry (reverse history.now.entries)) }
+{
+    let due = next_slow(alloc, def, history, entry.actor(def.line))?;
+    Ok(due == Some(entry))
+}
+
+/// Whether the entries of the line are lawful, or which is the first that isn't.
+///
+/// # Errors
+///
+/// `NoMemory` where memory was wanted and refused, and nothing else.
+pub fn judge(alloc: Global, def: &LineDef, entries: &[Entry]) -> Result<Verdict, NoMemory>
+    requires few { length entries.now ≤ 100000000 }
+    requires cpus { def.now.cpus ≤ 32 }
+    requires devices { length def.now.devices ≤ 256 }
+    ensures { IfOk result (λ verdict. IsVerdict def.now entries.now verdict) }
+{
+    let mut history = History::with_room(alloc, entries.len())?;
+    for (i, entry) in entries.iter().enumerate() {
+        if !is_due(alloc, def, &history, *entry)? {
+            return Ok(Verdict::Unlawful { entry: i + 1 });
+        }
+        history.push(*entry);
+    }
+    Ok(Verdict::Lawful)
+}
+
+#[cfg(test)]
+mod tests {
+    use super::*;
+    use irq_base::{
+        Call, CallList, DevNo, DeviceDef, DeviceList, DriverNo, Flags, FlowKind, Kind, LineNo,
+        LinkAnswer, Opened, Resend, Trigger,
+    };
+    use std::test::Fail;
+
+    const DRIVER: DriverNo = DriverNo(1);
+
+    const DEV: DevNo = DevNo(1);
+
+    const PLAIN: Flags = Flags {
+        shared: false,
+        oneshot: false,
+        noauto: false,
+    };
+
+    /// A line whose one device is requested by the one driver, and then asks.
+    fn small_line(alloc: Global) -> Result<LineDef, NoMemory>
+        ensures cpus { IfOk result (λ def. def.cpus ≤ 32) }
+        ensures devices { IfOk result (λ def. length def.devices ≤ 256) }
+    {
+        let line = LineNo(1);
+        let mut devices = DeviceList::new(alloc);
+        devices.push(DeviceDef {
+            dev: DEV,
+            line,
+            kind: Kind::Direct,
+        })?;
+        let mut calls = CallList::new(alloc);
+        calls.push((
+            DRIVER,
+            Call::Request {
+                dev: DEV,
+                flags: PLAIN,
+            },
+        ))?;
+        calls.push((DRIVER, Call::Ask { dev: DEV }))?;
+        Ok(LineDef {
+            line,
+            flow: FlowKind::Edge,
+            trigger: Trigger::Edge,
+            keeps: true,
+            recalls: true,
+            retriggers: true,
+            unlazy: false,
+            later: false,
+            mask: 1,
+            cpus: 1,
+            window: 100,
+            limit: 50,
+            log: 10,
+            devices,
+            calls,
+        })
+    }
+
+    #[test]
+    fn an_ask_is_due_after_its_request(rt: HostRuntime) -> Result<(), Fail> {
+        let def = small_line(rt.alloc())?;
+        let request = Entry::Request {
+            driver: DRIVER,
+            dev: DEV,
+            flags: PLAIN,
+            answer: LinkAnswer::Linked,
+            opened: Opened::Started { resend: Resend::No },
+        };
+        let ask = Entry::Ask {
+            driver: DRIVER,
+            dev: DEV,
+        };
+        let lawful = judge(rt.alloc(), &def, &[request, ask])?;
+        let twice = judge(rt.alloc(), &def, &[request, request])?;
+        assert!(rt; lawful == Verdict::Lawful);
+        assert!(rt; twice == Verdict::Unlawful { entry: 2 });
+        Ok(())
+    }
+}
