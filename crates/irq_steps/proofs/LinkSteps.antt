@@ -1,5 +1,5 @@
 -- What one more entry makes of the linked devices and the depth.
-use Rattle.std.proofs.Common.{◌≡◌, ℕ, Bool, true, false, not, ◌||◌, ◌&&◌, cond, List, [], ◌∷◌, ◌++◌, filter, refl, sym, ap, ◌∙◌, arith}
+use Rattle.std.proofs.Common.{◌≡◌, Bool, true, false, not, ◌||◌, ◌&&◌, cond, List, [], ◌∷◌, ◌++◌, filter, refl, sym, ap, ◌∙◌, arith}
 use Rattle.std.proofs.lemmas.List.Elements.{filter-append}
 use Rattle.irq_base.specs.declared.numbers.DevNo.{DevNo}
 use Rattle.irq_base.specs.declared.numbers.DriverNo.{DriverNo}
@@ -12,7 +12,7 @@ use Rattle.irq_base.specs.declared.entries.Opened.{Opened}
 use Rattle.irq_base.specs.declared.entries.Opened.TheVariants as opens
 use Rattle.irq_base.specs.declared.entries.Resend.{Resend}
 use Rattle.irq_model.specs.Kinds.{same_dev}
-use Rattle.irq_model.specs.Links.{linked, is_linked, requested, is_none_linked, depth}
+use Rattle.irq_model.specs.Links.{linked, is_linked, requested, depth}
 use Rattle.irq_steps.proofs.Same.{same_self}
 
 pub filter_same : {A : Type 0} (p q : A → Bool) (xs : List A) → ((x : A) → p x ≡ q x) → filter p xs ≡ filter q xs
