@@ -15,4 +15,6 @@ pub use ending::Ending;
 pub use top::{Outcome, irq_main};
 
 #[cfg(test)]
+mod orders;
+#[cfg(test)]
 mod tests;
