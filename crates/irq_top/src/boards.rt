@@ -160,11 +160,10 @@ impl FirstBoard {
     pub fn actors(self) -> [Actor; 3]
         ensures { result ≡ actors_of (line_of_board self) }
     {
-        [
-            Actor::Thread(LINE, DEVICE),
-            Actor::Cpu(CpuNo(0)),
-            Actor::Driver(DRIVER),
-        ]
+        let thread = Actor::Thread(LINE, DEVICE);
+        let cpu = Actor::Cpu(CpuNo(0));
+        let driver = Actor::Driver(DRIVER);
+        [thread, cpu, driver]
     }
 
     /// The calls of its script.

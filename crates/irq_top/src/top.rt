@@ -114,6 +114,7 @@ fn play_board(alloc: Global, board: FirstBoard) -> Result<Played, NoMemory>
     let def = board.line_def(alloc)?;
     let mut line = Line::new(alloc, &def)?;
     let end = play(&mut line, &board.actors());
+    // what holds of every line, for the laws of its history
     line.is_legal();
     line.is_within_log();
     Ok(Played {
