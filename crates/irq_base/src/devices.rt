@@ -16,7 +16,9 @@ pub enum Answer {
 /// Which of a device's two handlers runs (`handler` and `thread_fn` of `struct irqaction`).
 #[derive(Clone, Copy, PartialEq, Eq)]
 pub enum Part {
+    /// `handler`, in interrupt context.
     Primary,
+    /// `thread_fn`, in the device's thread.
     Thread,
 }
 
@@ -37,8 +39,11 @@ pub enum Kind {
 /// A device, the line it raises, and its kind.
 #[derive(Clone, Copy, PartialEq, Eq)]
 pub struct DeviceDef {
+    /// Its number, which no other device of the line has.
     pub dev: DevNo,
+    /// The line that it raises.
     pub line: LineNo,
+    /// How its handlers work.
     pub kind: Kind,
 }
 

@@ -33,11 +33,14 @@ pub enum LevelKind {
     Lpi,
 }
 
-/// A domain. `parent`: its place among the domains before it.
+/// A domain (`struct irq_domain`).
 #[derive(Clone, Copy, PartialEq, Eq)]
 pub struct DomainDef {
+    /// How it maps hardware numbers.
     pub map: MapKind,
+    /// What its controllers do with the signal.
     pub chip: LevelKind,
+    /// The place of its parent among the domains before it; none for a root.
     pub parent: Option<usize>,
 }
 
@@ -79,7 +82,7 @@ impl Path {
         }
     }
 
-    /// Adds the pair at the end.
+    /// Adds the pair at the end of a path of fewer than eight.
     pub fn push(&mut self, level: (usize, u32))
         requires { length self.old < 8 }
         ensures { self.new ≡ self.old ++ level ∷ [] }
@@ -102,7 +105,7 @@ impl Path {
         self.len == 0
     }
 
-    /// The pair at the place, counted from 0, the leaf's.
+    /// The pair at the place, counted from 0, the leaf's; none from the path's length on.
     pub fn get(&self, i: usize) -> Option<(usize, u32)>
         ensures { result ≡ slice_get self.now i }
     {

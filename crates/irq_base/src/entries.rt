@@ -83,16 +83,22 @@ pub enum EnableAnswer {
 /// What a request that was linked made of the line's depth.
 #[derive(Clone, Copy, PartialEq, Eq)]
 pub enum Opened {
+    /// Nothing.
     No,
+    /// Its enable found nothing to lower.
     Unbalanced,
+    /// One less, and the line is still disabled.
     Lowered,
+    /// Nought: the line is started.
     Started { resend: Resend },
 }
 
 /// Whether a request was linked (`__setup_irq`, `kernel/irq/manage.c`).
 #[derive(Clone, Copy, PartialEq, Eq)]
 pub enum LinkAnswer {
+    /// The device's action is on the line's list.
     Linked,
+    /// It isn't; the caller gets this error.
     Refused(Errno),
 }
 
@@ -112,6 +118,7 @@ pub enum AffinityAnswer {
     Now,
     /// The mask waits for the next interrupt.
     Later,
+    /// No processor of the machine is in the mask (EINVAL).
     Refused(Errno),
 }
 
@@ -142,6 +149,7 @@ pub enum Entry {
         served: u32,
     },
     /// The flow handler after its last handler. `again`: the interrupt that came meanwhile is handled too.
+    /// `unmask`: the chip's mask is opened.
     End {
         cpu: CpuNo,
         again: bool,
@@ -157,7 +165,8 @@ pub enum Entry {
         dev: DevNo,
         served: u32,
     },
-    /// `irq_finalize_oneshot`. `kept`: the thread was woken again, and its bit stays.
+    /// `irq_finalize_oneshot`. `kept`: the thread was woken again, and its bit stays. `unmask`: the chip's mask
+    /// is opened.
     Finish {
         dev: DevNo,
         kept: bool,

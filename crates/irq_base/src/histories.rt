@@ -42,7 +42,7 @@ impl History {
         Ok(())
     }
 
-    /// Adds the entry at the end. It takes no memory.
+    /// Adds the entry at the end of a history with room for it. It takes no memory.
     pub fn push(&mut self, e: Entry)
         requires { 1 ≤ self.old.spare }
         ensures entries { self.new.entries ≡ self.old.entries ++ e ∷ [] }
@@ -65,7 +65,7 @@ impl History {
         self.entries.is_empty()
     }
 
-    /// The entry at the place, counted from 0.
+    /// The entry at the place, counted from 0; none from the length on.
     pub fn get(&self, i: usize) -> Option<Entry>
         ensures { result ≡ slice_get self.now.entries i }
     {

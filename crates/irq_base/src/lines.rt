@@ -30,8 +30,11 @@ pub enum FlowKind {
 /// The definition of a line, which never changes.
 #[derive(Drop)]
 pub struct LineDef {
+    /// Its number.
     pub line: LineNo,
+    /// The flow handler.
     pub flow: FlowKind,
+    /// What raises it.
     pub trigger: Trigger,
     /// An edge that comes while the line is masked is stored by its chip.
     pub keeps: bool,
@@ -53,12 +56,14 @@ pub struct LineDef {
     pub limit: u32,
     /// The greatest length of the history, 1 to 100,000,000.
     pub log: u32,
+    /// The devices that raise it, at most 256.
     pub devices: DeviceList,
+    /// The drivers' calls on it, at most 16,384, each driver's in the order of its script.
     pub calls: CallList,
 }
 
 impl LineDef {
-    /// The same definition once more, in memory of its own.
+    /// The same definition once more, in memory of its own. Refused only for want of memory.
     pub fn try_clone(&self, alloc: Global) -> Result<LineDef, NoMemory>
         ensures { IfOk result (λ d. d ≡ self.now) }
     {

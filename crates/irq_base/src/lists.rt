@@ -52,7 +52,7 @@ impl<T: Copy> ItemList<T> {
         self.items.is_empty()
     }
 
-    /// The item at the place, counted from 0.
+    /// The item at the place, counted from 0; none from the length on.
     pub fn get(&self, i: usize) -> Option<T>
         ensures { result ≡ slice_get self.now i }
     {

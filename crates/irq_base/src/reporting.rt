@@ -11,7 +11,9 @@ use std::marker::Model;
 /// A line's number and its history.
 #[derive(Drop)]
 pub struct LineReport {
+    /// The line's number.
     pub line: LineNo,
+    /// All its entries, the oldest first.
     pub history: History,
 }
 
@@ -78,7 +80,7 @@ impl Reports {
         self.reports.is_empty()
     }
 
-    /// The report at the place, counted from 0.
+    /// The report at the place, counted from 0; none from the length on.
     pub fn get(&self, i: usize) -> Option<&LineReport>
         ensures { option_copied result ≡ slice_get self.now.reports i }
     {

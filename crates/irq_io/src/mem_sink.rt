@@ -40,7 +40,8 @@ impl Model for MemSink {
 
 impl MemSink {
     /// The empty sink with that room, whose flushes never fail. The memory for the room is taken at once, so
-    /// no write wants any.
+    /// no write wants any. `fails` are the numbers of the writes that fail, counted from 1. Refused only for want of
+    /// memory.
     pub fn new(alloc: Global, fails: &[u32], room: usize) -> Result<MemSink, NoMemory>
         ensures content { IfOk result (λ s. (s.content ≡ []) × (s.room ≡ room)) }
         ensures settings { IfOk result (λ s. (s.fails ≡ fails.now) × (s.flush_fails ≡ [])) }
@@ -49,7 +50,8 @@ impl MemSink {
         MemSink::with_failing_flushes(alloc, fails, &[], room)
     }
 
-    /// The empty sink with that room, for which the memory is taken at once.
+    /// The empty sink with that room, for which the memory is taken at once. `fails` are the numbers of the writes
+    /// that fail, `flush_fails` those of the flushes, each counted from 1. Refused only for want of memory.
     pub fn with_failing_flushes(
         alloc: Global,
         fails: &[u32],

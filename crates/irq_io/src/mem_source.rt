@@ -35,7 +35,8 @@ impl Model for MemSource {
 }
 
 impl MemSource {
-    /// The source of these bytes. `piece` is at least 1.
+    /// The source of these bytes. A read gives at most `piece` of them, which is at least 1. `fails` are the numbers
+    /// of the reads that fail, counted from 1. Refused only for want of memory.
     pub fn new(
         alloc: Global,
         bytes: &[u8],

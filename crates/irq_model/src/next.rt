@@ -72,7 +72,7 @@ fn next_past(
 /// history's length.
 ///
 /// The definition need not be one that a board can have: whatever it says, as long as it has at most 32
-/// processors and 256 devices, the answer is what the table of steps says of it.
+/// processors and 256 devices, and the history at most 100,000,000 entries, the answer is what the table of steps says of it.
 ///
 /// # Errors
 ///

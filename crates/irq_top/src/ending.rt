@@ -24,7 +24,7 @@ pub enum Ending {
 }
 
 impl Ending {
-    /// The exit status.
+    /// The exit status: 0, or 2 to 7.
     pub fn status(self) -> u8
         ensures { result ≡ status_of self }
     {

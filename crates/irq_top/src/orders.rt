@@ -37,7 +37,12 @@ impl Asked {
 }
 
 /// Asks both after those moves on the line of the board.
-fn ask(alloc: Global, board: FirstBoard, moves: &[(usize, Actor)], actor: Actor) -> Result<Asked, Fail>
+fn ask(
+    alloc: Global,
+    board: FirstBoard,
+    moves: &[(usize, Actor)],
+    actor: Actor,
+) -> Result<Asked, Fail>
     requires { board.asks ≤ 1000 }
 {
     let def = board.line_def(alloc)?;
@@ -63,7 +68,12 @@ enum Turn {
 }
 
 /// Asks the actors from that place on.
-fn next_turn(alloc: Global, board: FirstBoard, moves: &[(usize, Actor)], from: usize) -> Result<Turn, Fail>
+fn next_turn(
+    alloc: Global,
+    board: FirstBoard,
+    moves: &[(usize, Actor)],
+    from: usize,
+) -> Result<Turn, Fail>
     requires { board.asks ≤ 1000 }
 {
     for (place, actor) in board.actors().iter().enumerate().skip(from) {
@@ -109,7 +119,10 @@ fn count_orders(alloc: Global, board: FirstBoard) -> Result<Option<u32>, Fail>
 #[test]
 fn line_and_plain_program_agree_in_every_order(rt: HostRuntime) -> Result<(), Fail> {
     for (asks, frees, orders) in SCRIPTS {
-        let board = FirstBoard { asks: asks.min(1_000), frees };
+        let board = FirstBoard {
+            asks: asks.min(1_000),
+            frees,
+        };
         assert_eq!(rt; count_orders(rt.alloc(), board)?, Some(orders));
     }
     Ok(())

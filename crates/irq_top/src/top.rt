@@ -22,12 +22,15 @@ use std::alloc::Global;
 /// line where the board was played, else none.
 #[derive(Drop)]
 pub struct Outcome {
+    /// How the call ended, with its exit status.
     pub ending: Ending,
+    /// One report a line, or none.
     pub reports: Reports,
 }
 
-/// Reads a board from `src`, plays it, and prints its log to `out`. What went wrong is told on `err`, in one
-/// row; a fault of `err` itself changes nothing.
+/// Reads a board from `src`, plays it, and prints its log to `out`. The one form of `words` is `play`; others are
+/// refused before anything is read. What went wrong is told on `err`, in one row; a fault of `err` itself changes
+/// nothing.
 pub fn irq_main<S: Source, O: Sink, E: Sink>(
     alloc: Global,
     words: &[&str],

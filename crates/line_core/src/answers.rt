@@ -14,7 +14,7 @@ pub enum Stepped {
 /// Why a step that was due didn't come. Nothing changed.
 #[derive(Clone, Copy, Debug, PartialEq, Eq, Error)]
 pub enum StepRefused {
-    /// The history has the greatest length that the line's definition allows.
+    /// The history has the greatest length that the line's definition allows. `len`: that many entries.
     #[error("the log is full with {len} entries")]
     Full { len: u32 },
     /// Memory was wanted and refused.

@@ -41,7 +41,9 @@ impl Model for Line {
 }
 
 impl Line {
-    /// The line of that definition, to which nothing has happened. Refused only for want of memory.
+    /// The line of that definition, to which nothing has happened. The definition is that of a latch line of one
+    /// processor with one direct device, whose driver requests it, asks, and frees it at most once. Refused only for
+    /// want of memory.
     pub fn new(alloc: Global, def: &LineDef) -> Result<Line, NoMemory>
         requires { Built def.now }
         ensures def { IfOk result (λ l. l.def ≡ def.now) }
@@ -64,6 +66,11 @@ impl Line {
 
     /// Adds the entry that is due of the actor, if there is one. Where none is due, nothing else is asked; then
     /// comes the greatest length, then memory.
+    ///
+    /// # Errors
+    ///
+    /// `Full` where an entry is due and the history has the greatest length that the definition allows. `NoMemory`
+    /// where there is no room for it and memory was refused. Nothing has changed then.
     pub fn step(&mut self, actor: Actor) -> Result<Stepped, StepRefused>
         ensures ok { IfOk result (λ answer. Steps self.old actor answer self.new) }
         ensures not_yet { (result ≡ Ok stepped.NotYet) ↔ (next self.old.def self.old.entries actor ≡ None) }
