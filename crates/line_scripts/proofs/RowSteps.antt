@@ -7,7 +7,7 @@ use Rattle.irq_model.specs.Bounds.{is_ask_call}
 use Rattle.irq_model.specs.Due.{calls_by}
 use Rattle.irq_model.specs.Kinds.{same_driver}
 use Rattle.irq_model.specs.Places.{count_of}
-use Rattle.irq_steps.proofs.Same.{same_self_driver, driver_from_same}
+use Rattle.irq_steps.proofs.Same.{driver_from_same}
 use Rattle.line_scripts.specs.Rows.{RowSeen, unbegun, row_of, calls_of, asks_in, asks_left, call_in, is_some_ask}
 
 -- the same either way round
@@ -120,9 +120,11 @@ asks_stepped v w completes some same moved = by_call (call_in v) refl some
   where
     rest : asks_in w ≡ count_of is_ask_call (drop (cond completes (v.place + 1) v.place) v.calls)
     rest = ap (λ n. count_of is_ask_call (drop n w.calls)) moved ∙ ap (λ (cs : List Call). count_of is_ask_call (drop (cond completes (v.place + 1) v.place) cs)) same
+
     by_end : (b : Bool) (c : Call) → slice_get v.calls v.place ≡ Some c → count_of is_ask_call (drop v.place v.calls) ≡ count_of is_ask_call (drop (cond b (v.place + 1) v.place) v.calls) + cond (b && is_ask_call c) 1 0
     by_end true c at = asks_from v.calls v.place c at
     by_end false c at = omega arith
+
     by_call : (o : Option Call) → call_in v ≡ o → IsSome o → asks_in v ≡ asks_in w + cond (completes && is_some_ask (call_in v)) 1 0
     by_call None at none = cc
     by_call (Some c) at _ =

@@ -1,8 +1,6 @@
-use Rattle.std.proofs.Common.{◌≡◌, ◌+◌, ◌<◌, Bool, List, [], Some, None, IsSome, unwrap_or, refl, sym, ap, ◌∙◌, subst, ◌&&◌, if◌then◌else◌, arith}
-use Rattle.std.specs.Map.{lookup}
+use Rattle.std.proofs.Common.{◌≡◌, ◌+◌, ◌<◌, List, [], IsSome, unwrap_or, sym, ap, ◌∙◌, subst, ◌&&◌, if◌then◌else◌}
 use Rattle.irq_base.specs.declared.numbers.DriverNo.{DriverNo}
-use Rattle.irq_model.specs.Kinds.{same_driver}
-use Rattle.line_scripts.specs.Rows.{RowSeen, unbegun, row_of, calls_of, place_of, within_of, call_in, asks_left, is_some_ask}
+use Rattle.line_scripts.specs.Rows.{RowSeen, unbegun, calls_of, place_of, within_of, call_in, asks_left, is_some_ask}
 use Rattle.line_scripts.proofs.RowSteps.{other_both, same_calls, row_found, is_there, asks_advanced}
 use Rattle.line_scripts.proofs.scripts.Scripts.advance.Goals as goal
 
