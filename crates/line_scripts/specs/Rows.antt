@@ -1,5 +1,5 @@
 -- The scripts of a line: a row for each driver that has calls on it.
-use Rattle.std.specs.Prelude.{ℕ, ◌+◌, Bool, true, false, Option, Some, None, List, [], ◌∷◌, drop, unwrap_or, slice_get}
+use Rattle.std.specs.Prelude.{ℕ, ◌+◌, Bool, false, Option, Some, None, List, [], ◌∷◌, drop, unwrap_or, slice_get}
 use Rattle.std.specs.Map.{lookup}
 use Rattle.irq_base.specs.declared.calls.Call.{Call}
 use Rattle.irq_base.specs.declared.numbers.DriverNo.{DriverNo}

@@ -10,3 +10,5 @@ pub mod scripts;
 pub use row::Row;
 pub use scripts::Scripts;
 
+#[cfg(test)]
+mod tests;

@@ -84,8 +84,10 @@ impl Scripts {
         ensures other_withins { (r : DriverNo) → same_driver r who ≡ false → within_of self.new r ≡ within_of self.old r }
         ensures asks { asks_left self.new + (if completes && is_some_ask (call_of self.old who) then 1 else 0) ≡ asks_left self.old }
     {
-        if let Some(row) = self.rows.get_mut(&who) {
-            row.advance(completes);
-        }
+        // A call is due, so the driver has a row.
+        let Some(row) = self.rows.get_mut(&who) else {
+            return;
+        };
+        row.advance(completes);
     }
 }
