@@ -1,40 +1,31 @@
 -- What agrees with a history agrees with the history and one more entry of a processor: one lemma an entry.
-use Rattle.std.proofs.Common.{◌≡◌, ℕ, ◌+◌, Bool, true, false, not, ◌||◌, ◌&&◌, cond, List, [], ◌∷◌, ◌++◌, filter, refl, sym, ap, ◌∙◌, arith}
+use Rattle.std.proofs.Common.{◌≡◌, ℕ, Bool, true, false, not, ◌||◌, ◌&&◌, List, ◌∷◌, refl, sym, ap, ◌∙◌, arith}
 use Rattle.irq_base.specs.declared.devices.Answer.{Answer}
 use Rattle.irq_base.specs.declared.devices.Answer.TheVariants as answers
 use Rattle.irq_base.specs.declared.devices.Kind.TheVariants as kinds
 use Rattle.irq_base.specs.declared.entries.Entry.{Entry}
 use Rattle.irq_base.specs.declared.entries.Entry.TheVariants as entries
-use Rattle.irq_base.specs.declared.entries.LinkAnswer.TheVariants as links
 use Rattle.irq_base.specs.declared.entries.Note.{Note}
-use Rattle.irq_base.specs.declared.entries.Opened.TheVariants as opens
-use Rattle.irq_base.specs.declared.entries.Resend.TheVariants as resends
 use Rattle.irq_base.specs.declared.entries.TakeAnswer.TheVariants as takes
-use Rattle.irq_base.specs.declared.entries.UnlinkAnswer.TheVariants as unlinks
 use Rattle.irq_base.specs.declared.entries.Way.TheVariants as ways
 use Rattle.irq_base.specs.declared.lines.LineDef.{LineDef}
 use Rattle.irq_base.specs.declared.numbers.CpuNo.{CpuNo}
 use Rattle.irq_base.specs.declared.numbers.DevNo.{DevNo}
-use Rattle.irq_base.specs.declared.numbers.DriverNo.{DriverNo}
 use Rattle.irq_model.specs.Asks.{unserved_by}
 use Rattle.irq_model.specs.Edges.{is_sent, is_stored}
 use Rattle.irq_model.specs.Kinds.{same_dev, is_wake, is_kill}
 use Rattle.irq_model.specs.Kinds.{is_handled as returned_handled}
-use Rattle.irq_model.specs.Lines.{kind_of}
-use Rattle.irq_model.specs.Links.{linked, is_linked}
 use Rattle.irq_model.specs.Masks.{is_masked}
-use Rattle.irq_model.specs.Spurious.{Counts, noted, noted_end, counts_of, round_handles, round_wakes}
+use Rattle.irq_model.specs.Spurious.{noted, noted_end, counts_of, round_handles, round_wakes}
 use Rattle.irq_model.specs.Threads.{is_woken}
-use Rattle.irq_steps.proofs.AskSteps.{unserved_ask, fresh_ask, met_begin, fresh_begin, unserved_return}
-use Rattle.irq_steps.proofs.EdgeSteps.{goes_sent, goes_stored, sent_more, stored_more, none_sent, none_stored}
-use Rattle.irq_steps.proofs.LinkSteps.{linked_request, linked_unlink, depth_first}
-use Rattle.irq_steps.proofs.ListSteps.{linked_not_there}
+use Rattle.irq_steps.proofs.AskSteps.{fresh_begin, unserved_return}
+use Rattle.irq_steps.proofs.EdgeSteps.{goes_sent, goes_stored, sent_more, stored_more, none_stored}
 use Rattle.irq_steps.proofs.Same.{same_self}
 use Rattle.line_core.proofs.Latch.{latch}
-use Rattle.line_core.specs.Agreed.{Agreed, linked_as, rule_counts, met_by_handler}
+use Rattle.line_core.specs.Agreed.{Agreed, rule_counts, met_by_handler}
 use Rattle.line_core.proofs.Noting.{same_counts}
-use Rattle.line_core.specs.Built.{device_of, no_flags}
-use Rattle.line_core.specs.Marks.{after_ask, after_request, after_take, after_begin, after_return, after_end, after_unlink, after_freed, is_handled}
+use Rattle.line_core.specs.Built.{device_of}
+use Rattle.line_core.specs.Marks.{after_take, after_begin, after_return, after_end, is_handled}
 use Rattle.line_core.specs.declared.marks.Marks.{Marks}
 
 pub take_agrees : (def : LineDef) (cpu : CpuNo) (past : List Entry) (m : Marks) → m.masked ≡ false → Agreed (latch def) past m
@@ -174,4 +165,3 @@ end_agrees def cpu note past m mild h =
       woken = h.woken;
       thread = h.thread;
     }
-

@@ -1,5 +1,5 @@
 -- What the calls of a built line are.
-use Rattle.std.proofs.Common.{◌≡◌, ℕ, suc, zero, ◌<◌, ◌≤◌, Bool, true, false, ◌||◌, cond, Some, List, [], ◌∷◌, length, drop, slice_get, refl, sym, ap, subst, ◌∙◌, arith}
+use Rattle.std.proofs.Common.{◌≡◌, ℕ, suc, zero, ◌≤◌, Bool, true, false, ◌||◌, cond, option_map, Option, Some, None, List, [], ◌∷◌, length, slice_get, refl, sym, ap, subst, ◌∙◌, arith}
 use Rattle.std.specs.List.{All, list_any}
 use Rattle.std.proofs.lemmas.List.Elements.{All-get_or}
 use Rattle.std.proofs.lemmas.Option.{get_or_from_slice_get, slice_get_within}
@@ -15,12 +15,13 @@ use Rattle.irq_model.specs.Kinds.{same_dev, same_driver}
 use Rattle.irq_model.specs.Lines.{is_device, kind_in}
 use Rattle.irq_model.specs.Valid.{HasOneOwner, requests_dev, frees_dev, names_one_of}
 use Rattle.irq_steps.proofs.Same.{same_self, same_self_driver, dev_from_same, driver_from_same}
-use Rattle.line_core.proofs.Frees.{AreFreedBy, not_true, free_comes_first}
+use Rattle.irq_steps.specs.Laid.{with_count}
+use Rattle.line_core.proofs.Frees.{AreFreedBy, not_true, same_item, free_comes_first}
 use Rattle.line_core.specs.Built.{Built, HasDirect, IsPlainCall, first_device, device_of, owner_in, owner_of, no_flags}
-use Rattle.line_core.specs.Due.{CallFits}
-use Rattle.line_core.specs.Line.{IsDriven, FreesFirst}
+use Rattle.line_core.specs.Due.{CallFits, IsDueCall}
+use Rattle.line_core.specs.Line.{IsDriven}
 use Rattle.line_core.specs.declared.marks.Marks.{Marks}
-use Rattle.line_scripts.specs.Rows.{calls_of, place_of, call_of}
+use Rattle.line_scripts.specs.Rows.{place_of, within_of, call_of}
 use Rattle.line_scripts.specs.declared.scripts.Scripts.{Scripts}
 
 at_place : {X : Type 0} (P : X → Type 0) (xs : List X) (i : ℕ) (x : X) → All P xs → slice_get xs i ≡ Some x → P x
@@ -31,14 +32,11 @@ at_place P xs i x all at = subst P (get_or_from_slice_get xs i x x at) (All-get_
 abbrev IsAmong : List (DriverNo × Call) → DriverNo → Call → Type 0
 IsAmong cs r call = (q : ℕ) × (slice_get cs q ≡ Some (r, call))
 
-same_call : (a b : Call) → Some a ≡ Some b → a ≡ b
-same_call a b h = cc
-
 by_head : (r who : DriverNo) (c : Call) (cs : List (DriverNo × Call)) (b : Bool) (p : ℕ) (call : Call) → same_driver r who ≡ b → ((k : ℕ) → slice_get (calls_by r cs) k ≡ Some call → IsAmong cs r call)
     → slice_get (cond b (c ∷ calls_by r cs) (calls_by r cs)) p ≡ Some call → IsAmong ((who, c) ∷ cs) r call
 by_head r who c cs true zero call is rest at =
     let own : r ≡ who = driver_from_same r who is in
-    let same : c ≡ call = same_call c call at in
+    let same : c ≡ call = same_item c call at in
     (zero, ap (λ (x : DriverNo). Some (x, c)) (sym own) ∙ ap (λ (x : Call). Some (r, x)) same)
 by_head r who c cs true (suc p) call is rest at = let f = rest p at in (suc f.0, f.1)
 by_head r who c cs false p call is rest at = let f = rest p at in (suc f.0, f.1)
@@ -126,7 +124,9 @@ suits def q who _ b at named plain = absurd plain
 pub suits_at : (def : LineDef) (r : DriverNo) (p : ℕ) (call : Call) → Built def → slice_get (calls_by r def.calls) p ≡ Some call → Suits def r call
 suits_at def r p call b at =
     let f = among_all r def.calls p call at in
-    suits def f.0 r call b f.1 (at_place _ def.calls f.0 (r, call) b.valid.calls f.1) (at_place _ def.calls f.0 (r, call) b.calls f.1)
+    let N : DriverNo × Call → Type 0 = λ c. names_one_of def.devices c.1 ≡ true in
+    let C : DriverNo × Call → Type 0 = λ c. IsPlainCall c.1 in
+    suits def f.0 r call b f.1 (at_place N def.calls f.0 (r, call) b.valid.calls f.1) (at_place C def.calls f.0 (r, call) b.calls f.1)
 
 -- the driver's due call, among the definition's
 pub due_at : (def : LineDef) (m : Marks) (s : Scripts) (r : DriverNo) (call : Call) → IsDriven def m s → call_of s r ≡ Some call → slice_get (calls_by r def.calls) (place_of s r) ≡ Some call
@@ -139,7 +139,7 @@ suits_due def m s r call b h at = suits_at def r (place_of s r) call b (due_at d
 request_finds_none : (def : LineDef) (m : Marks) (s : Scripts) (r : DriverNo) (call : Call) → IsDriven def m s → call_of s r ≡ Some call → r ≡ owner_of def → requests_dev (device_of def) call ≡ true → m.linked ≡ false
 request_finds_none def m s r call h at own is = not_true m.linked (λ on.
     let found : slice_get (calls_by (owner_of def) def.calls) (place_of s (owner_of def)) ≡ Some call = subst (λ (x : DriverNo). slice_get (calls_by x def.calls) (place_of s x) ≡ Some call) own (due_at def m s r call h at) in
-    contrary (requests_dev (device_of def) call) (free_comes_first (device_of def) _ _ call (h.requested on) found) is)
+    contrary (requests_dev (device_of def) call) (free_comes_first (device_of def) (calls_by (owner_of def) def.calls) (place_of s (owner_of def)) call (h.requested on) found) is)
 
 fits : (def : LineDef) (m : Marks) (s : Scripts) (r : DriverNo) (call : Call) → IsDriven def m s → call_of s r ≡ Some call → Suits def r call → CallFits def m r call
 fits def m s r (calls.Ask dev) h at is = is
@@ -150,3 +150,16 @@ fits def m s r _ h at is = absurd is
 
 pub call_fits : (def : LineDef) (m : Marks) (s : Scripts) (r : DriverNo) (call : Call) → Built def → IsDriven def m s → call_of s r ≡ Some call → CallFits def m r call
 call_fits def m s r call b h at = fits def m s r call h at (suits_due def m s r call b h at)
+
+-- a driver's call is due
+counted : (o : Option Call) (k : ℕ) (call : Call) (n : ℕ) → with_count o k ≡ Some (call, n) → (o ≡ Some call) × (k ≡ n)
+counted None k call n h = cc
+counted (Some c) k call n h =
+    let first : Option (Call × ℕ) → Option Call = option_map (λ x. x.0) in
+    let second : Option (Call × ℕ) → Option ℕ = option_map (λ x. x.1) in
+    (ap first h, same_item k n (ap second h))
+
+pub is_due : (def : LineDef) (m : Marks) (s : Scripts) (r : DriverNo) (call : Call) (n : ℕ) → Built def → IsDriven def m s → with_count (call_of s r) (within_of s r) ≡ Some (call, n) → IsDueCall def m s r call n
+is_due def m s r call n b h at =
+    let found = counted (call_of s r) (within_of s r) call n at in
+    record { due = found.0; count = found.1; fits = call_fits def m s r call b h found.0 }

@@ -1,5 +1,5 @@
 -- Which entry the table of steps has for a driver, told by the marks and the call that is due.
-use Rattle.std.proofs.Common.{◌≡◌, ℕ, ◌≤◌, ◌≢◌, Bool, true, false, ◌==◌, cond, eqb, Option, Some, None, List, [], ◌∷◌, slice_get, refl, sym, ap, subst, ◌∙◌, arith}
+use Rattle.std.proofs.Common.{◌≡◌, ℕ, ◌≤◌, ◌≢◌, Bool, true, false, ◌==◌, cond, eqb, Some, List, [], slice_get, refl, sym, ap, subst, ◌∙◌, arith}
 use Rattle.std.proofs.lemmas.Bool.Decides.{nat_tests}
 use Rattle.irq_base.specs.declared.calls.Call.{Call}
 use Rattle.irq_base.specs.declared.calls.Call.TheVariants as calls
@@ -13,7 +13,7 @@ use Rattle.irq_base.specs.declared.entries.Resend.TheVariants as resends
 use Rattle.irq_base.specs.declared.lines.LineDef.{LineDef}
 use Rattle.irq_base.specs.declared.numbers.DevNo.{DevNo}
 use Rattle.irq_base.specs.declared.numbers.DriverNo.{DriverNo}
-use Rattle.irq_model.specs.Due.{due_of, due_call, entries_by, holds_mutex}
+use Rattle.irq_model.specs.Due.{due_call, entries_by, holds_mutex}
 use Rattle.irq_model.specs.Links.{linked, is_linked, is_empty, is_none_linked}
 use Rattle.irq_model.specs.Next.{next_of_request, next_of_free, link_answer, opened_by_request, request_with, unlink_answer}
 use Rattle.irq_steps.proofs.DueSteps.{due_laid}

@@ -1,5 +1,5 @@
 -- Between two requests of a device stands a free of it, so a request never finds it linked.
-use Rattle.std.proofs.Common.{◌≡◌, ℕ, suc, zero, ◌+◌, ◌<◌, Bool, true, false, ◌||◌, cond, Some, List, [], ◌∷◌, drop, slice_get, refl, sym, ap, subst, ◌∙◌, arith}
+use Rattle.std.proofs.Common.{◌≡◌, ℕ, suc, zero, ◌<◌, Bool, true, false, cond, Some, List, [], ◌∷◌, drop, slice_get, refl, sym, ap, subst, ◌∙◌, arith}
 use Rattle.irq_base.specs.declared.calls.Call.{Call}
 use Rattle.irq_base.specs.declared.numbers.DevNo.{DevNo}
 use Rattle.irq_base.specs.declared.numbers.DriverNo.{DriverNo}
@@ -12,7 +12,7 @@ pub not_true : (b : Bool) → (b ≡ true → ⊥) → b ≡ false
 not_true true h = absurd (h refl)
 not_true false h = refl
 
-same_item : {A : Type 0} (x y : A) → Some x ≡ Some y → x ≡ y
+pub same_item : {A : Type 0} (x y : A) → Some x ≡ Some y → x ≡ y
 same_item x y h = cc
 
 -- each request of d in the list has a free of d before it
@@ -28,30 +28,30 @@ AreFreedBy d r cs = (j : ℕ) (c : DriverNo × Call) → slice_get cs j ≡ Some
 -- the free isn't the first call, so it stands behind it
 behind : (d : DevNo) (c : DriverNo × Call) (cs : List (DriverNo × Call)) (j k : ℕ) (x : DriverNo × Call) → frees_dev d c.1 ≡ false → k < suc j → slice_get (c ∷ cs) k ≡ Some x → frees_dev d x.1 ≡ true
     → (i : ℕ) × (y : DriverNo × Call) × (i < j) × (slice_get cs i ≡ Some y) × (frees_dev d y.1 ≡ true)
-behind d c cs j zero x no lt at is = let same = same_item c x at in let n : frees_dev d x.1 ≡ false = subst (λ (y : DriverNo × Call). frees_dev d y.1 ≡ false) same no in absurd (false_true (sym n ∙ is))
+behind d c cs j zero x isnt lt at is = let same = same_item c x at in let n : frees_dev d x.1 ≡ false = subst (λ (y : DriverNo × Call). frees_dev d y.1 ≡ false) same isnt in absurd (false_true (sym n ∙ is))
   where
     false_true : false ≡ true → ⊥
     false_true h = cc
-behind d c cs j (suc k) x no lt at is = (k, x, omega arith, at, is)
+behind d c cs j (suc k) x isnt lt at is = (k, x, omega arith, at, is)
 
 freed_behind : (d : DevNo) (c : DriverNo × Call) (cs : List (DriverNo × Call)) → frees_dev d c.1 ≡ false → AreFreedBefore d (c ∷ cs) → AreFreedBefore d cs
-freed_behind d c cs no h = λ j x at is. let f = h (suc j) x at is in behind d c cs j f.0 f.1 no f.2 f.3 f.4
+freed_behind d c cs isnt h = λ j x at is. let f = h (suc j) x at is in behind d c cs j f.0 f.1 isnt f.2 f.3 f.4
 
 -- the list of r's calls, by the first of all calls
 by_head : (d : DevNo) (b e : Bool) (r : DriverNo) (c : DriverNo × Call) (cs : List (DriverNo × Call)) → frees_dev d c.1 ≡ e → requests_dev d c.1 ≡ false → (e ≡ true → b ≡ true) → (e ≡ false → FreesFirst d (calls_by r cs))
     → FreesFirst d (cond b (c.1 ∷ calls_by r cs) (calls_by r cs))
-by_head d true e r c cs is no own rest = (no, λ x. rest (sym is ∙ x))
-by_head d false true r c cs is no own rest = absurd (true_false (own refl))
+by_head d true e r c cs is isnt own rest = (isnt, λ x. rest (sym is ∙ x))
+by_head d false true r c cs is isnt own rest = absurd (true_false (own refl))
   where
     true_false : false ≡ true → ⊥
     true_false h = cc
-by_head d false false r c cs is no own rest = rest refl
+by_head d false false r c cs is isnt own rest = rest refl
 
 frees_first : (d : DevNo) (r : DriverNo) (cs : List (DriverNo × Call)) → AreFreedBefore d cs → AreFreedBy d r cs → FreesFirst d (calls_by r cs)
 frees_first d r [] before own = tt
 frees_first d r (c ∷ cs) before own =
-    let no : requests_dev d c.1 ≡ false = not_true (requests_dev d c.1) (λ is. let f = before zero c refl is in absurd (omega (arith, f.2))) in
-    by_head d (same_driver r c.0) (frees_dev d c.1) r c cs refl no (own zero c refl)
+    let isnt : requests_dev d c.1 ≡ false = not_true (requests_dev d c.1) (λ is. let f = before zero c refl is in absurd (omega (arith, f.2))) in
+    by_head d (same_driver r c.0) (frees_dev d c.1) r c cs refl isnt (own zero c refl)
     (λ free. frees_first d r cs (freed_behind d c cs free before) (λ j x at. own (suc j) x at))
 
 not_first : (d : DevNo) (c : DriverNo × Call) (cs : List (DriverNo × Call)) (i j k : ℕ) (x : DriverNo × Call) → suc i < k → k < suc j → slice_get (c ∷ cs) k ≡ Some x → frees_dev d x.1 ≡ true
@@ -94,6 +94,6 @@ free_comes_first d (c ∷ cs) zero call h at = sym (ap (requests_dev d) (same_it
 free_comes_first d (c ∷ cs) (suc p) call h at = free_comes_first d cs p call h at
 
 pub still_first : (d : DevNo) (cs : List Call) (p : ℕ) (call : Call) → FreesFirst d (drop p cs) → slice_get cs p ≡ Some call → frees_dev d call ≡ false → FreesFirst d (drop (suc p) cs)
-still_first d [] p call h at no = cc
-still_first d (c ∷ cs) zero call h at no = h.1 (ap (frees_dev d) (same_item c call at) ∙ no)
-still_first d (c ∷ cs) (suc p) call h at no = still_first d cs p call h at no
+still_first d [] p call h at isnt = cc
+still_first d (c ∷ cs) zero call h at isnt = h.1 (ap (frees_dev d) (same_item c call at) ∙ isnt)
+still_first d (c ∷ cs) (suc p) call h at isnt = still_first d cs p call h at isnt

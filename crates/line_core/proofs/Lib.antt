@@ -6,3 +6,7 @@ pub mod AgreeingCalls
 pub mod AgreeingRounds
 pub mod Nexts
 pub mod Driven
+pub mod Steps
+pub mod Past
+pub mod Keeping
+pub mod More

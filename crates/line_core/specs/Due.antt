@@ -72,6 +72,6 @@ CallFits def m who _ = ⊥
 
 -- the driver's call is due, of which that many entries are there
 pub record IsDueCall (def : LineDef) (m : Marks) (s : Scripts) (who : DriverNo) (call : Call) (within : ℕ) : Type 0 where
-  pub call : call_of s who ≡ Some call
-  pub within : within_of s who ≡ within
+  pub due : call_of s who ≡ Some call
+  pub count : within_of s who ≡ within
   pub fits : CallFits def m who call

@@ -51,8 +51,8 @@ impl Line {
         ensures empty { IfOk result (λ l. l.entries ≡ []) }
     {
         let dev = device(def);
-        let def = def.try_clone(alloc)?;
         let scripts = Scripts::new(alloc, &def.calls)?;
+        let def = def.try_clone(alloc)?;
         let history = History::with_room(alloc, 0)?;
         Ok(Line {
             def,
