@@ -10,3 +10,4 @@ pub mod Steps
 pub mod Past
 pub mod Keeping
 pub mod More
+pub mod Turns
