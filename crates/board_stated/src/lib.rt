@@ -1,0 +1,20 @@
+//! What the statements of a text state: the board so far, what is wrong with the next statement, and so the board
+//! of a text, or its first fault.
+//!
+//! The definitions are in `specs/`. A statement is judged by looking back over those before it.
+#![tactic(auto)]
+
+ghost use Rattle.std.specs.Prelude.{◌≡◌, ℕ, List, Ok};
+ghost use Rattle.board_def.specs.Rules.{IsBoard};
+ghost use Rattle.board_def.specs.Seen.{BoardSeen};
+ghost use Rattle.board_stated.specs.TextOf.{board_of_text};
+
+pub mod faults;
+
+pub use faults::BoardFault;
+
+/// The board of a text keeps the rules of boards.
+#[tactic(auto, using(crate::proofs::Kept::text_is_board))]
+pub fn board_of_a_text_keeps_the_rules()
+    ensures { (bytes : List ℕ) (b : BoardSeen) → board_of_text bytes ≡ Ok b → IsBoard b }
+{}
