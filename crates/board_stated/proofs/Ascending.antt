@@ -11,7 +11,7 @@ use Rattle.board_def.proofs.EachAfters.{each_none}
 pub one_more : {A : Type 0} (limit : ℕ) (xs : List A) (x : A) → nat_le limit (length xs) ≡ false → length (xs ++ x ∷ []) ≤ limit
 one_more limit xs x h = omega (arith, length_push xs x, leb-false limit (length xs) h)
 
-first_or_rest : {P : Type 0} (a b : Bool) → (a ≡ true → P) → (b ≡ true → P) → (a || b) ≡ true → P
+pub first_or_rest : {P : Type 0} (a b : Bool) → (a ≡ true → P) → (b ≡ true → P) → (a || b) ≡ true → P
 first_or_rest true b first rest h = first refl
 first_or_rest false b first rest h = rest h
 
