@@ -1,9 +1,8 @@
 -- The board of a text is one that can be played so far.
-use Rattle.std.proofs.Common.{◌≡◌, ℕ, zero, suc, ◌+◌, ◌<◌, ◌≤◌, ◌==◌, Bool, true, false, not, ◌&&◌, ◌||◌, is_some, IfSome, Option, Some, None, Ok, List, [], ◌∷◌, ◌++◌, length, refl, sym, ap, ◌∙◌, subst, arith}
+use Rattle.std.proofs.Common.{◌≡◌, ℕ, zero, ◌<◌, ◌≤◌, ◌==◌, true, false, not, ◌&&◌, ◌||◌, is_some, IfSome, Option, Some, None, Ok, List, [], ◌∷◌, length, refl, sym, ap, ◌∙◌, subst, arith}
 use Rattle.std.specs.List.{All, list_any, list_all}
-use Rattle.std.proofs.lemmas.Bool.{ltb-true, eqb-true, and_parts, or_parts, or_cases, not-true}
-use Rattle.std.proofs.lemmas.List.Elements.{All-nil, All-cons, All-head, All-tail, All-append, All-same, All-weaker}
-use Rattle.irq_base.specs.declared.calls.Call.{Call}
+use Rattle.std.proofs.lemmas.Bool.{ltb-true, eqb-true, and_parts, or_parts, not-true}
+use Rattle.std.proofs.lemmas.List.Elements.{All-nil, All-cons, All-head, All-append, All-same}
 use Rattle.irq_base.specs.declared.devices.DeviceDef.{DeviceDef}
 use Rattle.irq_base.specs.declared.devices.Kind.{Kind}
 use Rattle.irq_base.specs.declared.devices.Kind.TheVariants as kinds
@@ -14,7 +13,6 @@ use Rattle.irq_base.specs.declared.domains.MapKind.TheVariants as maps
 use Rattle.irq_base.specs.declared.numbers.LineNo.{LineNo}
 use Rattle.board_def.specs.Rules.{EachAfter, has_line, IsDomainAfter, IsLineAfter, IsCallAfter, IsBoard}
 use Rattle.board_def.specs.Seen.{BoardSeen}
-use Rattle.board_def.specs.declared.names.Name.{Name}
 use Rattle.board_def.specs.declared.rows.DomainRow.{DomainRow}
 use Rattle.board_def.specs.declared.rows.LineRow.{LineRow}
 use Rattle.board_def.specs.declared.rows.ScriptCall.{ScriptCall}
@@ -30,7 +28,7 @@ use Rattle.board_stated.specs.Stated.{all_processors, mask_or_all, line_row, wit
 use Rattle.board_stated.specs.TextOf.{with_lines, board_of_text}
 use Rattle.board_stated.proofs.Ascending.{first_or_rest, each_alone}
 use Rattle.board_stated.proofs.Calls.{devices_on_lines}
-use Rattle.board_stated.proofs.Kept.{IsTextOf, text_states, text_is_board}
+use Rattle.board_stated.proofs.Kept.{text_states, text_is_board}
 use Rattle.board_stated.proofs.Reached.{fits_after, NoneLater, none_later}
 
 -- ---- what statements without `spurious` and options leave at the defaults

@@ -1,5 +1,5 @@
 -- One more call keeps the rules of boards.
-use Rattle.std.proofs.Common.{◌≡◌, ℕ, ◌<◌, ◌≤◌, ◌==◌, Bool, true, false, not, cond, IfSome, is_none, Option, Some, None, List, [], ◌∷◌, ◌++◌, length, refl, arith}
+use Rattle.std.proofs.Common.{◌≡◌, ℕ, ◌≤◌, Bool, true, false, cond, IfSome, is_none, Option, Some, None, List, [], ◌∷◌, refl, arith}
 use Rattle.std.specs.List.{All}
 use Rattle.std.proofs.lemmas.Bool.{eq-eqb, not-false}
 use Rattle.std.proofs.lemmas.List.Elements.{All-same, All-nil, All-head, All-tail, All-weaker}
@@ -15,7 +15,7 @@ use Rattle.board_words.specs.declared.statements.CallWords.{CallWords}
 use Rattle.board_words.specs.declared.statements.CallWords.TheVariants as words
 use Rattle.board_words.specs.declared.statements.Statement.TheVariants as statements
 use Rattle.board_stated.specs.FaultsAfter.{is_misplaced, names_nothing, is_not_there, has_bad_owner, is_one_too_many}
-use Rattle.board_stated.specs.Stated.{last_driver, line_or_none, line_of_device, line_of_call, call_of_words, script_call, with_statement}
+use Rattle.board_stated.specs.Stated.{last_driver, line_or_none, line_of_call, call_of_words, script_call, with_statement}
 use Rattle.board_stated.proofs.Ascending.{one_more, each_weaker, each_alone}
 use Rattle.board_stated.proofs.Devices.{devices_kept}
 use Rattle.board_stated.proofs.Drivers.{last_declared, last_greatest}
@@ -94,10 +94,19 @@ call_kept b c n early none board placed there owner room =
     let call = script_call b c in
     let next = with_statement (statements.Call c) b in
     record {
-      some_cpu = board.some_cpu; few_cpus = board.few_cpus; small_window = board.small_window; limit = board.limit; some_log = board.some_log; small_log = board.small_log;
-      few_domains = board.few_domains; few_lines = board.few_lines; few_devices = board.few_devices; few_drivers = board.few_drivers;
+      some_cpu = board.some_cpu;
+      few_cpus = board.few_cpus;
+      small_window = board.small_window;
+      limit = board.limit;
+      some_log = board.some_log;
+      small_log = board.small_log;
+      few_domains = board.few_domains;
+      few_lines = board.few_lines;
+      few_devices = board.few_devices;
+      few_drivers = board.few_drivers;
       few_calls = one_more 16384 b.calls call room;
-      few_picks = board.few_picks; entries = board.entries;
+      few_picks = board.few_picks;
+      entries = board.entries;
       domains = board.domains;
       lines = lines_kept b next refl refl board.lines;
       devices = devices_kept b next refl board.devices;

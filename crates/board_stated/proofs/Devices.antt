@@ -1,5 +1,5 @@
 -- One more device keeps the rules of boards.
-use Rattle.std.proofs.Common.{◌≡◌, ℕ, ◌<◌, ◌≤◌, Bool, true, false, not, List, [], ◌∷◌, ◌++◌, length, refl, sym, subst, arith}
+use Rattle.std.proofs.Common.{◌≡◌, ℕ, ◌<◌, ◌≤◌, true, false, List, [], ◌∷◌, refl, sym, subst, arith}
 use Rattle.std.specs.List.{All}
 use Rattle.std.proofs.lemmas.Bool.{leb-false, not-false}
 use Rattle.std.proofs.lemmas.List.Elements.{All-same, All-nil}
@@ -59,10 +59,19 @@ device_kept b dev line kind n early none board number placed there room =
     let device : DeviceDef = record { dev = dev; line = line; kind = kind } in
     let next = with_statement (statements.Device dev line kind) b in
     record {
-      some_cpu = board.some_cpu; few_cpus = board.few_cpus; small_window = board.small_window; limit = board.limit; some_log = board.some_log; small_log = board.small_log;
-      few_domains = board.few_domains; few_lines = board.few_lines;
+      some_cpu = board.some_cpu;
+      few_cpus = board.few_cpus;
+      small_window = board.small_window;
+      limit = board.limit;
+      some_log = board.some_log;
+      small_log = board.small_log;
+      few_domains = board.few_domains;
+      few_lines = board.few_lines;
       few_devices = one_more 256 b.devices device room;
-      few_drivers = board.few_drivers; few_calls = board.few_calls; few_picks = board.few_picks; entries = board.entries;
+      few_drivers = board.few_drivers;
+      few_calls = board.few_calls;
+      few_picks = board.few_picks;
+      entries = board.entries;
       domains = board.domains;
       lines = lines_kept b next refl refl board.lines;
       devices = each_more (IsDeviceAfter next) b.devices device (devices_kept b next refl board.devices)

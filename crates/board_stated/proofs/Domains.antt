@@ -1,6 +1,5 @@
 -- One more domain keeps the rules of boards.
-use Rattle.std.proofs.Common.{◌≡◌, ℕ, suc, ◌+◌, ◌<◌, ◌≤◌, Bool, true, false, ◌||◌, cond, IfSome, Option, Some, None, List, [], ◌∷◌, ◌++◌, length, refl, arith}
-use Rattle.std.specs.List.{list_any}
+use Rattle.std.proofs.Common.{◌≡◌, ℕ, suc, ◌<◌, ◌≤◌, Bool, true, false, ◌||◌, cond, IfSome, Option, Some, None, List, [], ◌∷◌, length, arith}
 use Rattle.std.proofs.lemmas.Bool.{or_parts}
 use Rattle.std.proofs.lemmas.List.Elements.{All-same, All-nil}
 use Rattle.board_def.specs.Rules.{is_domain_named, has_name, IsDomainAfter, IsLineAfter, IsDeviceAfter, IsCallAfter, IsActorOf, IsBoard}
@@ -57,9 +56,19 @@ domain_kept b d n early none board fits once parent room =
     let row = domain_row b.domains d in
     let next = with_statement (statements.Domain d) b in
     record {
-      some_cpu = board.some_cpu; few_cpus = board.few_cpus; small_window = board.small_window; limit = board.limit; some_log = board.some_log; small_log = board.small_log;
+      some_cpu = board.some_cpu;
+      few_cpus = board.few_cpus;
+      small_window = board.small_window;
+      limit = board.limit;
+      some_log = board.some_log;
+      small_log = board.small_log;
       few_domains = one_more 32 b.domains row room;
-      few_lines = board.few_lines; few_devices = board.few_devices; few_drivers = board.few_drivers; few_calls = board.few_calls; few_picks = board.few_picks; entries = board.entries;
+      few_lines = board.few_lines;
+      few_devices = board.few_devices;
+      few_drivers = board.few_drivers;
+      few_calls = board.few_calls;
+      few_picks = board.few_picks;
+      entries = board.entries;
       domains = each_more IsDomainAfter b.domains row board.domains (domain_after b d fits once parent);
       lines = each_of_none (IsLineAfter next) b.lines (none.lines (omega arith));
       devices = each_of_none (IsDeviceAfter next) b.devices (none.devices (omega arith));

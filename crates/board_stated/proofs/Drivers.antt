@@ -1,6 +1,6 @@
 -- One more driver keeps the rules of boards.
-use Rattle.std.proofs.Common.{◌≡◌, ℕ, ◌+◌, ◌<◌, ◌≤◌, ◌==◌, Bool, true, false, ◌||◌, List, [], ◌∷◌, ◌++◌, length, refl, sym, ap, ◌∙◌, subst, arith}
-use Rattle.std.specs.List.{All, list_any}
+use Rattle.std.proofs.Common.{◌≡◌, ℕ, ◌+◌, ◌<◌, ◌≤◌, ◌==◌, true, false, List, [], ◌∷◌, ◌++◌, length, refl, ◌∙◌, subst, arith}
+use Rattle.std.specs.List.{All}
 use Rattle.std.proofs.lemmas.Bool.{leb-false, eq-eqb, ne_eqb, or_left, or_right}
 use Rattle.std.proofs.lemmas.List.Elements.{All-same, All-nil}
 use Rattle.std.proofs.lemmas.List.Folds.{list_any-append}
@@ -64,10 +64,19 @@ pub driver_kept : (b : BoardSeen) (driver : DriverNo) (n : ℕ) → n ≤ 5 → 
 driver_kept b driver n early none board number placed room =
     let next = with_statement (statements.Driver driver) b in
     record {
-      some_cpu = board.some_cpu; few_cpus = board.few_cpus; small_window = board.small_window; limit = board.limit; some_log = board.some_log; small_log = board.small_log;
-      few_domains = board.few_domains; few_lines = board.few_lines; few_devices = board.few_devices;
+      some_cpu = board.some_cpu;
+      few_cpus = board.few_cpus;
+      small_window = board.small_window;
+      limit = board.limit;
+      some_log = board.some_log;
+      small_log = board.small_log;
+      few_domains = board.few_domains;
+      few_lines = board.few_lines;
+      few_devices = board.few_devices;
       few_drivers = one_more 64 b.drivers driver room;
-      few_calls = board.few_calls; few_picks = board.few_picks; entries = board.entries;
+      few_calls = board.few_calls;
+      few_picks = board.few_picks;
+      entries = board.entries;
       domains = board.domains;
       lines = lines_kept b next refl refl board.lines;
       devices = devices_kept b next refl board.devices;

@@ -1,5 +1,5 @@
 -- The board of a text keeps the rules.
-use Rattle.std.proofs.Common.{◌≡◌, ℕ, ◌+◌, ◌*◌, ◌<◌, ◌≤◌, Bool, true, false, not, ◌&&◌, cond, nat_lt, Option, Some, None, Result, Ok, Err, List, [], ◌∷◌, length, refl, sym, ap, subst, arith}
+use Rattle.std.proofs.Common.{◌≡◌, ℕ, ◌+◌, ◌*◌, ◌≤◌, Bool, true, false, not, ◌&&◌, cond, nat_lt, Option, Some, None, Result, Ok, Err, List, [], ◌∷◌, length, refl, sym, subst, arith}
 use Rattle.std.specs.List.{list_any}
 use Rattle.std.proofs.lemmas.Bool.{ltb-false}
 use Rattle.std.proofs.lemmas.List.Elements.{All-nil}
@@ -18,7 +18,7 @@ use Rattle.board_stated.specs.FaultsAfter.{is_empty, fault_after}
 use Rattle.board_stated.specs.Sections.{section_reached}
 use Rattle.board_stated.specs.Sound.{IsWellFormed, IsSound, draft_of}
 use Rattle.board_stated.specs.Stated.{board_of}
-use Rattle.board_stated.specs.TextOf.{begins_with_board, or_else, fault_of_statement, fault_of_line, with_line, with_lines, fault_or, first_fault, has_words, fault_without_statement, fault_of_lines, longest_text, whole, board_unless, board_of_text}
+use Rattle.board_stated.specs.TextOf.{begins_with_board, or_else, fault_of_statement, fault_of_line, with_line, with_lines, fault_or, first_fault, has_words, fault_of_lines, longest_text, whole, board_unless, board_of_text}
 use Rattle.board_stated.specs.declared.faults.BoardFault.{BoardFault}
 use Rattle.board_stated.proofs.Calls.{call_kept}
 use Rattle.board_stated.proofs.Devices.{device_kept}
@@ -34,8 +34,18 @@ use Rattle.board_stated.proofs.WellFormed.{statement_is_well_formed}
 
 first_draft : IsBoard (draft_of [])
 first_draft = record {
-  some_cpu = omega arith; few_cpus = omega arith; small_window = omega arith; limit = omega arith; some_log = omega arith; small_log = omega arith;
-  few_domains = omega arith; few_lines = omega arith; few_devices = omega arith; few_drivers = omega arith; few_calls = omega arith; few_picks = omega arith;
+  some_cpu = omega arith;
+  few_cpus = omega arith;
+  small_window = omega arith;
+  limit = omega arith;
+  some_log = omega arith;
+  small_log = omega arith;
+  few_domains = omega arith;
+  few_lines = omega arith;
+  few_devices = omega arith;
+  few_drivers = omega arith;
+  few_calls = omega arith;
+  few_picks = omega arith;
   entries = omega arith;
   domains = each_none IsDomainAfter;
   lines = each_none (IsLineAfter (draft_of []));

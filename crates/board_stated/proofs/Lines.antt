@@ -1,5 +1,5 @@
 -- One more line keeps the rules of boards.
-use Rattle.std.proofs.Common.{◌≡◌, ℕ, zero, suc, ◌+◌, ◌*◌, ◌<◌, ◌≤◌, Bool, true, false, not, cond, is_none, is_some, IsSome, Option, Some, None, List, [], ◌∷◌, ◌++◌, length, refl, sym, subst, ◌∙◌, arith}
+use Rattle.std.proofs.Common.{◌≡◌, ℕ, zero, suc, ◌*◌, ◌<◌, ◌≤◌, true, false, is_none, IsSome, Option, Some, None, List, [], ◌∷◌, length, refl, sym, subst, arith}
 use Rattle.std.specs.List.{All}
 use Rattle.std.proofs.lemmas.Bool.{leb-false, eq-eqb, not-false}
 use Rattle.std.proofs.lemmas.List.Elements.{All-same, All-nil}
@@ -84,8 +84,18 @@ line_kept b l n early none board log number placed there unlazy mask room =
     let next = with_statement (statements.Line l) b in
     let few = one_more 64 b.lines row room in
     record {
-      some_cpu = board.some_cpu; few_cpus = board.few_cpus; small_window = board.small_window; limit = board.limit; some_log = board.some_log; small_log = board.small_log;
-      few_domains = board.few_domains; few_lines = few; few_devices = board.few_devices; few_drivers = board.few_drivers; few_calls = board.few_calls; few_picks = board.few_picks;
+      some_cpu = board.some_cpu;
+      few_cpus = board.few_cpus;
+      small_window = board.small_window;
+      limit = board.limit;
+      some_log = board.some_log;
+      small_log = board.small_log;
+      few_domains = board.few_domains;
+      few_lines = few;
+      few_devices = board.few_devices;
+      few_drivers = board.few_drivers;
+      few_calls = board.few_calls;
+      few_picks = board.few_picks;
       entries = few_entries b.log (length next.lines) log few;
       domains = board.domains;
       lines = each_more (IsLineAfter next) b.lines row (lines_kept b next refl refl board.lines)

@@ -1,5 +1,5 @@
 -- More picks keep the rules of boards.
-use Rattle.std.proofs.Common.{◌≡◌, ℕ, ◌+◌, ◌<◌, ◌≤◌, ◌==◌, Bool, true, false, not, ◌&&◌, ◌||◌, Option, Some, None, List, [], ◌∷◌, ◌++◌, length, replicate, refl, arith}
+use Rattle.std.proofs.Common.{◌≡◌, ◌+◌, ◌≤◌, ◌==◌, true, false, Option, Some, None, List, [], ◌∷◌, ◌++◌, length, refl, arith}
 use Rattle.std.specs.List.{All, list_any, flat_map}
 use Rattle.std.proofs.Math.ListN.{length-append, length-replicate}
 use Rattle.std.proofs.lemmas.Bool.{ltb-false, leb-false, eq-eqb, not-false, and_from, or_parts}
@@ -69,8 +69,17 @@ pub picks_kept : (b : BoardSeen) (picks : List PickWord) → IsBoard b → is_no
 picks_kept b picks board there room =
     let next = with_statement (statements.Picks picks) b in
     record {
-      some_cpu = board.some_cpu; few_cpus = board.few_cpus; small_window = board.small_window; limit = board.limit; some_log = board.some_log; small_log = board.small_log;
-      few_domains = board.few_domains; few_lines = board.few_lines; few_devices = board.few_devices; few_drivers = board.few_drivers; few_calls = board.few_calls;
+      some_cpu = board.some_cpu;
+      few_cpus = board.few_cpus;
+      small_window = board.small_window;
+      limit = board.limit;
+      some_log = board.some_log;
+      small_log = board.small_log;
+      few_domains = board.few_domains;
+      few_lines = board.few_lines;
+      few_devices = board.few_devices;
+      few_drivers = board.few_drivers;
+      few_calls = board.few_calls;
       few_picks = few_after b picks room;
       entries = board.entries;
       domains = board.domains;

@@ -1,5 +1,5 @@
 -- What has no fault after the statements before it; and that nothing is declared yet that a later section declares.
-use Rattle.std.proofs.Common.{◌≡◌, ℕ, ◌<◌, ◌≤◌, Bool, true, false, cond, Option, Some, None, List, [], ◌∷◌, nat_lt, nat_le, refl, arith}
+use Rattle.std.proofs.Common.{◌≡◌, ℕ, ◌<◌, ◌≤◌, Bool, true, false, cond, Option, Some, None, List, [], ◌∷◌, nat_lt, refl, arith}
 use Rattle.std.proofs.lemmas.Bool.{ltb-false, or_parts}
 use Rattle.board_def.specs.Seen.{BoardSeen}
 use Rattle.board_words.specs.declared.faults.FaultKind.{FaultKind}
@@ -8,7 +8,7 @@ use Rattle.board_words.specs.declared.statements.Statement.{Statement}
 use Rattle.board_words.specs.declared.statements.Statement.TheVariants as statements
 use Rattle.board_stated.specs.Sections.{section_of, section_reached}
 use Rattle.board_stated.specs.FaultsAfter.{is_misplaced, is_out_of_order, is_twice, is_not_there, has_bad_parent, has_bad_unlazy, has_bad_mask, has_bad_owner, is_one_too_many, fault_after}
-use Rattle.board_stated.specs.Sound.{IsSound, IsWellFormed}
+use Rattle.board_stated.specs.Sound.{IsSound}
 use Rattle.board_stated.specs.Stated.{with_statement, board_of}
 
 -- ---- each test of a statement without a fault fails

@@ -1,16 +1,14 @@
 -- A setting of the machine keeps the rules of boards.
-use Rattle.std.proofs.Common.{◌≡◌, ℕ, ◌+◌, ◌*◌, ◌<◌, ◌≤◌, Bool, true, false, List, [], ◌∷◌, length, refl, arith}
-use Rattle.std.specs.List.{All}
+use Rattle.std.proofs.Common.{◌≡◌, ℕ, ◌*◌, ◌≤◌, List, [], ◌∷◌, length, refl, arith}
 use Rattle.std.proofs.lemmas.List.Elements.{All-same, All-nil, All-weaker}
 use Rattle.irq_base.specs.declared.entries.Actor.{Actor}
 use Rattle.irq_base.specs.declared.entries.Actor.TheVariants as actors
 use Rattle.board_def.specs.Rules.{IsLineAfter, IsDeviceAfter, IsCallAfter, IsActorOf, IsBoard}
 use Rattle.board_def.specs.Seen.{BoardSeen}
-use Rattle.board_def.specs.declared.rows.ScriptCall.{ScriptCall}
 use Rattle.board_words.specs.declared.statements.Statement.{Statement}
 use Rattle.board_words.specs.declared.statements.Statement.TheVariants as statements
 use Rattle.board_stated.specs.Sound.{IsWellFormed, IsSound}
-use Rattle.board_stated.specs.Stated.{first_board, with_statement, board_of}
+use Rattle.board_stated.specs.Stated.{with_statement, board_of}
 use Rattle.board_stated.proofs.Ascending.{each_weaker, each_of_none}
 use Rattle.board_stated.proofs.Devices.{devices_kept}
 use Rattle.board_stated.proofs.Lines.{lines_kept}
@@ -20,9 +18,18 @@ pub cpus_kept : (b : BoardSeen) (cpus n : ℕ) → n ≤ 1 → NoneLater n b →
 cpus_kept b cpus n early none board fits =
     let next = with_statement (statements.Cpus cpus) b in
     record {
-      some_cpu = fits.0; few_cpus = fits.1;
-      small_window = board.small_window; limit = board.limit; some_log = board.some_log; small_log = board.small_log;
-      few_domains = board.few_domains; few_lines = board.few_lines; few_devices = board.few_devices; few_drivers = board.few_drivers; few_calls = board.few_calls; few_picks = board.few_picks;
+      some_cpu = fits.0;
+      few_cpus = fits.1;
+      small_window = board.small_window;
+      limit = board.limit;
+      some_log = board.some_log;
+      small_log = board.small_log;
+      few_domains = board.few_domains;
+      few_lines = board.few_lines;
+      few_devices = board.few_devices;
+      few_drivers = board.few_drivers;
+      few_calls = board.few_calls;
+      few_picks = board.few_picks;
       entries = board.entries;
       domains = board.domains;
       lines = each_of_none (IsLineAfter next) b.lines (none.lines (omega arith));
@@ -37,10 +44,18 @@ pub spurious_kept : (b : BoardSeen) (window limit n : ℕ) → n ≤ 1 → NoneL
 spurious_kept b window limit n early none board fits =
     let next = with_statement (statements.Spurious window limit) b in
     record {
-      some_cpu = board.some_cpu; few_cpus = board.few_cpus;
-      small_window = fits.0; limit = fits.1;
-      some_log = board.some_log; small_log = board.small_log;
-      few_domains = board.few_domains; few_lines = board.few_lines; few_devices = board.few_devices; few_drivers = board.few_drivers; few_calls = board.few_calls; few_picks = board.few_picks;
+      some_cpu = board.some_cpu;
+      few_cpus = board.few_cpus;
+      small_window = fits.0;
+      limit = fits.1;
+      some_log = board.some_log;
+      small_log = board.small_log;
+      few_domains = board.few_domains;
+      few_lines = board.few_lines;
+      few_devices = board.few_devices;
+      few_drivers = board.few_drivers;
+      few_calls = board.few_calls;
+      few_picks = board.few_picks;
       entries = board.entries;
       domains = board.domains;
       lines = each_of_none (IsLineAfter next) b.lines (none.lines (omega arith));
@@ -78,9 +93,18 @@ pub log_kept : (b : BoardSeen) → IsBoard (record b { log = 1 }) → (1 ≤ b.l
 log_kept b board log entries =
     let least : BoardSeen = record b { log = 1 } in
     record {
-      some_cpu = board.some_cpu; few_cpus = board.few_cpus; small_window = board.small_window; limit = board.limit;
-      some_log = log.0; small_log = log.1;
-      few_domains = board.few_domains; few_lines = board.few_lines; few_devices = board.few_devices; few_drivers = board.few_drivers; few_calls = board.few_calls; few_picks = board.few_picks;
+      some_cpu = board.some_cpu;
+      few_cpus = board.few_cpus;
+      small_window = board.small_window;
+      limit = board.limit;
+      some_log = log.0;
+      small_log = log.1;
+      few_domains = board.few_domains;
+      few_lines = board.few_lines;
+      few_devices = board.few_devices;
+      few_drivers = board.few_drivers;
+      few_calls = board.few_calls;
+      few_picks = board.few_picks;
       entries = entries;
       domains = board.domains;
       lines = lines_kept least b refl refl board.lines;

@@ -1,12 +1,12 @@
 -- A statement without a fault in itself has its numbers in their ranges, and its name is spelled as one.
-use Rattle.std.proofs.Common.{◌≡◌, ℕ, ◌-◌, ◌<◌, ◌≤◌, Bool, true, false, ◌&&◌, cond, Option, Some, None, List, [], ◌∷◌, ◌++◌, codes, drop, nat_lt, nat_le, is_some, refl, arith}
+use Rattle.std.proofs.Common.{◌≡◌, ℕ, ◌-◌, ◌≤◌, Bool, true, false, ◌&&◌, cond, Option, Some, None, List, [], ◌∷◌, ◌++◌, codes, drop, nat_lt, nat_le, is_some, refl, arith}
 use Rattle.std.proofs.lemmas.Bool.{leb-true}
 use Rattle.board_def.specs.Names.{is_name, name_of, name_bytes}
 use Rattle.board_def.proofs.NameBack.{name_back}
 use Rattle.board_words.specs.Faults.{rank, earlier, first_in_order}
 use Rattle.board_words.specs.Forms.{is, number, name, at, full, part_number, mask_number, level_kinds, device_kinds, one_of, spurious_form, parents_form, map_form, line_options, form_after, fault_of_words}
 use Rattle.board_words.specs.Spelling.{value_of, is_decimal}
-use Rattle.board_words.specs.Statements.{number_at, dev_at, line_at, device_kind, level_kind, domain_words, domain_of, line_words, picks_of, call_of, statement_after, statement_of}
+use Rattle.board_words.specs.Statements.{number_at, domain_words, domain_of, picks_of, call_of, statement_after, statement_of}
 use Rattle.board_words.specs.declared.faults.FaultKind.{FaultKind}
 use Rattle.board_words.specs.declared.faults.FaultKind.TheVariants as faults
 use Rattle.board_words.specs.declared.statements.CallWords.{CallWords}
@@ -14,8 +14,6 @@ use Rattle.board_words.specs.declared.statements.PickWord.{PickWord}
 use Rattle.board_words.specs.declared.statements.Statement.{Statement}
 use Rattle.board_words.specs.declared.statements.Statement.TheVariants as statements
 use Rattle.irq_base.specs.declared.domains.MapKind.TheVariants as maps
-use Rattle.irq_base.specs.declared.numbers.DevNo.{DevNo}
-use Rattle.irq_base.specs.declared.numbers.LineNo.{LineNo}
 use Rattle.board_stated.specs.Sound.{IsWellFormed}
 
 -- ---- a list of faults without a first one is empty
