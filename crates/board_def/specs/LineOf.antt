@@ -1,0 +1,40 @@
+-- The definition of a board's line.
+use Rattle.std.specs.Prelude.{◌==◌, Option, Some, None, List, [], ◌∷◌, map, filter, if◌then◌else◌}
+use Rattle.irq_base.specs.declared.lines.LineDef.{LineDef}
+use Rattle.irq_base.specs.declared.numbers.LineNo.{LineNo}
+use Rattle.irq_base.specs.declared.calls.Call.{Call}
+use Rattle.irq_base.specs.declared.numbers.DriverNo.{DriverNo}
+use Rattle.board_def.specs.Levels.{kinds_from, root_kind, trigger_of_root, flow_of_root, keeps, recalls, retriggers}
+use Rattle.board_def.specs.Seen.{BoardSeen}
+use Rattle.board_def.specs.declared.rows.LineRow.{LineRow}
+use Rattle.board_def.specs.declared.rows.ScriptCall.{ScriptCall}
+
+abbrev pub find_line : List LineRow → LineNo → Option LineRow
+find_line [] line = None
+find_line (row ∷ rows) line = if row.line.0 == line.0 then Some row else find_line rows line
+
+abbrev pub with_driver : ScriptCall → DriverNo × Call
+with_driver c = (c.driver, c.call)
+
+-- The trigger and the flow come of the root, and what the chip can do of all levels. The line has its devices and
+-- the calls about it, in the board's order.
+abbrev pub line_of_row : BoardSeen → LineRow → LineDef
+line_of_row b row =
+    let kinds = kinds_from b.domains (Some row.domain) in
+    record {
+      line = row.line;
+      flow = flow_of_root (root_kind kinds);
+      trigger = trigger_of_root (root_kind kinds);
+      keeps = keeps kinds;
+      recalls = recalls kinds;
+      retriggers = retriggers kinds;
+      unlazy = row.unlazy;
+      later = row.later;
+      mask = row.mask;
+      cpus = b.cpus;
+      window = b.window;
+      limit = b.limit;
+      log = b.log;
+      devices = filter (λ x. x.line.0 == row.line.0) b.devices;
+      calls = map with_driver (filter (λ c. c.line.0 == row.line.0) b.calls);
+    }

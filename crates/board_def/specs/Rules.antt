@@ -1,0 +1,182 @@
+-- The rules that a board keeps. Each row is allowed after those before it.
+use Rattle.std.specs.Prelude.{◌≡◌, ℕ, ◌*◌, ◌<◌, ◌≤◌, Bool, true, false, not, ◌&&◌, ◌||◌, ◌==◌, nat_le, IsSome, IfSome, Option, Some, None, List, [], ◌∷◌, length, reverse, take, slice_get, if◌then◌else◌, All}
+use Rattle.std.specs.List.{list_any}
+use Rattle.irq_base.specs.Cell.{is_edge_trigger}
+use Rattle.irq_base.specs.Handlers.{has_thread}
+use Rattle.irq_base.specs.declared.calls.Call.{Call}
+use Rattle.irq_base.specs.declared.calls.Call.TheVariants as calls
+use Rattle.irq_base.specs.declared.devices.DeviceDef.{DeviceDef}
+use Rattle.irq_base.specs.declared.domains.LevelKind.{LevelKind}
+use Rattle.irq_base.specs.declared.domains.LevelKind.TheVariants as levels
+use Rattle.irq_base.specs.declared.domains.MapKind.{MapKind}
+use Rattle.irq_base.specs.declared.domains.MapKind.TheVariants as maps
+use Rattle.irq_base.specs.declared.entries.Actor.{Actor}
+use Rattle.irq_base.specs.declared.entries.Actor.TheVariants as actors
+use Rattle.irq_base.specs.declared.numbers.DevNo.{DevNo}
+use Rattle.irq_base.specs.declared.numbers.DriverNo.{DriverNo}
+use Rattle.irq_base.specs.declared.numbers.LineNo.{LineNo}
+use Rattle.irq_model.specs.Kinds.{same_dev}
+use Rattle.irq_model.specs.Signal.{lowest_in}
+use Rattle.irq_model.specs.Valid.{requests_dev, frees_dev}
+use Rattle.board_def.specs.Names.{is_name, name_bytes, same_name}
+use Rattle.board_def.specs.Levels.{most_levels, way, kinds_from, root_kind, is_root_kind, presents_level_kind, trigger_of_root, keeps}
+use Rattle.board_def.specs.Seen.{BoardSeen}
+use Rattle.board_def.specs.declared.names.Name.{Name}
+use Rattle.board_def.specs.declared.rows.DomainRow.{DomainRow}
+use Rattle.board_def.specs.declared.rows.LineRow.{LineRow}
+use Rattle.board_def.specs.declared.rows.ScriptCall.{ScriptCall}
+
+-- each item meets P after those before it
+abbrev pub EachAfter : {A : Type 0} → (List A → A → Type 0) → List A → Type 0
+EachAfter {A} P items = (i : ℕ) (x : A) → slice_get items i ≡ Some x → P (take i items) x
+
+-- the number of a line, a device or a driver
+abbrev pub IsNumber : ℕ → Type 0
+IsNumber n = (1 ≤ n) × (n ≤ 65535)
+
+-- what a board declares
+
+abbrev pub is_domain_named : Name → DomainRow → Bool
+is_domain_named name row = same_name name row.name
+
+abbrev pub has_name : List DomainRow → Name → Bool
+has_name domains name = list_any (is_domain_named name) domains
+
+abbrev pub has_line : List LineRow → LineNo → Bool
+has_line lines line = list_any (λ row. row.line.0 == line.0) lines
+
+abbrev pub find_device : List DeviceDef → DevNo → Option DeviceDef
+find_device [] dev = None
+find_device (x ∷ xs) dev = if same_dev dev x.dev then Some x else find_device xs dev
+
+abbrev pub has_driver : List DriverNo → DriverNo → Bool
+has_driver drivers driver = list_any (λ d. d.0 == driver.0) drivers
+
+-- domains
+
+abbrev pub is_msi : LevelKind → Bool
+is_msi levels.Msi = true
+is_msi _ = false
+
+-- A root has no parent, a child has one; messages are sent as edges; and a path has at most eight levels.
+abbrev pub is_bad_parent : List DomainRow → LevelKind → Option ℕ → Bool
+is_bad_parent earlier kind None = not (is_root_kind kind)
+is_bad_parent earlier kind (Some parent) =
+    is_root_kind kind || ((is_msi kind && presents_level_kind (root_kind (kinds_from earlier (Some parent)))) || nat_le most_levels (length (way most_levels earlier (Some parent))))
+
+abbrev pub IsSize : MapKind → Type 0
+IsSize (maps.Linear size) = (1 ≤ size) × (size ≤ 1024)
+IsSize maps.Tree = Unit {0}
+
+pub record IsDomainAfter (earlier : List DomainRow) (row : DomainRow) : Type 0 where
+  pub spelled : is_name (name_bytes row.name) ≡ true
+  pub new : has_name earlier row.name ≡ false
+  pub size : IsSize row.def.map
+  pub declared : IfSome row.def.parent (λ parent. parent < length earlier)
+  pub parent : is_bad_parent earlier row.def.chip row.def.parent ≡ false
+
+-- lines
+
+-- an edge line that is masked as soon as it is disabled needs a level that keeps what comes then
+abbrev pub is_bad_unlazy : List DomainRow → ℕ → Bool → Bool
+is_bad_unlazy domains domain unlazy =
+    unlazy && (is_edge_trigger (trigger_of_root (root_kind (kinds_from domains (Some domain)))) && not (keeps (kinds_from domains (Some domain))))
+
+pub record IsLineAfter (b : BoardSeen) (earlier : List LineRow) (row : LineRow) : Type 0 where
+  pub number : IsNumber row.line.0
+  pub rises : All (λ e. e.line.0 < row.line.0) earlier
+  pub domain : row.domain < length b.domains
+  pub unlazy : is_bad_unlazy b.domains row.domain row.unlazy ≡ false
+  -- the mask has a processor of the machine
+  pub mask : IsSome (lowest_in b.cpus row.mask)
+
+-- devices and drivers
+
+pub record IsDeviceAfter (b : BoardSeen) (earlier : List DeviceDef) (device : DeviceDef) : Type 0 where
+  pub number : IsNumber device.dev.0
+  pub rises : All (λ e. e.dev.0 < device.dev.0) earlier
+  pub line : has_line b.lines device.line ≡ true
+
+pub record IsDriverAfter (earlier : List DriverNo) (driver : DriverNo) : Type 0 where
+  pub number : IsNumber driver.0
+  pub rises : All (λ e. e.0 < driver.0) earlier
+
+-- calls
+
+abbrev pub is_owning : DevNo → ScriptCall → Bool
+is_owning dev c = requests_dev dev c.call || frees_dev dev c.call
+
+-- the first request or free of the device
+abbrev pub first_owning : DevNo → List ScriptCall → Option ScriptCall
+first_owning dev [] = None
+first_owning dev (c ∷ cs) = if is_owning dev c then Some c else first_owning dev cs
+
+abbrev pub is_of_another : DriverNo → Option ScriptCall → Bool
+is_of_another driver (Some c) = not (c.driver.0 == driver.0)
+is_of_another driver None = false
+
+abbrev pub is_a_request : DevNo → Option ScriptCall → Bool
+is_a_request dev (Some c) = requests_dev dev c.call
+is_a_request dev None = false
+
+-- The requests and frees of a device are all of the driver that made the first, and between two requests stands
+-- a free.
+abbrev pub is_bad_owner : List ScriptCall → DriverNo → Call → Bool
+is_bad_owner earlier driver (calls.Request dev flags) =
+    is_of_another driver (first_owning dev earlier) || is_a_request dev (first_owning dev (reverse earlier))
+is_bad_owner earlier driver (calls.Free dev) = is_of_another driver (first_owning dev earlier)
+is_bad_owner earlier driver _ = false
+
+abbrev pub is_on_line : LineNo → Option DeviceDef → Bool
+is_on_line line (Some x) = x.line.0 == line.0
+is_on_line line None = false
+
+-- the device of a call is one of the line; no time is handed in
+abbrev pub fits_line : List DeviceDef → LineNo → Call → Bool
+fits_line devices line (calls.Ask dev) = is_on_line line (find_device devices dev)
+fits_line devices line (calls.Request dev flags) = is_on_line line (find_device devices dev)
+fits_line devices line (calls.Free dev) = is_on_line line (find_device devices dev)
+fits_line devices line (calls.Moment at) = false
+fits_line devices line _ = true
+
+pub record IsCallAfter (b : BoardSeen) (earlier : List ScriptCall) (c : ScriptCall) : Type 0 where
+  pub driver : has_driver b.drivers c.driver ≡ true
+  -- the scripts stand one after another
+  pub in_order : All (λ e. e.driver.0 ≤ c.driver.0) earlier
+  pub line : has_line b.lines c.line ≡ true
+  pub device : fits_line b.devices c.line c.call ≡ true
+  pub owner : is_bad_owner earlier c.driver c.call ≡ false
+
+-- picks
+
+abbrev pub is_threaded_on : LineNo → Option DeviceDef → Bool
+is_threaded_on line (Some x) = has_thread x.kind && (x.line.0 == line.0)
+is_threaded_on line None = false
+
+-- the actor is there: a device's thread on its line, a processor, or a driver
+abbrev pub IsActorOf : BoardSeen → Actor → Type 0
+IsActorOf b (actors.Thread line dev) = is_threaded_on line (find_device b.devices dev) ≡ true
+IsActorOf b (actors.Cpu cpu) = cpu.0 < b.cpus
+IsActorOf b (actors.Driver driver) = has_driver b.drivers driver ≡ true
+
+pub record IsBoard (b : BoardSeen) : Type 0 where
+  pub some_cpu : 1 ≤ b.cpus
+  pub few_cpus : b.cpus ≤ 32
+  pub small_window : b.window ≤ 1000000
+  pub limit : b.limit < b.window
+  pub some_log : 1 ≤ b.log
+  pub small_log : b.log ≤ 1000000
+  pub few_domains : length b.domains ≤ 32
+  pub few_lines : length b.lines ≤ 64
+  pub few_devices : length b.devices ≤ 256
+  pub few_drivers : length b.drivers ≤ 64
+  pub few_calls : length b.calls ≤ 16384
+  pub few_picks : length b.picks ≤ 65536
+  -- all histories together
+  pub entries : b.log * length b.lines ≤ 4000000
+  pub domains : EachAfter IsDomainAfter b.domains
+  pub lines : EachAfter (IsLineAfter b) b.lines
+  pub devices : EachAfter (IsDeviceAfter b) b.devices
+  pub drivers : EachAfter IsDriverAfter b.drivers
+  pub calls : EachAfter (IsCallAfter b) b.calls
+  pub picks : All (IsActorOf b) b.picks

@@ -1,0 +1,13 @@
+//! Boards: the processors, domains, lines and devices of a modelled machine, and its drivers' scripts.
+//!
+//! A `Board` keeps the rules that a text without a fault meets, and gives the definition of each of its lines.
+//! What a line gets at each level of its path, and which line is refused, is its layout.
+#![tactic(auto)]
+
+pub mod layouts;
+pub mod names;
+pub mod rows;
+
+pub use layouts::{Layout, Placement, Unmapped};
+pub use names::{LONGEST_NAME, Name};
+pub use rows::{DomainRow, LineRow, ScriptCall};

@@ -1,0 +1,7 @@
+pub mod Sections
+pub mod Stated
+pub mod FaultsAfter
+pub mod BuiltSoFar
+pub mod TextOf
+pub mod Sound
+pub mod BuiltBoard

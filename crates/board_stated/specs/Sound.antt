@@ -1,0 +1,30 @@
+-- What holds of statements that have no fault.
+use Rattle.std.specs.Prelude.{◌≡◌, ◌<◌, ◌≤◌, true, None, List, [], ◌∷◌}
+use Rattle.board_def.specs.Names.{is_name, name_bytes}
+use Rattle.board_def.specs.Rules.{IsNumber, IsSize}
+use Rattle.board_def.specs.Seen.{BoardSeen}
+use Rattle.board_words.specs.declared.statements.Statement.{Statement}
+use Rattle.board_words.specs.declared.statements.Statement.TheVariants as statements
+use Rattle.board_stated.specs.FaultsAfter.{fault_after}
+use Rattle.board_stated.specs.Stated.{board_of}
+
+-- its numbers are in their ranges, and its name is spelled as one
+abbrev pub IsWellFormed : Statement → Type 0
+IsWellFormed (statements.Cpus cpus) = (1 ≤ cpus) × (cpus ≤ 32)
+IsWellFormed (statements.Spurious window limit) = (window ≤ 1000000) × (limit < window)
+IsWellFormed (statements.Log log) = (1 ≤ log) × (log ≤ 1000000)
+IsWellFormed (statements.Domain d) = (is_name (name_bytes d.name) ≡ true) × IsSize d.map
+IsWellFormed (statements.Line l) = IsNumber l.line.0
+IsWellFormed (statements.Device dev line kind) = IsNumber dev.0
+IsWellFormed (statements.Driver driver) = IsNumber driver.0
+IsWellFormed _ = Unit {0}
+
+-- the statements, the newest first: none has a fault, in itself or after those before it
+abbrev pub IsSound : List Statement → Type 0
+IsSound [] = Unit {0}
+IsSound (s ∷ past) = IsSound past × IsWellFormed s × (fault_after past s ≡ None)
+
+-- The board so far. Its log limit is the least one until the text has ended, since the rule on the log limit counts
+-- the lines of the whole text.
+abbrev pub draft_of : List Statement → BoardSeen
+draft_of past = record (board_of past) { log = 1 }

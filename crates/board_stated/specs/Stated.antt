@@ -1,0 +1,125 @@
+-- The board that statements state, the newest one first: each adds its own row.
+use Rattle.std.specs.Prelude.{ℕ, ◌+◌, ◌-◌, ◌^◌, if◌then◌else◌, Option, Some, None, List, [], ◌∷◌, ◌++◌, replicate}
+use Rattle.std.specs.List.{flat_map}
+use Rattle.irq_base.specs.declared.calls.Call.{Call}
+use Rattle.irq_base.specs.declared.calls.Call.TheVariants as calls
+use Rattle.irq_base.specs.declared.devices.DeviceDef.{DeviceDef}
+use Rattle.irq_base.specs.declared.entries.Actor.{Actor}
+use Rattle.irq_base.specs.declared.entries.Actor.TheVariants as actors
+use Rattle.irq_base.specs.declared.numbers.DevNo.{DevNo}
+use Rattle.irq_base.specs.declared.numbers.DriverNo.{DriverNo}
+use Rattle.irq_base.specs.declared.numbers.LineNo.{LineNo}
+use Rattle.board_def.specs.Rules.{is_domain_named, find_device}
+use Rattle.board_def.specs.Seen.{BoardSeen}
+use Rattle.board_def.specs.declared.names.Name.{Name}
+use Rattle.board_def.specs.declared.rows.DomainRow.{DomainRow}
+use Rattle.board_def.specs.declared.rows.LineRow.{LineRow}
+use Rattle.board_def.specs.declared.rows.ScriptCall.{ScriptCall}
+use Rattle.board_words.specs.declared.statements.CallWords.{CallWords}
+use Rattle.board_words.specs.declared.statements.CallWords.TheVariants as words
+use Rattle.board_words.specs.declared.statements.DomainWords.{DomainWords}
+use Rattle.board_words.specs.declared.statements.LineWords.{LineWords}
+use Rattle.board_words.specs.declared.statements.Picked.{Picked}
+use Rattle.board_words.specs.declared.statements.Picked.TheVariants as picked
+use Rattle.board_words.specs.declared.statements.PickWord.{PickWord}
+use Rattle.board_words.specs.declared.statements.Statement.{Statement}
+use Rattle.board_words.specs.declared.statements.Statement.TheVariants as statements
+
+-- one processor, the default window and limit, the default log limit, and nothing declared
+abbrev pub first_board : BoardSeen
+first_board = record { cpus = 1; window = 100000; limit = 99900; log = 10000; domains = []; lines = []; devices = []; drivers = []; calls = []; picks = [] }
+
+abbrev pub one_on : Option ℕ → Option ℕ
+one_on (Some n) = Some (n + 1)
+one_on None = None
+
+-- the place of the domain of that name
+abbrev pub place_of_name : List DomainRow → Name → Option ℕ
+place_of_name [] name = None
+place_of_name (row ∷ rows) name = if is_domain_named name row then Some 0 else one_on (place_of_name rows name)
+
+abbrev pub place_or_first : Option ℕ → ℕ
+place_or_first (Some place) = place
+place_or_first None = 0
+
+abbrev pub parent_place : List DomainRow → Option Name → Option ℕ
+parent_place domains (Some name) = place_of_name domains name
+parent_place domains None = None
+
+abbrev pub domain_row : List DomainRow → DomainWords → DomainRow
+domain_row domains d = record { name = d.name; def = record { map = d.map; chip = d.chip; parent = parent_place domains d.parent } }
+
+-- the mask of all processors
+abbrev pub all_processors : ℕ → ℕ
+all_processors cpus = 2 ^ cpus - 1
+
+abbrev pub mask_or_all : ℕ → Option ℕ → ℕ
+mask_or_all cpus (Some mask) = mask
+mask_or_all cpus None = all_processors cpus
+
+abbrev pub line_row : BoardSeen → LineWords → LineRow
+line_row b l = record { line = l.line; domain = place_or_first (place_of_name b.domains l.domain); hw = l.hw; unlazy = l.unlazy; later = l.later; mask = mask_or_all b.cpus l.mask }
+
+-- the driver whose script is written: the last one declared
+abbrev pub last_driver : List DriverNo → DriverNo
+last_driver [] = record { 0 = 0 }
+last_driver (d ∷ []) = d
+last_driver (d ∷ e ∷ ds) = last_driver (e ∷ ds)
+
+abbrev pub line_or_none : Option DeviceDef → LineNo
+line_or_none (Some x) = x.line
+line_or_none None = record { 0 = 0 }
+
+abbrev pub line_of_device : List DeviceDef → DevNo → LineNo
+line_of_device devices dev = line_or_none (find_device devices dev)
+
+-- the line that a call is about
+abbrev pub line_of_call : List DeviceDef → CallWords → LineNo
+line_of_call devices (words.Request dev flags twice) = line_of_device devices dev
+line_of_call devices (words.Free dev) = line_of_device devices dev
+line_of_call devices (words.Ask dev) = line_of_device devices dev
+line_of_call devices (words.Disable line) = line
+line_of_call devices (words.DisableNosync line) = line
+line_of_call devices (words.Enable line) = line
+line_of_call devices (words.Sync line) = line
+line_of_call devices (words.Affinity line mask) = line
+
+abbrev pub call_of_words : CallWords → Call
+call_of_words (words.Request dev flags twice) = calls.Request dev flags
+call_of_words (words.Free dev) = calls.Free dev
+call_of_words (words.Ask dev) = calls.Ask dev
+call_of_words (words.Disable line) = calls.Disable
+call_of_words (words.DisableNosync line) = calls.DisableNosync
+call_of_words (words.Enable line) = calls.Enable
+call_of_words (words.Sync line) = calls.Sync
+call_of_words (words.Affinity line mask) = calls.Affinity mask
+
+abbrev pub script_call : BoardSeen → CallWords → ScriptCall
+script_call b c = record { driver = last_driver b.drivers; line = line_of_call b.devices c; call = call_of_words c }
+
+abbrev pub actor_picked : List DeviceDef → Picked → Actor
+actor_picked devices (picked.Thread dev) = actors.Thread (line_of_device devices dev) dev
+actor_picked devices (picked.Cpu cpu) = actors.Cpu cpu
+actor_picked devices (picked.Driver driver) = actors.Driver driver
+
+-- so many picks of the one actor
+abbrev pub actors_picked : List DeviceDef → PickWord → List Actor
+actors_picked devices p = replicate p.times (actor_picked devices p.who)
+
+-- what a statement adds
+abbrev pub with_statement : Statement → BoardSeen → BoardSeen
+with_statement statements.Board b = b
+with_statement (statements.Cpus cpus) b = record b { cpus = cpus }
+with_statement (statements.Spurious window limit) b = record b { window = window; limit = limit }
+with_statement (statements.Log log) b = record b { log = log }
+with_statement (statements.Domain d) b = record b { domains = b.domains ++ domain_row b.domains d ∷ [] }
+with_statement (statements.Line l) b = record b { lines = b.lines ++ line_row b l ∷ [] }
+with_statement (statements.Device dev line kind) b = record b { devices = b.devices ++ record { dev = dev; line = line; kind = kind } ∷ [] }
+with_statement (statements.Driver driver) b = record b { drivers = b.drivers ++ driver ∷ [] }
+with_statement (statements.Call c) b = record b { calls = b.calls ++ script_call b c ∷ [] }
+with_statement (statements.Picks picks) b = record b { picks = b.picks ++ flat_map (actors_picked b.devices) picks }
+
+-- the board that the statements state
+abbrev pub board_of : List Statement → BoardSeen
+board_of [] = first_board
+board_of (s ∷ past) = with_statement s (board_of past)

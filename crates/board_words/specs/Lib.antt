@@ -1,0 +1,5 @@
+pub mod Lines
+pub mod Spelling
+pub mod Faults
+pub mod Forms
+pub mod Statements

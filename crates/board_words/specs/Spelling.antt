@@ -1,0 +1,68 @@
+-- How numbers and picks are spelled.
+use Rattle.std.specs.Prelude.{ℕ, ◌+◌, ◌-◌, ◌*◌, Bool, false, not, ◌&&◌, ◌==◌, nat_le, nat_lt, if◌then◌else◌, Option, Some, None, List, [], ◌∷◌, length}
+use Rattle.std.specs.List.{list_all}
+use Rattle.board_def.specs.Names.{is_digit}
+use Rattle.board_words.specs.declared.statements.Picked.{Picked}
+use Rattle.board_words.specs.declared.statements.Picked.TheVariants as picked
+use Rattle.board_words.specs.declared.statements.PickWord.{PickWord}
+
+-- the number that n and then the digits spell
+abbrev pub value_after : ℕ → List ℕ → ℕ
+value_after n [] = n
+value_after n (b ∷ bs) = value_after (10 * n + (b - 48)) bs
+
+abbrev pub value_of : List ℕ → ℕ
+value_of word = value_after 0 word
+
+abbrev pub begins_with_zero : List ℕ → Bool
+begins_with_zero [] = false
+begins_with_zero (b ∷ bs) = b == 48
+
+-- 1 to 10 digits without a leading zero
+abbrev pub is_decimal : List ℕ → Bool
+is_decimal word =
+    (list_all is_digit word && (nat_le 1 (length word) && nat_le (length word) 10)) && not (begins_with_zero word && nat_lt 1 (length word))
+
+-- the number in that range that the word spells
+abbrev pub number_between : ℕ → ℕ → List ℕ → Option ℕ
+number_between low high word =
+    if is_decimal word && (nat_le low (value_of word) && nat_le (value_of word) high) then Some (value_of word) else None
+
+abbrev pub is_star : ℕ → Bool
+is_star b = b == 42
+
+-- what stands before the first `*`
+abbrev pub before_star : List ℕ → List ℕ
+before_star [] = []
+before_star (b ∷ bs) = if is_star b then [] else b ∷ before_star bs
+
+-- what stands after the first `*`
+abbrev pub after_star : List ℕ → Option (List ℕ)
+after_star [] = None
+after_star (b ∷ bs) = if is_star b then Some bs else after_star bs
+
+-- so many picks: one where no number is told
+abbrev pub times_of : Option (List ℕ) → Option ℕ
+times_of None = Some 1
+times_of (Some word) = number_between 1 65535 word
+
+abbrev pub numbered : (ℕ → Picked) → Option ℕ → Option Picked
+numbered which (Some n) = Some (which n)
+numbered which None = None
+
+-- `t` and a device's number, `c` and a processor's, `d` and a driver's
+abbrev pub picked_of : List ℕ → Option Picked
+picked_of [] = None
+picked_of (b ∷ bs) =
+    if b == 116 then numbered (λ n. picked.Thread (record { 0 = n })) (number_between 1 65535 bs)
+    else if b == 99 then numbered (λ n. picked.Cpu (record { 0 = n })) (number_between 0 31 bs)
+    else if b == 100 then numbered (λ n. picked.Driver (record { 0 = n })) (number_between 1 65535 bs)
+    else None
+
+abbrev pub both_of : Option Picked → Option ℕ → Option PickWord
+both_of (Some who) (Some times) = Some (record { who = who; times = times })
+both_of _ _ = None
+
+-- the pick that the word spells
+abbrev pub pick_of : List ℕ → Option PickWord
+pick_of word = both_of (picked_of (before_star word)) (times_of (after_star word))

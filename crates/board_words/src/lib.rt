@@ -1,0 +1,13 @@
+//! The words of a board's text: its text lines, the words of each, and the statement that they make.
+//!
+//! What is wrong with a statement in itself is found here. What a statement is to the statements before it, as a
+//! number that doesn't rise or a name that isn't declared, is not.
+#![tactic(auto)]
+
+pub mod faults;
+pub mod statements;
+
+pub use faults::FaultKind;
+pub use statements::{
+    CallWords, DomainWords, LineWords, PickList, PickWord, Picked, Statement, StatementRefused,
+};

@@ -1,0 +1,148 @@
+//! Statements: what the words of a text line say.
+use crate::faults::FaultKind;
+use board_def::Name;
+use irq_base::{
+    CpuNo, DevNo, DriverNo, Flags, ItemList, Kind, LevelKind, LineNo, MapKind, NoMemory,
+};
+use thiserror::Error;
+
+/// A `domain` statement.
+#[derive(Clone, Copy, PartialEq, Eq)]
+pub struct DomainWords {
+    /// Its name.
+    pub name: Name,
+    /// How it maps hardware numbers.
+    pub map: MapKind,
+    /// What its controllers do with the signal.
+    pub chip: LevelKind,
+    /// The name of its parent; the first one where `parent` stands again.
+    pub parent: Option<Name>,
+    /// `parent` stands again.
+    pub twice: bool,
+}
+
+/// A `line` statement.
+#[derive(Clone, Copy, PartialEq, Eq)]
+pub struct LineWords {
+    /// Its number.
+    pub line: LineNo,
+    /// The name of its domain.
+    pub domain: Name,
+    /// Its hardware number there.
+    pub hw: u32,
+    /// `unlazy` stands.
+    pub unlazy: bool,
+    /// `later` stands.
+    pub later: bool,
+    /// The number after `mask`, where it stands; the first one where it stands again.
+    pub mask: Option<u32>,
+    /// An option stands again.
+    pub twice: bool,
+}
+
+/// A call of a script, and the device or line that it names.
+#[derive(Clone, Copy, PartialEq, Eq)]
+pub enum CallWords {
+    /// `request`; `twice` where a flag stands again.
+    Request {
+        dev: DevNo,
+        flags: Flags,
+        twice: bool,
+    },
+    /// `free`.
+    Free {
+        dev: DevNo,
+    },
+    /// `ask`.
+    Ask {
+        dev: DevNo,
+    },
+    /// `disable`.
+    Disable {
+        line: LineNo,
+    },
+    /// `disable_nosync`.
+    DisableNosync {
+        line: LineNo,
+    },
+    /// `enable`.
+    Enable {
+        line: LineNo,
+    },
+    /// `sync`.
+    Sync {
+        line: LineNo,
+    },
+    /// `affinity`: bit c of the mask stands for processor c.
+    Affinity {
+        line: LineNo,
+        mask: u32,
+    },
+}
+
+/// Whose step a pick is.
+#[derive(Clone, Copy, PartialEq, Eq)]
+pub enum Picked {
+    /// The thread of a device.
+    Thread(DevNo),
+    /// A processor.
+    Cpu(CpuNo),
+    /// A driver.
+    Driver(DriverNo),
+}
+
+/// One word of a `picks` statement.
+#[derive(Clone, Copy, PartialEq, Eq)]
+pub struct PickWord {
+    /// Whose steps they are.
+    pub who: Picked,
+    /// How many, 1 to 65,535.
+    pub times: u32,
+}
+
+/// The words of a `picks` statement.
+pub type PickList = ItemList<PickWord>;
+
+/// What one text line says.
+#[derive(Drop)]
+pub enum Statement {
+    /// `board 1`.
+    Board,
+    /// `cpus`: the number of processors, 1 to 32.
+    Cpus(u32),
+    /// `spurious`: how many interrupts of a line are counted before the unhandled ones are judged, and how many may
+    /// be unhandled.
+    Spurious {
+        window: u32,
+        limit: u32,
+    },
+    /// `log`: the greatest length of a line's history, 1 to 1,000,000.
+    Log(u32),
+    /// `domain`.
+    Domain(DomainWords),
+    /// `line`.
+    Line(LineWords),
+    /// `device`.
+    Device {
+        dev: DevNo,
+        line: LineNo,
+        kind: Kind,
+    },
+    /// `driver`.
+    Driver(DriverNo),
+    /// A call of the last driver before it.
+    Call(CallWords),
+    /// `picks`.
+    Picks(PickList),
+}
+
+/// Why the words make no statement.
+#[derive(Clone, Copy, Debug, PartialEq, Eq, Error)]
+pub enum StatementRefused {
+    /// The first fault of the words.
+    #[error("{0}")]
+    Fault(FaultKind),
+    /// Memory was wanted for the picks, and refused.
+    #[error("out of memory")]
+    NoMemory,
+}
