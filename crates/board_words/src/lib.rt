@@ -5,9 +5,15 @@
 #![tactic(auto)]
 
 pub mod faults;
+pub mod lines;
+pub mod spelling;
 pub mod statements;
+pub mod words;
 
 pub use faults::FaultKind;
+pub use lines::{Lines, has_bad_byte};
+pub use spelling::{name, number, pick};
 pub use statements::{
     CallWords, DomainWords, LineWords, PickList, PickWord, Picked, Statement, StatementRefused,
 };
+pub use words::Words;
