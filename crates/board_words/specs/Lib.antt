@@ -5,3 +5,4 @@ pub mod Faults
 pub mod Forms
 pub mod Statements
 pub mod Seen
+pub mod Places

@@ -5,7 +5,9 @@
 #![tactic(auto)]
 
 pub mod faults;
+mod kinds;
 pub mod lines;
+mod places;
 pub mod spelling;
 pub mod statements;
 pub mod words;
