@@ -1,3 +1,4 @@
 pub mod Texts
 pub mod Spelled
 pub mod Standing
+pub mod Order

@@ -6,3 +6,4 @@ pub mod Forms
 pub mod Statements
 pub mod Seen
 pub mod Places
+pub mod Keywords

@@ -5,8 +5,10 @@
 #![tactic(auto)]
 
 pub mod faults;
+mod keywords;
 mod kinds;
 pub mod lines;
+mod parts;
 mod places;
 pub mod spelling;
 pub mod statements;
