@@ -2,3 +2,4 @@ pub mod Texts
 pub mod Spelled
 pub mod Standing
 pub mod Order
+pub mod Walks

@@ -1,7 +1,11 @@
 -- What is wrong at the places of a form, one after another.
-use Rattle.std.specs.Prelude.{◌≡◌, ℕ, Option, Some, None, List, [], ◌∷◌, drop, Result, Ok, Err}
+use Rattle.std.specs.Prelude.{◌≡◌, ℕ, if◌then◌else◌, Option, Some, None, List, [], ◌∷◌, codes, drop, get_or, Result, Ok, Err}
+use Rattle.irq_base.specs.declared.domains.MapKind.{MapKind}
+use Rattle.irq_base.specs.declared.domains.MapKind.TheVariants as maps
 use Rattle.board_words.specs.Faults.{earlier, first_in_order}
+use Rattle.board_words.specs.Forms.{is}
 use Rattle.board_words.specs.Seen.{words_left}
+use Rattle.board_words.specs.Statements.{number_at}
 use Rattle.board_words.specs.declared.faults.FaultKind.{FaultKind}
 use Rattle.board_words.specs.declared.faults.FaultKind.TheVariants as faults
 use Rattle.board_words.specs.declared.places.Places.{Places}
@@ -29,3 +33,15 @@ in_all places form = both places.found (first_in_order (form (words_left places.
 abbrev pub outcome : {A : Type 0} → Option FaultKind → A → Result A FaultKind
 outcome None value = Ok value
 outcome (Some kind) value = Err kind
+
+-- the words of a line's options
+abbrev pub option_texts : List (List ℕ)
+option_texts = codes "mask" ∷ codes "unlazy" ∷ codes "later" ∷ []
+
+-- the words begin with the way in which a domain maps numbers
+abbrev pub map_kind : List (List ℕ) → MapKind
+map_kind words = if is (get_or words 0 []) (codes "linear") then maps.Linear (number_at 1 words) else maps.Tree
+
+-- what follows it
+abbrev pub after_map : List (List ℕ) → List (List ℕ)
+after_map words = if is (get_or words 0 []) (codes "linear") then drop 2 words else drop 1 words

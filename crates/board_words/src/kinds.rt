@@ -1,7 +1,8 @@
 //! The words for kinds of levels and devices.
 ghost use Rattle.std.specs.Prelude.{◌≡◌, true, false, MatchOption};
 ghost use Rattle.std.specs.List.{list_any};
-ghost use Rattle.board_words.specs.Forms.{is, level_kinds, device_kinds};
+ghost use Rattle.board_words.specs.Forms.{is, level_kinds, device_kinds, request_flags};
+ghost use Rattle.board_words.specs.Places.{option_texts};
 ghost use Rattle.board_words.specs.Statements as said;
 
 use crate::words::is;
@@ -52,4 +53,18 @@ pub(crate) fn device_kind(word: &[u8]) -> Option<Kind>
         return Some(Kind::Stuck);
     }
     None
+}
+
+/// Whether the word is an option of a line.
+pub(crate) fn is_option(word: &[u8]) -> bool
+    ensures { result ≡ list_any (is word.now) option_texts }
+{
+    is(word, b"mask") || is(word, b"unlazy") || is(word, b"later")
+}
+
+/// Whether the word is a flag of a request.
+pub(crate) fn is_flag(word: &[u8]) -> bool
+    ensures { result ≡ list_any (is word.now) request_flags }
+{
+    is(word, b"shared") || is(word, b"oneshot") || is(word, b"noauto")
 }

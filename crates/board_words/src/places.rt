@@ -1,11 +1,12 @@
 //! The places of a statement's form.
-ghost use Rattle.std.specs.Prelude.{◌≡◌, ℕ, Some, None, [], ◌∷◌, codes, drop, get_or, if◌then◌else◌};
+ghost use Rattle.std.specs.Prelude.{◌≡◌, ℕ, ◌<◌, false, Some, None, [], ◌∷◌, codes, length, drop, get_or};
+ghost use Rattle.std.specs.List.{flat_map};
+ghost use Rattle.std.specs.Option.{option_or};
 ghost use Rattle.board_def.specs.declared.names.Name.{Name};
-ghost use Rattle.irq_base.specs.declared.domains.MapKind.TheVariants as maps;
 ghost use Rattle.board_words.specs.Faults.{rank, earlier, first_in_order};
 ghost use Rattle.board_words.specs.Forms as forms;
-ghost use Rattle.board_words.specs.Places.{both, in_all, outcome, Takes};
-ghost use Rattle.board_words.specs.Seen.{words_left};
+ghost use Rattle.board_words.specs.Places.{both, in_all, outcome, Takes, map_kind, after_map, option_texts};
+ghost use Rattle.board_words.specs.Seen.{words_left, are_none};
 ghost use Rattle.board_words.specs.Statements as said;
 
 use crate::faults::FaultKind;
@@ -131,6 +132,114 @@ impl<'a> Places<'a> {
         match self.words.next() {
             Some(word) => {
                 if !is(word, text) {
+                    self.note(FaultKind::UnknownWord);
+                }
+            }
+            None => self.note(FaultKind::WrongCount),
+        }
+    }
+
+    /// How a domain maps numbers. Behind a word that tells no way nothing is read.
+    pub(crate) fn map(&mut self) -> MapKind
+        ensures found { in_all self.old forms.map_form ≡ in_all self.new (forms.at (forms.one_of forms.level_kinds) forms.parents_form) }
+        ensures value { self.new.found ≡ None → result ≡ map_kind (words_left self.old.words) }
+        ensures words { self.new.found ≡ None → words_left self.new.words ≡ after_map (words_left self.old.words) }
+    {
+        let Some(word) = self.words.next() else {
+            self.note(FaultKind::WrongCount);
+            return MapKind::Tree;
+        };
+        if is(word, b"linear") {
+            return MapKind::Linear(self.number(1, 1_024));
+        }
+        if !is(word, b"tree") {
+            self.note(FaultKind::UnknownWord);
+            self.words = Words::of_line(b"");
+        }
+        MapKind::Tree
+    }
+
+    /// The parent of a level, where one is named, and whether more is.
+    pub(crate) fn parent(&mut self) -> (Option<Name>, bool)
+        ensures found { self.new.found ≡ in_all self.old forms.parents_form }
+        ensures value { self.new.found ≡ None → result ≡ (said.parent_name (words_left self.old.words), said.has_more_parents (words_left self.old.words)) }
+    {
+        if self.words.is_empty() {
+            return (None, false);
+        }
+        self.keyword(b"parent");
+        let name = self.name();
+        let more = !self.words.is_empty();
+        self.parents();
+        (Some(name), more)
+    }
+
+    /// `parent` and a name, to the end.
+    fn parents(&mut self)
+        ensures { self.new.found ≡ in_all self.old forms.parents_form }
+    {
+        while !self.words.is_empty() {
+            self.keyword(b"parent");
+            self.name();
+        }
+    }
+
+    /// The options of a line, to the end: the number after the first `mask`.
+    pub(crate) fn options(&mut self) -> Option<u32>
+        ensures found { self.new.found ≡ in_all self.old forms.line_options }
+        ensures value { self.new.found ≡ None → result ≡ said.mask_after (words_left self.old.words) }
+    {
+        let mut mask = None;
+        while !self.words.is_empty() {
+            mask = self.option(mask);
+        }
+        mask
+    }
+
+    /// One option of a line: the mask that was read before, or the one that is read now.
+    fn option(&mut self, mask: Option<u32>) -> Option<u32>
+        requires { are_none (words_left self.old.words) ≡ false }
+        ensures found { in_all self.old forms.line_options ≡ in_all self.new forms.line_options }
+        ensures value { self.new.found ≡ None → (self.old.found ≡ None) × (option_or result (said.mask_after (words_left self.new.words)) ≡ option_or mask (said.mask_after (words_left self.old.words))) }
+        ensures fewer { length (words_left self.new.words) < length (words_left self.old.words) }
+    {
+        if !self.option_word() {
+            return mask;
+        }
+        let number = self.number(0, u32::MAX);
+        mask.or(Some(number))
+    }
+
+    /// The word of an option; whether it is `mask`.
+    fn option_word(&mut self) -> bool
+        ensures takes { Takes (forms.one_of option_texts) self.old self.new }
+        ensures mask { result ≡ forms.is (get_or (words_left self.old.words) 0 []) (codes "mask") }
+    {
+        let Some(word) = self.words.next() else {
+            self.note(FaultKind::WrongCount);
+            return false;
+        };
+        if !kinds::is_option(word) {
+            self.note(FaultKind::UnknownWord);
+        }
+        is(word, b"mask")
+    }
+
+    /// Flags of a request, to the end.
+    pub(crate) fn flags(&mut self)
+        ensures { self.new.found ≡ in_all self.old (flat_map (forms.one_of forms.request_flags)) }
+    {
+        while !self.words.is_empty() {
+            self.flag();
+        }
+    }
+
+    fn flag(&mut self)
+        ensures { Takes (forms.one_of forms.request_flags) self.old self.new }
+    {
+        match self.words.next() {
+            Some(word) => {
+                if !kinds::is_flag(word) {
                     self.note(FaultKind::UnknownWord);
                 }
             }
