@@ -3,3 +3,7 @@ pub mod Spelled
 pub mod Standing
 pub mod Order
 pub mod Walks
+pub mod Spurious
+pub mod Domains
+pub mod Picking
+pub mod CallStatements

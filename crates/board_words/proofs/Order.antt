@@ -36,7 +36,7 @@ first_append : (xs ys : List FaultKind) → first_in_order (xs ++ ys) ≡ both (
 first_append [] ys = refl
 first_append (k ∷ xs) ys = ap (earlier k) (first_append xs ys) ∙ sym (both_assoc (Some k) (first_in_order xs) (first_in_order ys))
 
-both_append : (f : Option FaultKind) (xs ys : List FaultKind) → both f (first_in_order (xs ++ ys)) ≡ both (both f (first_in_order xs)) (first_in_order ys)
+pub both_append : (f : Option FaultKind) (xs ys : List FaultKind) → both f (first_in_order (xs ++ ys)) ≡ both (both f (first_in_order xs)) (first_in_order ys)
 both_append f xs ys = ap (both f) (first_append xs ys) ∙ sym (both_assoc f (first_in_order xs) (first_in_order ys))
 
 -- without words a form wants nothing, or words

@@ -7,3 +7,4 @@ pub mod Statements
 pub mod Seen
 pub mod Places
 pub mod Keywords
+pub mod Reads
