@@ -84,9 +84,9 @@ pub whole : {A : Type 0} (form : List (List ℕ) → List FaultKind) (begun : Pl
     → begun.found ≡ None → words_left begun.words ≡ words → in_all begun form ≡ found → (found ≡ None → v ≡ w) → outcome found v ≡ outcome (first_in_order (form words)) w
 whole form begun words found v w none is all same =
     same_value found v w same ∙ ap (λ f. outcome f w) (sym all ∙ ap (λ f. both f (first_in_order (form (words_left begun.words)))) none ∙ ap (λ ws. first_in_order (form ws)) is) where
-  same_value : {A : Type 0} (found : Option FaultKind) (v w : A) → (found ≡ None → v ≡ w) → outcome found v ≡ outcome found w
-  same_value None v w same = ap (λ x. Ok x) (same refl)
-  same_value (Some kind) v w same = refl
+      same_value : {A : Type 0} (found : Option FaultKind) (v w : A) → (found ≡ None → v ≡ w) → outcome found v ≡ outcome found w
+      same_value None v w same = ap (λ x. Ok x) (same refl)
+      same_value (Some kind) v w same = refl
 
 -- an outcome through a constructor
 pub outcome_ok : {A B : Type 0} (g : A → B) (found : Option FaultKind) (v x : A) → Ok x ≡ outcome found v → Ok (g x) ≡ outcome found (g v)

@@ -41,6 +41,7 @@ right_none (Some k) None h = refl
 right_none (Some k) (Some j) h = chosen (cond_some _ j k h) where
   chosen : ⊥ → Some j ≡ None
   chosen h = absurd h
+
   cond_some : (t : Bool) (j k : FaultKind) → cond t (Some j) (Some k) ≡ None → ⊥
   cond_some true j k h = cc
   cond_some false j k h = cc

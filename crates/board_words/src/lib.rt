@@ -24,3 +24,6 @@ pub use statements::{
     CallWords, DomainWords, LineWords, PickList, PickWord, Picked, Statement, StatementRefused,
 };
 pub use words::Words;
+
+#[cfg(test)]
+mod tests;

@@ -10,9 +10,8 @@ ghost use Rattle.board_words.specs.Seen.{words_left, are_none};
 ghost use Rattle.board_words.specs.Statements as said;
 
 use crate::faults::FaultKind;
-use crate::kinds;
-use crate::spelling;
 use crate::words::{Words, is};
+use crate::{kinds, spelling};
 use board_def::Name;
 use irq_base::{Kind, LevelKind, MapKind};
 
@@ -261,7 +260,11 @@ impl<'a> Places<'a> {
 fn first(found: FaultKind, kind: FaultKind) -> FaultKind
     ensures { Some result ≡ earlier found (Some kind) }
 {
-    if place_of(kind) < place_of(found) { kind } else { found }
+    if place_of(kind) < place_of(found) {
+        kind
+    } else {
+        found
+    }
 }
 
 /// The place of a kind in the order.

@@ -27,10 +27,7 @@ pub fn number(word: &[u8], low: u32, high: u32) -> Option<u32>
 fn is_decimal(word: &[u8]) -> bool
     ensures { result ≡ is_decimal word.now }
 {
-    are_digits(word)
-        && !word.is_empty()
-        && word.len() <= LONGEST_NUMBER
-        && !has_leading_zero(word)
+    are_digits(word) && !word.is_empty() && word.len() <= LONGEST_NUMBER && !has_leading_zero(word)
 }
 
 fn are_digits(word: &[u8]) -> bool

@@ -20,8 +20,8 @@ returns c =
     let value : CallWords = calls.Affinity (record { 0 = c.number.result }) c.number-mask.result in
     let wanted : CallWords = calls.Affinity (said.line_at 0 words) (said.number_at 1 words) in
     c.give.ensures ∙ whole form begun words found value wanted c.new-places.ensures.found c.new-places.ensures.words all (λ none.
-      let two = none_before_all c.number-mask.new.self forms.full found c.full.ensures none in
-      let one = none_before mask_takes two in
-      let line = next_number 0 words _ _ (c.number.ensures.value one) c.new-places.ensures.words in
-      let mask = next_number 1 words _ _ (c.number-mask.ensures.value two) (left 0 words line_takes c.new-places.ensures.words) in
-      cc)
+    let two = none_before_all c.number-mask.new.self forms.full found c.full.ensures none in
+    let one = none_before mask_takes two in
+    let line = next_number 0 words _ _ (c.number.ensures.value one) c.new-places.ensures.words in
+    let mask = next_number 1 words _ _ (c.number-mask.ensures.value two) (left 0 words line_takes c.new-places.ensures.words) in
+    cc)

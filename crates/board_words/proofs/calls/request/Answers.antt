@@ -19,12 +19,12 @@ returns c =
     let all = step takes flags_form tt ∙ sym c.flags.ensures in
     let value : CallWords = calls.Request (record { 0 = c.number.result }) (record { shared = c.has.result; oneshot = c.has-2.result; noauto = c.has-3.result }) c.has_one_again-twice.result in
     c.give.ensures ∙ whole form begun words found value (said.request_words words) c.new-places.ensures.found c.new-places.ensures.words all (λ none.
-      let one = none_before_all c.number.new.self flags_form found c.flags.ensures none in
-      let dev = next_number 0 words _ _ (c.number.ensures.value one) c.new-places.ensures.words in
-      let flags = left 0 words takes c.new-places.ensures.words in
-      let shared = c.has.ensures ∙ ap (said.stands (codes "shared")) flags in
-      let oneshot = c.has-2.ensures ∙ ap (said.stands (codes "oneshot")) flags in
-      let noauto = c.has-3.ensures ∙ ap (said.stands (codes "noauto")) flags in
-      let twice = c.has_one_again-twice.ensures
-        ∙ ap (λ ws. said.stands_again (codes "shared") ws || (said.stands_again (codes "oneshot") ws || said.stands_again (codes "noauto") ws)) flags in
-      cc)
+    let one = none_before_all c.number.new.self flags_form found c.flags.ensures none in
+    let dev = next_number 0 words _ _ (c.number.ensures.value one) c.new-places.ensures.words in
+    let flags = left 0 words takes c.new-places.ensures.words in
+    let shared = c.has.ensures ∙ ap (said.stands (codes "shared")) flags in
+    let oneshot = c.has-2.ensures ∙ ap (said.stands (codes "oneshot")) flags in
+    let noauto = c.has-3.ensures ∙ ap (said.stands (codes "noauto")) flags in
+    let twice = c.has_one_again-twice.ensures
+    ∙ ap (λ ws. said.stands_again (codes "shared") ws || (said.stands_again (codes "oneshot") ws || said.stands_again (codes "noauto") ws)) flags in
+    cc)

@@ -24,12 +24,12 @@ returns c =
     let value : Statement = statements.Device (record { 0 = c.number.result }) (record { 0 = c.number-2.result }) c.device_kind-kind.result in
     let wanted : Statement = statements.Device (said.dev_at 0 words) (said.line_at 1 words) (said.device_kind (get_or words 2 [])) in
     c.give.ensures ∙ whole form begun words found value wanted c.new-places.ensures.found c.new-places.ensures.words all (λ none.
-      let three = none_before_all c.device_kind-kind.new.self forms.full found c.full.ensures none in
-      let two = none_before kind_takes three in
-      let one = none_before line_takes two in
-      let at_line = left 0 words dev_takes c.new-places.ensures.words in
-      let at_kind = left 1 words line_takes at_line in
-      let dev = next_number 0 words _ _ (c.number.ensures.value one) c.new-places.ensures.words in
-      let line = next_number 1 words _ _ (c.number-2.ensures.value two) at_line in
-      let kind = c.device_kind-kind.ensures.value three ∙ ap said.device_kind (next_word 2 words _ at_kind) in
-      cc)
+    let three = none_before_all c.device_kind-kind.new.self forms.full found c.full.ensures none in
+    let two = none_before kind_takes three in
+    let one = none_before line_takes two in
+    let at_line = left 0 words dev_takes c.new-places.ensures.words in
+    let at_kind = left 1 words line_takes at_line in
+    let dev = next_number 0 words _ _ (c.number.ensures.value one) c.new-places.ensures.words in
+    let line = next_number 1 words _ _ (c.number-2.ensures.value two) at_line in
+    let kind = c.device_kind-kind.ensures.value three ∙ ap said.device_kind (next_word 2 words _ at_kind) in
+    cc)

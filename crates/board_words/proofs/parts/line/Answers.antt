@@ -30,19 +30,19 @@ returns c =
       twice = c.has_one_again.result;
     } in
     c.give.ensures ∙ whole form begun words found (statements.Line value) (statements.Line (said.line_words words)) c.new-places.ensures.found c.new-places.ensures.words all (λ none.
-      let three = none_before_all c.number-hw.new.self forms.line_options found c.options-mask.ensures.found none in
-      let two = none_before hw_takes three in
-      let one = none_before name_takes two in
-      let at_name = left 0 words line_takes c.new-places.ensures.words in
-      let at_hw = left 1 words name_takes at_name in
-      let at_options = left 2 words hw_takes at_hw in
-      let line = next_number 0 words _ _ (c.number.ensures.value one) c.new-places.ensures.words in
-      let domain = next_name 1 words _ _ (c.name-domain.ensures.value two) at_name in
-      let hw = next_number 2 words _ _ (c.number-hw.ensures.value three) at_hw in
-      let mask = c.options-mask.ensures.value none ∙ ap said.mask_after at_options in
-      let unlazy = c.has.ensures ∙ ap (said.stands (codes "unlazy")) at_options in
-      let later = c.has-2.ensures ∙ ap (said.stands (codes "later")) at_options in
-      let twice = c.has_one_again.ensures
-        ∙ ap (λ ws. said.stands_again (codes "unlazy") ws || (said.stands_again (codes "later") ws || said.stands_again (codes "mask") ws)) at_options in
-      let same : value ≡ said.line_words words = cc in
-      ap (λ (l : LineWords). statements.Line l) same)
+    let three = none_before_all c.number-hw.new.self forms.line_options found c.options-mask.ensures.found none in
+    let two = none_before hw_takes three in
+    let one = none_before name_takes two in
+    let at_name = left 0 words line_takes c.new-places.ensures.words in
+    let at_hw = left 1 words name_takes at_name in
+    let at_options = left 2 words hw_takes at_hw in
+    let line = next_number 0 words _ _ (c.number.ensures.value one) c.new-places.ensures.words in
+    let domain = next_name 1 words _ _ (c.name-domain.ensures.value two) at_name in
+    let hw = next_number 2 words _ _ (c.number-hw.ensures.value three) at_hw in
+    let mask = c.options-mask.ensures.value none ∙ ap said.mask_after at_options in
+    let unlazy = c.has.ensures ∙ ap (said.stands (codes "unlazy")) at_options in
+    let later = c.has-2.ensures ∙ ap (said.stands (codes "later")) at_options in
+    let twice = c.has_one_again.ensures
+    ∙ ap (λ ws. said.stands_again (codes "unlazy") ws || (said.stands_again (codes "later") ws || said.stands_again (codes "mask") ws)) at_options in
+    let same : value ≡ said.line_words words = cc in
+    ap (λ (l : LineWords). statements.Line l) same)

@@ -13,5 +13,5 @@ returns c =
     let all = step c.number-number.ensures.takes forms.full tt ∙ sym c.full.ensures in
     c.give.ensures
     ∙ whole form begun words c.full.new.self.found c.number-number.result (number_at 0 words) c.new-places.ensures.found c.new-places.ensures.words all (λ none.
-      let one = none_before_all c.number-number.new.self forms.full c.full.new.self.found c.full.ensures none in
-      next_number 0 words (words_left begun.words) c.number-number.result (c.number-number.ensures.value one) c.new-places.ensures.words)
+    let one = none_before_all c.number-number.new.self forms.full c.full.new.self.found c.full.ensures none in
+    next_number 0 words (words_left begun.words) c.number-number.result (c.number-number.ensures.value one) c.new-places.ensures.words)

@@ -21,8 +21,8 @@ returns c =
     let value : Statement = statements.Spurious window c.number-limit.result in
     let wanted : Statement = statements.Spurious (said.number_at 0 words) (said.number_at 1 words) in
     c.give.ensures ∙ whole forms.spurious_form begun words found value wanted c.new-places.ensures.found c.new-places.ensures.words all (λ none.
-      let two = none_before_all c.number-limit.new.self forms.full found c.full.ensures none in
-      let one = none_before limit_takes two in
-      let is_window = next_number 0 words _ _ (c.number-window.ensures.value one) c.new-places.ensures.words in
-      let is_limit = next_number 1 words _ _ (c.number-limit.ensures.value two) (left 0 words c.number-window.ensures.takes c.new-places.ensures.words) in
-      cc)
+    let two = none_before_all c.number-limit.new.self forms.full found c.full.ensures none in
+    let one = none_before limit_takes two in
+    let is_window = next_number 0 words _ _ (c.number-window.ensures.value one) c.new-places.ensures.words in
+    let is_limit = next_number 1 words _ _ (c.number-limit.ensures.value two) (left 0 words c.number-window.ensures.takes c.new-places.ensures.words) in
+    cc)
