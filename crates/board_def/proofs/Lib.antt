@@ -1,2 +1,5 @@
 pub mod EachAfters
+pub mod Finds
 pub mod NameBack
+pub mod Rising
+mod Tabled

@@ -4,3 +4,6 @@ pub mod Levels
 pub mod Rules
 pub mod Layout
 pub mod LineOf
+pub mod Tables
+pub mod Find
+pub mod Inside
