@@ -3,3 +3,4 @@ pub mod Finds
 pub mod NameBack
 pub mod Rising
 mod Tabled
+mod Walks

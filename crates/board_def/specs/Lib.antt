@@ -7,3 +7,4 @@ pub mod LineOf
 pub mod Tables
 pub mod Find
 pub mod Inside
+pub mod LevelWalk

@@ -218,6 +218,13 @@ impl Board {
         self.calls.get(i).copied()
     }
 
+    /// The drivers' scripts, one after another.
+    pub fn calls(&self) -> &[ScriptCall]
+        ensures { result.now ≡ self.now.calls }
+    {
+        self.calls.as_slice()
+    }
+
     /// Whose steps a play makes first.
     pub fn picks(&self) -> &[Actor]
         ensures { result.now ≡ self.now.picks }

@@ -9,6 +9,7 @@ pub mod devices;
 pub mod domains;
 pub mod drivers;
 pub mod layouts;
+pub mod levels;
 pub mod lines;
 pub mod names;
 pub mod rows;
