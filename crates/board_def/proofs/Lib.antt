@@ -1,6 +1,10 @@
 pub mod EachAfters
 pub mod Finds
+mod Kept
 pub mod NameBack
+mod Owners
+mod Paths
 pub mod Rising
 mod Tabled
+mod Validity
 mod Walks

@@ -5,6 +5,7 @@
 #![tactic(auto)]
 
 pub mod board;
+pub mod definitions;
 pub mod devices;
 pub mod domains;
 pub mod drivers;
