@@ -1,14 +1,13 @@
 -- The path of a line in the layout goes by its domain's way to the root.
-use Rattle.std.proofs.Common.{◌≡◌, ℕ, zero, suc, ◌+◌, ◌<◌, ◌≤◌, Bool, true, false, cond, Option, Some, None, List, [], ◌∷◌, ◌++◌, length, map, is_none, All, refl, sym, ap, subst, ◌∙◌, arith}
+use Rattle.std.proofs.Common.{◌≡◌, ℕ, zero, suc, ◌+◌, ◌≤◌, Bool, true, false, cond, Option, Some, None, List, [], ◌∷◌, ◌++◌, length, map, is_none, refl, sym, ap, subst, ◌∙◌, arith}
 use Rattle.std.proofs.Math.ListN.{length-map}
 use Rattle.std.specs.List.{slice_get, list_any}
-use Rattle.irq_base.specs.declared.domains.LevelKind.{LevelKind}
 use Rattle.irq_base.specs.declared.numbers.LineNo.{LineNo}
-use Rattle.board_def.specs.Layout.{IsPathOf, layout_after, layout_of, placement_of, path_of, above, lowest_unused, is_past_domain, is_used, count_of_mapped}
-use Rattle.board_def.specs.Levels.{most_levels, way, kinds_from, kind_in, parent_in, masking_kind}
+use Rattle.board_def.specs.Layout.{IsPathOf, layout_after, placement_of, path_of, lowest_unused, is_past_domain, is_used, count_of_mapped}
+use Rattle.board_def.specs.Levels.{way, kinds_from, kind_in, parent_in, masking_kind}
 use Rattle.board_def.specs.LevelWalk.{kind_at}
 use Rattle.board_def.specs.LineOf.{find_line}
-use Rattle.board_def.specs.Rules.{IsBoard, IsLineAfter}
+use Rattle.board_def.specs.Rules.{IsBoard}
 use Rattle.board_def.specs.Seen.{BoardSeen}
 use Rattle.board_def.specs.declared.layouts.Placement.{Placement}
 use Rattle.board_def.specs.declared.layouts.Placement.TheVariants as placements

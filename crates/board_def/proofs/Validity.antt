@@ -1,10 +1,9 @@
 -- The definition of a board's line is valid.
-use Rattle.std.proofs.Common.{◌≡◌, ℕ, zero, suc, ◌+◌, ◌<◌, ◌≤◌, ◌==◌, Bool, true, false, not, cond, ◌&&◌, ◌||◌, Option, Some, None, List, [], ◌∷◌, ◌++◌, length, filter, map, reverse, take, All, refl, sym, ap, subst, ◌∙◌, arith}
+use Rattle.std.proofs.Common.{◌≡◌, ℕ, zero, suc, ◌<◌, ◌≤◌, ◌==◌, Bool, true, false, not, cond, ◌&&◌, ◌||◌, Option, Some, None, List, [], ◌∷◌, length, filter, map, take, All, refl, sym, ap, subst, ◌∙◌, arith}
 use Rattle.std.proofs.Math.ListN.{length-map}
 use Rattle.std.specs.List.{slice_get, list_any}
 use Rattle.std.proofs.lemmas.Bool.Decides.{nat_tests}
-use Rattle.std.proofs.lemmas.List.{reverse-append}
-use Rattle.std.proofs.lemmas.Option.{slice_get-map, slice_get_within}
+use Rattle.std.proofs.lemmas.List.{map-id}
 use Rattle.irq_base.specs.Cell.{is_edge_trigger}
 use Rattle.irq_base.specs.declared.calls.Call.{Call}
 use Rattle.irq_base.specs.declared.calls.Call.TheVariants as calls
@@ -16,15 +15,16 @@ use Rattle.irq_base.specs.declared.numbers.DriverNo.{DriverNo}
 use Rattle.irq_base.specs.declared.numbers.LineNo.{LineNo}
 use Rattle.irq_model.specs.Kinds.{same_dev}
 use Rattle.irq_model.specs.Lines.{is_device, is_edge_flow, is_level_flow, is_eoi_flow}
-use Rattle.irq_model.specs.Valid.{IsValid, HasDistinctDevices, HasOneOwner, IsFreedBetween, names_one_of, requests_dev, frees_dev}
-use Rattle.board_def.specs.Levels.{way, kinds_from, kind_in, parent_in, is_root_kind, root_kind, last_kind, masking_kind, keeps, keeps_kind, is_some_kind, masks_kind, retriggers_kind, trigger_of_root, flow_of_root}
+use Rattle.irq_model.specs.Valid.{IsValid, HasDistinctDevices, names_one_of}
+use Rattle.board_def.specs.Levels.{way, kinds_from, kind_in, parent_in, is_root_kind, root_kind, keeps, retriggers_kind, trigger_of_root, flow_of_root}
 use Rattle.board_def.specs.LineOf.{line_of_row, with_driver}
-use Rattle.board_def.specs.Rules.{EachAfter, IsBoard, IsCallAfter, IsDomainAfter, is_owning, first_owning, is_of_another, is_a_request, is_bad_owner, fits_line, is_on_line, find_device}
+use Rattle.board_def.specs.Rules.{IsBoard, is_bad_parent, fits_line, is_on_line, find_device}
 use Rattle.board_def.specs.Seen.{BoardSeen}
 use Rattle.board_def.specs.declared.rows.DomainRow.{DomainRow}
 use Rattle.board_def.specs.declared.rows.LineRow.{LineRow}
 use Rattle.board_def.specs.declared.rows.ScriptCall.{ScriptCall}
-use Rattle.board_def.proofs.Kept.{all_kept, each_kept, kept_fewer}
+use Rattle.board_def.proofs.Kept.{all_kept, kept_fewer}
+use Rattle.board_def.proofs.Owners.{owned_on_line, one_owner, freed_between}
 use Rattle.board_def.proofs.Rising.{Rises, rises_on, head_of, differ}
 
 -- kinds of roots
@@ -151,3 +151,56 @@ named_on_line line devices calls.Enable h = refl
 named_on_line line devices calls.Sync h = refl
 named_on_line line devices (calls.Affinity mask) h = refl
 named_on_line line devices (calls.Moment at) h = refl
+
+-- all together
+
+unlazy_keeps : (u e k : Bool) → (u && (e && not k)) ≡ false → e ≡ true → u ≡ true → k ≡ true
+unlazy_keeps true true true h he hu = refl
+unlazy_keeps true true false h he hu = absurd cc
+unlazy_keeps true false k h he hu = absurd cc
+unlazy_keeps false e k h he hu = absurd cc
+
+no_parent_of_root : (r rest : Bool) → (r || rest) ≡ false → r ≡ false
+no_parent_of_root r rest h = grind arith
+
+board_children : (b : BoardSeen) → IsBoard b → AreChildren b.domains
+board_children b board place row at parent up =
+    no_parent_of_root (is_root_kind row.def.chip) _ (sym (ap (is_bad_parent (take place b.domains) row.def.chip) up) ∙ (board.domains place row at).parent)
+
+pub valid_row : (b : BoardSeen) (i : ℕ) (row : LineRow) → IsBoard b → slice_get b.lines i ≡ Some row → IsValid (line_of_row b row)
+valid_row b i row board at =
+    let here = board.lines i row at in
+    let ks : List LevelKind = kinds_from b.domains (Some row.domain) in
+    let on_line : DeviceDef → Bool = λ x. x.line.0 == row.line.0 in
+    let call_on_line : ScriptCall → Bool = λ c. c.line.0 == row.line.0 in
+    let owned = owned_on_line b row.line board.calls in
+    let above : b.limit < b.window = board.limit in
+    let short : b.log ≤ 1000000 = board.small_log in
+    let devices_few : length b.devices ≤ 256 = board.few_devices in
+    let calls_few : length b.calls ≤ 16384 = board.few_calls in
+    let calls_long = length-map (filter call_on_line b.calls) with_driver in
+    let lpi : is_edge_trigger (trigger_of_root (root_kind ks)) ≡ true → is_eoi_flow (flow_of_root (root_kind ks)) ≡ true → root_kind ks ≡ levels.Lpi = lpi_root (root_kind ks) in
+    record {
+      some_cpu = board.some_cpu;
+      few_cpus = board.few_cpus;
+      some_window = omega (arith, above);
+      small_window = board.small_window;
+      limit = board.limit;
+      some_log = board.some_log;
+      small_log = omega (arith, short);
+      few_devices = omega (arith, kept_fewer on_line b.devices, devices_few);
+      few_calls = omega (arith, calls_long, kept_fewer call_on_line b.calls, calls_few);
+      mask = here.mask;
+      edge_flow = edge_root (root_kind ks);
+      level_flow = level_root (root_kind ks);
+      unlazy = unlazy_keeps row.unlazy (is_edge_trigger (trigger_of_root (root_kind ks))) (keeps ks) here.unlazy;
+      eoi_keeps = λ edge eoi. lpi_keeps b.domains (board_children b board) 8 row.domain (lpi edge eoi);
+      eoi_retriggers = λ edge eoi. ap retriggers_kind (lpi edge eoi);
+      devices = subst (All (λ (x : DeviceDef). x.line ≡ row.line)) (map-id (filter on_line b.devices))
+        (all_kept on_line (λ (x : DeviceDef). x) (λ (x : DeviceDef). Unit {0}) (λ (x : DeviceDef). x.line ≡ row.line) (λ x p k. same_line x.line row.line k) b.devices (λ i x at. tt));
+      distinct = distinct on_line b.devices (λ i x at. (board.devices i x at).rises);
+      calls = all_kept call_on_line with_driver (λ (c : ScriptCall). fits_line b.devices c.line c.call ≡ true) (λ (c : DriverNo × Call). names_one_of (filter on_line b.devices) c.1 ≡ true)
+        (λ c fits k. named_on_line row.line b.devices c.call (subst (λ line. fits_line b.devices line c.call ≡ true) (same_line c.line row.line k) fits)) b.calls (λ i c at. (board.calls i c at).device);
+      owners = λ d. one_owner d (filter call_on_line b.calls) owned;
+      freed = λ d. freed_between d (filter call_on_line b.calls) owned;
+    }

@@ -1,12 +1,10 @@
 -- A walk over levels, one after another, and what it knows at its end.
-use Rattle.std.proofs.Common.{◌≡◌, ℕ, zero, suc, ◌+◌, ◌-◌, ◌<◌, ◌≤◌, Bool, true, false, cond, ◌&&◌, Option, Some, None, is_none, List, [], ◌∷◌, length, map, drop, refl, sym, ap, subst, ◌∙◌, arith}
+use Rattle.std.proofs.Common.{◌≡◌, ℕ, zero, suc, ◌+◌, ◌-◌, ◌<◌, Bool, true, false, cond, ◌&&◌, Option, Some, None, is_none, List, [], ◌∷◌, length, map, drop, refl, sym, ap, ◌∙◌, arith}
 use Rattle.std.specs.List.{slice_get}
-use Rattle.std.proofs.lemmas.Option.{slice_get_within, get_or_from_slice_get}
-use Rattle.std.proofs.lemmas.List.{drop_all}
 use Rattle.irq_base.specs.declared.domains.LevelKind.{LevelKind}
 use Rattle.irq_base.specs.declared.domains.LevelKind.TheVariants as levels
 use Rattle.irq_model.proofs.Lists.{next_item}
-use Rattle.board_def.specs.Levels.{most_levels, way, kinds_from, kind_in, parent_in, root_kind, last_kind, masking_kind, masks_kind}
+use Rattle.board_def.specs.Levels.{way, kind_in, parent_in, root_kind, last_kind, masking_kind, masks_kind}
 use Rattle.board_def.specs.LevelWalk.{kind_at}
 use Rattle.board_def.specs.declared.levels.Levels.{Levels}
 use Rattle.board_def.specs.declared.rows.DomainRow.{DomainRow}
