@@ -1,5 +1,6 @@
 pub mod EachAfters
 pub mod Finds
+pub mod Grows
 mod Kept
 pub mod NameBack
 mod Owners
