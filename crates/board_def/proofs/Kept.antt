@@ -66,7 +66,7 @@ kept_at keep xs i x b at is =
     take_more xs i x (slice_get_within xs i x at) ∙ ap (λ y. take i xs ++ y ∷ []) (get_or_from_slice_get xs i x x at) in
     ap (filter keep) next ∙ (filter-append keep (take i xs) (x ∷ []) ∙ ap (λ b. filter keep (take i xs) ++ cond b (x ∷ []) []) is)
 
-past : {A : Type 0} (xs : List A) (i : ℕ) → slice_get xs i ≡ None → length xs ≤ i
+pub past : {A : Type 0} (xs : List A) (i : ℕ) → slice_get xs i ≡ None → length xs ≤ i
 past [] i at = omega arith
 past (x ∷ xs) zero at = absurd cc
 past (x ∷ xs) (suc i) at = omega (arith, past xs i at)

@@ -5,6 +5,7 @@ mod Kept
 pub mod NameBack
 mod Owners
 mod Paths
+mod PlacingSteps
 pub mod Rising
 mod Tabled
 mod Validity

@@ -8,3 +8,4 @@ pub mod Tables
 pub mod Find
 pub mod Inside
 pub mod LevelWalk
+pub mod LayoutWalk

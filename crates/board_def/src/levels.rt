@@ -121,8 +121,8 @@ impl Levels {
     }
 }
 
-// The kind of a domain; one that isn't there passes everything on.
-fn kind_of(row: Option<DomainRow>) -> LevelKind
+/// The kind of a domain; one that isn't there passes everything on.
+pub fn kind_of(row: Option<DomainRow>) -> LevelKind
     ensures { result ≡ kind_in row }
 {
     match row {
@@ -131,8 +131,8 @@ fn kind_of(row: Option<DomainRow>) -> LevelKind
     }
 }
 
-// The place of the domain's parent.
-fn parent_of(row: Option<DomainRow>) -> Option<usize>
+/// The place of the parent; none for a root, nor for a domain that isn't there.
+pub fn parent_of(row: Option<DomainRow>) -> Option<usize>
     ensures { result ≡ parent_in row }
 {
     row?.def.parent

@@ -13,6 +13,7 @@ pub mod layouts;
 pub mod levels;
 pub mod lines;
 pub mod names;
+pub mod placing;
 pub mod rows;
 
 pub use board::Board;
