@@ -39,20 +39,44 @@ impl Row {
         ensures text { result ≡ decimal number }
         ensures short { length result ≤ 10 }
     {
-        let mut row = Row {
-            bytes: ArrayVec::new(),
-        };
-        let mut digits = Buffer::new();
-        row.push_bytes(digits.format(number).as_bytes());
+        let mut row = Row::new();
+        row.push_digits(number);
         row
     }
 
+    // A row that begins as those that a reader of a log passes over.
+    pub(crate) fn comment() -> Row
+        ensures text { result ≡ codes "#" }
+    {
+        let mut row = Row::new();
+        row.push_bytes(b"#");
+        row
+    }
+
+    fn new() -> Row
+        ensures text { result ≡ [] }
+    {
+        Row {
+            bytes: ArrayVec::new(),
+        }
+    }
+
     // Adds the bytes as they are.
-    fn push_bytes(&mut self, bytes: &[u8])
+    pub(crate) fn push_bytes(&mut self, bytes: &[u8])
         requires { length self.old + length bytes.now ≤ 320 }
         ensures { self.new ≡ self.old ++ bytes.now }
     {
         self.bytes.try_extend_from_slice(bytes).unwrap();
+    }
+
+    // Adds the digits of the number.
+    pub(crate) fn push_digits(&mut self, number: u32)
+        requires { length self.old ≤ 310 }
+        ensures text { self.new ≡ self.old ++ decimal number }
+        ensures grows { length self.new ≤ length self.old + 10 }
+    {
+        let mut digits = Buffer::new();
+        self.push_bytes(digits.format(number).as_bytes());
     }
 
     // Adds a space and the word.
@@ -82,10 +106,9 @@ impl Row {
         ensures text { self.new ≡ self.old ++ spaced ((letter ∷ decimal number) ∷ []) }
         ensures grows { length self.new ≤ length self.old + 12 }
     {
-        let mut digits = Buffer::new();
         self.bytes.push(b' ');
         self.bytes.push(letter);
-        self.push_bytes(digits.format(number).as_bytes());
+        self.push_digits(number);
     }
 
     // Adds a space and the driver.
