@@ -4,9 +4,11 @@ pub mod Grows
 mod Kept
 pub mod NameBack
 mod Owners
-mod Paths
+pub mod Paths
 mod PlacingSteps
 pub mod Rising
 mod Tabled
 mod Validity
 mod Walks
+mod CellRows
+mod LayoutRows
