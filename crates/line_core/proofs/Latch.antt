@@ -1,14 +1,9 @@
 -- A built definition with the fields that are the same of all of them, so that the rules compute.
-use Rattle.std.proofs.Common.{◌≡◌, true, false, List, [], ◌∷◌, ap, ◌∙◌}
-use Rattle.irq_base.specs.declared.devices.DeviceDef.{DeviceDef}
-use Rattle.irq_base.specs.declared.devices.Kind.TheVariants as kinds
+use Rattle.std.proofs.Common.{◌≡◌, true, false, ap, ◌∙◌}
 use Rattle.irq_base.specs.declared.lines.FlowKind.TheVariants as flows
 use Rattle.irq_base.specs.declared.lines.LineDef.{LineDef}
 use Rattle.irq_base.specs.declared.lines.Trigger.TheVariants as triggers
-use Rattle.line_core.specs.Built.{Built, device_of}
-
-abbrev pub one_device : LineDef → List DeviceDef
-one_device def = record { dev = device_of def; line = def.line; kind = kinds.Direct } ∷ []
+use Rattle.line_core.specs.Built.{Built}
 
 abbrev pub latch : LineDef → LineDef
 latch def = record def {
@@ -20,7 +15,6 @@ latch def = record def {
   retriggers = true;
   unlazy = false;
   later = false;
-  devices = one_device def;
 }
 
 pub is_latch : (def : LineDef) → Built def → def ≡ latch def
@@ -33,4 +27,3 @@ is_latch def b =
     ∙ ap (λ x. record def { cpus = 1; trigger = triggers.Edge; flow = flows.Edge; keeps = true; recalls = true; retriggers = x }) b.retriggers
     ∙ ap (λ x. record def { cpus = 1; trigger = triggers.Edge; flow = flows.Edge; keeps = true; recalls = true; retriggers = true; unlazy = x }) b.unlazy
     ∙ ap (λ x. record def { cpus = 1; trigger = triggers.Edge; flow = flows.Edge; keeps = true; recalls = true; retriggers = true; unlazy = false; later = x }) b.later
-    ∙ ap (λ x. record def { cpus = 1; trigger = triggers.Edge; flow = flows.Edge; keeps = true; recalls = true; retriggers = true; unlazy = false; later = false; devices = x }) b.device

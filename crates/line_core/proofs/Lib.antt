@@ -1,9 +1,13 @@
+pub mod Frees
 pub mod Calls
-pub mod More
 pub mod Latch
 pub mod Noting
-pub mod Agreeing
+pub mod AgreeingCalls
+pub mod AgreeingRounds
 pub mod Nexts
 pub mod Driven
+pub mod Steps
 pub mod Past
-pub mod Validity
+pub mod Keeping
+pub mod More
+pub mod Turns

@@ -3,13 +3,13 @@ use Rattle.std.specs.Prelude.{◌≡◌, ℕ, Bool, false, if◌then◌else◌, 
 use Rattle.irq_base.specs.declared.entries.Entry.{Entry}
 use Rattle.irq_base.specs.declared.lines.LineDef.{LineDef}
 use Rattle.irq_base.specs.declared.numbers.DevNo.{DevNo}
-use Rattle.irq_model.specs.Asks.{unserved_asks}
+use Rattle.irq_base.specs.declared.devices.Kind.TheVariants as kinds
+use Rattle.irq_model.specs.Asks.{unserved_by}
 use Rattle.irq_model.specs.Edges.{is_sent, is_stored}
 use Rattle.irq_model.specs.Kinds.{is_ask, is_begin}
 use Rattle.irq_model.specs.Links.{linked, is_linked, depth}
 use Rattle.irq_model.specs.Masks.{is_masked}
-use Rattle.irq_model.specs.Next.{asks_of_handler}
-use Rattle.irq_model.specs.Places.{since, count_of}
+use Rattle.irq_model.specs.Places.{since, before, count_of}
 use Rattle.irq_model.specs.Rounds.{flow, has_begun, at_work}
 use Rattle.irq_model.specs.Spurious as spurious
 use Rattle.irq_model.specs.Threads.{is_woken, is_running}
@@ -44,6 +44,10 @@ rule_counts c = record {
 abbrev pub asks_since_begin : DevNo → List Entry → ℕ
 asks_since_begin d past = count_of (is_ask d) (since (is_begin d) past)
 
+-- the asks of a device without a thread that were unserved as its handler was last called
+abbrev pub met_by_handler : DevNo → List Entry → ℕ
+met_by_handler d past = unserved_by kinds.Direct d (before (is_begin d) past)
+
 pub record Agreed (def : LineDef) (past : List Entry) (m : Marks) : Type 0 where
   pub actions : linked past ≡ linked_as m.linked (device_of def)
   pub linked : is_linked past (device_of def) ≡ m.linked
@@ -58,9 +62,9 @@ pub record Agreed (def : LineDef) (past : List Entry) (m : Marks) : Type 0 where
   pub begun : has_begun def past (device_of def) ≡ m.begun
   pub handled : spurious.round_handles def past ≡ m.handled
   pub wakes : spurious.round_wakes def past ≡ false
-  pub unserved : unserved_asks def (device_of def) past ≡ m.unserved
+  pub unserved : unserved_by kinds.Direct (device_of def) past ≡ m.unserved
   pub fresh : asks_since_begin (device_of def) past ≡ m.fresh
-  pub met : asks_of_handler def (device_of def) past ≡ m.met
+  pub met : met_by_handler (device_of def) past ≡ m.met
   pub counts : spurious.counts_of def past ≡ rule_counts m.counts
   -- no moment was handed in, and no thread is at work
   pub moment : spurious.now past ≡ 0

@@ -1,5 +1,5 @@
 -- The entries that come on such a line, and what holds just before each.
-use Rattle.std.specs.Prelude.{◌≡◌, ℕ, ◌+◌, ◌≤◌, true, false, ◌≢◌, Some, None, slice_get}
+use Rattle.std.specs.Prelude.{◌≡◌, ℕ, ◌≤◌, Bool, true, false, ◌≢◌, if◌then◌else◌, Some, None}
 use Rattle.irq_base.specs.declared.calls.Call.{Call}
 use Rattle.irq_base.specs.declared.calls.Call.TheVariants as calls
 use Rattle.irq_base.specs.Handlers.{answer_of}
@@ -12,20 +12,23 @@ use Rattle.irq_base.specs.declared.entries.Note.TheVariants as notes
 use Rattle.irq_base.specs.declared.entries.Opened.TheVariants as opens
 use Rattle.irq_base.specs.declared.entries.Resend.TheVariants as resends
 use Rattle.irq_base.specs.declared.entries.TakeAnswer.TheVariants as takes
+use Rattle.irq_base.specs.declared.entries.UnlinkAnswer.{UnlinkAnswer}
 use Rattle.irq_base.specs.declared.entries.UnlinkAnswer.TheVariants as unlinks
 use Rattle.irq_base.specs.declared.entries.Way.TheVariants as ways
 use Rattle.irq_base.specs.declared.lines.LineDef.{LineDef}
 use Rattle.irq_base.specs.declared.numbers.DriverNo.{DriverNo}
-use Rattle.line_core.specs.Built.{device_of, driver_of, no_flags, count_of_asks}
+use Rattle.line_core.specs.Built.{device_of, owner_of, no_flags, HasDirect}
 use Rattle.line_core.specs.declared.marks.Marks.{Marks}
-use Rattle.line_core.specs.declared.script.Script.{Script}
+use Rattle.line_scripts.specs.Rows.{call_of, within_of}
+use Rattle.line_scripts.specs.declared.scripts.Scripts.{Scripts}
 
--- An entry that comes on such a line: of processor 0, its driver and its device alone. The request starts the
--- line, and the unlink shuts it down; no take is busy or off, and no end goes again or kills.
+-- An entry that comes on such a line: of processor 0, or of its drivers, about its device alone, which one driver
+-- requests and frees. The request starts the line, and an unlink of the device shuts it down, or doesn't find it; no
+-- take is busy or off, and no end goes again or kills.
 abbrev pub Comes : LineDef → Entry → Type 0
-Comes def (entries.Ask driver dev) = (driver ≡ driver_of def) × (dev ≡ device_of def)
+Comes def (entries.Ask driver dev) = dev ≡ device_of def
 Comes def (entries.Request driver dev flags answer opened) =
-    (driver ≡ driver_of def) × (dev ≡ device_of def) × (flags ≡ no_flags)
+    (driver ≡ owner_of def) × (dev ≡ device_of def) × (flags ≡ no_flags)
     × (answer ≡ links.Linked) × (opened ≡ opens.Started resends.No)
 Comes def (entries.Take cpu way answer) = (cpu.0 ≡ 0) × (way ≡ ways.Line) × (answer ≡ takes.Handle)
 Comes def (entries.Begin cpu dev) = (cpu.0 ≡ 0) × (dev ≡ device_of def)
@@ -34,39 +37,41 @@ Comes def (entries.Return cpu dev answer served) =
 Comes def (entries.End cpu again unmask note) =
     (cpu.0 ≡ 0) × (again ≡ false) × (unmask ≡ false) × (note ≢ notes.Killed)
 Comes def (entries.Unlink driver dev answer) =
-    (driver ≡ driver_of def) × (dev ≡ device_of def) × (answer ≡ unlinks.Unlinked true)
-Comes def (entries.HardClear driver) = driver ≡ driver_of def
-Comes def (entries.Freed driver dev) = (driver ≡ driver_of def) × (dev ≡ device_of def)
+    (driver ≡ owner_of def) × (dev ≡ device_of def) × (answer ≢ unlinks.Unlinked false)
+Comes def (entries.HardClear driver) = driver ≡ owner_of def
+Comes def (entries.Freed driver dev) = (driver ≡ owner_of def) × (dev ≡ device_of def)
 Comes def _ = ⊥
 
--- the call at a place of the script is the driver's
-abbrev pub IsCallAt : LineDef → ℕ → DriverNo → Call → Type 0
-IsCallAt def place who call = slice_get def.calls place ≡ Some (who, call)
+-- what an unlink of the only device finds
+abbrev pub unlink_as : Bool → UnlinkAnswer
+unlink_as linked = if linked then unlinks.Unlinked true else unlinks.NotThere
 
--- what the marks and the place say just before the entry
-abbrev pub IsExpected : LineDef → Marks → Script → Entry → Type 0
-IsExpected def m s (entries.Ask driver dev) =
-    (1 ≤ s.place) × (s.place ≤ count_of_asks def.calls) × IsCallAt def s.place driver (calls.Ask dev)
+-- what the marks and the places say just before the entry
+abbrev pub IsExpected : LineDef → Marks → Scripts → Entry → Type 0
+IsExpected def m s (entries.Ask driver dev) = call_of s driver ≡ Some (calls.Ask dev)
 IsExpected def m s (entries.Request driver dev flags answer opened) =
-    (s.place ≡ 0) × IsCallAt def s.place driver (calls.Request dev flags)
+    (call_of s driver ≡ Some (calls.Request dev flags)) × (m.linked ≡ false)
 IsExpected def m s (entries.Take cpu way answer) = (m.flow ≡ None) × (m.sent ≡ true)
 IsExpected def m s (entries.Begin cpu dev) = m.linked ≡ true
 IsExpected def m s (entries.Return cpu dev answer served) = m.running ≡ true
 IsExpected def m s (entries.End cpu again unmask note) = m.flow ≡ Some cpu
 IsExpected def m s (entries.Unlink driver dev answer) =
-    (s.place ≡ count_of_asks def.calls + 1) × IsCallAt def s.place driver (calls.Free dev) × (s.within ≡ 0)
+    (call_of s driver ≡ Some (calls.Free dev)) × (within_of s driver ≡ 0) × (answer ≡ unlink_as m.linked)
 IsExpected def m s (entries.HardClear driver) =
-    (s.place ≡ count_of_asks def.calls + 1) × IsCallAt def s.place driver (calls.Free (device_of def)) × (s.within ≡ 1)
-IsExpected def m s (entries.Freed driver dev) =
-    (s.place ≡ count_of_asks def.calls + 1) × IsCallAt def s.place driver (calls.Free dev) × (2 ≤ s.within)
+    (call_of s driver ≡ Some (calls.Free (device_of def))) × (within_of s driver ≡ 1)
+IsExpected def m s (entries.Freed driver dev) = (call_of s driver ≡ Some (calls.Free dev)) × (2 ≤ within_of s driver)
 IsExpected def m s _ = Unit {0}
 
--- a call at a place of the script, and whose it is
-abbrev pub CallFits : LineDef → ℕ → DriverNo → Call → Type 0
-CallFits def place who (calls.Ask dev) =
-    (who ≡ driver_of def) × (dev ≡ device_of def) × (1 ≤ place) × (place ≤ count_of_asks def.calls)
-CallFits def place who (calls.Request dev flags) =
-    (who ≡ driver_of def) × (dev ≡ device_of def) × (flags ≡ no_flags) × (place ≡ 0)
-CallFits def place who (calls.Free dev) =
-    (who ≡ driver_of def) × (dev ≡ device_of def) × (place ≡ count_of_asks def.calls + 1)
-CallFits def place who _ = ⊥
+-- the driver's call fits the line: a device that it requests isn't linked
+abbrev pub CallFits : LineDef → Marks → DriverNo → Call → Type 0
+CallFits def m who (calls.Ask dev) = dev ≡ device_of def
+CallFits def m who (calls.Request dev flags) =
+    (who ≡ owner_of def) × (dev ≡ device_of def) × (flags ≡ no_flags) × HasDirect def × (m.linked ≡ false)
+CallFits def m who (calls.Free dev) = (who ≡ owner_of def) × (dev ≡ device_of def)
+CallFits def m who _ = ⊥
+
+-- the driver's call is due, of which that many entries are there
+pub record IsDueCall (def : LineDef) (m : Marks) (s : Scripts) (who : DriverNo) (call : Call) (within : ℕ) : Type 0 where
+  pub due : call_of s who ≡ Some call
+  pub count : within_of s who ≡ within
+  pub fits : CallFits def m who call

@@ -7,3 +7,4 @@ pub mod Marks
 pub mod Script
 pub mod Seen
 pub mod Steps
+pub mod Tests

@@ -1,17 +1,22 @@
 -- What holds of a line at every moment.
-use Rattle.std.specs.Prelude.{◌≡◌, ℕ, ◌+◌, ◌-◌, ◌≤◌, Bool, true, false, not, is_some, IfSome, List, length, reverse, nat_lt, if◌then◌else◌}
+use Rattle.std.specs.Prelude.{◌≡◌, ℕ, ◌+◌, ◌<◌, ◌≤◌, Bool, true, false, not, is_some, IfSome, List, [], ◌∷◌, length, drop, reverse, if◌then◌else◌}
+use Rattle.irq_base.specs.declared.calls.Call.{Call}
 use Rattle.irq_base.specs.declared.entries.Entry.{Entry}
 use Rattle.irq_base.specs.declared.lines.LineDef.{LineDef}
 use Rattle.irq_base.specs.declared.numbers.DevNo.{DevNo}
+use Rattle.irq_base.specs.declared.numbers.DriverNo.{DriverNo}
+use Rattle.irq_model.specs.Bounds.{ask_calls}
 use Rattle.irq_model.specs.Due.{calls_by, entries_by, holds_mutex}
 use Rattle.irq_model.specs.Legal.{IsLegal}
 use Rattle.irq_model.specs.Places.{EachEntry}
+use Rattle.irq_model.specs.Valid.{requests_dev, frees_dev}
 use Rattle.irq_steps.specs.Laid.{Laid}
 use Rattle.line_core.specs.Agreed.{Agreed}
-use Rattle.line_core.specs.Built.{Built, device_of, driver_of, count_of_asks}
+use Rattle.line_core.specs.Built.{Built, HasDirect, device_of, owner_of}
 use Rattle.line_core.specs.Due.{Comes}
 use Rattle.line_core.specs.declared.marks.Marks.{Marks}
-use Rattle.line_core.specs.declared.script.Script.{Script}
+use Rattle.line_scripts.specs.Rows.{calls_of, place_of, within_of, asks_left}
+use Rattle.line_scripts.specs.declared.scripts.Scripts.{Scripts}
 
 -- Between the marks: the line is open exactly while the device is linked, and an edge is sent only while it is
 -- open. So no take finds the line disabled, or nothing linked.
@@ -30,43 +35,46 @@ one_if b = if b then 1 else 0
 abbrev pub count_of_rounds : Marks → ℕ
 count_of_rounds m = m.counts.irq_count + one_if (is_some m.flow) + one_if m.sent + one_if m.stored
 
--- Each round needs an ask of its own, so the window is never full.
-pub record AreEarned (def : LineDef) (m : Marks) (s : Script) : Type 0 where
-  pub so_far : count_of_rounds m ≤ s.place - 1
-  pub at_most : count_of_rounds m ≤ count_of_asks def.calls
-
 -- no count is above the number of entries
-pub record AreBounded (n : ℕ) (m : Marks) (s : Script) : Type 0 where
+pub record AreBounded (n : ℕ) (m : Marks) : Type 0 where
   pub unserved : m.unserved ≤ n
   pub fresh : m.fresh ≤ n
-  pub place : s.place ≤ n
-  pub within : s.within ≤ n
 
--- The device is linked from its request to its unlink.
-pub record IsLinkedByScript (def : LineDef) (m : Marks) (s : Script) : Type 0 where
-  pub before : s.place ≡ 0 → m.linked ≡ false
-  pub during : 1 ≤ s.place → s.place ≤ count_of_asks def.calls + 1 → s.within ≡ 0 → m.linked ≡ true
+-- no request of d stands in the calls before a free of it
+abbrev pub FreesFirst : DevNo → List Call → Type 0
+FreesFirst d [] = Unit {0}
+FreesFirst d (c ∷ cs) = (requests_dev d c ≡ false) × (frees_dev d c ≡ false → FreesFirst d cs)
 
--- The definition, the marks and the place fit one another. What is due depends on them alone.
-pub record IsConsistent (def : LineDef) (dev : DevNo) (m : Marks) (s : Script) : Type 0 where
+-- The definition and the marks fit one another. What is due of a processor depends on them alone.
+pub record IsConsistent (def : LineDef) (dev : DevNo) (m : Marks) : Type 0 where
   pub built : Built def
   pub device : dev ≡ device_of def
   pub sane : IsSane m
-  pub earned : AreEarned def m s
-  pub linked : IsLinkedByScript def m s
+  pub few_rounds : count_of_rounds m < def.window
+  -- what is linked, or at work, is the device
+  pub linked : m.linked ≡ true → HasDirect def
+  pub running : m.running ≡ true → HasDirect def
 
--- The marks and the place are those of the history, whose newest entry comes first: each entry is of a kind that
--- comes on such a line, the driver's entries make its calls up to the place, and the request mutex is held from the
--- first entry of the free to its last.
-pub record IsPast (def : LineDef) (past : List Entry) (m : Marks) (s : Script) : Type 0 where
+-- The scripts and the marks fit one another: each round needs an ask of its own, and the device is linked only
+-- between a request and the beginning of the next free.
+pub record IsDriven (def : LineDef) (m : Marks) (s : Scripts) : Type 0 where
+  pub calls : (r : DriverNo) → calls_of s r ≡ calls_by r def.calls
+  pub earned : count_of_rounds m + asks_left s ≤ ask_calls def
+  pub requested : m.linked ≡ true → FreesFirst (device_of def) (drop (place_of s (owner_of def)) (calls_by (owner_of def) def.calls))
+  pub freeing : 1 ≤ within_of s (owner_of def) → m.linked ≡ false
+
+-- The marks and the places are those of the history, whose newest entry comes first: each entry is of a kind that
+-- comes on such a line, and each driver's entries make its calls up to its place.
+pub record IsPast (def : LineDef) (past : List Entry) (m : Marks) (s : Scripts) : Type 0 where
   pub agreed : Agreed def past m
   pub comes : EachEntry (λ e before. Comes def e) past
-  pub laid : Laid (calls_by (driver_of def) def.calls) (entries_by (driver_of def) past) s.place s.within
-  pub mutex : holds_mutex past ≡ nat_lt 0 s.within
+  pub laid : (r : DriverNo) → Laid (calls_by r def.calls) (entries_by r past) (place_of s r) (within_of s r)
+  pub mutex : holds_mutex past ≡ m.mutex
 
-pub record IsLine (def : LineDef) (dev : DevNo) (entries : List Entry) (m : Marks) (s : Script) : Type 0 where
-  pub consistent : IsConsistent def dev m s
+pub record IsLine (def : LineDef) (dev : DevNo) (entries : List Entry) (m : Marks) (s : Scripts) : Type 0 where
+  pub consistent : IsConsistent def dev m
+  pub driven : IsDriven def m s
   pub legal : IsLegal def entries
   pub past : IsPast def (reverse entries) m s
-  pub bounded : AreBounded (length entries) m s
+  pub bounded : AreBounded (length entries) m
   pub room : length entries ≤ def.log

@@ -5,6 +5,7 @@ use Rattle.irq_base.specs.declared.devices.Answer.TheVariants as answers
 use Rattle.irq_base.specs.declared.entries.Entry.{Entry}
 use Rattle.irq_base.specs.declared.entries.Entry.TheVariants as entries
 use Rattle.irq_base.specs.declared.entries.TakeAnswer.TheVariants as takes
+use Rattle.irq_base.specs.declared.entries.UnlinkAnswer.TheVariants as unlinks
 use Rattle.irq_base.specs.declared.numbers.CpuNo.{CpuNo}
 use Rattle.line_core.specs.declared.marks.Marks.{Marks}
 use Rattle.line_core.specs.Counts.{counts_after, no_counts}
@@ -25,6 +26,7 @@ first_marks = record {
   unserved = 0;
   fresh = 0;
   met = 0;
+  mutex = false;
   counts = no_counts;
 }
 
@@ -65,7 +67,7 @@ after_return handled m = record m { running = false; handled = m.handled || hand
 abbrev pub after_end : ℕ → Marks → Marks
 after_end window m = record m { flow = None; counts = counts_after window m.handled m.counts }
 
--- the device leaves, and the line closes: what was sent is stored again
+-- the device leaves, and the line closes: what was sent is stored again, and the free keeps the request mutex
 abbrev pub after_unlink : Marks → Marks
 after_unlink m = record m {
   linked = false;
@@ -73,14 +75,19 @@ after_unlink m = record m {
   masked = true;
   stored = m.sent || m.stored;
   sent = false;
+  mutex = true;
 }
+
+-- the free is complete
+abbrev pub after_freed : Marks → Marks
+after_freed m = record m { mutex = false }
 
 abbrev pub is_handled : Answer → Bool
 is_handled answers.Handled = true
 is_handled answers.Nothing = false
 is_handled answers.Wake = false
 
--- the others, a hard clear and a freed among them, leave the marks
+-- the others, a hard clear and an unlink that finds nothing among them, leave the marks
 abbrev pub marks_after : ℕ → Entry → Marks → Marks
 marks_after window (entries.Ask driver dev) m = after_ask m
 marks_after window (entries.Request driver dev flags answer opened) m = after_request m
@@ -88,7 +95,8 @@ marks_after window (entries.Take cpu way takes.Handle) m = after_take cpu m
 marks_after window (entries.Begin cpu dev) m = after_begin m
 marks_after window (entries.Return cpu dev answer served) m = after_return (is_handled answer) m
 marks_after window (entries.End cpu again unmask note) m = after_end window m
-marks_after window (entries.Unlink driver dev answer) m = after_unlink m
+marks_after window (entries.Unlink driver dev (unlinks.Unlinked last)) m = after_unlink m
+marks_after window (entries.Freed driver dev) m = after_freed m
 marks_after _ _ m = m
 
 -- one more of each count fits

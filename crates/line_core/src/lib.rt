@@ -1,4 +1,5 @@
-//! One interrupt line of one processor: an edge line with one device that has no thread, and one driver.
+//! One interrupt line of one processor: an edge line with at most one device, which has no thread, and any drivers
+//! that ask, request and free it.
 //!
 //! Each step adds the one entry that is due of its actor, by the table of steps of `irq_model`, or changes nothing
 //! where none is due. The marks that a line keeps are the values of the definitions at its history, which is never

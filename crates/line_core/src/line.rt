@@ -13,8 +13,9 @@ ghost use Rattle.line_core.specs.declared.answers.Stepped.TheVariants as stepped
 use crate::answers::{StepRefused, Stepped};
 use crate::due::due_entry;
 use crate::marks::Marks;
-use crate::script::Script;
+use crate::script::advance;
 use irq_base::{Actor, CpuNo, DevNo, Entry, History, LineDef, NoMemory};
+use line_scripts::Scripts;
 use std::alloc::Global;
 use std::marker::Model;
 
@@ -26,7 +27,7 @@ pub struct Line {
     dev: DevNo,
     history: History,
     marks: Marks,
-    script: Script,
+    scripts: Scripts,
 }
 
 impl Model for Line {
@@ -37,19 +38,20 @@ impl Model for Line {
 
     ghost view = { λ l. record { def = l.def; entries = l.history.entries; spare = l.history.spare } };
 
-    ghost invariant = { λ l. IsLine l.def l.dev l.history.entries l.marks l.script };
+    ghost invariant = { λ l. IsLine l.def l.dev l.history.entries l.marks l.scripts };
 }
 
 impl Line {
     /// The line of that definition, to which nothing has happened. The definition is that of a latch line of one
-    /// processor with one direct device, whose driver requests it, asks, and frees it at most once. Refused only for
-    /// want of memory.
+    /// processor with at most one device, which is direct, and any drivers that ask, request without flags, and free.
+    /// Refused only for want of memory.
     pub fn new(alloc: Global, def: &LineDef) -> Result<Line, NoMemory>
         requires { Built def.now }
         ensures def { IfOk result (λ l. l.def ≡ def.now) }
         ensures empty { IfOk result (λ l. l.entries ≡ []) }
     {
         let dev = device(def);
+        let scripts = Scripts::new(alloc, &def.calls)?;
         let def = def.try_clone(alloc)?;
         let history = History::with_room(alloc, 0)?;
         Ok(Line {
@@ -57,10 +59,7 @@ impl Line {
             dev,
             history,
             marks: Marks::new(),
-            script: Script {
-                place: 0,
-                within: 0,
-            },
+            scripts,
         })
     }
 
@@ -82,7 +81,7 @@ impl Line {
         ensures due { OnErr result (IsDueOf self.old actor) }
         ensures refused { OnErr result (self.new ≡ self.old) }
     {
-        let Some(entry) = due_entry(&self.def, self.dev, &self.marks, self.script, actor) else {
+        let Some(entry) = due_entry(&self.def, self.dev, &self.marks, &self.scripts, actor) else {
             return Ok(Stepped::NotYet);
         };
         let len = self.history.len();
@@ -91,7 +90,7 @@ impl Line {
         }
         make_room(&mut self.history)?;
         self.marks.apply(&self.def, entry);
-        self.script = self.script.after(entry);
+        advance(&mut self.scripts, entry);
         self.history.push(entry);
         Ok(Stepped::Added(entry))
     }
@@ -105,7 +104,7 @@ impl Line {
             &self.def,
             self.dev,
             &self.marks,
-            self.script,
+            &self.scripts,
             Actor::Cpu(cpu),
         );
         matches!(due, Some(Entry::Take { .. }))
@@ -174,14 +173,13 @@ impl Line {
     }
 }
 
-/// The device of the line.
+/// The device of the line, or 0 where it has none.
 fn device(def: &LineDef) -> DevNo
-    requires { Built def.now }
     ensures { result ≡ device_of def.now }
 {
     match def.devices.get(0) {
         Some(device) => device.dev,
-        None => unreachable!(),
+        None => DevNo(0),
     }
 }
 

@@ -1,9 +1,9 @@
 //! The marks of a line, and what each entry makes of them.
 ghost use Rattle.std.specs.Prelude.{◌≡◌, ℕ, ◌+◌, ◌-◌, ◌<◌, ◌^◌};
-ghost use Rattle.line_core.specs.Marks.{first_marks, after_ask, after_request, after_take, after_begin, after_return, after_end, after_unlink, marks_after, HasRoom};
+ghost use Rattle.line_core.specs.Marks.{first_marks, after_ask, after_request, after_take, after_begin, after_return, after_end, after_unlink, after_freed, marks_after, HasRoom};
 
 use crate::counts::Counts;
-use irq_base::{Answer, CpuNo, Entry, LineDef, TakeAnswer};
+use irq_base::{Answer, CpuNo, Entry, LineDef, TakeAnswer, UnlinkAnswer};
 
 /// The marks of an edge line with one device that has no thread.
 #[derive(Clone, Copy)]
@@ -34,6 +34,8 @@ pub struct Marks {
     pub fresh: u32,
     /// The asks that were unserved as it was last called.
     pub met: u32,
+    /// A free is in progress (`request_mutex` of `struct irq_desc`).
+    pub mutex: bool,
     pub counts: Counts,
 }
 
@@ -56,6 +58,7 @@ impl Marks {
             unserved: 0,
             fresh: 0,
             met: 0,
+            mutex: false,
             counts: Counts::new(),
         }
     }
@@ -76,8 +79,12 @@ impl Marks {
             Entry::Begin { .. } => self.begin(),
             Entry::Return { answer, .. } => self.returned(answer == Answer::Handled),
             Entry::End { .. } => self.end(def.window, def.limit),
-            Entry::Unlink { .. } => self.unlink(),
-            // A hard clear and a freed change no mark, and no other entry comes on this line.
+            Entry::Unlink {
+                answer: UnlinkAnswer::Unlinked { .. },
+                ..
+            } => self.unlink(),
+            Entry::Freed { .. } => self.freed(),
+            // A hard clear, and an unlink that finds nothing, change no mark. No other entry comes on this line.
             _ => {}
         }
     }
@@ -96,7 +103,7 @@ impl Marks {
         }
     }
 
-    /// The line is started, and the chip sends what it has stored (`irq_startup`, `kernel/irq/chip.c`).
+    /// The line is started, at first or again, and the chip sends what it has stored (`irq_startup`, `kernel/irq/chip.c`).
     fn request(&mut self)
         ensures { self.new ≡ after_request self.old }
     {
@@ -148,7 +155,8 @@ impl Marks {
         self.counts = self.counts.note(self.handled, window, limit).counts;
     }
 
-    /// The line is shut down, and the chip takes back what it has sent (`irq_shutdown`, `kernel/irq/chip.c`).
+    /// The line is shut down, and the chip takes back what it has sent (`irq_shutdown`, `kernel/irq/chip.c`). The free
+    /// keeps the request mutex.
     fn unlink(&mut self)
         ensures { self.new ≡ after_unlink self.old }
     {
@@ -157,5 +165,13 @@ impl Marks {
         self.masked = true;
         self.stored = self.sent || self.stored;
         self.sent = false;
+        self.mutex = true;
+    }
+
+    /// The free is complete, and gives the request mutex up.
+    fn freed(&mut self)
+        ensures { self.new ≡ after_freed self.old }
+    {
+        self.mutex = false;
     }
 }

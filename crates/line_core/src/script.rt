@@ -1,33 +1,35 @@
-//! How far the driver is.
-ghost use Rattle.std.specs.Prelude.{◌≡◌, ℕ, ◌+◌, ◌-◌, ◌<◌, ◌^◌};
-ghost use Rattle.line_core.specs.Script.{script_after};
+//! What an entry makes of its driver's script.
+ghost use Rattle.std.specs.Prelude.{◌≡◌, IfSome};
+ghost use Rattle.line_core.specs.Script.{progress_of, IsGoing, ScriptsAfter};
 
-use irq_base::Entry;
+use irq_base::{DriverNo, Entry, UnlinkAnswer};
+use line_scripts::Scripts;
 
-/// The place of the driver's call that isn't complete, counted from 0, and how many entries it has made.
-#[derive(Clone, Copy)]
-pub struct Script {
-    pub place: usize,
-    pub within: u32,
+/// The driver whose call the entry belongs to, and whether it completes the call; none for an entry of a processor. A
+/// free makes three entries, or one where it finds nothing to free; another call makes one.
+fn progress(entry: Entry) -> Option<(DriverNo, bool)>
+    ensures { result ≡ progress_of entry }
+{
+    match entry {
+        Entry::Ask { driver, .. }
+        | Entry::Request { driver, .. }
+        | Entry::Unlink {
+            driver,
+            answer: UnlinkAnswer::NotThere,
+            ..
+        }
+        | Entry::Freed { driver, .. } => Some((driver, true)),
+        Entry::Unlink { driver, .. } | Entry::HardClear { driver } => Some((driver, false)),
+        _ => None,
+    }
 }
 
-impl Script {
-    /// The place after one more entry. A free makes three entries, another call one.
-    pub fn after(self, entry: Entry) -> Script
-        requires place { self.place < 2 ^ 64 - 1 }
-        requires within { self.within < 2 ^ 32 - 1 }
-        ensures { result ≡ script_after entry self }
-    {
-        match entry {
-            Entry::Ask { .. } | Entry::Request { .. } | Entry::Freed { .. } => Script {
-                place: self.place + 1,
-                within: 0,
-            },
-            Entry::Unlink { .. } | Entry::HardClear { .. } => Script {
-                place: self.place,
-                within: self.within + 1,
-            },
-            _ => self,
-        }
+/// Counts one more entry of the call that it belongs to.
+pub fn advance(scripts: &mut Scripts, entry: Entry)
+    requires { IfSome (progress_of entry) (λ step. IsGoing scripts.old step.0) }
+    ensures { ScriptsAfter (progress_of entry) scripts.old scripts.new }
+{
+    if let Some((driver, completes)) = progress(entry) {
+        scripts.advance(driver, completes);
     }
 }

@@ -1,6 +1,7 @@
 //! Whole lines, step by step. The expected entries are worked out by hand.
-ghost use Rattle.std.specs.Prelude.{◌≡◌, ℕ, ◌≤◌, IfOk};
+ghost use Rattle.std.specs.Prelude.{◌≡◌, ℕ, ◌≤◌, IfOk, IsTrue, false, length};
 ghost use Rattle.line_core.specs.Built.{Built};
+ghost use Rattle.line_core.specs.Tests.{takes_turns};
 
 use crate::answers::{StepRefused, Stepped};
 use crate::line::Line;
@@ -19,7 +20,11 @@ const DEV: DevNo = DevNo(3);
 
 const CPU: CpuNo = CpuNo(0);
 
+/// The driver that requests and frees the device.
 const DRIVER: DriverNo = DriverNo(1);
+
+/// A driver that only asks.
+const OTHER: DriverNo = DriverNo(2);
 
 const FLAGS: Flags = Flags {
     shared: false,
@@ -27,10 +32,36 @@ const FLAGS: Flags = Flags {
     noauto: false,
 };
 
-/// A line of the script request, ask, free.
-fn definition(alloc: Global, log: u32) -> Result<LineDef, NoMemory>
+const REQUEST: (DriverNo, Call) = (
+    DRIVER,
+    Call::Request {
+        dev: DEV,
+        flags: FLAGS,
+    },
+);
+
+const ASK: (DriverNo, Call) = (DRIVER, Call::Ask { dev: DEV });
+
+const OTHER_ASK: (DriverNo, Call) = (OTHER, Call::Ask { dev: DEV });
+
+const FREE: (DriverNo, Call) = (DRIVER, Call::Free { dev: DEV });
+
+fn call_list(alloc: Global, items: &[(DriverNo, Call)]) -> Result<CallList, NoMemory>
+    ensures { IfOk result (λ list. list ≡ items.now) }
+{
+    let mut list = CallList::new(alloc);
+    for item in items {
+        list.push(*item)?;
+    }
+    Ok(list)
+}
+
+/// A line of these calls.
+fn definition(alloc: Global, log: u32, calls: &[(DriverNo, Call)]) -> Result<LineDef, NoMemory>
     requires low { 1 ≤ log }
     requires high { log ≤ 100000000 }
+    requires calls { IsTrue (takes_turns false calls.now) }
+    requires few { length calls.now ≤ 100 }
     ensures { IfOk result Built }
 {
     let mut devices = DeviceList::new(alloc);
@@ -39,14 +70,6 @@ fn definition(alloc: Global, log: u32) -> Result<LineDef, NoMemory>
         line: LINE,
         kind: Kind::Direct,
     })?;
-    let mut calls = CallList::new(alloc);
-    let request = Call::Request {
-        dev: DEV,
-        flags: FLAGS,
-    };
-    calls.push((DRIVER, request))?;
-    calls.push((DRIVER, Call::Ask { dev: DEV }))?;
-    calls.push((DRIVER, Call::Free { dev: DEV }))?;
     Ok(LineDef {
         line: LINE,
         flow: FlowKind::Edge,
@@ -62,7 +85,7 @@ fn definition(alloc: Global, log: u32) -> Result<LineDef, NoMemory>
         limit: 99_900,
         log,
         devices,
-        calls,
+        calls: call_list(alloc, calls)?,
     })
 }
 
@@ -91,23 +114,24 @@ fn request() -> Stepped {
     })
 }
 
+fn ask_of(driver: DriverNo) -> Stepped {
+    Stepped::Added(Entry::Ask { driver, dev: DEV })
+}
+
 fn ask() -> Stepped {
-    Stepped::Added(Entry::Ask {
-        driver: DRIVER,
-        dev: DEV,
-    })
+    ask_of(DRIVER)
 }
 
 fn begin() -> Stepped {
     Stepped::Added(Entry::Begin { cpu: CPU, dev: DEV })
 }
 
-fn handled() -> Stepped {
+fn handled(served: u32) -> Stepped {
     Stepped::Added(Entry::Return {
         cpu: CPU,
         dev: DEV,
         answer: Answer::Handled,
-        served: 1,
+        served,
     })
 }
 
@@ -136,6 +160,14 @@ fn unlink() -> Stepped {
     })
 }
 
+fn not_there() -> Stepped {
+    Stepped::Added(Entry::Unlink {
+        driver: DRIVER,
+        dev: DEV,
+        answer: UnlinkAnswer::NotThere,
+    })
+}
+
 fn hard_clear() -> Stepped {
     Stepped::Added(Entry::HardClear { driver: DRIVER })
 }
@@ -152,7 +184,10 @@ fn freed() -> Stepped {
 fn serves_and_frees(rt: HostRuntime) -> Result<(), Fail> {
     let driver = Actor::Driver(DRIVER);
     let cpu = Actor::Cpu(CPU);
-    let mut line = Line::new(rt.alloc(), &definition(rt.alloc(), 100)?)?;
+    let mut line = Line::new(
+        rt.alloc(),
+        &definition(rt.alloc(), 100, &[REQUEST, ASK, FREE])?,
+    )?;
     assert!(rt; !line.present(CPU));
     walk(
         &rt,
@@ -163,7 +198,7 @@ fn serves_and_frees(rt: HostRuntime) -> Result<(), Fail> {
             Row(driver, Ok(ask()), true),
             Row(cpu, Ok(take()), false),
             Row(cpu, Ok(begin()), false),
-            Row(cpu, Ok(handled()), false),
+            Row(cpu, Ok(handled(1)), false),
             Row(cpu, Ok(end(Note::Quiet)), false),
             Row(driver, Ok(unlink()), false),
             Row(driver, Ok(hard_clear()), false),
@@ -185,7 +220,10 @@ fn serves_and_frees(rt: HostRuntime) -> Result<(), Fail> {
 fn unlink_in_a_round(rt: HostRuntime) -> Result<(), Fail> {
     let driver = Actor::Driver(DRIVER);
     let cpu = Actor::Cpu(CPU);
-    let mut line = Line::new(rt.alloc(), &definition(rt.alloc(), 100)?)?;
+    let mut line = Line::new(
+        rt.alloc(),
+        &definition(rt.alloc(), 100, &[REQUEST, ASK, FREE])?,
+    )?;
     walk(
         &rt,
         &mut line,
@@ -204,11 +242,13 @@ fn unlink_in_a_round(rt: HostRuntime) -> Result<(), Fail> {
     Ok(())
 }
 
-/// The edge is sent as the line closes: its chip takes it back.
+/// The edge is sent as the line closes: its chip takes it back, and sends it again once the line is requested anew.
 #[test]
 fn unlink_recalls(rt: HostRuntime) -> Result<(), Fail> {
     let driver = Actor::Driver(DRIVER);
-    let mut line = Line::new(rt.alloc(), &definition(rt.alloc(), 100)?)?;
+    let cpu = Actor::Cpu(CPU);
+    let calls = [REQUEST, ASK, FREE, REQUEST];
+    let mut line = Line::new(rt.alloc(), &definition(rt.alloc(), 100, &calls)?)?;
     walk(
         &rt,
         &mut line,
@@ -216,7 +256,123 @@ fn unlink_recalls(rt: HostRuntime) -> Result<(), Fail> {
             Row(driver, Ok(request()), false),
             Row(driver, Ok(ask()), true),
             Row(driver, Ok(unlink()), false),
-            Row(Actor::Cpu(CPU), Ok(Stepped::NotYet), false),
+            Row(cpu, Ok(Stepped::NotYet), false),
+            Row(driver, Ok(hard_clear()), false),
+            Row(driver, Ok(freed()), false),
+            Row(driver, Ok(request()), true),
+            Row(cpu, Ok(take()), false),
+        ],
+    );
+    Ok(())
+}
+
+/// Asks of two drivers before the request are stored, and make one round once the line is requested. One more ask
+/// before its take makes no other.
+#[test]
+fn asks_before_the_request(rt: HostRuntime) -> Result<(), Fail> {
+    let driver = Actor::Driver(DRIVER);
+    let other = Actor::Driver(OTHER);
+    let cpu = Actor::Cpu(CPU);
+    let calls = [OTHER_ASK, ASK, REQUEST, OTHER_ASK];
+    let mut line = Line::new(rt.alloc(), &definition(rt.alloc(), 100, &calls)?)?;
+    walk(
+        &rt,
+        &mut line,
+        &[
+            Row(driver, Ok(ask()), false),
+            Row(other, Ok(ask_of(OTHER)), false),
+            Row(cpu, Ok(Stepped::NotYet), false),
+            Row(driver, Ok(request()), true),
+            Row(other, Ok(ask_of(OTHER)), true),
+            Row(cpu, Ok(take()), false),
+            Row(cpu, Ok(begin()), false),
+            Row(cpu, Ok(handled(3)), false),
+            Row(cpu, Ok(end(Note::Quiet)), false),
+            Row(cpu, Ok(Stepped::NotYet), false),
+            Row(other, Ok(Stepped::NotYet), false),
+            Row(driver, Ok(Stepped::NotYet), false),
+        ],
+    );
+    Ok(())
+}
+
+/// A free of what isn't linked is one entry, and changes nothing.
+#[test]
+fn free_before_the_request(rt: HostRuntime) -> Result<(), Fail> {
+    let driver = Actor::Driver(DRIVER);
+    let cpu = Actor::Cpu(CPU);
+    let calls = [FREE, OTHER_ASK, FREE, REQUEST];
+    let mut line = Line::new(rt.alloc(), &definition(rt.alloc(), 100, &calls)?)?;
+    walk(
+        &rt,
+        &mut line,
+        &[
+            Row(driver, Ok(not_there()), false),
+            Row(Actor::Driver(OTHER), Ok(ask_of(OTHER)), false),
+            Row(driver, Ok(not_there()), false),
+            Row(driver, Ok(request()), true),
+            Row(cpu, Ok(take()), false),
+            Row(cpu, Ok(begin()), false),
+            Row(cpu, Ok(handled(1)), false),
+            Row(cpu, Ok(end(Note::Quiet)), false),
+        ],
+    );
+    Ok(())
+}
+
+/// An edge that comes during a free is stored, and sent by the next request.
+#[test]
+fn requested_again(rt: HostRuntime) -> Result<(), Fail> {
+    let driver = Actor::Driver(DRIVER);
+    let cpu = Actor::Cpu(CPU);
+    let calls = [REQUEST, FREE, OTHER_ASK, REQUEST, FREE];
+    let mut line = Line::new(rt.alloc(), &definition(rt.alloc(), 100, &calls)?)?;
+    walk(
+        &rt,
+        &mut line,
+        &[
+            Row(driver, Ok(request()), false),
+            Row(driver, Ok(unlink()), false),
+            Row(Actor::Driver(OTHER), Ok(ask_of(OTHER)), false),
+            Row(driver, Ok(hard_clear()), false),
+            Row(driver, Ok(freed()), false),
+            Row(cpu, Ok(Stepped::NotYet), false),
+            Row(driver, Ok(request()), true),
+            Row(cpu, Ok(take()), false),
+            Row(cpu, Ok(begin()), false),
+            Row(cpu, Ok(handled(1)), false),
+            Row(cpu, Ok(end(Note::Quiet)), false),
+            Row(driver, Ok(unlink()), false),
+            Row(driver, Ok(hard_clear()), false),
+            Row(driver, Ok(freed()), false),
+            Row(driver, Ok(Stepped::NotYet), false),
+        ],
+    );
+    Ok(())
+}
+
+/// The device is freed while its handler is at work: the flow goes on to its end, and the free waits for it.
+#[test]
+fn free_over_a_handler(rt: HostRuntime) -> Result<(), Fail> {
+    let driver = Actor::Driver(DRIVER);
+    let cpu = Actor::Cpu(CPU);
+    let calls = [REQUEST, ASK, FREE];
+    let mut line = Line::new(rt.alloc(), &definition(rt.alloc(), 100, &calls)?)?;
+    walk(
+        &rt,
+        &mut line,
+        &[
+            Row(driver, Ok(request()), false),
+            Row(driver, Ok(ask()), true),
+            Row(cpu, Ok(take()), false),
+            Row(cpu, Ok(begin()), false),
+            Row(driver, Ok(unlink()), false),
+            Row(driver, Ok(Stepped::NotYet), false),
+            Row(cpu, Ok(handled(1)), false),
+            Row(driver, Ok(Stepped::NotYet), false),
+            Row(cpu, Ok(end(Note::Quiet)), false),
+            Row(driver, Ok(hard_clear()), false),
+            Row(driver, Ok(freed()), false),
         ],
     );
     Ok(())
@@ -227,7 +383,10 @@ fn unlink_recalls(rt: HostRuntime) -> Result<(), Fail> {
 fn fills_its_log(rt: HostRuntime) -> Result<(), Fail> {
     let driver = Actor::Driver(DRIVER);
     let cpu = Actor::Cpu(CPU);
-    let mut line = Line::new(rt.alloc(), &definition(rt.alloc(), 5)?)?;
+    let mut line = Line::new(
+        rt.alloc(),
+        &definition(rt.alloc(), 5, &[REQUEST, ASK, FREE])?,
+    )?;
     walk(
         &rt,
         &mut line,
@@ -236,7 +395,7 @@ fn fills_its_log(rt: HostRuntime) -> Result<(), Fail> {
             Row(driver, Ok(ask()), true),
             Row(cpu, Ok(take()), false),
             Row(cpu, Ok(begin()), false),
-            Row(cpu, Ok(handled()), false),
+            Row(cpu, Ok(handled(1)), false),
             Row(cpu, Err(StepRefused::Full { len: 5 }), false),
             Row(driver, Err(StepRefused::Full { len: 5 }), false),
             Row(Actor::Cpu(CpuNo(1)), Ok(Stepped::NotYet), false),
@@ -248,7 +407,10 @@ fn fills_its_log(rt: HostRuntime) -> Result<(), Fail> {
 /// Room is made beforehand, and the history stays when the line goes.
 #[test]
 fn keeps_room(rt: HostRuntime) -> Result<(), Fail> {
-    let mut line = Line::new(rt.alloc(), &definition(rt.alloc(), 5)?)?;
+    let mut line = Line::new(
+        rt.alloc(),
+        &definition(rt.alloc(), 5, &[REQUEST, ASK, FREE])?,
+    )?;
     line.is_within_log();
     line.is_legal();
     line.reserve()?;

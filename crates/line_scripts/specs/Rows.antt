@@ -1,0 +1,57 @@
+-- The scripts of a line: a row for each driver that has calls on it.
+use Rattle.std.specs.Prelude.{ℕ, ◌+◌, Bool, false, Option, Some, None, List, [], ◌∷◌, drop, unwrap_or, slice_get}
+use Rattle.std.specs.Map.{lookup}
+use Rattle.irq_base.specs.declared.calls.Call.{Call}
+use Rattle.irq_base.specs.declared.numbers.DriverNo.{DriverNo}
+use Rattle.irq_model.specs.Bounds.{is_ask_call}
+use Rattle.irq_model.specs.Kinds.{same_driver}
+use Rattle.irq_model.specs.Places.{count_of}
+
+-- a driver's calls on the line in the order of its script, how many of them are complete, and how many entries the
+-- next one has made
+pub record RowSeen : Type 0 where
+  pub calls : List Call
+  pub place : ℕ
+  pub within : ℕ
+
+-- none of the calls has begun
+abbrev pub unbegun : List Call → RowSeen
+unbegun cs = record { calls = cs; place = 0; within = 0 }
+
+-- the driver's row, empty where it has no calls on the line
+abbrev pub row_of : List (DriverNo × RowSeen) → DriverNo → RowSeen
+row_of s r = unwrap_or (lookup (same_driver r) s) (unbegun [])
+
+-- the driver's calls on the line
+abbrev pub calls_of : List (DriverNo × RowSeen) → DriverNo → List Call
+calls_of s r = (row_of s r).calls
+
+-- how many of them are complete: the place of the first that isn't
+abbrev pub place_of : List (DriverNo × RowSeen) → DriverNo → ℕ
+place_of s r = (row_of s r).place
+
+-- how many entries that call has made
+abbrev pub within_of : List (DriverNo × RowSeen) → DriverNo → ℕ
+within_of s r = (row_of s r).within
+
+-- the call at the row's place
+abbrev pub call_in : RowSeen → Option Call
+call_in x = slice_get x.calls x.place
+
+-- the driver's first call that isn't complete
+abbrev pub call_of : List (DriverNo × RowSeen) → DriverNo → Option Call
+call_of s r = call_in (row_of s r)
+
+-- the asks of the row that aren't complete
+abbrev pub asks_in : RowSeen → ℕ
+asks_in x = count_of is_ask_call (drop x.place x.calls)
+
+-- the asks of all drivers that aren't complete
+abbrev pub asks_left : List (DriverNo × RowSeen) → ℕ
+asks_left [] = 0
+asks_left (x ∷ xs) = asks_in x.1 + asks_left xs
+
+-- there is a call, and it is an ask
+abbrev pub is_some_ask : Option Call → Bool
+is_some_ask None = false
+is_some_ask (Some c) = is_ask_call c

@@ -1,0 +1,14 @@
+//! The drivers' scripts on one line: how far each driver is with its calls.
+//!
+//! `Scripts` takes its memory when it is made, in time linear in the calls. From then on it says which call of a
+//! driver is due, and counts one more entry of it, in constant time and without memory.
+#![tactic(auto)]
+
+pub mod row;
+pub mod scripts;
+
+pub use row::Row;
+pub use scripts::Scripts;
+
+#[cfg(test)]
+mod tests;
