@@ -9,5 +9,5 @@ pub mod plays;
 pub use actors::actors_of;
 pub use plays::{PlayEnd, play};
 
-
-
+#[cfg(test)]
+mod tests;

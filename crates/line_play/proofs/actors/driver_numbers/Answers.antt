@@ -1,4 +1,4 @@
-use Rattle.std.proofs.Common.{◌≡◌, take, ◌∙◌, ◌++◌, [], ◌∷◌, ap, sym}
+use Rattle.std.proofs.Common.{take, ◌∙◌, ◌++◌, [], ◌∷◌, ap, sym}
 use Rattle.irq_base.specs.declared.numbers.DriverNo.{DriverNo}
 use Rattle.line_play.proofs.Puts.{driver_more}
 use Rattle.line_play.specs.ActorLists.{driver_numbers}

@@ -1,4 +1,4 @@
-use Rattle.std.proofs.Common.{◌≡◌, ◌++◌, [], ◌∷◌, ap, sym, ◌∙◌, append_assoc}
+use Rattle.std.proofs.Common.{◌++◌, [], ◌∷◌, ap, sym, ◌∙◌, append_assoc}
 use Rattle.irq_base.specs.declared.entries.Actor.TheVariants as actors
 use Rattle.line_play.proofs.Puts.{cpus_more}
 use Rattle.line_play.specs.ActorLists.{first_cpus}

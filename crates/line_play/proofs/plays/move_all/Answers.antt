@@ -1,6 +1,4 @@
-use Rattle.std.proofs.Common.{◌≡◌, ◌∙◌, ap, sym, List, [], subst}
-use Rattle.irq_base.specs.declared.entries.Actor.{Actor}
-use Rattle.irq_base.specs.declared.lines.LineDef.{LineDef}
+use Rattle.std.proofs.Common.{◌∙◌, ap, sym, subst}
 use Rattle.play_laws.specs.Actors.{actors_of}
 use Rattle.line_core.specs.declared.answers.Stepped.{Stepped}
 use Rattle.line_core.specs.declared.answers.Stepped.TheVariants as stepped
@@ -12,7 +10,7 @@ pub returns-in_err-move_lowest-clause-refused : goal.returns-in_err-move_lowest-
 returns-in_err-move_lowest-clause-refused c = λ picks u.
     err_along c.from_residual.result c.in_err-move_lowest.field-0.0 (λ refused. IsRefused c.move_lowest.new.line picks refused) c.from_residual.ensures.1
     (lowest_refused c.loop.line c.move_lowest.new.line picks c.args.actors.now c.in_err-move_lowest.field-0.0 (c.requires ∙ ap actors_of (sym c.loop.invariant.def)) (c.loop.invariant.underway picks u)
-     c.in_err-move_lowest.ensures.due c.in_err-move_lowest.ensures.cause c.in_err-move_lowest.ensures.refused)
+    c.in_err-move_lowest.ensures.due c.in_err-move_lowest.ensures.cause c.in_err-move_lowest.ensures.refused)
 
 pub loop-preserved : goal.loop-preserved
 loop-preserved c =

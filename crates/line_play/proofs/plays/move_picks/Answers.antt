@@ -10,8 +10,8 @@ pub returns-in_err-step-clause-refused : goal.returns-in_err-step-clause-refused
 returns-in_err-step-clause-refused c =
     err_along c.from_residual.result c.in_err-step.field-0.0 (λ refused. IsRefused c.step.new.self c.args.picks.now refused) c.from_residual.ensures.1
     (pick_refused c.loop-pick.line c.step.new.self c.args.picks.now (drop (c.loop-pick.pick-index + 1) c.args.picks.now) _ c.in_err-step.field-0.0
-     (at_pick c.loop-pick.line c.args.picks.now c.loop-pick.pick-index _ c.loop-pick-test.true c.loop-pick.invariant.underway) c.in_err-step.ensures.due c.in_err-step.ensures.cause
-     c.in_err-step.ensures.refused)
+    (at_pick c.loop-pick.line c.args.picks.now c.loop-pick.pick-index _ c.loop-pick-test.true c.loop-pick.invariant.underway) c.in_err-step.ensures.due c.in_err-step.ensures.cause
+    c.in_err-step.ensures.refused)
 
 pub loop-pick-preserved : goal.loop-pick-preserved
 loop-pick-preserved c = record {
