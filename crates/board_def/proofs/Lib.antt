@@ -4,7 +4,7 @@ pub mod Grows
 mod Kept
 pub mod NameBack
 mod Owners
-mod Paths
+pub mod Paths
 mod PlacingSteps
 pub mod Rising
 mod Tabled

@@ -8,3 +8,4 @@ pub mod Seen
 pub mod Places
 pub mod Keywords
 pub mod Reads
+pub mod FaultTexts

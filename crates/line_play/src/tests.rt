@@ -33,7 +33,7 @@ const FLAGS: Flags = Flags {
     noauto: false,
 };
 
-const REQUEST: (DriverNo, Call) = (
+pub(crate) const REQUEST: (DriverNo, Call) = (
     OWNER,
     Call::Request {
         dev: DEV,
@@ -41,9 +41,11 @@ const REQUEST: (DriverNo, Call) = (
     },
 );
 
-const ASK: (DriverNo, Call) = (OWNER, Call::Ask { dev: DEV });
+pub(crate) const ASK: (DriverNo, Call) = (OWNER, Call::Ask { dev: DEV });
 
-const OTHER_ASK: (DriverNo, Call) = (OTHER, Call::Ask { dev: DEV });
+pub(crate) const OTHER_ASK: (DriverNo, Call) = (OTHER, Call::Ask { dev: DEV });
+
+pub(crate) const FREE: (DriverNo, Call) = (OWNER, Call::Free { dev: DEV });
 
 fn device_list(alloc: Global, numbers: &[u32]) -> Result<DeviceList, NoMemory>
     ensures { IfOk result (λ list. list ≡ map (λ n. record { dev = record { 0 = n }; line = LINE; kind = Kind.Direct }) numbers.now) }
@@ -93,7 +95,11 @@ fn line_of(cpus: u32, log: u32, devices: DeviceList, calls: CallList) -> LineDef
 }
 
 /// A line with one device, of these calls.
-fn definition(alloc: Global, log: u32, calls: &[(DriverNo, Call)]) -> Result<LineDef, NoMemory>
+pub(crate) fn definition(
+    alloc: Global,
+    log: u32,
+    calls: &[(DriverNo, Call)],
+) -> Result<LineDef, NoMemory>
     requires low { 1 ≤ log }
     requires high { log ≤ 100000000 }
     requires calls { IsTrue (takes_turns false calls.now) }

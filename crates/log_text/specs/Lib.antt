@@ -2,3 +2,4 @@ pub mod Words
 pub mod EntryWords
 pub mod Rows
 pub mod Spaced
+pub mod LayoutRows

@@ -1,0 +1,2 @@
+pub mod Spacing
+mod Levels
