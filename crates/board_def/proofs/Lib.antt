@@ -1,0 +1,2 @@
+pub mod EachAfters
+pub mod NameBack
