@@ -4,3 +4,8 @@ pub mod Levels
 pub mod Rules
 pub mod Layout
 pub mod LineOf
+pub mod Tables
+pub mod Find
+pub mod Inside
+pub mod LevelWalk
+pub mod LayoutWalk

@@ -4,10 +4,19 @@
 //! What a line gets at each level of its path, and which line is refused, is its layout.
 #![tactic(auto)]
 
+pub mod board;
+pub mod definitions;
+pub mod devices;
+pub mod domains;
+pub mod drivers;
 pub mod layouts;
+pub mod levels;
+pub mod lines;
 pub mod names;
+pub mod placing;
 pub mod rows;
 
+pub use board::Board;
 pub use layouts::{Layout, Placement, Unmapped};
 pub use names::{LONGEST_NAME, Name};
 pub use rows::{DomainRow, LineRow, ScriptCall};

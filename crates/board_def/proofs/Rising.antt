@@ -1,0 +1,79 @@
+-- Lists whose numbers rise.
+use Rattle.std.proofs.Common.{◌≡◌, ℕ, zero, suc, ◌<◌, ◌==◌, true, false, cond, ◌||◌, Some, None, List, [], ◌∷◌, All, IfSome, refl, ap, subst, ◌∙◌, arith}
+use Rattle.std.specs.List.{slice_get}
+use Rattle.std.proofs.lemmas.Bool.Decides.{nat_tests}
+use Rattle.irq_base.specs.declared.devices.DeviceDef.{DeviceDef}
+use Rattle.irq_base.specs.declared.numbers.DevNo.{DevNo}
+use Rattle.irq_base.specs.declared.numbers.DriverNo.{DriverNo}
+use Rattle.irq_base.specs.declared.numbers.LineNo.{LineNo}
+use Rattle.board_def.specs.Find.{last_item}
+use Rattle.board_def.specs.LineOf.{find_line}
+use Rattle.board_def.specs.Rules.{EachAfter, find_device, has_driver}
+use Rattle.board_def.specs.declared.rows.LineRow.{LineRow}
+
+-- what holds of each item holds of the first, and of the others
+pub head_of : {A : Type 0} (P : A → Type 0) (x : A) (xs : List A) → All P (x ∷ xs) → P x
+head_of P x xs all = all zero x (omega arith)
+
+pub tail_of : {A : Type 0} (P : A → Type 0) (x : A) (xs : List A) → All P (x ∷ xs) → All P xs
+tail_of P x xs all k d h = all (suc k) d (omega arith)
+
+pub all_of : {A : Type 0} (P : A → Type 0) (x : A) (xs : List A) → P x → All P xs → All P (x ∷ xs)
+all_of P x xs p all zero d h = p
+all_of P x xs p all (suc k) d h = all k d (omega arith)
+
+pub differ : (m n : ℕ) → m < n → (m == n) ≡ false
+differ m n h = grind (arith, nat_tests)
+
+pub differ_back : (m n : ℕ) → m < n → (n == m) ≡ false
+differ_back m n h = grind (arith, nat_tests)
+
+pub equals_itself : (n : ℕ) → (n == n) ≡ true
+equals_itself n = grind (arith, nat_tests)
+
+-- each item's number is above those before it
+abbrev pub Rises : {A : Type 0} → (A → ℕ) → List A → Type 0
+Rises {A} key xs = EachAfter (λ earlier x. All (λ e. key e < key x) earlier) xs
+
+pub rises_on : {A : Type 0} (key : A → ℕ) (x : A) (xs : List A) → Rises key (x ∷ xs) → Rises key xs
+rises_on key x xs rises i y at = tail_of (λ e. key e < key y) x _ (rises (suc i) y at)
+
+-- what rises, and ends below a number, is all below it
+pub all_below : {A : Type 0} (key : A → ℕ) (xs : List A) (n : ℕ) → Rises key xs → IfSome (last_item xs) (λ x. key x < n) → All (λ e. key e < n) xs
+all_below key [] n rises last = λ k d h. absurd (omega arith)
+all_below key (x ∷ []) n rises last = all_of (λ e. key e < n) x [] last (λ k d h. absurd (omega arith))
+all_below key (x ∷ y ∷ ys) n rises last =
+    let rest = all_below key (y ∷ ys) n (rises_on key x (y ∷ ys) rises) last in
+    let first : key x < key y = head_of (λ e. key e < key y) x [] (rises 1 y refl) in
+    let second : key y < n = head_of (λ e. key e < n) y ys rest in
+    all_of (λ e. key e < n) x (y ∷ ys) (omega arith) rest
+
+-- a number above all is none of theirs
+
+pub no_line : (line : LineNo) (xs : List LineRow) → All (λ e. e.line.0 < line.0) xs → find_line xs line ≡ None
+no_line line [] all = refl
+no_line line (x ∷ xs) all =
+    ap (λ b. cond b (Some x) (find_line xs line)) (differ x.line.0 line.0 (head_of (λ e. e.line.0 < line.0) x xs all))
+    ∙ no_line line xs (tail_of (λ e. e.line.0 < line.0) x xs all)
+
+pub no_device : (dev : DevNo) (xs : List DeviceDef) → All (λ e. e.dev.0 < dev.0) xs → find_device xs dev ≡ None
+no_device dev [] all = refl
+no_device dev (x ∷ xs) all =
+    ap (λ b. cond b (Some x) (find_device xs dev)) (differ_back x.dev.0 dev.0 (head_of (λ e. e.dev.0 < dev.0) x xs all))
+    ∙ no_device dev xs (tail_of (λ e. e.dev.0 < dev.0) x xs all)
+
+pub no_driver : (driver : DriverNo) (xs : List DriverNo) → All (λ e. e.0 < driver.0) xs → has_driver xs driver ≡ false
+no_driver driver [] all = refl
+no_driver driver (x ∷ xs) all =
+    ap (λ b. b || has_driver xs driver) (differ x.0 driver.0 (head_of (λ e. e.0 < driver.0) x xs all))
+    ∙ no_driver driver xs (tail_of (λ e. e.0 < driver.0) x xs all)
+
+-- the line at a place is the one of its number
+pub line_at : (xs : List LineRow) (i : ℕ) (row : LineRow) → Rises (λ row. row.line.0) xs → slice_get xs i ≡ Some row → find_line xs row.line ≡ Some row
+line_at [] i row rises at = absurd cc
+line_at (x ∷ xs) zero row rises at =
+    let same : x ≡ row = cc in
+    subst (λ (y : LineRow). find_line (x ∷ xs) y.line ≡ Some y) same (ap (λ b. cond b (Some x) (find_line xs x.line)) (equals_itself x.line.0))
+line_at (x ∷ xs) (suc i) row rises at =
+    ap (λ b. cond b (Some x) (find_line xs row.line)) (differ x.line.0 row.line.0 (head_of (λ e. e.line.0 < row.line.0) x _ (rises (suc i) row at)))
+    ∙ line_at xs i row (rises_on (λ row. row.line.0) x xs rises) at

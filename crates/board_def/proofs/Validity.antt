@@ -1,0 +1,206 @@
+-- The definition of a board's line is valid.
+use Rattle.std.proofs.Common.{◌≡◌, ℕ, zero, suc, ◌<◌, ◌≤◌, ◌==◌, Bool, true, false, not, cond, ◌&&◌, ◌||◌, Option, Some, None, List, [], ◌∷◌, length, filter, map, take, All, refl, sym, ap, subst, ◌∙◌, arith}
+use Rattle.std.proofs.Math.ListN.{length-map}
+use Rattle.std.specs.List.{slice_get, list_any}
+use Rattle.std.proofs.lemmas.Bool.Decides.{nat_tests}
+use Rattle.std.proofs.lemmas.List.{map-id}
+use Rattle.irq_base.specs.Cell.{is_edge_trigger}
+use Rattle.irq_base.specs.declared.calls.Call.{Call}
+use Rattle.irq_base.specs.declared.calls.Call.TheVariants as calls
+use Rattle.irq_base.specs.declared.devices.DeviceDef.{DeviceDef}
+use Rattle.irq_base.specs.declared.domains.LevelKind.{LevelKind}
+use Rattle.irq_base.specs.declared.domains.LevelKind.TheVariants as levels
+use Rattle.irq_base.specs.declared.numbers.DevNo.{DevNo}
+use Rattle.irq_base.specs.declared.numbers.DriverNo.{DriverNo}
+use Rattle.irq_base.specs.declared.numbers.LineNo.{LineNo}
+use Rattle.irq_model.specs.Kinds.{same_dev}
+use Rattle.irq_model.specs.Lines.{is_device, is_edge_flow, is_level_flow, is_eoi_flow}
+use Rattle.irq_model.specs.Valid.{IsValid, HasDistinctDevices, names_one_of}
+use Rattle.board_def.specs.Levels.{way, kinds_from, kind_in, parent_in, is_root_kind, root_kind, keeps, retriggers_kind, trigger_of_root, flow_of_root}
+use Rattle.board_def.specs.LineOf.{line_of_row, with_driver}
+use Rattle.board_def.specs.Rules.{IsBoard, is_bad_parent, fits_line, is_on_line, find_device}
+use Rattle.board_def.specs.Seen.{BoardSeen}
+use Rattle.board_def.specs.declared.rows.DomainRow.{DomainRow}
+use Rattle.board_def.specs.declared.rows.LineRow.{LineRow}
+use Rattle.board_def.specs.declared.rows.ScriptCall.{ScriptCall}
+use Rattle.board_def.proofs.Kept.{all_kept, kept_fewer}
+use Rattle.board_def.proofs.Owners.{owned_on_line, one_owner, freed_between}
+use Rattle.board_def.proofs.Rising.{Rises, rises_on, head_of, differ}
+
+-- kinds of roots
+
+edge_root : (k : LevelKind) → is_edge_flow (flow_of_root k) ≡ true → is_edge_trigger (trigger_of_root k) ≡ true
+edge_root levels.Latch h = refl
+edge_root levels.Plain h = refl
+edge_root levels.Level h = absurd cc
+edge_root levels.Eoi h = absurd cc
+edge_root levels.Msi h = refl
+edge_root levels.Remap h = refl
+edge_root levels.Vector h = refl
+edge_root levels.Lpi h = absurd cc
+
+level_root : (k : LevelKind) → is_level_flow (flow_of_root k) ≡ true → not (is_edge_trigger (trigger_of_root k)) ≡ true
+level_root levels.Latch h = absurd cc
+level_root levels.Plain h = absurd cc
+level_root levels.Level h = refl
+level_root levels.Eoi h = absurd cc
+level_root levels.Msi h = absurd cc
+level_root levels.Remap h = absurd cc
+level_root levels.Vector h = absurd cc
+level_root levels.Lpi h = absurd cc
+
+-- the one root that is handled by the fast-EOI flow on edges
+lpi_root : (k : LevelKind) → is_edge_trigger (trigger_of_root k) ≡ true → is_eoi_flow (flow_of_root k) ≡ true → k ≡ levels.Lpi
+lpi_root levels.Latch e f = absurd cc
+lpi_root levels.Plain e f = absurd cc
+lpi_root levels.Level e f = absurd cc
+lpi_root levels.Eoi e f = absurd cc
+lpi_root levels.Msi e f = absurd cc
+lpi_root levels.Remap e f = absurd cc
+lpi_root levels.Vector e f = absurd cc
+lpi_root levels.Lpi e f = refl
+
+-- each level above which another stands is a child
+abbrev AreChildren : List DomainRow → Type 0
+AreChildren domains = (place : ℕ) (row : DomainRow) → slice_get domains place ≡ Some row → (parent : ℕ) → row.def.parent ≡ Some parent → is_root_kind row.def.chip ≡ false
+
+child_of : (domains : List DomainRow) → AreChildren domains → (place parent : ℕ) (r : Option DomainRow) → slice_get domains place ≡ r → parent_in r ≡ Some parent → is_root_kind (kind_in r) ≡ false
+child_of domains children place parent None at up = absurd cc
+child_of domains children place parent (Some row) at up = children place row at parent up
+
+keeps_more : (k : LevelKind) (ks : List LevelKind) → is_root_kind k ≡ false → keeps ks ≡ true → keeps (k ∷ ks) ≡ true
+keeps_more levels.Latch ks h rest = absurd cc
+keeps_more levels.Plain ks h rest = absurd cc
+keeps_more levels.Level ks h rest = absurd cc
+keeps_more levels.Eoi ks h rest = absurd cc
+keeps_more levels.Msi ks h rest = refl
+keeps_more levels.Remap ks h rest = rest
+keeps_more levels.Vector ks h rest = absurd cc
+keeps_more levels.Lpi ks h rest = absurd cc
+
+lpi_alone : (k : LevelKind) → k ≡ levels.Lpi → keeps (k ∷ []) ≡ true
+lpi_alone k h = ap (λ k. keeps (k ∷ [])) h
+
+-- a path whose root is an Lpi keeps
+lpi_keeps : (domains : List DomainRow) → AreChildren domains → (n place : ℕ)
+    → root_kind (map (λ place. kind_in (slice_get domains place)) (way n domains (Some place))) ≡ levels.Lpi
+    → keeps (map (λ place. kind_in (slice_get domains place)) (way n domains (Some place))) ≡ true
+lpi_keeps domains children zero place root = absurd cc
+lpi_keeps domains children (suc n) place root =
+    by n (parent_in (slice_get domains place)) refl root (λ parent. lpi_keeps domains children n parent)
+  where
+    by : (n : ℕ) (up : Option ℕ) → parent_in (slice_get domains place) ≡ up → root_kind (kind_in (slice_get domains place) ∷ map (λ place. kind_in (slice_get domains place)) (way n domains up)) ≡ levels.Lpi
+      → ((parent : ℕ) → root_kind (map (λ place. kind_in (slice_get domains place)) (way n domains (Some parent))) ≡ levels.Lpi → keeps (map (λ place. kind_in (slice_get domains place)) (way n domains (Some parent))) ≡ true)
+      → keeps (kind_in (slice_get domains place) ∷ map (λ place. kind_in (slice_get domains place)) (way n domains up)) ≡ true
+    by zero up is root rest = lpi_alone (kind_in (slice_get domains place)) root
+    by (suc n) None is root rest = lpi_alone (kind_in (slice_get domains place)) root
+    by (suc n) (Some parent) is root rest =
+        keeps_more (kind_in (slice_get domains place)) (map (λ place. kind_in (slice_get domains place)) (way (suc n) domains (Some parent)))
+        (child_of domains children place parent (slice_get domains place) refl is) (rest parent root)
+
+-- devices
+
+named : ℕ → LineNo
+named n = record { 0 = n }
+
+same_from_test : (m n : ℕ) → (m == n) ≡ true → m ≡ n
+same_from_test m n h = grind (arith, nat_tests)
+
+same_line : (a b : LineNo) → (a.0 == b.0) ≡ true → a ≡ b
+unfolding named
+same_line a b h = ap named (same_from_test a.0 b.0 h)
+
+none_named : (keep : DeviceDef → Bool) (dev : DevNo) (xs : List DeviceDef) → ((i : ℕ) (x : DeviceDef) → slice_get xs i ≡ Some x → dev.0 < x.dev.0) → list_any (is_device dev) (filter keep xs) ≡ false
+none_named keep dev [] above = refl
+none_named keep dev (x ∷ xs) above = by (keep x) (none_named keep dev xs (λ i y at. above (suc i) y at))
+  where
+    by : (b : Bool) → list_any (is_device dev) (filter keep xs) ≡ false → list_any (is_device dev) (cond b (x ∷ filter keep xs) (filter keep xs)) ≡ false
+    by true rest = ap (λ b. b || list_any (is_device dev) (filter keep xs)) (differ dev.0 x.dev.0 (above zero x refl)) ∙ rest
+    by false rest = rest
+
+distinct : (keep : DeviceDef → Bool) (xs : List DeviceDef) → Rises (λ (x : DeviceDef). x.dev.0) xs → HasDistinctDevices (filter keep xs)
+distinct keep [] rises = tt
+distinct keep (x ∷ xs) rises =
+    let above : (i : ℕ) (y : DeviceDef) → slice_get xs i ≡ Some y → x.dev.0 < y.dev.0 = λ i y at. head_of (λ (e : DeviceDef). e.dev.0 < y.dev.0) x (take i xs) (rises (suc i) y at) in
+    by (keep x) (none_named keep x.dev xs above) (distinct keep xs (rises_on (λ (x : DeviceDef). x.dev.0) x xs rises))
+  where
+    by : (b : Bool) → list_any (is_device x.dev) (filter keep xs) ≡ false → HasDistinctDevices (filter keep xs) → HasDistinctDevices (cond b (x ∷ filter keep xs) (filter keep xs))
+    by true none rest = (none, rest)
+    by false none rest = rest
+
+-- a device of the line is among those that the line has
+among : (line : LineNo) (dev : DevNo) (xs : List DeviceDef) → is_on_line line (find_device xs dev) ≡ true → list_any (is_device dev) (filter (λ x. x.line.0 == line.0) xs) ≡ true
+among line dev [] h = absurd cc
+among line dev (x ∷ xs) h = by (same_dev dev x.dev) refl (x.line.0 == line.0) refl h (among line dev xs)
+  where
+    by : (b : Bool) → same_dev dev x.dev ≡ b → (k : Bool) → (x.line.0 == line.0) ≡ k → is_on_line line (cond b (Some x) (find_device xs dev)) ≡ true
+      → (is_on_line line (find_device xs dev) ≡ true → list_any (is_device dev) (filter (λ x. x.line.0 == line.0) xs) ≡ true)
+      → list_any (is_device dev) (cond k (x ∷ filter (λ x. x.line.0 == line.0) xs) (filter (λ x. x.line.0 == line.0) xs)) ≡ true
+    by true is true on h rest = ap (λ b. b || list_any (is_device dev) (filter (λ x. x.line.0 == line.0) xs)) is
+    by true is false on h rest = absurd cc
+    by false is true on h rest = ap (λ b. b || list_any (is_device dev) (filter (λ x. x.line.0 == line.0) xs)) is ∙ rest h
+    by false is false on h rest = rest h
+
+named_on_line : (line : LineNo) (devices : List DeviceDef) (call : Call) → fits_line devices line call ≡ true → names_one_of (filter (λ x. x.line.0 == line.0) devices) call ≡ true
+named_on_line line devices (calls.Ask dev) h = among line dev devices h
+named_on_line line devices (calls.Request dev flags) h = among line dev devices h
+named_on_line line devices (calls.Free dev) h = among line dev devices h
+named_on_line line devices calls.Disable h = refl
+named_on_line line devices calls.DisableNosync h = refl
+named_on_line line devices calls.Enable h = refl
+named_on_line line devices calls.Sync h = refl
+named_on_line line devices (calls.Affinity mask) h = refl
+named_on_line line devices (calls.Moment at) h = refl
+
+-- all together
+
+unlazy_keeps : (u e k : Bool) → (u && (e && not k)) ≡ false → e ≡ true → u ≡ true → k ≡ true
+unlazy_keeps true true true h he hu = refl
+unlazy_keeps true true false h he hu = absurd cc
+unlazy_keeps true false k h he hu = absurd cc
+unlazy_keeps false e k h he hu = absurd cc
+
+no_parent_of_root : (r rest : Bool) → (r || rest) ≡ false → r ≡ false
+no_parent_of_root r rest h = grind arith
+
+board_children : (b : BoardSeen) → IsBoard b → AreChildren b.domains
+board_children b board place row at parent up =
+    no_parent_of_root (is_root_kind row.def.chip) _ (sym (ap (is_bad_parent (take place b.domains) row.def.chip) up) ∙ (board.domains place row at).parent)
+
+pub valid_row : (b : BoardSeen) (i : ℕ) (row : LineRow) → IsBoard b → slice_get b.lines i ≡ Some row → IsValid (line_of_row b row)
+valid_row b i row board at =
+    let here = board.lines i row at in
+    let ks : List LevelKind = kinds_from b.domains (Some row.domain) in
+    let on_line : DeviceDef → Bool = λ x. x.line.0 == row.line.0 in
+    let call_on_line : ScriptCall → Bool = λ c. c.line.0 == row.line.0 in
+    let owned = owned_on_line b row.line board.calls in
+    let above : b.limit < b.window = board.limit in
+    let short : b.log ≤ 1000000 = board.small_log in
+    let devices_few : length b.devices ≤ 256 = board.few_devices in
+    let calls_few : length b.calls ≤ 16384 = board.few_calls in
+    let calls_long = length-map (filter call_on_line b.calls) with_driver in
+    let lpi : is_edge_trigger (trigger_of_root (root_kind ks)) ≡ true → is_eoi_flow (flow_of_root (root_kind ks)) ≡ true → root_kind ks ≡ levels.Lpi = lpi_root (root_kind ks) in
+    record {
+      some_cpu = board.some_cpu;
+      few_cpus = board.few_cpus;
+      some_window = omega (arith, above);
+      small_window = board.small_window;
+      limit = board.limit;
+      some_log = board.some_log;
+      small_log = omega (arith, short);
+      few_devices = omega (arith, kept_fewer on_line b.devices, devices_few);
+      few_calls = omega (arith, calls_long, kept_fewer call_on_line b.calls, calls_few);
+      mask = here.mask;
+      edge_flow = edge_root (root_kind ks);
+      level_flow = level_root (root_kind ks);
+      unlazy = unlazy_keeps row.unlazy (is_edge_trigger (trigger_of_root (root_kind ks))) (keeps ks) here.unlazy;
+      eoi_keeps = λ edge eoi. lpi_keeps b.domains (board_children b board) 8 row.domain (lpi edge eoi);
+      eoi_retriggers = λ edge eoi. ap retriggers_kind (lpi edge eoi);
+      devices = subst (All (λ (x : DeviceDef). x.line ≡ row.line)) (map-id (filter on_line b.devices))
+        (all_kept on_line (λ (x : DeviceDef). x) (λ (x : DeviceDef). Unit {0}) (λ (x : DeviceDef). x.line ≡ row.line) (λ x p k. same_line x.line row.line k) b.devices (λ i x at. tt));
+      distinct = distinct on_line b.devices (λ i x at. (board.devices i x at).rises);
+      calls = all_kept call_on_line with_driver (λ (c : ScriptCall). fits_line b.devices c.line c.call ≡ true) (λ (c : DriverNo × Call). names_one_of (filter on_line b.devices) c.1 ≡ true)
+        (λ c fits k. named_on_line row.line b.devices c.call (subst (λ line. fits_line b.devices line c.call ≡ true) (same_line c.line row.line k) fits)) b.calls (λ i c at. (board.calls i c at).device);
+      owners = λ d. one_owner d (filter call_on_line b.calls) owned;
+      freed = λ d. freed_between d (filter call_on_line b.calls) owned;
+    }

@@ -1,0 +1,325 @@
+//! A board: what is declared of a machine and its drivers.
+ghost use Rattle.std.specs.Prelude.{◌≡◌, ◌<◌, ◌≤◌, [], ◌∷◌, ◌++◌, length, slice_get, OnOk, OnErr};
+ghost use Rattle.board_def.specs.Find.{place_of_name, last_line, last_device, last_driver};
+ghost use Rattle.board_def.specs.LineOf.{find_line};
+ghost use Rattle.board_def.specs.Rules.{IsBoard, find_device, has_driver};
+
+use crate::devices::DeviceTable;
+use crate::domains::DomainTable;
+use crate::drivers::DriverTable;
+use crate::lines::LineTable;
+use crate::names::Name;
+use crate::rows::{DomainRow, LineRow, ScriptCall};
+use irq_base::{Actor, DevNo, DeviceDef, DriverNo, LineNo, NoMemory};
+use std::alloc::Global;
+use std::marker::Model;
+
+/// A board that keeps the rules. Contracts see its numbers and its lists. It looks up a domain's name and the
+/// numbers of lines, devices and drivers in constant time.
+#[derive(Drop)]
+pub struct Board {
+    cpus: u32,
+    window: u32,
+    limit: u32,
+    log: u32,
+    domains: DomainTable,
+    lines: LineTable,
+    devices: DeviceTable,
+    drivers: DriverTable,
+    calls: Vec<ScriptCall>,
+    picks: Vec<Actor>,
+}
+
+impl Model for Board {
+    ghost use Rattle.board_def.specs.Seen.{BoardSeen};
+
+    ghost Value = { BoardSeen };
+
+    ghost use Rattle.board_def.specs.Rules.{IsBoard};
+    ghost use Rattle.board_def.specs.Inside.{board_seen};
+
+    ghost view = { board_seen };
+
+    ghost invariant = { λ b. IsBoard (board_seen b) };
+}
+
+impl Board {
+    /// A board of that many processors (1 to 32), that window (1 to 1,000,000) and limit (below the window) of
+    /// the spurious note, and that greatest length of a line's history (1 to 1,000,000), with nothing declared.
+    pub fn new(alloc: Global, cpus: u32, window: u32, limit: u32, log: u32) -> Board
+        requires cpus { (1 ≤ cpus) × (cpus ≤ 32) }
+        requires window { window ≤ 1000000 }
+        requires limit { limit < window }
+        requires log { (1 ≤ log) × (log ≤ 1000000) }
+        ensures board { result ≡ record { cpus = cpus; window = window; limit = limit; log = log; domains = []; lines = []; devices = []; drivers = []; calls = []; picks = [] } }
+    {
+        Board {
+            cpus,
+            window,
+            limit,
+            log,
+            domains: DomainTable::new(alloc),
+            lines: LineTable::new(alloc),
+            devices: DeviceTable::new(alloc),
+            drivers: DriverTable::new(alloc),
+            calls: Vec::new(alloc),
+            picks: Vec::new(alloc),
+        }
+    }
+
+    /// Sets the number of processors, 1 to 32.
+    pub fn set_cpus(&mut self, cpus: u32)
+        requires board { IsBoard (record self.old { cpus = cpus }) }
+        ensures set { self.new ≡ record self.old { cpus = cpus } }
+    {
+        self.cpus = cpus;
+    }
+
+    /// Sets the window, 1 to 1,000,000, and the limit, below it (`note_interrupt`, `kernel/irq/spurious.c`).
+    pub fn set_spurious(&mut self, window: u32, limit: u32)
+        requires board { IsBoard (record self.old { window = window; limit = limit }) }
+        ensures set { self.new ≡ record self.old { window = window; limit = limit } }
+    {
+        self.window = window;
+        self.limit = limit;
+    }
+
+    /// Sets the greatest length of a line's history, 1 to 1,000,000.
+    pub fn set_log(&mut self, log: u32)
+        requires board { IsBoard (record self.old { log = log }) }
+        ensures set { self.new ≡ record self.old { log = log } }
+    {
+        self.log = log;
+    }
+
+    /// Declares the domain after the others. Refused, the board is as before.
+    pub fn add_domain(&mut self, row: DomainRow) -> Result<(), NoMemory>
+        requires board { IsBoard (record self.old { domains = self.old.domains ++ row ∷ [] }) }
+        ensures added { OnOk result (self.new ≡ record self.old { domains = self.old.domains ++ row ∷ [] }) }
+        ensures refused { OnErr result (self.new ≡ self.old) }
+    {
+        self.domains.push(row)
+    }
+
+    /// Declares the line after the others. Refused, the board is as before.
+    pub fn add_line(&mut self, row: LineRow) -> Result<(), NoMemory>
+        requires board { IsBoard (record self.old { lines = self.old.lines ++ row ∷ [] }) }
+        ensures added { OnOk result (self.new ≡ record self.old { lines = self.old.lines ++ row ∷ [] }) }
+        ensures refused { OnErr result (self.new ≡ self.old) }
+    {
+        self.lines.push(row)
+    }
+
+    /// Declares the device after the others. Refused, the board is as before.
+    pub fn add_device(&mut self, device: DeviceDef) -> Result<(), NoMemory>
+        requires board { IsBoard (record self.old { devices = self.old.devices ++ device ∷ [] }) }
+        ensures added { OnOk result (self.new ≡ record self.old { devices = self.old.devices ++ device ∷ [] }) }
+        ensures refused { OnErr result (self.new ≡ self.old) }
+    {
+        self.devices.push(device)
+    }
+
+    /// Declares the driver after the others. Refused, the board is as before.
+    pub fn add_driver(&mut self, driver: DriverNo) -> Result<(), NoMemory>
+        requires board { IsBoard (record self.old { drivers = self.old.drivers ++ driver ∷ [] }) }
+        ensures added { OnOk result (self.new ≡ record self.old { drivers = self.old.drivers ++ driver ∷ [] }) }
+        ensures refused { OnErr result (self.new ≡ self.old) }
+    {
+        self.drivers.push(driver)
+    }
+
+    /// Adds the call at the end of the scripts. Refused, the board is as before.
+    pub fn add_call(&mut self, call: ScriptCall) -> Result<(), NoMemory>
+        requires board { IsBoard (record self.old { calls = self.old.calls ++ call ∷ [] }) }
+        ensures added { OnOk result (self.new ≡ record self.old { calls = self.old.calls ++ call ∷ [] }) }
+        ensures refused { OnErr result (self.new ≡ self.old) }
+    {
+        self.calls.push(call)?;
+        Ok(())
+    }
+
+    /// Adds the pick after the others. Refused, the board is as before.
+    pub fn add_pick(&mut self, pick: Actor) -> Result<(), NoMemory>
+        requires board { IsBoard (record self.old { picks = self.old.picks ++ pick ∷ [] }) }
+        ensures added { OnOk result (self.new ≡ record self.old { picks = self.old.picks ++ pick ∷ [] }) }
+        ensures refused { OnErr result (self.new ≡ self.old) }
+    {
+        self.picks.push(pick)?;
+        Ok(())
+    }
+
+    /// What holds of every board.
+    pub fn is_board(&self)
+        ensures board { IsBoard self.now }
+    {
+        let _ = &self.cpus;
+    }
+
+    /// The number of processors, 1 to 32.
+    pub fn cpus(&self) -> u32
+        ensures { result ≡ self.now.cpus }
+    {
+        self.cpus
+    }
+
+    /// How many interrupts of a line are counted before the unhandled ones are judged, 1 to 1,000,000.
+    pub fn window(&self) -> u32
+        ensures { result ≡ self.now.window }
+    {
+        self.window
+    }
+
+    /// How many of them may be unhandled, below the window.
+    pub fn limit(&self) -> u32
+        ensures { result ≡ self.now.limit }
+    {
+        self.limit
+    }
+
+    /// The greatest length of a line's history, 1 to 1,000,000.
+    pub fn log(&self) -> u32
+        ensures { result ≡ self.now.log }
+    {
+        self.log
+    }
+
+    /// The domain at the place, counted from 0; none from their number on.
+    pub fn domain(&self, i: usize) -> Option<DomainRow>
+        ensures { result ≡ slice_get self.now.domains i }
+    {
+        self.domains.get(i)
+    }
+
+    /// The line at the place, counted from 0; none from their number on.
+    pub fn line(&self, i: usize) -> Option<LineRow>
+        ensures { result ≡ slice_get self.now.lines i }
+    {
+        self.lines.get(i)
+    }
+
+    /// The device at the place, counted from 0; none from their number on.
+    pub fn device(&self, i: usize) -> Option<DeviceDef>
+        ensures { result ≡ slice_get self.now.devices i }
+    {
+        self.devices.get(i)
+    }
+
+    /// The driver at the place, counted from 0; none from their number on.
+    pub fn driver(&self, i: usize) -> Option<DriverNo>
+        ensures { result ≡ slice_get self.now.drivers i }
+    {
+        self.drivers.get(i)
+    }
+
+    /// The call at the place in the scripts, counted from 0; none from their length on.
+    pub fn call(&self, i: usize) -> Option<ScriptCall>
+        ensures { result ≡ slice_get self.now.calls i }
+    {
+        self.calls.get(i).copied()
+    }
+
+    /// The drivers' scripts, one after another.
+    pub fn calls(&self) -> &[ScriptCall]
+        ensures { result.now ≡ self.now.calls }
+    {
+        self.calls.as_slice()
+    }
+
+    /// Whose steps a play makes first.
+    pub fn picks(&self) -> &[Actor]
+        ensures { result.now ≡ self.now.picks }
+    {
+        self.picks.as_slice()
+    }
+
+    /// The number of domains, at most 32.
+    pub fn domains_len(&self) -> usize
+        ensures { result ≡ length self.now.domains }
+    {
+        self.domains.len()
+    }
+
+    /// The number of lines, at most 64.
+    pub fn lines_len(&self) -> usize
+        ensures { result ≡ length self.now.lines }
+    {
+        self.lines.len()
+    }
+
+    /// The number of devices, at most 256.
+    pub fn devices_len(&self) -> usize
+        ensures { result ≡ length self.now.devices }
+    {
+        self.devices.len()
+    }
+
+    /// The number of drivers, at most 64.
+    pub fn drivers_len(&self) -> usize
+        ensures { result ≡ length self.now.drivers }
+    {
+        self.drivers.len()
+    }
+
+    /// The number of calls in all scripts, at most 16,384.
+    pub fn calls_len(&self) -> usize
+        ensures { result ≡ length self.now.calls }
+    {
+        self.calls.len()
+    }
+
+    /// The number of picks, at most 65,536.
+    pub fn picks_len(&self) -> usize
+        ensures { result ≡ length self.now.picks }
+    {
+        self.picks.len()
+    }
+
+    /// The place of the domain of that name, counted from 0; none where there is none.
+    pub fn find_domain(&self, name: &Name) -> Option<usize>
+        ensures { result ≡ place_of_name self.now.domains name.now }
+    {
+        self.domains.find(name)
+    }
+
+    /// The line of that number; none where there is none.
+    pub fn find_line(&self, line: LineNo) -> Option<LineRow>
+        ensures { result ≡ find_line self.now.lines line }
+    {
+        self.lines.find(line)
+    }
+
+    /// The device of that number; none where there is none.
+    pub fn find_device(&self, dev: DevNo) -> Option<DeviceDef>
+        ensures { result ≡ find_device self.now.devices dev }
+    {
+        self.devices.find(dev)
+    }
+
+    /// Whether the driver is declared.
+    pub fn has_driver(&self, driver: DriverNo) -> bool
+        ensures { result ≡ has_driver self.now.drivers driver }
+    {
+        self.drivers.contains(driver)
+    }
+
+    /// The number of the last line, which is the greatest; none where there is none.
+    pub fn last_line(&self) -> Option<LineNo>
+        ensures { result ≡ last_line self.now.lines }
+    {
+        Some(self.lines.last()?.line)
+    }
+
+    /// The number of the last device, which is the greatest; none where there is none.
+    pub fn last_device(&self) -> Option<DevNo>
+        ensures { result ≡ last_device self.now.devices }
+    {
+        Some(self.devices.last()?.dev)
+    }
+
+    /// The number of the last driver, which is the greatest; none where there is none.
+    pub fn last_driver(&self) -> Option<DriverNo>
+        ensures { result ≡ last_driver self.now.drivers }
+    {
+        self.drivers.last()
+    }
+}

@@ -1,0 +1,171 @@
+//! What the levels between a line and its processors make of its signal.
+ghost use Rattle.std.specs.Prelude.{◌≡◌, ◌+◌, ◌<◌, ◌≤◌, None, Some, map, length, is_none, ◌&&◌, if◌then◌else◌};
+ghost use Rattle.board_def.specs.Levels.{most_levels, way, kinds_from, root_kind, masking_kind, is_some_kind, is_root_kind, masks_kind, keeps_kind, retriggers_kind, presents_level_kind, trigger_of_root, flow_of_root, kind_in, parent_in};
+ghost use Rattle.board_def.specs.LevelWalk.{kind_at, stores_at_root};
+ghost use Rattle.irq_base.specs.declared.domains.LevelKind.TheVariants.{Remap};
+
+use crate::board::Board;
+use crate::rows::DomainRow;
+use irq_base::domains::LEVELS;
+use irq_base::{FlowKind, LevelKind, Path, Trigger};
+
+/// Whether a level of that kind stands at the processors' end.
+pub fn is_root(kind: LevelKind) -> bool
+    ensures { result ≡ is_root_kind kind }
+{
+    !matches!(kind, LevelKind::Msi | LevelKind::Remap)
+}
+
+/// Whether it can mask.
+pub fn masks(kind: LevelKind) -> bool
+    ensures { result ≡ masks_kind kind }
+{
+    !matches!(kind, LevelKind::Remap | LevelKind::Vector)
+}
+
+/// Whether it stores the edges that come while it masks.
+pub fn keeps(kind: LevelKind) -> bool
+    ensures { result ≡ keeps_kind kind }
+{
+    matches!(kind, LevelKind::Latch | LevelKind::Msi | LevelKind::Lpi)
+}
+
+/// Whether it can send an edge again (`irq_retrigger` of `struct irq_chip`, `include/linux/irq.h`).
+pub fn retriggers(kind: LevelKind) -> bool
+    ensures { result ≡ retriggers_kind kind }
+{
+    matches!(kind, LevelKind::Latch | LevelKind::Vector | LevelKind::Lpi)
+}
+
+/// Whether it presents the level of its signal, and no edges.
+pub fn presents_level(kind: LevelKind) -> bool
+    ensures { result ≡ presents_level_kind kind }
+{
+    matches!(kind, LevelKind::Level | LevelKind::Eoi)
+}
+
+/// What raises a line with that root.
+pub fn trigger_of(root: LevelKind) -> Trigger
+    ensures { result ≡ trigger_of_root root }
+{
+    match root {
+        LevelKind::Level | LevelKind::Eoi => Trigger::Level,
+        _ => Trigger::Edge,
+    }
+}
+
+/// The flow handler of a line with that root.
+pub fn flow_of(root: LevelKind) -> FlowKind
+    ensures { result ≡ flow_of_root root }
+{
+    match root {
+        LevelKind::Level => FlowKind::Level,
+        LevelKind::Eoi | LevelKind::Lpi => FlowKind::Eoi,
+        _ => FlowKind::Edge,
+    }
+}
+
+/// What is known of the levels that were passed, on the way from a device to its processors.
+#[derive(Clone, Copy)]
+pub struct Levels {
+    /// The last one's kind, in the end the root's.
+    pub root: LevelKind,
+    /// The first one that can mask.
+    pub masking: Option<LevelKind>,
+    /// How many were passed, at most eight.
+    pub count: usize,
+}
+
+impl Levels {
+    /// None were passed.
+    pub fn none() -> Levels
+        ensures { result ≡ record { root = Remap; masking = None; count = 0 } }
+    {
+        Levels {
+            root: LevelKind::Remap,
+            masking: None,
+            count: 0,
+        }
+    }
+
+    /// Passes one more, after fewer than eight.
+    pub fn pass(&mut self, kind: LevelKind)
+        requires { self.old.count < 8 }
+        ensures { self.new ≡ record { root = kind; masking = if is_none self.old.masking && masks_kind kind then Some kind else self.old.masking; count = self.old.count + 1 } }
+    {
+        self.root = kind;
+        if self.masking.is_none() && masks(kind) {
+            self.masking = Some(kind);
+        }
+        self.count += 1;
+    }
+
+    /// Whether an edge that comes while the line is masked is stored.
+    pub fn keeps(&self) -> bool
+        ensures { result ≡ is_some_kind keeps_kind self.now.masking }
+    {
+        match self.masking {
+            Some(kind) => keeps(kind),
+            None => false,
+        }
+    }
+
+    /// Whether masking takes back what was sent.
+    pub fn recalls(&self) -> bool
+        ensures { result ≡ is_some_kind stores_at_root self.now.masking }
+    {
+        match self.masking {
+            Some(kind) => is_root(kind) && keeps(kind),
+            None => false,
+        }
+    }
+}
+
+/// The kind of a domain; one that isn't there passes everything on.
+pub fn kind_of(row: Option<DomainRow>) -> LevelKind
+    ensures { result ≡ kind_in row }
+{
+    match row {
+        Some(row) => row.def.chip,
+        None => LevelKind::Remap,
+    }
+}
+
+/// The place of the parent; none for a root, nor for a domain that isn't there.
+pub fn parent_of(row: Option<DomainRow>) -> Option<usize>
+    ensures { result ≡ parent_in row }
+{
+    row?.def.parent
+}
+
+/// The levels from the domain at that place to its root.
+pub fn levels_from(board: &Board, from: Option<usize>) -> Levels
+    ensures root { result.root ≡ root_kind (kinds_from board.now.domains from) }
+    ensures masking { result.masking ≡ masking_kind (kinds_from board.now.domains from) }
+    ensures count { result.count ≡ length (way most_levels board.now.domains from) }
+{
+    let mut levels = Levels::none();
+    let mut at = from;
+    while levels.count < LEVELS {
+        let Some(place) = at else {
+            return levels;
+        };
+        let row = board.domain(place);
+        levels.pass(kind_of(row));
+        at = parent_of(row);
+    }
+    levels
+}
+
+/// The levels of that path.
+pub fn levels_on(board: &Board, path: &Path) -> Levels
+    requires few { length path.now ≤ 8 }
+    ensures root { result.root ≡ root_kind (map (kind_at board.now.domains) path.now) }
+    ensures masking { result.masking ≡ masking_kind (map (kind_at board.now.domains) path.now) }
+{
+    let mut levels = Levels::none();
+    while let Some((place, _)) = path.get(levels.count) {
+        levels.pass(kind_of(board.domain(place)));
+    }
+    levels
+}
