@@ -1,0 +1,9 @@
+pub mod Texts
+pub mod Spelled
+pub mod Standing
+pub mod Order
+pub mod Walks
+pub mod Spurious
+pub mod Domains
+pub mod Picking
+pub mod CallStatements

@@ -4,10 +4,26 @@
 //! number that doesn't rise or a name that isn't declared, is not.
 #![tactic(auto)]
 
+mod calls;
 pub mod faults;
+mod keywords;
+mod kinds;
+pub mod lines;
+mod parts;
+mod places;
+pub mod reading;
+pub mod spelling;
 pub mod statements;
+pub mod words;
 
 pub use faults::FaultKind;
+pub use lines::{Lines, has_bad_byte};
+pub use reading::read_statement;
+pub use spelling::{name, number, pick};
 pub use statements::{
     CallWords, DomainWords, LineWords, PickList, PickWord, Picked, Statement, StatementRefused,
 };
+pub use words::Words;
+
+#[cfg(test)]
+mod tests;

@@ -1,0 +1,32 @@
+-- The first words of statements.
+use Rattle.std.specs.Prelude.{ℕ, List, [], ◌∷◌, codes}
+use Rattle.board_words.specs.declared.keywords.PartWord.{PartWord}
+use Rattle.board_words.specs.declared.keywords.PartWord.TheVariants as parts
+use Rattle.board_words.specs.declared.keywords.CallWord.{CallWord}
+use Rattle.board_words.specs.declared.keywords.CallWord.TheVariants as calls
+
+abbrev pub part_text : PartWord → List ℕ
+part_text parts.Board = codes "board"
+part_text parts.Cpus = codes "cpus"
+part_text parts.Spurious = codes "spurious"
+part_text parts.Log = codes "log"
+part_text parts.Domain = codes "domain"
+part_text parts.Line = codes "line"
+part_text parts.Device = codes "device"
+part_text parts.Driver = codes "driver"
+
+abbrev pub part_texts : List (List ℕ)
+part_texts = codes "board" ∷ codes "cpus" ∷ codes "spurious" ∷ codes "log" ∷ codes "domain" ∷ codes "line" ∷ codes "device" ∷ codes "driver" ∷ []
+
+abbrev pub call_text : CallWord → List ℕ
+call_text calls.Request = codes "request"
+call_text calls.Free = codes "free"
+call_text calls.Ask = codes "ask"
+call_text calls.Disable = codes "disable"
+call_text calls.DisableNosync = codes "disable_nosync"
+call_text calls.Enable = codes "enable"
+call_text calls.Sync = codes "sync"
+call_text calls.Affinity = codes "affinity"
+
+abbrev pub call_texts : List (List ℕ)
+call_texts = codes "request" ∷ codes "free" ∷ codes "ask" ∷ codes "disable" ∷ codes "disable_nosync" ∷ codes "enable" ∷ codes "sync" ∷ codes "affinity" ∷ []

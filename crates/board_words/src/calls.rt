@@ -1,0 +1,77 @@
+//! Calls of scripts.
+ghost use Rattle.std.specs.Prelude.{◌≡◌};
+ghost use Rattle.board_words.specs.Faults.{first_in_order};
+ghost use Rattle.board_words.specs.Forms as forms;
+ghost use Rattle.board_words.specs.Keywords.{call_text};
+ghost use Rattle.board_words.specs.Places.{outcome};
+ghost use Rattle.board_words.specs.Seen.{words_left};
+ghost use Rattle.board_words.specs.Statements as said;
+ghost use Rattle.board_words.specs.declared.keywords.CallWord.TheVariants as calls;
+
+use crate::faults::FaultKind;
+use crate::keywords::CallWord;
+use crate::parts::{has_one_again, sole_number};
+use crate::places::Places;
+use crate::statements::CallWords;
+use crate::words::Words;
+use irq_base::{DevNo, Flags, LineNo};
+
+/// What a call says, by the words after its first.
+pub(crate) fn read_call(call: CallWord, words: Words<'_>) -> Result<CallWords, FaultKind>
+    ensures { result ≡ outcome (first_in_order (forms.form_after (call_text call) (words_left words.entry))) (said.call_of (call_text call) (words_left words.entry)) }
+{
+    match call {
+        CallWord::Request => request(words),
+        CallWord::Free => Ok(CallWords::Free { dev: dev(words)? }),
+        CallWord::Ask => Ok(CallWords::Ask { dev: dev(words)? }),
+        CallWord::Disable => Ok(CallWords::Disable { line: line(words)? }),
+        CallWord::DisableNosync => Ok(CallWords::DisableNosync { line: line(words)? }),
+        CallWord::Enable => Ok(CallWords::Enable { line: line(words)? }),
+        CallWord::Sync => Ok(CallWords::Sync { line: line(words)? }),
+        CallWord::Affinity => affinity(words),
+    }
+}
+
+/// The device that is all that follows.
+fn dev(words: Words<'_>) -> Result<DevNo, FaultKind>
+    ensures { result ≡ outcome (first_in_order (forms.at forms.part_number forms.full (words_left words.entry))) (said.dev_at 0 (words_left words.entry)) }
+{
+    let number = sole_number(words, 1, 65_535)?;
+    Ok(DevNo(number))
+}
+
+/// The line that is all that follows.
+fn line(words: Words<'_>) -> Result<LineNo, FaultKind>
+    ensures { result ≡ outcome (first_in_order (forms.at forms.part_number forms.full (words_left words.entry))) (said.line_at 0 (words_left words.entry)) }
+{
+    let number = sole_number(words, 1, 65_535)?;
+    Ok(LineNo(number))
+}
+
+/// What follows `request`.
+fn request(words: Words<'_>) -> Result<CallWords, FaultKind>
+    ensures { result ≡ outcome (first_in_order (forms.form_after (call_text calls.Request) (words_left words.entry))) (said.request_words (words_left words.entry)) }
+{
+    let mut places = Places::new(words);
+    let dev = DevNo(places.number(1, 65_535));
+    let options = places.words;
+    places.flags();
+    let flags = Flags {
+        shared: options.has(b"shared"),
+        oneshot: options.has(b"oneshot"),
+        noauto: options.has(b"noauto"),
+    };
+    let twice = has_one_again(options, b"shared", b"oneshot", b"noauto");
+    places.give(CallWords::Request { dev, flags, twice })
+}
+
+/// What follows `affinity`.
+fn affinity(words: Words<'_>) -> Result<CallWords, FaultKind>
+    ensures { result ≡ outcome (first_in_order (forms.form_after (call_text calls.Affinity) (words_left words.entry))) (said.call_of (call_text calls.Affinity) (words_left words.entry)) }
+{
+    let mut places = Places::new(words);
+    let line = LineNo(places.number(1, 65_535));
+    let mask = places.number(0, u32::MAX);
+    places.full();
+    places.give(CallWords::Affinity { line, mask })
+}

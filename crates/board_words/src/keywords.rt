@@ -1,0 +1,95 @@
+//! The first words of statements.
+ghost use Rattle.std.specs.Prelude.{◌≡◌, false, MatchOption};
+ghost use Rattle.std.specs.List.{list_any};
+ghost use Rattle.board_words.specs.Forms.{is};
+ghost use Rattle.board_words.specs.Keywords.{part_text, part_texts, call_text, call_texts};
+
+use crate::words::is;
+
+/// The first word of a statement on a part of the board.
+#[derive(Clone, Copy)]
+pub(crate) enum PartWord {
+    Board,
+    Cpus,
+    Spurious,
+    Log,
+    Domain,
+    Line,
+    Device,
+    Driver,
+}
+
+/// The first word of a call.
+#[derive(Clone, Copy)]
+pub(crate) enum CallWord {
+    Request,
+    Free,
+    Ask,
+    Disable,
+    DisableNosync,
+    Enable,
+    Sync,
+    Affinity,
+}
+
+/// The part that the word names.
+pub(crate) fn part_word(word: &[u8]) -> Option<PartWord>
+    ensures { MatchOption result (list_any (is word.now) part_texts ≡ false) (λ part. word.now ≡ part_text part) }
+{
+    if is(word, b"board") {
+        return Some(PartWord::Board);
+    }
+    if is(word, b"cpus") {
+        return Some(PartWord::Cpus);
+    }
+    if is(word, b"spurious") {
+        return Some(PartWord::Spurious);
+    }
+    if is(word, b"log") {
+        return Some(PartWord::Log);
+    }
+    if is(word, b"domain") {
+        return Some(PartWord::Domain);
+    }
+    if is(word, b"line") {
+        return Some(PartWord::Line);
+    }
+    if is(word, b"device") {
+        return Some(PartWord::Device);
+    }
+    if is(word, b"driver") {
+        return Some(PartWord::Driver);
+    }
+    None
+}
+
+/// The call that the word names.
+pub(crate) fn call_word(word: &[u8]) -> Option<CallWord>
+    ensures { MatchOption result (list_any (is word.now) call_texts ≡ false) (λ call. word.now ≡ call_text call) }
+{
+    if is(word, b"request") {
+        return Some(CallWord::Request);
+    }
+    if is(word, b"free") {
+        return Some(CallWord::Free);
+    }
+    if is(word, b"ask") {
+        return Some(CallWord::Ask);
+    }
+    if is(word, b"disable") {
+        return Some(CallWord::Disable);
+    }
+    if is(word, b"disable_nosync") {
+        return Some(CallWord::DisableNosync);
+    }
+    if is(word, b"enable") {
+        return Some(CallWord::Enable);
+    }
+    if is(word, b"sync") {
+        return Some(CallWord::Sync);
+    }
+    if is(word, b"affinity") {
+        return Some(CallWord::Affinity);
+    }
+    None
+}

@@ -1,0 +1,69 @@
+//! Text lines.
+ghost use Rattle.std.specs.Prelude.{◌≡◌, ◌<◌, [], ◌∷◌, length, MatchOption};
+ghost use Rattle.std.specs.List.{position};
+ghost use Rattle.board_words.specs.Lines.{text_lines, has_bad_byte, is_line_feed, is_allowed};
+ghost use Rattle.board_words.specs.Seen.{lines_left};
+
+/// The text lines of a text that are left.
+#[derive(Clone, Copy)]
+pub struct Lines<'a> {
+    rest: &'a [u8],
+}
+
+impl<'a> Lines<'a> {
+    /// Those of the whole text.
+    pub fn new(text: &'a [u8]) -> Lines<'a>
+        ensures { lines_left result ≡ text_lines text.now }
+    {
+        Lines { rest: text }
+    }
+
+    /// The next one, without its line feed.
+    pub fn next(&mut self) -> Option<&'a [u8]>
+        ensures { MatchOption result ((lines_left self.old ≡ []) × (lines_left self.new ≡ [])) (λ line. lines_left self.old ≡ line.now ∷ lines_left self.new) }
+    {
+        let (line, rest) = split_line(self.rest)?;
+        self.rest = rest;
+        Some(line)
+    }
+}
+
+/// The first text line of a text, and what follows it.
+#[tactic(auto, using(crate::proofs::Texts::line_alone))]
+fn split_line(text: &[u8]) -> Option<(&[u8], &[u8])>
+    ensures { MatchOption result (text_lines text.now ≡ []) (λ x. text_lines text.now ≡ x.0.now ∷ text_lines x.1.now) }
+{
+    if text.is_empty() {
+        return None;
+    }
+    match line_feed(text) {
+        Some(end) => Some((&text[..end], &text[end + 1..])),
+        None => Some((text, &[])),
+    }
+}
+
+/// The place of the first line feed.
+fn line_feed(text: &[u8]) -> Option<usize>
+    ensures { result ≡ position is_line_feed text.now }
+{
+    text.iter().position(|b| *b == b'\n')
+}
+
+/// Whether a byte of the text line may not stand in a text.
+pub fn has_bad_byte(line: &[u8]) -> bool
+    ensures { result ≡ has_bad_byte line.now }
+{
+    for b in line {
+        if !is_allowed(*b) {
+            return true;
+        }
+    }
+    false
+}
+
+/// Whether the byte is a tab, a carriage return, or printable.
+fn is_allowed(b: u8) -> bool
+    ensures { result ≡ is_allowed b }
+{
+    b == b'\t' || b == b'\r' || (b' '..=b'~').contains(&b)
+}

@@ -1,0 +1,117 @@
+//! Statements on the parts of a board.
+ghost use Rattle.std.specs.Prelude.{◌≡◌, ◌||◌};
+ghost use Rattle.board_words.specs.Faults.{first_in_order};
+ghost use Rattle.board_words.specs.Forms as forms;
+ghost use Rattle.board_words.specs.Keywords.{part_text};
+ghost use Rattle.board_words.specs.Places.{outcome};
+ghost use Rattle.board_words.specs.Seen.{words_left};
+ghost use Rattle.board_words.specs.Statements as said;
+ghost use Rattle.board_words.specs.declared.keywords.PartWord.TheVariants as parts;
+
+use crate::faults::FaultKind;
+use crate::keywords::PartWord;
+use crate::places::Places;
+use crate::statements::{DomainWords, LineWords, Statement};
+use crate::words::Words;
+use irq_base::{DevNo, DriverNo, LineNo};
+
+/// The one number of a statement that has nothing else.
+pub(crate) fn sole_number(words: Words<'_>, low: u32, high: u32) -> Result<u32, FaultKind>
+    ensures { result ≡ outcome (first_in_order (forms.at (forms.number low high) forms.full (words_left words.entry))) (said.number_at 0 (words_left words.entry)) }
+{
+    let mut places = Places::new(words);
+    let number = places.number(low, high);
+    places.full();
+    places.give(number)
+}
+
+/// What a statement on a part of the board says, by the words after its first.
+pub(crate) fn read_part(part: PartWord, words: Words<'_>) -> Result<Statement, FaultKind>
+    ensures { result ≡ outcome (first_in_order (forms.form_after (part_text part) (words_left words.entry))) (said.statement_after (part_text part) (words_left words.entry)) }
+{
+    match part {
+        PartWord::Board => {
+            sole_number(words, 1, 1)?;
+            Ok(Statement::Board)
+        }
+        PartWord::Cpus => Ok(Statement::Cpus(sole_number(words, 1, 32)?)),
+        PartWord::Spurious => spurious(words),
+        PartWord::Log => Ok(Statement::Log(sole_number(words, 1, 1_000_000)?)),
+        PartWord::Domain => domain(words),
+        PartWord::Line => line(words),
+        PartWord::Device => device(words),
+        PartWord::Driver => {
+            let driver = sole_number(words, 1, 65_535)?;
+            Ok(Statement::Driver(DriverNo(driver)))
+        }
+    }
+}
+
+/// What follows `spurious`.
+fn spurious(words: Words<'_>) -> Result<Statement, FaultKind>
+    ensures { result ≡ outcome (first_in_order (forms.spurious_form (words_left words.entry))) (said.statement_after (part_text parts.Spurious) (words_left words.entry)) }
+{
+    let mut places = Places::new(words);
+    let window = places.number(1, 1_000_000);
+    let limit = places.number(0, window.saturating_sub(1));
+    places.full();
+    places.give(Statement::Spurious { window, limit })
+}
+
+/// What follows `domain`.
+fn domain(words: Words<'_>) -> Result<Statement, FaultKind>
+    ensures { result ≡ outcome (first_in_order (forms.form_after (part_text parts.Domain) (words_left words.entry))) (said.statement_after (part_text parts.Domain) (words_left words.entry)) }
+{
+    let mut places = Places::new(words);
+    let name = places.name();
+    let map = places.map();
+    let chip = places.level_kind();
+    let (parent, twice) = places.parent();
+    places.give(Statement::Domain(DomainWords {
+        name,
+        map,
+        chip,
+        parent,
+        twice,
+    }))
+}
+
+/// What follows `line`.
+fn line(words: Words<'_>) -> Result<Statement, FaultKind>
+    ensures { result ≡ outcome (first_in_order (forms.form_after (part_text parts.Line) (words_left words.entry))) (said.statement_after (part_text parts.Line) (words_left words.entry)) }
+{
+    let mut places = Places::new(words);
+    let line = LineNo(places.number(1, 65_535));
+    let domain = places.name();
+    let hw = places.number(0, u32::MAX);
+    let options = places.words;
+    let mask = places.options();
+    places.give(Statement::Line(LineWords {
+        line,
+        domain,
+        hw,
+        unlazy: options.has(b"unlazy"),
+        later: options.has(b"later"),
+        mask,
+        twice: has_one_again(options, b"unlazy", b"later", b"mask"),
+    }))
+}
+
+/// Whether one of the three texts is among the words more than once.
+pub(crate) fn has_one_again(words: Words<'_>, one: &[u8], two: &[u8], three: &[u8]) -> bool
+    ensures { result ≡ (said.stands_again one.now (words_left words.entry) || (said.stands_again two.now (words_left words.entry) || said.stands_again three.now (words_left words.entry))) }
+{
+    words.has_again(one) || words.has_again(two) || words.has_again(three)
+}
+
+/// What follows `device`.
+fn device(words: Words<'_>) -> Result<Statement, FaultKind>
+    ensures { result ≡ outcome (first_in_order (forms.form_after (part_text parts.Device) (words_left words.entry))) (said.statement_after (part_text parts.Device) (words_left words.entry)) }
+{
+    let mut places = Places::new(words);
+    let dev = DevNo(places.number(1, 65_535));
+    let line = LineNo(places.number(1, 65_535));
+    let kind = places.device_kind();
+    places.full();
+    places.give(Statement::Device { dev, line, kind })
+}

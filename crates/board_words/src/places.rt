@@ -1,0 +1,275 @@
+//! The places of a statement's form.
+ghost use Rattle.std.specs.Prelude.{◌≡◌, ℕ, ◌<◌, false, Some, None, [], ◌∷◌, codes, length, drop, get_or};
+ghost use Rattle.std.specs.List.{flat_map};
+ghost use Rattle.std.specs.Option.{option_or};
+ghost use Rattle.board_def.specs.declared.names.Name.{Name};
+ghost use Rattle.board_words.specs.Faults.{rank, earlier, first_in_order};
+ghost use Rattle.board_words.specs.Forms as forms;
+ghost use Rattle.board_words.specs.Places.{both, in_all, outcome, Takes, map_kind, after_map, option_texts};
+ghost use Rattle.board_words.specs.Seen.{words_left, are_none};
+ghost use Rattle.board_words.specs.Statements as said;
+
+use crate::faults::FaultKind;
+use crate::words::{Words, is};
+use crate::{kinds, spelling};
+use board_def::Name;
+use irq_base::{Kind, LevelKind, MapKind};
+
+/// The words of a statement that are left, and the first fault in order that was found in those before them.
+///
+/// Where something is wrong at a place, what is read there is a stand-in.
+#[derive(Clone, Copy)]
+pub(crate) struct Places<'a> {
+    pub(crate) words: Words<'a>,
+    found: Option<FaultKind>,
+}
+
+impl<'a> Places<'a> {
+    pub(crate) fn new(words: Words<'a>) -> Places<'a>
+        ensures words { words_left result.words ≡ words_left words.entry }
+        ensures found { result.found ≡ None }
+    {
+        Places { words, found: None }
+    }
+
+    /// The value that was read, if nothing was found.
+    pub(crate) fn give<T: Drop>(self, value: T) -> Result<T, FaultKind>
+        ensures { result ≡ outcome self.entry.found value }
+    {
+        match self.found {
+            None => Ok(value),
+            Some(kind) => Err(kind),
+        }
+    }
+
+    fn note(&mut self, kind: FaultKind)
+        ensures words { self.new.words ≡ self.old.words }
+        ensures found { self.new.found ≡ both self.old.found (Some kind) }
+    {
+        self.found = match self.found {
+            Some(found) => Some(first(found, kind)),
+            None => Some(kind),
+        };
+    }
+
+    /// A number from `low` to `high`.
+    pub(crate) fn number(&mut self, low: u32, high: u32) -> u32
+        ensures takes { Takes (forms.number low high) self.old self.new }
+        ensures value { self.new.found ≡ None → result ≡ said.number_at 0 (words_left self.old.words) }
+    {
+        let Some(word) = self.words.next() else {
+            self.note(FaultKind::WrongCount);
+            return 0;
+        };
+        match spelling::number(word, low, high) {
+            Some(value) => value,
+            None => {
+                self.note(FaultKind::BadNumber);
+                0
+            }
+        }
+    }
+
+    /// A name.
+    pub(crate) fn name(&mut self) -> Name
+        ensures takes { Takes forms.name self.old self.new }
+        ensures value { self.new.found ≡ None → result ≡ said.name_at 0 (words_left self.old.words) }
+    {
+        let Some(word) = self.words.next() else {
+            self.note(FaultKind::WrongCount);
+            return Name::new(b"a");
+        };
+        match spelling::name(word) {
+            Some(name) => name,
+            None => {
+                self.note(FaultKind::BadName);
+                Name::new(b"a")
+            }
+        }
+    }
+
+    /// A kind of level.
+    pub(crate) fn level_kind(&mut self) -> LevelKind
+        ensures takes { Takes (forms.one_of forms.level_kinds) self.old self.new }
+        ensures value { self.new.found ≡ None → result ≡ said.level_kind (get_or (words_left self.old.words) 0 []) }
+    {
+        let Some(word) = self.words.next() else {
+            self.note(FaultKind::WrongCount);
+            return LevelKind::Remap;
+        };
+        match kinds::level_kind(word) {
+            Some(kind) => kind,
+            None => {
+                self.note(FaultKind::UnknownWord);
+                LevelKind::Remap
+            }
+        }
+    }
+
+    /// A kind of device.
+    pub(crate) fn device_kind(&mut self) -> Kind
+        ensures takes { Takes (forms.one_of forms.device_kinds) self.old self.new }
+        ensures value { self.new.found ≡ None → result ≡ said.device_kind (get_or (words_left self.old.words) 0 []) }
+    {
+        let Some(word) = self.words.next() else {
+            self.note(FaultKind::WrongCount);
+            return Kind::Stuck;
+        };
+        match kinds::device_kind(word) {
+            Some(kind) => kind,
+            None => {
+                self.note(FaultKind::UnknownWord);
+                Kind::Stuck
+            }
+        }
+    }
+
+    /// That very word.
+    fn keyword(&mut self, text: &[u8])
+        ensures { Takes (forms.one_of (text.now ∷ [])) self.old self.new }
+    {
+        match self.words.next() {
+            Some(word) => {
+                if !is(word, text) {
+                    self.note(FaultKind::UnknownWord);
+                }
+            }
+            None => self.note(FaultKind::WrongCount),
+        }
+    }
+
+    /// How a domain maps numbers. Behind a word that tells no way nothing is read.
+    pub(crate) fn map(&mut self) -> MapKind
+        ensures found { in_all self.old forms.map_form ≡ in_all self.new (forms.at (forms.one_of forms.level_kinds) forms.parents_form) }
+        ensures value { self.new.found ≡ None → result ≡ map_kind (words_left self.old.words) }
+        ensures words { self.new.found ≡ None → words_left self.new.words ≡ after_map (words_left self.old.words) }
+    {
+        let Some(word) = self.words.next() else {
+            self.note(FaultKind::WrongCount);
+            return MapKind::Tree;
+        };
+        if is(word, b"linear") {
+            return MapKind::Linear(self.number(1, 1_024));
+        }
+        if !is(word, b"tree") {
+            self.note(FaultKind::UnknownWord);
+            self.words = Words::of_line(b"");
+        }
+        MapKind::Tree
+    }
+
+    /// The parent of a level, where one is named, and whether more is.
+    pub(crate) fn parent(&mut self) -> (Option<Name>, bool)
+        ensures found { self.new.found ≡ in_all self.old forms.parents_form }
+        ensures value { self.new.found ≡ None → result ≡ (said.parent_name (words_left self.old.words), said.has_more_parents (words_left self.old.words)) }
+    {
+        if self.words.is_empty() {
+            return (None, false);
+        }
+        self.keyword(b"parent");
+        let name = self.name();
+        let more = !self.words.is_empty();
+        self.parents();
+        (Some(name), more)
+    }
+
+    /// `parent` and a name, to the end.
+    fn parents(&mut self)
+        ensures { self.new.found ≡ in_all self.old forms.parents_form }
+    {
+        while !self.words.is_empty() {
+            self.keyword(b"parent");
+            self.name();
+        }
+    }
+
+    /// The options of a line, to the end: the number after the first `mask`.
+    pub(crate) fn options(&mut self) -> Option<u32>
+        ensures found { self.new.found ≡ in_all self.old forms.line_options }
+        ensures value { self.new.found ≡ None → result ≡ said.mask_after (words_left self.old.words) }
+    {
+        let mut mask = None;
+        while !self.words.is_empty() {
+            mask = self.option(mask);
+        }
+        mask
+    }
+
+    /// One option of a line: the mask that was read before, or the one that is read now.
+    fn option(&mut self, mask: Option<u32>) -> Option<u32>
+        requires { are_none (words_left self.old.words) ≡ false }
+        ensures found { in_all self.old forms.line_options ≡ in_all self.new forms.line_options }
+        ensures value { self.new.found ≡ None → (self.old.found ≡ None) × (option_or result (said.mask_after (words_left self.new.words)) ≡ option_or mask (said.mask_after (words_left self.old.words))) }
+        ensures fewer { length (words_left self.new.words) < length (words_left self.old.words) }
+    {
+        if !self.option_word() {
+            return mask;
+        }
+        let number = self.number(0, u32::MAX);
+        mask.or(Some(number))
+    }
+
+    /// The word of an option; whether it is `mask`.
+    fn option_word(&mut self) -> bool
+        ensures takes { Takes (forms.one_of option_texts) self.old self.new }
+        ensures mask { result ≡ forms.is (get_or (words_left self.old.words) 0 []) (codes "mask") }
+    {
+        let Some(word) = self.words.next() else {
+            self.note(FaultKind::WrongCount);
+            return false;
+        };
+        if !kinds::is_option(word) {
+            self.note(FaultKind::UnknownWord);
+        }
+        is(word, b"mask")
+    }
+
+    /// Flags of a request, to the end.
+    pub(crate) fn flags(&mut self)
+        ensures { self.new.found ≡ in_all self.old (flat_map (forms.one_of forms.request_flags)) }
+    {
+        while !self.words.is_empty() {
+            self.flag();
+        }
+    }
+
+    fn flag(&mut self)
+        ensures { Takes (forms.one_of forms.request_flags) self.old self.new }
+    {
+        match self.words.next() {
+            Some(word) => {
+                if !kinds::is_flag(word) {
+                    self.note(FaultKind::UnknownWord);
+                }
+            }
+            None => self.note(FaultKind::WrongCount),
+        }
+    }
+
+    /// Nothing more.
+    pub(crate) fn full(&mut self)
+        ensures { self.new.found ≡ in_all self.old forms.full }
+    {
+        if !self.words.is_empty() {
+            self.note(FaultKind::WrongCount);
+        }
+    }
+}
+
+/// Of the two the first in the order.
+fn first(found: FaultKind, kind: FaultKind) -> FaultKind
+    ensures { Some result ≡ earlier found (Some kind) }
+{
+    if place_of(kind) < place_of(found) {
+        kind
+    } else {
+        found
+    }
+}
+
+/// The place of a kind in the order.
+fn place_of(kind: FaultKind) -> u8
+    ensures { result ≡ rank kind }
+{
+    kind as u8
+}

@@ -1,0 +1,70 @@
+//! From words to statements.
+ghost use Rattle.std.specs.Prelude.{◌≡◌, ◌++◌, false, [], codes};
+ghost use Rattle.board_words.specs.Faults.{first_in_order};
+ghost use Rattle.board_words.specs.Forms as forms;
+ghost use Rattle.board_words.specs.Places.{outcome};
+ghost use Rattle.board_words.specs.Reads.{Reads, Tells};
+ghost use Rattle.board_words.specs.Seen.{words_left};
+ghost use Rattle.board_words.specs.Statements as said;
+ghost use Rattle.board_words.specs.declared.statements.Statement.TheVariants as statements;
+
+use crate::calls::read_call;
+use crate::faults::FaultKind;
+use crate::keywords::{call_word, part_word};
+use crate::parts::read_part;
+use crate::spelling;
+use crate::statements::{PickList, Statement, StatementRefused};
+use crate::words::{Words, is};
+use std::alloc::Global;
+
+/// What the words of a text line say. Only picks take memory.
+pub fn read_statement(alloc: Global, words: Words<'_>) -> Result<Statement, StatementRefused>
+    ensures { Reads (words_left words.entry) result }
+{
+    let mut rest = words;
+    let Some(word) = rest.next() else {
+        return Err(StatementRefused::Fault(FaultKind::UnknownWord));
+    };
+    if is(word, b"picks") {
+        return read_picks(alloc, rest);
+    }
+    match read_plain(word, rest) {
+        Ok(statement) => Ok(statement),
+        Err(kind) => Err(StatementRefused::Fault(kind)),
+    }
+}
+
+/// What a statement other than picks says, by its first word and those after it.
+fn read_plain(word: &[u8], words: Words<'_>) -> Result<Statement, FaultKind>
+    requires { forms.is word.now (codes "picks") ≡ false }
+    ensures { result ≡ outcome (first_in_order (forms.form_after word.now (words_left words.entry))) (said.statement_after word.now (words_left words.entry)) }
+{
+    if let Some(part) = part_word(word) {
+        return read_part(part, words);
+    }
+    if let Some(call) = call_word(word) {
+        let call = read_call(call, words)?;
+        return Ok(Statement::Call(call));
+    }
+    Err(FaultKind::UnknownWord)
+}
+
+/// The picks that the words spell.
+fn read_picks(alloc: Global, words: Words<'_>) -> Result<Statement, StatementRefused>
+    ensures { Tells (forms.picks_form (words_left words.entry)) (statements.Picks (said.picks_of (words_left words.entry))) result }
+{
+    if words.is_empty() {
+        return Err(StatementRefused::Fault(FaultKind::WrongCount));
+    }
+    let mut rest = words;
+    let mut picks = PickList::new(alloc);
+    while let Some(word) = rest.next() {
+        let Some(pick) = spelling::pick(word) else {
+            return Err(StatementRefused::Fault(FaultKind::BadName));
+        };
+        if picks.push(pick).is_err() {
+            return Err(StatementRefused::NoMemory);
+        }
+    }
+    Ok(Statement::Picks(picks))
+}

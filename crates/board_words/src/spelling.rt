@@ -1,0 +1,167 @@
+//! How numbers, names and picks are spelled.
+ghost use Rattle.std.specs.Prelude.{◌≡◌, ℕ, Some, None, ◌&&◌, nat_le, nat_lt, if◌then◌else◌, length};
+ghost use Rattle.std.specs.List.{list_all, position};
+ghost use Rattle.std.specs.Option.{option_copied};
+ghost use Rattle.board_def.specs.Names.{is_digit, is_letter, is_name_byte, is_name, name_of};
+ghost use Rattle.board_words.specs.Spelling.{value_of, is_decimal, begins_with_zero, is_star, number_between, before_star, after_star, times_of, picked_of, pick_of};
+
+use crate::statements::{PickWord, Picked};
+use board_def::{LONGEST_NAME, Name};
+use irq_base::{CpuNo, DevNo, DriverNo};
+
+/// The most digits of a number.
+const LONGEST_NUMBER: usize = 10;
+
+/// The number from `low` to `high` that the word spells.
+pub fn number(word: &[u8], low: u32, high: u32) -> Option<u32>
+    ensures { result ≡ number_between low high word.now }
+{
+    if !is_decimal(word) {
+        return None;
+    }
+    let value = value_up_to(word, high)?;
+    if low <= value { Some(value) } else { None }
+}
+
+/// Whether the word is a number without a leading zero.
+fn is_decimal(word: &[u8]) -> bool
+    ensures { result ≡ is_decimal word.now }
+{
+    are_digits(word) && !word.is_empty() && word.len() <= LONGEST_NUMBER && !has_leading_zero(word)
+}
+
+fn are_digits(word: &[u8]) -> bool
+    ensures { result ≡ list_all is_digit word.now }
+{
+    for b in word {
+        if !is_digit(*b) {
+            return false;
+        }
+    }
+    true
+}
+
+fn is_digit(b: u8) -> bool
+    ensures { result ≡ is_digit b }
+{
+    (b'0'..=b'9').contains(&b)
+}
+
+fn has_leading_zero(word: &[u8]) -> bool
+    ensures { result ≡ (begins_with_zero word.now && nat_lt 1 (length word.now)) }
+{
+    match word.split_first() {
+        Some((first, rest)) => *first == b'0' && !rest.is_empty(),
+        None => false,
+    }
+}
+
+/// The number that the digits spell, if it is no more than `high`.
+fn value_up_to(digits: &[u8], high: u32) -> Option<u32>
+    ensures { result ≡ (if nat_le (value_of digits.now) high then Some (value_of digits.now) else None) }
+{
+    let mut value: u64 = 0;
+    for b in digits {
+        value = 10 * value + u64::from(b.saturating_sub(b'0'));
+        if value > u64::from(high) {
+            return None;
+        }
+    }
+    Some(value as u32)
+}
+
+/// The name that the word spells.
+pub fn name(word: &[u8]) -> Option<Name>
+    ensures { result ≡ (if is_name word.now then Some (name_of word.now) else None) }
+{
+    if is_name(word) {
+        Some(Name::new(word))
+    } else {
+        None
+    }
+}
+
+fn is_name(word: &[u8]) -> bool
+    ensures { result ≡ is_name word.now }
+{
+    match word.split_first() {
+        Some((first, rest)) => {
+            is_letter(*first) && are_name_bytes(rest) && rest.len() < LONGEST_NAME
+        }
+        None => false,
+    }
+}
+
+fn are_name_bytes(word: &[u8]) -> bool
+    ensures { result ≡ list_all is_name_byte word.now }
+{
+    for b in word {
+        if !is_name_byte(*b) {
+            return false;
+        }
+    }
+    true
+}
+
+fn is_letter(b: u8) -> bool
+    ensures { result ≡ is_letter b }
+{
+    (b'a'..=b'z').contains(&b)
+}
+
+fn is_name_byte(b: u8) -> bool
+    ensures { result ≡ is_name_byte b }
+{
+    is_letter(b) || is_digit(b) || b == b'_'
+}
+
+/// The pick that the word spells.
+pub fn pick(word: &[u8]) -> Option<PickWord>
+    ensures { result ≡ pick_of word.now }
+{
+    let (before, after) = split_at_star(word);
+    let who = picked(before)?;
+    let times = times(after)?;
+    Some(PickWord { who, times })
+}
+
+/// What stands before the first `*`, and what stands after it.
+fn split_at_star(word: &[u8]) -> (&[u8], Option<&[u8]>)
+    ensures before { result.0.now ≡ before_star word.now }
+    ensures after { option_copied result.1 ≡ after_star word.now }
+{
+    match star(word) {
+        Some(i) => (&word[..i], Some(&word[i + 1..])),
+        None => (word, None),
+    }
+}
+
+/// The place of the first `*`.
+fn star(word: &[u8]) -> Option<usize>
+    ensures { result ≡ position is_star word.now }
+{
+    word.iter().position(|b| *b == b'*')
+}
+
+/// Whose steps they are.
+fn picked(word: &[u8]) -> Option<Picked>
+    ensures { result ≡ picked_of word.now }
+{
+    let (first, rest) = word.split_first()?;
+    match *first {
+        b't' => Some(Picked::Thread(DevNo(number(rest, 1, 65_535)?))),
+        b'c' => Some(Picked::Cpu(CpuNo(number(rest, 0, 31)?))),
+        b'd' => Some(Picked::Driver(DriverNo(number(rest, 1, 65_535)?))),
+        _ => None,
+    }
+}
+
+/// How many picks there are, by what stands after the `*`.
+fn times(digits: Option<&[u8]>) -> Option<u32>
+    ensures { result ≡ times_of (option_copied digits.entry) }
+{
+    match digits {
+        Some(digits) => number(digits, 1, 65_535),
+        None => Some(1),
+    }
+}

@@ -1,0 +1,489 @@
+//! Statements by hand: what they say, and what is wrong with them. The texts of faults.
+use crate::{
+    CallWords, DomainWords, FaultKind, LineWords, Lines, PickWord, Picked, Statement,
+    StatementRefused, Words, has_bad_byte, name, number, pick, read_statement,
+};
+use board_def::Name;
+use irq_base::{CpuNo, DevNo, DriverNo, Flags, Kind, LevelKind, LineNo, MapKind};
+use std::test::Fail;
+
+const FAULTS: [(&str, FaultKind); 80] = [
+    ("board", FaultKind::WrongCount),
+    ("board 0", FaultKind::BadNumber),
+    ("board 2", FaultKind::BadNumber),
+    ("board 01", FaultKind::BadNumber),
+    ("board 2 2", FaultKind::WrongCount),
+    ("Board 1", FaultKind::UnknownWord),
+    ("board\u{b}1", FaultKind::UnknownWord),
+    ("cpus 0", FaultKind::BadNumber),
+    ("cpus 33", FaultKind::BadNumber),
+    ("cpus +1", FaultKind::BadNumber),
+    ("spurious 0 0", FaultKind::BadNumber),
+    ("spurious 1000001 0", FaultKind::BadNumber),
+    ("spurious 1 1", FaultKind::BadNumber),
+    ("spurious 1000000 1000000", FaultKind::BadNumber),
+    ("spurious x", FaultKind::WrongCount),
+    ("spurious x 0", FaultKind::BadNumber),
+    ("spurious 10 9 8", FaultKind::WrongCount),
+    ("log 0", FaultKind::BadNumber),
+    ("log 1000001", FaultKind::BadNumber),
+    ("domain", FaultKind::WrongCount),
+    ("domain a linear latch", FaultKind::WrongCount),
+    ("domain a linear 0 latch", FaultKind::BadNumber),
+    ("domain a linear 1025 latch", FaultKind::BadNumber),
+    ("domain a linear 4 lpi", FaultKind::UnknownWord),
+    ("domain 1 flat", FaultKind::UnknownWord),
+    ("domain A tree latch", FaultKind::BadName),
+    ("domain a-b tree latch", FaultKind::BadName),
+    ("domain abcdefghijklmnopq tree latch", FaultKind::BadName),
+    ("domain a tree", FaultKind::WrongCount),
+    ("domain a tree latch of", FaultKind::UnknownWord),
+    ("domain a tree latch parent", FaultKind::WrongCount),
+    ("domain a tree latch parent 1", FaultKind::BadName),
+    ("domain a tree latch parent b c", FaultKind::UnknownWord),
+    ("domain a tree latch parent b parent", FaultKind::WrongCount),
+    ("line 0 a 0", FaultKind::BadNumber),
+    ("line 65536 a 0", FaultKind::BadNumber),
+    ("line 1 a", FaultKind::WrongCount),
+    ("line 1 a 4294967296", FaultKind::BadNumber),
+    ("line 1 a 00", FaultKind::BadNumber),
+    ("line 1 a 00000000001", FaultKind::BadNumber),
+    ("line 1 a 0 early", FaultKind::UnknownWord),
+    ("line 1 a 0 mask", FaultKind::WrongCount),
+    ("line 1 a 0 mask 1 mask", FaultKind::WrongCount),
+    ("line 1 a 0 mask unlazy", FaultKind::BadNumber),
+    ("line 1 a 0 mask mask 1", FaultKind::UnknownWord),
+    ("line 1 a 0 mask 4294967296", FaultKind::BadNumber),
+    ("line 0 A 0", FaultKind::BadNumber),
+    ("device 1 1", FaultKind::WrongCount),
+    ("device 1 1 foo extra", FaultKind::UnknownWord),
+    ("device 1 1 check extra", FaultKind::WrongCount),
+    ("device 0 1 check", FaultKind::BadNumber),
+    ("device 1 65536 check", FaultKind::BadNumber),
+    ("driver", FaultKind::WrongCount),
+    ("driver 0", FaultKind::BadNumber),
+    ("driver 65536", FaultKind::BadNumber),
+    ("request", FaultKind::WrongCount),
+    ("request 0 late", FaultKind::UnknownWord),
+    ("request 1 shared late", FaultKind::UnknownWord),
+    ("free 0", FaultKind::BadNumber),
+    ("ask 65536", FaultKind::BadNumber),
+    ("disable 1 2", FaultKind::WrongCount),
+    ("sync", FaultKind::WrongCount),
+    ("affinity 1", FaultKind::WrongCount),
+    ("affinity 1 4294967296", FaultKind::BadNumber),
+    ("picks", FaultKind::WrongCount),
+    ("picks t1 x1", FaultKind::BadName),
+    ("picks t", FaultKind::BadName),
+    ("picks t0", FaultKind::BadName),
+    ("picks t65536", FaultKind::BadName),
+    ("picks t01", FaultKind::BadName),
+    ("picks c32", FaultKind::BadName),
+    ("picks d0", FaultKind::BadName),
+    ("picks t1*", FaultKind::BadName),
+    ("picks t1*0", FaultKind::BadName),
+    ("picks t1*65536", FaultKind::BadName),
+    ("picks t1*2*3", FaultKind::BadName),
+    ("picks *2", FaultKind::BadName),
+    ("moment", FaultKind::UnknownWord),
+    ("moment 1 take", FaultKind::UnknownWord),
+    ("disable-nosync 1", FaultKind::UnknownWord),
+];
+
+#[test]
+fn wrong_statements(rt: HostRuntime) {
+    for (line, kind) in FAULTS {
+        match read_statement(rt.alloc(), Words::of_line(line.as_bytes())) {
+            Err(StatementRefused::Fault(found)) => assert!(rt; found == kind, "{line}: {found}"),
+            _ => assert!(rt; false, "{line}: taken"),
+        }
+    }
+}
+
+/// What a statement of few parts says.
+#[derive(Clone, Copy)]
+enum Said {
+    Board,
+    Cpus(u32),
+    Spurious(u32, u32),
+    Log(u32),
+    Device(DevNo, LineNo, Kind),
+    Driver(DriverNo),
+    Call(CallWords),
+}
+
+fn says(statement: &Statement, said: Said) -> bool {
+    match (statement, said) {
+        (Statement::Board, Said::Board) => true,
+        (Statement::Cpus(count), Said::Cpus(n)) => *count == n,
+        (Statement::Spurious { window, limit }, Said::Spurious(w, l)) => *window == w
+            && *limit == l,
+        (Statement::Log(limit), Said::Log(n)) => *limit == n,
+        (Statement::Device { dev, line, kind }, Said::Device(d, l, k)) => {
+            *dev == d && *line == l && *kind == k
+        }
+        (Statement::Driver(driver), Said::Driver(d)) => *driver == d,
+        (Statement::Call(call), Said::Call(c)) => *call == c,
+        _ => false,
+    }
+}
+
+const DEV: DevNo = DevNo(7);
+
+const LINE: LineNo = LineNo(9);
+
+const SHARED: Flags = Flags {
+    shared: true,
+    oneshot: false,
+    noauto: false,
+};
+
+const OTHERS: Flags = Flags {
+    shared: false,
+    oneshot: true,
+    noauto: true,
+};
+
+const STATEMENTS: [(&str, Said); 24] = [
+    ("board 1", Said::Board),
+    ("\tcpus\r1 \r", Said::Cpus(1)),
+    ("cpus 32#33", Said::Cpus(32)),
+    ("spurious 1 0", Said::Spurious(1, 0)),
+    (
+        "spurious 1000000 999999",
+        Said::Spurious(1_000_000, 999_999),
+    ),
+    ("log 1", Said::Log(1)),
+    ("log 1000000", Said::Log(1_000_000)),
+    (
+        "device 65535 1 direct",
+        Said::Device(DevNo(65_535), LineNo(1), Kind::Direct),
+    ),
+    (
+        "device 1 65535 check",
+        Said::Device(DevNo(1), LineNo(65_535), Kind::Check),
+    ),
+    ("device 7 9 null", Said::Device(DEV, LINE, Kind::Null)),
+    ("device 7 9 stuck", Said::Device(DEV, LINE, Kind::Stuck)),
+    ("driver 65535", Said::Driver(DriverNo(65_535))),
+    (
+        "request 7 shared",
+        Said::Call(CallWords::Request {
+            dev: DEV,
+            flags: SHARED,
+            twice: false,
+        }),
+    ),
+    (
+        "request 7 noauto oneshot",
+        Said::Call(CallWords::Request {
+            dev: DEV,
+            flags: OTHERS,
+            twice: false,
+        }),
+    ),
+    (
+        "request 7 shared shared",
+        Said::Call(CallWords::Request {
+            dev: DEV,
+            flags: SHARED,
+            twice: true,
+        }),
+    ),
+    (
+        "request 7 noauto oneshot noauto",
+        Said::Call(CallWords::Request {
+            dev: DEV,
+            flags: OTHERS,
+            twice: true,
+        }),
+    ),
+    ("free 7", Said::Call(CallWords::Free { dev: DEV })),
+    ("ask 7", Said::Call(CallWords::Ask { dev: DEV })),
+    ("disable 9", Said::Call(CallWords::Disable { line: LINE })),
+    (
+        "disable_nosync 9",
+        Said::Call(CallWords::DisableNosync { line: LINE }),
+    ),
+    ("enable 9", Said::Call(CallWords::Enable { line: LINE })),
+    ("sync 9", Said::Call(CallWords::Sync { line: LINE })),
+    (
+        "affinity 9 0",
+        Said::Call(CallWords::Affinity {
+            line: LINE,
+            mask: 0,
+        }),
+    ),
+    (
+        "affinity 9 4294967295",
+        Said::Call(CallWords::Affinity {
+            line: LINE,
+            mask: 4_294_967_295,
+        }),
+    ),
+];
+
+#[test]
+fn statements(rt: HostRuntime) -> Result<(), Fail> {
+    for (line, said) in STATEMENTS {
+        let statement = read_statement(rt.alloc(), Words::of_line(line.as_bytes()))?;
+        assert!(rt; says(&statement, said), "{line}");
+    }
+    Ok(())
+}
+
+fn domain(name: &'static [u8], map: MapKind, chip: LevelKind) -> Option<DomainWords> {
+    Some(DomainWords {
+        name: crate::name(name)?,
+        map,
+        chip,
+        parent: None,
+        twice: false,
+    })
+}
+
+#[test]
+fn domains(rt: HostRuntime) -> Result<(), Fail> {
+    let parent = name(b"up");
+    let under = domain(b"a_1", MapKind::Tree, LevelKind::Msi).map(|words| DomainWords {
+        parent,
+        ..words
+    });
+    let domains = [
+        (
+            "domain abcdefghij_12345 linear 1 latch",
+            domain(b"abcdefghij_12345", MapKind::Linear(1), LevelKind::Latch),
+        ),
+        (
+            "domain z linear 1024 plain",
+            domain(b"z", MapKind::Linear(1_024), LevelKind::Plain),
+        ),
+        (
+            "domain a tree level",
+            domain(b"a", MapKind::Tree, LevelKind::Level),
+        ),
+        (
+            "domain a tree eoi",
+            domain(b"a", MapKind::Tree, LevelKind::Eoi),
+        ),
+        (
+            "domain a tree vector",
+            domain(b"a", MapKind::Tree, LevelKind::Vector),
+        ),
+        (
+            "domain a tree remap",
+            domain(b"a", MapKind::Tree, LevelKind::Remap),
+        ),
+        ("domain a_1 tree msi parent up", under),
+        (
+            "domain a_1 tree msi parent up parent b",
+            under.map(|words| DomainWords {
+                twice: true,
+                ..words
+            }),
+        ),
+    ];
+    for (line, domain) in domains {
+        match read_statement(rt.alloc(), Words::of_line(line.as_bytes()))? {
+            Statement::Domain(words) => assert!(rt; Some(words) == domain, "{line}"),
+            _ => assert!(rt; false, "{line}: another statement"),
+        }
+    }
+    Ok(())
+}
+
+#[test]
+fn lines(rt: HostRuntime) -> Result<(), Fail> {
+    let plain = LineWords {
+        line: LineNo(1),
+        domain: Name::new(b"a"),
+        hw: 4_294_967_295,
+        unlazy: false,
+        later: false,
+        mask: None,
+        twice: false,
+    };
+    let lines = [
+        ("line 1 a 4294967295", plain),
+        (
+            "line 1 a 4294967295 unlazy",
+            LineWords {
+                unlazy: true,
+                ..plain
+            },
+        ),
+        (
+            "line 1 a 4294967295 mask 0 later",
+            LineWords {
+                later: true,
+                mask: Some(0),
+                ..plain
+            },
+        ),
+        (
+            "line 1 a 4294967295 mask 1 mask 4294967295",
+            LineWords {
+                mask: Some(1),
+                twice: true,
+                ..plain
+            },
+        ),
+        (
+            "line 65535 a 0 unlazy later unlazy",
+            LineWords {
+                line: LineNo(65_535),
+                hw: 0,
+                unlazy: true,
+                later: true,
+                twice: true,
+                ..plain
+            },
+        ),
+        (
+            "line 1 a 4294967295 later later",
+            LineWords {
+                later: true,
+                twice: true,
+                ..plain
+            },
+        ),
+    ];
+    for (line, said) in lines {
+        match read_statement(rt.alloc(), Words::of_line(line.as_bytes()))? {
+            Statement::Line(words) => assert!(rt; words == said, "{line}"),
+            _ => assert!(rt; false, "{line}: another statement"),
+        }
+    }
+    Ok(())
+}
+
+#[test]
+fn picks(rt: HostRuntime) -> Result<(), Fail> {
+    let picks = [
+        PickWord {
+            who: Picked::Thread(DevNo(65_535)),
+            times: 1,
+        },
+        PickWord {
+            who: Picked::Cpu(CpuNo(0)),
+            times: 65_535,
+        },
+        PickWord {
+            who: Picked::Cpu(CpuNo(31)),
+            times: 1,
+        },
+        PickWord {
+            who: Picked::Driver(DriverNo(1)),
+            times: 20,
+        },
+    ];
+    match read_statement(
+        rt.alloc(),
+        Words::of_line(b"picks t65535 c0*65535 c31*1 d1*20"),
+    )? {
+        Statement::Picks(list) => {
+            assert!(rt; list.len() == 4);
+            for (i, pick) in picks.iter().enumerate() {
+                assert!(rt; list.get(i) == Some(*pick), "{i}");
+            }
+        }
+        _ => assert!(rt; false),
+    }
+    assert!(rt;
+        pick(b"t7*2")
+            == Some(PickWord {
+                who: Picked::Thread(DevNo(7)),
+                times: 2
+            })
+    );
+    assert!(rt; number(b"10", 0, 10) == Some(10) && number(b"11", 0, 10) == None);
+    Ok(())
+}
+
+#[test]
+fn text_lines_and_words(rt: HostRuntime) {
+    let mut lines = Lines::new(b"board 1 # it\n\n \t#\nend");
+    let want: [(&[u8], bool, bool); 4] = [
+        (b"board 1 # it", false, true),
+        (b"", true, false),
+        (b" \t#", true, false),
+        (b"end", false, false),
+    ];
+    for (line, is_empty, is_header) in want {
+        match lines.next() {
+            Some(found) => {
+                assert!(rt; found == line);
+                let words = Words::of_line(found);
+                assert!(rt; words.is_empty() == is_empty && words.is_header() == is_header);
+            }
+            None => assert!(rt; false),
+        }
+    }
+    assert!(rt; lines.next().is_none());
+    let mut one = Lines::new(b"\n");
+    assert!(rt; one.next().is_some() && one.next().is_none());
+    let mut words = Words::of_line(b"\ta \x80\rb#c d");
+    assert!(rt; words.next() == Some(b"a".as_slice()) && words.next() == Some(b"\x80".as_slice()));
+    assert!(rt; words.next() == Some(b"b".as_slice()) && words.next().is_none());
+}
+
+#[test]
+fn bad_bytes(rt: HostRuntime) {
+    assert!(rt; !has_bad_byte(b"\t\r ~#"));
+    for b in [0u8, 8, 10, 11, 12, 14, 31, 127, 128, 255] {
+        assert!(rt; has_bad_byte(&[b'#', b]), "{b}");
+    }
+}
+
+const TEXTS: [(FaultKind, &str); 17] = [
+    (FaultKind::TooLong, "too long"),
+    (FaultKind::BadByte, "bad byte"),
+    (FaultKind::NoHeader, "no header"),
+    (FaultKind::UnknownWord, "unknown word"),
+    (FaultKind::WrongCount, "wrong count"),
+    (FaultKind::BadNumber, "bad number"),
+    (FaultKind::BadName, "bad name"),
+    (FaultKind::OutOfOrder, "out of order"),
+    (FaultKind::Twice, "twice"),
+    (FaultKind::NotThere, "not there"),
+    (FaultKind::BadParent, "bad parent"),
+    (FaultKind::BadUnlazy, "bad unlazy"),
+    (FaultKind::BadMask, "bad mask"),
+    (FaultKind::BadOwner, "bad owner"),
+    (FaultKind::TooMany, "too many"),
+    (FaultKind::LogTooLarge, "log too large"),
+    (FaultKind::NotBuilt, "not built yet"),
+];
+
+#[test]
+fn texts_of_faults(rt: HostRuntime) -> Result<(), Fail> {
+    for (kind, want) in TEXTS {
+        let text = format!(in rt.alloc(); "{kind}")?;
+        assert!(rt; text.as_str() == want, "{want}");
+    }
+    Ok(())
+}
+
+#[test]
+fn large_texts(rt: HostRuntime) -> Result<(), Fail> {
+    let mut text = Vec::from_slice(rt.alloc(), b"picks")?;
+    for _ in 0..300_000 {
+        text.extend_from_slice(b" t1")?;
+    }
+    match read_statement(rt.alloc(), Words::of_line(&text))? {
+        Statement::Picks(list) => assert!(rt; list.len() == 300_000),
+        _ => assert!(rt; false),
+    }
+    let word = vec![in rt.alloc(); b'a'; 1_000_000]?;
+    match read_statement(rt.alloc(), Words::of_line(&word)) {
+        Err(refused) => assert!(rt; refused == StatementRefused::Fault(FaultKind::UnknownWord)),
+        Ok(_) => assert!(rt; false),
+    }
+    let ends = vec![in rt.alloc(); b'\n'; 1_000_000]?;
+    let mut lines = Lines::new(&ends);
+    for i in 0..1_000_000 {
+        assert!(rt; lines.next().is_some(), "{i}");
+    }
+    assert!(rt; lines.next().is_none());
+    Ok(())
+}
