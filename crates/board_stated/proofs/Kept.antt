@@ -1,8 +1,159 @@
 -- The board of a text keeps the rules.
-use Rattle.std.proofs.Common.{◌≡◌, ℕ, Bool, true, false, Option, Some, None, Ok, Err, List, [], ◌∷◌, length, refl, sym, ap, arith}
-use Rattle.board_def.specs.Rules.{IsBoard}
+use Rattle.std.proofs.Common.{◌≡◌, ℕ, ◌+◌, ◌*◌, ◌≤◌, Bool, true, false, not, ◌&&◌, cond, nat_lt, Option, Some, None, Result, Ok, Err, List, [], ◌∷◌, length, refl, sym, subst, arith}
+use Rattle.std.specs.List.{list_any}
+use Rattle.std.proofs.lemmas.Bool.{ltb-false}
+use Rattle.std.proofs.lemmas.List.Elements.{All-nil}
+use Rattle.board_def.specs.Rules.{IsDomainAfter, IsLineAfter, IsDeviceAfter, IsDriverAfter, IsCallAfter, IsActorOf, IsBoard}
 use Rattle.board_def.specs.Seen.{BoardSeen}
-use Rattle.board_stated.specs.TextOf.{board_of_text}
+use Rattle.board_def.proofs.EachAfters.{each_none}
+use Rattle.board_words.specs.Forms.{fault_of_words}
+use Rattle.board_words.specs.Lines.{text_lines, words_of, has_bad_byte}
+use Rattle.board_words.specs.Statements.{statement_of}
+use Rattle.board_words.specs.declared.faults.FaultKind.{FaultKind}
+use Rattle.board_words.specs.declared.faults.FaultKind.TheVariants as faults
+use Rattle.board_words.specs.declared.statements.Statement.{Statement}
+use Rattle.board_words.specs.declared.statements.Statement.TheVariants as statements
+use Rattle.board_stated.specs.BuiltSoFar.{is_built}
+use Rattle.board_stated.specs.FaultsAfter.{is_empty, fault_after}
+use Rattle.board_stated.specs.Sections.{section_reached}
+use Rattle.board_stated.specs.Sound.{IsWellFormed, IsSound, draft_of}
+use Rattle.board_stated.specs.Stated.{board_of}
+use Rattle.board_stated.specs.TextOf.{begins_with_board, or_else, fault_of_statement, fault_of_line, with_line, with_lines, fault_or, first_fault, has_words, fault_of_lines, longest_text, whole, board_unless, board_of_text}
+use Rattle.board_stated.specs.declared.faults.BoardFault.{BoardFault}
+use Rattle.board_stated.proofs.Calls.{call_kept}
+use Rattle.board_stated.proofs.Devices.{device_kept}
+use Rattle.board_stated.proofs.Domains.{domain_kept}
+use Rattle.board_stated.proofs.Drivers.{driver_kept}
+use Rattle.board_stated.proofs.Lines.{line_kept}
+use Rattle.board_stated.proofs.Picks.{picks_kept}
+use Rattle.board_stated.proofs.Reached.{FitsAfter, fits_after, NoneLater, none_later}
+use Rattle.board_stated.proofs.Settings.{cpus_kept, spurious_kept, log_range, log_kept}
+use Rattle.board_stated.proofs.WellFormed.{statement_is_well_formed}
+
+-- ---- statements without a fault state a board
+
+first_draft : IsBoard (draft_of [])
+first_draft = record {
+  some_cpu = omega arith;
+  few_cpus = omega arith;
+  small_window = omega arith;
+  limit = omega arith;
+  some_log = omega arith;
+  small_log = omega arith;
+  few_domains = omega arith;
+  few_lines = omega arith;
+  few_devices = omega arith;
+  few_drivers = omega arith;
+  few_calls = omega arith;
+  few_picks = omega arith;
+  entries = omega arith;
+  domains = each_none IsDomainAfter;
+  lines = each_none (IsLineAfter (draft_of []));
+  devices = each_none (IsDeviceAfter (draft_of []));
+  drivers = each_none IsDriverAfter;
+  calls = each_none (IsCallAfter (draft_of []));
+  picks = All-nil (IsActorOf (draft_of []));
+}
+
+none_drafted : (n : ℕ) (past : List Statement) → NoneLater n (board_of past) → NoneLater n (draft_of past)
+none_drafted n past none = record { domains = none.domains; lines = none.lines; devices = none.devices; drivers = none.drivers; calls = none.calls; picks = none.picks }
+
+draft_more : (past : List Statement) (s : Statement) → FitsAfter past s → IsWellFormed s → NoneLater (section_reached past) (draft_of past) → IsBoard (draft_of past) → IsBoard (draft_of (s ∷ past))
+draft_more past statements.Board fits formed none board = board
+draft_more past (statements.Cpus cpus) fits formed none board = cpus_kept (draft_of past) cpus (section_reached past) fits.section none board formed
+draft_more past (statements.Spurious window limit) fits formed none board = spurious_kept (draft_of past) window limit (section_reached past) fits.section none board formed
+draft_more past (statements.Log log) fits formed none board = board
+draft_more past (statements.Domain d) fits formed none board =
+    domain_kept (draft_of past) d (section_reached past) fits.section none board formed fits.once fits.parent fits.room
+draft_more past (statements.Line l) fits formed none board =
+    line_kept (draft_of past) l (section_reached past) fits.section none board refl formed fits.placed fits.there fits.unlazy fits.mask fits.room
+draft_more past (statements.Device dev line kind) fits formed none board =
+    device_kept (draft_of past) dev line kind (section_reached past) fits.section none board formed fits.placed fits.there fits.room
+draft_more past (statements.Driver driver) fits formed none board =
+    driver_kept (draft_of past) driver (section_reached past) fits.section none board formed fits.placed fits.room
+draft_more past (statements.Call c) fits formed none board =
+    call_kept (draft_of past) c (section_reached past) fits.section none board fits.placed fits.there fits.owner fits.room
+draft_more past (statements.Picks picks) fits formed none board = picks_kept (draft_of past) picks board fits.there fits.room
+
+pub draft_is_board : (past : List Statement) → IsSound past → IsBoard (draft_of past)
+draft_is_board [] sound = first_draft
+draft_is_board (s ∷ past) sound =
+    draft_more past s (fits_after past s sound.2) sound.1 (none_drafted (section_reached past) past (none_later past sound.0)) (draft_is_board past sound.0)
+
+-- ---- text lines without a fault make statements without one
+
+neither : (a b : Option FaultKind) → or_else a b ≡ None → (a ≡ None) × (b ≡ None)
+neither (Some kind) b h = absurd cc
+neither None b h = (refl, h)
+
+no_fault_or : (at : ℕ) (kind : Option FaultKind) (later : Option BoardFault) → fault_or at kind later ≡ None → (kind ≡ None) × (later ≡ None)
+no_fault_or at (Some kind) later h = absurd cc
+no_fault_or at None later h = (refl, h)
+
+after_test : (t : Bool) (kind : FaultKind) (rest : Option FaultKind) → cond t (Some kind) rest ≡ None → rest ≡ None
+after_test true kind rest h = absurd cc
+after_test false kind rest h = h
+
+sound_statement : (past : List Statement) (words : List (List ℕ)) → IsSound past → fault_of_statement past words ≡ None → IsSound (statement_of words ∷ past)
+sound_statement past words sound h =
+    let both = neither (fault_of_words words) (fault_after past (statement_of words)) (after_test (is_empty past && not (begins_with_board words)) faults.NoHeader _ h) in
+    (sound, statement_is_well_formed words both.0, both.1)
+
+by_words : (t : Bool) (past : List Statement) (words : List (List ℕ)) → IsSound past → cond t None (fault_of_statement past words) ≡ None → IsSound (cond t past (statement_of words ∷ past))
+by_words true past words sound h = sound
+by_words false past words sound h = sound_statement past words sound h
+
+sound_line : (past : List Statement) (line : List ℕ) → IsSound past → fault_of_line past line ≡ None → IsSound (with_line past line)
+sound_line past line sound h = by_words (is_empty (words_of line)) past (words_of line) sound (after_test (has_bad_byte line) faults.BadByte _ h)
+
+pub sound_lines : (at : ℕ) (past : List Statement) (lines : List (List ℕ)) → IsSound past → first_fault at past lines ≡ None → IsSound (with_lines past lines)
+sound_lines at past [] sound h = sound
+sound_lines at past (line ∷ lines) sound h =
+    let both = no_fault_or at (fault_of_line past line) (first_fault (at + 1) (with_line past line) lines) h in
+    sound_lines (at + 1) (with_line past line) lines (sound_line past line sound both.0) both.1
+
+-- ---- the board of a text
+
+-- what a text with a board is
+pub record IsTextOf (lines : List (List ℕ)) (b : BoardSeen) : Type 0 where
+  pub sound : IsSound (with_lines [] lines)
+  pub states : b ≡ board_of (with_lines [] lines)
+  pub entries : b.log * length b.lines ≤ 4000000
+  pub built : is_built (with_lines [] lines) b ≡ true
+
+stated : (large built : Bool) (a b : BoardSeen) (x y : BoardFault) → cond large (Err x) (cond built (Ok a) (Err y)) ≡ Ok b → (large ≡ false) × (built ≡ true) × (a ≡ b)
+stated true built a b x y h = absurd cc
+stated false true a b x y h = (refl, refl, (let same : a ≡ b = cc in same))
+stated false false a b x y h = absurd cc
+
+no_fault_of : (t : Bool) (rest : Option BoardFault) (x : BoardFault) → cond t rest (Some x) ≡ None → rest ≡ None
+no_fault_of true rest x h = h
+no_fault_of false rest x h = absurd cc
+
+unless : (lines : List (List ℕ)) (fault : Option BoardFault) (b : BoardSeen) → fault_of_lines lines ≡ fault → board_unless fault (with_lines [] lines) ≡ Ok b → IsTextOf lines b
+unless lines (Some fault) b is h = absurd cc
+unless lines None b is h =
+    let past = with_lines [] lines in
+    let at_end = board_of past in
+    let parts = stated (nat_lt 4000000 (at_end.log * length at_end.lines)) (is_built past at_end) at_end b (whole faults.LogTooLarge) (whole faults.NotBuilt) h in
+    record {
+      sound = sound_lines 1 [] lines tt (no_fault_of (list_any has_words lines) (first_fault 1 [] lines) _ is);
+      states = sym parts.2;
+      entries = subst (λ (c : BoardSeen). c.log * length c.lines ≤ 4000000) parts.2 (ltb-false 4000000 (at_end.log * length at_end.lines) parts.0);
+      built = subst (λ (c : BoardSeen). is_built past c ≡ true) parts.2 parts.1;
+    }
+
+within_limit : (t : Bool) (x : BoardFault) (rest : Result BoardSeen BoardFault) (b : BoardSeen) → cond t (Err x) rest ≡ Ok b → rest ≡ Ok b
+within_limit true x rest b h = absurd cc
+within_limit false x rest b h = h
+
+pub text_states : (bytes : List ℕ) (b : BoardSeen) → board_of_text bytes ≡ Ok b → IsTextOf (text_lines bytes) b
+text_states bytes b h =
+    unless (text_lines bytes) (fault_of_lines (text_lines bytes)) b refl (within_limit (nat_lt longest_text (length bytes)) (whole faults.TooLong) _ b h)
 
 pub text_is_board : (bytes : List ℕ) (b : BoardSeen) → board_of_text bytes ≡ Ok b → IsBoard b
-text_is_board bytes b h = ?
+text_is_board bytes b h =
+    let text = text_states bytes b h in
+    let past = with_lines [] (text_lines bytes) in
+    let entries = subst (λ (c : BoardSeen). c.log * length c.lines ≤ 4000000) text.states text.entries in
+    subst IsBoard (sym text.states) (log_kept (board_of past) (draft_is_board past text.sound) (log_range past text.sound) entries)

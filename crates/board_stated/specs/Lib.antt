@@ -4,3 +4,4 @@ pub mod FaultsAfter
 pub mod BuiltSoFar
 pub mod TextOf
 pub mod Sound
+pub mod BuiltBoard

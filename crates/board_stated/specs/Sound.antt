@@ -1,5 +1,5 @@
 -- What holds of statements that have no fault.
-use Rattle.std.specs.Prelude.{◌≡◌, ℕ, ◌<◌, ◌≤◌, true, None, List, [], ◌∷◌}
+use Rattle.std.specs.Prelude.{◌≡◌, ◌<◌, ◌≤◌, true, None, List, [], ◌∷◌}
 use Rattle.board_def.specs.Names.{is_name, name_bytes}
 use Rattle.board_def.specs.Rules.{IsNumber, IsSize}
 use Rattle.board_def.specs.Seen.{BoardSeen}

@@ -7,6 +7,7 @@
 ghost use Rattle.std.specs.Prelude.{◌≡◌, ℕ, List, Ok};
 ghost use Rattle.board_def.specs.Rules.{IsBoard};
 ghost use Rattle.board_def.specs.Seen.{BoardSeen};
+ghost use Rattle.board_stated.specs.BuiltBoard.{IsBuiltBoard};
 ghost use Rattle.board_stated.specs.TextOf.{board_of_text};
 
 pub mod faults;
@@ -14,7 +15,11 @@ pub mod faults;
 pub use faults::BoardFault;
 
 /// The board of a text keeps the rules of boards.
-#[tactic(auto, using(crate::proofs::Kept::text_is_board))]
 pub fn board_of_a_text_keeps_the_rules()
     ensures { (bytes : List ℕ) (b : BoardSeen) → board_of_text bytes ≡ Ok b → IsBoard b }
+{}
+
+/// The board of a text can be played so far: one line over one latch, at most one device, and plain calls.
+pub fn board_that_is_built()
+    ensures { (bytes : List ℕ) (b : BoardSeen) → board_of_text bytes ≡ Ok b → IsBuiltBoard b }
 {}

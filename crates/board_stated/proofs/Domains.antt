@@ -1,0 +1,78 @@
+-- One more domain keeps the rules of boards.
+use Rattle.std.proofs.Common.{◌≡◌, ℕ, suc, ◌<◌, ◌≤◌, Bool, true, false, ◌||◌, cond, IfSome, Option, Some, None, List, [], ◌∷◌, length, arith}
+use Rattle.std.proofs.lemmas.Bool.{or_parts}
+use Rattle.std.proofs.lemmas.List.Elements.{All-same, All-nil}
+use Rattle.board_def.specs.Rules.{is_domain_named, has_name, IsDomainAfter, IsLineAfter, IsDeviceAfter, IsCallAfter, IsActorOf, IsBoard}
+use Rattle.board_def.specs.Seen.{BoardSeen}
+use Rattle.board_def.specs.declared.names.Name.{Name}
+use Rattle.board_def.specs.declared.rows.DomainRow.{DomainRow}
+use Rattle.board_def.proofs.EachAfters.{each_more}
+use Rattle.board_words.specs.declared.statements.DomainWords.{DomainWords}
+use Rattle.board_words.specs.declared.statements.Statement.TheVariants as statements
+use Rattle.board_stated.specs.FaultsAfter.{has_bad_parent, is_one_too_many}
+use Rattle.board_stated.specs.Sound.{IsWellFormed}
+use Rattle.board_stated.specs.Stated.{one_on, place_of_name, place_or_first, parent_place, domain_row, with_statement}
+use Rattle.board_stated.proofs.Ascending.{one_more, each_of_none}
+use Rattle.board_stated.proofs.Reached.{NoneLater}
+
+-- ---- the place of a name is one of the list
+
+place_after : (t : Bool) (o : Option ℕ) (n : ℕ) → IfSome o (λ p. p < n) → IfSome (cond t (Some 0) (one_on o)) (λ p. p < suc n)
+place_after true o n h = omega arith
+place_after false None n h = h
+place_after false (Some p) n h = omega arith
+
+pub name_place : (rows : List DomainRow) (name : Name) → IfSome (place_of_name rows name) (λ p. p < length rows)
+name_place [] name = tt
+name_place (row ∷ rows) name = place_after (is_domain_named name row) (place_of_name rows name) (length rows) (name_place rows name)
+
+place_in : (o : Option ℕ) (n : ℕ) → 0 < n → IfSome o (λ p. p < n) → place_or_first o < n
+place_in (Some p) n some h = h
+place_in None n some h = some
+
+pub named_place : (rows : List DomainRow) (name : Name) → has_name rows name ≡ true → place_or_first (place_of_name rows name) < length rows
+named_place [] name h = absurd cc
+named_place (row ∷ rows) name h = place_in (place_of_name (row ∷ rows) name) (length (row ∷ rows)) (omega arith) (name_place (row ∷ rows) name)
+
+parent_declared : (rows : List DomainRow) (parent : Option Name) → IfSome (parent_place rows parent) (λ p. p < length rows)
+parent_declared rows (Some name) = name_place rows name
+parent_declared rows None = tt
+
+-- ---- one more
+
+domain_after : (b : BoardSeen) (d : DomainWords) → IsWellFormed (statements.Domain d) → (has_name b.domains d.name || d.twice) ≡ false
+    → has_bad_parent b (statements.Domain d) ≡ false → IsDomainAfter b.domains (domain_row b.domains d)
+domain_after b d fits once parent = record {
+  spelled = fits.0;
+  new = (or_parts (has_name b.domains d.name) d.twice once).0;
+  size = fits.1;
+  declared = parent_declared b.domains d.parent;
+  parent = parent;
+}
+
+pub domain_kept : (b : BoardSeen) (d : DomainWords) (n : ℕ) → n ≤ 2 → NoneLater n b → IsBoard b → IsWellFormed (statements.Domain d) → (has_name b.domains d.name || d.twice) ≡ false
+    → has_bad_parent b (statements.Domain d) ≡ false → is_one_too_many b (statements.Domain d) ≡ false → IsBoard (with_statement (statements.Domain d) b)
+domain_kept b d n early none board fits once parent room =
+    let row = domain_row b.domains d in
+    let next = with_statement (statements.Domain d) b in
+    record {
+      some_cpu = board.some_cpu;
+      few_cpus = board.few_cpus;
+      small_window = board.small_window;
+      limit = board.limit;
+      some_log = board.some_log;
+      small_log = board.small_log;
+      few_domains = one_more 32 b.domains row room;
+      few_lines = board.few_lines;
+      few_devices = board.few_devices;
+      few_drivers = board.few_drivers;
+      few_calls = board.few_calls;
+      few_picks = board.few_picks;
+      entries = board.entries;
+      domains = each_more IsDomainAfter b.domains row board.domains (domain_after b d fits once parent);
+      lines = each_of_none (IsLineAfter next) b.lines (none.lines (omega arith));
+      devices = each_of_none (IsDeviceAfter next) b.devices (none.devices (omega arith));
+      drivers = board.drivers;
+      calls = each_of_none (IsCallAfter next) b.calls (none.calls (omega arith));
+      picks = All-same (IsActorOf next) b.picks [] (none.picks (omega arith)) (All-nil (IsActorOf next));
+    }

@@ -1,0 +1,86 @@
+-- One more driver keeps the rules of boards.
+use Rattle.std.proofs.Common.{◌≡◌, ℕ, ◌+◌, ◌<◌, ◌≤◌, ◌==◌, true, false, List, [], ◌∷◌, ◌++◌, length, refl, ◌∙◌, subst, arith}
+use Rattle.std.specs.List.{All}
+use Rattle.std.proofs.lemmas.Bool.{leb-false, eq-eqb, ne_eqb, or_left, or_right}
+use Rattle.std.proofs.lemmas.List.Elements.{All-same, All-nil}
+use Rattle.std.proofs.lemmas.List.Folds.{list_any-append}
+use Rattle.irq_base.specs.declared.numbers.DriverNo.{DriverNo}
+use Rattle.board_def.specs.Rules.{EachAfter, has_driver, IsNumber, IsDriverAfter, IsCallAfter, IsActorOf, IsBoard}
+use Rattle.board_def.specs.Seen.{BoardSeen}
+use Rattle.board_def.specs.declared.rows.ScriptCall.{ScriptCall}
+use Rattle.board_def.proofs.EachAfters.{each_more}
+use Rattle.board_words.specs.declared.statements.Statement.TheVariants as statements
+use Rattle.board_stated.specs.FaultsAfter.{is_empty, is_misplaced, is_one_too_many}
+use Rattle.board_stated.specs.Stated.{last_driver, with_statement}
+use Rattle.board_stated.proofs.Ascending.{one_more, each_weaker, last_number, above_each, below}
+use Rattle.board_stated.proofs.Devices.{devices_kept}
+use Rattle.board_stated.proofs.Lines.{lines_kept}
+use Rattle.board_stated.proofs.Reached.{NoneLater}
+
+-- ---- the last driver
+
+last_is : (drivers : List DriverNo) → (last_driver drivers).0 ≡ last_number (λ d. d.0) drivers
+last_is [] = refl
+last_is (d ∷ []) = refl
+last_is (d ∷ e ∷ ds) = last_is (e ∷ ds)
+
+driver_rises : (n : ℕ) (drivers : List DriverNo) → EachAfter IsDriverAfter drivers → (last_driver drivers).0 < n → All (λ e. e.0 < n) drivers
+driver_rises n drivers each h =
+    above_each (λ d. d.0) n drivers (each_weaker IsDriverAfter (λ earlier d. All (λ e. e.0 < d.0) earlier) drivers (λ earlier d p. p.rises) each)
+    (subst (λ (k : ℕ). k < n) (last_is drivers) h)
+
+-- it is one of them
+pub last_declared : (drivers : List DriverNo) → is_empty drivers ≡ false → has_driver drivers (last_driver drivers) ≡ true
+last_declared [] h = absurd cc
+last_declared (d ∷ []) h = or_left (d.0 == d.0) false (eq-eqb d.0 d.0 refl)
+last_declared (d ∷ e ∷ ds) h = or_right (d.0 == (last_driver (e ∷ ds)).0) (has_driver (e ∷ ds) (last_driver (e ∷ ds))) (last_declared (e ∷ ds) (ne_eqb (length (e ∷ ds)) 0 (λ z. omega arith)))
+
+-- and none is above it
+pub last_greatest : (drivers : List DriverNo) (driver : DriverNo) → EachAfter IsDriverAfter drivers → has_driver drivers driver ≡ true → driver.0 ≤ (last_driver drivers).0
+last_greatest drivers driver each is =
+    let last = (last_driver drivers).0 in
+    let h = below (λ d. d.0) (last + 1) driver.0 drivers (driver_rises (last + 1) drivers each (omega arith)) is in
+    omega arith
+
+-- ---- a declared driver stays declared
+
+pub still_declared : (drivers : List DriverNo) (new driver : DriverNo) → has_driver drivers driver ≡ true → has_driver (drivers ++ new ∷ []) driver ≡ true
+still_declared drivers new driver is =
+    list_any-append (λ d. d.0 == driver.0) drivers (new ∷ []) ∙ or_left (has_driver drivers driver) (has_driver (new ∷ []) driver) is
+
+-- ---- one more
+
+driver_after : (b : BoardSeen) (driver : DriverNo) → IsNumber driver.0 → EachAfter IsDriverAfter b.drivers → is_misplaced b (statements.Driver driver) ≡ false → IsDriverAfter b.drivers driver
+driver_after b driver number each placed = record {
+  number = number;
+  rises = driver_rises driver.0 b.drivers each (leb-false driver.0 (last_driver b.drivers).0 placed);
+}
+
+same_call : (b : BoardSeen) (driver : DriverNo) (earlier : List ScriptCall) (c : ScriptCall) → IsCallAfter b earlier c → IsCallAfter (with_statement (statements.Driver driver) b) earlier c
+same_call b driver earlier c p = record { driver = still_declared b.drivers driver c.driver p.driver; in_order = p.in_order; line = p.line; device = p.device; owner = p.owner }
+
+pub driver_kept : (b : BoardSeen) (driver : DriverNo) (n : ℕ) → n ≤ 5 → NoneLater n b → IsBoard b → IsNumber driver.0
+    → is_misplaced b (statements.Driver driver) ≡ false → is_one_too_many b (statements.Driver driver) ≡ false → IsBoard (with_statement (statements.Driver driver) b)
+driver_kept b driver n early none board number placed room =
+    let next = with_statement (statements.Driver driver) b in
+    record {
+      some_cpu = board.some_cpu;
+      few_cpus = board.few_cpus;
+      small_window = board.small_window;
+      limit = board.limit;
+      some_log = board.some_log;
+      small_log = board.small_log;
+      few_domains = board.few_domains;
+      few_lines = board.few_lines;
+      few_devices = board.few_devices;
+      few_drivers = one_more 64 b.drivers driver room;
+      few_calls = board.few_calls;
+      few_picks = board.few_picks;
+      entries = board.entries;
+      domains = board.domains;
+      lines = lines_kept b next refl refl board.lines;
+      devices = devices_kept b next refl board.devices;
+      drivers = each_more IsDriverAfter b.drivers driver board.drivers (driver_after b driver number board.drivers placed);
+      calls = each_weaker (IsCallAfter b) (IsCallAfter next) b.calls (same_call b driver) board.calls;
+      picks = All-same (IsActorOf next) b.picks [] (none.picks (omega arith)) (All-nil (IsActorOf next));
+    }

@@ -1,0 +1,92 @@
+-- More picks keep the rules of boards.
+use Rattle.std.proofs.Common.{◌≡◌, ◌+◌, ◌≤◌, ◌==◌, true, false, Option, Some, None, List, [], ◌∷◌, ◌++◌, length, refl, arith}
+use Rattle.std.specs.List.{All, list_any, flat_map}
+use Rattle.std.proofs.Math.ListN.{length-append, length-replicate}
+use Rattle.std.proofs.lemmas.Bool.{ltb-false, leb-false, eq-eqb, not-false, and_from, or_parts}
+use Rattle.std.proofs.lemmas.List.Elements.{All-nil, All-append, All-replicate, All-weaker}
+use Rattle.irq_base.specs.Handlers.{has_thread}
+use Rattle.irq_base.specs.declared.devices.DeviceDef.{DeviceDef}
+use Rattle.irq_base.specs.declared.entries.Actor.{Actor}
+use Rattle.irq_base.specs.declared.entries.Actor.TheVariants as actors
+use Rattle.board_def.specs.Rules.{find_device, has_driver, is_threaded_on, IsCallAfter, IsActorOf, IsBoard}
+use Rattle.board_def.specs.Seen.{BoardSeen}
+use Rattle.board_def.specs.declared.rows.ScriptCall.{ScriptCall}
+use Rattle.board_words.specs.declared.statements.Picked.{Picked}
+use Rattle.board_words.specs.declared.statements.Picked.TheVariants as picked
+use Rattle.board_words.specs.declared.statements.PickWord.{PickWord}
+use Rattle.board_words.specs.declared.statements.Statement.TheVariants as statements
+use Rattle.board_stated.specs.FaultsAfter.{has_no_thread, picks_nothing, is_not_there, count_of_picks, is_one_too_many}
+use Rattle.board_stated.specs.Stated.{line_or_none, actor_picked, actors_picked, with_statement}
+use Rattle.board_stated.proofs.Ascending.{each_weaker}
+use Rattle.board_stated.proofs.Devices.{devices_kept}
+use Rattle.board_stated.proofs.Lines.{lines_kept}
+
+-- ---- each pick is of the board
+
+threaded : (o : Option DeviceDef) → has_no_thread o ≡ false → is_threaded_on (line_or_none o) o ≡ true
+threaded (Some x) h = and_from (has_thread x.kind) (x.line.0 == x.line.0) (not-false (has_thread x.kind) h) (eq-eqb x.line.0 x.line.0 refl)
+threaded None h = absurd cc
+
+actor_there : (b : BoardSeen) (who : Picked) → picks_nothing b who ≡ false → IsActorOf b (actor_picked b.devices who)
+actor_there b (picked.Thread dev) h = threaded (find_device b.devices dev) h
+actor_there b (picked.Cpu cpu) h = leb-false b.cpus cpu.0 h
+actor_there b (picked.Driver driver) h = not-false (has_driver b.drivers driver) h
+
+actors_there : (b : BoardSeen) (picks : List PickWord) → list_any (λ p. picks_nothing b p.who) picks ≡ false → All (IsActorOf b) (flat_map (actors_picked b.devices) picks)
+actors_there b [] h = All-nil (IsActorOf b)
+actors_there b (p ∷ ps) h =
+    let parts = or_parts (picks_nothing b p.who) (list_any (λ q. picks_nothing b q.who) ps) h in
+    All-append (IsActorOf b) (actors_picked b.devices p) (flat_map (actors_picked b.devices) ps)
+    (All-replicate (IsActorOf b) p.times (actor_picked b.devices p.who) (actor_there b p.who parts.0)) (actors_there b ps parts.1)
+
+-- ---- they are as many as the words tell
+
+count_told : (devices : List DeviceDef) (picks : List PickWord) → length (flat_map (actors_picked devices) picks) ≡ count_of_picks picks
+count_told devices [] = refl
+count_told devices (p ∷ ps) =
+    let rest = count_told devices ps in
+    let first = length-replicate p.times (actor_picked devices p.who) in
+    omega (arith, length-append (actors_picked devices p) (flat_map (actors_picked devices) ps))
+
+few_after : (b : BoardSeen) (picks : List PickWord) → is_one_too_many b (statements.Picks picks) ≡ false → length (b.picks ++ flat_map (actors_picked b.devices) picks) ≤ 65536
+few_after b picks h =
+    let few = ltb-false 65536 (length b.picks + count_of_picks picks) h in
+    let told = count_told b.devices picks in
+    omega (arith, length-append b.picks (flat_map (actors_picked b.devices) picks))
+
+-- ---- more
+
+same_actor : (b : BoardSeen) (picks : List PickWord) (a : Actor) → IsActorOf b a → IsActorOf (with_statement (statements.Picks picks) b) a
+same_actor b picks (actors.Thread line dev) h = h
+same_actor b picks (actors.Cpu cpu) h = h
+same_actor b picks (actors.Driver driver) h = h
+
+more_picks : (b : BoardSeen) (picks : List PickWord) (earlier : List ScriptCall) (e : ScriptCall) → IsCallAfter b earlier e → IsCallAfter (with_statement (statements.Picks picks) b) earlier e
+more_picks b picks earlier e p = record { driver = p.driver; in_order = p.in_order; line = p.line; device = p.device; owner = p.owner }
+
+pub picks_kept : (b : BoardSeen) (picks : List PickWord) → IsBoard b → is_not_there b (statements.Picks picks) ≡ false → is_one_too_many b (statements.Picks picks) ≡ false
+    → IsBoard (with_statement (statements.Picks picks) b)
+picks_kept b picks board there room =
+    let next = with_statement (statements.Picks picks) b in
+    record {
+      some_cpu = board.some_cpu;
+      few_cpus = board.few_cpus;
+      small_window = board.small_window;
+      limit = board.limit;
+      some_log = board.some_log;
+      small_log = board.small_log;
+      few_domains = board.few_domains;
+      few_lines = board.few_lines;
+      few_devices = board.few_devices;
+      few_drivers = board.few_drivers;
+      few_calls = board.few_calls;
+      few_picks = few_after b picks room;
+      entries = board.entries;
+      domains = board.domains;
+      lines = lines_kept b next refl refl board.lines;
+      devices = devices_kept b next refl board.devices;
+      drivers = board.drivers;
+      calls = each_weaker (IsCallAfter b) (IsCallAfter next) b.calls (more_picks b picks) board.calls;
+      picks = All-weaker (IsActorOf b) (IsActorOf next) (same_actor b picks) (b.picks ++ flat_map (actors_picked b.devices) picks)
+          (All-append (IsActorOf b) b.picks (flat_map (actors_picked b.devices) picks) board.picks (actors_there b picks there));
+    }
