@@ -11,6 +11,7 @@ use irq_base::{Call, Flags, Kind, LevelKind, MapKind};
 
 /// Whether the board, of a text where those statements stood, can be played so far: one processor, one line over
 /// one linear latch without options, at most one device, which is direct, and requests without flags, asks and frees.
+#[tactic(auto, using(crate::proofs::BuiltBy::either_stood))]
 pub fn is_built(board: &Board, stood: Stood) -> bool
     ensures { (past : List Statement) → stood ≡ stood_after past → result ≡ is_built past board.now }
 {
@@ -75,12 +76,15 @@ fn is_direct(kind: Kind) -> bool
 }
 
 /// Whether each call is a request without flags, an ask or a free.
+#[tactic(auto, using(crate::proofs::Left::left_at, crate::proofs::Left::item_there, std::proofs::lemmas::List::drop_all))]
 fn has_plain_calls(board: &Board) -> bool
     ensures { result ≡ list_all (λ c. is_plain c.call) board.now.calls }
 {
     for i in 0..board.calls_len() {
-        if let Some(call) = board.call(i) && !is_plain(call.call) {
-            return false;
+        if let Some(call) = board.call(i) {
+            if !is_plain(call.call) {
+                return false;
+            }
         }
     }
     true

@@ -43,6 +43,7 @@ pub fn is_misplaced(board: &Board, statement: &Statement) -> bool
 }
 
 /// The number of the last line, or 0.
+#[tactic(auto, using(crate::proofs::Lasts::last_line_is))]
 fn last_line(board: &Board) -> u32
     ensures { result ≡ last_line board.now.lines }
 {
@@ -53,6 +54,7 @@ fn last_line(board: &Board) -> u32
 }
 
 /// The number of the last device, or 0.
+#[tactic(auto, using(crate::proofs::Lasts::last_device_is))]
 fn last_device(board: &Board) -> u32
     ensures { result ≡ last_device board.now.devices }
 {
@@ -63,6 +65,7 @@ fn last_device(board: &Board) -> u32
 }
 
 /// The driver whose script is written: the last one; 0 before any.
+#[tactic(auto, using(crate::proofs::Lasts::last_driver_is))]
 pub fn last_driver(board: &Board) -> DriverNo
     ensures { result ≡ last_driver board.now.drivers }
 {
@@ -94,13 +97,15 @@ fn is_parent_missing(board: &Board, parent: Option<Name>) -> bool
 }
 
 /// Whether a domain has that name.
-fn has_name(board: &Board, name: Name) -> bool
+#[tactic(auto, using(board_def::proofs::Finds::has_name_place))]
+pub fn has_name(board: &Board, name: Name) -> bool
     ensures { result ≡ has_name board.now.domains name }
 {
     board.find_domain(&name).is_some()
 }
 
 /// Whether a line has that number.
+#[tactic(auto, using(board_def::proofs::Finds::has_line_found))]
 fn has_line(board: &Board, line: LineNo) -> bool
     ensures { result ≡ has_line board.now.lines line }
 {
@@ -130,12 +135,15 @@ fn names_nothing(board: &Board, call: CallWords) -> bool
     }
 }
 
+#[tactic(auto, using(crate::proofs::Left::left_at, crate::proofs::Left::item_there, std::proofs::lemmas::List::drop_all))]
 fn any_picks_nothing(board: &Board, picks: &PickList) -> bool
     ensures { result ≡ list_any (λ p. picks_nothing board.now p.who) picks.now }
 {
     for i in 0..picks.len() {
-        if let Some(pick) = picks.get(i) && picks_nothing(board, pick.who) {
-            return true;
+        if let Some(pick) = picks.get(i) {
+            if picks_nothing(board, pick.who) {
+                return true;
+            }
         }
     }
     false
@@ -178,6 +186,7 @@ pub fn has_bad_parent(board: &Board, statement: &Statement) -> bool
 }
 
 /// The place of the domain that is named as a parent.
+#[tactic(auto, using(crate::proofs::Places::place_found))]
 pub fn parent_place(board: &Board, parent: Option<Name>) -> Option<usize>
     ensures { result ≡ parent_place board.now.domains parent }
 {
@@ -198,6 +207,7 @@ pub fn has_bad_unlazy(board: &Board, statement: &Statement) -> bool
 }
 
 /// The place of the domain of that name, or 0.
+#[tactic(auto, using(crate::proofs::Places::place_or_first_found))]
 pub fn domain_place(board: &Board, name: Name) -> usize
     ensures { result ≡ place_or_first (place_of_name board.now.domains name) }
 {
@@ -240,6 +250,7 @@ pub fn is_one_too_many(board: &Board, statement: &Statement) -> bool
 }
 
 /// Whether the picks, after that many others, are more than a board may have.
+#[tactic(auto, using(crate::proofs::Left::left_at, crate::proofs::Left::item_there, std::proofs::lemmas::List::drop_all))]
 fn has_no_room(len: usize, picks: &PickList) -> bool
     ensures { result ≡ nat_lt 65536 (len + count_of_picks picks.now) }
 {

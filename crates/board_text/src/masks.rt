@@ -13,6 +13,7 @@ pub fn all_processors(cpus: u32) -> u32
 }
 
 /// Whether one of the processors 0 to `cpus` - 1 is in the mask (`cpumask_intersects`, `include/linux/cpumask.h`).
+#[tactic(auto, using(irq_model::proofs::Lowest::lowest_here, irq_model::proofs::Lowest::lowest_past))]
 pub fn has_processor(cpus: u32, mask: u32) -> bool
     requires { cpus ≤ 32 }
     ensures { result ≡ is_some (lowest_in cpus mask) }

@@ -84,12 +84,7 @@ impl Owners {
     }
 
     /// Takes note of a request or a free by the driver.
-    fn note_owner(
-        &mut self,
-        dev: DevNo,
-        driver: DriverNo,
-        requested: bool,
-    ) -> Result<(), NoMemory>
+    fn note_owner(&mut self, dev: DevNo, driver: DriverNo, requested: bool) -> Result<(), NoMemory>
         ensures { OnOk result (self.new ≡ insert_entry same_dev self.old dev (owner_noted (owner_in dev self.old) driver requested)) }
     {
         let driver = match self.of(dev) {

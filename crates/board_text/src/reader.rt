@@ -1,7 +1,9 @@
 //! The reader: the board that the statements so far state, and what it keeps of them to judge the next one.
-ghost use Rattle.std.specs.Prelude.{◌≡◌, List, [], ◌∷◌, OnOk, ◌*◌, nat_lt, length, None};
-ghost use Rattle.board_stated.specs.FaultsAfter.{is_out_of_order, is_twice, has_bad_owner, has_flag_twice, fault_after};
+ghost use Rattle.std.specs.Prelude.{◌≡◌, List, [], ◌∷◌, ◌&&◌, not, OnOk};
+ghost use Rattle.board_stated.specs.FaultsAfter.{is_empty, is_out_of_order, is_twice, has_bad_owner, has_flag_twice, fault_after};
 ghost use Rattle.board_stated.specs.Stated.{board_of, with_statement};
+ghost use Rattle.board_stated.specs.TextOf.{begins_with_board};
+ghost use Rattle.board_words.specs.Seen.{words_left};
 ghost use Rattle.board_text.specs.Kept.{Agrees, Keeps, IsKept, IsNext, log_after};
 ghost use Rattle.board_text.specs.Given.{Ends, ReadsLine};
 ghost use Rattle.board_text.specs.Owned.{Owns};
@@ -10,13 +12,13 @@ ghost use Rattle.board_words.specs.declared.statements.Statement.{Statement};
 use crate::adding::{add_statement, call_of_words, script_call};
 use crate::built::is_built;
 use crate::faults::{
-    has_bad_mask, has_bad_parent, has_bad_unlazy, is_misplaced, is_not_there, is_one_too_many,
-    last_driver,
+    has_bad_mask, has_bad_parent, has_bad_unlazy, has_name, is_misplaced, is_not_there,
+    is_one_too_many, last_driver,
 };
 use crate::owners::Owners;
 use crate::sections::Section;
 use crate::stood::Stood;
-use board_def::{Board, Name};
+use board_def::Board;
 use board_words::{
     CallWords, FaultKind, Statement, StatementRefused, Words, has_bad_byte, read_statement,
 };
@@ -71,7 +73,7 @@ impl Reader {
         if words.is_empty() {
             return Ok(());
         }
-        if !self.stood.begun && !words.is_header() {
+        if self.lacks_header(words) {
             return Err(StatementRefused::Fault(FaultKind::NoHeader));
         }
         let statement = read_statement(alloc, words)?;
@@ -84,7 +86,16 @@ impl Reader {
         }
     }
 
+    /// Whether the words are the first statement, and no header.
+    #[tactic(auto, using(crate::proofs::ReadLines::header_same))]
+    fn lacks_header(&self, words: Words<'_>) -> bool
+        ensures { (past : List Statement) → Agrees past self.now → result ≡ (is_empty past && not (begins_with_board (words_left words.entry))) }
+    {
+        !self.stood.begun && !words.is_header()
+    }
+
     /// What is wrong with the statement after those so far.
+    #[tactic(auto, using(crate::proofs::Drafts::not_there_read, crate::proofs::Drafts::parent_read, crate::proofs::Drafts::unlazy_read, crate::proofs::Drafts::mask_read, crate::proofs::Drafts::room_read))]
     fn fault_of(&self, statement: &Statement) -> Option<FaultKind>
         ensures { (past : List Statement) → Agrees past self.now → result ≡ fault_after past statement.now }
     {
@@ -127,9 +138,7 @@ impl Reader {
         ensures { (past : List Statement) → Agrees past self.now → result ≡ is_twice past statement.now }
     {
         match statement {
-            Statement::Domain(domain) => {
-                self.board.find_domain(&domain.name).is_some() || domain.twice
-            }
+            Statement::Domain(domain) => has_name(&self.board, domain.name) || domain.twice,
             Statement::Line(line) => line.twice,
             Statement::Call(call) => has_flag_twice(*call),
             _ => self.stood.has_setting(statement),
@@ -142,7 +151,8 @@ impl Reader {
     {
         match statement {
             Statement::Call(call) => {
-                self.owners.forbid(last_driver(&self.board), call_of_words(*call))
+                self.owners
+                    .forbid(last_driver(&self.board), call_of_words(*call))
             }
             _ => false,
         }
@@ -195,11 +205,7 @@ fn has_flag_twice(call: CallWords) -> bool
 }
 
 /// Takes note of the statement's call, if it is one.
-fn note_owner(
-    owners: &mut Owners,
-    board: &Board,
-    statement: &Statement,
-) -> Result<(), NoMemory>
+fn note_owner(owners: &mut Owners, board: &Board, statement: &Statement) -> Result<(), NoMemory>
     ensures { Owns owners.old board.now.calls → OnOk result (Owns owners.new (with_statement statement.now board.now).calls) }
 {
     match statement {

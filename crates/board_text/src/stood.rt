@@ -1,7 +1,5 @@
 //! Which statements have stood.
-ghost use Rattle.std.specs.Prelude.{◌≡◌, ◌||◌, List, ◌∷◌, is_some};
-ghost use Rattle.board_stated.specs.BuiltSoFar.{has_options};
-ghost use Rattle.board_stated.specs.FaultsAfter.{has_flag_twice};
+ghost use Rattle.std.specs.Prelude.{◌≡◌, ◌||◌, List, [], ◌∷◌, is_some};
 ghost use Rattle.board_text.specs.Kept.{stood_after, is_setting_again};
 ghost use Rattle.board_words.specs.declared.statements.Statement.{Statement};
 
