@@ -9,3 +9,4 @@ pub mod BuiltBy
 pub mod OneMore
 pub mod Ending
 pub mod ReadLines
+pub mod LinesRead
