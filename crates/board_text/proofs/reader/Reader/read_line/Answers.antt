@@ -23,6 +23,7 @@ returns-in-Ok c = λ past h.
     let s = c.in_ok-statement.statement in
     let some_word = sym c.is_empty.ensures ∙ c.if-is_empty.false in
     let fault = sym c.in_default.is ∙ c.fault_of.ensures past h.agrees in
-    let keeps : Keeps (s ∷ past) c.add.new.self = record { agrees = c.in-Ok.ensures past h.agrees; sound = sound_next past words s h.sound c.in_ok-statement.ensures.0 c.in_ok-statement.ensures.1 fault } in
-    (line_told past c.args.line.now words s None c.of_line-words.ensures (sym c.has_bad_byte.ensures ∙ c.if-has_bad_byte.false) some_word (sym (c.lacks_header.ensures past h.agrees) ∙ c.if-lacks_header.false) c.in_ok-statement.ensures.0 c.in_ok-statement.ensures.1 fault,
-    subst (λ (p : List Statement). Keeps p c.add.new.self) (sym (line_added past c.args.line.now words s c.of_line-words.ensures some_word c.in_ok-statement.ensures.1)) keeps)
+    let keeps : Keeps (s ∷ past) c.add.new.self = record { agrees = c.in-Ok.ensures past h.agrees; sound = sound_next past words s h.sound c.in_ok-statement.ensures.0 c.in_ok-statement.ensures.1 fault } in (
+      line_told past c.args.line.now words s None c.of_line-words.ensures (sym c.has_bad_byte.ensures ∙ c.if-has_bad_byte.false) some_word (sym (c.lacks_header.ensures past h.agrees) ∙ c.if-lacks_header.false) c.in_ok-statement.ensures.0 c.in_ok-statement.ensures.1 fault,
+      subst (λ (p : List Statement). Keeps p c.add.new.self) (sym (line_added past c.args.line.now words s c.of_line-words.ensures some_word c.in_ok-statement.ensures.1)) keeps,
+    )
