@@ -1,8 +1,6 @@
 -- The draft of a board is the board but for its log limit, which no statement's fault looks at.
-use Rattle.std.proofs.Common.{◌≡◌, ℕ, Bool, true, false, ◌||◌, List, [], ◌∷◌, refl, ap, ◌∙◌, arith}
+use Rattle.std.proofs.Common.{◌≡◌, Bool, ◌||◌, List, [], ◌∷◌, refl, ap, ◌∙◌}
 use Rattle.std.specs.List.{list_any}
-use Rattle.board_def.specs.Seen.{BoardSeen}
-use Rattle.board_def.specs.declared.rows.ScriptCall.{ScriptCall}
 use Rattle.board_stated.specs.FaultsAfter.{is_misplaced, is_not_there, names_nothing, picks_nothing, has_bad_parent, has_bad_unlazy, has_bad_mask, is_one_too_many}
 use Rattle.board_stated.specs.Sound.{draft_of}
 use Rattle.board_stated.specs.Stated.{board_of, with_statement}

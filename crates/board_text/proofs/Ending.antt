@@ -1,10 +1,9 @@
 -- The end of a text.
-use Rattle.std.proofs.Common.{◌≡◌, ℕ, ◌*◌, ◌<◌, ◌≤◌, Bool, true, false, cond, nat_lt, None, Result, Ok, Err, List, length, refl, sym, ap, subst, ◌∙◌, arith}
+use Rattle.std.proofs.Common.{◌≡◌, ℕ, ◌*◌, ◌<◌, ◌≤◌, Bool, true, false, cond, nat_lt, None, Ok, Err, List, length, refl, sym, ap, subst, ◌∙◌, arith}
 use Rattle.std.proofs.lemmas.Bool.Decides.{nat_tests}
 use Rattle.board_def.specs.Rules.{IsBoard}
 use Rattle.board_def.specs.Seen.{BoardSeen}
 use Rattle.board_stated.specs.BuiltSoFar.{is_built}
-use Rattle.board_stated.specs.Sound.{draft_of}
 use Rattle.board_stated.specs.Stated.{board_of}
 use Rattle.board_stated.specs.TextOf.{board_unless, whole}
 use Rattle.board_stated.specs.declared.faults.BoardFault.{BoardFault}

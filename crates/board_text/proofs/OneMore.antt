@@ -1,11 +1,9 @@
 -- One more statement without a fault.
-use Rattle.std.proofs.Common.{◌≡◌, ℕ, List, ◌∷◌, refl, sym, ap, subst, ◌∙◌}
+use Rattle.std.proofs.Common.{◌≡◌, List, ◌∷◌, sym, ap, subst, ◌∙◌}
 use Rattle.board_def.specs.Rules.{IsBoard}
 use Rattle.board_def.specs.Seen.{BoardSeen}
-use Rattle.board_def.specs.declared.rows.ScriptCall.{ScriptCall}
 use Rattle.board_stated.specs.Sections.{section_of}
-use Rattle.board_stated.specs.Sound.{draft_of}
-use Rattle.board_stated.specs.Stated.{board_of, with_statement}
+use Rattle.board_stated.specs.Stated.{with_statement}
 use Rattle.board_stated.proofs.Kept.{draft_is_board}
 use Rattle.board_words.specs.declared.statements.Statement.{Statement}
 use Rattle.board_text.specs.Kept.{place_of, stood_after, drafted, log_after, Agrees, IsNext}

@@ -1,12 +1,11 @@
 -- The place of a domain's name, found and told.
-use Rattle.std.proofs.Common.{◌≡◌, ℕ, suc, ◌+◌, ◌<◌, Bool, true, false, not, cond, nat_lt, Option, Some, None, unwrap_or, List, [], ◌∷◌, length, is_some, refl, ap, sym, ◌∙◌, arith}
+use Rattle.std.proofs.Common.{◌≡◌, ℕ, suc, ◌+◌, Bool, true, false, not, cond, nat_lt, Option, Some, None, unwrap_or, List, [], ◌∷◌, length, refl, ap, ◌∙◌, arith}
 use Rattle.std.specs.List.{position_or_len}
 use Rattle.std.proofs.lemmas.Bool.Decides.{nat_tests}
 use Rattle.board_def.specs.Find as found
-use Rattle.board_def.specs.Rules.{is_domain_named, has_name}
+use Rattle.board_def.specs.Rules.{is_domain_named}
 use Rattle.board_def.specs.declared.names.Name.{Name}
 use Rattle.board_def.specs.declared.rows.DomainRow.{DomainRow}
-use Rattle.board_def.proofs.Finds.{has_name_place}
 use Rattle.board_stated.specs.Stated.{one_on, place_of_name, place_or_first}
 
 one : (b : Bool) (s : Option ℕ) (n m : ℕ) → s ≡ cond (nat_lt n m) (Some n) None → cond b (Some 0) (one_on s) ≡ cond (nat_lt (cond (not b) (1 + n) 0) (suc m)) (Some (cond (not b) (1 + n) 0)) None

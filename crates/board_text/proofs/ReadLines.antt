@@ -1,5 +1,5 @@
 -- Reading a text line.
-use Rattle.std.proofs.Common.{◌≡◌, ℕ, ◌==◌, Bool, true, false, cond, not, ◌&&◌, Option, Some, None, List, [], ◌∷◌, length, refl, sym, subst, arith}
+use Rattle.std.proofs.Common.{◌≡◌, ℕ, Bool, false, cond, not, ◌&&◌, Option, Some, None, List, [], ◌∷◌, refl, sym, subst, arith}
 use Rattle.board_stated.specs.FaultsAfter.{is_empty, fault_after}
 use Rattle.board_stated.specs.Sound.{IsWellFormed, IsSound}
 use Rattle.board_stated.specs.TextOf.{begins_with_board, or_else, fault_of_statement, fault_of_line, with_line}

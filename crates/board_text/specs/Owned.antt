@@ -1,5 +1,5 @@
 -- What the owners of the devices say of the calls so far.
-use Rattle.std.specs.Prelude.{◌≡◌, Bool, true, false, Option, Some, None, List, ◌∷◌, reverse}
+use Rattle.std.specs.Prelude.{◌≡◌, Bool, false, Option, Some, None, List, reverse}
 use Rattle.std.specs.Option.{option_map}
 use Rattle.std.specs.Map.{lookup}
 use Rattle.irq_base.specs.declared.numbers.DevNo.{DevNo}

@@ -1,6 +1,4 @@
-use Rattle.std.proofs.Common.{◌≡◌, ◌+◌, ◌<◌, ◌++◌, ◌∙◌, Some, length, drop, sym, arith}
-use Rattle.std.specs.List.{slice_get, flat_map}
-use Rattle.board_stated.specs.Stated.{actors_picked}
+use Rattle.std.proofs.Common.{◌<◌, ◌∙◌, length, sym, arith}
 use Rattle.board_text.proofs.Left.{item_there}
 use Rattle.board_text.proofs.Picking.{word_of_picks, picks_so_far}
 use Rattle.board_text.proofs.adding.add_picks.Goals as goal

@@ -1,4 +1,3 @@
-use Rattle.std.proofs.Common.{OnOk}
 use Rattle.std.proofs.lemmas.Result.{on_ok_weaker}
 use Rattle.board_text.proofs.Owning.{request_noted, free_noted, other_noted}
 use Rattle.board_text.proofs.owners.Owners.note.Goals as goal

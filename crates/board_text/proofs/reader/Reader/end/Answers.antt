@@ -1,4 +1,4 @@
-use Rattle.std.proofs.Common.{◌≡◌, ◌*◌, ◌≤◌, ◌<◌, ◌∙◌, length, true, false, sym, arith}
+use Rattle.std.proofs.Common.{◌≡◌, ◌*◌, ◌≤◌, ◌<◌, ◌∙◌, length, true, false, sym}
 use Rattle.board_stated.specs.BuiltSoFar.{is_built}
 use Rattle.board_text.proofs.Ending.{ends_large, ends_unbuilt, ends_good, log_fits}
 use Rattle.board_text.proofs.reader.Reader.end.Goals as goal

@@ -1,5 +1,5 @@
-use Rattle.std.proofs.Common.{◌≡◌, false, None, Some, List, ◌∷◌, sym, subst, ◌∙◌}
-use Rattle.board_words.specs.Seen.{are_none, words_left}
+use Rattle.std.proofs.Common.{None, Some, List, ◌∷◌, sym, subst, ◌∙◌}
+use Rattle.board_words.specs.Seen.{words_left}
 use Rattle.board_words.specs.declared.statements.Statement.{Statement}
 use Rattle.board_text.specs.Kept.{Keeps}
 use Rattle.board_text.proofs.ReadLines.{line_told, line_added, sound_next}
