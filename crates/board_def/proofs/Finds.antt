@@ -20,7 +20,6 @@ has_line_found (x ∷ xs) line = by (x.line.0 == line.0) (has_line_found xs line
     by true rest = refl
     by false rest = rest
 
-
 -- a name is a domain's exactly where a domain of it has a place
 pub has_name_place : (domains : List DomainRow) (name : Name) → has_name domains name ≡ is_some (place_of_name domains name)
 has_name_place domains name = walk domains ∙ shown (nat_lt (position_or_len (is_domain_named name) domains) (length domains)) (position_or_len (is_domain_named name) domains)
@@ -28,9 +27,11 @@ has_name_place domains name = walk domains ∙ shown (nat_lt (position_or_len (i
     shown : (b : Bool) (n : ℕ) → b ≡ is_some (cond b (Some n) None)
     shown true n = refl
     shown false n = refl
+
     one : (b h : Bool) (n m : ℕ) → h ≡ nat_lt n m → (b || h) ≡ nat_lt (cond (not b) (1 + n) 0) (suc m)
     one true h n m rest = grind (arith, nat_tests)
     one false h n m rest = grind (arith, nat_tests)
+
     walk : (rows : List DomainRow) → has_name rows name ≡ nat_lt (position_or_len (is_domain_named name) rows) (length rows)
     walk [] = refl
     walk (x ∷ xs) = one (is_domain_named name x) (has_name xs name) (position_or_len (is_domain_named name) xs) (length xs) (walk xs)

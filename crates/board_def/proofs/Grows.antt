@@ -112,17 +112,28 @@ pub grows_domain : (b : BoardSeen) (row : DomainRow) → IsBoard b → length b.
 grows_domain b row h few here =
     let c = record b { domains = b.domains ++ row ∷ [] } in
     record {
-      some_cpu = h.some_cpu; few_cpus = h.few_cpus; small_window = h.small_window; limit = h.limit; some_log = h.some_log; small_log = h.small_log;
-      few_domains = omega (arith, length_push b.domains row); few_lines = h.few_lines; few_devices = h.few_devices; few_drivers = h.few_drivers; few_calls = h.few_calls; few_picks = h.few_picks;
+      some_cpu = h.some_cpu;
+      few_cpus = h.few_cpus;
+      small_window = h.small_window;
+      limit = h.limit;
+      some_log = h.some_log;
+      small_log = h.small_log;
+      few_domains = omega (arith, length_push b.domains row);
+      few_lines = h.few_lines;
+      few_devices = h.few_devices;
+      few_drivers = h.few_drivers;
+      few_calls = h.few_calls;
+      few_picks = h.few_picks;
       entries = h.entries;
       domains = each_more IsDomainAfter b.domains row h.domains here;
       lines = each_from (IsLineAfter b) (IsLineAfter c)
-        (λ earlier x l. record {
-          number = l.number; rises = l.rises;
-          domain = let d : x.domain < length b.domains = l.domain in omega (arith, length_push b.domains row);
-          unlazy = unlazy_stays b.domains row x.domain x.unlazy h.domains l.domain ∙ l.unlazy;
-          mask = l.mask;
-        }) b.lines h.lines;
+          (λ earlier x l. record {
+            number = l.number;
+            rises = l.rises;
+            domain = let d : x.domain < length b.domains = l.domain in omega (arith, length_push b.domains row);
+            unlazy = unlazy_stays b.domains row x.domain x.unlazy h.domains l.domain ∙ l.unlazy;
+            mask = l.mask;
+          }) b.lines h.lines;
       devices = each_from (IsDeviceAfter b) (IsDeviceAfter c) (λ earlier x d. record { number = d.number; rises = d.rises; line = d.line }) b.devices h.devices;
       drivers = h.drivers;
       calls = each_from (IsCallAfter b) (IsCallAfter c) (λ earlier x k. record { driver = k.driver; in_order = k.in_order; line = k.line; device = k.device; owner = k.owner }) b.calls h.calls;
@@ -135,15 +146,25 @@ grows_line b row h few room here =
     let same : (earlier : List LineRow) (x : LineRow) → IsLineAfter b earlier x → IsLineAfter c earlier x =
     λ earlier x l. record { number = l.number; rises = l.rises; domain = l.domain; unlazy = l.unlazy; mask = l.mask } in
     record {
-      some_cpu = h.some_cpu; few_cpus = h.few_cpus; small_window = h.small_window; limit = h.limit; some_log = h.some_log; small_log = h.small_log;
-      few_domains = h.few_domains; few_lines = omega (arith, length_push b.lines row); few_devices = h.few_devices; few_drivers = h.few_drivers; few_calls = h.few_calls; few_picks = h.few_picks;
+      some_cpu = h.some_cpu;
+      few_cpus = h.few_cpus;
+      small_window = h.small_window;
+      limit = h.limit;
+      some_log = h.some_log;
+      small_log = h.small_log;
+      few_domains = h.few_domains;
+      few_lines = omega (arith, length_push b.lines row);
+      few_devices = h.few_devices;
+      few_drivers = h.few_drivers;
+      few_calls = h.few_calls;
+      few_picks = h.few_picks;
       entries = subst (λ n. b.log * n ≤ 4000000) (sym (length_push b.lines row)) room;
       domains = h.domains;
       lines = each_more (IsLineAfter c) b.lines row (each_from (IsLineAfter b) (IsLineAfter c) same b.lines h.lines) (same b.lines row here);
       devices = each_from (IsDeviceAfter b) (IsDeviceAfter c) (λ earlier x d. record { number = d.number; rises = d.rises; line = any_stays (λ (e : LineRow). e.line.0 == x.line.0) b.lines row d.line }) b.devices h.devices;
       drivers = h.drivers;
       calls = each_from (IsCallAfter b) (IsCallAfter c)
-        (λ earlier x k. record { driver = k.driver; in_order = k.in_order; line = any_stays (λ (e : LineRow). e.line.0 == x.line.0) b.lines row k.line; device = k.device; owner = k.owner }) b.calls h.calls;
+          (λ earlier x k. record { driver = k.driver; in_order = k.in_order; line = any_stays (λ (e : LineRow). e.line.0 == x.line.0) b.lines row k.line; device = k.device; owner = k.owner }) b.calls h.calls;
       picks = all_from (IsActorOf b) (IsActorOf c) (same_actors b c refl refl refl) b.picks h.picks;
     }
 
@@ -152,15 +173,25 @@ grows_device b device h few here =
     let c = record b { devices = b.devices ++ device ∷ [] } in
     let same : (earlier : List DeviceDef) (x : DeviceDef) → IsDeviceAfter b earlier x → IsDeviceAfter c earlier x = λ earlier x d. record { number = d.number; rises = d.rises; line = d.line } in
     record {
-      some_cpu = h.some_cpu; few_cpus = h.few_cpus; small_window = h.small_window; limit = h.limit; some_log = h.some_log; small_log = h.small_log;
-      few_domains = h.few_domains; few_lines = h.few_lines; few_devices = omega (arith, length_push b.devices device); few_drivers = h.few_drivers; few_calls = h.few_calls; few_picks = h.few_picks;
+      some_cpu = h.some_cpu;
+      few_cpus = h.few_cpus;
+      small_window = h.small_window;
+      limit = h.limit;
+      some_log = h.some_log;
+      small_log = h.small_log;
+      few_domains = h.few_domains;
+      few_lines = h.few_lines;
+      few_devices = omega (arith, length_push b.devices device);
+      few_drivers = h.few_drivers;
+      few_calls = h.few_calls;
+      few_picks = h.few_picks;
       entries = h.entries;
       domains = h.domains;
       lines = each_from (IsLineAfter b) (IsLineAfter c) (λ earlier x l. record { number = l.number; rises = l.rises; domain = l.domain; unlazy = l.unlazy; mask = l.mask }) b.lines h.lines;
       devices = each_more (IsDeviceAfter c) b.devices device (each_from (IsDeviceAfter b) (IsDeviceAfter c) same b.devices h.devices) (same b.devices device here);
       drivers = h.drivers;
       calls = each_from (IsCallAfter b) (IsCallAfter c)
-        (λ earlier x k. record { driver = k.driver; in_order = k.in_order; line = k.line; device = fits_stays x.line b.devices device x.call k.device; owner = k.owner }) b.calls h.calls;
+          (λ earlier x k. record { driver = k.driver; in_order = k.in_order; line = k.line; device = fits_stays x.line b.devices device x.call k.device; owner = k.owner }) b.calls h.calls;
       picks = all_from (IsActorOf b) (IsActorOf c) by b.picks h.picks;
     }
   where
@@ -173,15 +204,25 @@ pub grows_driver : (b : BoardSeen) (driver : DriverNo) → IsBoard b → length 
 grows_driver b driver h few here =
     let c = record b { drivers = b.drivers ++ driver ∷ [] } in
     record {
-      some_cpu = h.some_cpu; few_cpus = h.few_cpus; small_window = h.small_window; limit = h.limit; some_log = h.some_log; small_log = h.small_log;
-      few_domains = h.few_domains; few_lines = h.few_lines; few_devices = h.few_devices; few_drivers = omega (arith, length_push b.drivers driver); few_calls = h.few_calls; few_picks = h.few_picks;
+      some_cpu = h.some_cpu;
+      few_cpus = h.few_cpus;
+      small_window = h.small_window;
+      limit = h.limit;
+      some_log = h.some_log;
+      small_log = h.small_log;
+      few_domains = h.few_domains;
+      few_lines = h.few_lines;
+      few_devices = h.few_devices;
+      few_drivers = omega (arith, length_push b.drivers driver);
+      few_calls = h.few_calls;
+      few_picks = h.few_picks;
       entries = h.entries;
       domains = h.domains;
       lines = each_from (IsLineAfter b) (IsLineAfter c) (λ earlier x l. record { number = l.number; rises = l.rises; domain = l.domain; unlazy = l.unlazy; mask = l.mask }) b.lines h.lines;
       devices = each_from (IsDeviceAfter b) (IsDeviceAfter c) (λ earlier x d. record { number = d.number; rises = d.rises; line = d.line }) b.devices h.devices;
       drivers = each_more IsDriverAfter b.drivers driver h.drivers here;
       calls = each_from (IsCallAfter b) (IsCallAfter c)
-        (λ earlier x k. record { driver = any_stays (λ (d : DriverNo). d.0 == x.driver.0) b.drivers driver k.driver; in_order = k.in_order; line = k.line; device = k.device; owner = k.owner }) b.calls h.calls;
+          (λ earlier x k. record { driver = any_stays (λ (d : DriverNo). d.0 == x.driver.0) b.drivers driver k.driver; in_order = k.in_order; line = k.line; device = k.device; owner = k.owner }) b.calls h.calls;
       picks = all_from (IsActorOf b) (IsActorOf c) by b.picks h.picks;
     }
   where
@@ -196,8 +237,18 @@ grows_call b call h few here =
     let same : (earlier : List ScriptCall) (x : ScriptCall) → IsCallAfter b earlier x → IsCallAfter c earlier x =
     λ earlier x k. record { driver = k.driver; in_order = k.in_order; line = k.line; device = k.device; owner = k.owner } in
     record {
-      some_cpu = h.some_cpu; few_cpus = h.few_cpus; small_window = h.small_window; limit = h.limit; some_log = h.some_log; small_log = h.small_log;
-      few_domains = h.few_domains; few_lines = h.few_lines; few_devices = h.few_devices; few_drivers = h.few_drivers; few_calls = omega (arith, length_push b.calls call); few_picks = h.few_picks;
+      some_cpu = h.some_cpu;
+      few_cpus = h.few_cpus;
+      small_window = h.small_window;
+      limit = h.limit;
+      some_log = h.some_log;
+      small_log = h.small_log;
+      few_domains = h.few_domains;
+      few_lines = h.few_lines;
+      few_devices = h.few_devices;
+      few_drivers = h.few_drivers;
+      few_calls = omega (arith, length_push b.calls call);
+      few_picks = h.few_picks;
       entries = h.entries;
       domains = h.domains;
       lines = each_from (IsLineAfter b) (IsLineAfter c) (λ earlier x l. record { number = l.number; rises = l.rises; domain = l.domain; unlazy = l.unlazy; mask = l.mask }) b.lines h.lines;
@@ -211,8 +262,18 @@ pub grows_pick : (b : BoardSeen) (pick : Actor) → IsBoard b → length b.picks
 grows_pick b pick h few here =
     let c = record b { picks = b.picks ++ pick ∷ [] } in
     record {
-      some_cpu = h.some_cpu; few_cpus = h.few_cpus; small_window = h.small_window; limit = h.limit; some_log = h.some_log; small_log = h.small_log;
-      few_domains = h.few_domains; few_lines = h.few_lines; few_devices = h.few_devices; few_drivers = h.few_drivers; few_calls = h.few_calls; few_picks = omega (arith, length_push b.picks pick);
+      some_cpu = h.some_cpu;
+      few_cpus = h.few_cpus;
+      small_window = h.small_window;
+      limit = h.limit;
+      some_log = h.some_log;
+      small_log = h.small_log;
+      few_domains = h.few_domains;
+      few_lines = h.few_lines;
+      few_devices = h.few_devices;
+      few_drivers = h.few_drivers;
+      few_calls = h.few_calls;
+      few_picks = omega (arith, length_push b.picks pick);
       entries = h.entries;
       domains = h.domains;
       lines = each_from (IsLineAfter b) (IsLineAfter c) (λ earlier x l. record { number = l.number; rises = l.rises; domain = l.domain; unlazy = l.unlazy; mask = l.mask }) b.lines h.lines;

@@ -36,7 +36,7 @@ first_of_two dev [] ys = refl
 first_of_two dev (c ∷ cs) ys = by (is_owning dev c) (first_of_two dev cs ys)
   where
     by : (b : Bool) → first_owning dev (cs ++ ys) ≡ or_else (first_owning dev cs) (first_owning dev ys)
-      → cond b (Some c) (first_owning dev (cs ++ ys)) ≡ or_else (cond b (Some c) (first_owning dev cs)) (first_owning dev ys)
+        → cond b (Some c) (first_owning dev (cs ++ ys)) ≡ or_else (cond b (Some c) (first_owning dev cs)) (first_owning dev ys)
     by true rest = refl
     by false rest = rest
 
@@ -114,7 +114,7 @@ first_kept keep d [] all = refl
 first_kept keep d (c ∷ cs) all = by (is_owning d c) refl (keep c) (all zero c refl) (first_kept keep d cs (λ i x at. all (suc i) x at))
   where
     by : (b : Bool) → is_owning d c ≡ b → (k : Bool) → (b ≡ true → k ≡ true) → first_owning d (filter keep cs) ≡ first_owning d cs
-      → first_owning d (cond k (c ∷ filter keep cs) (filter keep cs)) ≡ cond b (Some c) (first_owning d cs)
+        → first_owning d (cond k (c ∷ filter keep cs) (filter keep cs)) ≡ cond b (Some c) (first_owning d cs)
     by true is true kept rest = ap (λ b. cond b (Some c) (first_owning d (filter keep cs))) is
     by true is false kept rest = absurd (let no : false ≡ true = kept refl in cc)
     by false is true kept rest = ap (λ b. cond b (Some c) (first_owning d (filter keep cs))) is ∙ rest
@@ -127,8 +127,9 @@ last_kept keep d (c ∷ cs) all = by (is_owning d c) refl (keep c) (all zero c r
     or_none : (r : Option ScriptCall) → r ≡ or_else r None
     or_none (Some x) = refl
     or_none None = refl
+
     by : (b : Bool) → is_owning d c ≡ b → (k : Bool) → (b ≡ true → k ≡ true) → last_owning d (filter keep cs) ≡ last_owning d cs
-      → last_owning d (cond k (c ∷ filter keep cs) (filter keep cs)) ≡ or_else (last_owning d cs) (alone d c)
+        → last_owning d (cond k (c ∷ filter keep cs) (filter keep cs)) ≡ or_else (last_owning d cs) (alone d c)
     by b is true kept rest = last_after d c (filter keep cs) ∙ ap (λ r. or_else r (alone d c)) rest
     by true is false kept rest = absurd (let no : false ≡ true = kept refl in cc)
     by false is false kept rest = rest ∙ (or_none (last_owning d cs) ∙ ap (λ b. or_else (last_owning d cs) (cond b (Some c) None)) (sym is))
@@ -139,9 +140,11 @@ owned_on_line b line each = each_kept keep (IsCallAfter b) IsOwnedAfter step b.c
   where
     keep : ScriptCall → Bool
     keep c = c.line.0 == line.0
+
     all : (earlier : List ScriptCall) (x : ScriptCall) → EachAfter (IsCallAfter b) earlier → keep x ≡ true → IsCallAfter b earlier x → (d : DevNo) → is_owning d x ≡ true → KeepsAll keep d earlier
     all earlier x before kept here d is i c at own =
         one_line c.line x.line line (find_device b.devices d) (owning_on_line b.devices c.line c.call d (before i c at).device own) (owning_on_line b.devices x.line x.call d here.device is) kept
+
     step : (earlier : List ScriptCall) (x : ScriptCall) → EachAfter (IsCallAfter b) earlier → keep x ≡ true → IsCallAfter b earlier x → IsOwnedAfter (filter keep earlier) x
     step earlier x before kept here =
         record {
@@ -162,7 +165,6 @@ first_at d (x ∷ cs) (suc j) c at own = by (is_owning d x) (first_at d cs j c a
     by : (b : Bool) → first_owning d cs ≡ or_else (first_owning d (take j cs)) (Some c) → cond b (Some x) (first_owning d cs) ≡ or_else (cond b (Some x) (first_owning d (take j cs))) (Some c)
     by true rest = refl
     by false rest = rest
-
 
 same_driver_of : (driver : DriverNo) (c : ScriptCall) (r : Option ScriptCall) → c.driver ≡ driver → is_of_another driver r ≡ false → option_map (λ (c : ScriptCall). c.driver) (or_else r (Some c)) ≡ Some driver
 same_driver_of driver c None is h = ap Some is
@@ -203,7 +205,7 @@ first_stands d [] c h = absurd cc
 first_stands d (x ∷ cs) c h = by (is_owning d x) refl h (first_stands d cs c)
   where
     by : (b : Bool) → is_owning d x ≡ b → cond b (Some x) (first_owning d cs) ≡ Some c → (first_owning d cs ≡ Some c → (k : ℕ) × (slice_get cs k ≡ Some c) × (is_owning d c ≡ true))
-      → (k : ℕ) × (slice_get (x ∷ cs) k ≡ Some c) × (is_owning d c ≡ true)
+        → (k : ℕ) × (slice_get (x ∷ cs) k ≡ Some c) × (is_owning d c ≡ true)
     by true is h rest = let same : x ≡ c = cc in (zero, ap Some same, subst (λ (y : ScriptCall). is_owning d y ≡ true) same is)
     by false is h rest = let r = rest h in (suc r.0, r.1, r.2)
 
@@ -215,8 +217,9 @@ last_stands d (x ∷ cs) c h = by (last_owning d cs) refl (sym (last_after d x c
     here : (b : Bool) → is_owning d x ≡ b → cond b (Some x) None ≡ Some c → (k : ℕ) × (slice_get (x ∷ cs) k ≡ Some c) × (is_owning d c ≡ true)
     here true is h = let same : x ≡ c = cc in (zero, ap Some same, subst (λ (y : ScriptCall). is_owning d y ≡ true) same is)
     here false is h = absurd cc
+
     by : (r : Option ScriptCall) → last_owning d cs ≡ r → or_else r (alone d x) ≡ Some c → (last_owning d cs ≡ Some c → (k : ℕ) × (slice_get cs k ≡ Some c) × (is_owning d c ≡ true))
-      → (k : ℕ) × (slice_get (x ∷ cs) k ≡ Some c) × (is_owning d c ≡ true)
+        → (k : ℕ) × (slice_get (x ∷ cs) k ≡ Some c) × (is_owning d c ≡ true)
     by (Some y) is h rest = let r = rest (is ∙ h) in (suc r.0, r.1, r.2)
     by None is h rest = here (is_owning d x) refl h
 
@@ -227,6 +230,7 @@ freed_after d (x ∷ cs) zero c at is last =
   where
     own : requests_dev d x.call ≡ true
     own = let same : x ≡ c = cc in subst (λ (y : ScriptCall). requests_dev d y.call ≡ true) (sym same) is
+
     by : (r : Option ScriptCall) → last_owning d cs ≡ r → is_a_request d (or_else r (alone d x)) ≡ false → Freed d (x ∷ cs) zero
     by (Some y) there h =
         let s = last_stands d cs y there in
@@ -240,6 +244,7 @@ freed_after d (x ∷ cs) (suc i) c at is last =
   where
     shifted : Freed d cs i → Freed d (x ∷ cs) (suc i)
     shifted f = (suc f.0, f.1, omega (arith, f.2), f.3, f.4)
+
     by : (r : Option ScriptCall) → last_owning d cs ≡ r → is_a_request d (or_else r (alone d x)) ≡ false → is_a_request d (last_owning d cs) ≡ false
     by (Some y) there h = subst (λ r. is_a_request d r ≡ false) (sym there) h
     by None there h = ap (is_a_request d) there

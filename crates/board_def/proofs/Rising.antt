@@ -1,6 +1,7 @@
 -- Lists whose numbers rise.
-use Rattle.std.proofs.Common.{◌≡◌, ℕ, zero, suc, ◌<◌, ◌==◌, true, false, cond, ◌||◌, Some, None, List, [], ◌∷◌, All, IfSome, refl, ap, subst, ◌∙◌, arith}
+use Rattle.std.proofs.Common.{◌≡◌, ℕ, zero, suc, ◌<◌, ◌==◌, true, false, cond, ◌||◌, Option, Some, None, List, [], ◌∷◌, All, IfSome, refl, ap, subst, ◌∙◌, arith}
 use Rattle.std.specs.List.{slice_get}
+use Rattle.std.specs.Option.{option_map}
 use Rattle.std.proofs.lemmas.Bool.Decides.{nat_tests}
 use Rattle.irq_base.specs.declared.devices.DeviceDef.{DeviceDef}
 use Rattle.irq_base.specs.declared.numbers.DevNo.{DevNo}
@@ -77,3 +78,8 @@ line_at (x ∷ xs) zero row rises at =
 line_at (x ∷ xs) (suc i) row rises at =
     ap (λ b. cond b (Some x) (find_line xs row.line)) (differ x.line.0 row.line.0 (head_of (λ e. e.line.0 < row.line.0) x _ (rises (suc i) row at)))
     ∙ line_at xs i row (rises_on (λ row. row.line.0) x xs rises) at
+
+-- what holds of the last number holds of the last item's number
+pub last_number : {A B : Type 0} (key : A → B) (P : B → Type 0) (r : Option A) → IfSome (option_map key r) P → IfSome r (λ x. P (key x))
+last_number key P None h = h
+last_number key P (Some x) h = h

@@ -90,8 +90,8 @@ lpi_keeps domains children (suc n) place root =
     by n (parent_in (slice_get domains place)) refl root (λ parent. lpi_keeps domains children n parent)
   where
     by : (n : ℕ) (up : Option ℕ) → parent_in (slice_get domains place) ≡ up → root_kind (kind_in (slice_get domains place) ∷ map (λ place. kind_in (slice_get domains place)) (way n domains up)) ≡ levels.Lpi
-      → ((parent : ℕ) → root_kind (map (λ place. kind_in (slice_get domains place)) (way n domains (Some parent))) ≡ levels.Lpi → keeps (map (λ place. kind_in (slice_get domains place)) (way n domains (Some parent))) ≡ true)
-      → keeps (kind_in (slice_get domains place) ∷ map (λ place. kind_in (slice_get domains place)) (way n domains up)) ≡ true
+        → ((parent : ℕ) → root_kind (map (λ place. kind_in (slice_get domains place)) (way n domains (Some parent))) ≡ levels.Lpi → keeps (map (λ place. kind_in (slice_get domains place)) (way n domains (Some parent))) ≡ true)
+        → keeps (kind_in (slice_get domains place) ∷ map (λ place. kind_in (slice_get domains place)) (way n domains up)) ≡ true
     by zero up is root rest = lpi_alone (kind_in (slice_get domains place)) root
     by (suc n) None is root rest = lpi_alone (kind_in (slice_get domains place)) root
     by (suc n) (Some parent) is root rest =
@@ -134,8 +134,8 @@ among line dev [] h = absurd cc
 among line dev (x ∷ xs) h = by (same_dev dev x.dev) refl (x.line.0 == line.0) refl h (among line dev xs)
   where
     by : (b : Bool) → same_dev dev x.dev ≡ b → (k : Bool) → (x.line.0 == line.0) ≡ k → is_on_line line (cond b (Some x) (find_device xs dev)) ≡ true
-      → (is_on_line line (find_device xs dev) ≡ true → list_any (is_device dev) (filter (λ x. x.line.0 == line.0) xs) ≡ true)
-      → list_any (is_device dev) (cond k (x ∷ filter (λ x. x.line.0 == line.0) xs) (filter (λ x. x.line.0 == line.0) xs)) ≡ true
+        → (is_on_line line (find_device xs dev) ≡ true → list_any (is_device dev) (filter (λ x. x.line.0 == line.0) xs) ≡ true)
+        → list_any (is_device dev) (cond k (x ∷ filter (λ x. x.line.0 == line.0) xs) (filter (λ x. x.line.0 == line.0) xs)) ≡ true
     by true is true on h rest = ap (λ b. b || list_any (is_device dev) (filter (λ x. x.line.0 == line.0) xs)) is
     by true is false on h rest = absurd cc
     by false is true on h rest = ap (λ b. b || list_any (is_device dev) (filter (λ x. x.line.0 == line.0) xs)) is ∙ rest h
@@ -197,10 +197,10 @@ valid_row b i row board at =
       eoi_keeps = λ edge eoi. lpi_keeps b.domains (board_children b board) 8 row.domain (lpi edge eoi);
       eoi_retriggers = λ edge eoi. ap retriggers_kind (lpi edge eoi);
       devices = subst (All (λ (x : DeviceDef). x.line ≡ row.line)) (map-id (filter on_line b.devices))
-        (all_kept on_line (λ (x : DeviceDef). x) (λ (x : DeviceDef). Unit {0}) (λ (x : DeviceDef). x.line ≡ row.line) (λ x p k. same_line x.line row.line k) b.devices (λ i x at. tt));
+          (all_kept on_line (λ (x : DeviceDef). x) (λ (x : DeviceDef). Unit {0}) (λ (x : DeviceDef). x.line ≡ row.line) (λ x p k. same_line x.line row.line k) b.devices (λ i x at. tt));
       distinct = distinct on_line b.devices (λ i x at. (board.devices i x at).rises);
       calls = all_kept call_on_line with_driver (λ (c : ScriptCall). fits_line b.devices c.line c.call ≡ true) (λ (c : DriverNo × Call). names_one_of (filter on_line b.devices) c.1 ≡ true)
-        (λ c fits k. named_on_line row.line b.devices c.call (subst (λ line. fits_line b.devices line c.call ≡ true) (same_line c.line row.line k) fits)) b.calls (λ i c at. (board.calls i c at).device);
+          (λ c fits k. named_on_line row.line b.devices c.call (subst (λ line. fits_line b.devices line c.call ≡ true) (same_line c.line row.line k) fits)) b.calls (λ i c at. (board.calls i c at).device);
       owners = λ d. one_owner d (filter call_on_line b.calls) owned;
       freed = λ d. freed_between d (filter call_on_line b.calls) owned;
     }

@@ -27,7 +27,6 @@ abbrev first_masking : Option LevelKind → List LevelKind → Option LevelKind
 first_masking (Some k) ks = Some k
 first_masking None ks = masking_kind ks
 
-
 masking_passed : (p : Levels) (ks : List LevelKind) (m : Option LevelKind) → p.masking ≡ m → (passed p ks).masking ≡ first_masking m ks
 masking_passed p [] (Some k) e = e
 masking_passed p [] None e = e
@@ -36,7 +35,7 @@ masking_passed p (x ∷ ks) (Some k) e =
 masking_passed p (x ∷ ks) None e = by (masks_kind x) refl (λ m. masking_passed (one_passed p x) ks m)
   where
     by : (b : Bool) → masks_kind x ≡ b → ((m : Option LevelKind) → cond (is_none p.masking && masks_kind x) (Some x) p.masking ≡ m → (passed (one_passed p x) ks).masking ≡ first_masking m ks)
-      → (passed (one_passed p x) ks).masking ≡ cond (masks_kind x) (Some x) (masking_kind ks)
+        → (passed (one_passed p x) ks).masking ≡ cond (masks_kind x) (Some x) (masking_kind ks)
     by true is rest = rest (Some x) (ap (λ m. cond (is_none m && masks_kind x) (Some x) m) e ∙ ap (λ b. cond b (Some x) None) is) ∙ sym (ap (λ b. cond b (Some x) (masking_kind ks)) is)
     by false is rest = rest None (ap (λ m. cond (is_none m && masks_kind x) (Some x) m) e ∙ ap (λ b. cond b (Some x) None) is) ∙ sym (ap (λ b. cond b (Some x) (masking_kind ks)) is)
 

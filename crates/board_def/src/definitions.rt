@@ -7,7 +7,9 @@ ghost use Rattle.board_def.specs.Rules.{is_bad_parent, is_bad_unlazy};
 ghost use Rattle.board_def.specs.declared.rows.LineRow.{LineRow};
 
 use crate::board::Board;
-use crate::levels::{flow_of, is_root, levels_from, levels_on, presents_level, retriggers, trigger_of};
+use crate::levels::{
+    flow_of, is_root, levels_from, levels_on, presents_level, retriggers, trigger_of,
+};
 use irq_base::domains::LEVELS;
 use irq_base::{CallList, DeviceList, LevelKind, LineDef, LineNo, NoMemory, Path, Trigger};
 use std::alloc::Global;

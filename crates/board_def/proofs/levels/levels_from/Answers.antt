@@ -33,7 +33,7 @@ loop-levels-preserved c =
     record {
       few = omega arith;
       passed = way_goes_on domains (kinds_from domains c.args.from) l.levels c.pass.new.self l.at c.parent_of-at.result c.in-Some.place (omega arith) c.in-Some.is next
-        (c.parent_of-at.ensures ∙ ap parent_in c.domain-row.ensures) l.invariant.passed;
+          (c.parent_of-at.ensures ∙ ap parent_in c.domain-row.ensures) l.invariant.passed;
     }
 
 late : (c : goal.After-loop-levels) → c.loop-levels.levels ≡ passed none_passed (kinds_from c.args.board.now.domains c.args.from)

@@ -27,7 +27,7 @@ loop-at-preserved c =
     record {
       few = omega (arith, few, long);
       all = level_goes_on earlier domains l.path c.push-in-loop-at.new.self (path_of domains earlier c.args.row) l.at c.parent_of-at-in-loop-at.result c.in-Some.place few c.in-Some.is is
-        (c.parent_of-at-in-loop-at.ensures ∙ ap parent_in c.domain-in-loop-at.ensures) l.invariant.all;
+          (c.parent_of-at-in-loop-at.ensures ∙ ap parent_in c.domain-in-loop-at.ensures) l.invariant.all;
     }
 
 pub returns-in_default : goal.returns-in_default

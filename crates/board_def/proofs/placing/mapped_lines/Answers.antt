@@ -14,11 +14,11 @@ loop-i-preserved c =
     let rest = count_of_mapped (drop (i + 1) xs) in
     elim c.if-takes_part.branch [
       | then-takes_part w ↦
-        let now : count_of_mapped (drop i xs) ≡ rest + 1 = mapped_goes_on xs i true (sym w.if-takes_part.true ∙ is) in
-        let count = w.count-is in
-        record { few = omega arith; all = omega (arith, now, c.loop-i.invariant.all) }
+          let now : count_of_mapped (drop i xs) ≡ rest + 1 = mapped_goes_on xs i true (sym w.if-takes_part.true ∙ is) in
+          let count = w.count-is in
+          record { few = omega arith; all = omega (arith, now, c.loop-i.invariant.all) }
       | else-takes_part w ↦
-        let now : count_of_mapped (drop i xs) ≡ rest = mapped_goes_on xs i false (sym w.if-takes_part.false ∙ is) in
-        let count = w.count-is in
-        record { few = omega arith; all = omega (arith, now, c.loop-i.invariant.all) }
+          let now : count_of_mapped (drop i xs) ≡ rest = mapped_goes_on xs i false (sym w.if-takes_part.false ∙ is) in
+          let count = w.count-is in
+          record { few = omega arith; all = omega (arith, now, c.loop-i.invariant.all) }
     ]

@@ -62,23 +62,23 @@ made_of c h =
     let devices = c.in_ok-devices.ensures ∙ ap (λ (n : LineNo). filter (λ x. x.line.0 == n.0) b.devices) line in
     let calls = c.in_ok-calls.ensures ∙ ap (λ (n : LineNo). map with_driver (filter (λ c. c.line.0 == n.0) b.calls)) line in
     λ i.
-        record {
-          line = line i;
-          flow = flow i;
-          trigger = trigger i;
-          keeps = keeps i;
-          recalls = recalls i;
-          retriggers = retriggers i;
-          unlazy = (row i).unlazy;
-          later = (row i).later;
-          mask = (row i).mask;
-          cpus = c.cpus.ensures i;
-          window = c.window.ensures i;
-          limit = c.limit.ensures i;
-          log = c.log.ensures i;
-          devices = devices i;
-          calls = calls i;
-        }
+    record {
+      line = line i;
+      flow = flow i;
+      trigger = trigger i;
+      keeps = keeps i;
+      recalls = recalls i;
+      retriggers = retriggers i;
+      unlazy = (row i).unlazy;
+      later = (row i).later;
+      mask = (row i).mask;
+      cpus = c.cpus.ensures i;
+      window = c.window.ensures i;
+      limit = c.limit.ensures i;
+      log = c.log.ensures i;
+      devices = devices i;
+      calls = calls i;
+    }
 
 pub returns-clause-def : goal.returns-clause-def
 returns-clause-def c = λ row found.
