@@ -1,5 +1,5 @@
 -- Statements of calls.
-use Rattle.std.proofs.Common.{◌≡◌, ℕ, List, Option, Some, None, Result, Ok, Err, refl}
+use Rattle.std.proofs.Common.{◌≡◌, ℕ, List, Option, Some, None, Ok, refl}
 use Rattle.board_words.specs.Keywords.{call_text}
 use Rattle.board_words.specs.Places.{outcome}
 use Rattle.board_words.specs.Statements.{statement_after, call_of}

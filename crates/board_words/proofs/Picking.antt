@@ -1,5 +1,5 @@
 -- Picks that are misspelled.
-use Rattle.std.proofs.Common.{◌≡◌, ℕ, Bool, true, false, cond, List, [], ◌∷◌, ◌++◌, Option, Some, None, refl, sym, ap, ◌∙◌}
+use Rattle.std.proofs.Common.{◌≡◌, ℕ, Bool, true, false, cond, List, [], ◌∷◌, ◌++◌, Some, None, refl, sym, ap, ◌∙◌}
 use Rattle.std.specs.List.{flat_map}
 use Rattle.std.specs.Option.{is_some}
 use Rattle.board_words.specs.Faults.{first_in_order}
@@ -8,7 +8,6 @@ use Rattle.board_words.specs.Places.{both}
 use Rattle.board_words.specs.Seen.{are_none}
 use Rattle.board_words.specs.Spelling.{pick_of}
 use Rattle.board_words.specs.declared.faults.FaultKind.TheVariants as faults
-use Rattle.board_words.specs.declared.statements.PickWord.{PickWord}
 use Rattle.board_words.proofs.Order.{both_append}
 
 absorbed : (t : Bool) → both (Some faults.BadName) (first_in_order (cond t [] (faults.BadName ∷ []))) ≡ Some faults.BadName

@@ -1,5 +1,5 @@
 -- A window and a limit below it.
-use Rattle.std.proofs.Common.{◌≡◌, ℕ, ◌-◌, Bool, true, false, cond, List, [], ◌∷◌, ◌++◌, drop, Option, Some, None, refl, sym, ap, ◌∙◌}
+use Rattle.std.proofs.Common.{◌≡◌, ℕ, ◌-◌, Bool, true, false, cond, List, [], ◌∷◌, drop, Option, Some, None, refl, sym, ap, ◌∙◌}
 use Rattle.std.specs.Option.{is_some}
 use Rattle.board_words.specs.Faults.{first_in_order}
 use Rattle.board_words.specs.Forms.{at, number, full, spurious_form}
@@ -10,7 +10,7 @@ use Rattle.board_words.specs.Statements.{number_at}
 use Rattle.board_words.specs.declared.faults.FaultKind.{FaultKind}
 use Rattle.board_words.specs.declared.faults.FaultKind.TheVariants as faults
 use Rattle.board_words.specs.declared.places.Places.{Places}
-use Rattle.board_words.proofs.Order.{step, both_append, both_none}
+use Rattle.board_words.proofs.Order.{step, both_append}
 
 -- beside a bad number another changes nothing
 absorbed : (t : Bool) → both (Some faults.BadNumber) (first_in_order (cond t [] (faults.BadNumber ∷ []))) ≡ Some faults.BadNumber

@@ -2,7 +2,7 @@
 use Rattle.std.proofs.Common.{◌≡◌, ℕ, Bool, true, false, not, cond, ◌||◌, List, [], ◌∷◌, ◌++◌, drop, get_or, codes, Option, Some, None, refl, sym, ap, ◌∙◌}
 use Rattle.std.proofs.lemmas.List.{append-nil}
 use Rattle.std.specs.List.{list_any}
-use Rattle.board_words.specs.Faults.{earlier, first_in_order}
+use Rattle.board_words.specs.Faults.{first_in_order}
 use Rattle.board_words.specs.Forms.{is, at, number, name, one_of, mask_number, parents_form, line_options, map_form, level_kinds}
 use Rattle.board_words.specs.Places.{both, fault_at, Takes, in_all, option_texts}
 use Rattle.board_words.specs.Seen.{words_left, are_none}
@@ -11,7 +11,6 @@ use Rattle.board_words.specs.declared.faults.FaultKind.{FaultKind}
 use Rattle.board_words.specs.declared.faults.FaultKind.TheVariants as faults
 use Rattle.board_words.specs.declared.places.Places.{Places}
 use Rattle.board_words.proofs.Order.{step}
-use Rattle.board_def.specs.Names.{name_of}
 
 -- two forms that agree on the words that are left
 agree : (old : Places) (form other : List (List ℕ) → List FaultKind) → form (words_left old.words) ≡ other (words_left old.words) → in_all old form ≡ in_all old other

@@ -9,6 +9,7 @@ use Rattle.board_words.specs.Statements.{number_at}
 use Rattle.board_words.specs.declared.faults.FaultKind.{FaultKind}
 use Rattle.board_words.specs.declared.faults.FaultKind.TheVariants as faults
 use Rattle.board_words.specs.declared.places.Places.{Places}
+use Rattle.board_words.specs.declared.words.Words.{Words}
 
 -- of what was found and what is found after it, the first in the order
 abbrev pub both : Option FaultKind → Option FaultKind → Option FaultKind
@@ -33,6 +34,10 @@ in_all places form = both places.found (first_in_order (form (words_left places.
 abbrev pub outcome : {A : Type 0} → Option FaultKind → A → Result A FaultKind
 outcome None value = Ok value
 outcome (Some kind) value = Err kind
+
+-- what the words that are left say, or the first fault of their form
+abbrev pub reads : {A : Type 0} → (List (List ℕ) → List FaultKind) → (List (List ℕ) → A) → Words → Result A FaultKind
+reads form said words = outcome (first_in_order (form (words_left words))) (said (words_left words))
 
 -- the words of a line's options
 abbrev pub option_texts : List (List ℕ)

@@ -1,5 +1,5 @@
 -- What reading a text line's words comes to.
-use Rattle.std.specs.Prelude.{◌≡◌, ℕ, Option, Some, None, List, Result, Ok, Err}
+use Rattle.std.specs.Prelude.{◌≡◌, ℕ, Some, None, List, Result, Ok, Err}
 use Rattle.board_words.specs.Faults.{first_in_order}
 use Rattle.board_words.specs.Forms.{faults_of}
 use Rattle.board_words.specs.Statements.{statement_of}

@@ -1,10 +1,8 @@
 //! Calls of scripts.
 ghost use Rattle.std.specs.Prelude.{◌≡◌};
-ghost use Rattle.board_words.specs.Faults.{first_in_order};
 ghost use Rattle.board_words.specs.Forms as forms;
 ghost use Rattle.board_words.specs.Keywords.{call_text};
-ghost use Rattle.board_words.specs.Places.{outcome};
-ghost use Rattle.board_words.specs.Seen.{words_left};
+ghost use Rattle.board_words.specs.Places.{reads};
 ghost use Rattle.board_words.specs.Statements as said;
 ghost use Rattle.board_words.specs.declared.keywords.CallWord.TheVariants as calls;
 
@@ -18,7 +16,7 @@ use irq_base::{DevNo, Flags, LineNo};
 
 /// What a call says, by the words after its first.
 pub(crate) fn read_call(call: CallWord, words: Words<'_>) -> Result<CallWords, FaultKind>
-    ensures { result ≡ outcome (first_in_order (forms.form_after (call_text call) (words_left words.entry))) (said.call_of (call_text call) (words_left words.entry)) }
+    ensures { result ≡ reads (forms.form_after (call_text call)) (said.call_of (call_text call)) words.entry }
 {
     match call {
         CallWord::Request => request(words),
@@ -34,7 +32,7 @@ pub(crate) fn read_call(call: CallWord, words: Words<'_>) -> Result<CallWords, F
 
 /// The device that is all that follows.
 fn dev(words: Words<'_>) -> Result<DevNo, FaultKind>
-    ensures { result ≡ outcome (first_in_order (forms.at forms.part_number forms.full (words_left words.entry))) (said.dev_at 0 (words_left words.entry)) }
+    ensures { result ≡ reads (forms.at forms.part_number forms.full) (said.dev_at 0) words.entry }
 {
     let number = sole_number(words, 1, 65_535)?;
     Ok(DevNo(number))
@@ -42,7 +40,7 @@ fn dev(words: Words<'_>) -> Result<DevNo, FaultKind>
 
 /// The line that is all that follows.
 fn line(words: Words<'_>) -> Result<LineNo, FaultKind>
-    ensures { result ≡ outcome (first_in_order (forms.at forms.part_number forms.full (words_left words.entry))) (said.line_at 0 (words_left words.entry)) }
+    ensures { result ≡ reads (forms.at forms.part_number forms.full) (said.line_at 0) words.entry }
 {
     let number = sole_number(words, 1, 65_535)?;
     Ok(LineNo(number))
@@ -50,7 +48,7 @@ fn line(words: Words<'_>) -> Result<LineNo, FaultKind>
 
 /// What follows `request`.
 fn request(words: Words<'_>) -> Result<CallWords, FaultKind>
-    ensures { result ≡ outcome (first_in_order (forms.form_after (call_text calls.Request) (words_left words.entry))) (said.request_words (words_left words.entry)) }
+    ensures { result ≡ reads (forms.form_after (call_text calls.Request)) said.request_words words.entry }
 {
     let mut places = Places::new(words);
     let dev = DevNo(places.number(1, 65_535));
@@ -67,7 +65,7 @@ fn request(words: Words<'_>) -> Result<CallWords, FaultKind>
 
 /// What follows `affinity`.
 fn affinity(words: Words<'_>) -> Result<CallWords, FaultKind>
-    ensures { result ≡ outcome (first_in_order (forms.form_after (call_text calls.Affinity) (words_left words.entry))) (said.call_of (call_text calls.Affinity) (words_left words.entry)) }
+    ensures { result ≡ reads (forms.form_after (call_text calls.Affinity)) (said.call_of (call_text calls.Affinity)) words.entry }
 {
     let mut places = Places::new(words);
     let line = LineNo(places.number(1, 65_535));

@@ -1,9 +1,8 @@
 //! Statements on the parts of a board.
 ghost use Rattle.std.specs.Prelude.{◌≡◌, ◌||◌};
-ghost use Rattle.board_words.specs.Faults.{first_in_order};
 ghost use Rattle.board_words.specs.Forms as forms;
 ghost use Rattle.board_words.specs.Keywords.{part_text};
-ghost use Rattle.board_words.specs.Places.{outcome};
+ghost use Rattle.board_words.specs.Places.{reads};
 ghost use Rattle.board_words.specs.Seen.{words_left};
 ghost use Rattle.board_words.specs.Statements as said;
 ghost use Rattle.board_words.specs.declared.keywords.PartWord.TheVariants as parts;
@@ -17,7 +16,7 @@ use irq_base::{DevNo, DriverNo, LineNo};
 
 /// The one number of a statement that has nothing else.
 pub(crate) fn sole_number(words: Words<'_>, low: u32, high: u32) -> Result<u32, FaultKind>
-    ensures { result ≡ outcome (first_in_order (forms.at (forms.number low high) forms.full (words_left words.entry))) (said.number_at 0 (words_left words.entry)) }
+    ensures { result ≡ reads (forms.at (forms.number low high) forms.full) (said.number_at 0) words.entry }
 {
     let mut places = Places::new(words);
     let number = places.number(low, high);
@@ -27,7 +26,7 @@ pub(crate) fn sole_number(words: Words<'_>, low: u32, high: u32) -> Result<u32, 
 
 /// What a statement on a part of the board says, by the words after its first.
 pub(crate) fn read_part(part: PartWord, words: Words<'_>) -> Result<Statement, FaultKind>
-    ensures { result ≡ outcome (first_in_order (forms.form_after (part_text part) (words_left words.entry))) (said.statement_after (part_text part) (words_left words.entry)) }
+    ensures { result ≡ reads (forms.form_after (part_text part)) (said.statement_after (part_text part)) words.entry }
 {
     match part {
         PartWord::Board => {
@@ -49,7 +48,7 @@ pub(crate) fn read_part(part: PartWord, words: Words<'_>) -> Result<Statement, F
 
 /// What follows `spurious`.
 fn spurious(words: Words<'_>) -> Result<Statement, FaultKind>
-    ensures { result ≡ outcome (first_in_order (forms.spurious_form (words_left words.entry))) (said.statement_after (part_text parts.Spurious) (words_left words.entry)) }
+    ensures { result ≡ reads forms.spurious_form (said.statement_after (part_text parts.Spurious)) words.entry }
 {
     let mut places = Places::new(words);
     let window = places.number(1, 1_000_000);
@@ -60,7 +59,7 @@ fn spurious(words: Words<'_>) -> Result<Statement, FaultKind>
 
 /// What follows `domain`.
 fn domain(words: Words<'_>) -> Result<Statement, FaultKind>
-    ensures { result ≡ outcome (first_in_order (forms.form_after (part_text parts.Domain) (words_left words.entry))) (said.statement_after (part_text parts.Domain) (words_left words.entry)) }
+    ensures { result ≡ reads (forms.form_after (part_text parts.Domain)) (said.statement_after (part_text parts.Domain)) words.entry }
 {
     let mut places = Places::new(words);
     let name = places.name();
@@ -78,7 +77,7 @@ fn domain(words: Words<'_>) -> Result<Statement, FaultKind>
 
 /// What follows `line`.
 fn line(words: Words<'_>) -> Result<Statement, FaultKind>
-    ensures { result ≡ outcome (first_in_order (forms.form_after (part_text parts.Line) (words_left words.entry))) (said.statement_after (part_text parts.Line) (words_left words.entry)) }
+    ensures { result ≡ reads (forms.form_after (part_text parts.Line)) (said.statement_after (part_text parts.Line)) words.entry }
 {
     let mut places = Places::new(words);
     let line = LineNo(places.number(1, 65_535));
@@ -106,7 +105,7 @@ pub(crate) fn has_one_again(words: Words<'_>, one: &[u8], two: &[u8], three: &[u
 
 /// What follows `device`.
 fn device(words: Words<'_>) -> Result<Statement, FaultKind>
-    ensures { result ≡ outcome (first_in_order (forms.form_after (part_text parts.Device) (words_left words.entry))) (said.statement_after (part_text parts.Device) (words_left words.entry)) }
+    ensures { result ≡ reads (forms.form_after (part_text parts.Device)) (said.statement_after (part_text parts.Device)) words.entry }
 {
     let mut places = Places::new(words);
     let dev = DevNo(places.number(1, 65_535));

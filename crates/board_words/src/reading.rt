@@ -1,8 +1,7 @@
 //! From words to statements.
-ghost use Rattle.std.specs.Prelude.{◌≡◌, ◌++◌, false, [], codes};
-ghost use Rattle.board_words.specs.Faults.{first_in_order};
+ghost use Rattle.std.specs.Prelude.{◌≡◌, false, codes};
 ghost use Rattle.board_words.specs.Forms as forms;
-ghost use Rattle.board_words.specs.Places.{outcome};
+ghost use Rattle.board_words.specs.Places.{reads};
 ghost use Rattle.board_words.specs.Reads.{Reads, Tells};
 ghost use Rattle.board_words.specs.Seen.{words_left};
 ghost use Rattle.board_words.specs.Statements as said;
@@ -37,7 +36,7 @@ pub fn read_statement(alloc: Global, words: Words<'_>) -> Result<Statement, Stat
 /// What a statement other than picks says, by its first word and those after it.
 fn read_plain(word: &[u8], words: Words<'_>) -> Result<Statement, FaultKind>
     requires { forms.is word.now (codes "picks") ≡ false }
-    ensures { result ≡ outcome (first_in_order (forms.form_after word.now (words_left words.entry))) (said.statement_after word.now (words_left words.entry)) }
+    ensures { result ≡ reads (forms.form_after word.now) (said.statement_after word.now) words.entry }
 {
     if let Some(part) = part_word(word) {
         return read_part(part, words);

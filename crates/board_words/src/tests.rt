@@ -5,6 +5,7 @@ use crate::{
 };
 use board_def::Name;
 use irq_base::{CpuNo, DevNo, DriverNo, Flags, Kind, LevelKind, LineNo, MapKind};
+use std::alloc::Global;
 use std::test::Fail;
 
 const FAULTS: [(&str, FaultKind); 80] = [
@@ -93,7 +94,7 @@ const FAULTS: [(&str, FaultKind); 80] = [
 #[test]
 fn wrong_statements(rt: HostRuntime) {
     for (line, kind) in FAULTS {
-        match read_statement(rt.alloc(), Words::of_line(line.as_bytes())) {
+        match read(rt.alloc(), line) {
             Err(StatementRefused::Fault(found)) => assert!(rt; found == kind, "{line}: {found}"),
             _ => assert!(rt; false, "{line}: taken"),
         }
@@ -226,130 +227,114 @@ const STATEMENTS: [(&str, Said); 24] = [
 #[test]
 fn statements(rt: HostRuntime) -> Result<(), Fail> {
     for (line, said) in STATEMENTS {
-        let statement = read_statement(rt.alloc(), Words::of_line(line.as_bytes()))?;
+        let statement = read(rt.alloc(), line)?;
         assert!(rt; says(&statement, said), "{line}");
     }
     Ok(())
 }
 
-fn domain(name: &'static [u8], map: MapKind, chip: LevelKind) -> Option<DomainWords> {
-    Some(DomainWords {
-        name: crate::name(name)?,
-        map,
-        chip,
-        parent: None,
-        twice: false,
-    })
-}
+const DOMAINS: [(&str, MapKind, LevelKind); 7] = [
+    (
+        "domain a_1 linear 1 latch",
+        MapKind::Linear(1),
+        LevelKind::Latch,
+    ),
+    (
+        "domain a_1 linear 1024 plain",
+        MapKind::Linear(1_024),
+        LevelKind::Plain,
+    ),
+    ("domain a_1 tree level", MapKind::Tree, LevelKind::Level),
+    ("domain a_1 tree eoi", MapKind::Tree, LevelKind::Eoi),
+    ("domain a_1 tree vector", MapKind::Tree, LevelKind::Vector),
+    ("domain a_1 tree remap", MapKind::Tree, LevelKind::Remap),
+    ("domain a_1 tree msi", MapKind::Tree, LevelKind::Msi),
+];
 
 #[test]
 fn domains(rt: HostRuntime) -> Result<(), Fail> {
-    let parent = name(b"up");
-    let under = domain(b"a_1", MapKind::Tree, LevelKind::Msi).map(|words| DomainWords {
-        parent,
-        ..words
-    });
-    let domains = [
-        (
-            "domain abcdefghij_12345 linear 1 latch",
-            domain(b"abcdefghij_12345", MapKind::Linear(1), LevelKind::Latch),
-        ),
-        (
-            "domain z linear 1024 plain",
-            domain(b"z", MapKind::Linear(1_024), LevelKind::Plain),
-        ),
-        (
-            "domain a tree level",
-            domain(b"a", MapKind::Tree, LevelKind::Level),
-        ),
-        (
-            "domain a tree eoi",
-            domain(b"a", MapKind::Tree, LevelKind::Eoi),
-        ),
-        (
-            "domain a tree vector",
-            domain(b"a", MapKind::Tree, LevelKind::Vector),
-        ),
-        (
-            "domain a tree remap",
-            domain(b"a", MapKind::Tree, LevelKind::Remap),
-        ),
-        ("domain a_1 tree msi parent up", under),
-        (
-            "domain a_1 tree msi parent up parent b",
-            under.map(|words| DomainWords {
-                twice: true,
-                ..words
-            }),
-        ),
-    ];
-    for (line, domain) in domains {
-        match read_statement(rt.alloc(), Words::of_line(line.as_bytes()))? {
-            Statement::Domain(words) => assert!(rt; Some(words) == domain, "{line}"),
-            _ => assert!(rt; false, "{line}: another statement"),
-        }
+    let root = DomainWords {
+        name: Name::new(b"a_1"),
+        map: MapKind::Tree,
+        chip: LevelKind::Msi,
+        parent: None,
+        twice: false,
+    };
+    for (line, map, chip) in DOMAINS {
+        let domain = DomainWords { map, chip, ..root };
+        assert!(rt; is_domain(&read(rt.alloc(), line)?, domain), "{line}");
     }
+    let parent = name(b"abcdefghij_12345");
+    let child = DomainWords { parent, ..root };
+    let one = read(rt.alloc(), "domain a_1 tree msi parent abcdefghij_12345")?;
+    assert!(rt; is_domain(&one, child));
+    let again = read(
+        rt.alloc(),
+        "domain a_1 tree msi parent abcdefghij_12345 parent b",
+    )?;
+    assert!(rt;
+        is_domain(
+            &again,
+            DomainWords {
+                twice: true,
+                ..child
+            }
+        )
+    );
     Ok(())
 }
 
+fn read(alloc: Global, line: &str) -> Result<Statement, StatementRefused> {
+    read_statement(alloc, Words::of_line(line.as_bytes()))
+}
+
+fn is_domain(statement: &Statement, domain: DomainWords) -> bool {
+    match statement {
+        Statement::Domain(words) => *words == domain,
+        _ => false,
+    }
+}
+
+/// Options of line 1 at the domain a and the number 4,294,967,295: whether `unlazy`, `later` and one of them again
+/// stands, and the mask.
+const OPTIONS: [(&str, [bool; 3], Option<u32>); 6] = [
+    ("line 1 a 4294967295", [false, false, false], None),
+    ("line 1 a 4294967295 unlazy", [true, false, false], None),
+    (
+        "line 1 a 4294967295 mask 0 later",
+        [false, true, false],
+        Some(0),
+    ),
+    (
+        "line 1 a 4294967295 mask 1 mask 4294967295",
+        [false, false, true],
+        Some(1),
+    ),
+    (
+        "line 1 a 4294967295 unlazy later unlazy",
+        [true, true, true],
+        None,
+    ),
+    (
+        "line 1 a 4294967295 later mask 4294967295 later",
+        [false, true, true],
+        Some(4_294_967_295),
+    ),
+];
+
 #[test]
 fn lines(rt: HostRuntime) -> Result<(), Fail> {
-    let plain = LineWords {
-        line: LineNo(1),
-        domain: Name::new(b"a"),
-        hw: 4_294_967_295,
-        unlazy: false,
-        later: false,
-        mask: None,
-        twice: false,
-    };
-    let lines = [
-        ("line 1 a 4294967295", plain),
-        (
-            "line 1 a 4294967295 unlazy",
-            LineWords {
-                unlazy: true,
-                ..plain
-            },
-        ),
-        (
-            "line 1 a 4294967295 mask 0 later",
-            LineWords {
-                later: true,
-                mask: Some(0),
-                ..plain
-            },
-        ),
-        (
-            "line 1 a 4294967295 mask 1 mask 4294967295",
-            LineWords {
-                mask: Some(1),
-                twice: true,
-                ..plain
-            },
-        ),
-        (
-            "line 65535 a 0 unlazy later unlazy",
-            LineWords {
-                line: LineNo(65_535),
-                hw: 0,
-                unlazy: true,
-                later: true,
-                twice: true,
-                ..plain
-            },
-        ),
-        (
-            "line 1 a 4294967295 later later",
-            LineWords {
-                later: true,
-                twice: true,
-                ..plain
-            },
-        ),
-    ];
-    for (line, said) in lines {
-        match read_statement(rt.alloc(), Words::of_line(line.as_bytes()))? {
+    for (line, [unlazy, later, twice], mask) in OPTIONS {
+        let said = LineWords {
+            line: LineNo(1),
+            domain: Name::new(b"a"),
+            hw: 4_294_967_295,
+            unlazy,
+            later,
+            mask,
+            twice,
+        };
+        match read(rt.alloc(), line)? {
             Statement::Line(words) => assert!(rt; words == said, "{line}"),
             _ => assert!(rt; false, "{line}: another statement"),
         }
@@ -459,7 +444,7 @@ const TEXTS: [(FaultKind, &str); 17] = [
 fn texts_of_faults(rt: HostRuntime) -> Result<(), Fail> {
     for (kind, want) in TEXTS {
         let text = format!(in rt.alloc(); "{kind}")?;
-        assert!(rt; text.as_str() == want, "{want}");
+        assert!(rt; text.as_bytes() == want.as_bytes(), "{text}");
     }
     Ok(())
 }

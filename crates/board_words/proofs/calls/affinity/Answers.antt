@@ -1,4 +1,4 @@
-use Rattle.std.proofs.Common.{◌≡◌, ℕ, Option, None, refl, sym, ap, ◌∙◌}
+use Rattle.std.proofs.Common.{refl, sym, ◌∙◌}
 use Rattle.board_words.specs.Forms as forms
 use Rattle.board_words.specs.Seen.{words_left}
 use Rattle.board_words.specs.Statements as said

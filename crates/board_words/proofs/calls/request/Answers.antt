@@ -1,4 +1,4 @@
-use Rattle.std.proofs.Common.{◌≡◌, ℕ, ◌||◌, Option, None, drop, codes, refl, sym, ap, ◌∙◌}
+use Rattle.std.proofs.Common.{◌||◌, codes, sym, ap, ◌∙◌}
 use Rattle.std.specs.List.{flat_map}
 use Rattle.board_words.specs.Forms as forms
 use Rattle.board_words.specs.Seen.{words_left}

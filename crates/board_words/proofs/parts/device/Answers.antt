@@ -1,6 +1,4 @@
-use Rattle.std.proofs.Common.{◌≡◌, ℕ, Option, None, refl, sym, ap, ◌∙◌, get_or, []}
-use Rattle.irq_base.specs.declared.numbers.DevNo.{DevNo}
-use Rattle.irq_base.specs.declared.numbers.LineNo.{LineNo}
+use Rattle.std.proofs.Common.{refl, sym, ap, ◌∙◌, get_or, []}
 use Rattle.board_words.specs.Forms as forms
 use Rattle.board_words.specs.Seen.{words_left}
 use Rattle.board_words.specs.Statements as said

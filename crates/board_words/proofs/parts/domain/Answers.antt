@@ -1,10 +1,9 @@
-use Rattle.std.proofs.Common.{◌≡◌, ℕ, Option, None, drop, get_or, [], refl, sym, ap, ◌∙◌}
+use Rattle.std.proofs.Common.{◌≡◌, drop, get_or, [], refl, sym, ap, ◌∙◌}
 use Rattle.board_words.specs.Forms as forms
 use Rattle.board_words.specs.Places.{map_kind, after_map}
 use Rattle.board_words.specs.Seen.{words_left}
 use Rattle.board_words.specs.Statements as said
 use Rattle.board_words.specs.declared.statements.DomainWords.{DomainWords}
-use Rattle.board_words.specs.declared.statements.Statement.{Statement}
 use Rattle.board_words.specs.declared.statements.Statement.TheVariants as statements
 use Rattle.board_words.proofs.Domains.{domain_by, domain_is}
 use Rattle.board_words.proofs.Order.{step, none_before, none_before_all, whole, left, next_name}

@@ -1,9 +1,8 @@
-use Rattle.std.proofs.Common.{◌≡◌, ℕ, ◌||◌, Option, None, drop, codes, refl, sym, ap, ◌∙◌}
+use Rattle.std.proofs.Common.{◌≡◌, ◌||◌, codes, refl, sym, ap, ◌∙◌}
 use Rattle.board_words.specs.Forms as forms
 use Rattle.board_words.specs.Seen.{words_left}
 use Rattle.board_words.specs.Statements as said
 use Rattle.board_words.specs.declared.statements.LineWords.{LineWords}
-use Rattle.board_words.specs.declared.statements.Statement.{Statement}
 use Rattle.board_words.specs.declared.statements.Statement.TheVariants as statements
 use Rattle.board_words.proofs.Order.{step, none_before, none_before_all, whole, left, next_number, next_name}
 use Rattle.board_words.proofs.parts.line.Goals as goal

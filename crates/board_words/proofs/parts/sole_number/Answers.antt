@@ -1,4 +1,4 @@
-use Rattle.std.proofs.Common.{◌≡◌, ℕ, Option, None, sym, ◌∙◌}
+use Rattle.std.proofs.Common.{sym, ◌∙◌}
 use Rattle.board_words.specs.Forms as forms
 use Rattle.board_words.specs.Seen.{words_left}
 use Rattle.board_words.specs.Statements.{number_at}

@@ -1,4 +1,4 @@
-use Rattle.std.proofs.Common.{◌≡◌, ℕ, ◌-◌, Option, None, refl, sym, ap, ◌∙◌, subst}
+use Rattle.std.proofs.Common.{ℕ, sym, ◌∙◌, subst}
 use Rattle.board_words.specs.Forms as forms
 use Rattle.board_words.specs.Places.{Takes}
 use Rattle.board_words.specs.Seen.{words_left}

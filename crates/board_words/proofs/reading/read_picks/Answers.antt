@@ -1,6 +1,5 @@
-use Rattle.std.proofs.Common.{◌≡◌, false, None, sym, ◌∙◌, arith}
+use Rattle.std.proofs.Common.{◌≡◌, false, sym, ◌∙◌, arith}
 use Rattle.board_words.specs.Seen.{words_left, are_none}
-use Rattle.board_words.specs.Spelling.{pick_of}
 use Rattle.board_words.proofs.Picking.{bad_pick}
 use Rattle.board_words.proofs.reading.read_picks.Goals as goal
 

@@ -1,5 +1,4 @@
-use Rattle.std.proofs.Common.{◌≡◌, ℕ, ◌+◌, ◌*◌, ◌-◌, ◌<◌, drop, get_or, sym, ◌∙◌, arith}
-use Rattle.board_words.specs.Spelling.{value_of, value_after}
+use Rattle.std.proofs.Common.{◌+◌, ◌*◌, ◌-◌, get_or, sym, ◌∙◌, arith}
 use Rattle.board_words.proofs.Spelled.{value_more, too_large}
 use Rattle.board_words.proofs.spelling.value_up_to.Goals as goal
 

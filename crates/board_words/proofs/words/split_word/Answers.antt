@@ -1,4 +1,4 @@
-use Rattle.std.proofs.Common.{◌≡◌, drop, sym, ap, ◌∙◌, subst, arith}
+use Rattle.std.proofs.Common.{arith}
 use Rattle.board_words.proofs.Texts.{first_word_of, no_word_of}
 use Rattle.board_words.proofs.words.split_word.Goals as goal
 

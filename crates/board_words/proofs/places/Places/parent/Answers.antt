@@ -1,4 +1,4 @@
-use Rattle.std.proofs.Common.{◌≡◌, false, None, drop, sym, ap, ◌∙◌, arith}
+use Rattle.std.proofs.Common.{◌≡◌, false, drop, sym, ap, ◌∙◌, arith}
 use Rattle.board_words.specs.Forms.{name, parents_form}
 use Rattle.board_words.specs.Places.{fault_at}
 use Rattle.board_words.specs.Seen.{words_left, are_none}
