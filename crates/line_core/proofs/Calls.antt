@@ -53,7 +53,7 @@ owns d call = requests_dev d call || frees_dev d call
 abbrev FirstOwner : DevNo → List (DriverNo × Call) → Type 0
 FirstOwner d cs = (j : ℕ) × (x : DriverNo × Call) × (slice_get cs j ≡ Some x) × (owns d x.1 ≡ true) × (x.0 ≡ owner_in d cs)
 
-contrary : {A : Type 0} (b : Bool) → b ≡ false → b ≡ true → A
+pub contrary : {A : Type 0} (b : Bool) → b ≡ false → b ≡ true → A
 contrary b h i = cc
 
 by_owner : (d : DevNo) (x : DriverNo × Call) (xs : List (DriverNo × Call)) (b : Bool) (i : ℕ) (c : DriverNo × Call) → owns d x.1 ≡ b → ((k : ℕ) → slice_get xs k ≡ Some c → FirstOwner d xs) → slice_get (x ∷ xs) i ≡ Some c
@@ -104,7 +104,7 @@ Suits def who (calls.Request dev flags) = (who ≡ owner_of def) × (dev ≡ dev
 Suits def who (calls.Free dev) = (who ≡ owner_of def) × (dev ≡ device_of def)
 Suits def who _ = ⊥
 
-same_named : (a b : DevNo) → a ≡ b → same_dev b a ≡ true
+pub same_named : (a b : DevNo) → a ≡ b → same_dev b a ≡ true
 same_named a b h = rw h (same_self b)
 
 suits : (def : LineDef) (q : ℕ) (who : DriverNo) (call : Call) → Built def → slice_get def.calls q ≡ Some (who, call) → names_one_of def.devices call ≡ true → IsPlainCall call → Suits def who call

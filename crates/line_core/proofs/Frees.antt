@@ -1,5 +1,6 @@
 -- Between two requests of a device stands a free of it, so a request never finds it linked.
 use Rattle.std.proofs.Common.{◌≡◌, ℕ, suc, zero, ◌<◌, Bool, true, false, cond, Some, List, [], ◌∷◌, drop, slice_get, refl, sym, ap, subst, ◌∙◌, arith}
+use Rattle.std.proofs.lemmas.Bool.{false≢true}
 use Rattle.irq_base.specs.declared.calls.Call.{Call}
 use Rattle.irq_base.specs.declared.numbers.DevNo.{DevNo}
 use Rattle.irq_base.specs.declared.numbers.DriverNo.{DriverNo}
@@ -28,10 +29,9 @@ AreFreedBy d r cs = (j : ℕ) (c : DriverNo × Call) → slice_get cs j ≡ Some
 -- the free isn't the first call, so it stands behind it
 behind : (d : DevNo) (c : DriverNo × Call) (cs : List (DriverNo × Call)) (j k : ℕ) (x : DriverNo × Call) → frees_dev d c.1 ≡ false → k < suc j → slice_get (c ∷ cs) k ≡ Some x → frees_dev d x.1 ≡ true
     → (i : ℕ) × (y : DriverNo × Call) × (i < j) × (slice_get cs i ≡ Some y) × (frees_dev d y.1 ≡ true)
-behind d c cs j zero x isnt lt at is = let same = same_item c x at in let n : frees_dev d x.1 ≡ false = subst (λ (y : DriverNo × Call). frees_dev d y.1 ≡ false) same isnt in absurd (false_true (sym n ∙ is))
-  where
-    false_true : false ≡ true → ⊥
-    false_true h = cc
+behind d c cs j zero x isnt lt at is =
+    let n : frees_dev d x.1 ≡ false = subst (λ (y : DriverNo × Call). frees_dev d y.1 ≡ false) (same_item c x at) isnt in
+    absurd (false≢true (sym n ∙ is))
 behind d c cs j (suc k) x isnt lt at is = (k, x, omega arith, at, is)
 
 freed_behind : (d : DevNo) (c : DriverNo × Call) (cs : List (DriverNo × Call)) → frees_dev d c.1 ≡ false → AreFreedBefore d (c ∷ cs) → AreFreedBefore d cs
@@ -41,10 +41,7 @@ freed_behind d c cs isnt h = λ j x at is. let f = h (suc j) x at is in behind d
 by_head : (d : DevNo) (b e : Bool) (r : DriverNo) (c : DriverNo × Call) (cs : List (DriverNo × Call)) → frees_dev d c.1 ≡ e → requests_dev d c.1 ≡ false → (e ≡ true → b ≡ true) → (e ≡ false → FreesFirst d (calls_by r cs))
     → FreesFirst d (cond b (c.1 ∷ calls_by r cs) (calls_by r cs))
 by_head d true e r c cs is isnt own rest = (isnt, λ x. rest (sym is ∙ x))
-by_head d false true r c cs is isnt own rest = absurd (true_false (own refl))
-  where
-    true_false : false ≡ true → ⊥
-    true_false h = cc
+by_head d false true r c cs is isnt own rest = absurd (false≢true (own refl))
 by_head d false false r c cs is isnt own rest = rest refl
 
 frees_first : (d : DevNo) (r : DriverNo) (cs : List (DriverNo × Call)) → AreFreedBefore d cs → AreFreedBy d r cs → FreesFirst d (calls_by r cs)

@@ -13,8 +13,7 @@ use Rattle.irq_base.specs.declared.numbers.DriverNo.{DriverNo}
 use Rattle.irq_model.specs.Bounds.{ask_calls}
 use Rattle.irq_model.specs.Due.{calls_by}
 use Rattle.irq_model.specs.Valid.{requests_dev, frees_dev}
-use Rattle.irq_steps.proofs.Same.{same_self}
-use Rattle.line_core.proofs.Calls.{due_at, freed_by_owner}
+use Rattle.line_core.proofs.Calls.{contrary, due_at, freed_by_owner, same_named}
 use Rattle.line_core.proofs.Frees.{request_then_free, still_first}
 use Rattle.line_core.proofs.Steps.{by_driver}
 use Rattle.line_core.specs.Built.{Built, device_of, owner_of}
@@ -90,9 +89,6 @@ IsRequested def linked s = linked ≡ true → FreesFirst (device_of def) (drop 
 abbrev AreFreeing : LineDef → Bool → Scripts → Type 0
 AreFreeing def linked s = 1 ≤ within_of s (owner_of def) → linked ≡ false
 
-contrary : {A : Type 0} (b : Bool) → b ≡ false → b ≡ true → A
-contrary b h i = cc
-
 not_linked : (def : LineDef) (b : Bool) (s : Scripts) → b ≡ false → IsRequested def b s
 not_linked def b s off = λ on. contrary b off on
 
@@ -107,9 +103,6 @@ goes_past d r w cs s t call go at frees =
     by_driver r w (λ x. FreesFirst d (drop (place_of s x) (calls_by x cs)) → FreesFirst d (drop (place_of t x) (calls_by x cs)))
     (λ old. subst (λ (n : ℕ). FreesFirst d (drop n (calls_by w cs))) (sym (go.place ∙ add-one (place_of s w))) (still_first d (calls_by w cs) (place_of s w) call old at frees))
     (λ other old. subst (λ (n : ℕ). FreesFirst d (drop n (calls_by r cs))) (sym (go.other_places r other)) old)
-
-same_named : (a b : DevNo) → a ≡ b → requests_dev b (calls.Request a (record { shared = false; oneshot = false; noauto = false })) ≡ true
-same_named a b h = rw h (same_self b)
 
 first_frees : (def : LineDef) (m : Marks) (s t : Scripts) (w : DriverNo) (call : Call) → Built def → IsDriven def m s → w ≡ owner_of def → requests_dev (device_of def) call ≡ true → call_of s w ≡ Some call → Advances w true s t
     → FreesFirst (device_of def) (drop (place_of t (owner_of def)) (calls_by (owner_of def) def.calls))
