@@ -1,6 +1,7 @@
 -- The headline, from the laws of every legal history.
-use Rattle.std.proofs.Common.{◌≡◌, List, [], sym, ◌∙◌, subst}
+use Rattle.std.proofs.Common.{◌≡◌, ℕ, List, [], ◌∷◌, sym, ap, ◌∙◌, subst}
 use Rattle.std.proofs.lemmas.List.{length-reverse}
+use Rattle.irq_base.specs.declared.entries.Actor.{Actor}
 use Rattle.irq_base.specs.declared.lines.LineDef.{LineDef}
 use Rattle.irq_base.specs.declared.entries.Entry.{Entry}
 use Rattle.irq_model.specs.Legal.{IsLegal}
@@ -11,14 +12,14 @@ use Rattle.irq_laws.proofs.RestLaws.{settled_is_delivered}
 use Rattle.play_laws.specs.Play.{Done, Plays}
 use Rattle.play_laws.proofs.Rest.{done_is_settled}
 use Rattle.line_core.specs.Seen.{LineSeen}
-use Rattle.irq_top.specs.declared.play.PlayEnd.{PlayEnd}
-use Rattle.irq_top.specs.declared.play.PlayEnd.TheVariants as ends
-use Rattle.irq_top.specs.Playing.{IsPlay}
+use Rattle.line_play.specs.declared.plays.PlayEnd.{PlayEnd}
+use Rattle.line_play.specs.declared.plays.PlayEnd.TheVariants as ends
+use Rattle.line_play.specs.Playing.{IsPlay}
 use Rattle.irq_top.specs.Headline.{Headline, HasEnded}
 
-pub headline : (def : LineDef) (h : List Entry) → IsValid def → IsLegal def h → Plays def [] h Done → Headline def h
-headline def h valid legal play =
-    let settled = done_is_settled def [] h valid legal play in
+headline : (def : LineDef) (picks : List Actor) (h : List Entry) → IsValid def → IsLegal def h → Plays def picks h Done → Headline def picks h
+headline def picks h valid legal play =
+    let settled = done_is_settled def picks h valid legal play in
     record {
       play = play;
       legal = legal;
@@ -29,12 +30,14 @@ headline def h valid legal play =
       scripts = follows_scripts def h legal;
     }
 
-at_end : (line : LineSeen) (end : PlayEnd) → IsValid line.def → IsLegal line.def line.entries → IsPlay line end → HasEnded line.def line.entries end
-at_end line ends.Done valid legal play = headline line.def line.entries valid legal play
-at_end line (ends.Full len) valid legal play = record { play = play.0; legal = legal; length_is = sym (length-reverse line.entries) ∙ play.0.2.1 }
-at_end line ends.NoMemory valid legal play = tt
+at_end : (line : LineSeen) (picks : List Actor) (end : PlayEnd) → IsValid line.def → IsLegal line.def line.entries → IsPlay line picks end → HasEnded line.def picks line.entries end
+at_end line picks ends.Done valid legal play = headline line.def picks line.entries valid legal play
+at_end line picks (ends.Full len) valid legal play =
+    let long = sym (length-reverse line.entries) ∙ play.0.2.1 in (record { play = play.0; legal = legal; length_is = long }, sym play.1 ∙ long)
+at_end line picks ends.NoMemory valid legal play = tt
 
 -- what the play's end says of the history that was taken out of the line
-pub ended : (def : LineDef) (line : LineSeen) (h : List Entry) (end : PlayEnd) → line.def ≡ def → h ≡ line.entries → IsValid line.def → IsLegal line.def line.entries → IsPlay line end → HasEnded def h end
-ended def line h end same is valid legal play =
-    subst (λ (d : LineDef). HasEnded d h end) same (subst (λ (x : List Entry). HasEnded line.def x end) (sym is) (at_end line end valid legal play))
+pub ended : (def : LineDef) (line : LineSeen) (picks : List Actor) (h : List Entry) (end : PlayEnd) → line.def ≡ def → h ≡ line.entries → IsValid line.def → IsLegal line.def line.entries → IsPlay line picks end
+    → HasEnded def picks h end
+ended def line picks h end same is valid legal play =
+    subst (λ (d : LineDef). HasEnded d picks h end) same (subst (λ (x : List Entry). HasEnded line.def picks x end) (sym is) (at_end line picks end valid legal play))

@@ -1,7 +1,7 @@
-mod Texts
-mod Whole
+mod Stated
 mod Writing
 mod Printable
-mod Made
+mod BuiltLine
 mod OneWord
 mod Ended
+mod Outcomes

@@ -1,16 +1,13 @@
 -- One writing after another.
-use Rattle.std.proofs.Common.{◌≡◌, ℕ, ◌+◌, ◌<◌, Bool, false, Option, Some, None, List, [], ◌∷◌, ◌++◌, get_or, slice_get, take, drop, length, refl, sym, ap, subst, ◌∙◌, append_assoc}
-use Rattle.std.specs.List.{All}
-use Rattle.std.proofs.lemmas.List.{take_more, flat_map_more, take-append-drop, append-nil}
-use Rattle.std.proofs.lemmas.List.Elements.{All-get_or}
-use Rattle.std.proofs.lemmas.Option.{slice_get_within, get_or_from_slice_get}
-use Rattle.irq_base.specs.declared.numbers.LineNo.{LineNo}
-use Rattle.irq_base.specs.declared.entries.Entry.{Entry}
-use Rattle.irq_io.specs.Faults.{Counts}
+use Rattle.std.proofs.Common.{◌≡◌, ℕ, ◌+◌, ◌<◌, ◌≤◌, Bool, false, Option, Some, None, List, [], ◌∷◌, ◌++◌, get_or, slice_get, take, drop, length, refl, sym, ap, subst, ◌∙◌, append_assoc, zero-add, arith}
+use Rattle.std.specs.List.{flat_map, range_with_len}
+use Rattle.std.proofs.lemmas.Grind.{flat_map-append}
+use Rattle.std.proofs.lemmas.List.{take_more, take_all, flat_map_more, take-append-drop, append-nil}
+use Rattle.std.proofs.lemmas.List.FromFn.{length-range_with_len, get_or-range_with_len}
+use Rattle.std.proofs.lemmas.Option.{slice_get_within, get_or_from_slice_get, slice_get-get_or}
 use Rattle.irq_io.specs.Whole.{WritesAll}
 use Rattle.irq_io.specs.declared.whole.WriteEnd.{WriteEnd}
 use Rattle.irq_io.specs.declared.whole.WriteEnd.TheVariants as ends
-use Rattle.log_text.specs.Rows.{entry_text, history_text}
 
 -- nothing was written
 pub nothing : (a : Option (List ℕ)) → WritesAll a a [] ends.Done
@@ -37,37 +34,36 @@ pub failed_after : (a b : Option (List ℕ)) (xs : List ℕ) → WritesAll a b x
 failed_after None b xs h = h
 failed_after (Some old) b xs h = (xs, ([], sym (append-nil xs)), h)
 
-pub counts_on : (a b c : ℕ) (failed : Bool) → Counts a b false → Counts b c failed → Counts a c failed
-counts_on a b c failed h k = subst (λ (n : ℕ). Counts n c failed) h k
+-- one item more
+items_more : {X : Type 0} (f : X → List ℕ) (xs : List X) (i : ℕ) (x : X) → slice_get xs i ≡ Some x → flat_map f (take (i + 1) xs) ≡ flat_map f (take i xs) ++ f x
+items_more f xs i x at =
+    let within : i < length xs = slice_get_within xs i x at in
+    let is : get_or xs i x ≡ x = get_or_from_slice_get xs i x x at in
+    ap (flat_map f) (take_more xs i x within ∙ ap (λ y. take i xs ++ y ∷ []) is) ∙ sym (flat_map_more f [] (take i xs) x)
 
--- one row more
-pub rows_more : (line : LineNo) (es : List Entry) (i : ℕ) (e : Entry) → slice_get es i ≡ Some e → history_text line (take (i + 1) es) ≡ history_text line (take i es) ++ entry_text line e
-rows_more line es i e at =
-    let within : i < length es = slice_get_within es i e at in
-    let is : get_or es i e ≡ e = get_or_from_slice_get es i e e at in
-    ap (history_text line) (take_more es i e within ∙ ap (λ x. take i es ++ x ∷ []) is) ∙ sym (flat_map_more (entry_text line) [] (take i es) e)
+-- the texts of the items after one more
+pub items_done : {X : Type 0} (f : X → List ℕ) (a b c : Option (List ℕ)) (xs : List X) (i : ℕ) (x : X) (row : List ℕ) → slice_get xs i ≡ Some x → row ≡ f x → WritesAll a b (flat_map f (take i xs)) ends.Done
+    → WritesAll b c row ends.Done → WritesAll a c (flat_map f (take (i + 1) xs)) ends.Done
+items_done f a b c xs i x row at is so_far next =
+    let now = and_then a b c (flat_map f (take i xs)) row ends.Done so_far next in
+    subst (λ (text : List ℕ). WritesAll a c text ends.Done) (ap (λ zs. flat_map f (take i xs) ++ zs) is ∙ sym (items_more f xs i x at)) now
 
-pub at_place : (P : Entry → Type 0) (es : List Entry) (i : ℕ) (e : Entry) → All P es → slice_get es i ≡ Some e → P e
-at_place P es i e all at = subst P (get_or_from_slice_get es i e e at) (All-get_or P es i e (slice_get_within es i e at) all)
+-- the texts of the items after one that failed
+pub items_failed : {X : Type 0} (f : X → List ℕ) (a b c : Option (List ℕ)) (xs : List X) (i : ℕ) (x : X) (row : List ℕ) → slice_get xs i ≡ Some x → row ≡ f x → WritesAll a b (flat_map f (take i xs)) ends.Done
+    → WritesAll b c row ends.Failed → WritesAll a c (flat_map f xs) ends.Failed
+items_failed f a b c xs i x row at is so_far next =
+    let now = and_then a b c (flat_map f (take i xs)) row ends.Failed so_far next in
+    let upto : flat_map f (take i xs) ++ row ≡ flat_map f (take (i + 1) xs) = ap (λ zs. flat_map f (take i xs) ++ zs) is ∙ sym (items_more f xs i x at) in
+    let all : (flat_map f (take i xs) ++ row) ++ flat_map f (drop (i + 1) xs) ≡ flat_map f xs =
+    ap (λ zs. zs ++ flat_map f (drop (i + 1) xs)) upto
+    ∙ (sym (flat_map-append f (take (i + 1) xs) (drop (i + 1) xs)) ∙ ap (flat_map f) (take-append-drop (i + 1) xs)) in
+    subst (λ (text : List ℕ). WritesAll a c text ends.Failed) all (failed_within a c (flat_map f (take i xs) ++ row) (flat_map f (drop (i + 1) xs)) now)
 
-history_append : (line : LineNo) (xs ys : List Entry) → history_text line (xs ++ ys) ≡ history_text line xs ++ history_text line ys
-history_append line [] ys = refl
-history_append line (x ∷ xs) ys = ap (λ zs. entry_text line x ++ zs) (history_append line xs ys) ∙ sym (append_assoc (entry_text line x) (history_text line xs) (history_text line ys))
+-- the number at a place of the numbers from 0 on
+pub number_at : (n i : ℕ) → i < n → slice_get (range_with_len 0 n) i ≡ Some i
+number_at n i within =
+    slice_get-get_or (range_with_len 0 n) i 0 (subst (λ (k : ℕ). i < k) (sym (length-range_with_len 0 n)) within) ∙ ap Some (get_or-range_with_len 0 n i 0 within ∙ zero-add i)
 
--- the rows after one more row
-pub rows_done : (a b c : Option (List ℕ)) (line : LineNo) (es : List Entry) (i : ℕ) (e : Entry) (row : List ℕ) → slice_get es i ≡ Some e → row ≡ entry_text line e
-    → WritesAll a b (history_text line (take i es)) ends.Done → WritesAll b c row ends.Done → WritesAll a c (history_text line (take (i + 1) es)) ends.Done
-rows_done a b c line es i e row at is so_far next =
-    let now = and_then a b c (history_text line (take i es)) row ends.Done so_far next in
-    subst (λ (text : List ℕ). WritesAll a c text ends.Done) (ap (λ zs. history_text line (take i es) ++ zs) is ∙ sym (rows_more line es i e at)) now
-
--- the rows after a row that failed
-pub rows_failed : (a b c : Option (List ℕ)) (line : LineNo) (es : List Entry) (i : ℕ) (e : Entry) (row : List ℕ) → slice_get es i ≡ Some e → row ≡ entry_text line e
-    → WritesAll a b (history_text line (take i es)) ends.Done → WritesAll b c row ends.Failed → WritesAll a c (history_text line es) ends.Failed
-rows_failed a b c line es i e row at is so_far next =
-    let now = and_then a b c (history_text line (take i es)) row ends.Failed so_far next in
-    let upto : history_text line (take i es) ++ row ≡ history_text line (take (i + 1) es) = ap (λ zs. history_text line (take i es) ++ zs) is ∙ sym (rows_more line es i e at) in
-    let all : (history_text line (take i es) ++ row) ++ history_text line (drop (i + 1) es) ≡ history_text line es =
-    ap (λ zs. zs ++ history_text line (drop (i + 1) es)) upto
-    ∙ (sym (history_append line (take (i + 1) es) (drop (i + 1) es)) ∙ ap (history_text line) (take-append-drop (i + 1) es)) in
-    subst (λ (text : List ℕ). WritesAll a c text ends.Failed) all (failed_within a c (history_text line (take i es) ++ row) (history_text line (drop (i + 1) es)) now)
+-- all of the numbers
+pub numbers_all : (n i : ℕ) → n ≤ i → take i (range_with_len 0 n) ≡ range_with_len 0 n
+numbers_all n i many = take_all i (range_with_len 0 n) (omega (arith, length-range_with_len 0 n, many))

@@ -1,41 +1,49 @@
 -- How the top call ends, by its ending: the exit status, the row on the error sink, and what holds then.
-use Rattle.std.specs.Prelude.{◌≡◌, ℕ, ◌≤◌, Bool, true, false, Option, Some, None, List, [], ◌∷◌, codes}
-use Rattle.irq_base.specs.Seen.{HistorySeen}
-use Rattle.irq_base.specs.declared.reporting.LineReport.{LineReport}
+use Rattle.std.specs.Prelude.{◌≡◌, ℕ, Bool, true, false, Option, Some, None, Result, Ok, Err, List, [], ◌++◌, codes, decimal}
+use Rattle.irq_base.specs.declared.numbers.LineNo.{LineNo}
 use Rattle.irq_io.specs.Faults.{Counts}
 use Rattle.irq_io.specs.Whole.{WritesAll, writing_failed}
 use Rattle.irq_io.specs.declared.whole.WriteEnd.{WriteEnd}
 use Rattle.irq_io.specs.declared.whole.WriteEnd.TheVariants as writes
-use Rattle.irq_top.specs.declared.boards.BoardRefused.{BoardRefused}
-use Rattle.irq_top.specs.declared.boards.BoardRefused.TheVariants as refusals
+use Rattle.board_def.specs.Seen.{BoardSeen}
+use Rattle.board_words.specs.FaultTexts.{fault_text}
+use Rattle.board_stated.specs.TextOf.{board_of_text}
+use Rattle.board_stated.specs.declared.faults.BoardFault.{BoardFault}
+use Rattle.irq_top.specs.declared.inputs.InputRefused.{InputRefused}
+use Rattle.irq_top.specs.declared.inputs.InputRefused.TheVariants as refusals
 use Rattle.irq_top.specs.declared.ending.Ending.{Ending}
 use Rattle.irq_top.specs.declared.ending.Ending.TheVariants as endings
-use Rattle.irq_top.specs.declared.boards.FirstBoard.{FirstBoard}
-use Rattle.irq_top.specs.FirstBoard.{line_one, board_text, line_of_board, IsAccepted}
-use Rattle.irq_top.specs.Headline.{Headline, FullLog}
 use Rattle.irq_top.specs.Reading.{left_after}
 use Rattle.irq_top.specs.Printing.{HandsOn}
 
 abbrev pub status_of : Ending → ℕ
 status_of endings.Done = 0
 status_of endings.Usage = 2
-status_of endings.NotBuilt = 3
+status_of (endings.Board fault) = 3
 status_of endings.ReadFault = 4
 status_of endings.WriteFault = 5
-status_of endings.LogFull = 6
+status_of (endings.LogFull line len) = 6
 status_of endings.NoMemory = 7
+
+-- where a board's text has its fault, and which
+abbrev pub fault_row : BoardFault → List ℕ
+fault_row fault = codes "board: line " ++ decimal fault.at ++ codes ": " ++ fault_text fault.kind ++ codes "\n"
+
+-- whose log is full, and how many entries it has
+abbrev pub full_row : LineNo → ℕ → List ℕ
+full_row line len = codes "log full: line " ++ decimal line.0 ++ codes " at " ++ decimal len ++ codes " entries\n"
 
 abbrev pub error_text : Ending → List ℕ
 error_text endings.Done = []
 error_text endings.Usage = codes "usage: genirq run [--summary] | play [--summary] | check | gen N\n"
-error_text endings.NotBuilt = codes "board: line 0: not built yet\n"
+error_text (endings.Board fault) = fault_row fault
 error_text endings.ReadFault = codes "read fault\n"
 error_text endings.WriteFault = codes "write fault\n"
-error_text endings.LogFull = codes "log full: line 1 at 10000 entries\n"
+error_text (endings.LogFull line len) = full_row line len
 error_text endings.NoMemory = codes "out of memory\n"
 
-abbrev pub ending_of_refusal : BoardRefused → Ending
-ending_of_refusal refusals.NotBuilt = endings.NotBuilt
+abbrev pub ending_of_refusal : InputRefused → Ending
+ending_of_refusal (refusals.Fault fault) = endings.Board fault
 ending_of_refusal refusals.ReadFault = endings.ReadFault
 ending_of_refusal refusals.NoMemory = endings.NoMemory
 
@@ -51,7 +59,7 @@ is_write_fault_end _ = false
 abbrev pub is_played : Ending → Bool
 is_played endings.Done = true
 is_played endings.WriteFault = true
-is_played endings.LogFull = true
+is_played (endings.LogFull line len) = true
 is_played _ = false
 
 -- the ending at which something may have been printed
@@ -60,13 +68,17 @@ is_printing endings.Done = true
 is_printing endings.WriteFault = true
 is_printing _ = false
 
--- what an ending says of an input that was told: it was read to its end and is an accepted text; or it is
--- none, and was read to its end or one byte past the longest text
+-- the bytes state a board, and were read to their end
+abbrev pub StatesBoard : List ℕ → Option (List ℕ) → Type 0
+StatesBoard bytes now = ((board : BoardSeen) × (board_of_text bytes ≡ Ok board)) × (now ≡ Some [])
+
+-- what an ending says of an input that was told: it states a board, and was read to its end; or it has that fault,
+-- and was read to its end or one byte past the longest text
 abbrev pub ReadsInput : List ℕ → Option (List ℕ) → Ending → Type 0
-ReadsInput bytes now endings.Done = IsAccepted bytes × (now ≡ Some [])
-ReadsInput bytes now endings.WriteFault = IsAccepted bytes × (now ≡ Some [])
-ReadsInput bytes now endings.LogFull = IsAccepted bytes × (now ≡ Some [])
-ReadsInput bytes now endings.NotBuilt = (IsAccepted bytes → ⊥) × (now ≡ Some (left_after bytes))
+ReadsInput bytes now endings.Done = StatesBoard bytes now
+ReadsInput bytes now endings.WriteFault = StatesBoard bytes now
+ReadsInput bytes now (endings.LogFull line len) = StatesBoard bytes now
+ReadsInput bytes now (endings.Board fault) = (board_of_text bytes ≡ Err fault) × (now ≡ Some (left_after bytes))
 ReadsInput bytes now endings.ReadFault = Unit {0}
 ReadsInput bytes now endings.NoMemory = Unit {0}
 ReadsInput bytes now endings.Usage = ⊥
@@ -75,29 +87,6 @@ ReadsInput bytes now endings.Usage = ⊥
 abbrev pub Reads : Option (List ℕ) → Option (List ℕ) → Ending → Type 0
 Reads None now ending = Unit {0}
 Reads (Some bytes) now ending = ReadsInput bytes now ending
-
-abbrev pub IsOneReport : HistorySeen → List LineReport → Type 0
-IsOneReport history reports = reports ≡ record { line = line_one; history = history } ∷ []
-
--- the one history is handed out where the board was played: as the headline says where the play came to its
--- end, else as it was when its log was full
-abbrev pub HasReports : FirstBoard → List LineReport → Ending → Type 0
-HasReports b reports endings.Done = (history : HistorySeen) × IsOneReport history reports × Headline (line_of_board b) history.entries
-HasReports b reports endings.WriteFault = (history : HistorySeen) × IsOneReport history reports × Headline (line_of_board b) history.entries
-HasReports b reports endings.LogFull = (history : HistorySeen) × IsOneReport history reports × FullLog (line_of_board b) history.entries
-HasReports b reports _ = reports ≡ []
-
--- the source told the text of the board, where it tells
-abbrev pub ToldBoard : Option (List ℕ) → FirstBoard → Type 0
-ToldBoard None b = Unit {0}
-ToldBoard (Some bytes) b = bytes ≡ board_text b
-
--- the reports are those of the board that was told; none is handed out where no board was played
-abbrev pub ReportsOf : Option (List ℕ) → List LineReport → Ending → Type 0
-ReportsOf told reports endings.Done = (b : FirstBoard) × (b.asks ≤ 1000) × ToldBoard told b × HasReports b reports endings.Done
-ReportsOf told reports endings.WriteFault = (b : FirstBoard) × (b.asks ≤ 1000) × ToldBoard told b × HasReports b reports endings.WriteFault
-ReportsOf told reports endings.LogFull = (b : FirstBoard) × (b.asks ≤ 1000) × ToldBoard told b × HasReports b reports endings.LogFull
-ReportsOf told reports _ = reports ≡ []
 
 -- what the output gained, where it tells: the whole text, or after a fault a beginning of it
 abbrev pub Prints : Option (List ℕ) → Option (List ℕ) → List ℕ → Ending → Type 0

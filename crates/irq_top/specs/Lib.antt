@@ -1,8 +1,7 @@
-pub mod FirstBoard
 pub mod Report
 pub mod Reading
-pub mod Playing
 pub mod Printing
 pub mod Words
 pub mod Headline
 pub mod Ending
+pub mod Played

@@ -1,26 +1,33 @@
 -- What reading a board comes to.
-use Rattle.std.specs.Prelude.{◌≡◌, ℕ, ◌+◌, Bool, true, false, Option, Some, List, [], drop, Result, Ok, Err}
-use Rattle.irq_top.specs.declared.boards.FirstBoard.{FirstBoard}
-use Rattle.irq_top.specs.declared.boards.BoardRefused.{BoardRefused}
-use Rattle.irq_top.specs.declared.boards.BoardRefused.TheVariants as refusals
-use Rattle.irq_top.specs.FirstBoard.{board_text, IsAccepted}
+use Rattle.std.specs.Prelude.{◌≡◌, ℕ, ◌+◌, Bool, true, false, Option, Some, None, List, [], drop, Result, Ok, Err}
+use Rattle.board_def.specs.Seen.{BoardSeen}
+use Rattle.board_stated.specs.TextOf.{board_of_text, longest_text}
+use Rattle.irq_top.specs.declared.inputs.InputRefused.{InputRefused}
+use Rattle.irq_top.specs.declared.inputs.InputRefused.TheVariants as refusals
 
--- the most bytes of a board's text
-abbrev pub longest_text : ℕ
-longest_text = 1048576
-
--- the whole source was read, or one byte more than a board's text may have
+-- what is left of a source of which at most one byte more was read than a board's text may have
 abbrev pub left_after : List ℕ → List ℕ
 left_after bytes = drop (longest_text + 1) bytes
 
 -- whether reading a board met a read fault
-abbrev pub is_read_fault : Result FirstBoard BoardRefused → Bool
+abbrev pub is_read_fault : Result BoardSeen InputRefused → Bool
 is_read_fault (Err refusals.ReadFault) = true
 is_read_fault _ = false
 
--- where the source tells what is left: a board comes of a text that is its own, read to the end; the text is
--- refused where it is none of those accepted
-abbrev pub ReadsBoard : Option (List ℕ) → Option (List ℕ) → Result FirstBoard BoardRefused → Type 0
-ReadsBoard (Some bytes) now (Ok b) = (bytes ≡ board_text b) × (now ≡ Some [])
-ReadsBoard (Some bytes) now (Err refusals.NotBuilt) = (IsAccepted bytes → ⊥) × (now ≡ Some (left_after bytes))
+-- where the source tells what is left: a board comes of the bytes that state it, which were read to their end; the
+-- bytes are refused for the fault that they have
+abbrev pub ReadsBoard : Option (List ℕ) → Option (List ℕ) → Result BoardSeen InputRefused → Type 0
+ReadsBoard (Some bytes) now (Ok board) = (board_of_text bytes ≡ Ok board) × (now ≡ Some [])
+ReadsBoard (Some bytes) now (Err (refusals.Fault fault)) = (board_of_text bytes ≡ Err fault) × (now ≡ Some (left_after bytes))
 ReadsBoard _ _ _ = Unit {0}
+
+-- the text is what the source told, where it told
+abbrev pub IsTold : Option (List ℕ) → List ℕ → Type 0
+IsTold None text = Unit {0}
+IsTold (Some bytes) text = bytes ≡ text
+
+-- the board is stated by a text, which is what the source told
+pub record IsStated (told : Option (List ℕ)) (board : BoardSeen) : Type 0 where
+  pub text : List ℕ
+  pub as_told : IsTold told text
+  pub states : board_of_text text ≡ Ok board

@@ -2,7 +2,10 @@
 ghost use Rattle.std.specs.Prelude.{◌≡◌};
 ghost use Rattle.irq_top.specs.Ending.{status_of, error_text};
 
-use crate::boards::BoardRefused;
+use crate::error_rows::ErrorRow;
+use crate::inputs::InputRefused;
+use board_text::BoardFault;
+use irq_base::LineNo;
 
 /// How the work ended.
 #[derive(Clone, Copy, PartialEq, Eq)]
@@ -11,14 +14,14 @@ pub enum Ending {
     Done,
     /// The words of the command line are none of the forms.
     Usage,
-    /// The input is none of the texts that are accepted so far.
-    NotBuilt,
+    /// The input isn't the text of a board: its first fault.
+    Board(BoardFault),
     /// A read failed.
     ReadFault,
     /// A write or a flush of the output failed.
     WriteFault,
-    /// A further entry was due where the line's history has its greatest length.
-    LogFull,
+    /// A further entry was due where the line's history has its greatest length. `len`: that many entries.
+    LogFull { line: LineNo, len: u32 },
     /// Memory was wanted and refused.
     NoMemory,
 }
@@ -31,41 +34,43 @@ impl Ending {
         match self {
             Ending::Done => 0,
             Ending::Usage => 2,
-            Ending::NotBuilt => 3,
+            Ending::Board(_) => 3,
             Ending::ReadFault => 4,
             Ending::WriteFault => 5,
-            Ending::LogFull => 6,
+            Ending::LogFull { .. } => 6,
             Ending::NoMemory => 7,
         }
     }
 
     /// The row that says so, empty where the work was done.
-    pub fn row(self) -> &'static [u8]
-        ensures { result.now ≡ error_text self }
+    pub fn row(self) -> ErrorRow
+        ensures { result ≡ error_text self }
     {
         match self {
-            Ending::Done => b"",
-            Ending::Usage => b"usage: genirq run [--summary] | play [--summary] | check | gen N\n",
-            Ending::NotBuilt => b"board: line 0: not built yet\n",
-            Ending::ReadFault => b"read fault\n",
-            Ending::WriteFault => b"write fault\n",
-            Ending::LogFull => b"log full: line 1 at 10000 entries\n",
-            Ending::NoMemory => b"out of memory\n",
+            Ending::Done => ErrorRow::new(b""),
+            Ending::Usage => ErrorRow::new(
+                b"usage: genirq run [--summary] | play [--summary] | check | gen N\n",
+            ),
+            Ending::Board(fault) => ErrorRow::of_fault(fault),
+            Ending::ReadFault => ErrorRow::new(b"read fault\n"),
+            Ending::WriteFault => ErrorRow::new(b"write fault\n"),
+            Ending::LogFull { line, len } => ErrorRow::of_full_log(line, len),
+            Ending::NoMemory => ErrorRow::new(b"out of memory\n"),
         }
     }
 }
 
-impl From<BoardRefused> for Ending {
+impl From<InputRefused> for Ending {
     ghost use Rattle.std.specs.Prelude.{◌≡◌};
     ghost use Rattle.irq_top.specs.Ending.{ending_of_refusal};
 
     ghost from_gives = { λ refused ending. ending ≡ ending_of_refusal refused };
 
-    fn from(refused: BoardRefused) -> Ending {
+    fn from(refused: InputRefused) -> Ending {
         match refused {
-            BoardRefused::NotBuilt => Ending::NotBuilt,
-            BoardRefused::ReadFault => Ending::ReadFault,
-            BoardRefused::NoMemory => Ending::NoMemory,
+            InputRefused::Fault(fault) => Ending::Board(fault),
+            InputRefused::ReadFault => Ending::ReadFault,
+            InputRefused::NoMemory => Ending::NoMemory,
         }
     }
 }

@@ -19,8 +19,6 @@ const CUTS: [usize; 11] = [0, 22, 57, 68, 90, 103, 127, 153, 172, 187, 200];
 
 const USAGE: &[u8] = b"usage: genirq run [--summary] | play [--summary] | check | gen N\n";
 
-const NOT_BUILT: &[u8] = b"board: line 0: not built yet\n";
-
 /// The ends of a call, and the words.
 #[derive(Clone, Copy)]
 struct Case<'a> {
@@ -72,6 +70,106 @@ fn call(alloc: Global, case: Case<'_>) -> Result<Seen, NoMemory> {
     })
 }
 
+/// A board and what playing it comes to.
+#[derive(Clone, Copy)]
+struct Play<'a> {
+    /// The text lines after those of the domain.
+    text: &'a [u8],
+    status: u8,
+    out: &'a [u8],
+    err: &'a [u8],
+    entries: Option<usize>,
+}
+
+const PLAYS: [Play<'static>; 8] = [
+    // nothing is declared on the line
+    Play {
+        text: b"line 1 intc 2\n",
+        status: 0,
+        out: b"# irq 1 virq 1 intc:2\n",
+        err: b"",
+        entries: Some(0),
+    },
+    // two edges become one interrupt
+    Play {
+        text: b"line 1 intc 2\ndevice 1 1 direct\ndriver 1\nrequest 1\nask 1\nask 1\npicks d1*3\n",
+        status: 0,
+        out: b"# irq 1 virq 1 intc:2\n1 d1 request 1 - linked started no\n1 d1 ask 1\n1 d1 ask 1\n1 c0 take line handle\n1 c0 begin 1\n1 c0 return 1 handled 2\n1 c0 end leave asis quiet\n",
+        err: b"",
+        entries: Some(7),
+    },
+    // a second driver asks before the request, and the edge is stored
+    Play {
+        text: b"line 1 intc 2\ndevice 1 1 direct\ndriver 1\nrequest 1\ndriver 2\nask 1\nask 1\npicks d2*2\n",
+        status: 0,
+        out: b"# irq 1 virq 1 intc:2\n1 d2 ask 1\n1 d2 ask 1\n1 d1 request 1 - linked started no\n1 c0 take line handle\n1 c0 begin 1\n1 c0 return 1 handled 2\n1 c0 end leave asis quiet\n",
+        err: b"",
+        entries: Some(7),
+    },
+    // the device is requested again, after an edge that came while it wasn't linked
+    Play {
+        text: b"line 1 intc 2\ndevice 1 1 direct\ndriver 1\nrequest 1\nfree 1\nrequest 1\ndriver 2\nask 1\npicks d1*4 c0 d2\n",
+        status: 0,
+        out: b"# irq 1 virq 1 intc:2\n1 d1 request 1 - linked started no\n1 d1 unlink 1 last\n1 d1 hardclear\n1 d1 freed 1\n1 d2 ask 1\n1 d1 request 1 - linked started no\n1 c0 take line handle\n1 c0 begin 1\n1 c0 return 1 handled 1\n1 c0 end leave asis quiet\n",
+        err: b"",
+        entries: Some(10),
+    },
+    // a free finds nothing
+    Play {
+        text: b"line 7 intc 0\ndevice 9 7 direct\ndriver 4\nfree 9\nrequest 9\nask 9\n",
+        status: 0,
+        out: b"# irq 7 virq 1 intc:0\n7 d4 unlink 9 notthere\n7 d4 request 9 - linked started no\n7 d4 ask 9\n7 c0 take line handle\n7 c0 begin 9\n7 c0 return 9 handled 1\n7 c0 end leave asis quiet\n",
+        err: b"",
+        entries: Some(7),
+    },
+    // a full log is told, and nothing is printed
+    Play {
+        text: b"line 7 intc 2\ndevice 1 7 direct\ndriver 1\nrequest 1\nask 1\nfree 1\n",
+        status: 6,
+        out: b"",
+        err: b"log full: line 7 at 5 entries\n",
+        entries: Some(5),
+    },
+    // the last number isn't one of the domain's
+    Play {
+        text: b"line 1 intc 4\n",
+        status: 3,
+        out: b"",
+        err: b"board: line 0: not built yet\n",
+        entries: None,
+    },
+    // a fault of a text line
+    Play {
+        text: b"line 1 intc 2\ndevice 1 2 direct\n",
+        status: 3,
+        out: b"",
+        err: b"board: line 5: not there\n",
+        entries: None,
+    },
+];
+
+#[test]
+fn boards_by_hand(rt: HostRuntime) -> Result<(), Fail> {
+    for play in PLAYS {
+        let mut text = Vec::from_slice(rt.alloc(), b"board 1\nlog ".as_slice())?;
+        text.extend_from_slice(if play.status == 6 { b"5\n" } else { b"10\n" })?;
+        text.extend_from_slice(b"domain intc linear 4 latch\n")?;
+        text.extend_from_slice(play.text)?;
+        let seen = call(
+            rt.alloc(),
+            Case {
+                text: text.as_slice(),
+                ..WHOLE
+            },
+        )?;
+        assert_eq!(rt; seen.status, play.status);
+        assert_eq!(rt; seen.out.as_slice(), play.out);
+        assert_eq!(rt; seen.err.as_slice(), play.err);
+        assert_eq!(rt; seen.entries, play.entries);
+    }
+    Ok(())
+}
+
 fn asks(alloc: Global, count: usize) -> Result<Vec<u8>, AllocError> {
     let mut text = Vec::from_slice(alloc, HEAD)?;
     for _ in 0..count {
@@ -83,16 +181,29 @@ fn asks(alloc: Global, count: usize) -> Result<Vec<u8>, AllocError> {
 #[test]
 fn words_and_inputs(rt: HostRuntime) -> Result<(), Fail> {
     let long = vec![in rt.alloc(); b'\n'; 1_048_577]?;
-    let many = asks(rt.alloc(), 1_001)?;
-    let cases: [(&[&str], &[u8], u8, &[u8]); 9] = [
+    let longest = vec![in rt.alloc(); b'\n'; 1_048_576]?;
+    let two_cpus =
+        b"board 1\ncpus 2\ndomain intc linear 4 latch\nline 1 intc 2\ndevice 1 1 direct\ndriver 1\nrequest 1\nask 1\nask 1\npicks d1*3\n";
+    let cases: [(&[&str], &[u8], u8, &[u8]); 10] = [
         (&["play", "now"], BOARD, 2, USAGE),
         (&[], BOARD, 2, USAGE),
         (&["run"], BOARD, 2, USAGE),
         (&["plays"], BOARD, 2, USAGE),
-        (&["play"], b"", 3, NOT_BUILT),
-        (&["play"], b"board 1", 3, NOT_BUILT),
-        (&["play"], long.as_slice(), 3, NOT_BUILT),
-        (&["play"], many.as_slice(), 3, NOT_BUILT),
+        (&["play"], b"", 3, b"board: line 1: no header\n"),
+        (
+            &["play"],
+            b"board 1\ndomai",
+            3,
+            b"board: line 2: unknown word\n",
+        ),
+        (
+            &["play"],
+            longest.as_slice(),
+            3,
+            b"board: line 1: no header\n",
+        ),
+        (&["play"], long.as_slice(), 3, b"board: line 0: too long\n"),
+        (&["play"], two_cpus, 3, b"board: line 0: not built yet\n"),
         (&["play"], BOARD, 0, b""),
     ];
     for (words, text, status, err) in cases {
@@ -114,59 +225,30 @@ fn words_and_inputs(rt: HostRuntime) -> Result<(), Fail> {
 }
 
 #[test]
-fn accepted_texts(rt: HostRuntime) -> Result<(), Fail> {
-    let most = asks(rt.alloc(), 1_000)?;
-    let mut unasked = asks(rt.alloc(), 0)?;
-    unasked.extend_from_slice(b"free 1\n")?;
-    let seen = call(
-        rt.alloc(),
-        Case {
-            text: unasked.as_slice(),
-            ..WHOLE
-        },
-    )?;
-    let log: &[u8] =
-        b"# irq 1 virq 1 intc:2\n1 d1 request 1 - linked started no\n1 d1 unlink 1 last\n1 d1 hardclear\n1 d1 freed 1\n";
-    assert_eq!(rt; seen.status, 0);
-    assert_eq!(rt; seen.out.as_slice(), log);
-    assert_eq!(rt; seen.entries, Some(4));
-
-    let seen = call(
-        rt.alloc(),
-        Case {
-            text: most.as_slice(),
-            room: 1_000_000,
-            ..WHOLE
-        },
-    )?;
-    assert_eq!(rt; seen.status, 0);
-    assert_eq!(rt; seen.entries, Some(5_001));
-
+fn many_asks_and_pieces(rt: HostRuntime) -> Result<(), Fail> {
+    let cases: [(usize, u8, usize, &[u8]); 2] = [
+        (1_999, 0, 9_996, b""),
+        (2_000, 6, 10_000, b"log full: line 1 at 10000 entries\n"),
+    ];
+    for (count, status, entries, err) in cases {
+        let text = asks(rt.alloc(), count)?;
+        let seen = call(
+            rt.alloc(),
+            Case {
+                text: text.as_slice(),
+                room: 1_000_000,
+                ..WHOLE
+            },
+        )?;
+        assert_eq!(rt; seen.status, status);
+        assert_eq!(rt; seen.entries, Some(entries));
+        assert_eq!(rt; seen.err.as_slice(), err);
+    }
     for piece in [1, 10] {
         let seen = call(rt.alloc(), Case { piece, ..WHOLE })?;
         assert_eq!(rt; seen.status, 0);
         assert_eq!(rt; seen.out.as_slice(), LOG);
         assert_eq!(rt; seen.entries, Some(9));
-    }
-    Ok(())
-}
-
-#[test]
-fn each_wrong_byte(rt: HostRuntime) -> Result<(), Fail> {
-    for i in 0..BOARD.len() {
-        let mut text = Vec::from_slice(rt.alloc(), BOARD)?;
-        if let Some(byte) = text.get_mut(i) {
-            *byte ^= 1;
-        }
-        let seen = call(
-            rt.alloc(),
-            Case {
-                text: text.as_slice(),
-                ..WHOLE
-            },
-        )?;
-        assert_eq!(rt; seen.status, 3, "byte {i}");
-        assert!(rt; seen.out.is_empty());
     }
     Ok(())
 }

@@ -1,21 +1,22 @@
 //! The top call.
-ghost use Rattle.std.specs.Prelude.{◌≡◌, ℕ, ◌≤◌, ◌↔◌, ◌⊎◌, ◌∷◌, [], false, true, length, map, codes, All, IfOk, IsTrue};
-ghost use Rattle.irq_base.specs.Seen.{HistorySeen};
+ghost use Rattle.std.specs.Prelude.{◌≡◌, ◌↔◌, ◌⊎◌, [], false, true, All, IsTrue};
+ghost use Rattle.board_def.specs.Layout.{layout_of};
+ghost use Rattle.board_stated.specs.BuiltBoard.{IsBuiltBoard};
 ghost use Rattle.irq_io.specs.Faults.{Counts};
 ghost use Rattle.log_text.specs.EntryWords.{IsPrintable};
 ghost use Rattle.irq_top.specs.Report.{report_text, one_report_text};
-ghost use Rattle.irq_top.specs.FirstBoard.{line_of_board};
-ghost use Rattle.irq_top.specs.Headline.{HasEnded};
 ghost use Rattle.irq_top.specs.Words.{IsPlay};
-ghost use Rattle.irq_top.specs.Ending.{Reads, ReportsOf, HasReports, Prints, Tells, error_text, is_played, is_printing, is_read_fault_end, is_write_fault_end};
+ghost use Rattle.irq_top.specs.Ending.{Reads, Prints, Tells, error_text, is_played, is_printing, is_read_fault_end, is_write_fault_end};
+ghost use Rattle.irq_top.specs.Played.{HasReports, PlaysOrNot};
 
-use crate::boards::{FirstBoard, read_board};
 use crate::ending::Ending;
-use crate::play::{PlayEnd, play};
+use crate::inputs::read_input;
+use crate::playing::{Played, play_board};
 use crate::printing::print_report;
-use irq_base::{History, LineNo, LineReport, NoMemory, Reports};
+use board_def::Board;
+use irq_base::{LineReport, Reports};
 use irq_io::{Sink, Source, WriteEnd, write_all};
-use line_core::Line;
+use line_play::PlayEnd;
 use std::alloc::Global;
 
 /// What the top call hands out: how it ended, and the histories that were taken out of the lines, one report a
@@ -43,8 +44,7 @@ pub fn irq_main<S: Source, O: Sink, E: Sink>(
     ensures reads { IsPlay words.now → Reads (S.left src.old) (S.left src.new) result.ending }
     ensures read_fault { Counts (S.faults src.old) (S.faults src.new) (is_read_fault_end result.ending) }
 
-    ensures reports { ReportsOf (S.left src.old) result.reports.reports result.ending }
-    ensures prints { Prints (O.written out.old) (O.written out.new) (report_text result.reports.reports) result.ending }
+    ensures plays { PlaysOrNot (S.left src.old) result.reports.reports (O.written out.old) (O.written out.new) result.ending }
     ensures handed_on { result.ending ≡ Ending.Done → O.handed_on out.new ≡ O.written out.new }
     ensures write_fault { Counts (O.faults out.old) (O.faults out.new) (is_write_fault_end result.ending) }
     ensures silent { is_printing result.ending ≡ false → out.new ≡ out.old }
@@ -65,8 +65,7 @@ fn work<S: Source, O: Sink>(alloc: Global, words: &[&str], src: &mut S, out: &mu
     ensures unread { result.ending ≡ Ending.Usage → src.new ≡ src.old }
     ensures reads { IsPlay words.now → Reads (S.left src.old) (S.left src.new) result.ending }
     ensures read_fault { Counts (S.faults src.old) (S.faults src.new) (is_read_fault_end result.ending) }
-    ensures reports { ReportsOf (S.left src.old) result.reports.reports result.ending }
-    ensures prints { Prints (O.written out.old) (O.written out.new) (report_text result.reports.reports) result.ending }
+    ensures plays { PlaysOrNot (S.left src.old) result.reports.reports (O.written out.old) (O.written out.new) result.ending }
     ensures handed_on { result.ending ≡ Ending.Done → O.handed_on out.new ≡ O.written out.new }
     ensures write_fault { Counts (O.faults out.old) (O.faults out.new) (is_write_fault_end result.ending) }
     ensures silent { is_printing result.ending ≡ false → out.new ≡ out.old }
@@ -74,8 +73,11 @@ fn work<S: Source, O: Sink>(alloc: Global, words: &[&str], src: &mut S, out: &mu
     if !is_play(words) {
         return without_reports(alloc, Ending::Usage);
     }
-    match read_board(alloc, src) {
-        Ok(board) => play_and_print(alloc, board, out),
+    match read_input(alloc, src) {
+        Ok(board) => {
+            board.is_board();
+            play_and_print(alloc, &board, out)
+        }
         Err(refused) => without_reports(alloc, Ending::from(refused)),
     }
 }
@@ -101,38 +103,13 @@ fn without_reports(alloc: Global, ending: Ending) -> Outcome
     }
 }
 
-/// A line's history after its play, and how the play ended.
-#[derive(Drop)]
-struct Played {
-    history: History,
-    end: PlayEnd,
-}
-
-/// Plays the line of the board.
-fn play_board(alloc: Global, board: FirstBoard) -> Result<Played, NoMemory>
-    requires { board.asks ≤ 1000 }
-    ensures printable { IfOk result (λ played. All IsPrintable played.history.entries) }
-    ensures ended { IfOk result (λ played. HasEnded (line_of_board board) played.history.entries played.end) }
-{
-    let def = board.line_def(alloc)?;
-    let mut line = Line::new(alloc, &def)?;
-    let end = play(&mut line, &board.actors());
-    // what holds of every line, for the laws of its history
-    line.is_legal();
-    line.is_within_log();
-    Ok(Played {
-        history: line.into_history(),
-        end,
-    })
-}
-
 /// Plays the board, and prints its log where the play came to its end. Room for the report is taken before the
 /// first row is written.
-fn play_and_print<O: Sink>(alloc: Global, board: FirstBoard, out: &mut O) -> Outcome
-    requires { board.asks ≤ 1000 }
+fn play_and_print<O: Sink>(alloc: Global, board: &Board, out: &mut O) -> Outcome
+    requires { IsBuiltBoard board.now }
     ensures played { is_played result.ending ≡ true ⊎ (result.ending ≡ Ending.NoMemory) }
-    ensures reports { HasReports board result.reports.reports result.ending }
-    ensures prints { Prints (O.written out.old) (O.written out.new) (report_text result.reports.reports) result.ending }
+    ensures reports { HasReports board.now result.reports.reports result.ending }
+    ensures prints { Prints (O.written out.old) (O.written out.new) (report_text board.now result.reports.reports) result.ending }
     ensures handed_on { result.ending ≡ Ending.Done → O.handed_on out.new ≡ O.written out.new }
     ensures write_fault { Counts (O.faults out.old) (O.faults out.new) (is_write_fault_end result.ending) }
     ensures silent { is_printing result.ending ≡ false → out.new ≡ out.old }
@@ -144,11 +121,11 @@ fn play_and_print<O: Sink>(alloc: Global, board: FirstBoard, out: &mut O) -> Out
     if reports.reserve(1).is_err() {
         return without_reports(alloc, Ending::NoMemory);
     }
-    let line = LineNo(1);
+    let line = played.line;
     let ending = match played.end {
         PlayEnd::NoMemory => return without_reports(alloc, Ending::NoMemory),
-        PlayEnd::Full { .. } => Ending::LogFull,
-        PlayEnd::Done => print_ending(out, line, &played.history),
+        PlayEnd::Full { len } => Ending::LogFull { line, len },
+        PlayEnd::Done => print_ending(out, board, &played),
     };
     let history = played.history;
     reports.push(LineReport { line, history }).unwrap();
@@ -156,14 +133,15 @@ fn play_and_print<O: Sink>(alloc: Global, board: FirstBoard, out: &mut O) -> Out
 }
 
 /// Prints the report, and says how that ended.
-fn print_ending<O: Sink>(out: &mut O, line: LineNo, history: &History) -> Ending
-    requires { All IsPrintable history.now.entries }
+fn print_ending<O: Sink>(out: &mut O, board: &Board, played: &Played) -> Ending
+    requires layout { played.now.layout ≡ layout_of board.now }
+    requires printable { All IsPrintable played.now.history.entries }
     ensures printing { IsTrue (is_printing result) }
-    ensures prints { Prints (O.written out.old) (O.written out.new) (one_report_text line history.now.entries) result }
+    ensures prints { Prints (O.written out.old) (O.written out.new) (one_report_text board.now played.now.line played.now.history.entries) result }
     ensures handed_on { result ≡ Ending.Done → O.handed_on out.new ≡ O.written out.new }
     ensures write_fault { Counts (O.faults out.old) (O.faults out.new) (is_write_fault_end result) }
 {
-    match print_report(out, line, history) {
+    match print_report(out, board, &played.layout, played.line, &played.history) {
         WriteEnd::Done => Ending::Done,
         WriteEnd::Failed => Ending::WriteFault,
     }
@@ -173,7 +151,15 @@ fn print_ending<O: Sink>(out: &mut O, line: LineNo, history: &History) -> Ending
 fn tell<E: Sink>(err: &mut E, ending: Ending)
     ensures { Tells (error_text ending) (E.written err.old) (E.written err.new) (E.handed_on err.new) (E.faults err.old) (E.faults err.new) }
 {
-    if let WriteEnd::Done = write_all(err, ending.row()) {
+    let row = ending.row();
+    tell_row(err, row.bytes());
+}
+
+/// Writes the row, and hands it on.
+fn tell_row<E: Sink>(err: &mut E, row: &[u8])
+    ensures { Tells row.now (E.written err.old) (E.written err.new) (E.handed_on err.new) (E.faults err.old) (E.faults err.new) }
+{
+    if let WriteEnd::Done = write_all(err, row) {
         let _ = err.flush();
     }
 }

@@ -1,2 +1,2 @@
-pub mod LayoutLemmas
-mod LayoutRows
+pub mod Spacing
+mod Levels

@@ -1,8 +1,8 @@
--- The rows of a layout: where each line of a board lies. They begin with `#`, so that a reader of the log passes
--- them over.
-use Rattle.std.specs.Prelude.{ℕ, zero, suc, Option, Some, None, List, [], ◌∷◌, ◌++◌, length, map, take, slice_get, codes, decimal}
+-- The rows of a layout, as bytes.
+use Rattle.std.specs.Prelude.{ℕ, Option, Some, None, List, [], ◌∷◌, ◌++◌, length, ◌≤◌, map, codes, decimal, slice_get}
+use Rattle.std.specs.List.{flat_map, range_with_len}
 use Rattle.irq_base.specs.declared.numbers.LineNo.{LineNo}
-use Rattle.board_def.specs.Levels.{most_levels}
+use Rattle.board_def.specs.Layout.{layout_of}
 use Rattle.board_def.specs.Names.{name_bytes}
 use Rattle.board_def.specs.Seen.{BoardSeen}
 use Rattle.board_def.specs.declared.layouts.Placement.{Placement}
@@ -13,43 +13,41 @@ use Rattle.board_def.specs.declared.rows.DomainRow.{DomainRow}
 use Rattle.board_def.specs.declared.rows.LineRow.{LineRow}
 use Rattle.log_text.specs.Rows.{row_of}
 
--- the name of a domain; nothing where it isn't there: no layout of the board has such a level
 abbrev pub name_in : Option DomainRow → List ℕ
 name_in (Some row) = name_bytes row.name
 name_in None = []
 
--- a level: the name of its domain, a colon, and the line's number there
+-- a level of a path: the domain's name, and the line's number there
 abbrev pub level_word : List DomainRow → ℕ × ℕ → List ℕ
-level_word domains level = name_in (slice_get domains level.0) ++ (codes ":" ++ decimal level.1)
+level_word domains level = name_in (slice_get domains level.0) ++ codes ":" ++ decimal level.1
 
-abbrev pub reason_word : Unmapped → List ℕ
-reason_word reasons.Taken = codes "taken"
-reason_word reasons.OutOfRange = codes "out-of-range"
-reason_word reasons.NoMask = codes "no-mask"
+abbrev pub unmapped_word : Unmapped → List ℕ
+unmapped_word reasons.Taken = codes "taken"
+unmapped_word reasons.OutOfRange = codes "out-of-range"
+unmapped_word reasons.NoMask = codes "no-mask"
 
--- the line's virq and its levels, leaf first (a path has no more than eight); or why it is refused
+-- the virq and the levels, leaf first; or why there are none
 abbrev pub placement_words : List DomainRow → Placement → List (List ℕ)
-placement_words domains (placements.Mapped virq path) = codes "virq" ∷ decimal virq ∷ map (level_word domains) (take most_levels path)
-placement_words domains (placements.Refused why) = codes "refused" ∷ reason_word why ∷ []
+placement_words domains (placements.Mapped virq path) = codes "virq" ∷ decimal virq ∷ map (level_word domains) path
+placement_words domains (placements.Refused why) = codes "refused" ∷ unmapped_word why ∷ []
+
+-- a path has at most eight levels
+abbrev pub IsShort : Placement → Type 0
+IsShort (placements.Mapped virq path) = length path ≤ 8
+IsShort (placements.Refused why) = Unit {0}
 
 -- the row of a line that lies there
-abbrev pub placement_text : List DomainRow → LineNo → Placement → List ℕ
-placement_text domains line placement = row_of (codes "#" ∷ codes "irq" ∷ decimal line.0 ∷ placement_words domains placement)
+abbrev pub layout_text : List DomainRow → LineNo → Placement → List ℕ
+layout_text domains line placement = row_of (codes "#" ∷ codes "irq" ∷ decimal line.0 ∷ placement_words domains placement)
 
--- the row of a line, where there are both the line and its place
-abbrev pub row_text : List DomainRow → Option LineRow → Option Placement → List ℕ
-row_text domains (Some row) (Some placement) = placement_text domains row.line placement
-row_text domains _ _ = []
+abbrev pub text_of_both : List DomainRow → Option LineRow → Option Placement → List ℕ
+text_of_both domains (Some row) (Some placement) = layout_text domains row.line placement
+text_of_both domains _ _ = []
 
--- the row of the line at place i, counted from 0
-abbrev pub layout_row_text : BoardSeen → List Placement → ℕ → List ℕ
-layout_row_text b layout i = row_text b.domains (slice_get b.lines i) (slice_get layout i)
+-- the row of the line at a place of the board, counted from 0
+abbrev pub layout_row_text : BoardSeen → ℕ → List ℕ
+layout_row_text b i = text_of_both b.domains (slice_get b.lines i) (slice_get (layout_of b) i)
 
--- the rows of the first n lines
-abbrev pub first_rows : BoardSeen → List Placement → ℕ → List ℕ
-first_rows b layout zero = []
-first_rows b layout (suc n) = first_rows b layout n ++ layout_row_text b layout n
-
--- the row of each line, in the board's order
-abbrev pub layout_rows_text : BoardSeen → List Placement → List ℕ
-layout_rows_text b layout = first_rows b layout (length b.lines)
+-- the rows of all lines, in the board's order
+abbrev pub layout_rows : BoardSeen → List ℕ
+layout_rows b = flat_map (layout_row_text b) (range_with_len 0 (length b.lines))

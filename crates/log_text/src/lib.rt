@@ -1,14 +1,14 @@
-//! The rows of a log: what an entry of a line's history is in writing, and where the lines of a board lie.
+//! The rows of a log: what an entry of a line's history is in writing, and where a line lies.
 //!
 //! A row is words with one space between each two, ended by a line feed, at most 320 bytes. It lies in a
 //! buffer of its own, and writing it takes no memory.
 #![tactic(auto)]
 
 mod entries;
-mod layout;
+mod layouts;
 mod rows;
 mod words;
 
 pub use entries::entry_row;
-pub use layout::layout_row;
+pub use layouts::layout_row;
 pub use rows::{MAX_ROW, Row};

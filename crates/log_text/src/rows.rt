@@ -39,44 +39,41 @@ impl Row {
         ensures text { result ≡ decimal number }
         ensures short { length result ≤ 10 }
     {
-        let mut row = Row::new();
-        row.push_digits(number);
-        row
-    }
-
-    // A row that begins as those that a reader of a log passes over.
-    pub(crate) fn comment() -> Row
-        ensures text { result ≡ codes "#" }
-    {
-        let mut row = Row::new();
-        row.push_bytes(b"#");
-        row
-    }
-
-    fn new() -> Row
-        ensures text { result ≡ [] }
-    {
-        Row {
+        let mut row = Row {
             bytes: ArrayVec::new(),
-        }
+        };
+        let mut digits = Buffer::new();
+        row.push_bytes(digits.format(number).as_bytes());
+        row
+    }
+
+    // A row that no reader of a log takes for an entry: it begins with `#`.
+    pub(crate) fn begin_remark() -> Row
+        ensures { result ≡ codes "#" }
+    {
+        let mut row = Row {
+            bytes: ArrayVec::new(),
+        };
+        row.bytes.push(b'#');
+        row
     }
 
     // Adds the bytes as they are.
-    pub(crate) fn push_bytes(&mut self, bytes: &[u8])
+    fn push_bytes(&mut self, bytes: &[u8])
         requires { length self.old + length bytes.now ≤ 320 }
         ensures { self.new ≡ self.old ++ bytes.now }
     {
         self.bytes.try_extend_from_slice(bytes).unwrap();
     }
 
-    // Adds the digits of the number.
-    pub(crate) fn push_digits(&mut self, number: u32)
-        requires { length self.old ≤ 310 }
-        ensures text { self.new ≡ self.old ++ decimal number }
-        ensures grows { length self.new ≤ length self.old + 10 }
+    // Adds a space and the word, which may be long.
+    pub(crate) fn push_long_word(&mut self, word: &[u8])
+        requires { length self.old + length word.now ≤ 319 }
+        ensures text { self.new ≡ self.old ++ spaced (word.now ∷ []) }
+        ensures grows { length self.new ≤ length self.old + 1 + length word.now }
     {
-        let mut digits = Buffer::new();
-        self.push_bytes(digits.format(number).as_bytes());
+        self.bytes.push(b' ');
+        self.push_bytes(word);
     }
 
     // Adds a space and the word.
@@ -88,6 +85,20 @@ impl Row {
     {
         self.bytes.push(b' ');
         self.push_bytes(word);
+    }
+
+    // Adds a space, the name, a colon, and at once the number.
+    pub(crate) fn push_named(&mut self, name: &[u8], number: u32)
+        requires name { length name.now ≤ 16 }
+        requires room { length self.old ≤ 292 }
+        ensures text { self.new ≡ self.old ++ spaced ((name.now ++ codes ":" ++ decimal number) ∷ []) }
+        ensures grows { length self.new ≤ length self.old + 28 }
+    {
+        let mut digits = Buffer::new();
+        self.bytes.push(b' ');
+        self.push_bytes(name);
+        self.bytes.push(b':');
+        self.push_bytes(digits.format(number).as_bytes());
     }
 
     // Adds a space and the number.
@@ -106,9 +117,10 @@ impl Row {
         ensures text { self.new ≡ self.old ++ spaced ((letter ∷ decimal number) ∷ []) }
         ensures grows { length self.new ≤ length self.old + 12 }
     {
+        let mut digits = Buffer::new();
         self.bytes.push(b' ');
         self.bytes.push(letter);
-        self.push_digits(number);
+        self.push_bytes(digits.format(number).as_bytes());
     }
 
     // Adds a space and the driver.

@@ -1,7 +1,9 @@
-//! The words for what an entry answers, each of at most nine letters.
+//! The words for what an entry answers, each of at most nine letters, and for why a line has no place.
 ghost use Rattle.std.specs.Prelude.{◌≡◌, ◌≤◌, length};
+ghost use Rattle.log_text.specs.LayoutRows.{unmapped_word};
 ghost use Rattle.log_text.specs.Words.{way_word, take_word, answer_word, loop_word, mask_word, note_word, bit_word, resend_word, error_word, flags_word, unlink_word};
 
+use board_def::Unmapped;
 use irq_base::{Answer, Errno, Flags, Note, Resend, TakeAnswer, UnlinkAnswer, Way};
 
 pub(crate) fn of_way(way: Way) -> &'static [u8]
@@ -118,5 +120,17 @@ pub(crate) fn of_unlink(answer: UnlinkAnswer) -> &'static [u8]
         UnlinkAnswer::NotThere => b"notthere",
         UnlinkAnswer::Unlinked { last: true } => b"last",
         UnlinkAnswer::Unlinked { last: false } => b"more",
+    }
+}
+
+// Why a line has no place, in at most twelve letters.
+pub(crate) fn of_unmapped(why: Unmapped) -> &'static [u8]
+    ensures word { result.now ≡ unmapped_word why }
+    ensures short { length result.now ≤ 12 }
+{
+    match why {
+        Unmapped::Taken => b"taken",
+        Unmapped::OutOfRange => b"out-of-range",
+        Unmapped::NoMask => b"no-mask",
     }
 }

@@ -1,14 +1,14 @@
 use Rattle.irq_io.specs.declared.whole.WriteEnd.TheVariants as ends
+use Rattle.log_text.specs.LayoutRows.{layout_rows}
 use Rattle.log_text.specs.Rows.{history_text}
-use Rattle.irq_top.specs.Report.{layout_text}
 use Rattle.irq_top.proofs.Writing.{and_then, failed_within}
 use Rattle.irq_top.proofs.printing.print_report.Goals as goal
 
 pub returns-in-Failed-clause-content : goal.returns-in-Failed-clause-content
 returns-in-Failed-clause-content g c =
-    failed_within (g.O.Sink.written c.args.out.now) (g.O.Sink.written c.write_all.new.sink) layout_text (history_text c.args.line c.args.history.now.entries) c.in-Failed.ensures.content
+    failed_within (g.O.Sink.written c.args.out.now) (g.O.Sink.written c.print_layout.new.out) (layout_rows c.args.board.now) (history_text c.args.line c.args.history.now.entries) c.in-Failed.ensures.content
 
 pub returns-in-Done-flush-clause-content : goal.returns-in-Done-flush-clause-content
 returns-in-Done-flush-clause-content g c =
     rw c.in-Done-flush.ensures.content
-    (and_then (g.O.Sink.written c.args.out.now) (g.O.Sink.written c.write_all.new.sink) (g.O.Sink.written c.print_rows.new.out) layout_text (history_text c.args.line c.args.history.now.entries) ends.Done c.in-Done.ensures.content c.in-Done-print_rows.ensures.content)
+    (and_then (g.O.Sink.written c.args.out.now) (g.O.Sink.written c.print_layout.new.out) (g.O.Sink.written c.print_rows.new.out) (layout_rows c.args.board.now) (history_text c.args.line c.args.history.now.entries) ends.Done c.in-Done.ensures.content c.in-Done-print_rows.ensures.content)

@@ -1,0 +1,12 @@
+pub mod Lasts
+pub mod Left
+pub mod Places
+pub mod Room
+pub mod Owning
+pub mod Picking
+pub mod Drafts
+pub mod BuiltBy
+pub mod OneMore
+pub mod Ending
+pub mod ReadLines
+pub mod LinesRead

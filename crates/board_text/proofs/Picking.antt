@@ -1,0 +1,85 @@
+-- Picks are added one after another: a board with fewer of them is a board too.
+use Rattle.std.proofs.Common.{◌≡◌, ℕ, ◌+◌, ◌-◌, ◌<◌, Some, List, [], ◌∷◌, ◌++◌, All, drop, replicate, sym, ap, subst, ◌∙◌, append_assoc, arith, length-append}
+use Rattle.std.specs.List.{flat_map, slice_get}
+use Rattle.std.proofs.lemmas.List.{replicate-append-replicate, replicate_more}
+use Rattle.std.proofs.lemmas.List.Elements.{All-nil, All-cons, All-head, All-tail, All-weaker}
+use Rattle.irq_base.specs.declared.entries.Actor.{Actor}
+use Rattle.irq_base.specs.declared.entries.Actor.TheVariants as actors
+use Rattle.board_def.specs.Rules.{IsActorOf, IsBoard}
+use Rattle.board_def.specs.Seen.{BoardSeen}
+use Rattle.board_stated.specs.Stated.{actor_picked, actors_picked}
+use Rattle.board_words.specs.declared.statements.PickWord.{PickWord}
+use Rattle.board_text.proofs.Left.{left_at}
+
+abbrev pub with_picks : BoardSeen → List Actor → BoardSeen
+with_picks b picks = record b { picks = picks }
+
+actor_of : (b : BoardSeen) (xs ys : List Actor) (a : Actor) → IsActorOf (with_picks b ys) a → IsActorOf (with_picks b xs) a
+actor_of b xs ys (actors.Thread line dev) h = h
+actor_of b xs ys (actors.Cpu cpu) h = h
+actor_of b xs ys (actors.Driver driver) h = h
+
+all_before : {A : Type 0} (P : A → Type 0) (xs ys : List A) → All P (xs ++ ys) → All P xs
+all_before P [] ys h = All-nil P
+all_before P (x ∷ xs) ys h = All-cons P x xs (All-head P x (xs ++ ys) h) (all_before P xs ys (All-tail P x (xs ++ ys) h))
+
+pub fewer_picks : (b : BoardSeen) (xs ys : List Actor) → IsBoard (with_picks b (xs ++ ys)) → IsBoard (with_picks b xs)
+fewer_picks b xs ys h = record {
+  some_cpu = h.some_cpu;
+  few_cpus = h.few_cpus;
+  small_window = h.small_window;
+  limit = h.limit;
+  some_log = h.some_log;
+  small_log = h.small_log;
+  few_domains = h.few_domains;
+  few_lines = h.few_lines;
+  few_devices = h.few_devices;
+  few_drivers = h.few_drivers;
+  few_calls = h.few_calls;
+  few_picks = omega (arith, h.few_picks, length-append xs ys);
+  entries = h.entries;
+  domains = h.domains;
+  lines = λ i row at. let r = h.lines i row at in record { number = r.number; rises = r.rises; domain = r.domain; unlazy = r.unlazy; mask = r.mask };
+  devices = λ i device at. let r = h.devices i device at in record { number = r.number; rises = r.rises; line = r.line };
+  drivers = h.drivers;
+  calls = λ i call at. let r = h.calls i call at in record { driver = r.driver; in_order = r.in_order; line = r.line; device = r.device; owner = r.owner };
+  picks = All-weaker (IsActorOf (with_picks b (xs ++ ys))) (IsActorOf (with_picks b xs)) (actor_of b xs (xs ++ ys)) xs (all_before (IsActorOf (with_picks b (xs ++ ys))) xs ys h.picks);
+}
+
+-- one of n picks of an actor, after i others
+pub one_pick : (b c : BoardSeen) (a : Actor) (i n : ℕ) → i < n → c ≡ with_picks b (b.picks ++ replicate i a) → IsBoard (with_picks b (b.picks ++ replicate n a)) → IsBoard (with_picks c (c.picks ++ a ∷ []))
+one_pick b c a i n within is h =
+    let count : (i + 1) + (n - (i + 1)) ≡ n = omega arith in
+    let parts : replicate n a ≡ (replicate i a ++ a ∷ []) ++ replicate (n - (i + 1)) a =
+    ap (λ k. replicate k a) (sym count) ∙ (sym (replicate-append-replicate (i + 1) (n - (i + 1)) a) ∙ ap (λ xs. xs ++ replicate (n - (i + 1)) a) (sym (replicate_more i a))) in
+    let whole : b.picks ++ replicate n a ≡ ((b.picks ++ replicate i a) ++ a ∷ []) ++ replicate (n - (i + 1)) a =
+    ap (λ xs. b.picks ++ xs) parts ∙ simp append_assoc in
+    let fewer = fewer_picks b ((b.picks ++ replicate i a) ++ a ∷ []) (replicate (n - (i + 1)) a) (subst (λ xs. IsBoard (with_picks b xs)) whole h) in
+    subst (λ (c : BoardSeen). IsBoard (with_picks c (c.picks ++ a ∷ []))) (sym is) fewer
+
+-- the picks of the word at place i
+pub word_of_picks : (b c : BoardSeen) (a : Actor) (picks : List PickWord) (i : ℕ) (p : PickWord) → slice_get picks i ≡ Some p → c ≡ with_picks b c.picks
+    → c.picks ++ flat_map (actors_picked b.devices) (drop i picks) ≡ b.picks ++ flat_map (actors_picked b.devices) picks → a ≡ actor_picked c.devices p.who
+    → IsBoard (with_picks b (b.picks ++ flat_map (actors_picked b.devices) picks)) → IsBoard (with_picks c (c.picks ++ replicate p.times a))
+word_of_picks b c a picks i p at same left is h =
+    let devices : c.devices ≡ b.devices = ap (λ (x : BoardSeen). x.devices) same in
+    let actor : a ≡ actor_picked b.devices p.who = is ∙ ap (λ ds. actor_picked ds p.who) devices in
+    let rest = flat_map (actors_picked b.devices) (drop (i + 1) picks) in
+    let whole : (c.picks ++ replicate p.times (actor_picked b.devices p.who)) ++ rest ≡ b.picks ++ flat_map (actors_picked b.devices) picks =
+    append_assoc c.picks (replicate p.times (actor_picked b.devices p.who)) rest ∙ (ap (λ xs. c.picks ++ flat_map (actors_picked b.devices) xs) (sym (left_at picks i p at)) ∙ left) in
+    let fewer = fewer_picks b (c.picks ++ replicate p.times (actor_picked b.devices p.who)) rest (subst (λ xs. IsBoard (with_picks b xs)) (sym whole) h) in
+    rw actor (subst (λ (x : BoardSeen). IsBoard (with_picks x (c.picks ++ replicate p.times (actor_picked b.devices p.who)))) (sym same) fewer)
+
+-- and after them
+pub picks_so_far : (b c d : BoardSeen) (a : Actor) (picks : List PickWord) (i : ℕ) (p : PickWord) → slice_get picks i ≡ Some p → c ≡ with_picks b c.picks
+    → c.picks ++ flat_map (actors_picked b.devices) (drop i picks) ≡ b.picks ++ flat_map (actors_picked b.devices) picks → a ≡ actor_picked c.devices p.who
+    → d ≡ with_picks c (c.picks ++ replicate p.times a)
+    → (d ≡ with_picks b d.picks) × (d.picks ++ flat_map (actors_picked b.devices) (drop (i + 1) picks) ≡ b.picks ++ flat_map (actors_picked b.devices) picks)
+picks_so_far b c d a picks i p at same left is now =
+    let devices : c.devices ≡ b.devices = ap (λ (x : BoardSeen). x.devices) same in
+    let actor : a ≡ actor_picked b.devices p.who = is ∙ ap (λ ds. actor_picked ds p.who) devices in
+    let rest = flat_map (actors_picked b.devices) (drop (i + 1) picks) in
+    let picks_now : d.picks ≡ c.picks ++ replicate p.times (actor_picked b.devices p.who) = ap (λ (x : BoardSeen). x.picks) now ∙ ap (λ x. c.picks ++ replicate p.times x) actor in (
+      now ∙ (ap (λ (x : BoardSeen). with_picks x (c.picks ++ replicate p.times a)) same ∙ ap (with_picks b) (sym (ap (λ (x : BoardSeen). x.picks) now))),
+      ap (λ xs. xs ++ rest) picks_now ∙ (append_assoc c.picks (replicate p.times (actor_picked b.devices p.who)) rest ∙ (ap (λ xs. c.picks ++ flat_map (actors_picked b.devices) xs) (sym (left_at picks i p at)) ∙ left)),
+    )

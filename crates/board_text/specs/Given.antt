@@ -1,0 +1,36 @@
+-- What reading a text gives.
+use Rattle.std.specs.Prelude.{◌≡◌, ℕ, Some, None, Result, Ok, Err, List, []}
+use Rattle.board_def.specs.Seen.{BoardSeen}
+use Rattle.board_words.specs.declared.faults.FaultKind.{FaultKind}
+use Rattle.board_words.specs.declared.statements.Statement.{Statement}
+use Rattle.board_words.specs.declared.statements.StatementRefused.{StatementRefused}
+use Rattle.board_words.specs.declared.statements.StatementRefused.TheVariants as lines
+use Rattle.board_stated.specs.TextOf.{fault_of_line, with_line, first_fault, with_lines, whole, board_unless}
+use Rattle.board_stated.specs.declared.faults.BoardFault.{BoardFault}
+use Rattle.board_text.specs.Kept.{Keeps}
+use Rattle.board_text.specs.declared.reader.Reader.{Reader}
+use Rattle.board_text.specs.declared.reading.BoardRefused.{BoardRefused}
+use Rattle.board_text.specs.declared.reading.BoardRefused.TheVariants as texts
+
+-- the text's board, or its first fault, unless memory was refused
+abbrev pub Gives : Result BoardSeen BoardFault → Result BoardSeen BoardRefused → Type 0
+Gives told (Ok board) = told ≡ Ok board
+Gives told (Err (texts.Fault fault)) = told ≡ Err fault
+Gives told (Err texts.NoMemory) = Unit {0}
+
+-- a text line was read after those statements: it has no fault, and the reader keeps what it says; or it has that one
+abbrev pub ReadsLine : List Statement → List ℕ → Reader → Result Unit StatementRefused → Type 0
+ReadsLine past line reader (Ok done) = (fault_of_line past line ≡ None) × Keeps (with_line past line) reader
+ReadsLine past line reader (Err (lines.Fault kind)) = fault_of_line past line ≡ Some kind
+ReadsLine past line reader (Err lines.NoMemory) = Unit {0}
+
+-- all text lines were read: none has a fault, and the reader keeps what they say; or it is the first
+abbrev pub ReadsLines : List (List ℕ) → Result Reader BoardRefused → Type 0
+ReadsLines all (Ok reader) = (first_fault 1 [] all ≡ None) × Keeps (with_lines [] all) reader
+ReadsLines all (Err (texts.Fault fault)) = first_fault 1 [] all ≡ Some fault
+ReadsLines all (Err texts.NoMemory) = Unit {0}
+
+-- the text has ended after those statements
+abbrev pub Ends : List Statement → Result BoardSeen FaultKind → Type 0
+Ends past (Ok board) = board_unless None past ≡ Ok board
+Ends past (Err kind) = board_unless None past ≡ Err (whole kind)

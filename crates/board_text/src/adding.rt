@@ -1,0 +1,164 @@
+//! What a statement adds to the board so far.
+ghost use Rattle.std.specs.Prelude.{◌≡◌, ◌≤◌, ◌++◌, OnOk, replicate};
+ghost use Rattle.std.specs.List.{flat_map};
+ghost use Rattle.board_def.specs.Rules.{IsBoard};
+ghost use Rattle.board_stated.specs.Stated.{domain_row, line_row, script_call, call_of_words, line_of_call, line_of_device, line_or_none, actor_picked, actors_picked, mask_or_all};
+ghost use Rattle.board_text.specs.Kept.{drafted};
+
+use crate::faults::{domain_place, last_driver, parent_place};
+use crate::masks::all_processors;
+use board_def::{Board, DomainRow, LineRow, ScriptCall};
+use board_words::{CallWords, DomainWords, LineWords, PickList, Picked, Statement};
+use irq_base::{Actor, Call, DevNo, DeviceDef, DomainDef, LineNo, NoMemory};
+
+/// Adds to the board what the statement adds. A log limit waits for the end of the text.
+pub fn add_statement(board: &mut Board, statement: &Statement) -> Result<(), NoMemory>
+    requires { IsBoard (drafted statement.now board.old) }
+    ensures { OnOk result (board.new ≡ drafted statement.now board.old) }
+{
+    match statement {
+        Statement::Board | Statement::Log(_) => {}
+        Statement::Cpus(cpus) => board.set_cpus(*cpus),
+        Statement::Spurious { window, limit } => board.set_spurious(*window, *limit),
+        Statement::Domain(domain) => board.add_domain(domain_row(board, domain))?,
+        Statement::Line(line) => board.add_line(line_row(board, line))?,
+        Statement::Device { dev, line, kind } => board.add_device(DeviceDef {
+            dev: *dev,
+            line: *line,
+            kind: *kind,
+        })?,
+        Statement::Driver(driver) => board.add_driver(*driver)?,
+        Statement::Call(call) => board.add_call(script_call(board, *call))?,
+        Statement::Picks(picks) => add_picks(board, picks)?,
+    }
+    Ok(())
+}
+
+/// The row of a domain.
+fn domain_row(board: &Board, domain: &DomainWords) -> DomainRow
+    ensures { result ≡ domain_row board.now.domains domain.now }
+{
+    DomainRow {
+        name: domain.name,
+        def: DomainDef {
+            map: domain.map,
+            chip: domain.chip,
+            parent: parent_place(board, domain.parent),
+        },
+    }
+}
+
+/// The row of a line.
+fn line_row(board: &Board, line: &LineWords) -> LineRow
+    ensures { result ≡ line_row board.now line.now }
+{
+    LineRow {
+        line: line.line,
+        domain: domain_place(board, line.domain),
+        hw: line.hw,
+        unlazy: line.unlazy,
+        later: line.later,
+        mask: mask_or_all(board, line.mask),
+    }
+}
+
+/// The mask that is written, or that of all processors.
+fn mask_or_all(board: &Board, mask: Option<u32>) -> u32
+    ensures { result ≡ mask_or_all board.now.cpus mask }
+{
+    board.is_board();
+    match mask {
+        Some(mask) => mask,
+        None => all_processors(board.cpus()),
+    }
+}
+
+/// A call of the last driver.
+pub fn script_call(board: &Board, call: CallWords) -> ScriptCall
+    ensures { result ≡ script_call board.now call }
+{
+    ScriptCall {
+        driver: last_driver(board),
+        line: line_of_call(board, call),
+        call: call_of_words(call),
+    }
+}
+
+/// The call that the words say.
+pub fn call_of_words(call: CallWords) -> Call
+    ensures { result ≡ call_of_words call }
+{
+    match call {
+        CallWords::Request { dev, flags, .. } => Call::Request { dev, flags },
+        CallWords::Free { dev } => Call::Free { dev },
+        CallWords::Ask { dev } => Call::Ask { dev },
+        CallWords::Disable { .. } => Call::Disable,
+        CallWords::DisableNosync { .. } => Call::DisableNosync,
+        CallWords::Enable { .. } => Call::Enable,
+        CallWords::Sync { .. } => Call::Sync,
+        CallWords::Affinity { mask, .. } => Call::Affinity { mask },
+    }
+}
+
+/// The line that the call is about.
+fn line_of_call(board: &Board, call: CallWords) -> LineNo
+    ensures { result ≡ line_of_call board.now.devices call }
+{
+    match call {
+        CallWords::Request { dev, .. } | CallWords::Free { dev } | CallWords::Ask { dev } => {
+            line_of_device(board, dev)
+        }
+        CallWords::Disable { line }
+        | CallWords::DisableNosync { line }
+        | CallWords::Enable { line }
+        | CallWords::Sync { line }
+        | CallWords::Affinity { line, .. } => line,
+    }
+}
+
+/// The line of the device; 0 where it isn't declared.
+fn line_of_device(board: &Board, dev: DevNo) -> LineNo
+    ensures { result ≡ line_of_device board.now.devices dev }
+{
+    match board.find_device(dev) {
+        Some(device) => device.line,
+        None => LineNo(0),
+    }
+}
+
+/// Adds the picks, each as often as it says.
+#[tactic(auto, using(std::proofs::lemmas::List::drop_all))]
+fn add_picks(board: &mut Board, picks: &PickList) -> Result<(), NoMemory>
+    requires { IsBoard (record board.old { picks = board.old.picks ++ flat_map (actors_picked board.old.devices) picks.now }) }
+    ensures { OnOk result (board.new ≡ record board.old { picks = board.old.picks ++ flat_map (actors_picked board.old.devices) picks.now }) }
+{
+    for i in 0..picks.len() {
+        if let Some(pick) = picks.get(i) {
+            let actor = actor_picked(board, pick.who);
+            add_pick_times(board, actor, pick.times)?;
+        }
+    }
+    Ok(())
+}
+
+/// Adds so many picks of the one actor.
+fn add_pick_times(board: &mut Board, actor: Actor, times: u32) -> Result<(), NoMemory>
+    requires { IsBoard (record board.old { picks = board.old.picks ++ replicate times actor }) }
+    ensures { OnOk result (board.new ≡ record board.old { picks = board.old.picks ++ replicate times actor }) }
+{
+    for i in 0..times {
+        board.add_pick(actor)?;
+    }
+    Ok(())
+}
+
+/// The actor that is picked.
+fn actor_picked(board: &Board, who: Picked) -> Actor
+    ensures { result ≡ actor_picked board.now.devices who }
+{
+    match who {
+        Picked::Thread(dev) => Actor::Thread(line_of_device(board, dev), dev),
+        Picked::Cpu(cpu) => Actor::Cpu(cpu),
+        Picked::Driver(driver) => Actor::Driver(driver),
+    }
+}

@@ -1,0 +1,270 @@
+//! What is wrong with a statement on the board so far.
+ghost use Rattle.std.specs.Prelude.{◌≡◌, ◌<◌, not, nat_lt, ◌+◌, is_none, is_some};
+ghost use Rattle.std.specs.List.{list_any};
+ghost use Rattle.board_def.specs.Rules.{has_name, has_line, has_driver};
+ghost use Rattle.board_stated.specs.FaultsAfter.{last_line, last_device, is_misplaced, is_not_there, names_nothing, picks_nothing, has_no_device, has_bad_parent, has_bad_unlazy, has_bad_mask, is_mask_empty, is_one_too_many, count_of_picks, is_parent_missing, has_no_thread};
+ghost use Rattle.board_stated.specs.Stated.{last_driver, parent_place, place_or_first, place_of_name};
+ghost use Rattle.irq_base.specs.Handlers.{has_thread};
+
+use crate::masks::has_processor;
+use board_def::{Board, Name};
+use board_words::{CallWords, PickList, Picked, Statement};
+use irq_base::{DevNo, DriverNo, Kind, LineNo};
+
+/// The most domains of a board.
+const MOST_DOMAINS: usize = 32;
+
+/// The most lines of a board.
+const MOST_LINES: usize = 64;
+
+/// The most devices of a board.
+const MOST_DEVICES: usize = 256;
+
+/// The most drivers of a board.
+const MOST_DRIVERS: usize = 64;
+
+/// The most calls of a board's scripts.
+const MOST_CALLS: usize = 16_384;
+
+/// The most picks of a board.
+const MOST_PICKS: usize = 65_536;
+
+/// Whether its number isn't above the last one of its kind, or it is a call before any driver.
+pub fn is_misplaced(board: &Board, statement: &Statement) -> bool
+    ensures { result ≡ is_misplaced board.now statement.now }
+{
+    match statement {
+        Statement::Line(line) => line.line.0 <= last_line(board),
+        Statement::Device { dev, .. } => dev.0 <= last_device(board),
+        Statement::Driver(driver) => driver.0 <= last_driver(board).0,
+        Statement::Call(_) => board.drivers_len() == 0,
+        _ => false,
+    }
+}
+
+/// The number of the last line, or 0.
+#[tactic(auto, using(crate::proofs::Lasts::last_line_is))]
+fn last_line(board: &Board) -> u32
+    ensures { result ≡ last_line board.now.lines }
+{
+    match board.last_line() {
+        Some(line) => line.0,
+        None => 0,
+    }
+}
+
+/// The number of the last device, or 0.
+#[tactic(auto, using(crate::proofs::Lasts::last_device_is))]
+fn last_device(board: &Board) -> u32
+    ensures { result ≡ last_device board.now.devices }
+{
+    match board.last_device() {
+        Some(dev) => dev.0,
+        None => 0,
+    }
+}
+
+/// The driver whose script is written: the last one; 0 before any.
+#[tactic(auto, using(crate::proofs::Lasts::last_driver_is))]
+pub fn last_driver(board: &Board) -> DriverNo
+    ensures { result ≡ last_driver board.now.drivers }
+{
+    board.last_driver().unwrap_or(DriverNo(0))
+}
+
+/// Whether it names a domain, line, device, processor or driver that isn't declared, or picks a thread that isn't
+/// there.
+pub fn is_not_there(board: &Board, statement: &Statement) -> bool
+    ensures { result ≡ is_not_there board.now statement.now }
+{
+    match statement {
+        Statement::Domain(domain) => is_parent_missing(board, domain.parent),
+        Statement::Line(line) => !has_name(board, line.domain),
+        Statement::Device { line, .. } => !has_line(board, *line),
+        Statement::Call(call) => names_nothing(board, *call),
+        Statement::Picks(picks) => any_picks_nothing(board, picks),
+        _ => false,
+    }
+}
+
+fn is_parent_missing(board: &Board, parent: Option<Name>) -> bool
+    ensures { result ≡ is_parent_missing board.now.domains parent }
+{
+    match parent {
+        Some(name) => !has_name(board, name),
+        None => false,
+    }
+}
+
+/// Whether a domain has that name.
+#[tactic(auto, using(board_def::proofs::Finds::has_name_place))]
+pub fn has_name(board: &Board, name: Name) -> bool
+    ensures { result ≡ has_name board.now.domains name }
+{
+    board.find_domain(&name).is_some()
+}
+
+/// Whether a line has that number.
+#[tactic(auto, using(board_def::proofs::Finds::has_line_found))]
+fn has_line(board: &Board, line: LineNo) -> bool
+    ensures { result ≡ has_line board.now.lines line }
+{
+    board.find_line(line).is_some()
+}
+
+/// Whether no device has that number.
+fn has_no_device(board: &Board, dev: DevNo) -> bool
+    ensures { result ≡ has_no_device board.now dev }
+{
+    board.find_device(dev).is_none()
+}
+
+/// Whether the call is about no device or line of the board.
+fn names_nothing(board: &Board, call: CallWords) -> bool
+    ensures { result ≡ names_nothing board.now call }
+{
+    match call {
+        CallWords::Request { dev, .. } | CallWords::Free { dev } | CallWords::Ask { dev } => {
+            has_no_device(board, dev)
+        }
+        CallWords::Disable { line }
+        | CallWords::DisableNosync { line }
+        | CallWords::Enable { line }
+        | CallWords::Sync { line }
+        | CallWords::Affinity { line, .. } => !has_line(board, line),
+    }
+}
+
+#[tactic(auto, using(crate::proofs::Left::left_at, crate::proofs::Left::item_there, std::proofs::lemmas::List::drop_all))]
+fn any_picks_nothing(board: &Board, picks: &PickList) -> bool
+    ensures { result ≡ list_any (λ p. picks_nothing board.now p.who) picks.now }
+{
+    for i in 0..picks.len() {
+        if let Some(pick) = picks.get(i) {
+            if picks_nothing(board, pick.who) {
+                return true;
+            }
+        }
+    }
+    false
+}
+
+/// Whether there is no such actor.
+fn picks_nothing(board: &Board, who: Picked) -> bool
+    ensures { result ≡ picks_nothing board.now who }
+{
+    match who {
+        Picked::Thread(dev) => match board.find_device(dev) {
+            Some(device) => !has_thread(device.kind),
+            None => true,
+        },
+        Picked::Cpu(cpu) => board.cpus() <= cpu.0,
+        Picked::Driver(driver) => !board.has_driver(driver),
+    }
+}
+
+/// Whether devices of that kind have a thread.
+fn has_thread(kind: Kind) -> bool
+    ensures { result ≡ has_thread kind }
+{
+    match kind {
+        Kind::Check | Kind::Null => true,
+        Kind::Direct | Kind::Stuck => false,
+    }
+}
+
+/// Whether the kind of a domain's level doesn't allow its parent.
+pub fn has_bad_parent(board: &Board, statement: &Statement) -> bool
+    ensures { result ≡ has_bad_parent board.now statement.now }
+{
+    match statement {
+        Statement::Domain(domain) => {
+            board.has_bad_parent(domain.chip, parent_place(board, domain.parent))
+        }
+        _ => false,
+    }
+}
+
+/// The place of the domain that is named as a parent.
+#[tactic(auto, using(crate::proofs::Places::place_found))]
+pub fn parent_place(board: &Board, parent: Option<Name>) -> Option<usize>
+    ensures { result ≡ parent_place board.now.domains parent }
+{
+    match parent {
+        Some(name) => board.find_domain(&name),
+        None => None,
+    }
+}
+
+/// Whether a line is unlazy that may not be.
+pub fn has_bad_unlazy(board: &Board, statement: &Statement) -> bool
+    ensures { result ≡ has_bad_unlazy board.now statement.now }
+{
+    match statement {
+        Statement::Line(line) => board.is_bad_unlazy(domain_place(board, line.domain), line.unlazy),
+        _ => false,
+    }
+}
+
+/// The place of the domain of that name, or 0.
+#[tactic(auto, using(crate::proofs::Places::place_or_first_found))]
+pub fn domain_place(board: &Board, name: Name) -> usize
+    ensures { result ≡ place_or_first (place_of_name board.now.domains name) }
+{
+    board.find_domain(&name).unwrap_or(0)
+}
+
+/// Whether a line's mask has no processor of the machine.
+pub fn has_bad_mask(board: &Board, statement: &Statement) -> bool
+    ensures { result ≡ has_bad_mask board.now statement.now }
+{
+    match statement {
+        Statement::Line(line) => is_mask_empty(board, line.mask),
+        _ => false,
+    }
+}
+
+fn is_mask_empty(board: &Board, mask: Option<u32>) -> bool
+    ensures { result ≡ is_mask_empty board.now.cpus mask }
+{
+    board.is_board();
+    match mask {
+        Some(mask) => !has_processor(board.cpus(), mask),
+        None => false,
+    }
+}
+
+/// Whether it declares one more of its kind than a board may have.
+pub fn is_one_too_many(board: &Board, statement: &Statement) -> bool
+    ensures { result ≡ is_one_too_many board.now statement.now }
+{
+    match statement {
+        Statement::Domain(_) => board.domains_len() >= MOST_DOMAINS,
+        Statement::Line(_) => board.lines_len() >= MOST_LINES,
+        Statement::Device { .. } => board.devices_len() >= MOST_DEVICES,
+        Statement::Driver(_) => board.drivers_len() >= MOST_DRIVERS,
+        Statement::Call(_) => board.calls_len() >= MOST_CALLS,
+        Statement::Picks(picks) => has_no_room(board.picks_len(), picks),
+        _ => false,
+    }
+}
+
+/// Whether the picks, after that many others, are more than a board may have.
+#[tactic(auto, using(crate::proofs::Left::left_at, crate::proofs::Left::item_there, std::proofs::lemmas::List::drop_all))]
+fn has_no_room(len: usize, picks: &PickList) -> bool
+    ensures { result ≡ nat_lt 65536 (len + count_of_picks picks.now) }
+{
+    let Some(mut room) = MOST_PICKS.checked_sub(len) else {
+        return true;
+    };
+    for i in 0..picks.len() {
+        if let Some(pick) = picks.get(i) {
+            let times = pick.times as usize;
+            if times > room {
+                return true;
+            }
+            room -= times;
+        }
+    }
+    false
+}

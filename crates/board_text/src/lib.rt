@@ -1,0 +1,23 @@
+//! Reading a board's text: the board that it states, or the text's first fault.
+//!
+//! A text is read once, line by line, in time linear in its bytes; a first look at it only finds whether it has a
+//! statement at all. Each statement is judged against the board that the statements before it state, and then added
+//! to it.
+#![tactic(auto)]
+
+pub mod adding;
+pub mod built;
+pub mod faults;
+pub mod masks;
+pub mod owners;
+pub mod reader;
+pub mod reading;
+pub mod sections;
+pub mod stood;
+
+pub use board_stated::BoardFault;
+pub use board_words::FaultKind;
+pub use reading::{BoardRefused, LONGEST_TEXT, read_board};
+
+#[cfg(test)]
+mod tests;

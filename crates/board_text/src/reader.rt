@@ -1,0 +1,225 @@
+//! The reader: the board that the statements so far state, and what it keeps of them to judge the next one.
+ghost use Rattle.std.specs.Prelude.{◌≡◌, List, [], ◌∷◌, ◌&&◌, not, OnOk};
+ghost use Rattle.board_stated.specs.FaultsAfter.{is_empty, is_out_of_order, is_twice, has_bad_owner, has_flag_twice, fault_after};
+ghost use Rattle.board_stated.specs.Stated.{board_of, with_statement};
+ghost use Rattle.board_stated.specs.TextOf.{begins_with_board};
+ghost use Rattle.board_words.specs.Seen.{words_left};
+ghost use Rattle.board_text.specs.Kept.{Agrees, Keeps, IsKept, IsNext, log_after};
+ghost use Rattle.board_text.specs.Given.{Ends, ReadsLine};
+ghost use Rattle.board_text.specs.Owned.{Owns};
+ghost use Rattle.board_words.specs.declared.statements.Statement.{Statement};
+
+use crate::adding::{add_statement, call_of_words, script_call};
+use crate::built::is_built;
+use crate::faults::{
+    has_bad_mask, has_bad_parent, has_bad_unlazy, has_name, is_misplaced, is_not_there,
+    is_one_too_many, last_driver,
+};
+use crate::owners::Owners;
+use crate::sections::Section;
+use crate::stood::Stood;
+use board_def::Board;
+use board_words::{
+    CallWords, FaultKind, Statement, StatementRefused, Words, has_bad_byte, read_statement,
+};
+use irq_base::NoMemory;
+use std::alloc::Global;
+
+/// The least log limit, which the board has until the text has ended: the rule on it counts the lines of the whole
+/// text.
+const LEAST_LOG: u32 = 1;
+
+/// The most entries of all histories together.
+const MOST_ENTRIES: u64 = 4_000_000;
+
+/// What has been read.
+#[derive(Drop)]
+pub struct Reader {
+    /// The board so far, but for its log limit.
+    board: Board,
+    /// The log limit so far.
+    log: u32,
+    /// The section of the last statement.
+    section: Section,
+    /// Which statements have stood.
+    stood: Stood,
+    /// Who owns the devices.
+    owners: Owners,
+}
+
+impl Reader {
+    /// Before the first statement.
+    pub fn new(alloc: Global) -> Reader
+        ensures { Keeps [] result }
+    {
+        Reader {
+            board: Board::new(alloc, 1, 100_000, 99_900, LEAST_LOG),
+            log: 10_000,
+            section: Section::Header,
+            stood: Stood::new(),
+            owners: Owners::new(alloc),
+        }
+    }
+
+    /// Reads a text line. After a fault, or where memory was refused, the reader is of no more use.
+    pub fn read_line(&mut self, alloc: Global, line: &[u8]) -> Result<(), StatementRefused>
+        requires { IsKept self.old }
+        ensures { (past : List Statement) → Keeps past self.old → ReadsLine past line.now self.new result }
+    {
+        if has_bad_byte(line) {
+            return Err(StatementRefused::Fault(FaultKind::BadByte));
+        }
+        let words = Words::of_line(line);
+        if words.is_empty() {
+            return Ok(());
+        }
+        if self.lacks_header(words) {
+            return Err(StatementRefused::Fault(FaultKind::NoHeader));
+        }
+        let statement = read_statement(alloc, words)?;
+        if let Some(kind) = self.fault_of(&statement) {
+            return Err(StatementRefused::Fault(kind));
+        }
+        match self.add(&statement) {
+            Ok(()) => Ok(()),
+            Err(_) => Err(StatementRefused::NoMemory),
+        }
+    }
+
+    /// Whether the words are the first statement, and no header.
+    #[tactic(auto, using(crate::proofs::ReadLines::header_same))]
+    fn lacks_header(&self, words: Words<'_>) -> bool
+        ensures { (past : List Statement) → Agrees past self.now → result ≡ (is_empty past && not (begins_with_board (words_left words.entry))) }
+    {
+        !self.stood.begun && !words.is_header()
+    }
+
+    /// What is wrong with the statement after those so far.
+    #[tactic(auto, using(crate::proofs::Drafts::not_there_read, crate::proofs::Drafts::parent_read, crate::proofs::Drafts::unlazy_read, crate::proofs::Drafts::mask_read, crate::proofs::Drafts::room_read))]
+    fn fault_of(&self, statement: &Statement) -> Option<FaultKind>
+        ensures { (past : List Statement) → Agrees past self.now → result ≡ fault_after past statement.now }
+    {
+        if self.is_out_of_order(statement) {
+            return Some(FaultKind::OutOfOrder);
+        }
+        if self.is_twice(statement) {
+            return Some(FaultKind::Twice);
+        }
+        if is_not_there(&self.board, statement) {
+            return Some(FaultKind::NotThere);
+        }
+        if has_bad_parent(&self.board, statement) {
+            return Some(FaultKind::BadParent);
+        }
+        if has_bad_unlazy(&self.board, statement) {
+            return Some(FaultKind::BadUnlazy);
+        }
+        if has_bad_mask(&self.board, statement) {
+            return Some(FaultKind::BadMask);
+        }
+        if self.has_bad_owner(statement) {
+            return Some(FaultKind::BadOwner);
+        }
+        if is_one_too_many(&self.board, statement) {
+            return Some(FaultKind::TooMany);
+        }
+        None
+    }
+
+    /// Whether it is of an earlier section, or isn't at its place within its section.
+    fn is_out_of_order(&self, statement: &Statement) -> bool
+        ensures { (past : List Statement) → Agrees past self.now → result ≡ is_out_of_order past statement.now }
+    {
+        Section::of(statement).is_before(self.section) || is_misplaced(&self.board, statement)
+    }
+
+    /// Whether a setting, a domain's name or an option stands again.
+    fn is_twice(&self, statement: &Statement) -> bool
+        ensures { (past : List Statement) → Agrees past self.now → result ≡ is_twice past statement.now }
+    {
+        match statement {
+            Statement::Domain(domain) => has_name(&self.board, domain.name) || domain.twice,
+            Statement::Line(line) => line.twice,
+            Statement::Call(call) => has_flag_twice(*call),
+            _ => self.stood.has_setting(statement),
+        }
+    }
+
+    /// Whether it breaks the rule of ownership.
+    fn has_bad_owner(&self, statement: &Statement) -> bool
+        ensures { (past : List Statement) → Agrees past self.now → result ≡ has_bad_owner (board_of past) statement.now }
+    {
+        match statement {
+            Statement::Call(call) => {
+                self.owners
+                    .forbid(last_driver(&self.board), call_of_words(*call))
+            }
+            _ => false,
+        }
+    }
+
+    /// Adds a statement without a fault.
+    fn add(&mut self, statement: &Statement) -> Result<(), NoMemory>
+        requires { IsNext self.old statement.now }
+        ensures { (past : List Statement) → Agrees past self.old → OnOk result (Agrees (statement.now ∷ past) self.new) }
+    {
+        note_owner(&mut self.owners, &self.board, statement)?;
+        add_statement(&mut self.board, statement)?;
+        self.log = log_after(self.log, statement);
+        self.section = Section::of(statement);
+        self.stood = self.stood.with(statement);
+        Ok(())
+    }
+
+    /// The board of the whole text, where no statement had a fault.
+    pub fn end(self) -> Result<Board, FaultKind>
+        requires { IsKept self }
+        ensures { (past : List Statement) → Keeps past self → Ends past result }
+    {
+        let Reader {
+            mut board,
+            log,
+            stood,
+            ..
+        } = self;
+        board.is_board();
+        if u64::from(log) * board.lines_len() as u64 > MOST_ENTRIES {
+            return Err(FaultKind::LogTooLarge);
+        }
+        if !is_built(&board, stood) {
+            return Err(FaultKind::NotBuilt);
+        }
+        board.set_log(log);
+        Ok(board)
+    }
+}
+
+/// Whether an option of the call stands again.
+fn has_flag_twice(call: CallWords) -> bool
+    ensures { result ≡ has_flag_twice call }
+{
+    match call {
+        CallWords::Request { twice, .. } => twice,
+        _ => false,
+    }
+}
+
+/// Takes note of the statement's call, if it is one.
+fn note_owner(owners: &mut Owners, board: &Board, statement: &Statement) -> Result<(), NoMemory>
+    ensures { Owns owners.old board.now.calls → OnOk result (Owns owners.new (with_statement statement.now board.now).calls) }
+{
+    match statement {
+        Statement::Call(call) => owners.note(&script_call(board, *call)),
+        _ => Ok(()),
+    }
+}
+
+/// The log limit after the statement.
+fn log_after(log: u32, statement: &Statement) -> u32
+    ensures { result ≡ log_after log statement.now }
+{
+    match statement {
+        Statement::Log(log) => *log,
+        _ => log,
+    }
+}

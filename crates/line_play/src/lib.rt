@@ -1,0 +1,15 @@
+//! Plays a line by itself: first the steps of the actors that are picked, then always that of the lowest actor
+//! that can move, until none can.
+#![tactic(auto)]
+
+pub mod actors;
+pub mod numbers;
+pub mod plays;
+
+pub use actors::actors_of;
+pub use plays::{PlayEnd, play};
+
+#[cfg(test)]
+mod orders;
+#[cfg(test)]
+mod tests;
