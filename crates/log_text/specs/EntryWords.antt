@@ -40,3 +40,15 @@ abbrev pub IsPrintable : Entry → Type 0
 IsPrintable (entries.Request driver dev flags (links.Refused errno) opened) = opened ≡ openings.No
 IsPrintable (entries.Affinity driver mask (affinities.Refused errno)) = errno ≡ errnos.Inval
 IsPrintable _ = Unit {0}
+
+-- a driver made the entry, and no processor and no thread
+abbrev pub IsByDriver : Entry → Type 0
+IsByDriver (entries.Take cpu way answer) = ⊥
+IsByDriver (entries.Begin cpu dev) = ⊥
+IsByDriver (entries.Return cpu dev answer served) = ⊥
+IsByDriver (entries.End cpu again unmask note) = ⊥
+IsByDriver (entries.ThreadBegin dev) = ⊥
+IsByDriver (entries.ThreadReturn dev served) = ⊥
+IsByDriver (entries.Finish dev kept unmask) = ⊥
+IsByDriver (entries.Done dev) = ⊥
+IsByDriver _ = Unit {0}

@@ -1,7 +1,7 @@
 //! The row of an entry.
 ghost use Rattle.std.specs.Prelude.{◌≡◌, ◌≤◌, [], ◌∷◌, ◌++◌, length, codes};
 ghost use Rattle.log_text.specs.Words.{driver_word, cpu_word, thread_word, resend_word, error_word, opened_words};
-ghost use Rattle.log_text.specs.EntryWords.{entry_words, IsPrintable};
+ghost use Rattle.log_text.specs.EntryWords.{entry_words, IsByDriver, IsPrintable};
 ghost use Rattle.log_text.specs.Rows.{entry_text};
 ghost use Rattle.log_text.specs.Spaced.{spaced};
 
@@ -33,7 +33,6 @@ fn push_entry(row: &mut Row, e: &Entry)
     ensures short { length row.new ≤ 100 }
 {
     match *e {
-        Entry::Ask { driver, dev } => push_ask(row, driver, dev),
         Entry::Take { cpu, way, answer } => push_take(row, cpu, way, answer),
         Entry::Begin { cpu, dev } => push_begin(row, cpu, dev),
         Entry::Return {
@@ -52,6 +51,19 @@ fn push_entry(row: &mut Row, e: &Entry)
         Entry::ThreadReturn { dev, served } => push_thread_return(row, dev, served),
         Entry::Finish { dev, kept, unmask } => push_finish(row, dev, kept, unmask),
         Entry::Done { dev } => push_thread_verb(row, dev, b"done"),
+        _ => push_driver_entry(row, e),
+    }
+}
+
+// Adds the words of an entry that a driver made.
+fn push_driver_entry(row: &mut Row, e: &Entry)
+    requires room { length row.old ≤ 10 }
+    requires driver { IsByDriver e.now }
+    ensures text { row.new ≡ row.old ++ spaced (entry_words e.now) }
+    ensures short { length row.new ≤ 100 }
+{
+    match *e {
+        Entry::Ask { driver, dev } => push_ask(row, driver, dev),
         Entry::Disable { driver } => push_driver_verb(row, driver, b"disable"),
         Entry::HardClear { driver } => push_driver_verb(row, driver, b"hardclear"),
         Entry::Synced { driver } => push_driver_verb(row, driver, b"synced"),
@@ -75,6 +87,7 @@ fn push_entry(row: &mut Row, e: &Entry)
             answer,
         } => push_affinity(row, driver, mask, answer),
         Entry::Moment { driver, at } => push_moment(row, driver, at),
+        _ => unreachable!(),
     }
 }
 
