@@ -1,8 +1,7 @@
 -- The levels of a board's paths, and their names.
-use Rattle.std.proofs.Common.{◌≡◌, ℕ, zero, suc, ◌≤◌, ◌<◌, ◌+◌, Bool, true, false, ◌&&◌, nat_lt, Option, Some, None, List, [], ◌∷◌, ◌++◌, length, slice_get, map, take, codes, decimal, refl, sym, ap, ◌∙◌, subst, append_assoc, arith}
+use Rattle.std.proofs.Common.{◌≡◌, ℕ, zero, suc, ◌≤◌, ◌<◌, Bool, true, false, ◌&&◌, Option, Some, None, List, [], ◌∷◌, ◌++◌, length, slice_get, codes, decimal, refl, sym, ap, ◌∙◌, append_assoc, arith}
 use Rattle.std.specs.List.{list_all}
 use Rattle.std.proofs.lemmas.Bool.{ltb-true}
-use Rattle.irq_base.specs.declared.numbers.LineNo.{LineNo}
 use Rattle.board_def.proofs.Paths.{has_path}
 use Rattle.board_def.specs.Layout.{layout_of, layout_after, placement_of}
 use Rattle.board_def.specs.Names.{is_letter, is_name, is_name_byte, name_bytes}
@@ -13,7 +12,7 @@ use Rattle.board_def.specs.declared.layouts.Placement.TheVariants as placements
 use Rattle.board_def.specs.declared.rows.DomainRow.{DomainRow}
 use Rattle.board_def.specs.declared.rows.LineRow.{LineRow}
 use Rattle.log_text.proofs.Spacing.{joined, spaced_two}
-use Rattle.log_text.specs.LayoutRows.{IsShort, level_word, placement_words, layout_text, text_of_both, layout_row_text}
+use Rattle.log_text.specs.LayoutRows.{IsShort, placement_words, text_of_both, layout_row_text}
 use Rattle.log_text.specs.Spaced.{spaced}
 
 right : (a b : Bool) → (a && b) ≡ true → b ≡ true

@@ -1,2 +1,3 @@
 pub mod Spacing
 mod Levels
+mod TestBoards

@@ -84,3 +84,6 @@ fn push_level(row: &mut Row, board: &Board, level: (usize, u32))
         None => row.push_named(b"", number),
     }
 }
+
+#[cfg(test)]
+mod tests;

@@ -1,4 +1,4 @@
-use Rattle.std.proofs.Common.{◌≡◌, ◌∙◌, sym, arith}
+use Rattle.std.proofs.Common.{◌∙◌, sym, arith}
 use Rattle.log_text.proofs.Levels.{layout_length, none_there}
 use Rattle.log_text.proofs.layouts.layout_row.Goals as goal
 

@@ -1,4 +1,4 @@
-use Rattle.std.proofs.Common.{◌≡◌, ◌++◌, ◌∷◌, [], ◌∙◌, ap, sym, take, map, append_assoc, arith}
+use Rattle.std.proofs.Common.{◌++◌, ◌∷◌, [], ◌∙◌, ap, sym, take, map, append_assoc, arith}
 use Rattle.log_text.proofs.Spacing.{spaced_more}
 use Rattle.log_text.specs.LayoutRows.{level_word}
 use Rattle.log_text.specs.Spaced.{spaced}
