@@ -1,5 +1,5 @@
 -- The line of a board that can be played so far is one of those that can be made, and it has a way.
-use Rattle.std.proofs.Common.{◌≡◌, ℕ, zero, suc, ◌+◌, ◌<◌, ◌≤◌, ◌%◌, ◌==◌, Bool, true, false, not, ◌&&◌, ◌||◌, cond, nat_le, Option, Some, None, List, [], ◌∷◌, length, map, filter, slice_get, refl, sym, ap, ◌∙◌, subst, arith}
+use Rattle.std.proofs.Common.{◌≡◌, ℕ, ◌+◌, ◌<◌, ◌≤◌, ◌%◌, ◌==◌, Bool, true, false, not, ◌||◌, cond, nat_le, Some, None, List, [], ◌∷◌, length, filter, slice_get, refl, sym, ap, ◌∙◌, subst, arith}
 use Rattle.std.specs.List.{All}
 use Rattle.std.proofs.lemmas.Bool.Decides.{nat_tests}
 use Rattle.std.proofs.lemmas.List.Elements.{All-map, All-filter}
@@ -11,10 +11,9 @@ use Rattle.irq_base.specs.declared.devices.Kind.TheVariants as kinds
 use Rattle.irq_base.specs.declared.domains.LevelKind.{LevelKind}
 use Rattle.irq_base.specs.declared.domains.LevelKind.TheVariants as levels
 use Rattle.irq_base.specs.declared.domains.MapKind.TheVariants as maps
-use Rattle.irq_base.specs.declared.lines.LineDef.{LineDef}
 use Rattle.irq_base.specs.declared.numbers.DriverNo.{DriverNo}
 use Rattle.irq_base.specs.declared.numbers.LineNo.{LineNo}
-use Rattle.irq_model.specs.Bounds.{is_ask_call, ask_calls}
+use Rattle.irq_model.specs.Bounds.{is_ask_call}
 use Rattle.irq_model.specs.Places.{count_of}
 use Rattle.irq_model.specs.Valid.{IsValid}
 use Rattle.board_def.specs.Layout.{layout_of, layout_after, placement_of, IsPathOf}

@@ -1,5 +1,5 @@
 -- What a whole call comes to.
-use Rattle.std.proofs.Common.{◌≡◌, ℕ, Bool, true, false, Option, Some, None, Ok, List, ◌⊎◌, inl, inr}
+use Rattle.std.proofs.Common.{◌≡◌, ℕ, true, false, Option, Some, None, Ok, List, ◌⊎◌, inl, inr}
 use Rattle.irq_base.specs.declared.reporting.LineReport.{LineReport}
 use Rattle.board_def.specs.Rules.{IsBoard}
 use Rattle.board_def.specs.Seen.{BoardSeen}

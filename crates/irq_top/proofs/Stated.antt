@@ -1,6 +1,6 @@
 -- A board's text isn't longer than what is read, so reading it reaches the end of the source; and a text that was cut
 -- is too long as a whole too.
-use Rattle.std.proofs.Common.{◌≡◌, ℕ, ◌+◌, ◌<◌, ◌≤◌, Bool, true, false, cond, nat_lt, Option, Some, None, Result, Ok, Err, List, [], ◌++◌, take, drop, length, refl, sym, ap, ◌∙◌, subst, inl, inr, ◌⊎◌, arith, length-take}
+use Rattle.std.proofs.Common.{◌≡◌, ℕ, ◌+◌, ◌<◌, ◌≤◌, Bool, true, false, cond, nat_lt, Option, Some, None, Result, Ok, Err, List, [], take, length, refl, sym, ap, ◌∙◌, inl, inr, ◌⊎◌, arith, length-take}
 use Rattle.std.proofs.lemmas.List.{take_all, drop_all}
 use Rattle.std.proofs.lemmas.Bool.{ltb-true}
 use Rattle.std.proofs.lemmas.Bool.Decides.{nat_tests}
@@ -11,7 +11,7 @@ use Rattle.board_words.specs.Lines.{text_lines}
 use Rattle.board_stated.specs.TextOf.{board_of_text, board_unless, fault_of_lines, with_lines, whole, longest_text}
 use Rattle.board_stated.specs.declared.faults.BoardFault.{BoardFault}
 use Rattle.irq_top.specs.declared.inputs.InputRefused.TheVariants as refusals
-use Rattle.irq_top.specs.Reading.{IsTold, IsStated, ReadsBoard}
+use Rattle.irq_top.specs.Reading.{IsStated, ReadsBoard}
 
 first_of : {A : Type 0} (b : Bool) (x y : A) → b ≡ true → cond b x y ≡ x
 first_of true x y h = refl

@@ -1,5 +1,5 @@
 -- How the top call ends, by its ending: the exit status, the row on the error sink, and what holds then.
-use Rattle.std.specs.Prelude.{◌≡◌, ℕ, Bool, true, false, Option, Some, None, Result, Ok, Err, List, [], ◌++◌, codes, decimal}
+use Rattle.std.specs.Prelude.{◌≡◌, ℕ, Bool, true, false, Option, Some, None, Ok, Err, List, [], ◌++◌, codes, decimal}
 use Rattle.irq_base.specs.declared.numbers.LineNo.{LineNo}
 use Rattle.irq_io.specs.Faults.{Counts}
 use Rattle.irq_io.specs.Whole.{WritesAll, writing_failed}

@@ -1,7 +1,6 @@
 use Rattle.std.proofs.Common.{◌∙◌, ap, sym}
 use Rattle.board_stated.specs.TextOf.{board_of_text}
 use Rattle.board_stated.proofs.Built.{built_of_text}
-use Rattle.board_text.specs.Given.{Gives}
 use Rattle.irq_top.proofs.Stated.{content, refused, stated}
 use Rattle.irq_top.proofs.inputs.read_input.Goals as goal
 

@@ -1,6 +1,5 @@
-use Rattle.std.proofs.Common.{◌∙◌, ap, sym, subst, List}
+use Rattle.std.proofs.Common.{◌∙◌, sym, subst, List}
 use Rattle.irq_base.specs.declared.entries.Actor.{Actor}
-use Rattle.irq_base.specs.declared.lines.LineDef.{LineDef}
 use Rattle.board_def.specs.LineOf.{line_of_row}
 use Rattle.irq_model.specs.Valid.{IsValid}
 use Rattle.line_core.specs.Built.{Built}
