@@ -1,30 +1,30 @@
 -- One more domain keeps the rules of boards.
-use Rattle.std.proofs.Common.{◌≡◌, ℕ, suc, ◌<◌, ◌≤◌, Bool, true, false, ◌||◌, cond, IfSome, Option, Some, None, List, [], ◌∷◌, length, arith}
+use Rattle.std.proofs.Common.{◌≡◌, ℕ, ◌<◌, ◌≤◌, true, false, ◌||◌, refl, IfSome, Option, Some, None, List, [], ◌∷◌, length, arith}
 use Rattle.std.proofs.lemmas.Bool.{or_parts}
 use Rattle.std.proofs.lemmas.List.Elements.{All-same, All-nil}
-use Rattle.board_def.specs.Rules.{is_domain_named, has_name, IsDomainAfter, IsLineAfter, IsDeviceAfter, IsCallAfter, IsActorOf, IsBoard}
+use Rattle.board_def.specs.Find.{place_of_name}
+use Rattle.board_def.specs.Rules.{has_name, IsDomainAfter, IsLineAfter, IsDeviceAfter, IsCallAfter, IsActorOf, IsBoard}
 use Rattle.board_def.specs.Seen.{BoardSeen}
 use Rattle.board_def.specs.declared.names.Name.{Name}
 use Rattle.board_def.specs.declared.rows.DomainRow.{DomainRow}
 use Rattle.board_def.proofs.EachAfters.{each_more}
+use Rattle.board_def.proofs.Finds.{place_within}
 use Rattle.board_words.specs.declared.statements.DomainWords.{DomainWords}
 use Rattle.board_words.specs.declared.statements.Statement.TheVariants as statements
 use Rattle.board_stated.specs.FaultsAfter.{has_bad_parent, is_one_too_many}
 use Rattle.board_stated.specs.Sound.{IsWellFormed}
-use Rattle.board_stated.specs.Stated.{one_on, place_of_name, place_or_first, parent_place, domain_row, with_statement}
+use Rattle.board_stated.specs.Stated.{place_or_first, parent_place, domain_row, with_statement}
 use Rattle.board_stated.proofs.Ascending.{one_more, each_of_none}
 use Rattle.board_stated.proofs.Reached.{NoneLater}
 
 -- ---- the place of a name is one of the list
 
-place_after : (t : Bool) (o : Option ℕ) (n : ℕ) → IfSome o (λ p. p < n) → IfSome (cond t (Some 0) (one_on o)) (λ p. p < suc n)
-place_after true o n h = omega arith
-place_after false None n h = h
-place_after false (Some p) n h = omega arith
+some_within : (rows : List DomainRow) (name : Name) (o : Option ℕ) → place_of_name rows name ≡ o → IfSome o (λ p. p < length rows)
+some_within rows name (Some p) at = place_within rows name p at
+some_within rows name None at = tt
 
 pub name_place : (rows : List DomainRow) (name : Name) → IfSome (place_of_name rows name) (λ p. p < length rows)
-name_place [] name = tt
-name_place (row ∷ rows) name = place_after (is_domain_named name row) (place_of_name rows name) (length rows) (name_place rows name)
+name_place rows name = some_within rows name (place_of_name rows name) refl
 
 place_in : (o : Option ℕ) (n : ℕ) → 0 < n → IfSome o (λ p. p < n) → place_or_first o < n
 place_in (Some p) n some h = h

@@ -6,6 +6,7 @@ use Rattle.irq_base.specs.Handlers.{has_thread}
 use Rattle.irq_base.specs.declared.devices.DeviceDef.{DeviceDef}
 use Rattle.irq_base.specs.declared.numbers.DevNo.{DevNo}
 use Rattle.irq_model.specs.Signal.{lowest_in}
+use Rattle.board_def.specs.Find.{place_of_name}
 use Rattle.board_def.specs.Rules.{has_name, has_line, find_device, has_driver, is_bad_parent, is_bad_unlazy, is_bad_owner}
 use Rattle.board_def.specs.Seen.{BoardSeen}
 use Rattle.board_def.specs.declared.names.Name.{Name}
@@ -21,7 +22,7 @@ use Rattle.board_words.specs.declared.statements.PickWord.{PickWord}
 use Rattle.board_words.specs.declared.statements.Statement.{Statement}
 use Rattle.board_words.specs.declared.statements.Statement.TheVariants as statements
 use Rattle.board_stated.specs.Sections.{section_of, section_reached, is_header, is_cpus, is_spurious, is_log}
-use Rattle.board_stated.specs.Stated.{board_of, parent_place, place_of_name, place_or_first, last_driver, call_of_words}
+use Rattle.board_stated.specs.Stated.{board_of, parent_place, place_or_first, last_driver, call_of_words}
 
 -- out of order
 

@@ -1,5 +1,5 @@
 -- The board that statements state, the newest one first: each adds its own row.
-use Rattle.std.specs.Prelude.{ℕ, ◌+◌, ◌-◌, ◌^◌, if◌then◌else◌, Option, Some, None, List, [], ◌∷◌, ◌++◌, replicate}
+use Rattle.std.specs.Prelude.{ℕ, ◌-◌, ◌^◌, Option, Some, None, List, [], ◌∷◌, ◌++◌, replicate}
 use Rattle.std.specs.List.{flat_map}
 use Rattle.irq_base.specs.declared.calls.Call.{Call}
 use Rattle.irq_base.specs.declared.calls.Call.TheVariants as calls
@@ -9,7 +9,8 @@ use Rattle.irq_base.specs.declared.entries.Actor.TheVariants as actors
 use Rattle.irq_base.specs.declared.numbers.DevNo.{DevNo}
 use Rattle.irq_base.specs.declared.numbers.DriverNo.{DriverNo}
 use Rattle.irq_base.specs.declared.numbers.LineNo.{LineNo}
-use Rattle.board_def.specs.Rules.{is_domain_named, find_device}
+use Rattle.board_def.specs.Find.{place_of_name}
+use Rattle.board_def.specs.Rules.{find_device}
 use Rattle.board_def.specs.Seen.{BoardSeen}
 use Rattle.board_def.specs.declared.names.Name.{Name}
 use Rattle.board_def.specs.declared.rows.DomainRow.{DomainRow}
@@ -28,15 +29,6 @@ use Rattle.board_words.specs.declared.statements.Statement.TheVariants as statem
 -- one processor, the default window and limit, the default log limit, and nothing declared
 abbrev pub first_board : BoardSeen
 first_board = record { cpus = 1; window = 100000; limit = 99900; log = 10000; domains = []; lines = []; devices = []; drivers = []; calls = []; picks = [] }
-
-abbrev pub one_on : Option ℕ → Option ℕ
-one_on (Some n) = Some (n + 1)
-one_on None = None
-
--- the place of the domain of that name
-abbrev pub place_of_name : List DomainRow → Name → Option ℕ
-place_of_name [] name = None
-place_of_name (row ∷ rows) name = if is_domain_named name row then Some 0 else one_on (place_of_name rows name)
 
 abbrev pub place_or_first : Option ℕ → ℕ
 place_or_first (Some place) = place

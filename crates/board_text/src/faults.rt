@@ -3,7 +3,8 @@ ghost use Rattle.std.specs.Prelude.{◌≡◌, ◌<◌, not, nat_lt, ◌+◌, is
 ghost use Rattle.std.specs.List.{list_any};
 ghost use Rattle.board_def.specs.Rules.{has_name, has_line, has_driver};
 ghost use Rattle.board_stated.specs.FaultsAfter.{last_line, last_device, is_misplaced, is_not_there, names_nothing, picks_nothing, has_no_device, has_bad_parent, has_bad_unlazy, has_bad_mask, is_mask_empty, is_one_too_many, count_of_picks, is_parent_missing, has_no_thread};
-ghost use Rattle.board_stated.specs.Stated.{last_driver, parent_place, place_or_first, place_of_name};
+ghost use Rattle.board_def.specs.Find.{place_of_name};
+ghost use Rattle.board_stated.specs.Stated.{last_driver, parent_place, place_or_first};
 ghost use Rattle.irq_base.specs.Handlers.{has_thread};
 
 use crate::masks::has_processor;
@@ -186,7 +187,6 @@ pub fn has_bad_parent(board: &Board, statement: &Statement) -> bool
 }
 
 /// The place of the domain that is named as a parent.
-#[tactic(auto, using(crate::proofs::Places::place_found))]
 pub fn parent_place(board: &Board, parent: Option<Name>) -> Option<usize>
     ensures { result ≡ parent_place board.now.domains parent }
 {
@@ -207,7 +207,7 @@ pub fn has_bad_unlazy(board: &Board, statement: &Statement) -> bool
 }
 
 /// The place of the domain of that name, or 0.
-#[tactic(auto, using(crate::proofs::Places::place_or_first_found))]
+#[tactic(auto, using(crate::proofs::Places::first_or))]
 pub fn domain_place(board: &Board, name: Name) -> usize
     ensures { result ≡ place_or_first (place_of_name board.now.domains name) }
 {
