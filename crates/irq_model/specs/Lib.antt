@@ -21,5 +21,3 @@ pub mod Scripts
 pub mod Reason
 pub mod Laws
 pub mod Bounds
-pub mod Tests
-pub mod MaskTable

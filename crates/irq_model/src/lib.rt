@@ -1,26 +1,4 @@
-//! The rules of one interrupt line, as definitions over the list of its entries, and the plain program of the due
-//! entry, which is read off them.
-//!
-//! `next_slow` looks back over the whole history at each call, and takes up to the square of its length: it is there
-//! to compare faster bodies with.
+//! The rules of one interrupt line, as definitions over the list of its entries, in `specs/`. Worked histories
+//! are closed theorems in `proofs/`. There is no code here: `plain_next` has the plain program that is read off
+//! the definitions.
 #![tactic(auto)]
-
-mod asks;
-mod due;
-mod edges;
-mod kinds;
-mod lines;
-mod links;
-mod masks;
-mod next;
-mod next_cpu;
-mod next_driver;
-mod next_thread;
-mod places;
-mod rounds;
-mod signal;
-mod spurious;
-mod threads;
-mod waiting;
-
-pub use next::next_slow;

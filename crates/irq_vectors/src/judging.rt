@@ -4,7 +4,7 @@ ghost use Rattle.irq_model.specs.Legal.{IsDue};
 ghost use Rattle.irq_vectors.specs.Verdict.{IsVerdict};
 
 use irq_base::{Entry, History, LineDef, NoMemory};
-use irq_model::next_slow;
+use plain_next::next_slow;
 use std::alloc::Global;
 use std::fmt;
 

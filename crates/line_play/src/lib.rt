@@ -10,6 +10,4 @@ pub use actors::actors_of;
 pub use plays::{PlayEnd, play};
 
 #[cfg(test)]
-mod orders;
-#[cfg(test)]
 mod tests;

@@ -1,6 +1,0 @@
-use Rattle.std.proofs.Common.{◌≡◌, drop}
-use Rattle.irq_model.specs.Due.{due_of, calls_by}
-use Rattle.irq_model.proofs.due.due_of.Given as goal
-
-abbrev pub invariant-loop-i : goal.invariant-loop-i
-invariant-loop-i l = due_of (calls_by l.r l.calls) l.entries ≡ due_of (calls_by l.r (drop l.i l.calls)) l.left

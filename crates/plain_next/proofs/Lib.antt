@@ -1,0 +1,4 @@
+pub mod Linked
+pub mod Somewhere
+pub mod EdgeWalk
+pub mod Counts

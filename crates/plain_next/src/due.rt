@@ -1,0 +1,126 @@
+//! A driver's entries, laid beside its calls on the line in order, and the request mutex.
+ghost use Rattle.std.specs.Prelude.{◌≡◌, ◌+◌, ◌<◌, ◌∷◌, length, drop, IfOk};
+ghost use Rattle.std.specs.List.{list_any};
+ghost use Rattle.irq_model.specs.Kinds.{is_freed_by};
+ghost use Rattle.irq_model.specs.Due.{calls_by, entries_by, begins_not_there, entries_of_call, due_of, due_call, is_being_freed_at, holds_mutex};
+
+use crate::kinds::{is_by_driver, is_freed_by};
+use irq_base::{Call, CallList, DriverNo, Entry, LineDef, NoMemory, UnlinkAnswer};
+use std::alloc::Global;
+
+/// The call at a place of the list, with its driver.
+#[tactic(auto, using(irq_model::proofs::Lists::next_item))]
+fn call_at(calls: &CallList, i: usize) -> (DriverNo, Call)
+    requires { i < length calls.now }
+    ensures { drop i calls.now ≡ result ∷ drop (i + 1) calls.now }
+{
+    match calls.get(i) {
+        Some(call) => call,
+        None => unreachable!(),
+    }
+}
+
+/// The driver's entries, the oldest first.
+fn entries_by(alloc: Global, r: DriverNo, past: &[Entry]) -> Result<Vec<Entry>, NoMemory>
+    ensures { IfOk result (λ entries. entries.items ≡ entries_by r past.now) }
+{
+    let mut entries = Vec::new(alloc);
+    for i in (0..past.len()).rev() {
+        if is_by_driver(r, past[i]) {
+            entries.push(past[i])?;
+        }
+    }
+    Ok(entries)
+}
+
+/// The first entry of a free that found nothing to free.
+fn begins_not_there(entries: &[Entry]) -> bool
+    ensures { result ≡ begins_not_there entries.now }
+{
+    matches!(
+        entries.first(),
+        Some(Entry::Unlink {
+            answer: UnlinkAnswer::NotThere,
+            ..
+        })
+    )
+}
+
+/// How many entries a call makes, where these are what stands from its first entry on.
+fn entries_of_call(call: Call, entries: &[Entry]) -> usize
+    ensures { result ≡ entries_of_call call entries.now }
+{
+    match call {
+        Call::Free { .. } if begins_not_there(entries) => 1,
+        Call::Free { .. } | Call::Disable => 3,
+        Call::Sync => 2,
+        _ => 1,
+    }
+}
+
+/// The first call of the driver that isn't complete, and how many of its entries are there.
+pub fn due_call(
+    alloc: Global,
+    def: &LineDef,
+    r: DriverNo,
+    past: &[Entry],
+) -> Result<Option<(Call, usize)>, NoMemory>
+    ensures { IfOk result (λ due. due ≡ due_call def.now r past.now) }
+{
+    let entries = entries_by(alloc, r, past)?;
+    Ok(due_of(&def.calls, r, &entries))
+}
+
+/// The same, where these are the driver's entries.
+fn due_of(calls: &CallList, r: DriverNo, entries: &[Entry]) -> Option<(Call, usize)>
+    ensures { result ≡ due_of (calls_by r calls.now) entries.now }
+{
+    let mut left = entries;
+    for i in 0..calls.len() {
+        let (driver, call) = call_at(calls, i);
+        if r == driver {
+            let needed = entries_of_call(call, left);
+            if left.len() < needed {
+                return Some((call, left.len()));
+            }
+            left = &left[needed..];
+        }
+    }
+    None
+}
+
+/// A free of the driver is at its end among these.
+fn is_freed(entries: &[Entry], r: DriverNo) -> bool
+    ensures { result ≡ list_any (is_freed_by r) entries.now }
+{
+    entries.iter().any(|e| is_freed_by(r, *e))
+}
+
+/// The newest entry of `upto` unlinked a device, and its driver's free isn't complete.
+fn is_being_freed_at(after: &[Entry], upto: &[Entry]) -> bool
+    ensures { result ≡ is_being_freed_at after.now upto.now }
+{
+    match upto.first().copied() {
+        Some(
+            Entry::Unlink {
+                driver,
+                answer: UnlinkAnswer::Unlinked { .. },
+                ..
+            },
+        ) => !is_freed(after, driver),
+        _ => false,
+    }
+}
+
+/// The request mutex is held, from an unlink to its driver's end of the free.
+pub fn holds_mutex(past: &[Entry]) -> bool
+    ensures { result ≡ holds_mutex past.now }
+{
+    for i in 0..past.len() {
+        let (after, upto) = past.split_at(i);
+        if is_being_freed_at(after, upto) {
+            return true;
+        }
+    }
+    false
+}

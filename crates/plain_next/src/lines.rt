@@ -1,0 +1,106 @@
+//! What is fixed of a line.
+ghost use Rattle.std.specs.Prelude.{◌≡◌, ◌<◌, ◌≤◌, Bool, ◌+◌, ◌∷◌, drop, length};
+ghost use Rattle.std.specs.List.{list_any};
+ghost use Rattle.irq_base.specs.declared.numbers.DevNo.{DevNo};
+ghost use Rattle.irq_model.specs.Places.{count_of};
+ghost use Rattle.plain_next.specs.Tests.{Computes};
+ghost use Rattle.irq_model.specs.Lines.{is_edge_line, is_level_line, is_eoi_flow, serves, kind_in, kind_of, is_in_mask};
+
+use irq_base::{DevNo, DeviceDef, DeviceList, FlowKind, Kind, LineDef, Trigger};
+
+/// The line is raised by edges.
+pub fn is_edge_line(def: &LineDef) -> bool
+    ensures { result ≡ is_edge_line def.now }
+{
+    matches!(def.trigger, Trigger::Edge)
+}
+
+/// The line is raised by a level.
+pub fn is_level_line(def: &LineDef) -> bool
+    ensures { result ≡ is_level_line def.now }
+{
+    matches!(def.trigger, Trigger::Level)
+}
+
+/// The line has the fast-EOI flow.
+pub fn is_eoi_flow(def: &LineDef) -> bool
+    ensures { result ≡ is_eoi_flow def.now.flow }
+{
+    matches!(def.flow, FlowKind::Eoi)
+}
+
+/// The line's cell keeps an interrupt in service from its take to its end.
+pub fn serves(def: &LineDef) -> bool
+    ensures { result ≡ serves def.now }
+{
+    is_level_line(def) && is_eoi_flow(def)
+}
+
+/// The device at a place of the list.
+#[tactic(auto, using(irq_model::proofs::Lists::next_item))]
+fn device_at(devices: &DeviceList, i: usize) -> DeviceDef
+    requires { i < length devices.now }
+    ensures { drop i devices.now ≡ result ∷ drop (i + 1) devices.now }
+{
+    match devices.get(i) {
+        Some(device) => device,
+        None => unreachable!(),
+    }
+}
+
+/// The kind of the device in the list; one that the list lacks never serves, as a stuck one.
+fn kind_in(devices: &DeviceList, d: DevNo) -> Kind
+    ensures { result ≡ kind_in devices.now d }
+{
+    for i in 0..devices.len() {
+        let device = device_at(devices, i);
+        if d == device.dev {
+            return device.kind;
+        }
+    }
+    Kind::Stuck
+}
+
+/// The kind of the line's device.
+pub fn kind_of(def: &LineDef, d: DevNo) -> Kind
+    ensures { result ≡ kind_of def.now d }
+{
+    kind_in(&def.devices, d)
+}
+
+/// Processor `c` is in the mask.
+pub fn is_in_mask(mask: u32, c: u32) -> bool
+    requires { c < 32 }
+    ensures { result ≡ is_in_mask mask c }
+{
+    (mask >> c) & 1 == 1
+}
+
+/// Some device of the line passes the test.
+pub fn any_device<T: Fn(DevNo) -> bool + Drop>(def: &LineDef, test: T) -> bool
+    requires { T.IsAlwaysCallable test }
+    ensures { (x : DevNo → Bool) → Computes (T.post test) x → result ≡ list_any (λ device. x device.dev) def.now.devices }
+{
+    for i in 0..def.devices.len() {
+        if test(device_at(&def.devices, i).dev) {
+            return true;
+        }
+    }
+    false
+}
+
+/// How many devices of the line pass the test.
+pub fn count_devices<T: Fn(DevNo) -> bool + Drop>(def: &LineDef, test: T) -> u32
+    requires callable { T.IsAlwaysCallable test }
+    requires few { length def.now.devices ≤ 256 }
+    ensures value { (x : DevNo → Bool) → Computes (T.post test) x → result ≡ count_of (λ device. x device.dev) def.now.devices }
+    ensures within { result ≤ 256 }
+{
+    let mut count = 0;
+    for i in 0..def.devices.len() {
+        if test(device_at(&def.devices, i).dev) {
+            count += 1;
+        }
+    }
+    count
+}

@@ -1,0 +1,178 @@
+//! Which devices are linked, and how deep the line is disabled.
+ghost use Rattle.std.specs.Prelude.{◌≡◌, ◌≤◌, List, [], ◌∷◌, ◌++◌, take, drop, length, filter, not, IfOk, OnOk};
+ghost use Rattle.irq_base.specs.declared.entries.Entry.{Entry};
+ghost use Rattle.irq_model.specs.Places.{since_place, upto_place};
+ghost use Rattle.irq_model.specs.Kinds.{same_dev};
+ghost use Rattle.irq_model.specs.Links.{is_linked, requested, linked, is_none_linked, is_reset, base, depth, is_disabled, flags_in, linking_flags, is_oneshot, has_spurious_mark};
+
+use crate::kinds::{
+    is_deepening, is_kill, is_last_unlink, is_linked_request, is_lowering, is_start, links_dev,
+    unlinks_dev,
+};
+use crate::places::{count_of, last_of, stands};
+use irq_base::{DevNo, Entry, Flags, LinkAnswer, NoMemory, UnlinkAnswer};
+use std::alloc::Global;
+
+/// The device was linked, and not unlinked since.
+pub fn is_linked(past: &[Entry], d: DevNo) -> bool
+    ensures { result ≡ is_linked past.now d }
+{
+    stands(past, |e| links_dev(d, e), |e| unlinks_dev(d, e))
+}
+
+/// Takes the device out of the list.
+fn take_out(devices: &mut Vec<DevNo>, dev: DevNo)
+    ensures { devices.new.items ≡ filter (λ d. not (same_dev d dev)) devices.old.items }
+{
+    devices.retain(|d| *d != dev);
+}
+
+/// Puts the device last in the list.
+fn put_last(devices: &mut Vec<DevNo>, dev: DevNo) -> Result<(), NoMemory>
+    ensures { OnOk result (devices.new.items ≡ filter (λ d. not (same_dev d dev)) devices.old.items ++ dev ∷ []) }
+{
+    take_out(devices, dev);
+    devices.push(dev)?;
+    Ok(())
+}
+
+/// The devices that were ever linked, in the order of their last such requests.
+fn requested(alloc: Global, past: &[Entry]) -> Result<Vec<DevNo>, NoMemory>
+    ensures { IfOk result (λ devices. devices.items ≡ requested past.now) }
+{
+    let mut devices = Vec::new(alloc);
+    for i in (0..past.len()).rev() {
+        if let Entry::Request {
+            dev,
+            answer: LinkAnswer::Linked,
+            ..
+        } = past[i]
+        {
+            put_last(&mut devices, dev)?;
+        }
+    }
+    Ok(devices)
+}
+
+/// The linked devices, in the order in which they are walked.
+pub fn linked(alloc: Global, past: &[Entry]) -> Result<Vec<DevNo>, NoMemory>
+    ensures { IfOk result (λ devices. devices.items ≡ linked past.now) }
+{
+    let mut devices = requested(alloc, past)?;
+    devices.retain(|d| is_linked(past, *d));
+    Ok(devices)
+}
+
+/// Nothing is linked.
+pub fn is_none_linked(alloc: Global, past: &[Entry]) -> Result<bool, NoMemory>
+    ensures { IfOk result (λ none. none ≡ is_none_linked past.now) }
+{
+    Ok(linked(alloc, past)?.is_empty())
+}
+
+/// What one more entry makes of the linked devices: a request that is linked puts its device last, an unlink
+/// takes its device out.
+fn link_or_unlink(devices: &mut Vec<DevNo>, e: Entry) -> Result<(), NoMemory>
+    ensures { OnOk result ((past : List Entry) → devices.old.items ≡ linked past → devices.new.items ≡ linked (e ∷ past)) }
+{
+    match e {
+        Entry::Request {
+            dev,
+            answer: LinkAnswer::Linked,
+            ..
+        } => put_last(devices, dev)?,
+        Entry::Unlink {
+            dev,
+            answer: UnlinkAnswer::Unlinked { .. },
+            ..
+        } => take_out(devices, dev),
+        _ => {}
+    }
+    Ok(())
+}
+
+/// How many entries stand after the last that gives the depth a value of its own: a first request, or a last
+/// unlink.
+#[tactic(auto, using(irq_model::proofs::Lists::since_from_upto))]
+fn since_reset(alloc: Global, past: &[Entry]) -> Result<usize, NoMemory>
+    ensures since { IfOk result (λ k. since_place is_reset past.now ≡ take k past.now) }
+    ensures upto { IfOk result (λ k. upto_place is_reset past.now ≡ drop k past.now) }
+    ensures within { IfOk result (λ k. k ≤ length past.now) }
+{
+    // The linked devices up to each place, entry by entry: `linked` at each place would take the cube of the length.
+    let mut devices = Vec::new(alloc);
+    let mut place = past.len();
+    for i in (0..past.len()).rev() {
+        let is_first_request = is_linked_request(past[i]) && devices.is_empty();
+        if is_last_unlink(past[i]) || is_first_request {
+            place = i;
+        }
+        link_or_unlink(&mut devices, past[i])?;
+    }
+    Ok(place)
+}
+
+/// The depth at the last such entry: 0 where a first request started the line, else 1, as at the beginning.
+fn base(past: &[Entry]) -> u32
+    ensures value { result ≡ base past.now }
+    ensures within { result ≤ 1 }
+{
+    match past.first() {
+        Some(e) if is_start(*e) => 0,
+        _ => 1,
+    }
+}
+
+/// How deep the line is disabled: the disables and kills since the last reset, less the enables.
+pub fn depth(alloc: Global, past: &[Entry]) -> Result<u32, NoMemory>
+    requires { length past.now ≤ 100000000 }
+    ensures { IfOk result (λ n. n ≡ depth past.now) }
+{
+    let place = since_reset(alloc, past)?;
+    let since = &past[..place];
+    let raised = base(&past[place..]) + count_of(since, is_deepening);
+    Ok(raised.saturating_sub(count_of(since, is_lowering)))
+}
+
+/// The line is disabled.
+pub fn is_disabled(alloc: Global, past: &[Entry]) -> Result<bool, NoMemory>
+    requires { length past.now ≤ 100000000 }
+    ensures { IfOk result (λ disabled. disabled ≡ is_disabled past.now) }
+{
+    Ok(depth(alloc, past)? > 0)
+}
+
+/// The flags of a request.
+fn flags_in(e: Option<Entry>) -> Flags
+    ensures { result ≡ flags_in e }
+{
+    match e {
+        Some(Entry::Request { flags, .. }) => flags,
+        _ => Flags {
+            shared: false,
+            oneshot: false,
+            noauto: false,
+        },
+    }
+}
+
+/// The flags with which the device was last linked.
+pub fn linking_flags(past: &[Entry], d: DevNo) -> Flags
+    ensures { result ≡ linking_flags past.now d }
+{
+    flags_in(last_of(past, |e| links_dev(d, e)))
+}
+
+/// The last request that was linked has the flag ONESHOT (`IRQS_ONESHOT`).
+pub fn is_oneshot(past: &[Entry]) -> bool
+    ensures { result ≡ is_oneshot past.now }
+{
+    flags_in(last_of(past, is_linked_request)).oneshot
+}
+
+/// A kill, with no linked request after it (`IRQS_SPURIOUS_DISABLED`).
+pub fn has_spurious_mark(past: &[Entry]) -> bool
+    ensures { result ≡ has_spurious_mark past.now }
+{
+    stands(past, is_kill, is_linked_request)
+}
