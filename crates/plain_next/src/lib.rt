@@ -23,4 +23,11 @@ mod spurious;
 mod threads;
 mod waiting;
 
-pub use next::next_slow;
+pub use due::{holds_mutex, is_being_freed};
+pub use lines::{any_device, kind_of};
+pub use next::{newest_first, next_past, next_slow};
+pub use next_cpu::asks_of_handler;
+pub use next_thread::asks_of_thread;
+pub use rounds::flow;
+pub use signal::target;
+pub use threads::{active_count, is_running, is_woken};
