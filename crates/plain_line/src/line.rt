@@ -1,10 +1,11 @@
 //! The line.
-ghost use Rattle.std.specs.Prelude.{◌≡◌, ◌+◌, ◌≤◌, [], ◌∷◌, IfOk, OnOk, OnErr, reverse};
+ghost use Rattle.std.specs.Prelude.{◌≡◌, ◌+◌, ◌<◌, ◌≤◌, [], ◌∷◌, ◌++◌, length, IfOk, OnOk, OnErr, IsTrue, Some, reverse};
+ghost use Rattle.irq_model.specs.Legal.{IsDue};
 ghost use Rattle.irq_model.specs.Valid.{IsValid};
 ghost use Rattle.plain_line.specs.Line.{IsPlain};
 
 use crate::looking::{Looked, look};
-use crate::running::run_ended;
+use crate::running::unanswered;
 use callbacks::Said;
 use irq_base::{Actor, CpuNo, DevNo, Entry, History, LineDef, NoMemory};
 use irq_line::{Blocks, IrqLine, StepRefused, Stepped};
@@ -52,12 +53,17 @@ impl PlainLine {
     }
 
     /// Adds the entry, which is due, and looks up what holds after it.
-    fn add(&mut self, past: &[Entry], entry: Entry) -> Result<(), NoMemory> {
-        let mut more = Vec::with_capacity(self.alloc, 1)?;
-        more.push(entry)?;
-        for earlier in past {
-            more.push(*earlier)?;
-        }
+    #[tactic(auto, using(crate::proofs::Steps::legal_more, crate::proofs::Steps::few_more, crate::proofs::Steps::plain_more))]
+    fn add(&mut self, past: &[Entry], entry: Entry) -> Result<(), NoMemory>
+        requires past { past.now ≡ reverse self.old.entries }
+        requires due { IsDue self.old.def entry past.now }
+        requires below { length self.old.entries < self.old.def.log }
+        ensures def { self.new.def ≡ self.old.def }
+        ensures entries { OnOk result (self.new.entries ≡ self.old.entries ++ entry ∷ []) }
+        ensures spare { OnOk result (self.old.spare ≤ self.new.spare + 1) }
+        ensures refused { OnErr result (self.new ≡ self.old) }
+    {
+        let more = with_newest(self.alloc, past, entry)?;
         let looked = look(self.alloc, &self.def, &more)?;
         if self.history.spare() == 0 {
             self.history.reserve(1)?;
@@ -68,9 +74,30 @@ impl PlainLine {
     }
 }
 
+/// The entries with one more, where the newest comes first.
+fn with_newest(alloc: Global, past: &[Entry], entry: Entry) -> Result<Vec<Entry>, NoMemory>
+    ensures { IfOk result (λ more. more.items ≡ entry ∷ past.now) }
+{
+    let mut more = vec![in alloc; entry]?;
+    more.extend_from_slice(past)?;
+    Ok(more)
+}
+
+/// Whether it is that processor.
+fn is_that(taker: Option<CpuNo>, cpu: CpuNo) -> bool
+    ensures sound { IsTrue result → taker ≡ Some cpu }
+    ensures complete { taker ≡ Some cpu → IsTrue result }
+{
+    match taker {
+        Some(taker) => taker == cpu,
+        None => false,
+    }
+}
+
 impl IrqLine for PlainLine {
     ghost seen = { λ l. l };
 
+    #[tactic(auto, using(crate::proofs::Steps::due_there, crate::proofs::Steps::adds))]
     fn step(&mut self, actor: Actor, said: Option<Said>) -> Result<Stepped, StepRefused> {
         let past = newest_first(self.alloc, &self.history)?;
         let Some(entry) = next_past(self.alloc, &self.def, &past, actor)? else {
@@ -80,14 +107,12 @@ impl IrqLine for PlainLine {
         if len >= self.def.log as usize {
             return Err(StepRefused::Full { len: len as u32 });
         }
-        if let Some(run) = run_ended(&self.def, &past, entry) {
-            if !run.is_answered(&said) {
-                return Ok(Stepped::Run {
-                    def: run.def,
-                    part: run.part,
-                    unserved: run.unserved,
-                });
-            }
+        if let Some(run) = unanswered(&self.def, &past, entry, &said) {
+            return Ok(Stepped::Run {
+                def: run.def,
+                part: run.part,
+                unserved: run.unserved,
+            });
         }
         self.add(&past, entry)?;
         Ok(Stepped::Added(entry))
@@ -122,7 +147,7 @@ impl IrqLine for PlainLine {
     }
 
     fn present(&self, cpu: CpuNo) -> bool {
-        self.looked.taker == Some(cpu)
+        is_that(self.looked.taker, cpu)
     }
 
     fn in_flow(&self) -> Option<CpuNo> {

@@ -1,10 +1,10 @@
 //! What makes plain lines.
+ghost use Rattle.irq_model.specs.Valid.{IsValid};
+
 use crate::line::PlainLine;
 use irq_base::{LineDef, NoMemory};
 use irq_line::MakesLine;
 use std::alloc::Global;
-
-ghost use Rattle.irq_model.specs.Valid.{IsValid};
 
 /// Makes a plain line of every valid definition, whatever its virq.
 #[derive(Clone, Copy)]

@@ -1,5 +1,5 @@
 //! The run of a handler that an entry ends.
-ghost use Rattle.std.specs.Prelude.{◌≡◌, ◌≤◌, length, ◌↔◌, IsTrue};
+ghost use Rattle.std.specs.Prelude.{◌≡◌, ◌≤◌, length, ◌↔◌, IsTrue, IfSome, Some, None};
 ghost use Rattle.irq_line.specs.Answers.{IsSaidFor};
 ghost use Rattle.irq_line.specs.Runs.{device_of, run_ended};
 
@@ -48,7 +48,7 @@ fn device(def: &LineDef, dev: DevNo) -> DeviceDef
 }
 
 /// The run that the entry ends, where the newest entry of the history before it comes first.
-pub(crate) fn run_ended(def: &LineDef, past: &[Entry], entry: Entry) -> Option<Running>
+fn run_ended(def: &LineDef, past: &[Entry], entry: Entry) -> Option<Running>
     requires { length past.now ≤ 100000000 }
     ensures { result ≡ run_ended def.now past.now entry }
 {
@@ -65,4 +65,22 @@ pub(crate) fn run_ended(def: &LineDef, past: &[Entry], entry: Entry) -> Option<R
         }),
         _ => None,
     }
+}
+
+/// The run that the entry ends, where what was handed in isn't its answer.
+pub(crate) fn unanswered(
+    def: &LineDef,
+    past: &[Entry],
+    entry: Entry,
+    said: &Option<Said>,
+) -> Option<Running>
+    requires { length past.now ≤ 100000000 }
+    ensures some { IfSome result (λ run. (run_ended def.now past.now entry ≡ Some run) × (IsSaidFor said.now run → ⊥)) }
+    ensures none { result ≡ None → IfSome (run_ended def.now past.now entry) (IsSaidFor said.now) }
+{
+    let run = run_ended(def, past, entry)?;
+    if run.is_answered(said) {
+        return None;
+    }
+    Some(run)
 }
