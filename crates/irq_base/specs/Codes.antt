@@ -1,7 +1,6 @@
 -- The small answers of an entry as numbers (ours), the first of each type 0, in the order of the source. A
 -- number that stands for none is read as the last.
 use Rattle.std.specs.Prelude.{ℕ, ◌-◌, ◌==◌, Bool, if◌then◌else◌}
-use Rattle.irq_base.specs.declared.calls.Flags.{Flags}
 use Rattle.irq_base.specs.declared.devices.Answer.{Answer}
 use Rattle.irq_base.specs.declared.devices.Answer.TheVariants as answers
 use Rattle.irq_base.specs.declared.entries.Errno.{Errno}

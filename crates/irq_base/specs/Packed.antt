@@ -1,6 +1,6 @@
 -- How an entry stands in one word (ours). From its low end a word has a tag of 5 bits, a code of 8, a first
 -- number of 16 and a second of 32. The tag says which entry it is, the code holds its small answers.
-use Rattle.std.specs.Prelude.{ℕ, ◌/◌, ◌%◌, ◌<◌, ◌==◌, nat_lt, ◌≡◌, Bool, true, ◌&&◌, if◌then◌else◌, List, length, get_or}
+use Rattle.std.specs.Prelude.{ℕ, ◌/◌, ◌%◌, ◌<◌, ◌==◌, nat_lt, ◌≡◌, Bool, true, ◌&&◌, if◌then◌else◌, List, get_or}
 use Rattle.irq_base.specs.declared.numbers.CpuNo.{CpuNo}
 use Rattle.irq_base.specs.declared.numbers.DevNo.{DevNo}
 use Rattle.irq_base.specs.declared.numbers.DriverNo.{DriverNo}

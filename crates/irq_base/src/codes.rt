@@ -1,4 +1,5 @@
-//! The small answers of an entry as numbers, and back.
+//! The small answers of an entry as numbers from 0 on, and back. A number that stands for none is read as the
+//! last.
 ghost use Rattle.std.specs.Prelude.{◌≡◌, ◌<◌, ◌%◌, ◌/◌};
 ghost use Rattle.irq_base.specs.Codes.{way_at, take_at, answer_at, note_at, resend_at, error_at, enable_at, opened_at, link_at, unlink_at, affinity_at, flag_at};
 
@@ -24,11 +25,11 @@ pub fn flag_at(n: u32) -> bool
 }
 
 #[tactic(auto, unfolding(crate::specs::Codes::way_at))]
-pub fn way_number(x: Way) -> u32
+pub fn way_number(way: Way) -> u32
     ensures below { result < 2 }
-    ensures back { way_at result ≡ x }
+    ensures back { way_at result ≡ way }
 {
-    match x {
+    match way {
         Way::Line => 0,
         Way::Resend => 1,
     }
@@ -45,11 +46,11 @@ pub fn way_at(n: u32) -> Way
 }
 
 #[tactic(auto, unfolding(crate::specs::Codes::take_at))]
-pub fn take_number(x: TakeAnswer) -> u32
+pub fn take_number(answer: TakeAnswer) -> u32
     ensures below { result < 3 }
-    ensures back { take_at result ≡ x }
+    ensures back { take_at result ≡ answer }
 {
-    match x {
+    match answer {
         TakeAnswer::Handle => 0,
         TakeAnswer::Busy => 1,
         TakeAnswer::Off => 2,
@@ -68,11 +69,11 @@ pub fn take_at(n: u32) -> TakeAnswer
 }
 
 #[tactic(auto, unfolding(crate::specs::Codes::answer_at))]
-pub fn answer_number(x: Answer) -> u32
+pub fn answer_number(answer: Answer) -> u32
     ensures below { result < 3 }
-    ensures back { answer_at result ≡ x }
+    ensures back { answer_at result ≡ answer }
 {
-    match x {
+    match answer {
         Answer::Nothing => 0,
         Answer::Handled => 1,
         Answer::Wake => 2,
@@ -91,11 +92,11 @@ pub fn answer_at(n: u32) -> Answer
 }
 
 #[tactic(auto, unfolding(crate::specs::Codes::note_at))]
-pub fn note_number(x: Note) -> u32
+pub fn note_number(note: Note) -> u32
     ensures below { result < 3 }
-    ensures back { note_at result ≡ x }
+    ensures back { note_at result ≡ note }
 {
-    match x {
+    match note {
         Note::Quiet => 0,
         Note::Counted => 1,
         Note::Killed => 2,
@@ -114,11 +115,11 @@ pub fn note_at(n: u32) -> Note
 }
 
 #[tactic(auto, unfolding(crate::specs::Codes::resend_at))]
-pub fn resend_number(x: Resend) -> u32
+pub fn resend_number(resend: Resend) -> u32
     ensures below { result < 3 }
-    ensures back { resend_at result ≡ x }
+    ensures back { resend_at result ≡ resend }
 {
-    match x {
+    match resend {
         Resend::No => 0,
         Resend::Chip => 1,
         Resend::Soft => 2,
@@ -137,11 +138,11 @@ pub fn resend_at(n: u32) -> Resend
 }
 
 #[tactic(auto, unfolding(crate::specs::Codes::error_at))]
-pub fn error_number(x: Errno) -> u32
+pub fn error_number(error: Errno) -> u32
     ensures below { result < 2 }
-    ensures back { error_at result ≡ x }
+    ensures back { error_at result ≡ error }
 {
-    match x {
+    match error {
         Errno::Inval => 0,
         Errno::Busy => 1,
     }
@@ -158,11 +159,11 @@ pub fn error_at(n: u32) -> Errno
 }
 
 #[tactic(auto, unfolding(crate::specs::Codes::enable_at))]
-pub fn enable_number(x: EnableAnswer) -> u32
+pub fn enable_number(answer: EnableAnswer) -> u32
     ensures below { result < 5 }
-    ensures back { enable_at result ≡ x }
+    ensures back { enable_at result ≡ answer }
 {
-    match x {
+    match answer {
         EnableAnswer::Unbalanced => 0,
         EnableAnswer::Lowered => 1,
         EnableAnswer::Started { resend } => 2 + resend_number(resend),
@@ -183,11 +184,11 @@ pub fn enable_at(n: u32) -> EnableAnswer
 }
 
 #[tactic(auto, unfolding(crate::specs::Codes::opened_at))]
-pub fn opened_number(x: Opened) -> u32
+pub fn opened_number(opened: Opened) -> u32
     ensures below { result < 6 }
-    ensures back { opened_at result ≡ x }
+    ensures back { opened_at result ≡ opened }
 {
-    match x {
+    match opened {
         Opened::No => 0,
         Opened::Unbalanced => 1,
         Opened::Lowered => 2,
@@ -210,11 +211,11 @@ pub fn opened_at(n: u32) -> Opened
 }
 
 #[tactic(auto, unfolding(crate::specs::Codes::link_at))]
-pub fn link_number(x: LinkAnswer) -> u32
+pub fn link_number(answer: LinkAnswer) -> u32
     ensures below { result < 3 }
-    ensures back { link_at result ≡ x }
+    ensures back { link_at result ≡ answer }
 {
-    match x {
+    match answer {
         LinkAnswer::Linked => 0,
         LinkAnswer::Refused(error) => 1 + error_number(error),
     }
@@ -231,11 +232,11 @@ pub fn link_at(n: u32) -> LinkAnswer
 }
 
 #[tactic(auto, unfolding(crate::specs::Codes::affinity_at))]
-pub fn affinity_number(x: AffinityAnswer) -> u32
+pub fn affinity_number(answer: AffinityAnswer) -> u32
     ensures below { result < 4 }
-    ensures back { affinity_at result ≡ x }
+    ensures back { affinity_at result ≡ answer }
 {
-    match x {
+    match answer {
         AffinityAnswer::Now => 0,
         AffinityAnswer::Later => 1,
         AffinityAnswer::Refused(error) => 2 + error_number(error),
@@ -254,11 +255,11 @@ pub fn affinity_at(n: u32) -> AffinityAnswer
 }
 
 #[tactic(auto, unfolding(crate::specs::Codes::unlink_at))]
-pub fn unlink_number(x: UnlinkAnswer) -> u32
+pub fn unlink_number(answer: UnlinkAnswer) -> u32
     ensures below { result < 3 }
-    ensures back { unlink_at result ≡ x }
+    ensures back { unlink_at result ≡ answer }
 {
-    match x {
+    match answer {
         UnlinkAnswer::NotThere => 0,
         UnlinkAnswer::Unlinked { last: false } => 1,
         UnlinkAnswer::Unlinked { last: true } => 2,

@@ -4,13 +4,14 @@ ghost use Rattle.irq_base.specs.Packed.{parts_of, is_wide, place_of, unpack, is_
 
 use crate::entries::Entry;
 use crate::numbers::DevNo;
-use crate::parts::Parts;
+use crate::parts::{Parts, is_narrow};
 
 /// One entry, or the place of one. From its low end the word has a tag of 5 bits, a code of 8, a first number of
 /// 16 and a second of 32. With the tag 31 all else is the place in the list of wide entries.
 #[derive(Clone, Copy)]
 pub struct Packed(u64);
 
+// How many numbers each part has, from the low end.
 const TAGS: u64 = 32;
 
 const CODES: u64 = 256;
@@ -66,7 +67,7 @@ impl Packed {
         ensures tag { IfSome result (λ w. is_wide w ≡ false) }
         ensures back { IfSome result (λ w. (wide : List Entry) → unpack wide w ≡ e) }
     {
-        if Parts::are_enough(e) {
+        if is_narrow(e) {
             return Some(Packed::of_parts(Parts::of_entry(e)));
         }
         None

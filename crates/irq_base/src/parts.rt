@@ -22,6 +22,7 @@ pub struct Parts {
     pub second: u32,
 }
 
+// The tags: processors first, then threads, then drivers.
 const TAKE: u32 = 0;
 
 const BEGIN: u32 = 1;
@@ -67,32 +68,6 @@ impl Parts {
             code,
             first,
             second,
-        }
-    }
-
-    /// Whether the numbers of the entry fit into its parts.
-    pub fn are_enough(e: Entry) -> bool
-        ensures { result ≡ is_narrow e }
-    {
-        match e {
-            Entry::Take { cpu, .. } | Entry::End { cpu, .. } => is_narrow_cpu(cpu),
-            Entry::Begin { cpu, dev } | Entry::Return { cpu, dev, .. } => {
-                is_narrow_cpu(cpu) && is_narrow_dev(dev)
-            }
-            Entry::ThreadBegin { dev }
-            | Entry::ThreadReturn { dev, .. }
-            | Entry::Finish { dev, .. }
-            | Entry::Done { dev } => is_narrow_dev(dev),
-            Entry::Ask { driver, dev }
-            | Entry::Request { driver, dev, .. }
-            | Entry::Unlink { driver, dev, .. }
-            | Entry::Freed { driver, dev } => is_narrow_driver(driver) && is_narrow_dev(dev),
-            Entry::Disable { driver }
-            | Entry::HardClear { driver }
-            | Entry::Synced { driver }
-            | Entry::Enable { driver, .. }
-            | Entry::Affinity { driver, .. }
-            | Entry::Moment { driver, .. } => is_narrow_driver(driver),
         }
     }
 
@@ -274,6 +249,32 @@ fn flags_at(n: u32) -> Flags
         shared: flag_at(n % 2),
         oneshot: flag_at(n / 2 % 2),
         noauto: flag_at(n / 4),
+    }
+}
+
+/// Whether the numbers of the entry fit into the parts of a word.
+pub fn is_narrow(e: Entry) -> bool
+    ensures { result ≡ is_narrow e }
+{
+    match e {
+        Entry::Take { cpu, .. } | Entry::End { cpu, .. } => is_narrow_cpu(cpu),
+        Entry::Begin { cpu, dev } | Entry::Return { cpu, dev, .. } => {
+            is_narrow_cpu(cpu) && is_narrow_dev(dev)
+        }
+        Entry::ThreadBegin { dev }
+        | Entry::ThreadReturn { dev, .. }
+        | Entry::Finish { dev, .. }
+        | Entry::Done { dev } => is_narrow_dev(dev),
+        Entry::Ask { driver, dev }
+        | Entry::Request { driver, dev, .. }
+        | Entry::Unlink { driver, dev, .. }
+        | Entry::Freed { driver, dev } => is_narrow_driver(driver) && is_narrow_dev(dev),
+        Entry::Disable { driver }
+        | Entry::HardClear { driver }
+        | Entry::Synced { driver }
+        | Entry::Enable { driver, .. }
+        | Entry::Affinity { driver, .. }
+        | Entry::Moment { driver, .. } => is_narrow_driver(driver),
     }
 }
 

@@ -1,4 +1,4 @@
-use Rattle.std.proofs.Common.{◌≡◌, ◌++◌, ◌∷◌, [], map, ap, ◌∙◌, arith}
+use Rattle.std.proofs.Common.{◌++◌, ◌∷◌, [], map, ap, ◌∙◌, arith}
 use Rattle.irq_base.specs.Packed.{unpack}
 use Rattle.irq_base.proofs.Unpacking.{unpacked-wide}
 use Rattle.irq_base.proofs.histories.History.push.Goals as goal
