@@ -12,11 +12,13 @@ pub mod drivers;
 pub mod layouts;
 pub mod levels;
 pub mod lines;
+pub mod masks;
 pub mod names;
 pub mod placing;
 pub mod rows;
 
 pub use board::Board;
 pub use layouts::{Layout, Placement, Unmapped};
+pub use masks::has_processor;
 pub use names::{LONGEST_NAME, Name};
 pub use rows::{DomainRow, LineRow, ScriptCall};
