@@ -6,16 +6,13 @@
 
 pub mod board;
 pub mod definitions;
-pub mod devices;
-pub mod domains;
-pub mod drivers;
 pub mod layouts;
 pub mod levels;
-pub mod lines;
 pub mod masks;
 pub mod names;
 pub mod placing;
 pub mod rows;
+pub mod tables;
 
 pub use board::Board;
 pub use layouts::{Layout, Placement, Unmapped};
