@@ -78,7 +78,21 @@ impl TextRow {
     }
 
     /// Adds the number in decimal digits, at most ten.
+    #[tactic(auto, using(std::proofs::lemmas::Fmt::decimal_digit))]
     pub fn push_number(&mut self, number: u32)
+        requires { length self.old ≤ 310 }
+        ensures text { self.new ≡ self.old ++ decimal number }
+        ensures grows { length self.new ≤ length self.old + 10 }
+    {
+        // most numbers of a log have one digit
+        if number < 10 {
+            self.push(b'0' + number as u8);
+        } else {
+            self.push_digits(number);
+        }
+    }
+
+    fn push_digits(&mut self, number: u32)
         requires { length self.old ≤ 310 }
         ensures text { self.new ≡ self.old ++ decimal number }
         ensures grows { length self.new ≤ length self.old + 10 }
