@@ -1,0 +1,4 @@
+pub mod Counting
+pub mod CallCounts
+pub mod Running
+pub mod RunCounts
