@@ -2,3 +2,4 @@ pub mod Counting
 pub mod CallCounts
 pub mod Running
 pub mod RunCounts
+pub mod ThreadCounts
