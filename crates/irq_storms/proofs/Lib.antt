@@ -3,3 +3,6 @@ pub mod CallCounts
 pub mod Running
 pub mod RunCounts
 pub mod ThreadCounts
+pub mod EdgeCounts
+pub mod EdgeBound
+pub mod Laws

@@ -22,7 +22,6 @@ use Rattle.irq_steps.proofs.Same.{same_self, dev_from_same}
 use Rattle.irq_laws.specs.Kept.{Kept}
 use Rattle.irq_laws.proofs.KeptAlways.{kept}
 use Rattle.irq_laws.proofs.FreesKept.{begun_is_linked}
-use Rattle.irq_laws.proofs.Lists.{both_ways}
 use Rattle.irq_laws.proofs.Requested.{was_linked}
 use Rattle.irq_laws.proofs.RunsKept.{handle_idle}
 use Rattle.irq_laws.proofs.ImpliesFlow.{take_due, begin_due, return_due, end_due, has_a_flow}
@@ -155,10 +154,10 @@ left_at_begin def c x past k due =
     let l = begun_is_linked def past x u.first in
     let e = entries.Begin c x in
     let drop = count_drop (is_left def past) (is_left def (e ∷ past)) x def.devices
-        (λ d. left_before def e past d refl (later_begun (same_dev d x) (has_begun def past d)))
-        (was (has_flow def past) (has_begun def past x) (has_a_flow c (flow def past) u.of_flow) l.1)
-        (now (has_flow def (e ∷ past)) (same_dev x x) (has_begun def past x) (same x))
-        (k.rest.named x (was_linked past x l.0)) in
+    (λ d. left_before def e past d refl (later_begun (same_dev d x) (has_begun def past d)))
+    (was (has_flow def past) (has_begun def past x) (has_a_flow c (flow def past) u.of_flow) l.1)
+    (now (has_flow def (e ∷ past)) (same_dev x x) (has_begun def past x) (same x))
+    (k.rest.named x (was_linked past x l.0)) in
     omega (arith, drop)
   where
     was : (a b : Bool) → a ≡ true → b ≡ false → (a && not b) ≡ true

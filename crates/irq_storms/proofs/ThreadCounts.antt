@@ -1,12 +1,12 @@
 -- The runs of threads, by the returns that woke them.
-use Rattle.std.proofs.Common.{◌≡◌, ℕ, ◌+◌, ◌≤◌, ◌==◌, Bool, true, false, not, ◌||◌, ◌&&◌, cond, List, [], ◌∷◌, refl, sym, ap, ◌∙◌, subst, arith}
+use Rattle.std.proofs.Common.{◌≡◌, ℕ, ◌+◌, ◌≤◌, ◌==◌, Bool, true, false, not, ◌||◌, ◌&&◌, cond, List, [], ◌∷◌, refl, sym, subst, arith}
 use Rattle.std.specs.List.{list_any}
 use Rattle.irq_base.specs.declared.numbers.DevNo.{DevNo}
 use Rattle.irq_base.specs.declared.lines.LineDef.{LineDef}
 use Rattle.irq_base.specs.declared.entries.Entry.{Entry}
 use Rattle.irq_base.specs.declared.entries.Entry.TheVariants as entries
 use Rattle.irq_model.specs.Places.{since, count_of}
-use Rattle.irq_model.specs.Kinds.{same_dev, is_wake, wakes, returns_wake, is_thread_begin, is_thread_return, is_finish, is_done}
+use Rattle.irq_model.specs.Kinds.{is_wake, wakes, returns_wake, is_thread_begin, is_thread_return, is_finish, is_done}
 use Rattle.irq_model.specs.Threads.{is_woken, is_running}
 use Rattle.irq_model.specs.Legal.{IsDue, IsLegalPast}
 use Rattle.irq_steps.proofs.Same.{dev_from_same}
@@ -107,7 +107,7 @@ finishes_of def d = runs_below def (is_finish d) (is_thread_begin d) (λ past. o
     step : (e : Entry) (past : List Entry) → IsLegalPast def past → IsDue def e past → StaysBelow (is_finish d) (is_thread_begin d) (λ past. one_if (awaits_finish d past)) e past
     step e past legal due =
         let m = finished_marks (is_thread_begin d e) (is_thread_return d e) (is_finish d e) (is_done d e) (is_running past d) (has_returned past d) (has_finished past d)
-            (λ h. (begin_tells def d e past due h).1) (return_tells def d e past due) (finish_tells def d e past due) in
+        (λ h. (begin_tells def d e past due h).1) (return_tells def d e past due) (finish_tells def d e past due) in
         subst (λ (u : Bool). one_if (is_finish d e) + one_if (is_running (e ∷ past) d && not (u && has_finished (e ∷ past) d)) ≤ one_if (awaits_finish d past) + one_if (is_thread_begin d e)) (sym (returned_since d e past))
         (subst (λ (g : Bool). one_if (is_finish d e) + one_if (is_running (e ∷ past) d && not (cond (is_thread_begin d e) false (is_thread_return d e || has_returned past d) && g)) ≤ one_if (awaits_finish d past) + one_if (is_thread_begin d e)) (sym (finished_since d e past)) m)
 
