@@ -6,3 +6,5 @@ pub mod ThreadCounts
 pub mod EdgeCounts
 pub mod EdgeBound
 pub mod Laws
+pub mod ServedCounts
+pub mod KillCounts

@@ -79,6 +79,14 @@ rounds_past def (e ∷ past) legal =
     summed : (r' n' r n x y f g : ℕ) → r' ≡ r + x → n' ≡ n + y → r ≡ n + f → x + f ≡ y + g → r' ≡ n' + g
     summed r' n' r n x y f g h i j k = omega (arith, h, i, j, k)
 
+-- an end that leaves closes the flow
+pub flow_closed : (def : LineDef) (c : CpuNo) (unmask : Bool) (note : Note) (past : List Entry) → has_flow def (entries.End c false unmask note ∷ past) ≡ false
+flow_closed def c unmask note past = refl
+
+-- an entry that is neither a take that is handled nor an end leaves it
+pub flow_stays : (def : LineDef) (e : Entry) (past : List Entry) → is_handle e ≡ false → is_leave e ≡ false → is_again e ≡ false → has_flow def (e ∷ past) ≡ has_flow def past
+flow_stays def e past a b c = ap is_some (flow_quiet def e past a b c)
+
 -- ---- the begins are at most the devices times the rounds
 
 -- one device fewer
@@ -121,7 +129,7 @@ abbrev left : LineDef → List Entry → ℕ
 left def past = count_of (λ x. is_left def past x.dev) def.devices
 
 -- a flow after an entry that isn't a take which is handled was there before
-flow_before : (def : LineDef) (e : Entry) (past : List Entry) → is_handle e ≡ false → has_flow def (e ∷ past) ≡ true → has_flow def past ≡ true
+pub flow_before : (def : LineDef) (e : Entry) (past : List Entry) → is_handle e ≡ false → has_flow def (e ∷ past) ≡ true → has_flow def past ≡ true
 flow_before def (entries.End c again unmask note) past other h = by_test (closes def (entries.End c again unmask note)) h
   where
     by_test : (b : Bool) → is_some (cpu_of_handle (cond (false || b) (Some (entries.End c again unmask note)) (last_of (λ e. is_handle e || closes def e) past))) ≡ true → has_flow def past ≡ true

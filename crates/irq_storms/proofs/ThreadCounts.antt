@@ -17,14 +17,14 @@ use Rattle.irq_storms.proofs.Running.{StaysBelow, runs_below}
 
 -- ---- what an entry of d's thread tells, where it is due
 
-begin_tells : (def : LineDef) (d : DevNo) (e : Entry) (past : List Entry) → IsDue def e past → is_thread_begin d e ≡ true → (is_woken past d ≡ true) × (is_running past d ≡ false)
+pub begin_tells : (def : LineDef) (d : DevNo) (e : Entry) (past : List Entry) → IsDue def e past → is_thread_begin d e ≡ true → (is_woken past d ≡ true) × (is_running past d ≡ false)
 begin_tells def d (entries.ThreadBegin x) past due h =
     let u = thread_begin_due def x past due in
     let same = sym (dev_from_same d x h) in
     (subst (λ (y : DevNo). is_woken past y ≡ true) same u.woken, subst (λ (y : DevNo). is_running past y ≡ false) same u.not_running)
 begin_tells def d e past due h = cc
 
-return_tells : (def : LineDef) (d : DevNo) (e : Entry) (past : List Entry) → IsDue def e past → is_thread_return d e ≡ true → (is_running past d ≡ true) × (has_returned past d ≡ false)
+pub return_tells : (def : LineDef) (d : DevNo) (e : Entry) (past : List Entry) → IsDue def e past → is_thread_return d e ≡ true → (is_running past d ≡ true) × (has_returned past d ≡ false)
 return_tells def d (entries.ThreadReturn x served) past due h =
     let u = thread_return_due def x served past due in
     let same = sym (dev_from_same d x h) in
