@@ -247,8 +247,8 @@ busy_at_take def c way answer past valid legal level due =
 
 busy_before : (def : LineDef) (c : CpuNo) (way : Way) (past : List Entry) → IsLegalPast def past → is_level_line def ≡ true → IsDue def (entries.Take c way takes.Busy) past → may_be_busy def past ≡ true
 busy_before def c way past legal level due =
-    let open = level_take def c way takes.Busy past legal level due in
-    all (is_level_line def) (is_eoi_flow def.flow) (has_flow def past) (is_masked def past) level open.0 open.1 (busy_has_flow def c way past due)
+    let shown = level_take def c way takes.Busy past legal level due in
+    all (is_level_line def) (is_eoi_flow def.flow) (has_flow def past) (is_masked def past) level shown.0 shown.1 (busy_has_flow def c way past due)
   where
     all : (l g f m : Bool) → l ≡ true → m ≡ false → ((l && g) && f) ≡ false → f ≡ true → (not g && (f && not m)) ≡ true
     all l g f m a b c d = grind arith
