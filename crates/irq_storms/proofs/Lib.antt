@@ -8,3 +8,5 @@ pub mod EdgeBound
 pub mod Laws
 pub mod ServedCounts
 pub mod KillCounts
+pub mod WindowRule
+pub mod EndCounts
