@@ -30,7 +30,7 @@ use Rattle.irq_storms.proofs.WindowRule.{is_killed, allowed_after, allowed_most,
 
 -- ---- counts that look at what stands before
 
-where_more : (p : Entry → List Entry → Bool) (e : Entry) (past : List Entry) → count_where p (e ∷ past) ≡ count_where p past + one_if (p e past)
+pub where_more : (p : Entry → List Entry → Bool) (e : Entry) (past : List Entry) → count_where p (e ∷ past) ≡ count_where p past + one_if (p e past)
 where_more p e past = by_test (p e past) (count_where p past)
   where
     by_test : (b : Bool) (n : ℕ) → cond b (n + 1) n ≡ n + cond b 1 0

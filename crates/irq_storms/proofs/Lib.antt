@@ -10,3 +10,4 @@ pub mod ServedCounts
 pub mod KillCounts
 pub mod WindowRule
 pub mod EndCounts
+pub mod LevelBound
