@@ -24,8 +24,14 @@ pub mod Owing
 pub mod CoverLaws
 pub mod TakeLaws
 pub mod ServedLaws
+pub mod Idle
+pub mod WithinFree
+pub mod BlockLaws
+pub mod DriversMove
 pub mod RestLaws
 pub mod LevelSteps
 pub mod CellSteps
 pub mod Starts
 pub mod CellKept
+pub mod LogLaws
+pub mod OwnLaws

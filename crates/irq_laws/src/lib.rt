@@ -3,21 +3,34 @@
 //! above can call it or cite its lemma.
 #![tactic(auto)]
 
-ghost use Rattle.std.specs.Prelude.{◌≡◌, List, IsSome, None};
+ghost use Rattle.std.specs.Prelude.{◌≡◌, ◌⊎◌, ℕ, true, not, List, reverse, IsSome, is_some, Some, None};
+ghost use Rattle.irq_base.specs.Who.{actor_of};
+ghost use Rattle.irq_base.specs.declared.calls.Call.{Call};
 ghost use Rattle.irq_base.specs.declared.lines.LineDef.{LineDef};
+ghost use Rattle.irq_base.specs.declared.numbers.CpuNo.{CpuNo};
+ghost use Rattle.irq_base.specs.declared.numbers.DevNo.{DevNo};
+ghost use Rattle.irq_base.specs.declared.numbers.DriverNo.{DriverNo};
+ghost use Rattle.irq_base.specs.declared.numbers.LineNo.{LineNo};
 ghost use Rattle.irq_base.specs.declared.entries.Actor.{Actor};
+ghost use Rattle.irq_base.specs.declared.entries.Actor.TheVariants as actors;
 ghost use Rattle.irq_base.specs.declared.entries.Entry.{Entry};
+ghost use Rattle.irq_model.specs.Due.{due_call};
+ghost use Rattle.irq_model.specs.Kinds.{is_take};
 ghost use Rattle.irq_model.specs.Laws.{NoOverlap, IsSilentAfterFree, KeepsOneshot, TakesAreCounted, IsSynchronised, IsServedWhenIdle};
 ghost use Rattle.irq_model.specs.Legal.{IsLegal, IsLegalPast};
 ghost use Rattle.irq_model.specs.Owed.{IsCovered, IsDelivered};
 ghost use Rattle.irq_model.specs.Reason.{HasReason, OneIsCalled, OneIsFreed};
 ghost use Rattle.irq_model.specs.Scripts.{FollowsScripts};
+ghost use Rattle.irq_model.specs.Rounds.{flow};
 ghost use Rattle.irq_model.specs.Settled.{IsSettled};
 ghost use Rattle.irq_model.specs.Next.{next};
 ghost use Rattle.irq_model.specs.Signal.{target};
 ghost use Rattle.irq_model.specs.Valid.{IsValid};
+ghost use Rattle.irq_laws.specs.Blocks.{block_of, stands_in_way, FreeMoves};
 ghost use Rattle.irq_laws.specs.Driven.{IsDrivenCell};
 ghost use Rattle.irq_laws.specs.Kept.{Kept};
+ghost use Rattle.irq_laws.specs.LogLimit.{with_log};
+ghost use Rattle.irq_laws.specs.Quiet.{IsQuiet};
 
 /// No overlap: a device's handler is called only where it isn't at work, and its thread's run begins only where
 /// it isn't in one.
@@ -120,4 +133,44 @@ pub fn one_is_freed()
 #[tactic(auto, using(crate::proofs::CellKept::is_driven_cell))]
 pub fn driven_cell()
     ensures law { (def : LineDef) (h : List Entry) → IsValid def → IsLegal def h → IsDrivenCell def h }
+{}
+
+/// What is due of an actor is an entry of that actor.
+pub fn due_is_own()
+    ensures law { (def : LineDef) (h : List Entry) (a : Actor) (e : Entry) → next def h a ≡ Some e → actor_of def.line e ≡ a }
+{}
+
+/// A take is due of no processor but the target, so of one at most.
+pub fn one_takes()
+    ensures law { (def : LineDef) (h : List Entry) (c : CpuNo) (e : Entry) → is_take e ≡ true → next def h (actors.Cpu c) ≡ Some e → target def (reverse h) ≡ Some c }
+    ensures one { (def : LineDef) (h : List Entry) (b c : CpuNo) (e f : Entry) → is_take e ≡ true → is_take f ≡ true → next def h (actors.Cpu b) ≡ Some e → next def h (actors.Cpu c) ≡ Some f → b ≡ c }
+{}
+
+/// The processor of the flow in progress always has an entry due.
+pub fn flow_moves()
+    ensures law { (def : LineDef) (h : List Entry) (c : CpuNo) → flow def (reverse h) ≡ Some c → IsSome (next def h (actors.Cpu c)) }
+{}
+
+/// A driver whose call isn't complete may add its next entry exactly where what that waits for isn't in the way.
+pub fn call_waits()
+    ensures law { (def : LineDef) (h : List Entry) (r : DriverNo) (c : Call) (n : ℕ) → due_call def r (reverse h) ≡ Some (c, n) → is_some (next def h (actors.Driver r)) ≡ not (stands_in_way def (reverse h) (block_of c n)) }
+{}
+
+/// No standstill among drivers: where no thread and no processor may add an entry, a driver whose calls aren't
+/// complete may, or the driver of the free that is under way may.
+pub fn drivers_move()
+    ensures law { (def : LineDef) (h : List Entry) → IsValid def → IsLegal def h → ((line : LineNo) (d : DevNo) → next def h (actors.Thread line d) ≡ None) → ((c : CpuNo) → next def h (actors.Cpu c) ≡ None) → (r : DriverNo) → IsSome (due_call def r (reverse h)) → IsSome (next def h (actors.Driver r)) ⊎ FreeMoves def h }
+{}
+
+/// Quiet: on a settled line no flow is in progress, each handler that was called has returned, no thread is to run or
+/// in a run, and no free is under way.
+pub fn settled_is_quiet()
+    ensures law { (def : LineDef) (h : List Entry) → IsValid def → IsLegal def h → IsSettled def h → IsQuiet def h }
+{}
+
+/// The log limit is no rule: with another limit the same is due of every actor after every history, so the same
+/// histories are legal.
+pub fn log_is_no_rule()
+    ensures law { (def : LineDef) (n : ℕ) (h : List Entry) (a : Actor) → next (with_log def n) h a ≡ next def h a }
+    ensures legal { (def : LineDef) (n : ℕ) (h : List Entry) → IsLegal def h → IsLegal (with_log def n) h }
 {}

@@ -1,5 +1,5 @@
 -- Worked histories of what drivers call.
-use Rattle.std.specs.Prelude.{◌≡◌, List, [], ◌∷◌, refl, true, false, None}
+use Rattle.std.specs.Prelude.{◌≡◌, List, [], ◌∷◌, refl, true, false, None, reverse, take}
 use Rattle.irq_base.specs.declared.calls.Call.TheVariants as calls
 use Rattle.irq_base.specs.declared.devices.Kind.TheVariants as kinds
 use Rattle.irq_base.specs.declared.devices.Answer.TheVariants as answers
@@ -17,7 +17,9 @@ use Rattle.irq_base.specs.declared.entries.Opened.TheVariants as opens
 use Rattle.irq_base.specs.declared.entries.LinkAnswer.TheVariants as links
 use Rattle.irq_base.specs.declared.entries.UnlinkAnswer.TheVariants as unlinks
 use Rattle.irq_model.specs.Legal.{IsLegal}
+use Rattle.irq_model.specs.Bounds.{bound}
 use Rattle.irq_model.specs.Next.{next}
+use Rattle.irq_model.specs.Up.{is_up}
 use Rattle.irq_model.proofs.RowWords.{line, cpu, dev, driver, device, no_flags, shared, oneshot, shared_oneshot, shared_noauto, latch, plain}
 
 -- A request, an ask and a free.
@@ -50,6 +52,10 @@ pub first_is_still :
     (next first_line first_log (actors.Cpu (cpu 0)) ≡ None)
     × (next first_line first_log (actors.Driver (driver 1)) ≡ None)
 first_is_still = (refl, refl)
+
+-- one device, one ask and two other calls
+pub first_bound : bound first_line ≡ 56
+first_bound = refl
 
 -- Nested disables, and the resend of what came meanwhile, by the chip.
 abbrev pub nested_latch_line : LineDef
@@ -163,6 +169,16 @@ pub free_running_is_still :
     × (next free_running_line free_running_log (actors.Driver (driver 1)) ≡ None)
     × (next free_running_line free_running_log (actors.Thread line (dev 1)) ≡ None)
 free_running_is_still = (refl, refl, refl)
+
+-- the line's domains stay activated at the last unlink, until the free is complete
+pub up_at_the_unlink : is_up (reverse (take 5 free_running_log)) ≡ true
+up_at_the_unlink = refl
+
+pub up_until_freed : is_up (reverse (take 11 free_running_log)) ≡ true
+up_until_freed = refl
+
+pub down_when_freed : is_up (reverse (take 12 free_running_log)) ≡ false
+down_when_freed = refl
 
 -- Requests that are refused, each for a reason of its own.
 abbrev pub refused_line : LineDef

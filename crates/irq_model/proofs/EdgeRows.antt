@@ -1,5 +1,5 @@
 -- Worked histories of edge lines.
-use Rattle.std.specs.Prelude.{◌≡◌, List, [], ◌∷◌, refl, true, false, None}
+use Rattle.std.specs.Prelude.{◌≡◌, List, [], ◌∷◌, refl, true, false, Some, None, reverse}
 use Rattle.irq_base.specs.declared.calls.Call.TheVariants as calls
 use Rattle.irq_base.specs.declared.devices.Kind.TheVariants as kinds
 use Rattle.irq_base.specs.declared.devices.Answer.TheVariants as answers
@@ -17,6 +17,7 @@ use Rattle.irq_base.specs.declared.entries.LinkAnswer.TheVariants as links
 use Rattle.irq_base.specs.declared.entries.AffinityAnswer.TheVariants as moves
 use Rattle.irq_model.specs.Legal.{IsLegal}
 use Rattle.irq_model.specs.Next.{next}
+use Rattle.irq_model.specs.Signal.{target}
 use Rattle.irq_model.proofs.RowWords.{cpu, dev, driver, device, no_flags, latch, plain, lpi, msi}
 
 -- Two asks before the take share one run.
@@ -198,3 +199,54 @@ pub msi_is_still :
     (next msi_line msi_log (actors.Cpu (cpu 0)) ≡ None)
     × (next msi_line msi_log (actors.Driver (driver 1)) ≡ None)
 msi_is_still = (refl, refl)
+
+-- An affinity that takes effect later: the old target takes once more, and by that take the line moves.
+abbrev pub later_line : LineDef
+later_line = record latch {
+  later = true;
+  cpus = 2;
+  devices = device 1 kinds.Direct ∷ [];
+  calls =
+      (driver 1, calls.Request (dev 1) no_flags) ∷
+      (driver 1, calls.Affinity 2) ∷
+      (driver 1, calls.Ask (dev 1)) ∷
+      (driver 1, calls.Ask (dev 1)) ∷ [];
+}
+
+abbrev pub asked_later_log : List Entry
+asked_later_log =
+    entries.Request (driver 1) (dev 1) no_flags links.Linked (opens.Started resends.No) ∷
+    entries.Affinity (driver 1) 2 moves.Later ∷
+    entries.Ask (driver 1) (dev 1) ∷ []
+
+-- the old target is still the one that takes
+pub old_target_takes :
+    (target later_line (reverse asked_later_log) ≡ Some (cpu 0))
+    × (next later_line asked_later_log (actors.Cpu (cpu 0)) ≡ Some (entries.Take (cpu 0) ways.Line takes.Handle))
+    × (next later_line asked_later_log (actors.Cpu (cpu 1)) ≡ None)
+old_target_takes = (refl, refl, refl)
+
+abbrev pub later_log : List Entry
+later_log =
+    entries.Request (driver 1) (dev 1) no_flags links.Linked (opens.Started resends.No) ∷
+    entries.Affinity (driver 1) 2 moves.Later ∷
+    entries.Ask (driver 1) (dev 1) ∷
+    entries.Take (cpu 0) ways.Line takes.Handle ∷
+    entries.Begin (cpu 0) (dev 1) ∷
+    entries.Return (cpu 0) (dev 1) answers.Handled 1 ∷
+    entries.End (cpu 0) false false notes.Quiet ∷
+    entries.Ask (driver 1) (dev 1) ∷
+    entries.Take (cpu 1) ways.Line takes.Handle ∷
+    entries.Begin (cpu 1) (dev 1) ∷
+    entries.Return (cpu 1) (dev 1) answers.Handled 1 ∷
+    entries.End (cpu 1) false false notes.Quiet ∷ []
+
+pub later_is_legal : IsLegal later_line later_log
+later_is_legal = (refl, (refl, (refl, (refl, (refl, (refl, (refl, (refl, (refl, (refl, (refl, (refl, tt))))))))))))
+
+-- no actor of the line has a due entry
+pub later_is_still :
+    (next later_line later_log (actors.Cpu (cpu 0)) ≡ None)
+    × (next later_line later_log (actors.Cpu (cpu 1)) ≡ None)
+    × (next later_line later_log (actors.Driver (driver 1)) ≡ None)
+later_is_still = (refl, refl, refl)

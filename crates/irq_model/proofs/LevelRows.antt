@@ -15,6 +15,7 @@ use Rattle.irq_base.specs.declared.entries.EnableAnswer.TheVariants as enables
 use Rattle.irq_base.specs.declared.entries.Opened.TheVariants as opens
 use Rattle.irq_base.specs.declared.entries.LinkAnswer.TheVariants as links
 use Rattle.irq_model.specs.Legal.{IsLegal}
+use Rattle.irq_model.specs.Bounds.{bound}
 use Rattle.irq_model.specs.Next.{next}
 use Rattle.irq_model.proofs.RowWords.{cpu, dev, driver, device, no_flags, shared, level}
 
@@ -113,6 +114,10 @@ pub storm_is_still :
     (next storm_line storm_log (actors.Cpu (cpu 0)) ≡ None)
     × (next storm_line storm_log (actors.Driver (driver 1)) ≡ None)
 storm_is_still = (refl, refl)
+
+-- with a window of 10: two devices, one ask and two other calls
+pub storm_bound : bound (record storm_line { window = 10 }) ≡ 2000
+storm_bound = refl
 
 -- A killed line that was enabled before the further request: the request finds it enabled.
 abbrev pub enabled_storm_line : LineDef

@@ -3,5 +3,6 @@ mod EdgeRows
 mod LevelRows
 mod ThreadRows
 mod DriverRows
+mod ValidRows
 pub mod Lists
 pub mod Lowest

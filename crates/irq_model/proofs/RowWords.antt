@@ -78,3 +78,7 @@ lpi = record latch { flow = flows.Eoi }
 -- a level line with the level flow
 abbrev pub level : LineDef
 level = record plain { flow = flows.Level; trigger = triggers.Level }
+
+-- one with the fast-EOI flow
+abbrev pub eoi : LineDef
+eoi = record level { flow = flows.Eoi }

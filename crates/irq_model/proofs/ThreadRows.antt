@@ -16,7 +16,7 @@ use Rattle.irq_base.specs.declared.entries.Opened.TheVariants as opens
 use Rattle.irq_base.specs.declared.entries.LinkAnswer.TheVariants as links
 use Rattle.irq_model.specs.Legal.{IsLegal}
 use Rattle.irq_model.specs.Next.{next}
-use Rattle.irq_model.proofs.RowWords.{line, cpu, dev, driver, device, oneshot, shared_oneshot, latch, level}
+use Rattle.irq_model.proofs.RowWords.{line, cpu, dev, driver, device, oneshot, shared_oneshot, latch, level, eoi}
 
 -- One-shot with two threads: the last finish opens the line.
 abbrev pub two_threads_line : LineDef
@@ -162,3 +162,46 @@ pub enabled_thread_is_still :
     × (next enabled_thread_line enabled_thread_log (actors.Driver (driver 1)) ≡ None)
     × (next enabled_thread_line enabled_thread_log (actors.Thread line (dev 1)) ≡ None)
 enabled_thread_is_still = (refl, refl, refl)
+
+-- One-shot with the fast-EOI flow: the take masks the line, and the thread's finish opens it. An ask that came while the
+-- thread ran is taken then.
+abbrev pub eoi_thread_line : LineDef
+eoi_thread_line = record eoi {
+  devices = device 1 kinds.Null ∷ [];
+  calls =
+      (driver 1, calls.Request (dev 1) oneshot) ∷
+      (driver 1, calls.Ask (dev 1)) ∷
+      (driver 1, calls.Ask (dev 1)) ∷ [];
+}
+
+abbrev pub eoi_thread_log : List Entry
+eoi_thread_log =
+    entries.Request (driver 1) (dev 1) oneshot links.Linked (opens.Started resends.No) ∷
+    entries.Ask (driver 1) (dev 1) ∷
+    entries.Take (cpu 0) ways.Line takes.Handle ∷
+    entries.Begin (cpu 0) (dev 1) ∷
+    entries.Return (cpu 0) (dev 1) answers.Wake 0 ∷
+    entries.End (cpu 0) false false notes.Quiet ∷
+    entries.ThreadBegin (dev 1) ∷
+    entries.Ask (driver 1) (dev 1) ∷
+    entries.ThreadReturn (dev 1) 1 ∷
+    entries.Finish (dev 1) false true ∷
+    entries.Done (dev 1) ∷
+    entries.Take (cpu 0) ways.Line takes.Handle ∷
+    entries.Begin (cpu 0) (dev 1) ∷
+    entries.Return (cpu 0) (dev 1) answers.Wake 0 ∷
+    entries.End (cpu 0) false false notes.Quiet ∷
+    entries.ThreadBegin (dev 1) ∷
+    entries.ThreadReturn (dev 1) 1 ∷
+    entries.Finish (dev 1) false true ∷
+    entries.Done (dev 1) ∷ []
+
+pub eoi_thread_is_legal : IsLegal eoi_thread_line eoi_thread_log
+eoi_thread_is_legal = (refl, (refl, (refl, (refl, (refl, (refl, (refl, (refl, (refl, (refl, (refl, (refl, (refl, (refl, (refl, (refl, (refl, (refl, (refl, tt)))))))))))))))))))
+
+-- no actor of the line has a due entry
+pub eoi_thread_is_still :
+    (next eoi_thread_line eoi_thread_log (actors.Cpu (cpu 0)) ≡ None)
+    × (next eoi_thread_line eoi_thread_log (actors.Driver (driver 1)) ≡ None)
+    × (next eoi_thread_line eoi_thread_log (actors.Thread line (dev 1)) ≡ None)
+eoi_thread_is_still = (refl, refl, refl)

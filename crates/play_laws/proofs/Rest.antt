@@ -1,4 +1,4 @@
--- Where a play is done, the line is settled.
+-- Where none of the line's actors has a due entry, as where a play is done, the line is settled.
 use Rattle.std.proofs.Common.{◌≡◌, Option, Some, None, List, reverse, refl}
 use Rattle.irq_base.specs.declared.lines.LineDef.{LineDef}
 use Rattle.irq_base.specs.declared.entries.Actor.{Actor}
@@ -20,12 +20,16 @@ others_rest def h a valid legal other = by_next (next def h a) refl
     by_next None is = is
     by_next (Some e) is = absurd (other (mover_listed def (reverse h) a e valid legal is))
 
-all_rest : (def : LineDef) (picks : List Actor) (h : List Entry) → IsValid def → IsLegal def h → Plays def picks h Done → (a : Actor) → next def h a ≡ None
-all_rest def picks h valid legal plays a = by_next (next def h a) refl
+-- where none of the line's actors has a due entry, no actor has
+all_rest : (def : LineDef) (h : List Entry) → IsValid def → IsLegal def h → ((a : Actor) → IsOneOf a (actors_of def) → next def h a ≡ None) → (a : Actor) → next def h a ≡ None
+all_rest def h valid legal rest a = by_next (next def h a) refl
   where
     by_next : (o : Option Entry) → next def h a ≡ o → next def h a ≡ None
     by_next None is = is
-    by_next (Some e) is = done_at_rest def picks h a plays (mover_listed def (reverse h) a e valid legal is)
+    by_next (Some e) is = rest a (mover_listed def (reverse h) a e valid legal is)
+
+pub rest_is_settled : (def : LineDef) (h : List Entry) → IsValid def → IsLegal def h → ((a : Actor) → IsOneOf a (actors_of def) → next def h a ≡ None) → IsSettled def h
+rest_is_settled def h valid legal rest = no_standstill def h valid legal (all_rest def h valid legal rest)
 
 pub done_is_settled : (def : LineDef) (picks : List Actor) (h : List Entry) → IsValid def → IsLegal def h → Plays def picks h Done → IsSettled def h
-done_is_settled def picks h valid legal plays = no_standstill def h valid legal (all_rest def picks h valid legal plays)
+done_is_settled def picks h valid legal plays = rest_is_settled def h valid legal (λ a own. done_at_rest def picks h a plays own)

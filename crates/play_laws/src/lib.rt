@@ -28,6 +28,11 @@ pub fn others_rest()
     ensures law { (def : LineDef) (h : List Entry) (a : Actor) → IsValid def → IsLegal def h → (IsOneOf a (actors_of def) → ⊥) → next def h a ≡ None }
 {}
 
+/// No standstill: after a legal history where none of the line's own actors has a due entry, the line is settled.
+pub fn rest_is_settled()
+    ensures law { (def : LineDef) (h : List Entry) → IsValid def → IsLegal def h → ((a : Actor) → IsOneOf a (actors_of def) → next def h a ≡ None) → IsSettled def h }
+{}
+
 /// Where the play of a legal history is done, the line is settled: nothing is due, and every script is complete.
 pub fn done_is_settled()
     ensures law { (def : LineDef) (picks : List Actor) (h : List Entry) → IsValid def → IsLegal def h → Plays def picks h Done → IsSettled def h }

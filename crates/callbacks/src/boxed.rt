@@ -1,0 +1,37 @@
+//! A stored closure.
+ghost use Rattle.std.specs.Prelude.{◌≡◌, ℕ};
+ghost use Rattle.irq_base.specs.Handlers.{answer_of};
+ghost use Rattle.irq_base.specs.declared.devices.Answer.{Answer};
+ghost use Rattle.irq_base.specs.declared.devices.DeviceDef.{DeviceDef};
+ghost use Rattle.irq_base.specs.declared.devices.Part.{Part};
+
+use crate::handler::Handler;
+use irq_base::{Answer, DeviceDef, Part};
+
+/// A function that stands for all handlers: the device, the part, how many asks are unserved.
+pub type Handling = Box<dyn Fn(DeviceDef, Part, u32) -> Answer + Sync>;
+
+/// A boxed function, with the facts that it may always be called and that it answers as the devices do. Whoever makes
+/// the box hands it in.
+#[derive(Drop)]
+pub struct Boxed {
+    f: Handling,
+    ghost callable: { Handling.IsAlwaysCallable f },
+    ghost by_kind: { (d : DeviceDef) (p : Part) (n : ℕ) (a : Answer) → Handling.post f d p n a → a ≡ answer_of d.kind p n },
+}
+
+impl Boxed {
+    /// Keeps the function.
+    pub fn new(f: Handling) -> Boxed
+        requires callable { Handling.IsAlwaysCallable f }
+        requires by_kind { (d : DeviceDef) (p : Part) (n : ℕ) (a : Answer) → Handling.post f d p n a → a ≡ answer_of d.kind p n }
+    {
+        Boxed { f }
+    }
+}
+
+impl Handler for Boxed {
+    fn answer(&self, def: DeviceDef, part: Part, unserved: u32) -> Answer {
+        (self.f)(def, part, unserved)
+    }
+}

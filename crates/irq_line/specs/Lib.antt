@@ -1,0 +1,4 @@
+pub mod Seen
+pub mod Runs
+pub mod Answers
+pub mod Queries

@@ -1,0 +1,31 @@
+-- The run of a handler that an entry ends.
+use Rattle.std.specs.Prelude.{Option, Some, None, List, reverse}
+use Rattle.irq_base.specs.declared.numbers.DevNo.{DevNo}
+use Rattle.irq_base.specs.declared.devices.DeviceDef.{DeviceDef}
+use Rattle.irq_base.specs.declared.devices.Part.TheVariants as parts
+use Rattle.irq_base.specs.declared.entries.Actor.{Actor}
+use Rattle.irq_base.specs.declared.entries.Entry.{Entry}
+use Rattle.irq_base.specs.declared.entries.Entry.TheVariants as entries
+use Rattle.irq_base.specs.declared.lines.LineDef.{LineDef}
+use Rattle.irq_model.specs.Lines.{kind_of}
+use Rattle.irq_model.specs.Next.{next, asks_of_handler, asks_of_thread}
+use Rattle.callbacks.specs.Seen.{Run}
+
+-- the line's device of that number
+abbrev pub device_of : LineDef → DevNo → DeviceDef
+device_of def dev = record { dev = dev; line = def.line; kind = kind_of def dev }
+
+-- a return ends a run of the device's handler, a thread's return one of its thread; each with the asks that were
+-- unserved as it began
+abbrev pub run_ended : LineDef → List Entry → Entry → Option Run
+run_ended def past (entries.Return cpu dev answer served) = Some (record { def = device_of def dev; part = parts.Primary; unserved = asks_of_handler def dev past })
+run_ended def past (entries.ThreadReturn dev served) = Some (record { def = device_of def dev; part = parts.Thread; unserved = asks_of_thread def dev past })
+run_ended def past _ = None
+
+abbrev pub run_of_entry : LineDef → List Entry → Option Entry → Option Run
+run_of_entry def past None = None
+run_of_entry def past (Some e) = run_ended def past e
+
+-- the run that ends with the entry that is due of the actor, where that entry is a return or a thread's return
+abbrev pub run_of : LineDef → List Entry → Actor → Option Run
+run_of def h actor = run_of_entry def (reverse h) (next def h actor)

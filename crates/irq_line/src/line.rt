@@ -1,0 +1,79 @@
+//! The trait.
+ghost use Rattle.std.specs.Prelude.{◌≡◌, ◌≤◌, ◌↔◌, IsTrue, OnOk, OnErr};
+ghost use Rattle.irq_line.specs.Answers.{Answers};
+ghost use Rattle.irq_line.specs.Queries.{IsPresented, IsTaker, IsLowestThread, flow_of, blocks_of};
+ghost use Rattle.irq_line.specs.Seen.{LineSeen, IsSound};
+
+use crate::answers::{StepRefused, Stepped};
+use crate::queries::Blocks;
+use callbacks::Said;
+use irq_base::{Actor, CpuNo, DevNo, History, LineDef, NoMemory};
+
+/// An interrupt line (`struct irq_desc`, `include/linux/irqdesc.h`). Contracts see what `seen` makes of it: its
+/// definition, its entries, the oldest first, and how many more fit without memory.
+pub trait IrqLine: Drop {
+    ghost seen: { Self → LineSeen };
+
+    /// Adds the entry that is due of the actor, if there is one: one hold of the line's lock. Where the entry ends a
+    /// run of a handler, the answer of that run has to be handed in; an answer of another run, or one that isn't
+    /// wanted, is let go.
+    ///
+    /// # Errors
+    ///
+    /// `Full` where an entry is due and the history has the greatest length that the definition allows. `NoMemory`
+    /// where memory was refused; a line may want some at any step. Nothing has changed then.
+    fn step(&mut self, actor: Actor, said: Option<Said>) -> Result<Stepped, StepRefused>
+        ensures def { (seen self.new).def ≡ (seen self.old).def }
+        ensures answer { Answers (seen self.old) actor said result (seen self.new) };
+
+    /// Makes room for one more entry. Refused, all is as before.
+    fn reserve(&mut self) -> Result<(), NoMemory>
+        ensures room { OnOk result (1 ≤ (seen self.new).spare) }
+        ensures def { (seen self.new).def ≡ (seen self.old).def }
+        ensures entries { (seen self.new).entries ≡ (seen self.old).entries }
+        ensures grows { (seen self.old).spare ≤ (seen self.new).spare }
+        ensures refused { OnErr result (seen self.new ≡ seen self.old) };
+
+    /// How many more entries fit without memory.
+    fn spare(&self) -> usize
+        ensures { result ≡ (seen self.now).spare };
+
+    /// What the line was made of.
+    fn definition(&self) -> &LineDef
+        ensures { result.now ≡ (seen self.now).def };
+
+    /// The entries so far.
+    fn history(&self) -> &History
+        ensures entries { result.now.entries ≡ (seen self.now).entries }
+        ensures spare { result.now.spare ≡ (seen self.now).spare };
+
+    /// The entries so far, without the line.
+    fn into_history(self) -> History
+        ensures entries { result.entries ≡ (seen self).entries }
+        ensures spare { result.spare ≡ (seen self).spare };
+
+    /// What holds of every line at every moment: its definition is valid, each entry is the one that was due of its
+    /// actor after those before it, and the history isn't longer than the definition allows.
+    fn is_sound(&self)
+        ensures { IsSound (seen self.now) };
+
+    /// Whether a take of the processor is due. It takes no memory, as none of the queries does.
+    fn present(&self, cpu: CpuNo) -> bool
+        ensures { IsTrue result ↔ IsPresented (seen self.now) cpu };
+
+    /// The processor of the flow in progress, if there is one.
+    fn in_flow(&self) -> Option<CpuNo>
+        ensures { result ≡ flow_of (seen self.now) };
+
+    /// The one processor of which a take is due, if there is one.
+    fn taker(&self) -> Option<CpuNo>
+        ensures { IsTaker (seen self.now) result };
+
+    /// The device with the least number whose thread has an entry due, if there is one.
+    fn lowest_thread(&self) -> Option<DevNo>
+        ensures { IsLowestThread (seen self.now) result };
+
+    /// What drivers' calls wait for, as it stands.
+    fn blocks(&self) -> Blocks
+        ensures { result ≡ blocks_of (seen self.now) };
+}
