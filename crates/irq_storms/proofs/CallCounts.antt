@@ -16,8 +16,9 @@ use Rattle.irq_model.specs.Bounds.{is_ask_call, ask_calls, other_calls}
 use Rattle.irq_model.specs.Scripts.{MakesAll, AreMadeBy, FollowsScriptsPast}
 use Rattle.irq_model.specs.Legal.{IsLegalPast}
 use Rattle.irq_laws.proofs.ScriptLaws.{follows_past}
-use Rattle.irq_storms.specs.Tests.{is_by_any_driver, is_renewal, most_entries}
-use Rattle.irq_storms.proofs.Counting.{one_if, count_more, count_total, total, total_ext, total_at, totals_by_key}
+use Rattle.irq_storms.specs.Judged.{one_if}
+use Rattle.irq_storms.specs.Tests.{total, is_by_any_driver, is_renewal, most_entries}
+use Rattle.irq_storms.proofs.Counting.{count_more, count_total, total_ext, total_at, totals_by_key}
 
 -- ---- counts of joined, reversed and filtered lists
 

@@ -2,10 +2,8 @@
 use Rattle.std.proofs.Common.{◌≡◌, ℕ, zero, suc, ◌+◌, ◌≤◌, ◌==◌, Bool, true, false, ◌&&◌, cond, nat_lt, List, [], ◌∷◌, refl, ap, ◌∙◌, arith, lt-ltb, le-ltb}
 use Rattle.std.proofs.lemmas.Bool.Decides.{nat_tests}
 use Rattle.irq_model.specs.Places.{count_of}
-
--- a mark as a number
-abbrev pub one_if : Bool → ℕ
-one_if b = cond b 1 0
+use Rattle.irq_storms.specs.Tests.{total}
+use Rattle.irq_storms.specs.Judged.{one_if}
 
 if_both : (b c : Bool) → one_if (c && b) ≡ cond b (one_if c) 0
 if_both true true = refl
@@ -40,11 +38,6 @@ module _ {A : Type 0} where
       by_test true false i k = let n = i refl in cc
       by_test false true i k = omega (arith, k)
       by_test false false i k = k
-
-  -- the sum of the weights
-  abbrev pub total : (A → ℕ) → List A → ℕ
-  total w [] = 0
-  total w (x ∷ xs) = w x + total w xs
 
   pub count_total : (p : A → Bool) (xs : List A) → count_of p xs ≡ total (λ x. one_if (p x)) xs
   count_total p [] = refl

@@ -1,5 +1,6 @@
 -- How long a history is, by its counts, and so the bound on that of an edge line.
-use Rattle.std.proofs.Common.{◌≡◌, ℕ, ◌+◌, ◌*◌, ◌≤◌, true, List, [], ◌∷◌, reverse, length, refl, arith}
+use Rattle.std.proofs.Common.{◌≡◌, ℕ, ◌+◌, ◌*◌, ◌≤◌, true, List, [], ◌∷◌, reverse, length, refl, sym, subst, arith}
+use Rattle.std.proofs.lemmas.List.{reverse-reverse}
 use Rattle.std.proofs.Math.Nat.{mul-add, add-mul, mul-le-mul_left, mul-one, mul_assoc}
 use Rattle.irq_base.specs.declared.lines.LineDef.{LineDef}
 use Rattle.irq_base.specs.declared.entries.Entry.{Entry}
@@ -66,5 +67,8 @@ edge_within def past valid legal counts =
 pub edge_counts_of : (def : LineDef) (h : List Entry) → IsLegal def h → is_edge_line def ≡ true → EdgeCounts def (reverse h)
 edge_counts_of def h legal edge = let counted = takes_are_counted def h legal in edge_counts def (reverse h) legal (counted.line edge) (counted.resend edge)
 
-pub edge_bounded : (def : LineDef) (h : List Entry) → IsValid def → IsLegal def h → is_edge_line def ≡ true → length (reverse h) ≤ edge_bound def
-edge_bounded def h valid legal edge = edge_within def (reverse h) valid legal (edge_counts_of def h legal edge)
+-- the same of a past
+pub edge_counts_past : (def : LineDef) (past : List Entry) → IsLegalPast def past → is_edge_line def ≡ true → EdgeCounts def past
+edge_counts_past def past legal edge =
+    let turned : reverse (reverse past) ≡ past = reverse-reverse past in
+    subst (λ (l : List Entry). EdgeCounts def l) turned (edge_counts_of def (reverse past) (subst (λ (l : List Entry). IsLegalPast def l) (sym turned) legal) edge)

@@ -24,8 +24,9 @@ use Rattle.irq_model.specs.Spurious.{note_of}
 use Rattle.irq_model.specs.Legal.{IsDue, IsLegalPast}
 use Rattle.irq_steps.proofs.RoundSteps.{flow_quiet}
 use Rattle.irq_laws.proofs.ImpliesFlow.{again_by, take_due, end_due, has_a_flow}
+use Rattle.irq_storms.specs.Judged.{one_if}
 use Rattle.irq_storms.specs.Tests.{is_end, is_renewal}
-use Rattle.irq_storms.proofs.Counting.{one_if, count_more, count_imply}
+use Rattle.irq_storms.proofs.Counting.{count_more, count_imply}
 use Rattle.irq_storms.proofs.Running.{StaysBelow, runs_below}
 use Rattle.irq_storms.proofs.RunCounts.{rounds_past}
 use Rattle.irq_storms.proofs.CallCounts.{asks_of_drivers, renewals_of_drivers}

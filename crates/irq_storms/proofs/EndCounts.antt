@@ -1,8 +1,7 @@
 -- The ends of a level line: those judged handled, deferred, and nothing.
-use Rattle.std.proofs.Common.{◌≡◌, ℕ, ◌+◌, ◌-◌, ◌*◌, ◌<◌, ◌≤◌, ◌==◌, ◌⊎◌, inl, inr, Bool, true, false, not, ◌||◌, ◌&&◌, cond, nat_lt, List, [], ◌∷◌, refl, sym, ap, ◌∙◌, subst, arith}
+use Rattle.std.proofs.Common.{◌≡◌, ℕ, ◌+◌, ◌*◌, ◌<◌, ◌≤◌, ◌==◌, Bool, true, false, not, ◌||◌, ◌&&◌, cond, nat_lt, List, [], ◌∷◌, refl, ap, ◌∙◌, arith}
 use Rattle.std.proofs.Math.Nat.{mul-add, mul-one}
 use Rattle.std.proofs.lemmas.Bool.{or_parts, false_from_ne_true}
-use Rattle.std.specs.List.{list_any}
 use Rattle.irq_base.specs.declared.numbers.CpuNo.{CpuNo}
 use Rattle.irq_base.specs.declared.lines.LineDef.{LineDef}
 use Rattle.irq_base.specs.declared.entries.Entry.{Entry}
@@ -11,19 +10,18 @@ use Rattle.irq_base.specs.declared.entries.TakeAnswer.TheVariants as takes
 use Rattle.irq_base.specs.declared.entries.LinkAnswer.TheVariants as links
 use Rattle.irq_base.specs.declared.entries.Note.{Note}
 use Rattle.irq_base.specs.declared.entries.Note.TheVariants as notes
-use Rattle.irq_base.specs.declared.entries.Opened.{Opened}
 use Rattle.irq_model.specs.Places.{stands, count_of}
-use Rattle.irq_model.specs.Kinds.{is_handled, returns_handled, is_kill, is_start, is_linked_request, is_handle, is_leave, is_again}
+use Rattle.irq_model.specs.Kinds.{is_handled, is_kill, is_start, is_linked_request}
 use Rattle.irq_model.specs.Lines.{is_level_line}
 use Rattle.irq_model.specs.Rounds.{flow, has_flow}
-use Rattle.irq_model.specs.Spurious.{Counts, now, round_wakes, round_handles, noted_end, counts_of, note_of}
+use Rattle.irq_model.specs.Spurious.{now, round_wakes, round_handles, noted_end, counts_of}
 use Rattle.irq_model.specs.Legal.{IsDue, IsLegalPast}
 use Rattle.irq_model.specs.Valid.{IsValid}
 use Rattle.irq_laws.proofs.Lists.{both_ways}
 use Rattle.irq_laws.proofs.ImpliesFlow.{end_due, has_a_flow}
 use Rattle.irq_storms.specs.Tests.{is_end, is_any_serving, is_moment, is_renewal}
-use Rattle.irq_storms.specs.Judged.{count_where, judgement, is_handled_judgement, is_nothing_judgement, is_deferred_judgement, ends_handled, ends_nothing, ends_deferred, handled_ends, nothing_ends, deferred_ends, breaks, allowance, allowed}
-use Rattle.irq_storms.proofs.Counting.{one_if, count_more}
+use Rattle.irq_storms.specs.Judged.{one_if, count_where, judgement, is_nothing_judgement, ends_handled, ends_nothing, ends_deferred, handled_ends, nothing_ends, deferred_ends, breaks, serving_marks, allowance, allowed}
+use Rattle.irq_storms.proofs.Counting.{count_more}
 use Rattle.irq_storms.proofs.RunCounts.{flow_stays}
 use Rattle.irq_storms.proofs.KillCounts.{no_flow_after, shut_past}
 use Rattle.irq_storms.proofs.WindowRule.{is_killed, allowed_after, allowed_most, most_unless, EndFacts, end_facts}
@@ -59,10 +57,6 @@ facts_of : (def : LineDef) (past : List Entry) → EndFacts def.window def.limit
 facts_of def past = end_facts def.window def.limit (now past) (round_wakes def past) (round_handles def past) (counts_of def past)
 
 -- ---- the ends judged handled
-
--- what an end that is judged handled takes: a handled return of the round, or a thread that served
-abbrev pub serving_marks : LineDef → List Entry → ℕ
-serving_marks def past = one_if (has_flow def past && round_handles def past) + one_if (not ((counts_of def past).threads_handled == (counts_of def past).last))
 
 abbrev HandledMore : LineDef → Entry → List Entry → Type 0
 HandledMore def e past = StaysWithin (ends_handled def) (λ e past. is_any_serving e) (serving_marks def) (λ past. 0) e past

@@ -1,7 +1,7 @@
 -- A level line that was killed is disabled, and has no flow, until it is started; and so is one that answered a
 -- take with Off masked and disabled.
-use Rattle.std.proofs.Common.{◌≡◌, ℕ, ◌+◌, ◌≤◌, ◌⊎◌, inl, inr, Bool, true, false, not, ◌||◌, ◌&&◌, cond, is_some, List, [], ◌∷◌, refl, sym, ap, ◌∙◌, subst, arith}
-use Rattle.std.proofs.lemmas.Bool.{and_parts, or_parts, or_left, or_right, false_from_ne_true, true_from_ne_false}
+use Rattle.std.proofs.Common.{◌≡◌, ◌+◌, ◌≤◌, ◌⊎◌, inl, inr, Bool, true, false, not, ◌||◌, ◌&&◌, cond, List, [], ◌∷◌, refl, sym, ap, ◌∙◌, subst, arith}
+use Rattle.std.proofs.lemmas.Bool.{or_parts, or_left, false_from_ne_true, true_from_ne_false}
 use Rattle.irq_base.specs.declared.numbers.CpuNo.{CpuNo}
 use Rattle.irq_base.specs.declared.lines.FlowKind.{FlowKind}
 use Rattle.irq_base.specs.declared.lines.FlowKind.TheVariants as flows
@@ -13,20 +13,18 @@ use Rattle.irq_base.specs.declared.entries.Way.TheVariants as ways
 use Rattle.irq_base.specs.declared.entries.TakeAnswer.{TakeAnswer}
 use Rattle.irq_base.specs.declared.entries.TakeAnswer.TheVariants as takes
 use Rattle.irq_base.specs.declared.entries.Note.{Note}
-use Rattle.irq_base.specs.declared.entries.Note.TheVariants as notes
 use Rattle.irq_model.specs.Places.{stands, count_of}
 use Rattle.irq_model.specs.Kinds.{is_take, is_handle, is_busy, is_off, is_kill, is_start, is_disable, is_reopening, is_leave, is_again}
 use Rattle.irq_model.specs.Lines.{is_edge_line, is_level_line, is_edge_flow, is_eoi_flow, serves}
 use Rattle.irq_model.specs.Links.{depth, is_disabled, is_none_linked, is_oneshot}
-use Rattle.irq_model.specs.Masks.{masks, unmasks, take_masks, is_masked}
+use Rattle.irq_model.specs.Masks.{masks, take_masks, is_masked}
 use Rattle.irq_model.specs.Asks.{is_high}
 use Rattle.irq_model.specs.Rounds.{has_flow}
 use Rattle.irq_model.specs.Edges.{is_sent}
-use Rattle.irq_model.specs.Waiting.{is_pending, is_soft}
+use Rattle.irq_model.specs.Waiting.{is_pending}
 use Rattle.irq_model.specs.Signal.{signals}
 use Rattle.irq_model.specs.Spurious.{note_of}
-use Rattle.irq_model.specs.Next.{is_off_now}
-use Rattle.irq_model.specs.Threads.{is_woken, is_some_unfinished, is_other_unfinished}
+use Rattle.irq_model.specs.Threads.{is_woken, is_other_unfinished}
 use Rattle.irq_model.specs.Legal.{IsDue, IsLegalPast}
 use Rattle.irq_model.specs.Valid.{IsValid}
 use Rattle.irq_steps.proofs.MaskSteps.{masked_more}
@@ -39,7 +37,9 @@ use Rattle.irq_laws.proofs.RunsKept.{handle_idle}
 use Rattle.irq_laws.proofs.Starts.{soft_has_edges}
 use Rattle.irq_laws.proofs.ImpliesFlow.{again_by, unmask_by, take_due, end_due}
 use Rattle.irq_laws.proofs.ImpliesThread.{finish_due}
-use Rattle.irq_storms.proofs.Counting.{one_if}
+use Rattle.irq_storms.specs.Storms.{IsShut, IsClosed}
+use Rattle.irq_storms.specs.Judged.{one_if}
+use Rattle.irq_storms.proofs.Counting.{count_more}
 use Rattle.irq_storms.proofs.Running.{StaysBelow, runs_below}
 use Rattle.irq_storms.proofs.RunCounts.{flow_before, flow_closed, flow_stays}
 
@@ -83,10 +83,6 @@ disabled_by_kill def e past due k no_start kills = disabled_from (e ∷ past) (�
 
 -- ---- after a kill
 
-pub record IsShut (def : LineDef) (past : List Entry) : Type 0 where
-  pub disabled : is_disabled past ≡ true
-  pub no_flow : has_flow def past ≡ false
-
 kill_alone : (e : Entry) → is_kill e ≡ true → is_start e ≡ false
 kill_alone (entries.End c again unmask note) h = refl
 kill_alone (entries.Enable s answer) h = cc
@@ -119,10 +115,6 @@ shut_past def (e ∷ past) valid legal level h = by_case (stands_cases (is_kill 
         }
 
 -- ---- after a take that was answered Off
-
-pub record IsClosed (def : LineDef) (past : List Entry) : Type 0 where
-  pub masked : is_masked def past ≡ true
-  pub disabled : is_disabled past ≡ true
 
 off_masks : (def : LineDef) (f : FlowKind) (c : CpuNo) (way : Way) (past : List Entry) → take_masks def f (entries.Take c way takes.Off) past ≡ true
 off_masks def flows.Edge c way past = refl
@@ -288,3 +280,22 @@ busy_more def e past valid level legal due = let k = kept_quiet def e past refl 
 pub busy_past : (def : LineDef) (past : List Entry) → IsValid def → IsLegalPast def past → is_level_line def ≡ true → count_of is_busy past + one_if (may_be_busy def past) ≤ count_of is_start past
 busy_past def past valid legal level =
     runs_below def is_busy is_start (λ past. one_if (may_be_busy def past)) (no_flow_marks (is_eoi_flow def.flow) false (is_masked def []) refl) (λ e past legal due. busy_more def e past valid level legal due) past legal
+
+-- no take is answered so on the fast-EOI flow
+not_serving : (l g f : Bool) → l ≡ true → g ≡ true → ((l && g) && f) ≡ false → f ≡ false
+not_serving l g f a b c = grind arith
+
+not_busy : (def : LineDef) (e : Entry) (past : List Entry) → IsLegalPast def past → is_level_line def ≡ true → is_eoi_flow def.flow ≡ true → IsDue def e past → is_busy e ≡ false
+not_busy def (entries.Take c way takes.Busy) past legal level eoi due =
+    both_ways (has_flow def past) (busy_has_flow def c way past due) (not_serving (is_level_line def) (is_eoi_flow def.flow) (has_flow def past) level eoi (level_take def c way takes.Busy past legal level due).1)
+not_busy def (entries.Take c way takes.Handle) past legal level eoi due = refl
+not_busy def (entries.Take c way takes.Off) past legal level eoi due = refl
+not_busy def e past legal level eoi due = refl
+
+pub none_busy : (def : LineDef) (past : List Entry) → IsLegalPast def past → is_level_line def ≡ true → is_eoi_flow def.flow ≡ true → count_of is_busy past ≡ 0
+none_busy def [] legal level eoi = refl
+none_busy def (e ∷ past) legal level eoi =
+    let m = count_more is_busy e past in
+    let r = none_busy def past legal.1 level eoi in
+    let n : one_if (is_busy e) ≡ 0 = ap one_if (not_busy def e past legal.1 level eoi legal.0) in
+    omega (arith, m, r, n)

@@ -1,22 +1,22 @@
 -- The bound on the histories of a level line, and the bound on those of every line.
-use Rattle.std.proofs.Common.{◌≡◌, ℕ, ◌+◌, ◌*◌, ◌≤◌, Bool, true, false, not, ◌||◌, ◌&&◌, cond, List, [], ◌∷◌, reverse, length, refl, sym, ap, ◌∙◌, subst, arith}
-use Rattle.std.proofs.Math.Nat.{mul-add, add-mul, mul-le-mul_left, mul-one, mul_assoc, mul_comm}
+use Rattle.std.proofs.Common.{◌≡◌, ℕ, ◌+◌, ◌*◌, ◌≤◌, Bool, true, false, not, ◌&&◌, cond, List, [], ◌∷◌, reverse, length, refl, sym, ap, ◌∙◌, arith}
+use Rattle.std.proofs.Math.Nat.{mul-add, add-mul, mul-le-mul_left, mul_assoc, mul_comm}
 use Rattle.irq_base.specs.declared.lines.LineDef.{LineDef}
 use Rattle.irq_base.specs.declared.entries.Entry.{Entry}
 use Rattle.irq_model.specs.Places.{count_of}
-use Rattle.irq_model.specs.Kinds.{is_take, is_busy, is_off}
+use Rattle.irq_model.specs.Kinds.{is_busy, is_off}
 use Rattle.irq_model.specs.Lines.{is_edge_line, is_level_line}
 use Rattle.irq_model.specs.Rounds.{begins_round, has_flow}
 use Rattle.irq_model.specs.Bounds.{ask_calls, other_calls, edge_bound, level_bound, bound}
 use Rattle.irq_model.specs.Legal.{IsLegal, IsLegalPast}
 use Rattle.irq_model.specs.Valid.{IsValid}
-use Rattle.irq_storms.specs.Tests.{is_end, is_any_serving, is_renewal}
-use Rattle.irq_storms.specs.Judged.{Judgement, Handled, Nothing, Deferred, judgement, is_handled_judgement, is_nothing_judgement, is_deferred_judgement, ends_handled, ends_nothing, ends_deferred, handled_ends, nothing_ends, deferred_ends, breaks, allowed}
-use Rattle.irq_storms.proofs.Counting.{one_if, count_more}
+use Rattle.irq_storms.specs.Tests.{is_end}
+use Rattle.irq_storms.specs.Judged.{one_if, Judgement, Handled, Nothing, Deferred, judgement, is_handled_judgement, is_nothing_judgement, is_deferred_judgement, ends_handled, ends_nothing, ends_deferred, handled_ends, nothing_ends, deferred_ends, breaks}
+use Rattle.irq_storms.proofs.Counting.{count_more}
 use Rattle.irq_storms.proofs.RunCounts.{rounds_past}
 use Rattle.irq_storms.proofs.CallCounts.{asks_of_drivers, renewals_of_drivers}
 use Rattle.irq_storms.proofs.EdgeCounts.{takes_by_answer, rounds_by_entry, starts_past}
-use Rattle.irq_storms.proofs.EdgeBound.{by_rounds, edge_bounded}
+use Rattle.irq_storms.proofs.EdgeBound.{by_rounds, edge_within, edge_counts_past}
 use Rattle.irq_storms.proofs.ServedCounts.{served_past}
 use Rattle.irq_storms.proofs.KillCounts.{busy_past, offs_past}
 use Rattle.irq_storms.proofs.EndCounts.{where_more, handled_past, deferred_past, nothing_past}
@@ -129,13 +129,16 @@ level_within def past valid legal level =
 edge_below_level : (def : LineDef) → edge_bound def ≤ level_bound def
 edge_below_level def = let a = mul-add (edge_bound def) (2 * def.window) 5 in omega (arith, a)
 
--- by the trigger
-pub within : (def : LineDef) (h : List Entry) → IsValid def → IsLegal def h → length (reverse h) ≤ bound def
-within def h valid legal = by_line (is_edge_line def) refl
+-- by the trigger, of a past whose newest entry comes first
+pub within_past : (def : LineDef) (past : List Entry) → IsValid def → IsLegalPast def past → length past ≤ bound def
+within_past def past valid legal = by_line (is_edge_line def) refl
   where
-    by_line : (b : Bool) → is_edge_line def ≡ b → length (reverse h) ≤ cond b (edge_bound def) (level_bound def)
-    by_line true edge = edge_bounded def h valid legal edge
-    by_line false level = level_within def (reverse h) valid legal (ap not level)
+    by_line : (b : Bool) → is_edge_line def ≡ b → length past ≤ cond b (edge_bound def) (level_bound def)
+    by_line true edge = edge_within def past valid legal (edge_counts_past def past legal edge)
+    by_line false level = level_within def past valid legal (ap not level)
+
+pub within : (def : LineDef) (h : List Entry) → IsValid def → IsLegal def h → length (reverse h) ≤ bound def
+within def h valid legal = within_past def (reverse h) valid legal
 
 pub bound_below_level : (def : LineDef) → bound def ≤ level_bound def
 bound_below_level def = by_line (is_edge_line def)

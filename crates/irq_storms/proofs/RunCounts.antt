@@ -25,8 +25,9 @@ use Rattle.irq_laws.proofs.FreesKept.{begun_is_linked}
 use Rattle.irq_laws.proofs.Requested.{was_linked}
 use Rattle.irq_laws.proofs.RunsKept.{handle_idle}
 use Rattle.irq_laws.proofs.ImpliesFlow.{take_due, begin_due, return_due, end_due, has_a_flow}
+use Rattle.irq_storms.specs.Judged.{one_if}
 use Rattle.irq_storms.specs.Tests.{is_any_begin, is_any_return, is_end}
-use Rattle.irq_storms.proofs.Counting.{one_if, count_more, count_imply}
+use Rattle.irq_storms.proofs.Counting.{count_more, count_imply}
 use Rattle.irq_storms.proofs.Running.{StaysBelow, runs_below}
 
 -- ---- the returns are at most the begins

@@ -5,7 +5,8 @@ use Rattle.irq_base.specs.declared.lines.LineDef.{LineDef}
 use Rattle.irq_base.specs.declared.entries.Entry.{Entry}
 use Rattle.irq_model.specs.Places.{count_of}
 use Rattle.irq_model.specs.Legal.{IsDue, IsLegalPast}
-use Rattle.irq_storms.proofs.Counting.{one_if, count_more}
+use Rattle.irq_storms.specs.Judged.{one_if}
+use Rattle.irq_storms.proofs.Counting.{count_more}
 
 -- one more entry keeps it
 abbrev pub StaysBelow : (Entry → Bool) → (Entry → Bool) → (List Entry → ℕ) → Entry → List Entry → Type 0

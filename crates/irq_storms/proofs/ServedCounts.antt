@@ -14,23 +14,23 @@ use Rattle.irq_base.specs.declared.entries.Entry.{Entry}
 use Rattle.irq_base.specs.declared.entries.Entry.TheVariants as entries
 use Rattle.irq_base.specs.Handlers.{answer_of, has_thread}
 use Rattle.irq_model.specs.Places.{stands, since, before, count_of}
-use Rattle.irq_model.specs.Kinds.{same_dev, is_any_ask, is_ask, is_begin, is_return, is_handled, is_wake, wakes, is_thread_begin, is_thread_return, is_done}
+use Rattle.irq_model.specs.Kinds.{same_dev, is_any_ask, is_ask, is_begin, is_return, is_handled, wakes, is_thread_begin, is_thread_return, is_done}
 use Rattle.irq_model.specs.Lines.{kind_of}
 use Rattle.irq_model.specs.Asks.{unserved_by, unserved_asks}
 use Rattle.irq_model.specs.Threads.{is_woken, is_running}
 use Rattle.irq_model.specs.Reason.{is_called}
-use Rattle.irq_model.specs.Next.{asks_of_handler, asks_of_thread}
+use Rattle.irq_model.specs.Next.{asks_of_handler, asks_of_thread, served_by_handler, next_in_flow}
 use Rattle.irq_model.specs.Legal.{IsDue, IsLegalPast}
 use Rattle.irq_model.specs.Valid.{IsValid}
 use Rattle.irq_steps.proofs.Same.{dev_from_same}
 use Rattle.irq_laws.specs.Kept.{KeepsRuns}
 use Rattle.irq_laws.proofs.KeptAlways.{kept}
 use Rattle.irq_laws.proofs.Lists.{stands_cases, both_ways}
-use Rattle.irq_laws.proofs.ImpliesFlow.{return_due}
-use Rattle.irq_laws.proofs.ImpliesThread.{has_returned, thread_begin_due, thread_return_due}
-use Rattle.irq_storms.specs.Tests.{is_any_serving}
-use Rattle.irq_storms.proofs.Counting.{one_if, count_more, count_ext, counts_by_key}
-use Rattle.irq_storms.proofs.Running.{StaysBelow, runs_below}
+use Rattle.irq_laws.proofs.ImpliesFlow.{in_flow, return_due}
+use Rattle.irq_laws.proofs.ImpliesThread.{thread_return_due}
+use Rattle.irq_storms.specs.Judged.{one_if}
+use Rattle.irq_storms.specs.Tests.{is_any_serving, serves_of, asks_served, total}
+use Rattle.irq_storms.proofs.Counting.{count_more, count_ext, counts_by_key}
 use Rattle.irq_storms.proofs.ThreadCounts.{dev_key, begin_tells, return_tells}
 
 -- ---- a run that is in progress: b its beginnings, r its returns, a the asks
@@ -146,42 +146,43 @@ running_thread def d (e ∷ past) legal h = by_case (stands_cases (is_thread_beg
 
 -- ---- one device
 
--- a run of d that served something
-abbrev pub serves_of : DevNo → Entry → Bool
-serves_of d e = is_any_serving e && (d.0 == dev_key e)
-
 abbrev ServedMore : LineDef → Kind → DevNo → Entry → List Entry → Type 0
-ServedMore def kind d e past = one_if (serves_of d e) + unserved_by kind d (e ∷ past) ≤ unserved_by kind d past + one_if (is_ask d e)
+ServedMore def kind d e past = asks_served d e + unserved_by kind d (e ∷ past) ≡ unserved_by kind d past + one_if (is_ask d e)
 
--- an entry that is no return of a serving run
-quiet : (x y y' z : ℕ) → x ≡ 0 → y' ≡ y + z → x + y' ≤ y + z
+-- an entry that serves no ask
+quiet : (x y y' z : ℕ) → x ≡ 0 → y' ≡ y + z → x + y' ≡ y + z
 quiet x y y' z h i = omega (arith, h, i)
 
--- one that is: n asks are served
-serving : (x y y' n z : ℕ) → x ≤ n → y' + n ≡ y → x + y' ≤ y + z
-serving x y y' n z h i = omega (arith, h, i)
+-- one that serves what its run met
+serving : (x y y' n : ℕ) → x ≡ n → y' + n ≡ y → x + y' ≡ y + 0
+serving x y y' n h i = omega (arith, h, i)
 
-not_serving : (b c : Bool) → (b ≡ true → c ≡ true → ⊥) → one_if (b && c) ≡ 0
-not_serving true true h = absurd (h refl refl)
-not_serving true false h = refl
-not_serving false c h = refl
+not_of : (b : Bool) (n : ℕ) → b ≡ false → cond b n 0 ≡ 0
+not_of true n h = cc
+not_of false n h = refl
 
-some_served : (b c : Bool) (n : ℕ) → (b ≡ true → nat_lt 0 n ≡ true) → one_if (b && c) ≤ n
-some_served true true n h = let l = ltb-true 0 n (h refl) in omega (arith, l)
-some_served true false n h = omega arith
-some_served false c n h = omega arith
+of_this : (b : Bool) (n : ℕ) → b ≡ true → cond b n 0 ≡ n
+of_this true n h = refl
+of_this false n h = cc
 
-handled_answer : (a : Answer) → is_handled a ≡ true → answers.Handled ≡ a
-handled_answer answers.Handled h = refl
-handled_answer answers.Wake h = cc
-handled_answer answers.Nothing h = cc
+none_of : (b : Bool) (n : ℕ) → (b ≡ true → n ≡ 0) → cond b n 0 ≡ 0
+none_of true n h = h refl
+none_of false n h = refl
 
--- a return of d that says so served
-return_served : (def : LineDef) (c : CpuNo) (d x : DevNo) (answer : Answer) (count : ℕ) (past : List Entry) → IsDue def (entries.Return c x answer count) past → same_dev d x ≡ true → is_handled answer ≡ true
-    → (kind_of def d ≡ kinds.Direct) × (nat_lt 0 (asks_of_handler def d past) ≡ true)
-return_served def c d x answer count past due same h =
-    subst (λ (y : DevNo). (kind_of def y ≡ kinds.Direct) × (nat_lt 0 (asks_of_handler def y past) ≡ true)) (sym (dev_from_same d x same))
-    (handled_by (kind_of def x) (asks_of_handler def x past) (handled_answer answer h ∙ (return_due def c x answer count past due).answer_is))
+-- what a handler's return says that it served
+return_count : (def : LineDef) (c : CpuNo) (d : DevNo) (answer : Answer) (count : ℕ) (past : List Entry) → IsDue def (entries.Return c d answer count) past → count ≡ served_by_handler (kind_of def d) (asks_of_handler def d past)
+return_count def c d answer count past due =
+    let f = in_flow def c past (entries.Return c d answer count) (λ way answer is. cc) due in
+    let w = (return_due def c d answer count past due).is_at_work in
+    same_count _ _ (sym (ap (λ o. next_in_flow def c past o) w) ∙ f.1)
+  where
+    same_count : (x : Answer) (n : ℕ) → entries.Return c d x n ≡ entries.Return c d answer count → count ≡ n
+    same_count x n h = let s : count ≡ n = cc in s
+
+-- the same of a device that is d
+count_of_return : (def : LineDef) (c : CpuNo) (d x : DevNo) (answer : Answer) (count : ℕ) (past : List Entry) → IsDue def (entries.Return c x answer count) past → same_dev d x ≡ true → count ≡ served_by_handler (kind_of def d) (asks_of_handler def d past)
+count_of_return def c d x answer count past due same =
+    subst (λ (y : DevNo). count ≡ served_by_handler (kind_of def y) (asks_of_handler def y past)) (sym (dev_from_same d x same)) (return_count def c x answer count past due)
 
 apart_handler : (d : DevNo) (e : Entry) → is_begin d e ≡ true → (is_return d e ≡ false) × (is_ask d e ≡ false)
 apart_handler d (entries.Begin c x) h = (refl, refl)
@@ -190,15 +191,6 @@ apart_handler d e h = cc
 apart_thread : (d : DevNo) (e : Entry) → is_thread_begin d e ≡ true → (is_thread_return d e ≡ false) × (is_ask d e ≡ false)
 apart_thread d (entries.ThreadBegin x) h = (refl, refl)
 apart_thread d e h = cc
-
-no_thread : {P : Type 0} (k : Kind) → k ≡ kinds.Direct → has_thread k ≡ true → P
-no_thread kinds.Direct h i = cc
-no_thread kinds.Check h i = cc
-no_thread kinds.Null h i = cc
-no_thread kinds.Stuck h i = cc
-
-no_direct : {P : Type 0} (k : Kind) → has_thread k ≡ true → k ≡ kinds.Direct → P
-no_direct k h i = no_thread k i h
 
 -- no thread's return of a device without a thread
 no_thread_return : {P : Type 0} (def : LineDef) (d x : DevNo) (count : ℕ) (past : List Entry) → IsLegalPast def past → IsDue def (entries.ThreadReturn x count) past → same_dev d x ≡ true → has_thread (kind_of def d) ≡ false → P
@@ -212,50 +204,52 @@ direct_more def d (entries.Return c x answer count) past is legal k due = by_sam
     by_same true same =
         let called : is_called past d ≡ true = subst (λ (y : DevNo). is_called past y ≡ true) (sym (dev_from_same d x same)) (k.working x (return_due def c x answer count past due).is_at_work).0 in
         let gone = served (is_ask d) (is_begin d) (is_return d) (apart_handler d) (entries.Return c x answer count) past same called in
-        let met_by : asks_of_handler def d past ≡ unserved_by kinds.Direct d (before (is_begin d) past) = ap (λ (y : Kind). unserved_by y d (before (is_begin d) past)) is in
-        let some = some_served (is_handled answer) (same_dev d x) (asks_of_handler def d past) (λ h. (return_served def c d x answer count past due same h).1) in
-        serving _ _ _ (asks_of_handler def d past) _ some (let g = gone in let m = met_by in omega (arith, g, m))
-    by_same false other =
-        quiet _ _ _ _ (not_serving (is_handled answer) (same_dev d x) (λ h same. both_ways (same_dev d x) same other)) (more (is_ask d) (is_begin d) (is_return d) (entries.Return c x answer count) past other)
+        let counts : count ≡ unserved_by kinds.Direct d (before (is_begin d) past) = count_of_return def c d x answer count past due same ∙ ap (λ (y : Kind). served_by_handler y (unserved_by y d (before (is_begin d) past))) is in
+        serving _ _ _ _ (of_this (same_dev d x) count same ∙ counts) gone
+    by_same false other = quiet _ _ _ _ (not_of (same_dev d x) count other) (more (is_ask d) (is_begin d) (is_return d) (entries.Return c x answer count) past other)
 direct_more def d (entries.ThreadReturn x count) past is legal k due =
-    quiet _ _ _ _ (not_serving (nat_lt 0 count) (same_dev d x) (λ h same. no_thread_return def d x count past legal due same (ap has_thread is))) (more (is_ask d) (is_begin d) (is_return d) (entries.ThreadReturn x count) past refl)
+    quiet _ _ _ _ (none_of (same_dev d x) count (λ same. no_thread_return def d x count past legal due same (ap has_thread is))) (more (is_ask d) (is_begin d) (is_return d) (entries.ThreadReturn x count) past refl)
 direct_more def d e past is legal k due = quiet _ _ _ _ refl (more (is_ask d) (is_begin d) (is_return d) e past refl)
 
 -- a device with a thread
+serves_none : (kind : Kind) (n : ℕ) → has_thread kind ≡ true → served_by_handler kind n ≡ 0
+serves_none kinds.Check n h = refl
+serves_none kinds.Null n h = refl
+serves_none kinds.Direct n h = cc
+serves_none kinds.Stuck n h = cc
+
 thread_more : (def : LineDef) (d : DevNo) (e : Entry) (past : List Entry) (kind : Kind) → kind_of def d ≡ kind → has_thread kind ≡ true → IsLegalPast def past → IsDue def e past
-    → one_if (serves_of d e) + unserved (is_ask d) (is_thread_begin d) (is_thread_return d) (e ∷ past) ≤ unserved (is_ask d) (is_thread_begin d) (is_thread_return d) past + one_if (is_ask d e)
+    → asks_served d e + unserved (is_ask d) (is_thread_begin d) (is_thread_return d) (e ∷ past) ≡ unserved (is_ask d) (is_thread_begin d) (is_thread_return d) past + one_if (is_ask d e)
 thread_more def d (entries.Return c x answer count) past kind is thread legal due =
-    quiet _ _ _ _ (not_serving (is_handled answer) (same_dev d x) (λ h same. no_direct kind thread (sym is ∙ (return_served def c d x answer count past due same h).0)))
+    quiet _ _ _ _
+    (none_of (same_dev d x) count (λ same. count_of_return def c d x answer count past due same ∙ ap (λ (y : Kind). served_by_handler y (asks_of_handler def d past)) is ∙ serves_none kind (asks_of_handler def d past) thread))
     (more (is_ask d) (is_thread_begin d) (is_thread_return d) (entries.Return c x answer count) past refl)
 thread_more def d (entries.ThreadReturn x count) past kind is thread legal due = by_same (same_dev d x) refl
   where
+    by_kind : (k : Kind) → kind_of def d ≡ k → has_thread k ≡ true → asks_of_thread def d past ≡ unserved (is_ask d) (is_thread_begin d) (is_thread_return d) (before (is_thread_begin d) past)
+    by_kind kinds.Check is t = ap (λ (y : Kind). unserved_by y d (before (is_thread_begin d) past)) is
+    by_kind kinds.Null is t = ap (λ (y : Kind). unserved_by y d (before (is_thread_begin d) past)) is
+    by_kind kinds.Direct is t = cc
+    by_kind kinds.Stuck is t = cc
+
     by_same : (b : Bool) → same_dev d x ≡ b
-        → one_if (serves_of d (entries.ThreadReturn x count)) + unserved (is_ask d) (is_thread_begin d) (is_thread_return d) (entries.ThreadReturn x count ∷ past)
-        ≤ unserved (is_ask d) (is_thread_begin d) (is_thread_return d) past + one_if (is_ask d (entries.ThreadReturn x count))
+        → asks_served d (entries.ThreadReturn x count) + unserved (is_ask d) (is_thread_begin d) (is_thread_return d) (entries.ThreadReturn x count ∷ past)
+        ≡ unserved (is_ask d) (is_thread_begin d) (is_thread_return d) past + one_if (is_ask d (entries.ThreadReturn x count))
     by_same true same =
         let t = return_tells def d (entries.ThreadReturn x count) past due same in
         let run = still_standing (is_thread_begin d) (is_thread_return d) (is_done d) past t.0 t.1 in
         let gone = served (is_ask d) (is_thread_begin d) (is_thread_return d) (apart_thread d) (entries.ThreadReturn x count) past same run in
         let counts : count ≡ asks_of_thread def d past = (thread_return_due def x count past due).served_is ∙ ap (λ (y : DevNo). asks_of_thread def y past) (sym (dev_from_same d x same)) in
-        let met_by : asks_of_thread def d past ≡ unserved (is_ask d) (is_thread_begin d) (is_thread_return d) (before (is_thread_begin d) past) = by_kind kind is thread in
-        let some = some_served (nat_lt 0 count) (same_dev d x) count (λ h. h) in
-        serving _ _ _ count _ some (omega (arith, gone, counts, met_by))
-      where
-        by_kind : (k : Kind) → kind_of def d ≡ k → has_thread k ≡ true → asks_of_thread def d past ≡ unserved (is_ask d) (is_thread_begin d) (is_thread_return d) (before (is_thread_begin d) past)
-        by_kind kinds.Check is t = ap (λ (y : Kind). unserved_by y d (before (is_thread_begin d) past)) is
-        by_kind kinds.Null is t = ap (λ (y : Kind). unserved_by y d (before (is_thread_begin d) past)) is
-        by_kind kinds.Direct is t = cc
-        by_kind kinds.Stuck is t = cc
-    by_same false other =
-        quiet _ _ _ _ (not_serving (nat_lt 0 count) (same_dev d x) (λ h same. both_ways (same_dev d x) same other)) (more (is_ask d) (is_thread_begin d) (is_thread_return d) (entries.ThreadReturn x count) past other)
+        serving _ _ _ _ (of_this (same_dev d x) count same ∙ counts ∙ by_kind kind is thread) gone
+    by_same false other = quiet _ _ _ _ (not_of (same_dev d x) count other) (more (is_ask d) (is_thread_begin d) (is_thread_return d) (entries.ThreadReturn x count) past other)
 thread_more def d e past kind is thread legal due = quiet _ _ _ _ refl (more (is_ask d) (is_thread_begin d) (is_thread_return d) e past refl)
 
 stuck_more : (def : LineDef) (d : DevNo) (e : Entry) (past : List Entry) → kind_of def d ≡ kinds.Stuck → IsLegalPast def past → IsDue def e past → ServedMore def kinds.Stuck d e past
 stuck_more def d (entries.Return c x answer count) past is legal due =
-    quiet _ _ _ _ (not_serving (is_handled answer) (same_dev d x) (λ h same. let n : kinds.Stuck ≡ kinds.Direct = sym is ∙ (return_served def c d x answer count past due same h).0 in cc))
+    quiet _ _ _ _ (none_of (same_dev d x) count (λ same. count_of_return def c d x answer count past due same ∙ ap (λ (y : Kind). served_by_handler y (asks_of_handler def d past)) is))
     (more (is_ask d) (λ e. false) (λ e. false) (entries.Return c x answer count) past refl)
 stuck_more def d (entries.ThreadReturn x count) past is legal due =
-    quiet _ _ _ _ (not_serving (nat_lt 0 count) (same_dev d x) (λ h same. no_thread_return def d x count past legal due same (ap has_thread is))) (more (is_ask d) (λ e. false) (λ e. false) (entries.ThreadReturn x count) past refl)
+    quiet _ _ _ _ (none_of (same_dev d x) count (λ same. no_thread_return def d x count past legal due same (ap has_thread is))) (more (is_ask d) (λ e. false) (λ e. false) (entries.ThreadReturn x count) past refl)
 stuck_more def d e past is legal due = quiet _ _ _ _ refl (more (is_ask d) (λ e. false) (λ e. false) e past refl)
 
 served_more : (def : LineDef) (d : DevNo) (e : Entry) (past : List Entry) (kind : Kind) → kind_of def d ≡ kind → IsLegalPast def past → KeepsRuns def past → IsDue def e past → ServedMore def kind d e past
@@ -270,17 +264,61 @@ none_unserved kinds.Check d = refl
 none_unserved kinds.Null d = refl
 none_unserved kinds.Stuck d = refl
 
+-- of each device, the asks that were served and those that weren't are the asks
+pub served_exactly : (def : LineDef) (d : DevNo) (past : List Entry) → IsValid def → IsLegalPast def past → total (asks_served d) past + unserved_asks def d past ≡ count_of (is_ask d) past
+served_exactly def d [] valid legal = let n = none_unserved (kind_of def d) d in omega (arith, n)
+served_exactly def d (e ∷ past) valid legal =
+    summed _ _ _ _ _ _ _ (count_more (is_ask d) e past) (served_exactly def d past valid legal.1) (served_more def d e past (kind_of def d) refl legal.1 (kept def past valid legal.1).runs legal.0)
+  where
+    summed : (t u u' x c c' y : ℕ) → c' ≡ c + y → t + u ≡ c → x + u' ≡ u + y → (x + t) + u' ≡ c'
+    summed t u u' x c c' y h i j = omega (arith, h, i, j)
+
+-- ---- the runs that served something
+
+some_if : (b c : Bool) (n : ℕ) → (c ≡ true → nat_lt 0 n ≡ true) → one_if (b && c) ≤ cond b n 0
+some_if true true n h = let l = ltb-true 0 n (h refl) in omega (arith, l)
+some_if true false n h = omega arith
+some_if false c n h = omega arith
+
+handled_answer : (a : Answer) → is_handled a ≡ true → answers.Handled ≡ a
+handled_answer answers.Handled h = refl
+handled_answer answers.Wake h = cc
+handled_answer answers.Nothing h = cc
+
+-- one that answers so serves some
+handled_serves : (def : LineDef) (c : CpuNo) (x : DevNo) (answer : Answer) (count : ℕ) (past : List Entry) → IsDue def (entries.Return c x answer count) past → is_handled answer ≡ true → nat_lt 0 count ≡ true
+handled_serves def c x answer count past due h =
+    let by = handled_by (kind_of def x) (asks_of_handler def x past) (handled_answer answer h ∙ (return_due def c x answer count past due).answer_is) in
+    let all : count ≡ asks_of_handler def x past = return_count def c x answer count past due ∙ ap (λ (y : Kind). served_by_handler y (asks_of_handler def x past)) by.0 in
+    ap (λ (n : ℕ). nat_lt 0 n) all ∙ by.1
+
+serves_some : (def : LineDef) (d : DevNo) (e : Entry) (past : List Entry) → IsDue def e past → one_if (serves_of d e) ≤ asks_served d e
+serves_some def d (entries.Return c x answer count) past due = some_if (same_dev d x) (is_handled answer) count (handled_serves def c x answer count past due)
+serves_some def d (entries.ThreadReturn x count) past due = some_if (same_dev d x) (nat_lt 0 count) count (λ h. h)
+serves_some def d e past due = omega arith
+
+serving_runs : (def : LineDef) (d : DevNo) (past : List Entry) → IsLegalPast def past → count_of (serves_of d) past ≤ total (asks_served d) past
+serving_runs def d [] legal = omega arith
+serving_runs def d (e ∷ past) legal = let m = count_more (serves_of d) e past in let r = serving_runs def d past legal.1 in let s = serves_some def d e past legal.0 in omega (arith, m, r, s)
+
 -- of each device, the runs that served something and the unserved asks are at most the asks
 pub served_of : (def : LineDef) (d : DevNo) (past : List Entry) → IsValid def → IsLegalPast def past → count_of (serves_of d) past + unserved_asks def d past ≤ count_of (is_ask d) past
-served_of def d past valid legal =
-    runs_below def (serves_of d) (is_ask d) (λ past. unserved_asks def d past) (none_unserved (kind_of def d) d)
-    (λ e past legal due. served_more def d e past (kind_of def d) refl legal (kept def past valid legal).runs due) past legal
+served_of def d past valid legal = let a = served_exactly def d past valid legal in let b = serving_runs def d past legal in omega (arith, a, b)
 
 -- of all devices
 key_ask : (k : ℕ) (e : Entry) → is_ask (record { 0 = k }) e ≡ (is_any_ask e && (k == dev_key e))
 key_ask k (entries.Ask driver dev) = refl
 key_ask k e = refl
 
+swapped : (a b : Bool) → (a && b) ≡ (b && a)
+swapped a b = grind arith
+
+key_serves : (k : ℕ) (e : Entry) → serves_of (record { 0 = k }) e ≡ (is_any_serving e && (k == dev_key e))
+key_serves k (entries.Return cpu dev answer count) = swapped (k == dev.0) (is_handled answer)
+key_serves k (entries.ThreadReturn dev count) = swapped (k == dev.0) (nat_lt 0 count)
+key_serves k e = refl
+
 pub served_past : (def : LineDef) (past : List Entry) → IsValid def → IsLegalPast def past → count_of is_any_serving past ≤ count_of is_any_ask past
 served_past def past valid legal =
-    counts_by_key dev_key past is_any_serving is_any_ask (λ k. let n = served_of def (record { 0 = k }) past valid legal in let a = count_ext _ _ past (key_ask k) in omega (arith, n, a))
+    counts_by_key dev_key past is_any_serving is_any_ask
+    (λ k. let n = served_of def (record { 0 = k }) past valid legal in let a = count_ext _ _ past (key_ask k) in let b = count_ext _ _ past (key_serves k) in omega (arith, n, a, b))

@@ -11,8 +11,9 @@ use Rattle.irq_model.specs.Threads.{is_woken, is_running}
 use Rattle.irq_model.specs.Legal.{IsDue, IsLegalPast}
 use Rattle.irq_steps.proofs.Same.{dev_from_same}
 use Rattle.irq_laws.proofs.ImpliesThread.{has_returned, has_finished, thread_begin_due, thread_return_due, finish_due, done_due}
+use Rattle.irq_storms.specs.Judged.{one_if}
 use Rattle.irq_storms.specs.Tests.{is_any_return, is_any_thread_begin, is_any_thread_return, is_any_finish, is_any_done}
-use Rattle.irq_storms.proofs.Counting.{one_if, count_ext, count_imply, counts_by_key}
+use Rattle.irq_storms.proofs.Counting.{count_ext, count_imply, counts_by_key}
 use Rattle.irq_storms.proofs.Running.{StaysBelow, runs_below}
 
 -- ---- what an entry of d's thread tells, where it is due

@@ -1,11 +1,10 @@
 -- What one end makes of the counts of the rule on spurious interrupts, as numbers.
-use Rattle.std.proofs.Common.{◌≡◌, ℕ, ◌+◌, ◌-◌, ◌*◌, ◌<◌, ◌≤◌, ◌==◌, ◌⊎◌, inl, inr, Bool, true, false, not, ◌||◌, ◌&&◌, cond, nat_lt, refl, sym, ap, ◌∙◌, subst, arith, eqb-true, le-ltb, lt-ltb}
+use Rattle.std.proofs.Common.{◌≡◌, ℕ, ◌+◌, ◌-◌, ◌*◌, ◌<◌, ◌≤◌, ◌==◌, ◌⊎◌, inl, inr, Bool, true, false, not, ◌||◌, ◌&&◌, cond, nat_lt, refl, sym, ap, subst, arith, eqb-true, le-ltb, lt-ltb}
 use Rattle.std.proofs.lemmas.Bool.{ltb-true, ltb-false, eqb-false, eq-eqb}
 use Rattle.irq_base.specs.declared.entries.Note.{Note}
 use Rattle.irq_base.specs.declared.entries.Note.TheVariants as notes
-use Rattle.irq_model.specs.Spurious.{Counts, Noted, counted, unhandled, judged, judged_by_threads, noted}
-use Rattle.irq_storms.specs.Judged.{Judgement, Handled, Nothing, Deferred, judged_as, is_handled_judgement, is_nothing_judgement, is_deferred_judgement, is_forgiving, allowance}
-use Rattle.irq_storms.proofs.Counting.{one_if}
+use Rattle.irq_model.specs.Spurious.{Counts, Noted, counted, unhandled, judged, noted}
+use Rattle.irq_storms.specs.Judged.{one_if, Judgement, Handled, Nothing, judged_as, is_handled_judgement, is_nothing_judgement, is_deferred_judgement, is_forgiving, allowance}
 
 abbrev pub is_killed : Note → Bool
 is_killed notes.Killed = true

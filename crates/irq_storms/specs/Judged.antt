@@ -5,8 +5,13 @@ use Rattle.irq_base.specs.declared.lines.LineDef.{LineDef}
 use Rattle.irq_base.specs.declared.entries.Entry.{Entry}
 use Rattle.irq_model.specs.Places.{stands, count_of}
 use Rattle.irq_model.specs.Kinds.{is_kill, is_start}
+use Rattle.irq_model.specs.Rounds.{has_flow}
 use Rattle.irq_model.specs.Spurious.{Counts, now, round_wakes, round_handles, counts_of}
 use Rattle.irq_storms.specs.Tests.{is_end, is_renewal}
+
+-- a mark as a number
+abbrev pub one_if : Bool → ℕ
+one_if b = if b then 1 else 0
 
 -- how many entries pass a test that looks at what stands before each of them
 abbrev pub count_where : (Entry → List Entry → Bool) → List Entry → ℕ
@@ -64,6 +69,11 @@ deferred_ends def past = count_where (ends_deferred def) past
 -- from where a storm may begin anew: an end judged handled, a start, a linked request, a moment
 abbrev pub breaks : LineDef → List Entry → ℕ
 breaks def past = handled_ends def past + count_of is_renewal past
+
+-- what ends judged handled take: a handled return of the round in progress, and threads that served since the last look
+abbrev pub serving_marks : LineDef → List Entry → ℕ
+serving_marks def past =
+    one_if (has_flow def past && round_handles def past) + one_if (not ((counts_of def past).threads_handled == (counts_of def past).last))
 
 -- ---- what the open window allows
 

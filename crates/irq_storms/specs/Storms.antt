@@ -1,14 +1,18 @@
 -- How many entries of each kind a history has at most: sentences about its entries and the line's definition.
-use Rattle.std.specs.Prelude.{◌≡◌, ◌+◌, ◌*◌, ◌≤◌, true, List, length, reverse}
+use Rattle.std.specs.Prelude.{◌≡◌, ◌+◌, ◌*◌, ◌≤◌, true, false, List, length, reverse}
 use Rattle.irq_base.specs.declared.numbers.DevNo.{DevNo}
 use Rattle.irq_base.specs.declared.lines.LineDef.{LineDef}
 use Rattle.irq_base.specs.declared.entries.Entry.{Entry}
-use Rattle.irq_model.specs.Places.{count_of}
-use Rattle.irq_model.specs.Kinds.{wakes, is_thread_begin, is_thread_return, is_finish, is_done, is_take, is_busy, is_again, is_any_ask}
-use Rattle.irq_model.specs.Lines.{is_edge_line}
-use Rattle.irq_model.specs.Rounds.{begins_round}
+use Rattle.irq_model.specs.Places.{stands, count_of}
+use Rattle.irq_model.specs.Kinds.{wakes, is_thread_begin, is_thread_return, is_finish, is_done, is_take, is_busy, is_off, is_again, is_any_ask, is_ask, is_kill, is_start}
+use Rattle.irq_model.specs.Lines.{is_edge_line, is_level_line, is_eoi_flow}
+use Rattle.irq_model.specs.Links.{is_disabled}
+use Rattle.irq_model.specs.Asks.{unserved_asks}
+use Rattle.irq_model.specs.Masks.{is_masked}
+use Rattle.irq_model.specs.Rounds.{begins_round, has_flow}
 use Rattle.irq_model.specs.Bounds.{ask_calls, other_calls}
-use Rattle.irq_storms.specs.Tests.{is_any_begin, is_any_return, is_end, is_by_any_driver, is_renewal}
+use Rattle.irq_storms.specs.Tests.{is_any_begin, is_any_return, is_end, is_any_serving, serves_of, asks_served, total, is_by_any_driver, is_renewal}
+use Rattle.irq_storms.specs.Judged.{handled_ends, nothing_ends, deferred_ends, breaks, serving_marks, allowed}
 
 -- runs are counted: a round calls each device's handler once at most, and has one end at most; a thread runs no
 -- more often than returns woke it
@@ -28,8 +32,48 @@ pub record CallsAreCounted (def : LineDef) (h : List Entry) : Type 0 where
   pub asks : count_of is_any_ask (reverse h) ≤ ask_calls def
   pub renewals : count_of is_renewal (reverse h) ≤ other_calls def
 
--- an edge line is counted: each round has an ask or a start of its own
-pub record EdgeIsCounted (def : LineDef) (h : List Entry) : Type 0 where
-  pub agains : is_edge_line def ≡ true → count_of is_again (reverse h) ≤ count_of is_busy (reverse h)
-  pub rounds : is_edge_line def ≡ true → count_of (begins_round def) (reverse h) ≤ ask_calls def + other_calls def
-  pub takes : is_edge_line def ≡ true → count_of is_take (reverse h) ≤ 2 * (ask_calls def + other_calls def)
+-- asks are counted: of each device, those that were served and those that weren't are all its asks, and a run that
+-- served something has an ask of its own
+pub record AsksAreCounted (def : LineDef) (h : List Entry) : Type 0 where
+  pub exact : (d : DevNo) → total (asks_served d) (reverse h) + unserved_asks def d (reverse h) ≡ count_of (is_ask d) (reverse h)
+  pub runs : (d : DevNo) → count_of (serves_of d) (reverse h) + unserved_asks def d (reverse h) ≤ count_of (is_ask d) (reverse h)
+  pub all_runs : count_of is_any_serving (reverse h) ≤ count_of is_any_ask (reverse h)
+
+-- an edge line is counted: an end that goes on has a take of its own that was answered Busy, so each round has an ask
+-- or a start of its own
+pub record IsEdgeCounted (def : LineDef) (past : List Entry) : Type 0 where
+  pub agains : count_of is_again past ≤ count_of is_busy past
+  pub rounds : count_of (begins_round def) past ≤ ask_calls def + other_calls def
+  pub takes : count_of is_take past ≤ 2 * (ask_calls def + other_calls def)
+
+abbrev pub EdgeIsCounted : LineDef → List Entry → Type 0
+EdgeIsCounted def h = is_edge_line def ≡ true → IsEdgeCounted def (reverse h)
+
+-- killed and not started since: disabled, with no flow in progress
+pub record IsShut (def : LineDef) (past : List Entry) : Type 0 where
+  pub disabled : is_disabled past ≡ true
+  pub no_flow : has_flow def past ≡ false
+
+-- not started since the last take that was answered Off, or ever: masked and disabled
+pub record IsClosed (def : LineDef) (past : List Entry) : Type 0 where
+  pub masked : is_masked def past ≡ true
+  pub disabled : is_disabled past ≡ true
+
+-- a level line is counted
+pub record IsLevelCounted (def : LineDef) (past : List Entry) : Type 0 where
+  -- an end judged handled has a run of its own that served
+  pub handled : handled_ends def past + serving_marks def past ≤ count_of is_any_serving past
+  -- only an end judged handled gives the deferred mark up
+  pub deferred : deferred_ends def past ≤ handled_ends def past + 1
+  pub shut : stands is_kill is_start past ≡ true → IsShut def past
+  -- between two breaks, before the first and after the last there are two windows of ends judged nothing at most
+  pub nothing : nothing_ends def past + allowed def past ≤ 2 * def.window * (breaks def past + 1)
+  pub breaks : breaks def past ≤ ask_calls def + other_calls def
+  -- each take that was answered Busy or Off has a start of its own
+  pub busy : count_of is_busy past ≤ count_of is_start past
+  pub none_busy : is_eoi_flow def.flow ≡ true → count_of is_busy past ≡ 0
+  pub off : count_of is_off past ≤ count_of is_start past
+  pub closed : stands is_start is_off past ≡ false → IsClosed def past
+
+abbrev pub LevelIsCounted : LineDef → List Entry → Type 0
+LevelIsCounted def h = is_level_line def ≡ true → IsLevelCounted def (reverse h)

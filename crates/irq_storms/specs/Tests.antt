@@ -1,10 +1,11 @@
 -- Tests of entries, whichever device or driver they are of, and what a call makes at most.
-use Rattle.std.specs.Prelude.{ℕ, Bool, true, false, ◌||◌, nat_lt}
+use Rattle.std.specs.Prelude.{ℕ, ◌+◌, Bool, true, false, ◌||◌, ◌&&◌, if◌then◌else◌, nat_lt, List, [], ◌∷◌}
+use Rattle.irq_base.specs.declared.numbers.DevNo.{DevNo}
 use Rattle.irq_base.specs.declared.calls.Call.{Call}
 use Rattle.irq_base.specs.declared.calls.Call.TheVariants as calls
 use Rattle.irq_base.specs.declared.entries.Entry.{Entry}
 use Rattle.irq_base.specs.declared.entries.Entry.TheVariants as entries
-use Rattle.irq_model.specs.Kinds.{is_start, is_linked_request, returns_handled}
+use Rattle.irq_model.specs.Kinds.{same_dev, is_handled, returns_handled, is_start, is_linked_request}
 
 -- ---- runs
 
@@ -40,6 +41,29 @@ is_any_done _ = false
 abbrev pub is_any_serving : Entry → Bool
 is_any_serving (entries.ThreadReturn dev served) = nat_lt 0 served
 is_any_serving e = returns_handled e
+
+-- a run of d that served something
+abbrev pub serves_of : DevNo → Entry → Bool
+serves_of d (entries.Return cpu dev answer served) = same_dev d dev && is_handled answer
+serves_of d (entries.ThreadReturn dev served) = same_dev d dev && nat_lt 0 served
+serves_of d _ = false
+
+-- how many asks of d the entry serves
+abbrev pub asks_served : DevNo → Entry → ℕ
+asks_served d (entries.Return cpu dev answer served) = if same_dev d dev then served else 0
+asks_served d (entries.ThreadReturn dev served) = if same_dev d dev then served else 0
+asks_served d _ = 0
+
+-- how many asks it serves, of any device
+abbrev pub all_served : Entry → ℕ
+all_served (entries.Return cpu dev answer served) = served
+all_served (entries.ThreadReturn dev served) = served
+all_served _ = 0
+
+-- the sum of what a list's elements weigh
+abbrev pub total : {A : Type 0} → (A → ℕ) → List A → ℕ
+total w [] = 0
+total w (x ∷ xs) = w x + total w xs
 
 -- ---- drivers
 
