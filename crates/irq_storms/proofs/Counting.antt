@@ -63,17 +63,17 @@ module _ {A : Type 0} where
   abbrev pub total_at : (A → ℕ) → (A → ℕ) → ℕ → List A → ℕ
   total_at key w k xs = total (λ x. cond (k == key x) (w x) 0) xs
 
-  abbrev total_below : (A → ℕ) → (A → ℕ) → ℕ → List A → ℕ
+  abbrev pub total_below : (A → ℕ) → (A → ℕ) → ℕ → List A → ℕ
   total_below key w m xs = total (λ x. cond (nat_lt (key x) m) (w x) 0) xs
 
-  below_zero : (key w : A → ℕ) (xs : List A) → total_below key w 0 xs ≡ 0
+  pub below_zero : (key w : A → ℕ) (xs : List A) → total_below key w 0 xs ≡ 0
   below_zero key w xs = total_none _ xs (λ x. none_below (key x) (w x))
 
-  below_more : (key w : A → ℕ) (m : ℕ) (xs : List A) → total_below key w (suc m) xs ≡ total_below key w m xs + total_at key w m xs
+  pub below_more : (key w : A → ℕ) (m : ℕ) (xs : List A) → total_below key w (suc m) xs ≡ total_below key w m xs + total_at key w m xs
   below_more key w m xs = total_sum _ _ _ xs (λ x. one_more_below (key x) m (w x))
 
   -- all keys are below their sum and their number
-  below_all : (key w : A → ℕ) (m : ℕ) (xs : List A) → total (λ x. key x + 1) xs ≤ m → total_below key w m xs ≡ total w xs
+  pub below_all : (key w : A → ℕ) (m : ℕ) (xs : List A) → total (λ x. key x + 1) xs ≤ m → total_below key w m xs ≡ total w xs
   below_all key w m [] h = refl
   below_all key w m (x ∷ xs) h =
       let r = below_all key w m xs (omega (arith, h)) in
@@ -107,7 +107,7 @@ module _ {A B : Type 0} (ka : A → ℕ) (va : A → ℕ) (xs : List A) (kb : B 
       omega (arith, a, b, r)
 
 module _ {A : Type 0} (key : A → ℕ) (xs : List A) where
-  at_key : (p : A → Bool) (k : ℕ) → count_of (λ x. p x && (k == key x)) xs ≡ total_at key (λ x. one_if (p x)) k xs
+  pub at_key : (p : A → Bool) (k : ℕ) → count_of (λ x. p x && (k == key x)) xs ≡ total_at key (λ x. one_if (p x)) k xs
   at_key p k = count_total _ xs ∙ total_ext _ _ xs (λ x. if_both (k == key x) (p x))
 
   -- the same of counts over one list

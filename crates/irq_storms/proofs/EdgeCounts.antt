@@ -173,10 +173,9 @@ pend_more def e past due =
     let s : one_if (goes_on_later def (e ∷ past)) ≡ one_if (has_flow def past && is_pending def (e ∷ past)) = ap (λ (f : Bool). one_if (f && is_pending def (e ∷ past))) same in
     omega (arith, m, s)
 
-pub agains_past : (def : LineDef) (past : List Entry) → IsLegalPast def past → count_of is_again past ≤ count_of is_busy past
+pub agains_past : (def : LineDef) (past : List Entry) → IsLegalPast def past → count_of is_again past + one_if (goes_on_later def past) ≤ count_of is_busy past
 agains_past def past legal =
-    let r = runs_below def is_again is_busy (λ past. one_if (goes_on_later def past)) refl (λ e past legal due. pend_more def e past due) past legal in
-    omega (arith, r)
+    runs_below def is_again is_busy (λ past. one_if (goes_on_later def past)) refl (λ e past legal due. pend_more def e past due) past legal
 
 -- ---- the rounds and the takes
 
@@ -193,7 +192,8 @@ edge_counts def past legal by_line by_resend =
     let ways = takes_by_way past in
     let rounds = rounds_by_entry def past in
     let agains = agains_by_flow def past in
-    let busy = agains_past def past legal in
+    let pending = agains_past def past legal in
+    let busy : count_of is_again past ≤ count_of is_busy past = omega (arith, pending) in
     let ends = agains_end past in
     let all_rounds = rounds_past def past legal in
     let resent = resends_past past in

@@ -20,7 +20,7 @@ use Rattle.irq_model.specs.Valid.{IsValid}
 use Rattle.irq_laws.proofs.Lists.{both_ways}
 use Rattle.irq_laws.proofs.ImpliesFlow.{end_due, has_a_flow}
 use Rattle.irq_storms.specs.Tests.{is_end, is_any_serving, is_moment, is_renewal}
-use Rattle.irq_storms.specs.Judged.{one_if, count_where, judgement, is_nothing_judgement, ends_handled, ends_nothing, ends_deferred, handled_ends, nothing_ends, deferred_ends, breaks, serving_marks, allowance, allowed}
+use Rattle.irq_storms.specs.Judged.{one_if, count_where, judgement, is_handled_judgement, is_nothing_judgement, ends_handled, ends_nothing, ends_deferred, ends_clearing, handled_ends, nothing_ends, deferred_ends, clearing_ends, breaks, serving_marks, allowance, allowed}
 use Rattle.irq_storms.proofs.Counting.{count_more}
 use Rattle.irq_storms.proofs.RunCounts.{flow_stays}
 use Rattle.irq_storms.proofs.KillCounts.{no_flow_after, shut_past}
@@ -53,7 +53,7 @@ runs_within def p q m k none step (e ∷ past) legal =
 
 -- ---- the end that is due
 
-facts_of : (def : LineDef) (past : List Entry) → EndFacts def.window def.limit (now past) (round_handles def past) (counts_of def past) (noted_end def past (counts_of def past)) (judgement def past)
+facts_of : (def : LineDef) (past : List Entry) → EndFacts def.window def.limit (now past) (round_wakes def past) (round_handles def past) (counts_of def past) (noted_end def past (counts_of def past)) (judgement def past)
 facts_of def past = end_facts def.window def.limit (now past) (round_wakes def past) (round_handles def past) (counts_of def past)
 
 -- ---- the ends judged handled
@@ -119,7 +119,7 @@ handled_past def past valid legal level =
 -- ---- the deferred ends
 
 abbrev DeferredMore : LineDef → Entry → List Entry → Type 0
-DeferredMore def e past = StaysWithin (ends_deferred def) (ends_handled def) (λ past. 0) (λ past. one_if (counts_of def past).deferred) e past
+DeferredMore def e past = StaysWithin (ends_deferred def) (ends_clearing def) (λ past. 0) (λ past. one_if (counts_of def past).deferred) e past
 
 deferred_more : (def : LineDef) (e : Entry) (past : List Entry) → DeferredMore def e past
 deferred_more def (entries.End c again unmask note) past = let d = (facts_of def past).deferred in omega (arith, d)
@@ -132,11 +132,23 @@ deferred_more def (entries.Request s x flags links.Linked opened) past = omega a
 deferred_more def (entries.Request s x flags (links.Refused error) opened) past = omega arith
 deferred_more def e past = omega arith
 
-pub deferred_past : (def : LineDef) (past : List Entry) → IsLegalPast def past → deferred_ends def past ≤ handled_ends def past + 1
+pub deferred_past : (def : LineDef) (past : List Entry) → IsLegalPast def past → deferred_ends def past ≤ clearing_ends def past + one_if (counts_of def past).deferred
 deferred_past def past legal =
-    let r = runs_within def (ends_deferred def) (ends_handled def) (λ past. 0) (λ past. one_if (counts_of def past).deferred) refl (λ e past legal due. deferred_more def e past) past legal in
-    let m = mark_most (counts_of def past).deferred in
-    omega (arith, r, m)
+    let r = runs_within def (ends_deferred def) (ends_clearing def) (λ past. 0) (λ past. one_if (counts_of def past).deferred) refl (λ e past legal due. deferred_more def e past) past legal in omega (arith, r)
+
+-- an end that gives the mark up is judged handled
+clears_handled : (e : Bool) (c j : Bool) → one_if c ≤ one_if j → one_if (e && c) ≤ one_if (e && j)
+clears_handled true c j h = h
+clears_handled false c j h = omega arith
+
+pub clearing_past : (def : LineDef) (past : List Entry) → clearing_ends def past ≤ handled_ends def past
+clearing_past def [] = omega arith
+clearing_past def (e ∷ past) =
+    let a = where_more (ends_clearing def) e past in
+    let b = where_more (ends_handled def) e past in
+    let r = clearing_past def past in
+    let m = clears_handled (is_end e) (round_wakes def past && round_handles def past) (is_handled_judgement (judgement def past)) (facts_of def past).clears in
+    omega (arith, a, b, r, m)
 
 -- ---- the ends judged nothing
 

@@ -1,9 +1,17 @@
 -- The laws, of histories.
-use Rattle.std.proofs.Common.{◌≡◌, ℕ, ◌+◌, ◌≤◌, Option, Some, None, List, ◌∷◌, reverse, length, refl, ap, ◌∙◌, arith}
+use Rattle.std.proofs.Common.{◌≡◌, ℕ, ◌+◌, ◌≤◌, Bool, true, false, not, ◌&&◌, subst, Option, Some, None, List, ◌∷◌, reverse, length, refl, ap, ◌∙◌, arith}
 use Rattle.std.proofs.lemmas.List.{length-reverse}
 use Rattle.irq_base.specs.declared.lines.LineDef.{LineDef}
 use Rattle.irq_base.specs.declared.entries.Entry.{Entry}
 use Rattle.irq_base.specs.declared.entries.Actor.{Actor}
+use Rattle.irq_base.specs.declared.lines.FlowKind.{FlowKind}
+use Rattle.irq_base.specs.declared.lines.FlowKind.TheVariants as flows
+use Rattle.irq_model.specs.Places.{count_of}
+use Rattle.irq_model.specs.Kinds.{is_busy, is_start}
+use Rattle.irq_model.specs.Lines.{is_level_flow, is_eoi_flow}
+use Rattle.irq_model.specs.Masks.{is_masked}
+use Rattle.irq_model.specs.Rounds.{has_flow}
+use Rattle.irq_storms.specs.Judged.{one_if}
 use Rattle.irq_model.specs.Bounds.{level_bound, bound}
 use Rattle.irq_model.specs.Next.{next, next_past}
 use Rattle.irq_model.specs.Legal.{IsDue, IsLegal}
@@ -15,8 +23,9 @@ use Rattle.irq_storms.proofs.CallCounts.{driver_entries, asks_of_drivers, renewa
 use Rattle.irq_storms.proofs.EdgeCounts.{agains_past}
 use Rattle.irq_storms.proofs.EdgeBound.{edge_counts_of}
 use Rattle.irq_storms.proofs.ServedCounts.{served_exactly, served_of, served_past}
-use Rattle.irq_storms.proofs.KillCounts.{shut_past, closed_past, busy_past, none_busy, offs_past}
-use Rattle.irq_storms.proofs.EndCounts.{handled_past, deferred_past, nothing_past}
+use Rattle.irq_storms.proofs.DeviceSums.{served_of_all}
+use Rattle.irq_storms.proofs.KillCounts.{shut_past, closed_past, may_be_busy, busy_past, none_busy, offs_past}
+use Rattle.irq_storms.proofs.EndCounts.{handled_past, deferred_past, clearing_past, nothing_past}
 use Rattle.irq_storms.proofs.LevelBound.{level_counts, within, within_past, bound_below_level}
 use Rattle.irq_laws.proofs.OwnLaws.{due_is_own}
 
@@ -46,24 +55,34 @@ pub edge_is_counted : (def : LineDef) (h : List Entry) → IsLegal def h → Edg
 edge_is_counted def h legal edge =
     let counts = edge_counts_of def h legal edge in record { agains = agains_past def (reverse h) legal; rounds = counts.rounds; takes = counts.takes }
 
+no_eoi : (f : FlowKind) → is_level_flow f ≡ true → is_eoi_flow f ≡ false
+no_eoi flows.Level h = refl
+no_eoi flows.Edge h = cc
+no_eoi flows.Eoi h = cc
+
+on_level_flow : (def : LineDef) (past : List Entry) → is_level_flow def.flow ≡ true → count_of is_busy past + one_if (may_be_busy def past) ≤ count_of is_start past
+    → count_of is_busy past + one_if (has_flow def past && not (is_masked def past)) ≤ count_of is_start past
+on_level_flow def past flow h = subst (λ (b : Bool). count_of is_busy past + one_if (not b && (has_flow def past && not (is_masked def past))) ≤ count_of is_start past) (no_eoi def.flow flow) h
+
 pub level_is_counted : (def : LineDef) (h : List Entry) → IsValid def → IsLegal def h → LevelIsCounted def h
 level_is_counted def h valid legal level =
     let past = reverse h in
     record {
       handled = handled_past def past valid legal level;
       deferred = deferred_past def past legal;
+      clearing = clearing_past def past;
       shut = shut_past def past valid legal level;
       nothing = nothing_past def past valid legal level;
       breaks = (level_counts def past valid legal level).breaks;
-      busy = below _ _ _ (busy_past def past valid legal level);
+      busy = λ flow. on_level_flow def past flow (busy_past def past valid legal level);
       none_busy = none_busy def past legal level;
-      off = below _ _ _ (offs_past def past valid legal level);
+      off = offs_past def past valid legal level;
       closed = closed_past def past valid legal;
     }
 
 pub asks_are_counted : (def : LineDef) (h : List Entry) → IsValid def → IsLegal def h → AsksAreCounted def h
 asks_are_counted def h valid legal =
-    record { exact = λ d. served_exactly def d (reverse h) valid legal; runs = λ d. served_of def d (reverse h) valid legal; all_runs = served_past def (reverse h) valid legal }
+    record { exact = λ d. served_exactly def d (reverse h) valid legal; runs = λ d. served_of def d (reverse h) valid legal; all = served_of_all def (reverse h) valid legal; all_runs = served_past def (reverse h) valid legal }
 
 pub within_bound : (def : LineDef) (h : List Entry) → IsValid def → IsLegal def h → length h ≤ bound def
 within_bound def h valid legal = let n = within def h valid legal in let l = length-reverse h in omega (arith, n, l)

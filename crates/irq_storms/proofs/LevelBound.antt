@@ -8,6 +8,7 @@ use Rattle.irq_model.specs.Kinds.{is_busy, is_off}
 use Rattle.irq_model.specs.Lines.{is_edge_line, is_level_line}
 use Rattle.irq_model.specs.Rounds.{begins_round, has_flow}
 use Rattle.irq_model.specs.Bounds.{ask_calls, other_calls, edge_bound, level_bound, bound}
+use Rattle.irq_model.specs.Spurious.{counts_of}
 use Rattle.irq_model.specs.Legal.{IsLegal, IsLegalPast}
 use Rattle.irq_model.specs.Valid.{IsValid}
 use Rattle.irq_storms.specs.Tests.{is_end}
@@ -19,7 +20,7 @@ use Rattle.irq_storms.proofs.EdgeCounts.{takes_by_answer, rounds_by_entry, start
 use Rattle.irq_storms.proofs.EdgeBound.{by_rounds, edge_within, edge_counts_past}
 use Rattle.irq_storms.proofs.ServedCounts.{served_past}
 use Rattle.irq_storms.proofs.KillCounts.{busy_past, offs_past}
-use Rattle.irq_storms.proofs.EndCounts.{where_more, handled_past, deferred_past, nothing_past}
+use Rattle.irq_storms.proofs.EndCounts.{where_more, handled_past, deferred_past, clearing_past, nothing_past}
 
 -- ---- each end is judged one way
 
@@ -47,12 +48,18 @@ pub record LevelCounts (def : LineDef) (past : List Entry) : Type 0 where
   pub busy : count_of is_busy past ≤ other_calls def
   pub off : count_of is_off past ≤ other_calls def
 
+some_mark : (b : Bool) → one_if b ≤ 1
+some_mark true = omega arith
+some_mark false = omega arith
+
 pub level_counts : (def : LineDef) (past : List Entry) → IsValid def → IsLegalPast def past → is_level_line def ≡ true → LevelCounts def past
 level_counts def past valid legal level =
     let h = handled_past def past valid legal level in
     let s = served_past def past valid legal in
     let a = asks_of_drivers def past legal in
     let d = deferred_past def past legal in
+    let cl = clearing_past def past in
+    let mark = some_mark (counts_of def past).deferred in
     let r = renewals_of_drivers def past legal in
     let starts = starts_past def past legal in
     let b = busy_past def past valid legal level in
@@ -62,7 +69,7 @@ level_counts def past valid legal level =
     let m = mul-le-mul_left (2 * def.window) all_breaks in
     record {
       handled = omega (arith, h, s, a);
-      deferred = omega (arith, h, s, a, d);
+      deferred = omega (arith, h, s, a, d, cl, mark);
       breaks = omega (arith, h, s, a, r);
       nothing = omega (arith, n, m);
       busy = omega (arith, b, starts);
@@ -76,16 +83,12 @@ level_rounds : (def : LineDef) (past : List Entry) → IsLegalPast def past → 
 level_rounds def past legal counts =
     let r = rounds_past def past legal in
     let e = ends_judged def past in
-    let f = flow_mark (has_flow def past) in
+    let f = some_mark (has_flow def past) in
     let w = mul_assoc 2 def.window (ask_calls def + other_calls def + 1) in
     let h = counts.handled in
     let d = counts.deferred in
     let n = counts.nothing in
     omega (arith, r, e, f, w, h, d, n)
-  where
-    flow_mark : (b : Bool) → one_if b ≤ 1
-    flow_mark true = omega arith
-    flow_mark false = omega arith
 
 -- the bound in the products of the number of devices n, of the calls and one more m, and of the window w
 spread : (n m w : ℕ) → (6 * n + 8) * m * (2 * w + 5) ≡ 12 * (n * (w * m)) + 30 * (n * m) + 16 * (w * m) + 40 * m

@@ -11,3 +11,4 @@ pub mod KillCounts
 pub mod WindowRule
 pub mod EndCounts
 pub mod LevelBound
+pub mod DeviceSums

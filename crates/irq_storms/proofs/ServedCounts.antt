@@ -306,7 +306,7 @@ pub served_of : (def : LineDef) (d : DevNo) (past : List Entry) → IsValid def 
 served_of def d past valid legal = let a = served_exactly def d past valid legal in let b = serving_runs def d past legal in omega (arith, a, b)
 
 -- of all devices
-key_ask : (k : ℕ) (e : Entry) → is_ask (record { 0 = k }) e ≡ (is_any_ask e && (k == dev_key e))
+pub key_ask : (k : ℕ) (e : Entry) → is_ask (record { 0 = k }) e ≡ (is_any_ask e && (k == dev_key e))
 key_ask k (entries.Ask driver dev) = refl
 key_ask k e = refl
 

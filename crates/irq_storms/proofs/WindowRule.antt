@@ -120,11 +120,12 @@ nothing_window window limit at c lim small = by_tests (nat_lt 100 (at - c.last_u
 
 -- ---- an end
 
-pub record EndFacts (window limit at : ℕ) (h : Bool) (c : Counts) (n : Noted) (j : Judgement) : Type 0 where
+pub record EndFacts (window limit at : ℕ) (w h : Bool) (c : Counts) (n : Noted) (j : Judgement) : Type 0 where
   -- an end judged handled has a handled return of its round, or a thread that served since
   pub marks : one_if (is_handled_judgement j) + one_if (not (n.counts.threads_handled == n.counts.last)) ≤ one_if h + one_if (not (c.threads_handled == c.last))
-  -- only an end judged handled gives the deferred mark up
-  pub deferred : one_if (is_deferred_judgement j) + one_if c.deferred ≤ one_if (is_handled_judgement j) + one_if n.counts.deferred
+  -- only an end whose round both woke and handled gives the deferred mark up
+  pub deferred : one_if (is_deferred_judgement j) + one_if c.deferred ≤ one_if (w && h) + one_if n.counts.deferred
+  pub clears : one_if (w && h) ≤ one_if (is_handled_judgement j)
   pub small : c.irq_count < window → n.counts.irq_count < window
   pub allows : limit < window → c.irq_count < window → one_if (is_nothing_judgement j) + allowed_after window at n ≤ cond (is_handled_judgement j) (2 * window) 0 + allowance window at c
 
@@ -138,22 +139,24 @@ same_marks window limit at b c = let k = judged_keeps window limit at b c in rw 
 same_deferred : (window limit at : ℕ) (b : Bool) (c : Counts) → one_if (judged window limit at b c).counts.deferred ≡ one_if c.deferred
 same_deferred window limit at b c = ap one_if (judged_keeps window limit at b c).deferred
 
-judged_nothing : (window limit at : ℕ) (h : Bool) (c : Counts) → EndFacts window limit at h c (judged window limit at false c) Nothing
-judged_nothing window limit at h c =
+judged_nothing : (window limit at : ℕ) (w h : Bool) (c : Counts) → (w && h) ≡ false → EndFacts window limit at w h c (judged window limit at false c) Nothing
+judged_nothing window limit at w h c no_clear =
     record {
       marks = (let s = same_marks window limit at false c in omega (arith, s));
       deferred = (let s = same_deferred window limit at false c in omega (arith, s));
+      clears = (let n : one_if (w && h) ≡ 0 = ap one_if no_clear in omega (arith, n));
       small = judged_small window limit at false c;
       allows = λ lim small. (let n = nothing_window window limit at c lim small in omega (arith, n));
     }
 
 -- d: the counts that are judged, the deferred mark or the last of which may have changed
-judged_handled : (window limit at : ℕ) (h : Bool) (c d : Counts) → d.irq_count ≡ c.irq_count → 1 + one_if (not (d.threads_handled == d.last)) ≤ one_if h + one_if (not (c.threads_handled == c.last))
-    → EndFacts window limit at h c (judged window limit at true d) Handled
-judged_handled window limit at h c d same marks =
+judged_handled : (window limit at : ℕ) (w h : Bool) (c d : Counts) → d.irq_count ≡ c.irq_count → 1 + one_if (not (d.threads_handled == d.last)) ≤ one_if h + one_if (not (c.threads_handled == c.last))
+    → one_if c.deferred ≤ one_if (w && h) + one_if d.deferred → EndFacts window limit at w h c (judged window limit at true d) Handled
+judged_handled window limit at w h c d same marks cleared =
     record {
       marks = (let s = same_marks window limit at true d in omega (arith, s, marks));
-      deferred = (let m = mark_most c.deferred in omega (arith, m));
+      deferred = (let s = same_deferred window limit at true d in omega (arith, s, cleared));
+      clears = mark_most (w && h);
       small = λ small. judged_small window limit at true d (omega (arith, small, same));
       allows = λ lim small. (let m = most_unless (is_killed (judged window limit at true d).note) _ _ (allowed_most window at (judged window limit at true d).counts) in omega (arith, m));
     }
@@ -161,24 +164,25 @@ judged_handled window limit at h c d same marks =
 same_here : (n : ℕ) → (n == n) ≡ true
 same_here n = eq-eqb n n refl
 
-pub end_facts : (window limit at : ℕ) (w h : Bool) (c : Counts) → EndFacts window limit at h c (noted window limit at w h c) (judged_as w h c.deferred (c.threads_handled == c.last))
+pub end_facts : (window limit at : ℕ) (w h : Bool) (c : Counts) → EndFacts window limit at w h c (noted window limit at w h c) (judged_as w h c.deferred (c.threads_handled == c.last))
 end_facts window limit at w h c = by_tests w h c.deferred (c.threads_handled == c.last) refl refl
   where
     by_tests : (w h d s : Bool) → c.deferred ≡ d → (c.threads_handled == c.last) ≡ s
-        → EndFacts window limit at h c (cond (w && not h) (cond d (cond s (judged window limit at false c) (judged window limit at true (record c { last = c.threads_handled }))) (record { note = notes.Quiet; counts = record c { deferred = true } })) (judged window limit at h (cond w (record c { deferred = false }) c))) (judged_as w h d s)
-    by_tests true false true true id is = judged_nothing window limit at false c
+        → EndFacts window limit at w h c (cond (w && not h) (cond d (cond s (judged window limit at false c) (judged window limit at true (record c { last = c.threads_handled }))) (record { note = notes.Quiet; counts = record c { deferred = true } })) (judged window limit at h (cond w (record c { deferred = false }) c))) (judged_as w h d s)
+    by_tests true false true true id is = judged_nothing window limit at true false c refl
     by_tests true false true false id is =
-        judged_handled window limit at false c (record c { last = c.threads_handled }) refl
+        judged_handled window limit at true false c (record c { last = c.threads_handled }) refl
         (let now : one_if (not (c.threads_handled == c.threads_handled)) ≡ 0 = ap (λ (b : Bool). one_if (not b)) (same_here c.threads_handled) in
         let was : one_if (not (c.threads_handled == c.last)) ≡ 1 = ap (λ (b : Bool). one_if (not b)) is in
-        omega (arith, now, was))
+        omega (arith, now, was)) (omega arith)
     by_tests true false false s id is =
         record {
           marks = omega arith;
           deferred = (let n : one_if c.deferred ≡ 0 = ap one_if id in omega (arith, n));
+          clears = omega arith;
           small = λ small. small;
           allows = λ lim small. omega arith;
         }
-    by_tests true true d s id is = judged_handled window limit at true c (record c { deferred = false }) refl (omega arith)
-    by_tests false true d s id is = judged_handled window limit at true c c refl (omega arith)
-    by_tests false false d s id is = judged_nothing window limit at false c
+    by_tests true true d s id is = judged_handled window limit at true true c (record c { deferred = false }) refl (omega arith) (mark_most c.deferred)
+    by_tests false true d s id is = judged_handled window limit at false true c c refl (omega arith) (omega arith)
+    by_tests false false d s id is = judged_nothing window limit at false false c refl

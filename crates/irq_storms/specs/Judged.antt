@@ -66,6 +66,13 @@ nothing_ends def past = count_where (ends_nothing def) past
 abbrev pub deferred_ends : LineDef → List Entry → ℕ
 deferred_ends def past = count_where (ends_deferred def) past
 
+-- the ends whose round both woke a thread and handled: they give the deferred mark up
+abbrev pub ends_clearing : LineDef → Entry → List Entry → Bool
+ends_clearing def e past = is_end e && (round_wakes def past && round_handles def past)
+
+abbrev pub clearing_ends : LineDef → List Entry → ℕ
+clearing_ends def past = count_where (ends_clearing def) past
+
 -- from where a storm may begin anew: an end judged handled, a start, a linked request, a moment
 abbrev pub breaks : LineDef → List Entry → ℕ
 breaks def past = handled_ends def past + count_of is_renewal past
