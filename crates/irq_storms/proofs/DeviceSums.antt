@@ -1,5 +1,5 @@
 -- Over the devices of a line: the asks that were served and those that weren't are all the asks.
-use Rattle.std.proofs.Common.{◌≡◌, ℕ, zero, suc, ◌+◌, ◌≤◌, ◌==◌, Bool, true, false, ◌||◌, ◌&&◌, cond, List, [], ◌∷◌, refl, sym, ap, ◌∙◌, subst, arith, All}
+use Rattle.std.proofs.Common.{◌≡◌, ℕ, zero, suc, ◌+◌, ◌==◌, Bool, true, false, ◌||◌, cond, List, [], ◌∷◌, refl, sym, ap, subst, arith}
 use Rattle.std.specs.List.{list_any}
 use Rattle.std.proofs.lemmas.Bool.{or_parts, false_from_ne_true}
 use Rattle.irq_base.specs.declared.numbers.DevNo.{DevNo}
@@ -9,7 +9,7 @@ use Rattle.irq_base.specs.declared.lines.LineDef.{LineDef}
 use Rattle.irq_base.specs.declared.entries.Entry.{Entry}
 use Rattle.irq_base.specs.declared.entries.Entry.TheVariants as entries
 use Rattle.irq_model.specs.Places.{count_of}
-use Rattle.irq_model.specs.Kinds.{same_dev, is_any_ask, is_ask}
+use Rattle.irq_model.specs.Kinds.{is_any_ask, is_ask}
 use Rattle.irq_model.specs.Lines.{is_device}
 use Rattle.irq_model.specs.Asks.{unserved_asks}
 use Rattle.irq_model.specs.Due.{entries_by}

@@ -12,3 +12,4 @@ pub mod WindowRule
 pub mod EndCounts
 pub mod LevelBound
 pub mod DeviceSums
+pub mod StormRows
