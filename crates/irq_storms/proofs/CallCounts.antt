@@ -1,0 +1,227 @@
+-- What drivers add to a history: each the entries of its calls, and so all together no more than the calls of the
+-- line make.
+use Rattle.std.proofs.Common.{◌≡◌, ℕ, ◌+◌, ◌*◌, ◌≤◌, ◌==◌, inl, inr, Bool, true, false, not, ◌&&◌, cond, List, [], ◌∷◌, ◌++◌, filter, reverse, refl, ap, arith}
+use Rattle.std.proofs.lemmas.Grind.{reverse_onto}
+use Rattle.irq_base.specs.declared.numbers.DriverNo.{DriverNo}
+use Rattle.irq_base.specs.declared.calls.Call.{Call}
+use Rattle.irq_base.specs.declared.calls.Call.TheVariants as calls
+use Rattle.irq_base.specs.declared.lines.LineDef.{LineDef}
+use Rattle.irq_base.specs.declared.entries.Entry.{Entry}
+use Rattle.irq_base.specs.declared.entries.Entry.TheVariants as entries
+use Rattle.irq_base.specs.declared.entries.UnlinkAnswer.TheVariants as unlinks
+use Rattle.irq_model.specs.Places.{count_of}
+use Rattle.irq_model.specs.Kinds.{same_driver, is_by_driver, is_any_ask}
+use Rattle.irq_model.specs.Due.{calls_by, entries_by}
+use Rattle.irq_model.specs.Bounds.{is_ask_call, ask_calls, other_calls}
+use Rattle.irq_model.specs.Scripts.{MakesAll, AreMadeBy, FollowsScriptsPast}
+use Rattle.irq_model.specs.Legal.{IsLegalPast}
+use Rattle.irq_laws.proofs.ScriptLaws.{follows_past}
+use Rattle.irq_storms.specs.Judged.{one_if}
+use Rattle.irq_storms.specs.Tests.{total, is_by_any_driver, is_renewal, most_entries}
+use Rattle.irq_storms.proofs.Counting.{count_more, count_total, total_ext, total_at, totals_by_key}
+
+-- ---- counts of joined, reversed and filtered lists
+
+module _ {A : Type 0} (p : A → Bool) where
+  count_join : (xs ys : List A) → count_of p (xs ++ ys) ≡ count_of p xs + count_of p ys
+  count_join [] ys = omega arith
+  count_join (x ∷ xs) ys = let a = count_more p x (xs ++ ys) in let b = count_more p x xs in let r = count_join xs ys in omega (arith, a, b, r)
+
+  count_back : (xs : List A) → count_of p (reverse xs) ≡ count_of p xs
+  count_back [] = refl
+  count_back (x ∷ xs) =
+      let turned : count_of p (reverse (x ∷ xs)) ≡ count_of p (reverse xs ++ x ∷ []) = ap (λ (l : List A). count_of p l) (reverse_onto xs x []) in
+      let a = count_join (reverse xs) (x ∷ []) in
+      let b = count_more p x [] in
+      let c = count_more p x xs in
+      let r = count_back xs in
+      omega (arith, turned, a, b, c, r)
+
+  count_kept : (q : A → Bool) (xs : List A) → count_of p (filter q xs) ≡ count_of (λ x. p x && q x) xs
+  count_kept q [] = refl
+  count_kept q (x ∷ xs) = by_test (p x) (q x) refl (count_kept q xs)
+    where
+      by_test : (a b : Bool) → p x ≡ a → count_of p (filter q xs) ≡ count_of (λ x. p x && q x) xs
+          → count_of p (cond b (x ∷ filter q xs) (filter q xs)) ≡ cond (a && b) (count_of (λ x. p x && q x) xs + 1) (count_of (λ x. p x && q x) xs)
+      by_test true true i h = rw (i, h) refl
+      by_test false true i h = rw (i, h) refl
+      by_test true false i h = h
+      by_test false false i h = h
+
+-- ---- one driver
+
+abbrev driver_key : Entry → ℕ
+driver_key (entries.Ask driver dev) = driver.0
+driver_key (entries.Disable driver) = driver.0
+driver_key (entries.HardClear driver) = driver.0
+driver_key (entries.Synced driver) = driver.0
+driver_key (entries.Enable driver answer) = driver.0
+driver_key (entries.Request driver dev flags answer opened) = driver.0
+driver_key (entries.Unlink driver dev answer) = driver.0
+driver_key (entries.Freed driver dev) = driver.0
+driver_key (entries.Affinity driver mask answer) = driver.0
+driver_key (entries.Moment driver at) = driver.0
+driver_key _ = 0
+
+-- a test of drivers' entries, and how often a call meets it at most
+module _ (p : Entry → Bool) (w : Call → ℕ) (by_driver : (e : Entry) → p e ≡ true → is_by_any_driver e ≡ true) (most : (c : Call) (es : List Entry) → MakesAll c es → count_of p es ≤ w c) where
+  made_count : (cs : List Call) (es : List Entry) → AreMadeBy cs es → count_of p es ≤ total w cs
+  made_count [] es h = let n : count_of p es ≡ 0 = ap (λ (l : List Entry). count_of p l) h in omega (arith, n)
+  made_count (c ∷ cs) es (inl made) =
+      let j = count_join p es made.0 in
+      let m = most c (es ++ made.0) made.1 in
+      omega (arith, j, m)
+  made_count (c ∷ cs) es (inr made) =
+      let s : count_of p es ≡ count_of p (made.0 ++ made.1) = ap (λ (l : List Entry). count_of p l) made.2 in
+      let j = count_join p made.0 made.1 in
+      let m = most c made.0 made.3 in
+      let r = made_count cs made.1 made.4 in
+      omega (arith, s, j, m, r)
+
+  weights_by : (r : DriverNo) (cs : List (DriverNo × Call)) → total w (calls_by r cs) ≡ total_at (λ c. c.0.0) (λ c. w c.1) r.0 cs
+  weights_by r [] = refl
+  weights_by r (c ∷ cs) = by_test (same_driver r c.0) (weights_by r cs)
+    where
+      by_test : (b : Bool) → total w (calls_by r cs) ≡ total_at (λ c. c.0.0) (λ c. w c.1) r.0 cs → total w (cond b (c.1 ∷ calls_by r cs) (calls_by r cs)) ≡ cond b (w c.1) 0 + total_at (λ c. c.0.0) (λ c. w c.1) r.0 cs
+      by_test true h = omega (arith, h)
+      by_test false h = omega (arith, h)
+
+  no_driver : (a b c : Bool) → (a ≡ true → false ≡ true) → one_if (a && b) ≡ cond c (one_if a) 0
+  no_driver true b c h = let n = h refl in cc
+  no_driver false b true h = refl
+  no_driver false b false h = refl
+
+  one_driver : (a c : Bool) → one_if (a && c) ≡ cond c (one_if a) 0
+  one_driver true true = refl
+  one_driver true false = refl
+  one_driver false true = refl
+  one_driver false false = refl
+
+  at_driver : (k : ℕ) (e : Entry) → one_if (p e && is_by_driver (record { 0 = k }) e) ≡ cond (k == driver_key e) (one_if (p e)) 0
+  at_driver k (entries.Take cpu way answer) = no_driver _ _ _ (by_driver (entries.Take cpu way answer))
+  at_driver k (entries.Begin cpu dev) = no_driver _ _ _ (by_driver (entries.Begin cpu dev))
+  at_driver k (entries.Return cpu dev answer served) = no_driver _ _ _ (by_driver (entries.Return cpu dev answer served))
+  at_driver k (entries.End cpu again unmask note) = no_driver _ _ _ (by_driver (entries.End cpu again unmask note))
+  at_driver k (entries.ThreadBegin dev) = no_driver _ _ _ (by_driver (entries.ThreadBegin dev))
+  at_driver k (entries.ThreadReturn dev served) = no_driver _ _ _ (by_driver (entries.ThreadReturn dev served))
+  at_driver k (entries.Finish dev kept unmask) = no_driver _ _ _ (by_driver (entries.Finish dev kept unmask))
+  at_driver k (entries.Done dev) = no_driver _ _ _ (by_driver (entries.Done dev))
+  at_driver k e = one_driver (p e) (k == driver_key e)
+
+  of_driver : (def : LineDef) (past : List Entry) → FollowsScriptsPast def past → (k : ℕ) → total_at driver_key (λ e. one_if (p e)) k past ≤ total_at (λ c. c.0.0) (λ c. w c.1) k def.calls
+  of_driver def past follows k =
+      let r : DriverNo = record { 0 = k } in
+      let made : count_of p (entries_by r past) ≤ total w (calls_by r def.calls) = made_count (calls_by r def.calls) (entries_by r past) (follows r) in
+      let back : count_of p (entries_by r past) ≡ count_of p (filter (is_by_driver r) past) = count_back p (filter (is_by_driver r) past) in
+      let kept = count_kept p (is_by_driver r) past in
+      let sum = count_total (λ e. p e && is_by_driver r e) past in
+      let same : total (λ e. one_if (p e && is_by_driver r e)) past ≡ total_at driver_key (λ e. one_if (p e)) k past = total_ext _ _ past (at_driver k) in
+      let weights = weights_by r def.calls in
+      omega (arith, made, back, kept, sum, same, weights)
+
+  -- all drivers
+  pub of_drivers : (def : LineDef) (past : List Entry) → FollowsScriptsPast def past → count_of p past ≤ total (λ c. w c.1) def.calls
+  of_drivers def past follows =
+      let sum = count_total p past in
+      let all = totals_by_key driver_key (λ e. one_if (p e)) past (λ c. c.0.0) (λ c. w c.1) def.calls (of_driver def past follows) in
+      omega (arith, sum, all)
+
+-- ---- the three tests
+
+at_most_one : (b : Bool) → cond b (0 + 1) 0 ≤ 1
+at_most_one true = omega arith
+at_most_one false = omega arith
+
+most_made : (c : Call) (es : List Entry) → MakesAll c es → count_of is_by_any_driver es ≤ most_entries c
+most_made (calls.Ask d) (entries.Ask r dev ∷ []) h = omega arith
+most_made (calls.Request d flags) (entries.Request r dev given answer opened ∷ []) h = omega arith
+most_made (calls.Free d) (entries.Unlink r dev unlinks.NotThere ∷ []) h = omega arith
+most_made (calls.Free d) (entries.Unlink r dev (unlinks.Unlinked last) ∷ entries.HardClear s ∷ entries.Freed t freed ∷ []) h = omega arith
+most_made calls.Disable (entries.Disable r ∷ entries.HardClear s ∷ entries.Synced t ∷ []) h = omega arith
+most_made calls.DisableNosync (entries.Disable r ∷ []) h = omega arith
+most_made calls.Enable (entries.Enable r answer ∷ []) h = omega arith
+most_made calls.Sync (entries.HardClear r ∷ entries.Synced s ∷ []) h = omega arith
+most_made (calls.Affinity mask) (entries.Affinity r given answer ∷ []) h = omega arith
+most_made (calls.Moment at) (entries.Moment r given ∷ []) h = omega arith
+most_made c es h = absurd h
+
+asks_made : (c : Call) (es : List Entry) → MakesAll c es → count_of is_any_ask es ≤ one_if (is_ask_call c)
+asks_made (calls.Ask d) (entries.Ask r dev ∷ []) h = omega arith
+asks_made (calls.Request d flags) (entries.Request r dev given answer opened ∷ []) h = omega arith
+asks_made (calls.Free d) (entries.Unlink r dev unlinks.NotThere ∷ []) h = omega arith
+asks_made (calls.Free d) (entries.Unlink r dev (unlinks.Unlinked last) ∷ entries.HardClear s ∷ entries.Freed t freed ∷ []) h = omega arith
+asks_made calls.Disable (entries.Disable r ∷ entries.HardClear s ∷ entries.Synced t ∷ []) h = omega arith
+asks_made calls.DisableNosync (entries.Disable r ∷ []) h = omega arith
+asks_made calls.Enable (entries.Enable r answer ∷ []) h = omega arith
+asks_made calls.Sync (entries.HardClear r ∷ entries.Synced s ∷ []) h = omega arith
+asks_made (calls.Affinity mask) (entries.Affinity r given answer ∷ []) h = omega arith
+asks_made (calls.Moment at) (entries.Moment r given ∷ []) h = omega arith
+asks_made c es h = absurd h
+
+renewals_made : (c : Call) (es : List Entry) → MakesAll c es → count_of is_renewal es ≤ one_if (not (is_ask_call c))
+renewals_made (calls.Ask d) (entries.Ask r dev ∷ []) h = omega arith
+renewals_made (calls.Request d flags) (entries.Request r dev given answer opened ∷ []) h = at_most_one (is_renewal (entries.Request r dev given answer opened))
+renewals_made (calls.Free d) (entries.Unlink r dev unlinks.NotThere ∷ []) h = omega arith
+renewals_made (calls.Free d) (entries.Unlink r dev (unlinks.Unlinked last) ∷ entries.HardClear s ∷ entries.Freed t freed ∷ []) h = omega arith
+renewals_made calls.Disable (entries.Disable r ∷ entries.HardClear s ∷ entries.Synced t ∷ []) h = omega arith
+renewals_made calls.DisableNosync (entries.Disable r ∷ []) h = omega arith
+renewals_made calls.Enable (entries.Enable r answer ∷ []) h = at_most_one (is_renewal (entries.Enable r answer))
+renewals_made calls.Sync (entries.HardClear r ∷ entries.Synced s ∷ []) h = omega arith
+renewals_made (calls.Affinity mask) (entries.Affinity r given answer ∷ []) h = omega arith
+renewals_made (calls.Moment at) (entries.Moment r given ∷ []) h = omega arith
+renewals_made c es h = absurd h
+
+ask_by_driver : (e : Entry) → is_any_ask e ≡ true → is_by_any_driver e ≡ true
+ask_by_driver (entries.Ask driver dev) h = refl
+ask_by_driver e h = cc
+
+renewal_by_driver : (e : Entry) → is_renewal e ≡ true → is_by_any_driver e ≡ true
+renewal_by_driver (entries.Enable driver answer) h = refl
+renewal_by_driver (entries.Request driver dev flags answer opened) h = refl
+renewal_by_driver (entries.Moment driver at) h = refl
+renewal_by_driver e h = cc
+
+-- ---- the weights of all calls
+
+all_weights : (cs : List (DriverNo × Call)) → total (λ c. most_entries c.1) cs ≡ count_of (λ c. is_ask_call c.1) cs + 3 * count_of (λ c. not (is_ask_call c.1)) cs
+all_weights [] = refl
+all_weights (c ∷ cs) = by_call c.1 (all_weights cs)
+  where
+    by_ask : (m n t : ℕ) → t ≡ m + 3 * n → 1 + t ≡ (m + 1) + 3 * n
+    by_ask m n t h = omega (arith, h)
+
+    by_other : (m n t : ℕ) → t ≡ m + 3 * n → 3 + t ≡ m + 3 * (n + 1)
+    by_other m n t h = omega (arith, h)
+
+    by_call : (x : Call) → total (λ c. most_entries c.1) cs ≡ count_of (λ c. is_ask_call c.1) cs + 3 * count_of (λ c. not (is_ask_call c.1)) cs
+        → most_entries x + total (λ c. most_entries c.1) cs
+        ≡ cond (is_ask_call x) (count_of (λ c. is_ask_call c.1) cs + 1) (count_of (λ c. is_ask_call c.1) cs) + 3 * cond (not (is_ask_call x)) (count_of (λ c. not (is_ask_call c.1)) cs + 1) (count_of (λ c. not (is_ask_call c.1)) cs)
+    by_call (calls.Ask d) h = by_ask _ _ _ h
+    by_call (calls.Request d flags) h = by_other _ _ _ h
+    by_call (calls.Free d) h = by_other _ _ _ h
+    by_call calls.Disable h = by_other _ _ _ h
+    by_call calls.DisableNosync h = by_other _ _ _ h
+    by_call calls.Enable h = by_other _ _ _ h
+    by_call calls.Sync h = by_other _ _ _ h
+    by_call (calls.Affinity mask) h = by_other _ _ _ h
+    by_call (calls.Moment at) h = by_other _ _ _ h
+
+-- ---- what drivers add
+
+pub driver_entries : (def : LineDef) (past : List Entry) → IsLegalPast def past → count_of is_by_any_driver past ≤ ask_calls def + 3 * other_calls def
+driver_entries def past legal =
+    let all = of_drivers is_by_any_driver most_entries (λ e h. h) most_made def past (follows_past def past legal) in
+    let weights = all_weights def.calls in
+    omega (arith, all, weights)
+
+pub asks_of_drivers : (def : LineDef) (past : List Entry) → IsLegalPast def past → count_of is_any_ask past ≤ ask_calls def
+asks_of_drivers def past legal =
+    let all = of_drivers is_any_ask (λ c. one_if (is_ask_call c)) ask_by_driver asks_made def past (follows_past def past legal) in
+    let weights = count_total (λ (c : DriverNo × Call). is_ask_call c.1) def.calls in
+    omega (arith, all, weights)
+
+pub renewals_of_drivers : (def : LineDef) (past : List Entry) → IsLegalPast def past → count_of is_renewal past ≤ other_calls def
+renewals_of_drivers def past legal =
+    let all = of_drivers is_renewal (λ c. one_if (not (is_ask_call c))) renewal_by_driver renewals_made def past (follows_past def past legal) in
+    let weights = count_total (λ (c : DriverNo × Call). not (is_ask_call c.1)) def.calls in
+    omega (arith, all, weights)

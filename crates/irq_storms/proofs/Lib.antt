@@ -1,0 +1,15 @@
+pub mod Counting
+pub mod CallCounts
+pub mod Running
+pub mod RunCounts
+pub mod ThreadCounts
+pub mod EdgeCounts
+pub mod EdgeBound
+pub mod Laws
+pub mod ServedCounts
+pub mod KillCounts
+pub mod WindowRule
+pub mod EndCounts
+pub mod LevelBound
+pub mod DeviceSums
+pub mod StormRows

@@ -1,0 +1,97 @@
+-- What the rule on spurious interrupts makes of an end, and what its open window still allows (`note_interrupt`,
+-- `kernel/irq/spurious.c`).
+use Rattle.std.specs.Prelude.{ℕ, ◌+◌, ◌-◌, ◌*◌, Bool, true, false, not, ◌||◌, ◌&&◌, ◌==◌, if◌then◌else◌, List, [], ◌∷◌, nat_lt}
+use Rattle.irq_base.specs.declared.lines.LineDef.{LineDef}
+use Rattle.irq_base.specs.declared.entries.Entry.{Entry}
+use Rattle.irq_model.specs.Places.{stands, count_of}
+use Rattle.irq_model.specs.Kinds.{is_kill, is_start}
+use Rattle.irq_model.specs.Rounds.{has_flow}
+use Rattle.irq_model.specs.Spurious.{Counts, now, round_wakes, round_handles, counts_of}
+use Rattle.irq_storms.specs.Tests.{is_end, is_renewal}
+
+-- a mark as a number
+abbrev pub one_if : Bool → ℕ
+one_if b = if b then 1 else 0
+
+-- how many entries pass a test that looks at what stands before each of them
+abbrev pub count_where : (Entry → List Entry → Bool) → List Entry → ℕ
+count_where p [] = 0
+count_where p (e ∷ past) = if p e past then (count_where p past + 1) else count_where p past
+
+-- ---- an end is judged, or left to the next one
+
+pub data Judgement : Type 0 where
+  Handled : Judgement
+  Nothing : Judgement
+  Deferred : Judgement
+
+-- `deferred`: an end that only woke threads waits to be judged; `same`: no thread has served since
+abbrev pub judged_as : Bool → Bool → Bool → Bool → Judgement
+judged_as wake handled deferred same =
+    if wake && not handled then (if deferred then (if same then Nothing else Handled) else Deferred) else (if handled then Handled else Nothing)
+
+-- the judgement of an end that comes now
+abbrev pub judgement : LineDef → List Entry → Judgement
+judgement def past =
+    let c = counts_of def past in judged_as (round_wakes def past) (round_handles def past) c.deferred (c.threads_handled == c.last)
+
+abbrev pub is_handled_judgement : Judgement → Bool
+is_handled_judgement Handled = true
+is_handled_judgement _ = false
+
+abbrev pub is_nothing_judgement : Judgement → Bool
+is_nothing_judgement Nothing = true
+is_nothing_judgement _ = false
+
+abbrev pub is_deferred_judgement : Judgement → Bool
+is_deferred_judgement Deferred = true
+is_deferred_judgement _ = false
+
+abbrev pub ends_handled : LineDef → Entry → List Entry → Bool
+ends_handled def e past = is_end e && is_handled_judgement (judgement def past)
+
+abbrev pub ends_nothing : LineDef → Entry → List Entry → Bool
+ends_nothing def e past = is_end e && is_nothing_judgement (judgement def past)
+
+abbrev pub ends_deferred : LineDef → Entry → List Entry → Bool
+ends_deferred def e past = is_end e && is_deferred_judgement (judgement def past)
+
+-- the ends that were judged handled, judged nothing, or deferred
+abbrev pub handled_ends : LineDef → List Entry → ℕ
+handled_ends def past = count_where (ends_handled def) past
+
+abbrev pub nothing_ends : LineDef → List Entry → ℕ
+nothing_ends def past = count_where (ends_nothing def) past
+
+abbrev pub deferred_ends : LineDef → List Entry → ℕ
+deferred_ends def past = count_where (ends_deferred def) past
+
+-- the ends whose round both woke a thread and handled: they give the deferred mark up
+abbrev pub ends_clearing : LineDef → Entry → List Entry → Bool
+ends_clearing def e past = is_end e && (round_wakes def past && round_handles def past)
+
+abbrev pub clearing_ends : LineDef → List Entry → ℕ
+clearing_ends def past = count_where (ends_clearing def) past
+
+-- from where a storm may begin anew: an end judged handled, a start, a linked request, a moment
+abbrev pub breaks : LineDef → List Entry → ℕ
+breaks def past = handled_ends def past + count_of is_renewal past
+
+-- what ends judged handled take: a handled return of the round in progress, and threads that served since the last look
+abbrev pub serving_marks : LineDef → List Entry → ℕ
+serving_marks def past =
+    one_if (has_flow def past && round_handles def past) + one_if (not ((counts_of def past).threads_handled == (counts_of def past).last))
+
+-- ---- what the open window allows
+
+-- the next unhandled end begins the count anew, or some end of the window wasn't counted as unhandled
+abbrev pub is_forgiving : ℕ → Counts → Bool
+is_forgiving at c = nat_lt 100 (at - c.last_unhandled) || nat_lt c.irqs_unhandled c.irq_count
+
+-- how many ends judged nothing may come before the line is killed
+abbrev pub allowance : ℕ → ℕ → Counts → ℕ
+allowance window at c = if is_forgiving at c then 2 * window - c.irq_count else window - c.irq_count
+
+-- none on a line that was killed, and not started since
+abbrev pub allowed : LineDef → List Entry → ℕ
+allowed def past = if stands is_kill is_start past then 0 else allowance def.window (now past) (counts_of def past)

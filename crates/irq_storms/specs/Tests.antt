@@ -1,0 +1,92 @@
+-- Tests of entries, whichever device or driver they are of, and what a call makes at most.
+use Rattle.std.specs.Prelude.{ℕ, ◌+◌, Bool, true, false, ◌||◌, ◌&&◌, if◌then◌else◌, nat_lt, List, [], ◌∷◌}
+use Rattle.irq_base.specs.declared.numbers.DevNo.{DevNo}
+use Rattle.irq_base.specs.declared.calls.Call.{Call}
+use Rattle.irq_base.specs.declared.calls.Call.TheVariants as calls
+use Rattle.irq_base.specs.declared.entries.Entry.{Entry}
+use Rattle.irq_base.specs.declared.entries.Entry.TheVariants as entries
+use Rattle.irq_model.specs.Kinds.{same_dev, is_handled, returns_handled, is_start, is_linked_request}
+
+-- ---- runs
+
+abbrev pub is_any_begin : Entry → Bool
+is_any_begin (entries.Begin cpu dev) = true
+is_any_begin _ = false
+
+abbrev pub is_any_return : Entry → Bool
+is_any_return (entries.Return cpu dev answer served) = true
+is_any_return _ = false
+
+abbrev pub is_end : Entry → Bool
+is_end (entries.End cpu again unmask note) = true
+is_end _ = false
+
+abbrev pub is_any_thread_begin : Entry → Bool
+is_any_thread_begin (entries.ThreadBegin dev) = true
+is_any_thread_begin _ = false
+
+abbrev pub is_any_thread_return : Entry → Bool
+is_any_thread_return (entries.ThreadReturn dev served) = true
+is_any_thread_return _ = false
+
+abbrev pub is_any_finish : Entry → Bool
+is_any_finish (entries.Finish dev kept unmask) = true
+is_any_finish _ = false
+
+abbrev pub is_any_done : Entry → Bool
+is_any_done (entries.Done dev) = true
+is_any_done _ = false
+
+-- a run that served something: a handler that answered so, or a thread that served
+abbrev pub is_any_serving : Entry → Bool
+is_any_serving (entries.ThreadReturn dev served) = nat_lt 0 served
+is_any_serving e = returns_handled e
+
+-- a run of d that served something
+abbrev pub serves_of : DevNo → Entry → Bool
+serves_of d (entries.Return cpu dev answer served) = same_dev d dev && is_handled answer
+serves_of d (entries.ThreadReturn dev served) = same_dev d dev && nat_lt 0 served
+serves_of d _ = false
+
+-- how many asks of d the entry serves
+abbrev pub asks_served : DevNo → Entry → ℕ
+asks_served d (entries.Return cpu dev answer served) = if same_dev d dev then served else 0
+asks_served d (entries.ThreadReturn dev served) = if same_dev d dev then served else 0
+asks_served d _ = 0
+
+-- how many asks it serves, of any device
+abbrev pub all_served : Entry → ℕ
+all_served (entries.Return cpu dev answer served) = served
+all_served (entries.ThreadReturn dev served) = served
+all_served _ = 0
+
+-- the sum of what a list's elements weigh
+abbrev pub total : {A : Type 0} → (A → ℕ) → List A → ℕ
+total w [] = 0
+total w (x ∷ xs) = w x + total w xs
+
+-- ---- drivers
+
+abbrev pub is_by_any_driver : Entry → Bool
+is_by_any_driver (entries.Take cpu way answer) = false
+is_by_any_driver (entries.Begin cpu dev) = false
+is_by_any_driver (entries.Return cpu dev answer served) = false
+is_by_any_driver (entries.End cpu again unmask note) = false
+is_by_any_driver (entries.ThreadBegin dev) = false
+is_by_any_driver (entries.ThreadReturn dev served) = false
+is_by_any_driver (entries.Finish dev kept unmask) = false
+is_by_any_driver (entries.Done dev) = false
+is_by_any_driver _ = true
+
+abbrev pub is_moment : Entry → Bool
+is_moment (entries.Moment driver at) = true
+is_moment _ = false
+
+-- an entry of a driver from which a storm may begin anew: a start, a request that was linked, a moment
+abbrev pub is_renewal : Entry → Bool
+is_renewal e = is_start e || (is_linked_request e || is_moment e)
+
+-- the greatest number of entries that a call makes
+abbrev pub most_entries : Call → ℕ
+most_entries (calls.Ask dev) = 1
+most_entries _ = 3
