@@ -12,8 +12,8 @@ ghost use Rattle.board_words.specs.declared.statements.Statement.{Statement};
 use crate::adding::{add_statement, call_of_words, script_call};
 use crate::built::is_built;
 use crate::faults::{
-    has_bad_mask, has_bad_parent, has_bad_unlazy, has_name, is_misplaced, is_not_there,
-    is_one_too_many, driver_writing,
+    driver_writing, has_bad_mask, has_bad_parent, has_bad_unlazy, has_name, is_misplaced,
+    is_not_there, is_one_too_many,
 };
 use crate::owners::Owners;
 use crate::sections::Section;
