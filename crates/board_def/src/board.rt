@@ -4,12 +4,9 @@ ghost use Rattle.board_def.specs.Find.{place_of_name, last_line, last_device, la
 ghost use Rattle.board_def.specs.LineOf.{find_line};
 ghost use Rattle.board_def.specs.Rules.{IsBoard, find_device, has_driver};
 
-use crate::devices::DeviceTable;
-use crate::domains::DomainTable;
-use crate::drivers::DriverTable;
-use crate::lines::LineTable;
 use crate::names::Name;
 use crate::rows::{DomainRow, LineRow, ScriptCall};
+use crate::tables::Table;
 use irq_base::{Actor, DevNo, DeviceDef, DriverNo, LineNo, NoMemory};
 use std::alloc::Global;
 use std::marker::Model;
@@ -22,10 +19,10 @@ pub struct Board {
     window: u32,
     limit: u32,
     log: u32,
-    domains: DomainTable,
-    lines: LineTable,
-    devices: DeviceTable,
-    drivers: DriverTable,
+    domains: Table<Name, DomainRow>,
+    lines: Table<LineNo, LineRow>,
+    devices: Table<DevNo, DeviceDef>,
+    drivers: Table<DriverNo, DriverNo>,
     calls: Vec<ScriptCall>,
     picks: Vec<Actor>,
 }
@@ -58,10 +55,10 @@ impl Board {
             window,
             limit,
             log,
-            domains: DomainTable::new(alloc),
-            lines: LineTable::new(alloc),
-            devices: DeviceTable::new(alloc),
-            drivers: DriverTable::new(alloc),
+            domains: Table::new(alloc),
+            lines: Table::new(alloc),
+            devices: Table::new(alloc),
+            drivers: Table::new(alloc),
             calls: Vec::new(alloc),
             picks: Vec::new(alloc),
         }
@@ -278,28 +275,28 @@ impl Board {
     pub fn find_domain(&self, name: &Name) -> Option<usize>
         ensures { result ≡ place_of_name self.now.domains name.now }
     {
-        self.domains.find(name)
+        self.domains.place_of(name)
     }
 
     /// The line of that number; none where there is none.
     pub fn find_line(&self, line: LineNo) -> Option<LineRow>
         ensures { result ≡ find_line self.now.lines line }
     {
-        self.lines.find(line)
+        self.lines.find(&line)
     }
 
     /// The device of that number; none where there is none.
     pub fn find_device(&self, dev: DevNo) -> Option<DeviceDef>
         ensures { result ≡ find_device self.now.devices dev }
     {
-        self.devices.find(dev)
+        self.devices.find(&dev)
     }
 
     /// Whether the driver is declared.
     pub fn has_driver(&self, driver: DriverNo) -> bool
         ensures { result ≡ has_driver self.now.drivers driver }
     {
-        self.drivers.contains(driver)
+        self.drivers.find(&driver).is_some()
     }
 
     /// The number of the last line, which is the greatest; none where there is none.

@@ -6,17 +6,16 @@
 
 pub mod board;
 pub mod definitions;
-pub mod devices;
-pub mod domains;
-pub mod drivers;
 pub mod layouts;
 pub mod levels;
-pub mod lines;
+pub mod masks;
 pub mod names;
 pub mod placing;
 pub mod rows;
+pub mod tables;
 
 pub use board::Board;
 pub use layouts::{Layout, Placement, Unmapped};
+pub use masks::has_processor;
 pub use names::{LONGEST_NAME, Name};
 pub use rows::{DomainRow, LineRow, ScriptCall};

@@ -1,6 +1,7 @@
 //! The rows of a board.
 use crate::names::Name;
-use irq_base::{Call, DomainDef, DriverNo, LineNo};
+use crate::tables::Keyed;
+use irq_base::{Call, DevNo, DeviceDef, DomainDef, DriverNo, LineNo};
 
 /// A domain and its name.
 #[derive(Clone, Copy, PartialEq, Eq)]
@@ -9,6 +10,14 @@ pub struct DomainRow {
     pub name: Name,
     /// How it maps hardware numbers, what its controllers do, and the place of its parent.
     pub def: DomainDef,
+}
+
+impl Keyed<Name> for DomainRow {
+    ghost key_of = { λ row. row.name };
+
+    fn key(&self) -> Name {
+        self.name
+    }
 }
 
 /// A line: where it is wired, and its options.
@@ -26,6 +35,30 @@ pub struct LineRow {
     pub later: bool,
     /// The processors that may take it at first: bit c stands for processor c.
     pub mask: u32,
+}
+
+impl Keyed<LineNo> for LineRow {
+    ghost key_of = { λ row. row.line };
+
+    fn key(&self) -> LineNo {
+        self.line
+    }
+}
+
+impl Keyed<DevNo> for DeviceDef {
+    ghost key_of = { λ device. device.dev };
+
+    fn key(&self) -> DevNo {
+        self.dev
+    }
+}
+
+impl Keyed<DriverNo> for DriverNo {
+    ghost key_of = { λ driver. driver };
+
+    fn key(&self) -> DriverNo {
+        *self
+    }
 }
 
 /// A call of a driver's script, and the line that it is about.

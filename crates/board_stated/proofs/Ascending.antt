@@ -1,11 +1,17 @@
 -- Lists whose items rise, and what holds of each item.
-use Rattle.std.proofs.Common.{◌≡◌, ℕ, zero, suc, ◌<◌, ◌≤◌, ◌==◌, Bool, true, false, ◌||◌, List, [], ◌∷◌, ◌++◌, length, nat_le, refl, arith}
+use Rattle.std.proofs.Common.{◌≡◌, ℕ, zero, suc, ◌<◌, ◌≤◌, ◌==◌, Bool, true, false, ◌||◌, IfSome, Option, Some, None, List, [], ◌∷◌, ◌++◌, length, nat_le, refl, arith}
 use Rattle.std.specs.List.{All, list_any}
+use Rattle.std.specs.Option.{option_map_or}
 use Rattle.std.proofs.lemmas.Bool.{leb-false, eqb-true}
 use Rattle.std.proofs.lemmas.List.{length_push}
 use Rattle.std.proofs.lemmas.List.Elements.{All-nil, All-cons, All-head, All-tail}
 use Rattle.board_def.specs.Rules.{EachAfter}
 use Rattle.board_def.proofs.EachAfters.{each_none}
+
+-- a number that isn't at most the last one is above it
+pub last_below : {A : Type 0} (number : A → ℕ) (n : ℕ) (last : Option A) → option_map_or (λ x. nat_le n (number x)) last false ≡ false → IfSome last (λ x. number x < n)
+last_below number n None h = tt
+last_below number n (Some x) h = leb-false n (number x) h
 
 -- there is room for one more
 pub one_more : {A : Type 0} (limit : ℕ) (xs : List A) (x : A) → nat_le limit (length xs) ≡ false → length (xs ++ x ∷ []) ≤ limit
@@ -31,26 +37,6 @@ module _ {A : Type 0} where
   each_alone P Q (x ∷ xs) follows each =
       All-cons Q x xs (follows [] x (each zero x refl))
       (each_alone (λ earlier y. P (x ∷ earlier) y) Q xs (λ earlier y p. follows (x ∷ earlier) y p) (λ i y at. each (suc i) y at))
-
-  -- the number of the last item
-  abbrev pub last_number : (A → ℕ) → List A → ℕ
-  last_number number [] = 0
-  last_number number (x ∷ []) = number x
-  last_number number (x ∷ y ∷ ys) = last_number number (y ∷ ys)
-
-  -- the numbers rise
-  abbrev pub Rises : (A → ℕ) → List A → Type 0
-  Rises number xs = EachAfter (λ earlier x. All (λ e. number e < number x) earlier) xs
-
-  -- where the numbers rise, what is above the last is above each
-  pub above_each : (number : A → ℕ) (n : ℕ) (xs : List A) → Rises number xs → last_number number xs < n → All (λ e. number e < n) xs
-  above_each number n [] each h = All-nil (λ e. number e < n)
-  above_each number n (x ∷ []) each h = All-cons (λ e. number e < n) x [] h (All-nil (λ e. number e < n))
-  above_each number n (x ∷ y ∷ ys) each h =
-      let rest = above_each number n (y ∷ ys) (λ i z at. All-tail (λ e. number e < number z) x _ (each (suc i) z at)) h in
-      let first = All-head (λ e. number e < number y) x [] (each (suc zero) y refl) in
-      let next = All-head (λ e. number e < n) y ys rest in
-      All-cons (λ e. number e < n) x (y ∷ ys) (omega arith) rest
 
   -- an item of a list whose items are below n is
   pub below : (number : A → ℕ) (n k : ℕ) (xs : List A) → All (λ e. number e < n) xs → list_any (λ x. number x == k) xs ≡ true → k < n

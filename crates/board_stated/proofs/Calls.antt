@@ -15,7 +15,7 @@ use Rattle.board_words.specs.declared.statements.CallWords.{CallWords}
 use Rattle.board_words.specs.declared.statements.CallWords.TheVariants as words
 use Rattle.board_words.specs.declared.statements.Statement.TheVariants as statements
 use Rattle.board_stated.specs.FaultsAfter.{is_misplaced, names_nothing, is_not_there, has_bad_owner, is_one_too_many}
-use Rattle.board_stated.specs.Stated.{last_driver, line_or_none, line_of_call, call_of_words, script_call, with_statement}
+use Rattle.board_stated.specs.Stated.{driver_writing, line_or_none, line_of_call, call_of_words, script_call, with_statement}
 use Rattle.board_stated.proofs.Ascending.{one_more, each_weaker, each_alone}
 use Rattle.board_stated.proofs.Devices.{devices_kept}
 use Rattle.board_stated.proofs.Drivers.{last_declared, last_greatest}
@@ -67,9 +67,9 @@ device_fits b (words.Sync line) h = refl
 device_fits b (words.Affinity line mask) h = refl
 
 -- the calls before are of drivers declared before
-scripts_in_order : (b : BoardSeen) → IsBoard b → All (λ e. e.driver.0 ≤ (last_driver b.drivers).0) b.calls
+scripts_in_order : (b : BoardSeen) → IsBoard b → All (λ e. e.driver.0 ≤ (driver_writing b.drivers).0) b.calls
 scripts_in_order b board =
-    All-weaker (λ e. has_driver b.drivers e.driver ≡ true) (λ e. e.driver.0 ≤ (last_driver b.drivers).0) (λ e is. last_greatest b.drivers e.driver board.drivers is) b.calls
+    All-weaker (λ e. has_driver b.drivers e.driver ≡ true) (λ e. e.driver.0 ≤ (driver_writing b.drivers).0) (λ e is. last_greatest b.drivers e.driver board.drivers is) b.calls
     (each_alone (IsCallAfter b) (λ e. has_driver b.drivers e.driver ≡ true) b.calls (λ earlier e p. p.driver) board.calls)
 
 -- ---- one more

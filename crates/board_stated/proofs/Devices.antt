@@ -7,14 +7,16 @@ use Rattle.irq_base.specs.declared.devices.DeviceDef.{DeviceDef}
 use Rattle.irq_base.specs.declared.devices.Kind.{Kind}
 use Rattle.irq_base.specs.declared.numbers.DevNo.{DevNo}
 use Rattle.irq_base.specs.declared.numbers.LineNo.{LineNo}
+use Rattle.board_def.specs.Find.{last_item, last_device}
 use Rattle.board_def.specs.Rules.{EachAfter, has_line, IsNumber, IsDeviceAfter, IsCallAfter, IsActorOf, IsBoard}
 use Rattle.board_def.specs.Seen.{BoardSeen}
 use Rattle.board_def.specs.declared.rows.LineRow.{LineRow}
 use Rattle.board_def.proofs.EachAfters.{each_more}
+use Rattle.board_def.proofs.Rising.{all_below, last_number}
 use Rattle.board_words.specs.declared.statements.Statement.TheVariants as statements
-use Rattle.board_stated.specs.FaultsAfter.{last_device, is_misplaced, is_not_there, is_one_too_many}
+use Rattle.board_stated.specs.FaultsAfter.{is_misplaced, is_not_there, is_one_too_many}
 use Rattle.board_stated.specs.Stated.{with_statement}
-use Rattle.board_stated.proofs.Ascending.{one_more, each_weaker, each_of_none, last_number, above_each}
+use Rattle.board_stated.proofs.Ascending.{one_more, each_weaker, each_of_none, last_below}
 use Rattle.board_stated.proofs.Lines.{lines_kept}
 use Rattle.board_stated.proofs.Reached.{NoneLater}
 
@@ -30,25 +32,13 @@ same_device b c lines earlier device p = record {
 pub devices_kept : (b c : BoardSeen) → c.lines ≡ b.lines → EachAfter (IsDeviceAfter b) b.devices → EachAfter (IsDeviceAfter c) b.devices
 devices_kept b c lines = each_weaker (IsDeviceAfter b) (IsDeviceAfter c) b.devices (same_device b c lines)
 
--- ---- the parts of a new device's rule
-
-last_is : (devices : List DeviceDef) → last_device devices ≡ last_number (λ x. x.dev.0) devices
-last_is [] = refl
-last_is (x ∷ []) = refl
-last_is (x ∷ y ∷ xs) = last_is (y ∷ xs)
-
-device_rises : (b : BoardSeen) (n : ℕ) → EachAfter (IsDeviceAfter b) b.devices → last_device b.devices < n → All (λ e. e.dev.0 < n) b.devices
-device_rises b n each h =
-    above_each (λ x. x.dev.0) n b.devices (each_weaker (IsDeviceAfter b) (λ earlier x. All (λ e. e.dev.0 < x.dev.0) earlier) b.devices (λ earlier x p. p.rises) each)
-    (subst (λ (k : ℕ). k < n) (last_is b.devices) h)
-
 -- ---- one more
 
 device_after : (b : BoardSeen) (dev : DevNo) (line : LineNo) (kind : Kind) → IsNumber dev.0 → EachAfter (IsDeviceAfter b) b.devices
     → is_misplaced b (statements.Device dev line kind) ≡ false → is_not_there b (statements.Device dev line kind) ≡ false → IsDeviceAfter b b.devices (record { dev = dev; line = line; kind = kind })
 device_after b dev line kind number each placed there = record {
   number = number;
-  rises = device_rises b dev.0 each (leb-false dev.0 (last_device b.devices) placed);
+  rises = all_below (λ x. x.dev.0) b.devices dev.0 (λ i x at. (each i x at).rises) (last_number (λ (x : DeviceDef). x.dev) (λ d. d.0 < dev.0) (last_item b.devices) (last_below (λ d. d.0) dev.0 (last_device b.devices) placed));
   line = not-false (has_line b.lines line) there;
 }
 

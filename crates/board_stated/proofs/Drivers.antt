@@ -1,45 +1,47 @@
 -- One more driver keeps the rules of boards.
-use Rattle.std.proofs.Common.{◌≡◌, ℕ, ◌+◌, ◌<◌, ◌≤◌, ◌==◌, true, false, List, [], ◌∷◌, ◌++◌, length, refl, ◌∙◌, subst, arith}
+use Rattle.std.proofs.Common.{◌≡◌, ℕ, ◌+◌, ◌<◌, ◌≤◌, ◌==◌, true, false, IfSome, List, [], ◌∷◌, ◌++◌, length, refl, ◌∙◌, subst, arith}
 use Rattle.std.specs.List.{All}
 use Rattle.std.proofs.lemmas.Bool.{leb-false, eq-eqb, ne_eqb, or_left, or_right}
 use Rattle.std.proofs.lemmas.List.Elements.{All-same, All-nil}
 use Rattle.std.proofs.lemmas.List.Folds.{list_any-append}
 use Rattle.irq_base.specs.declared.numbers.DriverNo.{DriverNo}
+use Rattle.board_def.specs.Find.{last_from, last_item}
 use Rattle.board_def.specs.Rules.{EachAfter, has_driver, IsNumber, IsDriverAfter, IsCallAfter, IsActorOf, IsBoard}
 use Rattle.board_def.specs.Seen.{BoardSeen}
 use Rattle.board_def.specs.declared.rows.ScriptCall.{ScriptCall}
 use Rattle.board_def.proofs.EachAfters.{each_more}
+use Rattle.board_def.proofs.Rising.{all_below}
 use Rattle.board_words.specs.declared.statements.Statement.TheVariants as statements
 use Rattle.board_stated.specs.FaultsAfter.{is_empty, is_misplaced, is_one_too_many}
-use Rattle.board_stated.specs.Stated.{last_driver, with_statement}
-use Rattle.board_stated.proofs.Ascending.{one_more, each_weaker, last_number, above_each, below}
+use Rattle.board_stated.specs.Stated.{driver_writing, with_statement}
+use Rattle.board_stated.proofs.Ascending.{one_more, each_weaker, last_below, below}
 use Rattle.board_stated.proofs.Devices.{devices_kept}
 use Rattle.board_stated.proofs.Lines.{lines_kept}
 use Rattle.board_stated.proofs.Reached.{NoneLater}
 
--- ---- the last driver
+-- ---- the driver whose script is written
 
-last_is : (drivers : List DriverNo) → (last_driver drivers).0 ≡ last_number (λ d. d.0) drivers
-last_is [] = refl
-last_is (d ∷ []) = refl
-last_is (d ∷ e ∷ ds) = last_is (e ∷ ds)
+driver_rises : (n : ℕ) (drivers : List DriverNo) → EachAfter IsDriverAfter drivers → IfSome (last_item drivers) (λ d. d.0 < n) → All (λ e. e.0 < n) drivers
+driver_rises n drivers each last = all_below (λ d. d.0) drivers n (λ i d at. (each i d at).rises) last
 
-driver_rises : (n : ℕ) (drivers : List DriverNo) → EachAfter IsDriverAfter drivers → (last_driver drivers).0 < n → All (λ e. e.0 < n) drivers
-driver_rises n drivers each h =
-    above_each (λ d. d.0) n drivers (each_weaker IsDriverAfter (λ earlier d. All (λ e. e.0 < d.0) earlier) drivers (λ earlier d p. p.rises) each)
-    (subst (λ (k : ℕ). k < n) (last_is drivers) h)
+last_among : (d : DriverNo) (ds : List DriverNo) → has_driver (d ∷ ds) (last_from d ds) ≡ true
+last_among d [] = or_left (d.0 == d.0) false (eq-eqb d.0 d.0 refl)
+last_among d (e ∷ es) = or_right (d.0 == (last_from e es).0) (has_driver (e ∷ es) (last_from e es)) (last_among e es)
 
 -- it is one of them
-pub last_declared : (drivers : List DriverNo) → is_empty drivers ≡ false → has_driver drivers (last_driver drivers) ≡ true
+pub last_declared : (drivers : List DriverNo) → is_empty drivers ≡ false → has_driver drivers (driver_writing drivers) ≡ true
 last_declared [] h = absurd cc
-last_declared (d ∷ []) h = or_left (d.0 == d.0) false (eq-eqb d.0 d.0 refl)
-last_declared (d ∷ e ∷ ds) h = or_right (d.0 == (last_driver (e ∷ ds)).0) (has_driver (e ∷ ds) (last_driver (e ∷ ds))) (last_declared (e ∷ ds) (ne_eqb (length (e ∷ ds)) 0 (λ z. omega arith)))
+last_declared (d ∷ ds) h = last_among d ds
+
+is_last : (n : ℕ) (drivers : List DriverNo) → (driver_writing drivers).0 < n → IfSome (last_item drivers) (λ d. d.0 < n)
+is_last n [] h = tt
+is_last n (d ∷ ds) h = h
 
 -- and none is above it
-pub last_greatest : (drivers : List DriverNo) (driver : DriverNo) → EachAfter IsDriverAfter drivers → has_driver drivers driver ≡ true → driver.0 ≤ (last_driver drivers).0
+pub last_greatest : (drivers : List DriverNo) (driver : DriverNo) → EachAfter IsDriverAfter drivers → has_driver drivers driver ≡ true → driver.0 ≤ (driver_writing drivers).0
 last_greatest drivers driver each is =
-    let last = (last_driver drivers).0 in
-    let h = below (λ d. d.0) (last + 1) driver.0 drivers (driver_rises (last + 1) drivers each (omega arith)) is in
+    let last = (driver_writing drivers).0 in
+    let h = below (λ d. d.0) (last + 1) driver.0 drivers (driver_rises (last + 1) drivers each (is_last (last + 1) drivers (omega arith))) is in
     omega arith
 
 -- ---- a declared driver stays declared
@@ -53,7 +55,7 @@ still_declared drivers new driver is =
 driver_after : (b : BoardSeen) (driver : DriverNo) → IsNumber driver.0 → EachAfter IsDriverAfter b.drivers → is_misplaced b (statements.Driver driver) ≡ false → IsDriverAfter b.drivers driver
 driver_after b driver number each placed = record {
   number = number;
-  rises = driver_rises driver.0 b.drivers each (leb-false driver.0 (last_driver b.drivers).0 placed);
+  rises = driver_rises driver.0 b.drivers each (last_below (λ d. d.0) driver.0 (last_item b.drivers) placed);
 }
 
 same_call : (b : BoardSeen) (driver : DriverNo) (earlier : List ScriptCall) (c : ScriptCall) → IsCallAfter b earlier c → IsCallAfter (with_statement (statements.Driver driver) b) earlier c

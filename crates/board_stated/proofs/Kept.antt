@@ -19,7 +19,7 @@ use Rattle.board_stated.specs.Sections.{section_reached}
 use Rattle.board_stated.specs.Sound.{IsWellFormed, IsSound, draft_of}
 use Rattle.board_stated.specs.Stated.{board_of}
 use Rattle.board_stated.specs.TextOf.{begins_with_board, or_else, fault_of_statement, fault_of_line, with_line, with_lines, fault_or, first_fault, has_words, fault_of_lines, longest_text, whole, board_unless, board_of_text}
-use Rattle.board_stated.specs.declared.faults.BoardFault.{BoardFault}
+use Rattle.board_words.specs.declared.faults.BoardFault.{BoardFault}
 use Rattle.board_stated.proofs.Calls.{call_kept}
 use Rattle.board_stated.proofs.Devices.{device_kept}
 use Rattle.board_stated.proofs.Domains.{domain_kept}

@@ -6,16 +6,18 @@ use Rattle.std.proofs.lemmas.List.Elements.{All-same, All-nil}
 use Rattle.std.proofs.lemmas.Nat.Bits.{bit_at_ones}
 use Rattle.irq_model.specs.Lines.{is_in_mask}
 use Rattle.irq_model.specs.Signal.{lowest_in}
+use Rattle.board_def.specs.Find.{last_item, last_line}
 use Rattle.board_def.specs.Rules.{EachAfter, has_name, IsNumber, is_bad_unlazy, IsLineAfter, IsDeviceAfter, IsCallAfter, IsActorOf, IsBoard}
 use Rattle.board_def.specs.Seen.{BoardSeen}
 use Rattle.board_def.specs.declared.rows.DomainRow.{DomainRow}
 use Rattle.board_def.specs.declared.rows.LineRow.{LineRow}
 use Rattle.board_def.proofs.EachAfters.{each_more}
+use Rattle.board_def.proofs.Rising.{all_below, last_number}
 use Rattle.board_words.specs.declared.statements.LineWords.{LineWords}
 use Rattle.board_words.specs.declared.statements.Statement.TheVariants as statements
-use Rattle.board_stated.specs.FaultsAfter.{last_line, is_misplaced, is_not_there, has_bad_unlazy, has_bad_mask, is_mask_empty, is_one_too_many}
+use Rattle.board_stated.specs.FaultsAfter.{is_misplaced, is_not_there, has_bad_unlazy, has_bad_mask, is_mask_empty, is_one_too_many}
 use Rattle.board_stated.specs.Stated.{all_processors, mask_or_all, line_row, with_statement}
-use Rattle.board_stated.proofs.Ascending.{one_more, each_weaker, each_of_none, last_number, above_each}
+use Rattle.board_stated.proofs.Ascending.{one_more, each_weaker, each_of_none, last_below}
 use Rattle.board_stated.proofs.Domains.{named_place}
 use Rattle.board_stated.proofs.Reached.{NoneLater}
 
@@ -34,16 +36,6 @@ pub lines_kept : (b c : BoardSeen) → c.domains ≡ b.domains → c.cpus ≡ b.
 lines_kept b c domains cpus = each_weaker (IsLineAfter b) (IsLineAfter c) b.lines (same_line b c domains cpus)
 
 -- ---- the parts of a new line's rule
-
-last_is : (rows : List LineRow) → last_line rows ≡ last_number (λ r. r.line.0) rows
-last_is [] = refl
-last_is (row ∷ []) = refl
-last_is (row ∷ next ∷ rows) = last_is (next ∷ rows)
-
-line_rises : (b : BoardSeen) (n : ℕ) → EachAfter (IsLineAfter b) b.lines → last_line b.lines < n → All (λ e. e.line.0 < n) b.lines
-line_rises b n each h =
-    above_each (λ r. r.line.0) n b.lines (each_weaker (IsLineAfter b) (λ earlier row. All (λ e. e.line.0 < row.line.0) earlier) b.lines (λ earlier row p. p.rises) each)
-    (subst (λ (k : ℕ). k < n) (last_is b.lines) h)
 
 first_of_all : (cpus mask : ℕ) → 1 ≤ cpus → is_in_mask mask 0 ≡ true → IsSome (lowest_in cpus mask)
 first_of_all zero mask some is = absurd (omega arith)
@@ -67,7 +59,7 @@ line_after : (b : BoardSeen) (l : LineWords) → IsNumber l.line.0 → 1 ≤ b.c
     → is_not_there b (statements.Line l) ≡ false → has_bad_unlazy b (statements.Line l) ≡ false → has_bad_mask b (statements.Line l) ≡ false → IsLineAfter b b.lines (line_row b l)
 line_after b l number some each placed there unlazy mask = record {
   number = number;
-  rises = line_rises b l.line.0 each (leb-false l.line.0 (last_line b.lines) placed);
+  rises = all_below (λ r. r.line.0) b.lines l.line.0 (λ i row at. (each i row at).rises) (last_number (λ (r : LineRow). r.line) (λ line. line.0 < l.line.0) (last_item b.lines) (last_below (λ line. line.0) l.line.0 (last_line b.lines) placed));
   domain = named_place b.domains l.domain (not-false (has_name b.domains l.domain) there);
   unlazy = unlazy;
   mask = mask_has_one b.cpus l.mask some mask;

@@ -10,7 +10,7 @@ use Rattle.board_def.specs.Seen.{BoardSeen}
 use Rattle.board_words.specs.declared.faults.FaultKind.{FaultKind}
 use Rattle.board_words.specs.declared.faults.FaultKind.TheVariants as faults
 use Rattle.board_stated.specs.TextOf.{board_of_text}
-use Rattle.board_stated.specs.declared.faults.BoardFault.{BoardFault}
+use Rattle.board_words.specs.declared.faults.BoardFault.{BoardFault}
 
 -- text lines, each with its end
 abbrev text : List (List ℕ) → List ℕ

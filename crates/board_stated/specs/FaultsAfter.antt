@@ -2,11 +2,12 @@
 -- comes before all of these.
 use Rattle.std.specs.Prelude.{ℕ, ◌+◌, Bool, true, false, not, ◌||◌, ◌==◌, nat_lt, nat_le, is_none, if◌then◌else◌, Option, Some, None, List, [], ◌∷◌, length}
 use Rattle.std.specs.List.{list_any}
+use Rattle.std.specs.Option.{option_map_or}
 use Rattle.irq_base.specs.Handlers.{has_thread}
 use Rattle.irq_base.specs.declared.devices.DeviceDef.{DeviceDef}
 use Rattle.irq_base.specs.declared.numbers.DevNo.{DevNo}
 use Rattle.irq_model.specs.Signal.{lowest_in}
-use Rattle.board_def.specs.Find.{place_of_name}
+use Rattle.board_def.specs.Find.{place_of_name, last_line, last_device, last_driver}
 use Rattle.board_def.specs.Rules.{has_name, has_line, find_device, has_driver, is_bad_parent, is_bad_unlazy, is_bad_owner}
 use Rattle.board_def.specs.Seen.{BoardSeen}
 use Rattle.board_def.specs.declared.names.Name.{Name}
@@ -22,28 +23,18 @@ use Rattle.board_words.specs.declared.statements.PickWord.{PickWord}
 use Rattle.board_words.specs.declared.statements.Statement.{Statement}
 use Rattle.board_words.specs.declared.statements.Statement.TheVariants as statements
 use Rattle.board_stated.specs.Sections.{section_of, section_reached, is_header, is_cpus, is_spurious, is_log}
-use Rattle.board_stated.specs.Stated.{board_of, parent_place, place_or_first, last_driver, call_of_words}
+use Rattle.board_stated.specs.Stated.{board_of, parent_place, place_or_first, driver_writing, call_of_words}
 
 -- out of order
-
-abbrev pub last_line : List LineRow → ℕ
-last_line [] = 0
-last_line (row ∷ []) = row.line.0
-last_line (row ∷ next ∷ rows) = last_line (next ∷ rows)
-
-abbrev pub last_device : List DeviceDef → ℕ
-last_device [] = 0
-last_device (x ∷ []) = x.dev.0
-last_device (x ∷ y ∷ xs) = last_device (y ∷ xs)
 
 abbrev pub is_empty : {A : Type 0} → List A → Bool
 is_empty xs = length xs == 0
 
 -- a number that isn't above the last one of its kind, or a call before any driver
 abbrev pub is_misplaced : BoardSeen → Statement → Bool
-is_misplaced b (statements.Line l) = nat_le l.line.0 (last_line b.lines)
-is_misplaced b (statements.Device dev line kind) = nat_le dev.0 (last_device b.devices)
-is_misplaced b (statements.Driver driver) = nat_le driver.0 (last_driver b.drivers).0
+is_misplaced b (statements.Line l) = option_map_or (λ last. nat_le l.line.0 last.0) (last_line b.lines) false
+is_misplaced b (statements.Device dev line kind) = option_map_or (λ last. nat_le dev.0 last.0) (last_device b.devices) false
+is_misplaced b (statements.Driver driver) = option_map_or (λ last. nat_le driver.0 last.0) (last_driver b.drivers) false
 is_misplaced b (statements.Call c) = is_empty b.drivers
 is_misplaced b _ = false
 
@@ -121,7 +112,7 @@ has_bad_mask b (statements.Line l) = is_mask_empty b.cpus l.mask
 has_bad_mask b _ = false
 
 abbrev pub has_bad_owner : BoardSeen → Statement → Bool
-has_bad_owner b (statements.Call c) = is_bad_owner b.calls (last_driver b.drivers) (call_of_words c)
+has_bad_owner b (statements.Call c) = is_bad_owner b.calls (driver_writing b.drivers) (call_of_words c)
 has_bad_owner b _ = false
 
 -- too many

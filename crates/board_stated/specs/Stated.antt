@@ -1,6 +1,7 @@
 -- The board that statements state, the newest one first: each adds its own row.
 use Rattle.std.specs.Prelude.{ℕ, ◌-◌, ◌^◌, Option, Some, None, List, [], ◌∷◌, ◌++◌, replicate}
 use Rattle.std.specs.List.{flat_map}
+use Rattle.std.specs.Option.{unwrap_or}
 use Rattle.irq_base.specs.declared.calls.Call.{Call}
 use Rattle.irq_base.specs.declared.calls.Call.TheVariants as calls
 use Rattle.irq_base.specs.declared.devices.DeviceDef.{DeviceDef}
@@ -9,7 +10,7 @@ use Rattle.irq_base.specs.declared.entries.Actor.TheVariants as actors
 use Rattle.irq_base.specs.declared.numbers.DevNo.{DevNo}
 use Rattle.irq_base.specs.declared.numbers.DriverNo.{DriverNo}
 use Rattle.irq_base.specs.declared.numbers.LineNo.{LineNo}
-use Rattle.board_def.specs.Find.{place_of_name}
+use Rattle.board_def.specs.Find.{place_of_name, last_driver}
 use Rattle.board_def.specs.Rules.{find_device}
 use Rattle.board_def.specs.Seen.{BoardSeen}
 use Rattle.board_def.specs.declared.names.Name.{Name}
@@ -53,10 +54,8 @@ abbrev pub line_row : BoardSeen → LineWords → LineRow
 line_row b l = record { line = l.line; domain = place_or_first (place_of_name b.domains l.domain); hw = l.hw; unlazy = l.unlazy; later = l.later; mask = mask_or_all b.cpus l.mask }
 
 -- the driver whose script is written: the last one declared
-abbrev pub last_driver : List DriverNo → DriverNo
-last_driver [] = record { 0 = 0 }
-last_driver (d ∷ []) = d
-last_driver (d ∷ e ∷ ds) = last_driver (e ∷ ds)
+abbrev pub driver_writing : List DriverNo → DriverNo
+driver_writing drivers = unwrap_or (last_driver drivers) (record { 0 = 0 })
 
 abbrev pub line_or_none : Option DeviceDef → LineNo
 line_or_none (Some x) = x.line
@@ -87,7 +86,7 @@ call_of_words (words.Sync line) = calls.Sync
 call_of_words (words.Affinity line mask) = calls.Affinity mask
 
 abbrev pub script_call : BoardSeen → CallWords → ScriptCall
-script_call b c = record { driver = last_driver b.drivers; line = line_of_call b.devices c; call = call_of_words c }
+script_call b c = record { driver = driver_writing b.drivers; line = line_of_call b.devices c; call = call_of_words c }
 
 abbrev pub actor_picked : List DeviceDef → Picked → Actor
 actor_picked devices (picked.Thread dev) = actors.Thread (line_of_device devices dev) dev

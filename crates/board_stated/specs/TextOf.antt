@@ -11,7 +11,7 @@ use Rattle.board_words.specs.declared.statements.Statement.{Statement}
 use Rattle.board_stated.specs.BuiltSoFar.{is_built}
 use Rattle.board_stated.specs.FaultsAfter.{fault_after, is_empty}
 use Rattle.board_stated.specs.Stated.{board_of}
-use Rattle.board_stated.specs.declared.faults.BoardFault.{BoardFault}
+use Rattle.board_words.specs.declared.faults.BoardFault.{BoardFault}
 
 -- the words begin with `board`
 abbrev pub begins_with_board : List (List ℕ) → Bool

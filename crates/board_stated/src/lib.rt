@@ -10,10 +10,6 @@ ghost use Rattle.board_def.specs.Seen.{BoardSeen};
 ghost use Rattle.board_stated.specs.BuiltBoard.{IsBuiltBoard};
 ghost use Rattle.board_stated.specs.TextOf.{board_of_text};
 
-pub mod faults;
-
-pub use faults::BoardFault;
-
 /// The board of a text keeps the rules of boards.
 pub fn board_of_a_text_keeps_the_rules()
     ensures { (bytes : List ℕ) (b : BoardSeen) → board_of_text bytes ≡ Ok b → IsBoard b }

@@ -6,7 +6,7 @@ use Rattle.board_def.specs.Seen.{BoardSeen}
 use Rattle.board_stated.specs.BuiltSoFar.{is_built}
 use Rattle.board_stated.specs.Stated.{board_of}
 use Rattle.board_stated.specs.TextOf.{board_unless, whole}
-use Rattle.board_stated.specs.declared.faults.BoardFault.{BoardFault}
+use Rattle.board_words.specs.declared.faults.BoardFault.{BoardFault}
 use Rattle.board_stated.proofs.Kept.{draft_is_board}
 use Rattle.board_stated.proofs.Settings.{log_range, log_kept}
 use Rattle.board_words.specs.declared.faults.FaultKind.TheVariants as faults

@@ -1,4 +1,3 @@
-pub mod Lasts
 pub mod Left
 pub mod Places
 pub mod Room

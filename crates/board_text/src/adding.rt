@@ -5,7 +5,7 @@ ghost use Rattle.board_def.specs.Rules.{IsBoard};
 ghost use Rattle.board_stated.specs.Stated.{domain_row, line_row, script_call, call_of_words, line_of_call, line_of_device, line_or_none, actor_picked, actors_picked, mask_or_all};
 ghost use Rattle.board_text.specs.Kept.{drafted};
 
-use crate::faults::{domain_place, last_driver, parent_place};
+use crate::faults::{domain_place, driver_writing, parent_place};
 use crate::masks::all_processors;
 use board_def::{Board, DomainRow, LineRow, ScriptCall};
 use board_words::{CallWords, DomainWords, LineWords, PickList, Picked, Statement};
@@ -78,7 +78,7 @@ pub fn script_call(board: &Board, call: CallWords) -> ScriptCall
     ensures { result ≡ script_call board.now call }
 {
     ScriptCall {
-        driver: last_driver(board),
+        driver: driver_writing(board),
         line: line_of_call(board, call),
         call: call_of_words(call),
     }

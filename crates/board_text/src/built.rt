@@ -1,5 +1,5 @@
 //! Which boards can be played so far.
-ghost use Rattle.std.specs.Prelude.{◌≡◌, List, not, ◌||◌};
+ghost use Rattle.std.specs.Prelude.{◌≡◌, List};
 ghost use Rattle.std.specs.List.{list_all};
 ghost use Rattle.board_stated.specs.BuiltSoFar.{is_built, is_one_latch_line, is_latch, is_within_map, has_few_devices, is_direct, is_plain};
 ghost use Rattle.board_text.specs.Kept.{stood_after};
@@ -94,14 +94,8 @@ fn is_plain(call: Call) -> bool
     ensures { result ≡ is_plain call }
 {
     match call {
-        Call::Request { flags, .. } => !has_flag(flags),
+        Call::Request { flags, .. } => flags == Flags::NONE,
         Call::Ask { .. } | Call::Free { .. } => true,
         _ => false,
     }
-}
-
-fn has_flag(flags: Flags) -> bool
-    ensures { result ≡ (flags.shared || (flags.oneshot || flags.noauto)) }
-{
-    flags.shared || flags.oneshot || flags.noauto
 }

@@ -2,15 +2,13 @@
 ghost use Rattle.std.specs.Prelude.{◌≡◌, ◌<◌, not, nat_lt, ◌+◌, is_none, is_some};
 ghost use Rattle.std.specs.List.{list_any};
 ghost use Rattle.board_def.specs.Rules.{has_name, has_line, has_driver};
-ghost use Rattle.board_stated.specs.FaultsAfter.{last_line, last_device, is_misplaced, is_not_there, names_nothing, picks_nothing, has_no_device, has_bad_parent, has_bad_unlazy, has_bad_mask, is_mask_empty, is_one_too_many, count_of_picks, is_parent_missing, has_no_thread};
+ghost use Rattle.board_stated.specs.FaultsAfter.{is_misplaced, is_not_there, names_nothing, picks_nothing, has_no_device, has_bad_parent, has_bad_unlazy, has_bad_mask, is_mask_empty, is_one_too_many, count_of_picks, is_parent_missing};
 ghost use Rattle.board_def.specs.Find.{place_of_name};
-ghost use Rattle.board_stated.specs.Stated.{last_driver, parent_place, place_or_first};
-ghost use Rattle.irq_base.specs.Handlers.{has_thread};
+ghost use Rattle.board_stated.specs.Stated.{driver_writing, parent_place, place_or_first};
 
-use crate::masks::has_processor;
-use board_def::{Board, Name};
+use board_def::{Board, Name, has_processor};
 use board_words::{CallWords, PickList, Picked, Statement};
-use irq_base::{DevNo, DriverNo, Kind, LineNo};
+use irq_base::{DevNo, DriverNo, LineNo};
 
 /// The most domains of a board.
 const MOST_DOMAINS: usize = 32;
@@ -35,40 +33,17 @@ pub fn is_misplaced(board: &Board, statement: &Statement) -> bool
     ensures { result ≡ is_misplaced board.now statement.now }
 {
     match statement {
-        Statement::Line(line) => line.line.0 <= last_line(board),
-        Statement::Device { dev, .. } => dev.0 <= last_device(board),
-        Statement::Driver(driver) => driver.0 <= last_driver(board).0,
+        Statement::Line(line) => board.last_line().is_some_and(|last| line.line.0 <= last.0),
+        Statement::Device { dev, .. } => board.last_device().is_some_and(|last| dev.0 <= last.0),
+        Statement::Driver(driver) => board.last_driver().is_some_and(|last| driver.0 <= last.0),
         Statement::Call(_) => board.drivers_len() == 0,
         _ => false,
     }
 }
 
-/// The number of the last line, or 0.
-#[tactic(auto, using(crate::proofs::Lasts::last_line_is))]
-fn last_line(board: &Board) -> u32
-    ensures { result ≡ last_line board.now.lines }
-{
-    match board.last_line() {
-        Some(line) => line.0,
-        None => 0,
-    }
-}
-
-/// The number of the last device, or 0.
-#[tactic(auto, using(crate::proofs::Lasts::last_device_is))]
-fn last_device(board: &Board) -> u32
-    ensures { result ≡ last_device board.now.devices }
-{
-    match board.last_device() {
-        Some(dev) => dev.0,
-        None => 0,
-    }
-}
-
 /// The driver whose script is written: the last one; 0 before any.
-#[tactic(auto, using(crate::proofs::Lasts::last_driver_is))]
-pub fn last_driver(board: &Board) -> DriverNo
-    ensures { result ≡ last_driver board.now.drivers }
+pub fn driver_writing(board: &Board) -> DriverNo
+    ensures { result ≡ driver_writing board.now.drivers }
 {
     board.last_driver().unwrap_or(DriverNo(0))
 }
@@ -156,21 +131,11 @@ fn picks_nothing(board: &Board, who: Picked) -> bool
 {
     match who {
         Picked::Thread(dev) => match board.find_device(dev) {
-            Some(device) => !has_thread(device.kind),
+            Some(device) => !device.kind.has_thread(),
             None => true,
         },
         Picked::Cpu(cpu) => board.cpus() <= cpu.0,
         Picked::Driver(driver) => !board.has_driver(driver),
-    }
-}
-
-/// Whether devices of that kind have a thread.
-fn has_thread(kind: Kind) -> bool
-    ensures { result ≡ has_thread kind }
-{
-    match kind {
-        Kind::Check | Kind::Null => true,
-        Kind::Direct | Kind::Stuck => false,
     }
 }
 

@@ -15,8 +15,7 @@ pub mod reading;
 pub mod sections;
 pub mod stood;
 
-pub use board_stated::BoardFault;
-pub use board_words::FaultKind;
+pub use board_words::{BoardFault, FaultKind};
 pub use reading::{BoardRefused, LONGEST_TEXT, read_board};
 
 #[cfg(test)]

@@ -13,7 +13,7 @@ use crate::adding::{add_statement, call_of_words, script_call};
 use crate::built::is_built;
 use crate::faults::{
     has_bad_mask, has_bad_parent, has_bad_unlazy, has_name, is_misplaced, is_not_there,
-    is_one_too_many, last_driver,
+    is_one_too_many, driver_writing,
 };
 use crate::owners::Owners;
 use crate::sections::Section;
@@ -152,7 +152,7 @@ impl Reader {
         match statement {
             Statement::Call(call) => {
                 self.owners
-                    .forbid(last_driver(&self.board), call_of_words(*call))
+                    .forbid(driver_writing(&self.board), call_of_words(*call))
             }
             _ => false,
         }

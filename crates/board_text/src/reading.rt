@@ -7,8 +7,7 @@ ghost use Rattle.board_text.specs.Given.{Gives, ReadsLines};
 
 use crate::reader::Reader;
 use board_def::Board;
-use board_stated::BoardFault;
-use board_words::{FaultKind, Lines, StatementRefused, Words, has_bad_byte};
+use board_words::{BoardFault, FaultKind, Lines, StatementRefused, Words, has_bad_byte};
 use std::alloc::Global;
 use thiserror::Error;
 

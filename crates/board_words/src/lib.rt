@@ -16,7 +16,7 @@ pub mod spelling;
 pub mod statements;
 pub mod words;
 
-pub use faults::FaultKind;
+pub use faults::{BoardFault, FaultKind};
 pub use lines::{Lines, has_bad_byte};
 pub use reading::read_statement;
 pub use spelling::{name, number, pick};

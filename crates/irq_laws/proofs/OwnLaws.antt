@@ -121,8 +121,11 @@ own def past (actors.Thread line d) = of_line (same_line line def.line) refl
 own def past (actors.Cpu c) = of_cpu def c past
 own def past (actors.Driver r) = of_call def r past (due_call def r past)
 
+pub due_is_own_past : (def : LineDef) (past : List Entry) (a : Actor) (e : Entry) → next_past def past a ≡ Some e → actor_of def.line e ≡ a
+due_is_own_past def past a e is = subst (λ (o : Option Entry). Holds (IsBy def a) o) is (own def past a)
+
 pub due_is_own : (def : LineDef) (h : List Entry) (a : Actor) (e : Entry) → next def h a ≡ Some e → actor_of def.line e ≡ a
-due_is_own def h a e is = subst (λ (o : Option Entry). Holds (IsBy def a) o) is (own def (reverse h) a)
+due_is_own def h a e is = due_is_own_past def (reverse h) a e is
 
 -- ---- processors
 

@@ -1,5 +1,5 @@
 -- What is asked of a line after each step, so that nobody goes over all its actors.
-use Rattle.std.specs.Prelude.{◌≡◌, ◌≤◌, ◌↔◌, Bool, false, ◌&&◌, ◌||◌, IsTrue, IsSome, Option, Some, None, List, nat_lt, reverse}
+use Rattle.std.specs.Prelude.{◌≡◌, ◌≤◌, ◌↔◌, Bool, false, ◌&&◌, ◌||◌, IsTrue, IsSome, Option, Some, None, List, reverse}
 use Rattle.std.specs.List.{list_any}
 use Rattle.irq_base.specs.declared.numbers.CpuNo.{CpuNo}
 use Rattle.irq_base.specs.declared.numbers.DevNo.{DevNo}
@@ -11,7 +11,7 @@ use Rattle.irq_model.specs.Kinds.{is_take}
 use Rattle.irq_model.specs.Next.{next}
 use Rattle.irq_model.specs.Reason.{is_being_freed}
 use Rattle.irq_model.specs.Rounds.{flow, has_flow}
-use Rattle.irq_model.specs.Threads.{is_woken, is_running, active_count}
+use Rattle.irq_model.specs.Threads.{is_woken, is_running}
 use Rattle.irq_line.specs.Seen.{LineSeen}
 use Rattle.irq_line.specs.declared.queries.Blocks.{Blocks}
 
@@ -40,13 +40,17 @@ abbrev pub IsLowestThread : LineSeen → Option DevNo → Type 0
 IsLowestThread line None = (dev : DevNo) → IsThreadDue line dev → ⊥
 IsLowestThread line (Some lowest) = IsThreadDue line lowest × ((dev : DevNo) → IsThreadDue line dev → lowest.0 ≤ dev.0)
 
--- a device that is being freed is woken or in a run
+-- whether a thread of some device of the line is woken or in a run
+abbrev pub are_threads_at_work : LineDef → List Entry → Bool
+are_threads_at_work def past = list_any (λ x. is_woken past x.dev || is_running past x.dev) def.devices
+
+-- whether that of a device which is being freed is
 abbrev pub is_freed_at_work : LineDef → List Entry → Bool
 is_freed_at_work def past = list_any (λ x. is_being_freed past x.dev && (is_woken past x.dev || is_running past x.dev)) def.devices
 
 -- what drivers' calls wait for
 abbrev pub blocks_at : LineDef → List Entry → Blocks
-blocks_at def past = record { flow = has_flow def past; threads = nat_lt 0 (active_count def past); mutex = holds_mutex past; freed = is_freed_at_work def past }
+blocks_at def past = record { flow = has_flow def past; threads = are_threads_at_work def past; mutex = holds_mutex past; freed = is_freed_at_work def past }
 
 abbrev pub blocks_of : LineSeen → Blocks
 blocks_of line = blocks_at line.def (reverse line.entries)

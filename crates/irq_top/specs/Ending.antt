@@ -8,7 +8,7 @@ use Rattle.irq_io.specs.declared.whole.WriteEnd.TheVariants as writes
 use Rattle.board_def.specs.Seen.{BoardSeen}
 use Rattle.board_words.specs.FaultTexts.{fault_text}
 use Rattle.board_stated.specs.TextOf.{board_of_text}
-use Rattle.board_stated.specs.declared.faults.BoardFault.{BoardFault}
+use Rattle.board_words.specs.declared.faults.BoardFault.{BoardFault}
 use Rattle.irq_top.specs.declared.inputs.InputRefused.{InputRefused}
 use Rattle.irq_top.specs.declared.inputs.InputRefused.TheVariants as refusals
 use Rattle.irq_top.specs.declared.ending.Ending.{Ending}

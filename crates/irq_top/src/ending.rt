@@ -1,8 +1,7 @@
 //! How a call of the program ends, in words and numbers.
 ghost use Rattle.std.specs.Prelude.{◌≡◌};
-ghost use Rattle.irq_top.specs.Ending.{status_of, error_text};
+ghost use Rattle.irq_top.specs.Ending.{status_of};
 
-use crate::error_rows::ErrorRow;
 use crate::inputs::InputRefused;
 use board_text::BoardFault;
 use irq_base::LineNo;
@@ -39,23 +38,6 @@ impl Ending {
             Ending::WriteFault => 5,
             Ending::LogFull { .. } => 6,
             Ending::NoMemory => 7,
-        }
-    }
-
-    /// The row that says so, empty where the work was done.
-    pub fn row(self) -> ErrorRow
-        ensures { result ≡ error_text self }
-    {
-        match self {
-            Ending::Done => ErrorRow::new(b""),
-            Ending::Usage => ErrorRow::new(
-                b"usage: genirq run [--summary] | play [--summary] | check | gen N\n",
-            ),
-            Ending::Board(fault) => ErrorRow::of_fault(fault),
-            Ending::ReadFault => ErrorRow::new(b"read fault\n"),
-            Ending::WriteFault => ErrorRow::new(b"write fault\n"),
-            Ending::LogFull { line, len } => ErrorRow::of_full_log(line, len),
-            Ending::NoMemory => ErrorRow::new(b"out of memory\n"),
         }
     }
 }

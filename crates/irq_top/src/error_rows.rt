@@ -1,87 +1,50 @@
 //! The row that tells on the error sink how a call ended.
-ghost use Rattle.std.specs.Prelude.{◌≡◌, ◌+◌, ◌≤◌, [], ◌++◌, length, decimal};
-ghost use Rattle.irq_top.specs.Ending.{fault_row, full_row};
+ghost use Rattle.std.specs.Prelude.{◌≡◌, ◌≤◌, ◌++◌, length};
+ghost use Rattle.irq_top.specs.Ending.{error_text, fault_row, full_row};
 
-use arrayvec::ArrayVec;
+use crate::ending::Ending;
 use board_text::BoardFault;
 use irq_base::LineNo;
-use itoa::Buffer;
-use std::marker::Model;
+use text_row::TextRow;
 
-/// The most bytes of such a row.
-pub const MAX_ERROR_ROW: usize = 100;
-
-/// Such a row: at most 100 bytes, the line feed among them. Contracts see the list of its bytes.
-#[derive(Drop)]
-pub struct ErrorRow {
-    bytes: ArrayVec<u8, MAX_ERROR_ROW>,
+/// Writes the row that says how the call ended, empty where the work was done. What the row held before is gone.
+pub fn error_row(row: &mut TextRow, ending: Ending)
+    ensures { row.new ≡ error_text ending }
+{
+    row.clear();
+    match ending {
+        Ending::Done => {}
+        Ending::Usage => {
+            row.push_bytes(b"usage: genirq run [--summary] | play [--summary] | check | gen N\n");
+        }
+        Ending::Board(fault) => push_fault(row, fault),
+        Ending::ReadFault => row.push_bytes(b"read fault\n"),
+        Ending::WriteFault => row.push_bytes(b"write fault\n"),
+        Ending::LogFull { line, len } => push_full_log(row, line, len),
+        Ending::NoMemory => row.push_bytes(b"out of memory\n"),
+    }
 }
 
-impl Model for ErrorRow {
-    ghost use Rattle.std.specs.Prelude.{ℕ, List};
-
-    ghost Value = { List ℕ };
-
-    ghost view = { λ r. r.bytes.items };
+/// Adds a fault of a board's text.
+fn push_fault(row: &mut TextRow, fault: BoardFault)
+    requires { length row.old ≤ 200 }
+    ensures { row.new ≡ row.old ++ fault_row fault }
+{
+    row.push_bytes(b"board: line ");
+    row.push_number(fault.at);
+    row.push_bytes(b": ");
+    row.push_bytes(fault.kind.text().as_bytes());
+    row.push(b'\n');
 }
 
-impl ErrorRow {
-    /// The bytes of the row.
-    pub fn bytes(&self) -> &[u8]
-        ensures { result.now ≡ self.now }
-    {
-        self.bytes.as_slice()
-    }
-
-    /// The row of these bytes.
-    pub fn new(text: &[u8]) -> ErrorRow
-        requires { length text.now ≤ 100 }
-        ensures { result ≡ text.now }
-    {
-        let mut row = ErrorRow {
-            bytes: ArrayVec::new(),
-        };
-        row.push(text);
-        row
-    }
-
-    /// The row of a fault of a board's text.
-    pub fn of_fault(fault: BoardFault) -> ErrorRow
-        ensures { result ≡ fault_row fault }
-    {
-        let mut row = ErrorRow::new(b"board: line ");
-        row.push_number(fault.at);
-        row.push(b": ");
-        row.push(fault.kind.text().as_bytes());
-        row.push(b"\n");
-        row
-    }
-
-    /// The row of a log that is full with that many entries.
-    pub fn of_full_log(line: LineNo, len: u32) -> ErrorRow
-        ensures { result ≡ full_row line len }
-    {
-        let mut row = ErrorRow::new(b"log full: line ");
-        row.push_number(line.0);
-        row.push(b" at ");
-        row.push_number(len);
-        row.push(b" entries\n");
-        row
-    }
-
-    fn push(&mut self, text: &[u8])
-        requires { length self.old + length text.now ≤ 100 }
-        ensures { self.new ≡ self.old ++ text.now }
-    {
-        self.bytes.try_extend_from_slice(text).unwrap();
-    }
-
-    fn push_number(&mut self, number: u32)
-        requires { length self.old ≤ 90 }
-        ensures text { self.new ≡ self.old ++ decimal number }
-        ensures grows { length self.new ≤ length self.old + 10 }
-    {
-        let mut digits = Buffer::new();
-        self.push(digits.format(number).as_bytes());
-    }
+/// Adds that the line's log is full with that many entries.
+fn push_full_log(row: &mut TextRow, line: LineNo, len: u32)
+    requires { length row.old ≤ 200 }
+    ensures { row.new ≡ row.old ++ full_row line len }
+{
+    row.push_bytes(b"log full: line ");
+    row.push_number(line.0);
+    row.push_bytes(b" at ");
+    row.push_number(len);
+    row.push_bytes(b" entries\n");
 }

@@ -12,7 +12,6 @@ pub mod printing;
 pub mod top;
 
 pub use ending::Ending;
-pub use error_rows::ErrorRow;
 pub use inputs::InputRefused;
 pub use top::{Outcome, irq_main};
 

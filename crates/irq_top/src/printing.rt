@@ -13,8 +13,9 @@ use board_def::{Board, Layout};
 use irq_base::{History, LineNo};
 use irq_io::{FlushAnswer, Sink, WriteEnd, write_all};
 use log_text::{entry_row, layout_row};
+use text_row::TextRow;
 
-/// Prints the layout and the rows of the line's history, and hands all of it on.
+/// Prints the layout and the rows of the line's history, each made in one row that is kept, and hands all of it on.
 pub fn print_report<O: Sink>(
     out: &mut O,
     board: &Board,
@@ -28,11 +29,12 @@ pub fn print_report<O: Sink>(
     ensures handed { HandsOn (O.handed_on out.new) (O.written out.new) result }
     ensures cause { Counts (O.faults out.old) (O.faults out.new) (writing_failed result) }
 {
-    match print_layout(out, board, layout) {
+    let mut row = TextRow::new();
+    match print_layout(out, &mut row, board, layout) {
         WriteEnd::Done => {}
         WriteEnd::Failed => return WriteEnd::Failed,
     }
-    match print_rows(out, line, history) {
+    match print_rows(out, &mut row, line, history) {
         WriteEnd::Done => {}
         WriteEnd::Failed => return WriteEnd::Failed,
     }
@@ -42,14 +44,14 @@ pub fn print_report<O: Sink>(
     }
 }
 
-/// Prints where each line lies, in the board's order.
-fn print_layout<O: Sink>(out: &mut O, board: &Board, layout: &Layout) -> WriteEnd
+/// Prints where each line lies, in the board's order, by way of the row.
+fn print_layout<O: Sink>(out: &mut O, row: &mut TextRow, board: &Board, layout: &Layout) -> WriteEnd
     requires { layout.now ≡ layout_of board.now }
     ensures content { WritesAll (O.written out.old) (O.written out.new) (layout_rows board.now) result }
     ensures cause { Counts (O.faults out.old) (O.faults out.new) (writing_failed result) }
 {
     for i in 0..board.lines_len() {
-        let row = layout_row(layout, board, i);
+        layout_row(row, layout, board, i);
         match write_all(out, row.bytes()) {
             WriteEnd::Done => {}
             WriteEnd::Failed => return WriteEnd::Failed,
@@ -58,8 +60,8 @@ fn print_layout<O: Sink>(out: &mut O, board: &Board, layout: &Layout) -> WriteEn
     WriteEnd::Done
 }
 
-/// Prints the rows of the history, the oldest entry's first.
-fn print_rows<O: Sink>(out: &mut O, line: LineNo, history: &History) -> WriteEnd
+/// Prints the rows of the history, the oldest entry's first, by way of the row.
+fn print_rows<O: Sink>(out: &mut O, row: &mut TextRow, line: LineNo, history: &History) -> WriteEnd
     requires { All IsPrintable history.now.entries }
     ensures content { WritesAll (O.written out.old) (O.written out.new) (history_text line history.now.entries) result }
     ensures cause { Counts (O.faults out.old) (O.faults out.new) (writing_failed result) }
@@ -68,7 +70,7 @@ fn print_rows<O: Sink>(out: &mut O, line: LineNo, history: &History) -> WriteEnd
         let Some(entry) = history.get(i) else {
             unreachable!();
         };
-        let row = entry_row(line, &entry);
+        entry_row(row, line, &entry);
         match write_all(out, row.bytes()) {
             WriteEnd::Done => {}
             WriteEnd::Failed => return WriteEnd::Failed,

@@ -10,6 +10,7 @@ ghost use Rattle.irq_top.specs.Ending.{Reads, Prints, Tells, error_text, is_play
 ghost use Rattle.irq_top.specs.Played.{HasReports, PlaysOrNot};
 
 use crate::ending::Ending;
+use crate::error_rows::error_row;
 use crate::inputs::read_input;
 use crate::playing::{Played, play_board};
 use crate::printing::print_report;
@@ -18,6 +19,7 @@ use irq_base::{LineReport, Reports};
 use irq_io::{Sink, Source, WriteEnd, write_all};
 use line_play::PlayEnd;
 use std::alloc::Global;
+use text_row::TextRow;
 
 /// What the top call hands out: how it ended, and the histories that were taken out of the lines, one report a
 /// line where the board was played, else none.
@@ -151,7 +153,8 @@ fn print_ending<O: Sink>(out: &mut O, board: &Board, played: &Played) -> Ending
 fn tell<E: Sink>(err: &mut E, ending: Ending)
     ensures { Tells (error_text ending) (E.written err.old) (E.written err.new) (E.handed_on err.new) (E.faults err.old) (E.faults err.new) }
 {
-    let row = ending.row();
+    let mut row = TextRow::new();
+    error_row(&mut row, ending);
     tell_row(err, row.bytes());
 }
 

@@ -61,74 +61,22 @@ pub fn judge(alloc: Global, def: &LineDef, entries: &[Entry]) -> Result<Verdict,
 #[cfg(test)]
 mod tests {
     use super::*;
-    use irq_base::{
-        Call, CallList, DevNo, DeviceDef, DeviceList, DriverNo, Flags, FlowKind, Kind, LineNo,
-        LinkAnswer, Opened, Resend, Trigger,
-    };
+    use crate::lines::{ASK, DEV, FLAGS, OWNER, REQUEST, definition};
+    use irq_base::{LinkAnswer, Opened, Resend};
     use std::test::Fail;
-
-    const DRIVER: DriverNo = DriverNo(1);
-
-    const DEV: DevNo = DevNo(1);
-
-    const PLAIN: Flags = Flags {
-        shared: false,
-        oneshot: false,
-        noauto: false,
-    };
-
-    /// A line whose one device is requested by the one driver, and then asks.
-    fn small_line(alloc: Global) -> Result<LineDef, NoMemory>
-        ensures cpus { IfOk result (λ def. def.cpus ≤ 32) }
-        ensures devices { IfOk result (λ def. length def.devices ≤ 256) }
-    {
-        let line = LineNo(1);
-        let mut devices = DeviceList::new(alloc);
-        devices.push(DeviceDef {
-            dev: DEV,
-            line,
-            kind: Kind::Direct,
-        })?;
-        let mut calls = CallList::new(alloc);
-        calls.push((
-            DRIVER,
-            Call::Request {
-                dev: DEV,
-                flags: PLAIN,
-            },
-        ))?;
-        calls.push((DRIVER, Call::Ask { dev: DEV }))?;
-        Ok(LineDef {
-            line,
-            flow: FlowKind::Edge,
-            trigger: Trigger::Edge,
-            keeps: true,
-            recalls: true,
-            retriggers: true,
-            unlazy: false,
-            later: false,
-            mask: 1,
-            cpus: 1,
-            window: 100,
-            limit: 50,
-            log: 10,
-            devices,
-            calls,
-        })
-    }
 
     #[test]
     fn an_ask_is_due_after_its_request(rt: HostRuntime) -> Result<(), Fail> {
-        let def = small_line(rt.alloc())?;
+        let def = definition(rt.alloc(), &[REQUEST, ASK])?;
         let request = Entry::Request {
-            driver: DRIVER,
+            driver: OWNER,
             dev: DEV,
-            flags: PLAIN,
+            flags: FLAGS,
             answer: LinkAnswer::Linked,
             opened: Opened::Started { resend: Resend::No },
         };
         let ask = Entry::Ask {
-            driver: DRIVER,
+            driver: OWNER,
             dev: DEV,
         };
         let lawful = judge(rt.alloc(), &def, &[request, ask])?;

@@ -5,6 +5,10 @@
 #![tactic(auto)]
 
 mod judging;
+#[cfg(test)]
+mod lines;
+#[cfg(test)]
+mod orders;
 mod reading;
 
 use anyhow::{Context, Result};

@@ -1,14 +1,13 @@
 //! The rows of a log: what an entry of a line's history is in writing, and where a line lies.
 //!
-//! A row is words with one space between each two, ended by a line feed, at most 320 bytes. It lies in a
-//! buffer of its own, and writing it takes no memory.
+//! A row is words with one space between each two, ended by a line feed, at most 320 bytes. It is written into a
+//! `TextRow` that the caller lends, and takes no memory.
 #![tactic(auto)]
 
 mod entries;
 mod layouts;
-mod rows;
+mod pieces;
 mod words;
 
 pub use entries::entry_row;
 pub use layouts::layout_row;
-pub use rows::{MAX_ROW, Row};

@@ -1,4 +1,4 @@
-pub mod Linked
-pub mod Somewhere
-pub mod EdgeWalk
-pub mod Counts
+mod Counts
+mod EdgeWalk
+mod Linked
+mod Somewhere

@@ -2,10 +2,12 @@
 ghost use Rattle.std.specs.Prelude.{◌≡◌, ◌+◌, ◌<◌, ◌∷◌, length, drop, IfOk};
 ghost use Rattle.std.specs.List.{list_any};
 ghost use Rattle.irq_model.specs.Kinds.{is_freed_by};
+ghost use Rattle.irq_model.specs.Reason.{is_being_freed};
 ghost use Rattle.irq_model.specs.Due.{calls_by, entries_by, begins_not_there, entries_of_call, due_of, due_call, is_being_freed_at, holds_mutex};
 
-use crate::kinds::{is_by_driver, is_freed_by};
-use irq_base::{Call, CallList, DriverNo, Entry, LineDef, NoMemory, UnlinkAnswer};
+use crate::kinds::{is_by_driver, is_freed, is_freed_by, unlinks_dev};
+use crate::places::stands;
+use irq_base::{Call, CallList, DevNo, DriverNo, Entry, LineDef, NoMemory, UnlinkAnswer};
 use std::alloc::Global;
 
 /// The call at a place of the list, with its driver.
@@ -90,7 +92,7 @@ fn due_of(calls: &CallList, r: DriverNo, entries: &[Entry]) -> Option<(Call, usi
 }
 
 /// A free of the driver is at its end among these.
-fn is_freed(entries: &[Entry], r: DriverNo) -> bool
+fn has_freed(entries: &[Entry], r: DriverNo) -> bool
     ensures { result ≡ list_any (is_freed_by r) entries.now }
 {
     entries.iter().any(|e| is_freed_by(r, *e))
@@ -107,7 +109,7 @@ fn is_being_freed_at(after: &[Entry], upto: &[Entry]) -> bool
                 answer: UnlinkAnswer::Unlinked { .. },
                 ..
             },
-        ) => !is_freed(after, driver),
+        ) => !has_freed(after, driver),
         _ => false,
     }
 }
@@ -123,4 +125,11 @@ pub fn holds_mutex(past: &[Entry]) -> bool
         }
     }
     false
+}
+
+/// The device was unlinked, and its free isn't complete.
+pub fn is_being_freed(past: &[Entry], d: DevNo) -> bool
+    ensures { result ≡ is_being_freed past.now d }
+{
+    stands(past, |e| unlinks_dev(d, e), |e| is_freed(d, e))
 }

@@ -1,8 +1,8 @@
-//! The plain program of the due entry, which is read off the definitions of `irq_model` and meets them for every
-//! definition of a line and every history, legal or not.
+//! The plain program of the due entry, read off the definitions of `irq_model`: `next_slow` meets them after any
+//! history, legal or not, of a line with at most 32 processors and 256 devices.
 //!
-//! `next_slow` looks back over the whole history at each call, and takes up to the square of its length: it is there
-//! to compare faster bodies with.
+//! It looks back over the whole history at each call, and takes up to the square of its length: it is there to
+//! compare faster bodies with, and no crate of the program stands on it.
 #![tactic(auto)]
 
 mod asks;
@@ -23,4 +23,11 @@ mod spurious;
 mod threads;
 mod waiting;
 
-pub use next::next_slow;
+pub use due::{holds_mutex, is_being_freed};
+pub use lines::{any_device, kind_of};
+pub use next::{newest_first, next_past, next_slow};
+pub use next_cpu::asks_of_handler;
+pub use next_thread::asks_of_thread;
+pub use rounds::flow;
+pub use signal::target;
+pub use threads::{active_count, is_running, is_woken};

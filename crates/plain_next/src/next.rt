@@ -21,7 +21,7 @@ fn entry_at(h: &History, i: usize) -> Entry
 }
 
 /// The entries of the history, the newest first.
-fn newest_first(alloc: Global, h: &History) -> Result<Vec<Entry>, NoMemory>
+pub fn newest_first(alloc: Global, h: &History) -> Result<Vec<Entry>, NoMemory>
     ensures { IfOk result (λ past. past.items ≡ reverse h.now.entries) }
 {
     let mut past = Vec::with_capacity(alloc, h.len())?;
@@ -49,7 +49,7 @@ fn next_of_line_thread(
 }
 
 /// The entry that is due for the actor, where the newest entry comes first.
-fn next_past(
+pub fn next_past(
     alloc: Global,
     def: &LineDef,
     past: &[Entry],

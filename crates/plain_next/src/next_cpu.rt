@@ -23,7 +23,7 @@ use std::alloc::Global;
 // ---- in the flow
 
 /// The asks that were unserved as the handler began.
-fn asks_of_handler(def: &LineDef, d: DevNo, past: &[Entry]) -> u32
+pub fn asks_of_handler(def: &LineDef, d: DevNo, past: &[Entry]) -> u32
     requires { length past.now ≤ 100000000 }
     ensures { result ≡ asks_of_handler def.now d past.now }
 {

@@ -16,7 +16,7 @@ use irq_base::{DevNo, Entry, LineDef, NoMemory};
 use std::alloc::Global;
 
 /// The asks that were unserved as the thread's run began.
-fn asks_of_thread(def: &LineDef, d: DevNo, past: &[Entry]) -> u32
+pub fn asks_of_thread(def: &LineDef, d: DevNo, past: &[Entry]) -> u32
     requires { length past.now ≤ 100000000 }
     ensures { result ≡ asks_of_thread def.now d past.now }
 {

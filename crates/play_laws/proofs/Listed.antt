@@ -102,7 +102,7 @@ both_false false false h = (refl, refl)
 both_false true b h = cc
 both_false false true h = cc
 
-thread_device : (def : LineDef) (past : List Entry) (d : DevNo) (e : Entry) → Kept def past → next_of_thread def d past ≡ Some e → list_any (is_device d) def.devices ≡ true
+pub thread_device : (def : LineDef) (past : List Entry) (d : DevNo) (e : Entry) → Kept def past → next_of_thread def d past ≡ Some e → list_any (is_device d) def.devices ≡ true
 thread_device def past d e k h = by_there (is_linked past d || is_being_freed past d) refl
   where
     by_there : (b : Bool) → (is_linked past d || is_being_freed past d) ≡ b → list_any (is_device d) def.devices ≡ true

@@ -7,6 +7,7 @@ use irq_base::{
     LinkAnswer, Note, Opened, Resend, TakeAnswer, UnlinkAnswer, Way,
 };
 use std::process::Abort;
+use text_row::TextRow;
 
 fn flags(shared: bool, oneshot: bool, noauto: bool) -> Flags {
     Flags {
@@ -16,14 +17,14 @@ fn flags(shared: bool, oneshot: bool, noauto: bool) -> Flags {
     }
 }
 
-fn expect(rt: &impl Abort, line: u32, entry: Entry, row: &str)
+// The entry's row is this, written over another row.
+fn expect(rt: &impl Abort, line: u32, entry: Entry, text: &str)
     requires { IsPrintable entry }
 {
-    assert_eq!(rt;
-        entry_row(LineNo(line), &entry).bytes(),
-        row.as_bytes(),
-        "for {row:?}"
-    );
+    let mut row = TextRow::new();
+    row.push_bytes(b"# irq 4 refused no-mask\n");
+    entry_row(&mut row, LineNo(line), &entry);
+    assert_eq!(rt; row.bytes(), text.as_bytes(), "for {text:?}");
 }
 
 #[test]

@@ -9,6 +9,7 @@ use board_def::{Board, DomainRow, Layout, LineRow, Name};
 use irq_base::{DomainDef, LevelKind, LineNo, MapKind, NoMemory};
 use std::alloc::Global;
 use std::process::Abort;
+use text_row::TextRow;
 
 fn root(map: MapKind, chip: LevelKind) -> DomainDef
     ensures map { result.map ≡ map }
@@ -90,9 +91,10 @@ fn expect(rt: &impl Abort, board: &Board, layout: &Layout, rows: &[&str])
     requires { layout.now ≡ layout_of board.now }
 {
     assert!(rt; board.lines_len() == rows.len());
+    let mut row = TextRow::new();
     for i in 0..rows.len() {
         if i < board.lines_len() {
-            let row = layout_row(layout, board, i);
+            layout_row(&mut row, layout, board, i);
             assert_eq!(rt; row.bytes(), rows[i].as_bytes(), "for {}", rows[i]);
         }
     }

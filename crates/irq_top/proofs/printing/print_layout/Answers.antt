@@ -9,13 +9,13 @@ use Rattle.irq_top.proofs.printing.print_layout.Goals as goal
 pub returns-in-Failed-clause-content : goal.returns-in-Failed-clause-content
 returns-in-Failed-clause-content g c =
     items_failed (layout_row_text c.args.board.now) (g.O.Sink.written c.args.out.now) (g.O.Sink.written c.loop-i.out) (g.O.Sink.written c.write_all.new.sink) (range_with_len 0 (length c.args.board.now.lines)) c.loop-i.i c.loop-i.i
-    c.bytes.result.now (number_at (length c.args.board.now.lines) c.loop-i.i (omega (arith, c.lines_len-i-end.ensures, c.loop-i-test.true))) (c.bytes.ensures.bytes ∙ c.layout_row-row.ensures) c.loop-i.invariant.content c.in-Failed.ensures.content
+    c.bytes.result.now (number_at (length c.args.board.now.lines) c.loop-i.i (omega (arith, c.lines_len-i-end.ensures, c.loop-i-test.true))) (c.bytes.ensures.bytes ∙ c.layout_row.ensures) c.loop-i.invariant.content c.in-Failed.ensures.content
 
 pub loop-i-preserved : goal.loop-i-preserved
 loop-i-preserved g c = record {
   content =
       items_done (layout_row_text c.args.board.now) (g.O.Sink.written c.args.out.now) (g.O.Sink.written c.loop-i.out) (g.O.Sink.written c.write_all.new.sink) (range_with_len 0 (length c.args.board.now.lines)) c.loop-i.i c.loop-i.i
-      c.bytes.result.now (number_at (length c.args.board.now.lines) c.loop-i.i (omega (arith, c.lines_len-i-end.ensures, c.loop-i-test.true))) (c.bytes.ensures.bytes ∙ c.layout_row-row.ensures) c.loop-i.invariant.content c.in-Done.ensures.content;
+      c.bytes.result.now (number_at (length c.args.board.now.lines) c.loop-i.i (omega (arith, c.lines_len-i-end.ensures, c.loop-i-test.true))) (c.bytes.ensures.bytes ∙ c.layout_row.ensures) c.loop-i.invariant.content c.in-Done.ensures.content;
   faults = c.in-Done.ensures.cause ∙ c.loop-i.invariant.faults;
 }
 

@@ -12,3 +12,7 @@ pub returns-in-Done-flush-clause-content : goal.returns-in-Done-flush-clause-con
 returns-in-Done-flush-clause-content g c =
     rw c.in-Done-flush.ensures.content
     (and_then (g.O.Sink.written c.args.out.now) (g.O.Sink.written c.print_layout.new.out) (g.O.Sink.written c.print_rows.new.out) (layout_rows c.args.board.now) (history_text c.args.line c.args.history.now.entries) ends.Done c.in-Done.ensures.content c.in-Done-print_rows.ensures.content)
+
+pub returns-in-Failed-print_rows-clause-content : goal.returns-in-Failed-print_rows-clause-content
+returns-in-Failed-print_rows-clause-content g c =
+    and_then (g.O.Sink.written c.args.out.now) (g.O.Sink.written c.print_layout.new.out) (g.O.Sink.written c.print_rows.new.out) (layout_rows c.args.board.now) (history_text c.args.line c.args.history.now.entries) ends.Failed c.in-Done.ensures.content c.in-Failed-print_rows.ensures.content

@@ -1,0 +1,102 @@
+//! Tables of a board: rows in their order, each found by a key of its own.
+ghost use Rattle.std.specs.Prelude.{◌≡◌, None, [], ◌∷◌, ◌++◌, length, position, slice_get, OnOk, OnErr};
+ghost use Rattle.board_def.specs.Find.{last_item};
+ghost use Rattle.board_def.specs.Tables.{find_row};
+
+use indexmap::IndexMap;
+use irq_base::NoMemory;
+use std::alloc::Global;
+use std::hash::Hash;
+use std::marker::Model;
+
+/// A row that is found by its key: its number or its name.
+pub trait Keyed<K> {
+    ghost use Rattle.std.specs.Prelude.{◌≡◌};
+
+    /// The key of a row.
+    ghost key_of: { Self → K };
+
+    /// The row's key.
+    fn key(&self) -> K
+        ensures { result ≡ key_of self.now };
+}
+
+/// Rows in their order, each with another key. Contracts see the list of the rows. A row is found by its key in
+/// constant time.
+#[derive(Drop)]
+pub struct Table<K: Eq + Hash, T: Keyed<K>> {
+    rows: IndexMap<K, T>,
+}
+
+impl<K: Eq + Hash, T: Keyed<K>> Model for Table<K, T> {
+    ghost use Rattle.std.specs.Prelude.{List};
+    ghost use Rattle.std.specs.Coded.{coded_list};
+
+    ghost Value = { List T };
+
+    ghost coded = { coded_list T.code };
+
+    ghost use Rattle.board_def.specs.Tables.{values_of, IsKeyedBy};
+
+    ghost view = { λ t. values_of t.rows.entries };
+
+    ghost invariant = { λ t. IsKeyedBy T.Keyed.key_of t.rows.entries };
+}
+
+impl<K: Copy + Eq + Hash + Drop, T: Keyed<K> + Copy + Drop> Table<K, T> {
+    /// No rows. It takes no memory yet.
+    pub fn new(alloc: Global) -> Table<K, T>
+        ensures { result ≡ [] }
+    {
+        Table {
+            rows: IndexMap::new(alloc),
+        }
+    }
+
+    /// Adds the row at the end. Refused, the table is as before.
+    pub fn push(&mut self, row: T) -> Result<(), NoMemory>
+        requires { find_row K.eq T.key_of self.old (T.key_of row) ≡ None }
+        ensures ok { OnOk result (self.new ≡ self.old ++ row ∷ []) }
+        ensures err { OnErr result (self.new ≡ self.old) }
+    {
+        self.rows.insert(row.key(), row)?;
+        Ok(())
+    }
+
+    /// The number of rows.
+    pub fn len(&self) -> usize
+        ensures { result ≡ length self.now }
+    {
+        self.rows.len()
+    }
+
+    /// The row at the place, counted from 0; none from the length on.
+    pub fn get(&self, i: usize) -> Option<T>
+        ensures { result ≡ slice_get self.now i }
+    {
+        let (_, row) = self.rows.get_index(i)?;
+        Some(*row)
+    }
+
+    /// The last row; none where there is none.
+    #[tactic(auto, using(crate::proofs::Finds::last_at))]
+    pub fn last(&self) -> Option<T>
+        ensures { result ≡ last_item self.now }
+    {
+        self.get(self.len().saturating_sub(1))
+    }
+
+    /// The row of that key; none where there is none.
+    pub fn find(&self, key: &K) -> Option<T>
+        ensures { result ≡ find_row K.eq T.key_of self.now key.now }
+    {
+        self.rows.get(key).copied()
+    }
+
+    /// The place of the row of that key, counted from 0; none where there is none.
+    pub fn place_of(&self, key: &K) -> Option<usize>
+        ensures { result ≡ position (λ row. K.eq key.now (T.key_of row)) self.now }
+    {
+        self.rows.get_index_of(key)
+    }
+}

@@ -1,0 +1,4 @@
+pub mod Takers
+pub mod Lowest
+pub mod Queries
+pub mod Steps

@@ -1,0 +1,168 @@
+//! The line.
+ghost use Rattle.std.specs.Prelude.{◌≡◌, ◌+◌, ◌<◌, ◌≤◌, [], ◌∷◌, ◌++◌, length, IfOk, OnOk, OnErr, IsTrue, Some, reverse};
+ghost use Rattle.irq_model.specs.Legal.{IsDue};
+ghost use Rattle.irq_model.specs.Valid.{IsValid};
+ghost use Rattle.plain_line.specs.Line.{IsPlain};
+
+use crate::looking::{Looked, look};
+use crate::running::unanswered;
+use callbacks::Said;
+use irq_base::{Actor, CpuNo, DevNo, Entry, History, LineDef, NoMemory};
+use irq_line::{Blocks, IrqLine, StepRefused, Stepped};
+use plain_next::{newest_first, next_past};
+use std::alloc::Global;
+use std::marker::Model;
+
+/// A definition and a history. Beside them stands what the queries answer now, since a query can't want memory.
+#[derive(Drop)]
+pub struct PlainLine {
+    alloc: Global,
+    def: LineDef,
+    history: History,
+    looked: Looked,
+}
+
+impl Model for PlainLine {
+    ghost use Rattle.std.specs.Prelude.{reverse};
+    ghost use Rattle.irq_line.specs.Seen.{LineSeen};
+    ghost use Rattle.plain_line.specs.Line.{IsPlain};
+
+    ghost Value = { LineSeen };
+
+    ghost view = { λ l. record { def = l.def; entries = l.history.entries; spare = l.history.spare } };
+
+    ghost invariant = { λ l. IsPlain l.def l.history.entries l.looked };
+}
+
+impl PlainLine {
+    /// The line of that definition, to which nothing has happened.
+    pub fn new(alloc: Global, def: &LineDef) -> Result<PlainLine, NoMemory>
+        requires { IsValid def.now }
+        ensures def { IfOk result (λ line. line.def ≡ def.now) }
+        ensures empty { IfOk result (λ line. line.entries ≡ []) }
+    {
+        let looked = look(alloc, def, &[])?;
+        let def = def.try_clone(alloc)?;
+        let history = History::with_room(alloc, 0)?;
+        Ok(PlainLine {
+            alloc,
+            def,
+            history,
+            looked,
+        })
+    }
+
+    /// Adds the entry, which is due, and looks up what holds after it.
+    #[tactic(auto, using(crate::proofs::Steps::legal_more, crate::proofs::Steps::few_more, crate::proofs::Steps::plain_more))]
+    fn add(&mut self, past: &[Entry], entry: Entry) -> Result<(), NoMemory>
+        requires past { past.now ≡ reverse self.old.entries }
+        requires due { IsDue self.old.def entry past.now }
+        requires below { length self.old.entries < self.old.def.log }
+        ensures def { self.new.def ≡ self.old.def }
+        ensures entries { OnOk result (self.new.entries ≡ self.old.entries ++ entry ∷ []) }
+        ensures spare { OnOk result (self.old.spare ≤ self.new.spare + 1) }
+        ensures refused { OnErr result (self.new ≡ self.old) }
+    {
+        let more = with_newest(self.alloc, past, entry)?;
+        let looked = look(self.alloc, &self.def, &more)?;
+        if self.history.spare() == 0 {
+            self.history.reserve(1)?;
+        }
+        self.history.push(entry);
+        self.looked = looked;
+        Ok(())
+    }
+}
+
+/// The entries with one more, where the newest comes first.
+fn with_newest(alloc: Global, past: &[Entry], entry: Entry) -> Result<Vec<Entry>, NoMemory>
+    ensures { IfOk result (λ more. more.items ≡ entry ∷ past.now) }
+{
+    let mut more = vec![in alloc; entry]?;
+    more.extend_from_slice(past)?;
+    Ok(more)
+}
+
+/// Whether it is that processor.
+fn is_that(taker: Option<CpuNo>, cpu: CpuNo) -> bool
+    ensures sound { IsTrue result → taker ≡ Some cpu }
+    ensures complete { taker ≡ Some cpu → IsTrue result }
+{
+    match taker {
+        Some(taker) => taker == cpu,
+        None => false,
+    }
+}
+
+impl IrqLine for PlainLine {
+    ghost seen = { λ l. l };
+
+    #[tactic(auto, using(crate::proofs::Steps::due_there, crate::proofs::Steps::adds))]
+    fn step(&mut self, actor: Actor, said: Option<Said>) -> Result<Stepped, StepRefused> {
+        let past = newest_first(self.alloc, &self.history)?;
+        let Some(entry) = next_past(self.alloc, &self.def, &past, actor)? else {
+            return Ok(Stepped::NotYet);
+        };
+        let len = self.history.len();
+        if len >= self.def.log as usize {
+            return Err(StepRefused::Full { len: len as u32 });
+        }
+        if let Some(run) = unanswered(&self.def, &past, entry, &said) {
+            return Ok(Stepped::Run {
+                def: run.def,
+                part: run.part,
+                unserved: run.unserved,
+            });
+        }
+        self.add(&past, entry)?;
+        Ok(Stepped::Added(entry))
+    }
+
+    fn reserve(&mut self) -> Result<(), NoMemory> {
+        if self.history.spare() == 0 {
+            self.history.reserve(1)?;
+        }
+        Ok(())
+    }
+
+    fn spare(&self) -> usize {
+        self.history.spare()
+    }
+
+    fn definition(&self) -> &LineDef {
+        &self.def
+    }
+
+    fn history(&self) -> &History {
+        &self.history
+    }
+
+    fn into_history(self) -> History {
+        let PlainLine { history, .. } = self;
+        history
+    }
+
+    fn is_sound(&self) {
+        let _history = &self.history;
+    }
+
+    fn present(&self, cpu: CpuNo) -> bool {
+        is_that(self.looked.taker, cpu)
+    }
+
+    fn in_flow(&self) -> Option<CpuNo> {
+        self.looked.flow
+    }
+
+    fn taker(&self) -> Option<CpuNo> {
+        self.looked.taker
+    }
+
+    fn lowest_thread(&self) -> Option<DevNo> {
+        self.looked.lowest
+    }
+
+    fn blocks(&self) -> Blocks {
+        self.looked.blocks
+    }
+}
