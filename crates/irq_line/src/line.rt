@@ -26,12 +26,13 @@ pub trait IrqLine: Drop {
         ensures def { (seen self.new).def ≡ (seen self.old).def }
         ensures answer { Answers (seen self.old) actor said result (seen self.new) };
 
-    /// Makes room for one more entry. Refused, all is as before.
+    /// Makes room for one more entry. Where there is some it isn't refused; refused, all is as before.
     fn reserve(&mut self) -> Result<(), NoMemory>
         ensures room { OnOk result (1 ≤ (seen self.new).spare) }
         ensures def { (seen self.new).def ≡ (seen self.old).def }
         ensures entries { (seen self.new).entries ≡ (seen self.old).entries }
         ensures grows { (seen self.old).spare ≤ (seen self.new).spare }
+        ensures needed { OnErr result ((seen self.old).spare ≡ 0) }
         ensures refused { OnErr result (seen self.new ≡ seen self.old) };
 
     /// How many more entries fit without memory.

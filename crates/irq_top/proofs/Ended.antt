@@ -1,14 +1,16 @@
 -- The headline, from the laws of every legal history.
-use Rattle.std.proofs.Common.{◌≡◌, List, sym, ◌∙◌, subst}
-use Rattle.std.proofs.lemmas.List.{length-reverse}
+use Rattle.std.proofs.Common.{◌≡◌, List, [], ◌∷◌, ◌++◌, reverse, sym, ◌∙◌, subst}
+use Rattle.std.proofs.lemmas.List.{length-reverse, reverse-append}
 use Rattle.irq_base.specs.declared.entries.Actor.{Actor}
 use Rattle.irq_base.specs.declared.lines.LineDef.{LineDef}
 use Rattle.irq_base.specs.declared.entries.Entry.{Entry}
-use Rattle.irq_model.specs.Legal.{IsLegal}
+use Rattle.irq_model.specs.Legal.{IsLegal, IsLegalPast}
 use Rattle.irq_model.specs.Valid.{IsValid}
-use Rattle.irq_laws.proofs.RunLaws.{no_overlap, silent_after_free}
+use Rattle.irq_laws.proofs.RunLaws.{no_overlap, silent_after_free, keeps_oneshot, synchronised}
 use Rattle.irq_laws.proofs.ScriptLaws.{follows_scripts}
-use Rattle.irq_laws.proofs.RestLaws.{settled_is_delivered}
+use Rattle.irq_laws.proofs.RestLaws.{settled_is_delivered, settled_is_quiet}
+use Rattle.irq_laws.proofs.ServedLaws.{served_when_idle}
+use Rattle.irq_laws.proofs.TakeLaws.{takes_are_counted}
 use Rattle.play_laws.specs.Play.{Done, Plays}
 use Rattle.play_laws.proofs.Rest.{done_is_settled}
 use Rattle.line_core.specs.Seen.{LineSeen}
@@ -16,6 +18,16 @@ use Rattle.line_play.specs.declared.plays.PlayEnd.{PlayEnd}
 use Rattle.line_play.specs.declared.plays.PlayEnd.TheVariants as ends
 use Rattle.line_play.specs.Playing.{IsPlay}
 use Rattle.irq_top.specs.Headline.{Headline, HasEnded}
+
+-- a beginning of a legal history is legal
+older : (def : LineDef) (newer past : List Entry) → IsLegalPast def (newer ++ past) → IsLegalPast def past
+older def [] past legal = legal
+older def (e ∷ newer) past legal = older def newer past legal.1
+
+beginning : (def : LineDef) (h before after : List Entry) → IsLegal def h → h ≡ before ++ after → IsLegal def before
+beginning def h before after legal is =
+    older def (reverse after) (reverse before)
+    (subst (λ (xs : List Entry). IsLegalPast def xs) (reverse-append before after) (subst (λ (xs : List Entry). IsLegal def xs) is legal))
 
 headline : (def : LineDef) (picks : List Actor) (h : List Entry) → IsValid def → IsLegal def h → Plays def picks h Done → Headline def picks h
 headline def picks h valid legal play =
@@ -25,8 +37,13 @@ headline def picks h valid legal play =
       legal = legal;
       settled = settled;
       delivered = settled_is_delivered def h valid legal settled;
+      quiet = settled_is_quiet def h valid legal settled;
       no_overlap = no_overlap def h valid legal;
       silent_after_free = silent_after_free def h valid legal;
+      keeps_oneshot = keeps_oneshot def h valid legal;
+      takes_are_counted = takes_are_counted def h legal;
+      synchronised = synchronised def h valid legal;
+      served_when_idle = λ before after is. served_when_idle def before valid (beginning def h before after legal is);
       scripts = follows_scripts def h legal;
     }
 

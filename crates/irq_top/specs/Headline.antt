@@ -1,14 +1,15 @@
 -- What holds of the history that is printed.
-use Rattle.std.specs.Prelude.{◌≡◌, List, ◌∷◌, [], length}
+use Rattle.std.specs.Prelude.{◌≡◌, List, ◌∷◌, [], ◌++◌, length}
 use Rattle.irq_base.specs.declared.entries.Actor.{Actor}
 use Rattle.irq_base.specs.declared.lines.LineDef.{LineDef}
 use Rattle.irq_base.specs.declared.entries.Entry.{Entry}
 use Rattle.irq_base.specs.declared.numbers.LineNo.{LineNo}
-use Rattle.irq_model.specs.Laws.{NoOverlap, IsSilentAfterFree}
+use Rattle.irq_model.specs.Laws.{NoOverlap, IsSilentAfterFree, KeepsOneshot, TakesAreCounted, IsSynchronised, IsServedWhenIdle}
 use Rattle.irq_model.specs.Legal.{IsLegal}
 use Rattle.irq_model.specs.Owed.{IsDelivered}
 use Rattle.irq_model.specs.Scripts.{FollowsScripts}
 use Rattle.irq_model.specs.Settled.{IsSettled}
+use Rattle.irq_laws.specs.Quiet.{IsQuiet}
 use Rattle.board_def.specs.LineOf.{line_of_row}
 use Rattle.board_def.specs.Seen.{BoardSeen}
 use Rattle.board_def.specs.declared.rows.LineRow.{LineRow}
@@ -26,8 +27,18 @@ pub record Headline (def : LineDef) (picks : List Actor) (h : List Entry) : Type
   pub settled : IsSettled def h
   -- where the line isn't left disabled, no edge is owed to a linked device
   pub delivered : IsDelivered def h
+  -- nothing is at work: each handler that was called has returned
+  pub quiet : IsQuiet def h
   pub no_overlap : NoOverlap def h
   pub silent_after_free : IsSilentAfterFree def h
+  -- no end and no finish opened a level line over an unfinished thread
+  pub keeps_oneshot : KeepsOneshot def h
+  -- an edge line took no more interrupts than came
+  pub takes_are_counted : TakesAreCounted def h
+  -- what waited for handlers and threads did
+  pub synchronised : IsSynchronised def h
+  -- at each moment: where the line was enabled and no flow was in progress, what was owed or high was handled next
+  pub served_when_idle : (before after : List Entry) → h ≡ before ++ after → IsServedWhenIdle def before
   -- each driver's entries are those of its calls, in the order of its script, each once
   pub scripts : FollowsScripts def h
 
