@@ -44,3 +44,6 @@ pub fn step_within_bound<L: IrqLine>(
         Err(StepRefused::Full { .. }) => unreachable!(),
     }
 }
+
+#[cfg(test)]
+mod tests;
