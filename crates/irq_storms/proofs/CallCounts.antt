@@ -17,7 +17,7 @@ use Rattle.irq_model.specs.Scripts.{MakesAll, AreMadeBy, FollowsScriptsPast}
 use Rattle.irq_model.specs.Legal.{IsLegalPast}
 use Rattle.irq_laws.proofs.ScriptLaws.{follows_past}
 use Rattle.irq_storms.specs.Judged.{one_if}
-use Rattle.irq_storms.specs.Tests.{total, is_by_any_driver, is_renewal, most_entries}
+use Rattle.irq_storms.specs.Tests.{total, is_by_any_driver, is_renewal}
 use Rattle.irq_storms.proofs.Counting.{count_more, count_total, total_ext, total_at, totals_by_key}
 
 -- ---- counts of joined, reversed and filtered lists
@@ -131,6 +131,11 @@ module _ (p : Entry → Bool) (w : Call → ℕ) (by_driver : (e : Entry) → p 
 at_most_one : (b : Bool) → cond b (0 + 1) 0 ≤ 1
 at_most_one true = omega arith
 at_most_one false = omega arith
+
+-- the greatest number of entries that a call makes
+abbrev pub most_entries : Call → ℕ
+most_entries (calls.Ask dev) = 1
+most_entries _ = 3
 
 most_made : (c : Call) (es : List Entry) → MakesAll c es → count_of is_by_any_driver es ≤ most_entries c
 most_made (calls.Ask d) (entries.Ask r dev ∷ []) h = omega arith

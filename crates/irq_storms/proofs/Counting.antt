@@ -5,6 +5,10 @@ use Rattle.irq_model.specs.Places.{count_of}
 use Rattle.irq_storms.specs.Tests.{total}
 use Rattle.irq_storms.specs.Judged.{one_if}
 
+pub mark_most : (b : Bool) → one_if b ≤ 1
+mark_most true = omega arith
+mark_most false = omega arith
+
 if_both : (b c : Bool) → one_if (c && b) ≡ cond b (one_if c) 0
 if_both true true = refl
 if_both true false = refl

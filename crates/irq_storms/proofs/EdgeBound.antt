@@ -13,9 +13,9 @@ use Rattle.irq_model.specs.Bounds.{ask_calls, other_calls, edge_bound}
 use Rattle.irq_model.specs.Legal.{IsLegal, IsLegalPast}
 use Rattle.irq_model.specs.Valid.{IsValid}
 use Rattle.irq_laws.proofs.TakeLaws.{takes_are_counted}
-use Rattle.irq_storms.specs.Tests.{is_any_begin, is_any_return, is_end, is_any_thread_begin, is_any_thread_return, is_any_finish, is_any_done, is_by_any_driver}
+use Rattle.irq_storms.specs.Tests.{is_any_begin, is_any_return, is_end, is_by_any_driver}
 use Rattle.irq_storms.proofs.RunCounts.{begins_past, returns_past, rounds_past}
-use Rattle.irq_storms.proofs.ThreadCounts.{thread_begins_past, thread_returns_past, finishes_past, dones_past}
+use Rattle.irq_storms.proofs.ThreadCounts.{is_any_thread_begin, is_any_thread_return, is_any_finish, is_any_done, thread_begins_past, thread_returns_past, finishes_past, dones_past}
 use Rattle.irq_storms.proofs.CallCounts.{driver_entries}
 use Rattle.irq_storms.proofs.EdgeCounts.{EdgeCounts, edge_counts}
 

@@ -26,7 +26,7 @@ use Rattle.irq_steps.proofs.RoundSteps.{flow_quiet}
 use Rattle.irq_laws.proofs.ImpliesFlow.{again_by, take_due, end_due, has_a_flow}
 use Rattle.irq_storms.specs.Judged.{one_if}
 use Rattle.irq_storms.specs.Tests.{is_end, is_renewal}
-use Rattle.irq_storms.proofs.Counting.{count_more, count_imply}
+use Rattle.irq_storms.proofs.Counting.{mark_most, count_more, count_imply}
 use Rattle.irq_storms.proofs.Running.{StaysBelow, runs_below}
 use Rattle.irq_storms.proofs.RunCounts.{rounds_past}
 use Rattle.irq_storms.proofs.CallCounts.{asks_of_drivers, renewals_of_drivers}
@@ -121,10 +121,6 @@ abbrev pub goes_on_later : LineDef → List Entry → Bool
 goes_on_later def past = has_flow def past && is_pending def past
 
 -- f: a flow, x: it was busy, E: an edge line, k: it clears, s: pending
-some_mark : (b : Bool) → one_if b ≤ 1
-some_mark true = omega arith
-some_mark false = omega arith
-
 no_flow_mark : (f s : Bool) → f ≡ false → one_if (f && s) ≡ 0
 no_flow_mark f s h = grind arith
 
@@ -146,7 +142,7 @@ off_idle false o h = refl
 pend_more : (def : LineDef) (e : Entry) (past : List Entry) → IsDue def e past → StaysBelow is_again is_busy (λ past. one_if (goes_on_later def past)) e past
 pend_more def (entries.Take c way takes.Handle) past due =
     let m = cleared_mark (has_flow def (entries.Take c way takes.Handle ∷ past)) false (is_edge_line def) (is_pending def past) in omega (arith, m)
-pend_more def (entries.Take c way takes.Busy) past due = let m = some_mark (goes_on_later def (entries.Take c way takes.Busy ∷ past)) in omega (arith, m)
+pend_more def (entries.Take c way takes.Busy) past due = let m = mark_most (goes_on_later def (entries.Take c way takes.Busy ∷ past)) in omega (arith, m)
 pend_more def (entries.Take c way takes.Off) past due =
     let e = entries.Take c way takes.Off in
     let same : has_flow def (e ∷ past) ≡ has_flow def past = ap is_some (flow_quiet def e past refl refl refl) in

@@ -21,7 +21,7 @@ use Rattle.irq_laws.proofs.Lists.{both_ways}
 use Rattle.irq_laws.proofs.ImpliesFlow.{end_due, has_a_flow}
 use Rattle.irq_storms.specs.Tests.{is_end, is_any_serving, is_moment, is_renewal}
 use Rattle.irq_storms.specs.Judged.{one_if, count_where, judgement, is_handled_judgement, is_nothing_judgement, ends_handled, ends_nothing, ends_deferred, ends_clearing, handled_ends, nothing_ends, deferred_ends, clearing_ends, breaks, serving_marks, allowance, allowed}
-use Rattle.irq_storms.proofs.Counting.{count_more}
+use Rattle.irq_storms.proofs.Counting.{mark_most, count_more}
 use Rattle.irq_storms.proofs.RunCounts.{flow_stays}
 use Rattle.irq_storms.proofs.KillCounts.{no_flow_after, shut_past}
 use Rattle.irq_storms.proofs.WindowRule.{is_killed, allowed_after, allowed_most, most_unless, EndFacts, end_facts}
@@ -60,10 +60,6 @@ facts_of def past = end_facts def.window def.limit (now past) (round_wakes def p
 
 abbrev HandledMore : LineDef → Entry → List Entry → Type 0
 HandledMore def e past = StaysWithin (ends_handled def) (λ e past. is_any_serving e) (serving_marks def) (λ past. 0) e past
-
-mark_most : (b : Bool) → one_if b ≤ 1
-mark_most true = omega arith
-mark_most false = omega arith
 
 -- an entry that leaves the flow, the round and the threads as they were
 quiet_marks : (f f' r : Bool) (t : ℕ) → f' ≡ f → 0 + (one_if (f' && r) + t) + 0 ≤ (one_if (f && r) + t) + 0 + 0

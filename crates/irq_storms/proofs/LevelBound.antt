@@ -13,7 +13,7 @@ use Rattle.irq_model.specs.Legal.{IsLegal, IsLegalPast}
 use Rattle.irq_model.specs.Valid.{IsValid}
 use Rattle.irq_storms.specs.Tests.{is_end}
 use Rattle.irq_storms.specs.Judged.{one_if, Judgement, Handled, Nothing, Deferred, judgement, is_handled_judgement, is_nothing_judgement, is_deferred_judgement, ends_handled, ends_nothing, ends_deferred, handled_ends, nothing_ends, deferred_ends, breaks}
-use Rattle.irq_storms.proofs.Counting.{count_more}
+use Rattle.irq_storms.proofs.Counting.{mark_most, count_more}
 use Rattle.irq_storms.proofs.RunCounts.{rounds_past}
 use Rattle.irq_storms.proofs.CallCounts.{asks_of_drivers, renewals_of_drivers}
 use Rattle.irq_storms.proofs.EdgeCounts.{takes_by_answer, rounds_by_entry, starts_past}
@@ -48,10 +48,6 @@ pub record LevelCounts (def : LineDef) (past : List Entry) : Type 0 where
   pub busy : count_of is_busy past ≤ other_calls def
   pub off : count_of is_off past ≤ other_calls def
 
-some_mark : (b : Bool) → one_if b ≤ 1
-some_mark true = omega arith
-some_mark false = omega arith
-
 pub level_counts : (def : LineDef) (past : List Entry) → IsValid def → IsLegalPast def past → is_level_line def ≡ true → LevelCounts def past
 level_counts def past valid legal level =
     let h = handled_past def past valid legal level in
@@ -59,7 +55,7 @@ level_counts def past valid legal level =
     let a = asks_of_drivers def past legal in
     let d = deferred_past def past legal in
     let cl = clearing_past def past in
-    let mark = some_mark (counts_of def past).deferred in
+    let mark = mark_most (counts_of def past).deferred in
     let r = renewals_of_drivers def past legal in
     let starts = starts_past def past legal in
     let b = busy_past def past valid legal level in
@@ -83,7 +79,7 @@ level_rounds : (def : LineDef) (past : List Entry) → IsLegalPast def past → 
 level_rounds def past legal counts =
     let r = rounds_past def past legal in
     let e = ends_judged def past in
-    let f = some_mark (has_flow def past) in
+    let f = mark_most (has_flow def past) in
     let w = mul_assoc 2 def.window (ask_calls def + other_calls def + 1) in
     let h = counts.handled in
     let d = counts.deferred in

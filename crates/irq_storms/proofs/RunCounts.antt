@@ -32,9 +32,6 @@ use Rattle.irq_storms.proofs.Running.{StaysBelow, runs_below}
 
 -- ---- the returns are at most the begins
 
-at_work_once : List Entry → ℕ
-at_work_once past = one_if (is_some (at_work past))
-
 returns_more : (def : LineDef) (e : Entry) (past : List Entry) → IsDue def e past → StaysBelow is_any_return is_any_begin (λ past. one_if (is_some (at_work past))) e past
 returns_more def (entries.Begin c x) past due = omega arith
 returns_more def (entries.Return c x answer served) past due =
@@ -51,9 +48,6 @@ returns_past def past legal =
 
 flow_kept : (def : LineDef) (e : Entry) (past : List Entry) → is_handle e ≡ false → is_leave e ≡ false → is_again e ≡ false → one_if (has_flow def (e ∷ past)) ≡ one_if (has_flow def past)
 flow_kept def e past a b c = ap (λ o. one_if (is_some o)) (flow_quiet def e past a b c)
-
-no_round : (f : Bool) → (false || (false && not f)) ≡ false
-no_round f = refl
 
 round_of_end : (def : LineDef) (c : CpuNo) (again unmask : Bool) (note : Note) (past : List Entry) → one_if (has_flow def past) ≡ 1
     → one_if (begins_round def (entries.End c again unmask note)) + one_if (has_flow def past) ≡ 1 + one_if (has_flow def (entries.End c again unmask note ∷ past))

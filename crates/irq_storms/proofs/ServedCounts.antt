@@ -31,7 +31,7 @@ use Rattle.irq_laws.proofs.ImpliesThread.{thread_return_due}
 use Rattle.irq_storms.specs.Judged.{one_if}
 use Rattle.irq_storms.specs.Tests.{is_any_serving, serves_of, asks_served, total}
 use Rattle.irq_storms.proofs.Counting.{count_more, count_ext, counts_by_key}
-use Rattle.irq_storms.proofs.ThreadCounts.{dev_key, begin_tells, return_tells}
+use Rattle.irq_storms.proofs.ThreadCounts.{dev_key, swapped, begin_tells, return_tells}
 
 -- ---- a run that is in progress: b its beginnings, r its returns, a the asks
 
@@ -309,9 +309,6 @@ served_of def d past valid legal = let a = served_exactly def d past valid legal
 pub key_ask : (k : ℕ) (e : Entry) → is_ask (record { 0 = k }) e ≡ (is_any_ask e && (k == dev_key e))
 key_ask k (entries.Ask driver dev) = refl
 key_ask k e = refl
-
-swapped : (a b : Bool) → (a && b) ≡ (b && a)
-swapped a b = grind arith
 
 key_serves : (k : ℕ) (e : Entry) → serves_of (record { 0 = k }) e ≡ (is_any_serving e && (k == dev_key e))
 key_serves k (entries.Return cpu dev answer count) = swapped (k == dev.0) (is_handled answer)

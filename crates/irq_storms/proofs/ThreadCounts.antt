@@ -12,9 +12,27 @@ use Rattle.irq_model.specs.Legal.{IsDue, IsLegalPast}
 use Rattle.irq_steps.proofs.Same.{dev_from_same}
 use Rattle.irq_laws.proofs.ImpliesThread.{has_returned, has_finished, thread_begin_due, thread_return_due, finish_due, done_due}
 use Rattle.irq_storms.specs.Judged.{one_if}
-use Rattle.irq_storms.specs.Tests.{is_any_return, is_any_thread_begin, is_any_thread_return, is_any_finish, is_any_done}
+use Rattle.irq_storms.specs.Tests.{is_any_return}
 use Rattle.irq_storms.proofs.Counting.{count_ext, count_imply, counts_by_key}
 use Rattle.irq_storms.proofs.Running.{StaysBelow, runs_below}
+
+-- ---- entries of threads, of any device
+
+abbrev pub is_any_thread_begin : Entry → Bool
+is_any_thread_begin (entries.ThreadBegin dev) = true
+is_any_thread_begin _ = false
+
+abbrev pub is_any_thread_return : Entry → Bool
+is_any_thread_return (entries.ThreadReturn dev served) = true
+is_any_thread_return _ = false
+
+abbrev pub is_any_finish : Entry → Bool
+is_any_finish (entries.Finish dev kept unmask) = true
+is_any_finish _ = false
+
+abbrev pub is_any_done : Entry → Bool
+is_any_done (entries.Done dev) = true
+is_any_done _ = false
 
 -- ---- what an entry of d's thread tells, where it is due
 
@@ -131,7 +149,7 @@ dev_key (entries.Finish dev kept unmask) = dev.0
 dev_key (entries.Done dev) = dev.0
 dev_key _ = 0
 
-swapped : (a b : Bool) → (a && b) ≡ (b && a)
+pub swapped : (a b : Bool) → (a && b) ≡ (b && a)
 swapped a b = grind arith
 
 key_wakes : (k : ℕ) (e : Entry) → wakes (record { 0 = k }) e ≡ (returns_wake e && (k == dev_key e))

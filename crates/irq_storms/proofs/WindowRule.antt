@@ -5,6 +5,7 @@ use Rattle.irq_base.specs.declared.entries.Note.{Note}
 use Rattle.irq_base.specs.declared.entries.Note.TheVariants as notes
 use Rattle.irq_model.specs.Spurious.{Counts, Noted, counted, unhandled, judged, noted}
 use Rattle.irq_storms.specs.Judged.{one_if, Judgement, Handled, Nothing, judged_as, is_handled_judgement, is_nothing_judgement, is_deferred_judgement, is_forgiving, allowance}
+use Rattle.irq_storms.proofs.Counting.{mark_most}
 
 abbrev pub is_killed : Note → Bool
 is_killed notes.Killed = true
@@ -128,10 +129,6 @@ pub record EndFacts (window limit at : ℕ) (w h : Bool) (c : Counts) (n : Noted
   pub clears : one_if (w && h) ≤ one_if (is_handled_judgement j)
   pub small : c.irq_count < window → n.counts.irq_count < window
   pub allows : limit < window → c.irq_count < window → one_if (is_nothing_judgement j) + allowed_after window at n ≤ cond (is_handled_judgement j) (2 * window) 0 + allowance window at c
-
-mark_most : (b : Bool) → one_if b ≤ 1
-mark_most true = omega arith
-mark_most false = omega arith
 
 same_marks : (window limit at : ℕ) (b : Bool) (c : Counts) → one_if (not ((judged window limit at b c).counts.threads_handled == (judged window limit at b c).counts.last)) ≡ one_if (not (c.threads_handled == c.last))
 same_marks window limit at b c = let k = judged_keeps window limit at b c in rw (k.threads, k.last) refl

@@ -20,12 +20,13 @@ count_where p (e ∷ past) = if p e past then (count_where p past + 1) else coun
 
 -- ---- an end is judged, or left to the next one
 
+-- what the rule makes of an end: handled, unhandled, or judged by what the threads do until the next
 pub data Judgement : Type 0 where
   Handled : Judgement
   Nothing : Judgement
   Deferred : Judgement
 
--- `deferred`: an end that only woke threads waits to be judged; `same`: no thread has served since
+-- the judgement by the answers of the round; `deferred`: an end that only woke threads waits to be judged; `same`: no thread has served since
 abbrev pub judged_as : Bool → Bool → Bool → Bool → Judgement
 judged_as wake handled deferred same =
     if wake && not handled then (if deferred then (if same then Nothing else Handled) else Deferred) else (if handled then Handled else Nothing)
@@ -35,6 +36,7 @@ abbrev pub judgement : LineDef → List Entry → Judgement
 judgement def past =
     let c = counts_of def past in judged_as (round_wakes def past) (round_handles def past) c.deferred (c.threads_handled == c.last)
 
+-- tests on a judgement
 abbrev pub is_handled_judgement : Judgement → Bool
 is_handled_judgement Handled = true
 is_handled_judgement _ = false
@@ -47,6 +49,7 @@ abbrev pub is_deferred_judgement : Judgement → Bool
 is_deferred_judgement Deferred = true
 is_deferred_judgement _ = false
 
+-- the entry is an end of that judgement
 abbrev pub ends_handled : LineDef → Entry → List Entry → Bool
 ends_handled def e past = is_end e && is_handled_judgement (judgement def past)
 
@@ -56,7 +59,7 @@ ends_nothing def e past = is_end e && is_nothing_judgement (judgement def past)
 abbrev pub ends_deferred : LineDef → Entry → List Entry → Bool
 ends_deferred def e past = is_end e && is_deferred_judgement (judgement def past)
 
--- the ends that were judged handled, judged nothing, or deferred
+-- how many ends were judged handled, judged nothing, or deferred
 abbrev pub handled_ends : LineDef → List Entry → ℕ
 handled_ends def past = count_where (ends_handled def) past
 
@@ -66,14 +69,15 @@ nothing_ends def past = count_where (ends_nothing def) past
 abbrev pub deferred_ends : LineDef → List Entry → ℕ
 deferred_ends def past = count_where (ends_deferred def) past
 
--- the ends whose round both woke a thread and handled: they give the deferred mark up
+-- an end whose round both woke a thread and handled gives the deferred mark up
 abbrev pub ends_clearing : LineDef → Entry → List Entry → Bool
 ends_clearing def e past = is_end e && (round_wakes def past && round_handles def past)
 
+-- how many such ends there are
 abbrev pub clearing_ends : LineDef → List Entry → ℕ
 clearing_ends def past = count_where (ends_clearing def) past
 
--- from where a storm may begin anew: an end judged handled, a start, a linked request, a moment
+-- how often a storm may begin anew: the ends judged handled, and the starts, linked requests and moments
 abbrev pub breaks : LineDef → List Entry → ℕ
 breaks def past = handled_ends def past + count_of is_renewal past
 

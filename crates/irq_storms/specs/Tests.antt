@@ -1,41 +1,26 @@
--- Tests of entries, whichever device or driver they are of, and what a call makes at most.
+-- Tests of entries, whichever device or driver they are of, and what runs serve.
 use Rattle.std.specs.Prelude.{ℕ, ◌+◌, Bool, true, false, ◌||◌, ◌&&◌, if◌then◌else◌, nat_lt, List, [], ◌∷◌}
 use Rattle.irq_base.specs.declared.numbers.DevNo.{DevNo}
-use Rattle.irq_base.specs.declared.calls.Call.{Call}
-use Rattle.irq_base.specs.declared.calls.Call.TheVariants as calls
 use Rattle.irq_base.specs.declared.entries.Entry.{Entry}
 use Rattle.irq_base.specs.declared.entries.Entry.TheVariants as entries
 use Rattle.irq_model.specs.Kinds.{same_dev, is_handled, returns_handled, is_start, is_linked_request}
 
 -- ---- runs
 
+-- a handler is called
 abbrev pub is_any_begin : Entry → Bool
 is_any_begin (entries.Begin cpu dev) = true
 is_any_begin _ = false
 
+-- it returned
 abbrev pub is_any_return : Entry → Bool
 is_any_return (entries.Return cpu dev answer served) = true
 is_any_return _ = false
 
+-- a round ends
 abbrev pub is_end : Entry → Bool
 is_end (entries.End cpu again unmask note) = true
 is_end _ = false
-
-abbrev pub is_any_thread_begin : Entry → Bool
-is_any_thread_begin (entries.ThreadBegin dev) = true
-is_any_thread_begin _ = false
-
-abbrev pub is_any_thread_return : Entry → Bool
-is_any_thread_return (entries.ThreadReturn dev served) = true
-is_any_thread_return _ = false
-
-abbrev pub is_any_finish : Entry → Bool
-is_any_finish (entries.Finish dev kept unmask) = true
-is_any_finish _ = false
-
-abbrev pub is_any_done : Entry → Bool
-is_any_done (entries.Done dev) = true
-is_any_done _ = false
 
 -- a run that served something: a handler that answered so, or a thread that served
 abbrev pub is_any_serving : Entry → Bool
@@ -67,6 +52,7 @@ total w (x ∷ xs) = w x + total w xs
 
 -- ---- drivers
 
+-- some driver made the entry
 abbrev pub is_by_any_driver : Entry → Bool
 is_by_any_driver (entries.Take cpu way answer) = false
 is_by_any_driver (entries.Begin cpu dev) = false
@@ -78,6 +64,7 @@ is_by_any_driver (entries.Finish dev kept unmask) = false
 is_by_any_driver (entries.Done dev) = false
 is_by_any_driver _ = true
 
+-- a moment is handed in
 abbrev pub is_moment : Entry → Bool
 is_moment (entries.Moment driver at) = true
 is_moment _ = false
@@ -85,8 +72,3 @@ is_moment _ = false
 -- an entry of a driver from which a storm may begin anew: a start, a request that was linked, a moment
 abbrev pub is_renewal : Entry → Bool
 is_renewal e = is_start e || (is_linked_request e || is_moment e)
-
--- the greatest number of entries that a call makes
-abbrev pub most_entries : Call → ℕ
-most_entries (calls.Ask dev) = 1
-most_entries _ = 3

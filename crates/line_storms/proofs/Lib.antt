@@ -1,0 +1,2 @@
+pub mod NeverFull
+pub mod AskedLine

@@ -1,0 +1,49 @@
+//! What the bound on storms says of any line: where the log limit is at least the bound of the line's definition, no
+//! step finds the log full.
+#![tactic(auto)]
+
+ghost use Rattle.std.specs.Prelude.{◌≡◌, ◌≤◌, ℕ, Option, Ok, Err, IfOk, OnErr};
+ghost use Rattle.irq_base.specs.declared.entries.Actor.{Actor};
+ghost use Rattle.irq_model.specs.Bounds.{bound};
+ghost use Rattle.callbacks.specs.Seen.{SaidSeen};
+ghost use Rattle.irq_line.specs.Answers.{Answers};
+ghost use Rattle.irq_line.specs.Seen.{LineSeen};
+ghost use Rattle.irq_line.specs.declared.answers.StepRefused.TheVariants as refusals;
+
+use callbacks::Said;
+use irq_base::{Actor, NoMemory};
+use irq_line::{IrqLine, StepRefused, Stepped};
+
+/// No log that is at least as long as the bound is ever full: whoever steps the line next, and whatever is handed in,
+/// the answer isn't `Full`. Called before a step it tells its caller that this refusal doesn't come.
+pub fn next_step_is_not_full<L: IrqLine>(line: &L)
+    ensures not_full { bound (L.seen line.now).def ≤ (L.seen line.now).def.log → (actor : Actor) (said : Option SaidSeen) (len : ℕ) (new : LineSeen) → Answers (L.seen line.now) actor said (Err (refusals.Full len)) new → ⊥ }
+{
+    line.is_sound();
+}
+
+/// `IrqLine::step` on a line whose log limit is at least its bound: it is refused for want of memory alone.
+///
+/// # Errors
+///
+/// `NoMemory` where memory was refused. Nothing has changed then.
+pub fn step_within_bound<L: IrqLine>(
+    line: &mut L,
+    actor: Actor,
+    said: Option<Said>,
+) -> Result<Stepped, NoMemory>
+    requires ample { bound (L.seen line.old).def ≤ (L.seen line.old).def.log }
+    ensures def { (L.seen line.new).def ≡ (L.seen line.old).def }
+    ensures answer { IfOk result (λ answer. Answers (L.seen line.old) actor said (Ok answer) (L.seen line.new)) }
+    ensures refused { OnErr result (L.seen line.new ≡ L.seen line.old) }
+{
+    next_step_is_not_full(line);
+    match line.step(actor, said) {
+        Ok(answer) => Ok(answer),
+        Err(StepRefused::NoMemory) => Err(NoMemory),
+        Err(StepRefused::Full { .. }) => unreachable!(),
+    }
+}
+
+#[cfg(test)]
+mod tests;
