@@ -1,426 +1,258 @@
 //! Texts by hand: the first fault of each, or the board that it states.
-use crate::{BoardFault, BoardRefused, FaultKind, LONGEST_TEXT, read_board};
+//!
+//! A table has a row for each text: what is told of it, `=` and the text, in which `|` stands for a line feed and `^`
+//! for a byte beyond ASCII. Rows that begin with `#` are headings.
+use crate::{BoardRefused, LONGEST_TEXT, read_board};
 use board_def::{Board, ScriptCall};
 use irq_base::{Actor, Call, CpuNo, DevNo, DeviceDef, DriverNo, Kind, LevelKind, LineNo, MapKind};
 use std::alloc::Global;
+use std::process::Abort;
 use std::test::Fail;
 
-/// Whole texts, and the fault of each.
-const TEXTS: [(&[u8], u32, FaultKind); 71] = [
-    // without a statement, or with another one first
-    (b"", 1, FaultKind::NoHeader),
-    (b"\n\n", 1, FaultKind::NoHeader),
-    (b" \t\r\n# board 1", 1, FaultKind::NoHeader),
-    (b"\n#\x00", 1, FaultKind::NoHeader),
-    (b"boards 1", 1, FaultKind::NoHeader),
-    (b"\ncpus 0\nboard 1", 2, FaultKind::NoHeader),
-    // bytes
-    (b"#\x00", 1, FaultKind::BadByte),
-    (b"\x00", 1, FaultKind::BadByte),
-    (b"\n\x80", 2, FaultKind::BadByte),
-    (b"\n#\x80\nboard 1", 2, FaultKind::BadByte),
-    (b"board 1 \x7f", 1, FaultKind::BadByte),
-    (b"board 1 # \x1f", 1, FaultKind::BadByte),
-    (b"board 1\ncpus 0 #\x0b", 2, FaultKind::BadByte),
-    (
-        b"board 1 # ~\x7e\x20\n\tlog\r 1\r\n",
-        0,
-        FaultKind::NotBuilt,
-    ),
-    // one statement in itself
-    (b"board 1\ndomai", 2, FaultKind::UnknownWord),
-    (b"board 1\nmoment 1", 2, FaultKind::UnknownWord),
-    (
-        b"board 1\nline 1 a 0 mask mask 1",
-        2,
-        FaultKind::UnknownWord,
-    ),
-    (b"board 1\ndevice 1 1 foo extra", 2, FaultKind::UnknownWord),
-    (b"board", 1, FaultKind::WrongCount),
-    (b"board 1\ndomain a linear latch", 2, FaultKind::WrongCount),
-    (b"board 1\nline 1 a 0 mask 1 mask", 2, FaultKind::WrongCount),
-    (b"board 2", 1, FaultKind::BadNumber),
-    (b"board 1\ncpus 33", 2, FaultKind::BadNumber),
-    (b"board 1\nspurious 1 1", 2, FaultKind::BadNumber),
-    (b"board 1\nask 0", 2, FaultKind::BadNumber),
-    (b"board 1\nline 1 a 0 mask unlazy", 2, FaultKind::BadNumber),
-    (b"board 1\ndomain A tree latch", 2, FaultKind::BadName),
-    (
-        b"board 1\ndomain abcdefghijklmnopq tree latch",
-        2,
-        FaultKind::BadName,
-    ),
-    (
-        b"board 1\ndomain abcdefghijklmnop tree latch",
-        0,
-        FaultKind::NotBuilt,
-    ),
-    (b"board 1\npicks c1 x1", 2, FaultKind::BadName),
-    // the order of sections
-    (b"board 1\ncpus 1\nboard 1", 3, FaultKind::OutOfOrder),
-    (
-        b"board 1\ndomain a tree latch\n\nlog 1",
-        4,
-        FaultKind::OutOfOrder,
-    ),
-    (b"board 1\npicks c0\ndriver 2", 3, FaultKind::OutOfOrder),
-    (b"board 1\nask 1", 2, FaultKind::OutOfOrder),
-    (b"board 1\ndriver 2\ndriver 2", 3, FaultKind::OutOfOrder),
-    (
-        b"board 1\nlog 1\nspurious 2 1\ncpus 2",
-        0,
-        FaultKind::NotBuilt,
-    ),
-    // settings, names and options that stand again
-    (b"board 1\nboard 1", 2, FaultKind::Twice),
-    (b"board 1\ncpus 2\nlog 1\ncpus 2", 4, FaultKind::Twice),
-    (b"board 1\nspurious 2 1\nspurious 2 1", 3, FaultKind::Twice),
-    (b"board 1\nlog 1\nlog 1", 3, FaultKind::Twice),
-    (
-        b"board 1\ndomain a tree latch\ndomain a tree msi parent b",
-        3,
-        FaultKind::Twice,
-    ),
-    (
-        b"board 1\ndomain a tree msi parent b parent b",
-        2,
-        FaultKind::Twice,
-    ),
-    (b"board 1\nline 1 a 0 later later", 2, FaultKind::Twice),
-    (b"board 1\nline 1 a 0 mask 1 mask 0", 2, FaultKind::Twice),
-    // domains and their parents
-    (
-        b"board 1\ndomain a tree msi parent b\ndomain b tree latch",
-        2,
-        FaultKind::NotThere,
-    ),
-    (
-        b"board 1\ndomain a tree msi parent a",
-        2,
-        FaultKind::NotThere,
-    ),
-    (
-        b"board 1\ndomain a tree latch parent b",
-        2,
-        FaultKind::NotThere,
-    ),
-    (
-        b"board 1\ndomain a tree latch\ndomain b tree plain parent a",
-        3,
-        FaultKind::BadParent,
-    ),
-    (b"board 1\ndomain a tree remap", 2, FaultKind::BadParent),
-    (
-        b"board 1\ndomain a tree level\ndomain b tree msi parent a",
-        3,
-        FaultKind::BadParent,
-    ),
-    (
-        b"board 1\ndomain a tree eoi\ndomain b tree remap parent a\ndomain c tree msi parent b",
-        4,
-        FaultKind::BadParent,
-    ),
-    (
-        b"board 1\ndomain a tree vector\ndomain b tree remap parent a\ndomain c tree msi parent b",
-        0,
-        FaultKind::NotBuilt,
-    ),
-    // lines and devices
-    (b"board 1\nline 1 a 0", 2, FaultKind::NotThere),
-    (b"board 1\ndevice 1 1 direct", 2, FaultKind::NotThere),
-    (
-        b"board 1\ndomain a tree latch\nline 2 a 0\nline 2 a 1",
-        4,
-        FaultKind::OutOfOrder,
-    ),
-    (
-        b"board 1\ndomain a tree latch\nline 2 a 0\nline 3 a 0\ndevice 2 4 direct",
-        5,
-        FaultKind::NotThere,
-    ),
-    (
-        b"board 1\ndomain a tree plain\nline 1 a 0 unlazy mask 0",
-        3,
-        FaultKind::BadUnlazy,
-    ),
-    (
-        b"board 1\ndomain a tree vector\ndomain b tree remap parent a\nline 1 b 0 unlazy",
-        4,
-        FaultKind::BadUnlazy,
-    ),
-    (
-        b"board 1\ndomain a tree level\nline 1 a 0 unlazy",
-        0,
-        FaultKind::NotBuilt,
-    ),
-    (
-        b"board 1\ndomain a tree plain\ndomain b tree msi parent a\nline 1 b 0 unlazy",
-        0,
-        FaultKind::NotBuilt,
-    ),
-    (
-        b"board 1\ndomain a tree latch\nline 1 a 0 mask 0",
-        3,
-        FaultKind::BadMask,
-    ),
-    (
-        b"board 1\ndomain a tree latch\nline 1 a 0 mask 4294967294",
-        3,
-        FaultKind::BadMask,
-    ),
-    (
-        b"board 1\ncpus 31\ndomain a tree latch\nline 1 a 0 mask 2147483648",
-        4,
-        FaultKind::BadMask,
-    ),
-    (
-        b"board 1\ncpus 32\ndomain a tree latch\nline 1 a 0 mask 2147483648",
-        0,
-        FaultKind::NotBuilt,
-    ),
-    // the log limit of all lines
-    (
-        b"board 1\nlog 1000000\ndomain a tree latch\nline 1 a 1\nline 2 a 1\nline 3 a 1\nline 4 a 1",
-        0,
-        FaultKind::NotBuilt,
-    ),
-    (
-        b"board 1\nlog 1000000\ndomain a tree latch\nline 1 a 1\nline 2 a 1\nline 3 a 1\nline 4 a 1\nline 5 a 1",
-        0,
-        FaultKind::LogTooLarge,
-    ),
-    (
-        b"board 1\nlog 1000000\ndomain a tree latch\nline 1 a 1\nline 2 a 1\nline 3 a 1\nline 4 a 1\nline 5 a 1\nline 6 b 1",
-        9,
-        FaultKind::NotThere,
-    ),
-    // boards that can't be played yet
-    (b"board 1", 0, FaultKind::NotBuilt),
-    (
-        b"board 1\nspurious 100000 99900\ndomain a linear 4 latch\nline 1 a 3",
-        0,
-        FaultKind::NotBuilt,
-    ),
-    (
-        b"board 1\ndomain a linear 4 latch\nline 1 a 3 mask 1",
-        0,
-        FaultKind::NotBuilt,
-    ),
-    (
-        b"board 1\ndomain a linear 4 latch\nline 1 a 4",
-        0,
-        FaultKind::NotBuilt,
-    ),
-];
+/// Whole texts.
+const TEXTS: &str = "# without a statement, or with another one first
+line 1: no header=
+line 1: no header=||
+line 1: no header= \t\r|# board 1
+line 1: no header=|#\x00
+line 1: no header=boards 1
+line 2: no header=|cpus 0|board 1
+# bytes
+line 1: bad byte=#\x00
+line 1: bad byte=\x00
+line 2: bad byte=|^
+line 2: bad byte=|#^|board 1
+line 1: bad byte=board 1 \x7f
+line 1: bad byte=board 1 # \x1f
+line 2: bad byte=board 1|cpus 0 #\x0b
+line 0: not built yet=board 1 # ~~ |\tlog\r 1\r|
+# one statement in itself
+line 2: unknown word=board 1|domai
+line 2: unknown word=board 1|moment 1
+line 2: unknown word=board 1|line 1 a 0 mask mask 1
+line 2: unknown word=board 1|device 1 1 foo extra
+line 1: wrong count=board
+line 2: wrong count=board 1|domain a linear latch
+line 2: wrong count=board 1|line 1 a 0 mask 1 mask
+line 1: bad number=board 2
+line 2: bad number=board 1|cpus 33
+line 2: bad number=board 1|spurious 1 1
+line 2: bad number=board 1|ask 0
+line 2: bad number=board 1|line 1 a 0 mask unlazy
+line 2: bad name=board 1|domain A tree latch
+line 2: bad name=board 1|domain abcdefghijklmnopq tree latch
+line 0: not built yet=board 1|domain abcdefghijklmnop tree latch
+line 2: bad name=board 1|picks c1 x1
+# the order of sections
+line 3: out of order=board 1|cpus 1|board 1
+line 4: out of order=board 1|domain a tree latch||log 1
+line 3: out of order=board 1|picks c0|driver 2
+line 2: out of order=board 1|ask 1
+line 3: out of order=board 1|driver 2|driver 2
+line 0: not built yet=board 1|log 1|spurious 2 1|cpus 2
+# settings, names and options that stand again
+line 2: twice=board 1|board 1
+line 4: twice=board 1|cpus 2|log 1|cpus 2
+line 3: twice=board 1|spurious 2 1|spurious 2 1
+line 3: twice=board 1|log 1|log 1
+line 3: twice=board 1|domain a tree latch|domain a tree msi parent b
+line 2: twice=board 1|domain a tree msi parent b parent b
+line 2: twice=board 1|line 1 a 0 later later
+line 2: twice=board 1|line 1 a 0 mask 1 mask 0
+# domains and their parents
+line 2: not there=board 1|domain a tree msi parent b|domain b tree latch
+line 2: not there=board 1|domain a tree msi parent a
+line 2: not there=board 1|domain a tree latch parent b
+line 3: bad parent=board 1|domain a tree latch|domain b tree plain parent a
+line 2: bad parent=board 1|domain a tree remap
+line 3: bad parent=board 1|domain a tree level|domain b tree msi parent a
+line 4: bad parent=board 1|domain a tree eoi|domain b tree remap parent a|domain c tree msi parent b
+line 0: not built yet=board 1|domain a tree vector|domain b tree remap parent a|domain c tree msi parent b
+# lines and devices
+line 2: not there=board 1|line 1 a 0
+line 2: not there=board 1|device 1 1 direct
+line 4: out of order=board 1|domain a tree latch|line 2 a 0|line 2 a 1
+line 5: not there=board 1|domain a tree latch|line 2 a 0|line 3 a 0|device 2 4 direct
+line 3: bad unlazy=board 1|domain a tree plain|line 1 a 0 unlazy mask 0
+line 4: bad unlazy=board 1|domain a tree vector|domain b tree remap parent a|line 1 b 0 unlazy
+line 0: not built yet=board 1|domain a tree level|line 1 a 0 unlazy
+line 0: not built yet=board 1|domain a tree plain|domain b tree msi parent a|line 1 b 0 unlazy
+line 3: bad mask=board 1|domain a tree latch|line 1 a 0 mask 0
+line 3: bad mask=board 1|domain a tree latch|line 1 a 0 mask 4294967294
+line 4: bad mask=board 1|cpus 31|domain a tree latch|line 1 a 0 mask 2147483648
+line 0: not built yet=board 1|cpus 32|domain a tree latch|line 1 a 0 mask 2147483648
+# the log limit of all lines
+line 0: not built yet=board 1|log 1000000|domain a tree latch|line 1 a 1|line 2 a 1|line 3 a 1|line 4 a 1
+line 0: log too large=board 1|log 1000000|domain a tree latch|line 1 a 1|line 2 a 1|line 3 a 1|line 4 a 1|line 5 a 1
+line 9: not there=board 1|log 1000000|domain a tree latch|line 1 a 1|line 2 a 1|line 3 a 1|line 4 a 1|line 5 a 1|line 6 b 1
+# boards that can't be played yet
+line 0: not built yet=board 1
+line 0: not built yet=board 1|spurious 100000 99900|domain a linear 4 latch|line 1 a 3
+line 0: not built yet=board 1|domain a linear 4 latch|line 1 a 3 mask 1
+line 0: not built yet=board 1|domain a linear 4 latch|line 1 a 4
+";
 
 /// Two domains, a line, two devices and a driver.
-const HEAD: &[u8] =
-    b"board 1\ndomain a linear 4 latch\ndomain b tree plain\nline 2 a 0\ndevice 3 2 direct\ndevice 5 2 check\ndriver 7\n";
+const HEAD: &str =
+    "board 1|domain a linear 4 latch|domain b tree plain|line 2 a 0|device 3 2 direct|device 5 2 check|driver 7|";
 
-/// What follows the head, and the fault of the whole: the head has seven text lines.
-const AFTER: [(&[u8], u32, FaultKind); 38] = [
-    (b"line 3 a 1", 8, FaultKind::OutOfOrder),
-    (b"device 6 2 direct", 8, FaultKind::OutOfOrder),
-    (b"driver 7", 8, FaultKind::OutOfOrder),
-    (b"driver 6\ndriver", 8, FaultKind::OutOfOrder),
-    (b"picks c0\nfree 4", 9, FaultKind::OutOfOrder),
-    (b"request 3 shared shared", 8, FaultKind::Twice),
-    (b"request 4 noauto oneshot noauto", 8, FaultKind::Twice),
-    (b"request 4", 8, FaultKind::NotThere),
-    (b"free 2", 8, FaultKind::NotThere),
-    (b"ask 65535", 8, FaultKind::NotThere),
-    (b"ask 65536", 8, FaultKind::BadNumber),
-    (b"disable 3", 8, FaultKind::NotThere),
-    (b"disable_nosync 1", 8, FaultKind::NotThere),
-    (b"enable 3", 8, FaultKind::NotThere),
-    (b"sync 3", 8, FaultKind::NotThere),
-    (b"affinity 3 0", 8, FaultKind::NotThere),
-    (b"affinity 2 0\nenable 2\nsync 2", 0, FaultKind::NotBuilt),
-    (b"picks t3", 8, FaultKind::NotThere),
-    (b"picks t4", 8, FaultKind::NotThere),
-    (b"picks t5 c1", 8, FaultKind::NotThere),
-    (b"picks c0 d6", 8, FaultKind::NotThere),
-    (b"picks t9 x1", 8, FaultKind::BadName),
-    (b"picks t5 c0 d7*65534\npicks d8", 9, FaultKind::NotThere),
-    (b"request 3\nrequest 3", 9, FaultKind::BadOwner),
-    (
-        b"free 3\nrequest 3\nask 3\nrequest 3",
-        11,
-        FaultKind::BadOwner,
-    ),
-    (
-        b"request 3\nfree 3\nfree 3\nrequest 3",
-        0,
-        FaultKind::NotBuilt,
-    ),
-    (
-        b"request 3\ndriver 9\nrequest 5\nfree 3",
-        11,
-        FaultKind::BadOwner,
-    ),
-    (b"free 3\ndriver 9\nrequest 3", 10, FaultKind::BadOwner),
-    (
-        b"request 3\nfree 3\ndriver 9\nrequest 3",
-        11,
-        FaultKind::BadOwner,
-    ),
-    (
-        b"request 3\ndriver 9\nask 3\ndisable 2\nrequest 5",
-        0,
-        FaultKind::NotBuilt,
-    ),
-    (b"request 3\nrequest 3 shared shared", 9, FaultKind::Twice),
-    (b"request 3\nrequest 3\nask 4", 9, FaultKind::BadOwner),
-    (b"ask 4\nrequest 3\nrequest 3", 8, FaultKind::NotThere),
-    (b"request 3\nrequest 3 #\x00", 9, FaultKind::BadByte),
-    (b"picks c0*65535 c0", 0, FaultKind::NotBuilt),
-    (b"picks c0*65535 c0*2", 8, FaultKind::TooMany),
-    (
-        b"picks c0*65535\npicks c0\n\npicks d7",
-        11,
-        FaultKind::TooMany,
-    ),
-    (b"picks t4 c0*65535 c0*2", 8, FaultKind::NotThere),
-];
+/// What follows the head, which has seven text lines.
+const AFTER: &str = "line 8: out of order=line 3 a 1
+line 8: out of order=device 6 2 direct
+line 8: out of order=driver 7
+line 8: out of order=driver 6|driver
+line 9: out of order=picks c0|free 4
+line 8: twice=request 3 shared shared
+line 8: twice=request 4 noauto oneshot noauto
+line 8: not there=request 4
+line 8: not there=free 2
+line 8: not there=ask 65535
+line 8: bad number=ask 65536
+line 8: not there=disable 3
+line 8: not there=disable_nosync 1
+line 8: not there=enable 3
+line 8: not there=sync 3
+line 8: not there=affinity 3 0
+line 0: not built yet=affinity 2 0|enable 2|sync 2
+line 8: not there=picks t3
+line 8: not there=picks t4
+line 8: not there=picks t5 c1
+line 8: not there=picks c0 d6
+line 8: bad name=picks t9 x1
+line 9: not there=picks t5 c0 d7*65534|picks d8
+line 9: bad owner=request 3|request 3
+line 11: bad owner=free 3|request 3|ask 3|request 3
+line 0: not built yet=request 3|free 3|free 3|request 3
+line 11: bad owner=request 3|driver 9|request 5|free 3
+line 10: bad owner=free 3|driver 9|request 3
+line 11: bad owner=request 3|free 3|driver 9|request 3
+line 0: not built yet=request 3|driver 9|ask 3|disable 2|request 5
+line 9: twice=request 3|request 3 shared shared
+line 9: bad owner=request 3|request 3|ask 4
+line 8: not there=ask 4|request 3|request 3
+line 9: bad byte=request 3|request 3 #\x00
+line 0: not built yet=picks c0*65535 c0
+line 8: too many=picks c0*65535 c0*2
+line 11: too many=picks c0*65535|picks c0||picks d7
+line 8: not there=picks t4 c0*65535 c0*2
+";
 
 /// Declarations that stand again and again, numbered from 1: before, what is before the number and after it, how many
-/// are the most, and the fault of one more.
-const LIMITS: [(&str, &str, &str, u32); 5] = [
-    ("board 1\n", "domain d", " tree latch\n", 32),
-    ("board 1\ndomain d tree latch\n", "line ", " d 1\n", 64),
+/// are the most, and what is told of one more.
+const LIMITS: [(&str, &str, &str, u32, &str); 5] = [
     (
-        "board 1\ndomain d tree latch\nline 1 d 1\n",
-        "device ",
-        " 1 check\n",
-        256,
+        "board 1|",
+        "domain d",
+        " tree latch|",
+        32,
+        "line 34: too many",
     ),
-    ("board 1\n", "driver ", "\n", 64),
     (
-        "board 1\ndomain d tree latch\nline 1 d 1\ndevice 1 1 null\ndriver 1\n",
+        "board 1|domain d tree latch|",
+        "line ",
+        " d 1|",
+        64,
+        "line 67: too many",
+    ),
+    (
+        "board 1|domain d tree latch|line 1 d 1|",
+        "device ",
+        " 1 check|",
+        256,
+        "line 260: too many",
+    ),
+    ("board 1|", "driver ", "|", 64, "line 66: too many"),
+    (
+        "board 1|domain d tree latch|line 1 d 1|device 1 1 null|driver 1|",
         "ask 1 #",
-        "\n",
+        "|",
         16_384,
+        "line 16390: too many",
     ),
 ];
 
-/// The first fault of the text, where it has one.
-fn fault_of(alloc: Global, text: &[u8]) -> Result<Option<BoardFault>, Fail> {
+/// Boards that can be played: the log limit, the number of calls and of picks.
+const BOARDS: &str = "10000 0 0=board 1|domain a linear 4 latch|line 65535 a 3
+7 0 0=#|\tboard\r1#2||log 7|cpus 1|domain a linear 4 latch|line 65535 a 3\r|
+10000 3 65536=board 1|domain a linear 4 latch|line 65535 a 3|device 1 65535 direct|driver 2|free 1|request 1|free 1|picks d2*65535 c0
+";
+
+/// One of them, with a device that two drivers ask.
+const ASKED: &str =
+    "board 1|log 1000000|domain a linear 4 latch|line 65535 a 3|device 1 65535 direct|driver 2|request 1|ask 1|driver 3|ask 1|picks c0*3 d2|picks d3";
+
+/// The bytes of the head and of a row's text.
+fn bytes_of(alloc: Global, head: &str, text: &str) -> Result<Vec<u8>, Fail> {
+    let mut bytes: Vec<u8> = Vec::new(alloc);
+    for part in [head, text] {
+        for byte in part.bytes() {
+            bytes.push(match byte {
+                b'|' => b'\n',
+                b'^' => 0x80,
+                _ => byte,
+            })?;
+        }
+    }
+    Ok(bytes)
+}
+
+/// What is told of the text: its first fault.
+fn told(alloc: Global, text: &[u8]) -> Result<String, Fail> {
     match read_board(alloc, text) {
-        Ok(_) => Ok(None),
-        Err(BoardRefused::Fault(fault)) => Ok(Some(fault)),
+        Ok(_) => Ok(String::from_str(alloc, "no fault")?),
+        Err(BoardRefused::Fault(fault)) => Ok(format!(in alloc; "{fault}")?),
         Err(refused) => Err(refused.into()),
     }
 }
 
-#[test]
-fn texts_with_faults(rt: HostRuntime) -> Result<(), Fail> {
-    for (i, (text, at, kind)) in TEXTS.iter().enumerate() {
-        let want = BoardFault {
-            at: *at,
-            kind: *kind,
-        };
-        assert!(rt;
-            fault_of(rt.alloc(), text)? == Some(want),
-            "text {i}: {want}"
-        );
-    }
-    for (i, (after, at, kind)) in AFTER.iter().enumerate() {
-        let mut text = Vec::from_slice(rt.alloc(), HEAD)?;
-        text.extend_from_slice(after)?;
-        let want = BoardFault {
-            at: *at,
-            kind: *kind,
-        };
-        assert!(rt;
-            fault_of(rt.alloc(), &text)? == Some(want),
-            "after {i}: {want}"
-        );
+/// Reads the texts of the table after that head.
+fn read_table(rt: &impl Abort, alloc: Global, head: &str, table: &str) -> Result<(), Fail> {
+    for row in table.lines().filter(|row| !row.starts_with('#')) {
+        let (want, text) = row.split_once('=').ok_or("a row without a text")?;
+        let bytes = bytes_of(alloc, head, text)?;
+        assert_eq!(rt; told(alloc, &bytes)?.as_str(), want, "{row}");
     }
     Ok(())
 }
 
 #[test]
+fn texts_with_faults(rt: HostRuntime) -> Result<(), Fail> {
+    read_table(&rt, rt.alloc(), "", TEXTS)?;
+    read_table(&rt, rt.alloc(), HEAD, AFTER)
+}
+
+#[test]
 fn one_too_many(rt: HostRuntime) -> Result<(), Fail> {
-    for (before, word, rest, most) in LIMITS {
-        let mut text = String::from_str(rt.alloc(), before)?;
+    let alloc = rt.alloc();
+    for (before, word, rest, most, more) in LIMITS {
+        let mut text = String::from_str(alloc, before)?;
         for i in 1..=most {
-            text.push_str(&format!(in rt.alloc(); "{word}{i}{rest}")?)?;
+            text.push_str(&format!(in alloc; "{word}{i}{rest}")?)?;
         }
-        let full = fault_of(rt.alloc(), text.as_bytes())?;
-        let not_built = BoardFault {
-            at: 0,
-            kind: FaultKind::NotBuilt,
-        };
-        assert!(rt; full == Some(not_built), "{word}: {most}");
-        let more = most.saturating_add(1);
-        text.push_str(&format!(in rt.alloc(); "{word}{more}{rest}")?)?;
-        match fault_of(rt.alloc(), text.as_bytes())? {
-            Some(fault) => assert!(rt;
-                fault.kind == FaultKind::TooMany && fault.at > most,
-                "{word}: {fault}"
-            ),
-            None => assert!(rt; false, "{word}: taken"),
-        }
+        let full = told(alloc, &bytes_of(alloc, &text, "")?)?;
+        let last = format!(in alloc; "{word}{}{rest}", most.saturating_add(1))?;
+        let over = told(alloc, &bytes_of(alloc, &text, &last)?)?;
+        assert_eq!(rt; full.as_str(), "line 0: not built yet", "{word}");
+        assert_eq!(rt; over.as_str(), more);
     }
     Ok(())
 }
 
 #[test]
 fn long_texts(rt: HostRuntime) -> Result<(), Fail> {
-    let mut text = vec![in rt.alloc(); b'#'; LONGEST_TEXT]?;
-    let no_header = BoardFault {
-        at: 1,
-        kind: FaultKind::NoHeader,
-    };
-    assert!(rt; fault_of(rt.alloc(), &text)? == Some(no_header));
-    text.push(b'#')?;
-    let too_long = BoardFault {
-        at: 0,
-        kind: FaultKind::TooLong,
-    };
-    assert!(rt; fault_of(rt.alloc(), &text)? == Some(too_long));
-    let ends = vec![in rt.alloc(); b'\n'; LONGEST_TEXT]?;
-    assert!(rt; fault_of(rt.alloc(), &ends)? == Some(no_header));
-    let mut last = Vec::from_slice(rt.alloc(), b"board 1")?;
-    for _ in 0..1_000_000 {
-        last.push(b'\n')?;
+    let alloc = rt.alloc();
+    for byte in [b'#', b'\n'] {
+        let mut text = vec![in alloc; byte; LONGEST_TEXT]?;
+        assert_eq!(rt; told(alloc, &text)?.as_str(), "line 1: no header");
+        text.push(byte)?;
+        assert_eq!(rt; told(alloc, &text)?.as_str(), "line 0: too long");
     }
+    let mut last = Vec::from_slice(alloc, b"board 1")?;
+    last.resize(1_000_007, b'\n')?;
     last.extend_from_slice(b"board 1")?;
-    let twice = BoardFault {
-        at: 1_000_001,
-        kind: FaultKind::Twice,
-    };
-    assert!(rt; fault_of(rt.alloc(), &last)? == Some(twice));
+    assert_eq!(rt; told(alloc, &last)?.as_str(), "line 1000001: twice");
     Ok(())
 }
-
-/// A board that can be played, and the number of its calls and of its picks.
-const BOARDS: [(&[u8], u32, usize, usize); 4] = [
-    (
-        b"board 1\ndomain a linear 4 latch\nline 65535 a 3",
-        10_000,
-        0,
-        0,
-    ),
-    (
-        b"#\n\tboard\r1#2\n\nlog 7\ncpus 1\ndomain a linear 4 latch\nline 65535 a 3\r\n",
-        7,
-        0,
-        0,
-    ),
-    (
-        b"board 1\nlog 1000000\ndomain a linear 4 latch\nline 65535 a 3\ndevice 1 65535 direct\ndriver 2\nrequest 1\nask 1\ndriver 3\nask 1\npicks c0*3 d2\npicks d3",
-        1_000_000,
-        3,
-        5,
-    ),
-    (
-        b"board 1\ndomain a linear 4 latch\nline 65535 a 3\ndevice 1 65535 direct\ndriver 2\nfree 1\nrequest 1\nfree 1\npicks d2*65535 c0",
-        10_000,
-        3,
-        65_536,
-    ),
-];
 
 /// Whether the board is the one of the table's texts: one processor, the default window and limit, and the line.
 fn is_on_latch(board: &Board) -> bool {
@@ -439,15 +271,20 @@ fn is_on_latch(board: &Board) -> bool {
 
 #[test]
 fn boards(rt: HostRuntime) -> Result<(), Fail> {
-    for (i, (text, log, calls, picks)) in BOARDS.iter().enumerate() {
-        let board = read_board(rt.alloc(), text)?;
-        assert!(rt; is_on_latch(&board) && board.log() == *log, "board {i}");
-        assert!(rt;
-            board.calls_len() == *calls && board.picks_len() == *picks,
-            "board {i}"
-        );
+    let alloc = rt.alloc();
+    for row in BOARDS.lines() {
+        let (want, text) = row.split_once('=').ok_or("a row without a text")?;
+        let board = read_board(alloc, &bytes_of(alloc, "", text)?)?;
+        let (log, calls, picks) = (board.log(), board.calls_len(), board.picks_len());
+        assert!(rt; is_on_latch(&board), "{row}");
+        assert_eq!(rt; format!(in alloc; "{log} {calls} {picks}")?.as_str(), want);
     }
-    let board = read_board(rt.alloc(), BOARDS[2].0)?;
+    Ok(())
+}
+
+#[test]
+fn asked_board(rt: HostRuntime) -> Result<(), Fail> {
+    let board = read_board(rt.alloc(), &bytes_of(rt.alloc(), "", ASKED)?)?;
     let device = DeviceDef {
         dev: DevNo(1),
         line: LineNo(65_535),
@@ -458,10 +295,11 @@ fn boards(rt: HostRuntime) -> Result<(), Fail> {
         line: LineNo(65_535),
         call: Call::Ask { dev: DevNo(1) },
     };
-    assert!(rt; board.device(0) == Some(device) && board.call(2) == Some(last));
     let cpu = Actor::Cpu(CpuNo(0));
     let driver = Actor::Driver(DriverNo(2));
     let picks = [cpu, cpu, cpu, driver, Actor::Driver(DriverNo(3))];
-    assert!(rt; board.picks() == picks.as_slice());
+    assert!(rt; is_on_latch(&board) && board.log() == 1_000_000);
+    assert!(rt; board.calls_len() == 3 && board.call(2) == Some(last));
+    assert!(rt; board.device(0) == Some(device) && board.picks() == picks.as_slice());
     Ok(())
 }
