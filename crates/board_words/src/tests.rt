@@ -8,97 +8,100 @@ use irq_base::{CpuNo, DevNo, DriverNo, Flags, Kind, LevelKind, LineNo, MapKind};
 use std::alloc::Global;
 use std::test::Fail;
 
-const FAULTS: [(&str, FaultKind); 80] = [
-    ("board", FaultKind::WrongCount),
-    ("board 0", FaultKind::BadNumber),
-    ("board 2", FaultKind::BadNumber),
-    ("board 01", FaultKind::BadNumber),
-    ("board 2 2", FaultKind::WrongCount),
-    ("Board 1", FaultKind::UnknownWord),
-    ("board\u{b}1", FaultKind::UnknownWord),
-    ("cpus 0", FaultKind::BadNumber),
-    ("cpus 33", FaultKind::BadNumber),
-    ("cpus +1", FaultKind::BadNumber),
-    ("spurious 0 0", FaultKind::BadNumber),
-    ("spurious 1000001 0", FaultKind::BadNumber),
-    ("spurious 1 1", FaultKind::BadNumber),
-    ("spurious 1000000 1000000", FaultKind::BadNumber),
-    ("spurious x", FaultKind::WrongCount),
-    ("spurious x 0", FaultKind::BadNumber),
-    ("spurious 10 9 8", FaultKind::WrongCount),
-    ("log 0", FaultKind::BadNumber),
-    ("log 1000001", FaultKind::BadNumber),
-    ("domain", FaultKind::WrongCount),
-    ("domain a linear latch", FaultKind::WrongCount),
-    ("domain a linear 0 latch", FaultKind::BadNumber),
-    ("domain a linear 1025 latch", FaultKind::BadNumber),
-    ("domain a linear 4 lpi", FaultKind::UnknownWord),
-    ("domain 1 flat", FaultKind::UnknownWord),
-    ("domain A tree latch", FaultKind::BadName),
-    ("domain a-b tree latch", FaultKind::BadName),
-    ("domain abcdefghijklmnopq tree latch", FaultKind::BadName),
-    ("domain a tree", FaultKind::WrongCount),
-    ("domain a tree latch of", FaultKind::UnknownWord),
-    ("domain a tree latch parent", FaultKind::WrongCount),
-    ("domain a tree latch parent 1", FaultKind::BadName),
-    ("domain a tree latch parent b c", FaultKind::UnknownWord),
-    ("domain a tree latch parent b parent", FaultKind::WrongCount),
-    ("line 0 a 0", FaultKind::BadNumber),
-    ("line 65536 a 0", FaultKind::BadNumber),
-    ("line 1 a", FaultKind::WrongCount),
-    ("line 1 a 4294967296", FaultKind::BadNumber),
-    ("line 1 a 00", FaultKind::BadNumber),
-    ("line 1 a 00000000001", FaultKind::BadNumber),
-    ("line 1 a 0 early", FaultKind::UnknownWord),
-    ("line 1 a 0 mask", FaultKind::WrongCount),
-    ("line 1 a 0 mask 1 mask", FaultKind::WrongCount),
-    ("line 1 a 0 mask unlazy", FaultKind::BadNumber),
-    ("line 1 a 0 mask mask 1", FaultKind::UnknownWord),
-    ("line 1 a 0 mask 4294967296", FaultKind::BadNumber),
-    ("line 0 A 0", FaultKind::BadNumber),
-    ("device 1 1", FaultKind::WrongCount),
-    ("device 1 1 foo extra", FaultKind::UnknownWord),
-    ("device 1 1 check extra", FaultKind::WrongCount),
-    ("device 0 1 check", FaultKind::BadNumber),
-    ("device 1 65536 check", FaultKind::BadNumber),
-    ("driver", FaultKind::WrongCount),
-    ("driver 0", FaultKind::BadNumber),
-    ("driver 65536", FaultKind::BadNumber),
-    ("request", FaultKind::WrongCount),
-    ("request 0 late", FaultKind::UnknownWord),
-    ("request 1 shared late", FaultKind::UnknownWord),
-    ("free 0", FaultKind::BadNumber),
-    ("ask 65536", FaultKind::BadNumber),
-    ("disable 1 2", FaultKind::WrongCount),
-    ("sync", FaultKind::WrongCount),
-    ("affinity 1", FaultKind::WrongCount),
-    ("affinity 1 4294967296", FaultKind::BadNumber),
-    ("picks", FaultKind::WrongCount),
-    ("picks t1 x1", FaultKind::BadName),
-    ("picks t", FaultKind::BadName),
-    ("picks t0", FaultKind::BadName),
-    ("picks t65536", FaultKind::BadName),
-    ("picks t01", FaultKind::BadName),
-    ("picks c32", FaultKind::BadName),
-    ("picks d0", FaultKind::BadName),
-    ("picks t1*", FaultKind::BadName),
-    ("picks t1*0", FaultKind::BadName),
-    ("picks t1*65536", FaultKind::BadName),
-    ("picks t1*2*3", FaultKind::BadName),
-    ("picks *2", FaultKind::BadName),
-    ("moment", FaultKind::UnknownWord),
-    ("moment 1 take", FaultKind::UnknownWord),
-    ("disable-nosync 1", FaultKind::UnknownWord),
-];
+/// What is wrong with each statement.
+const FAULTS: &str = "\
+wrong count=board
+bad number=board 0
+bad number=board 2
+bad number=board 01
+wrong count=board 2 2
+unknown word=Board 1
+unknown word=board\u{b}1
+bad number=cpus 0
+bad number=cpus 33
+bad number=cpus +1
+bad number=spurious 0 0
+bad number=spurious 1000001 0
+bad number=spurious 1 1
+bad number=spurious 1000000 1000000
+wrong count=spurious x
+bad number=spurious x 0
+wrong count=spurious 10 9 8
+bad number=log 0
+bad number=log 1000001
+wrong count=domain
+wrong count=domain a linear latch
+bad number=domain a linear 0 latch
+bad number=domain a linear 1025 latch
+unknown word=domain a linear 4 lpi
+unknown word=domain 1 flat
+bad name=domain A tree latch
+bad name=domain a-b tree latch
+bad name=domain abcdefghijklmnopq tree latch
+wrong count=domain a tree
+unknown word=domain a tree latch of
+wrong count=domain a tree latch parent
+bad name=domain a tree latch parent 1
+unknown word=domain a tree latch parent b c
+wrong count=domain a tree latch parent b parent
+bad number=line 0 a 0
+bad number=line 65536 a 0
+wrong count=line 1 a
+bad number=line 1 a 4294967296
+bad number=line 1 a 00
+bad number=line 1 a 00000000001
+unknown word=line 1 a 0 early
+wrong count=line 1 a 0 mask
+wrong count=line 1 a 0 mask 1 mask
+bad number=line 1 a 0 mask unlazy
+unknown word=line 1 a 0 mask mask 1
+bad number=line 1 a 0 mask 4294967296
+bad number=line 0 A 0
+wrong count=device 1 1
+unknown word=device 1 1 foo extra
+wrong count=device 1 1 check extra
+bad number=device 0 1 check
+bad number=device 1 65536 check
+wrong count=driver
+bad number=driver 0
+bad number=driver 65536
+wrong count=request
+unknown word=request 0 late
+unknown word=request 1 shared late
+bad number=free 0
+bad number=ask 65536
+wrong count=disable 1 2
+wrong count=sync
+wrong count=affinity 1
+bad number=affinity 1 4294967296
+wrong count=picks
+bad name=picks t1 x1
+bad name=picks t
+bad name=picks t0
+bad name=picks t65536
+bad name=picks t01
+bad name=picks c32
+bad name=picks d0
+bad name=picks t1*
+bad name=picks t1*0
+bad name=picks t1*65536
+bad name=picks t1*2*3
+bad name=picks *2
+unknown word=moment
+unknown word=moment 1 take
+unknown word=disable-nosync 1
+";
 
 #[test]
-fn wrong_statements(rt: HostRuntime) {
-    for (line, kind) in FAULTS {
+fn wrong_statements(rt: HostRuntime) -> Result<(), Fail> {
+    for row in FAULTS.lines() {
+        let (want, line) = row.split_once('=').ok_or("a row without a statement")?;
         match read(rt.alloc(), line) {
-            Err(StatementRefused::Fault(found)) => assert!(rt; found == kind, "{line}: {found}"),
-            _ => assert!(rt; false, "{line}: taken"),
+            Err(StatementRefused::Fault(found)) => assert!(rt; found.text() == want, "{row}"),
+            _ => assert!(rt; false, "{row}"),
         }
     }
+    Ok(())
 }
 
 /// What a statement of few parts says.
