@@ -1,0 +1,30 @@
+//! The controllers that a line's signal can come from, each the plain chip of fixed properties.
+//!
+//! | | presents | stores while masked | recalls | sends again | in service |
+//! |---|---|---|---|---|---|
+//! | `LatchChip` | edges | yes | yes | yes | no |
+//! | `PlainChip` | edges | no | no | no | no |
+//! | `LevelChip` | a level | no | no | no | no |
+//! | `EoiChip` | a level | no | no | no | yes |
+//! | `LpiChip` | edges | yes | yes | yes | no |
+//! | `VectorChip`, which can't mask | edges | no | no | yes | no |
+//!
+//! No call takes memory or refuses.
+#![tactic(auto)]
+
+pub mod eoi;
+pub mod latch;
+pub mod level;
+pub mod lpi;
+pub mod plain;
+pub mod vector;
+
+pub use eoi::EoiChip;
+pub use latch::LatchChip;
+pub use level::LevelChip;
+pub use lpi::LpiChip;
+pub use plain::PlainChip;
+pub use vector::VectorChip;
+
+#[cfg(test)]
+mod tests;

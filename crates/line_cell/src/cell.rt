@@ -1,0 +1,136 @@
+//! The plain chip.
+ghost use Rattle.std.specs.Prelude.{◌≡◌, ℕ, ◌<◌, Bool, true, false};
+ghost use Rattle.irq_base.specs.Cell.{fresh_cell};
+
+use irq_base::{Chip, CpuNo, Trigger};
+
+/// The plain chip (ours): a controller's input that presents one line's signal to the processors, as the local
+/// interrupt controllers of `struct irq_chip` do (`include/linux/irq.h`). It has five properties, which never change,
+/// and five marks.
+#[derive(Drop)]
+pub struct Cell {
+    trigger: Trigger,
+    keeps: bool,
+    recalls: bool,
+    retriggers: bool,
+    serves: bool,
+    masked: bool,
+    stored: bool,
+    sent: bool,
+    high: bool,
+    in_service: bool,
+    active: bool,
+    target: CpuNo,
+}
+
+impl Cell {
+    /// A chip to which nothing has been done: its mask is closed, it isn't active, and it is aimed at processor 0.
+    ///
+    /// `trigger`: whether it presents edges or a level; `keeps`: an edge that comes while it is masked is stored;
+    /// `recalls`: masking takes back into store what was sent; `retriggers`: it can be made to send an edge again;
+    /// `serves`: a level that was accepted isn't presented again before its end of interrupt.
+    pub fn new(trigger: Trigger, keeps: bool, recalls: bool, retriggers: bool, serves: bool) -> Cell
+        ensures cell { ⟦<Cell as Chip>⟧.cell result ≡ fresh_cell trigger keeps recalls retriggers serves }
+        ensures active { ⟦<Cell as Chip>⟧.active result ≡ false }
+        ensures aimed { ⟦<Cell as Chip>⟧.aimed result ≡ 0 }
+    {
+        Cell {
+            trigger,
+            keeps,
+            recalls,
+            retriggers,
+            serves,
+            masked: true,
+            stored: false,
+            sent: false,
+            high: false,
+            in_service: false,
+            active: false,
+            target: CpuNo(0),
+        }
+    }
+}
+
+impl Chip for Cell {
+    ghost cell = { λ c. record { trigger = c.trigger; keeps = c.keeps; recalls = c.recalls; retriggers = c.retriggers; serves = c.serves; masked = c.masked; stored = c.stored; sent = c.sent; high = c.high; in_service = c.in_service } };
+
+    ghost active = { λ c. c.active };
+
+    ghost aimed = { λ c. c.target.0 };
+
+    fn edge(&mut self) {
+        if self.masked {
+            self.stored = self.stored || self.keeps;
+        } else {
+            self.sent = true;
+        }
+    }
+
+    fn set_high(&mut self, high: bool) {
+        self.high = high;
+    }
+
+    fn mask(&mut self) {
+        self.masked = true;
+        if self.trigger == Trigger::Edge && self.recalls && self.sent {
+            self.stored = true;
+            self.sent = false;
+        }
+    }
+
+    fn unmask(&mut self) {
+        self.masked = false;
+        if self.trigger == Trigger::Edge {
+            self.sent = self.sent || self.stored;
+            self.stored = false;
+        }
+    }
+
+    fn accept(&mut self) {
+        if self.trigger == Trigger::Level {
+            self.in_service = self.in_service || self.serves;
+        }
+    }
+
+    fn ack(&mut self) {
+        if self.trigger == Trigger::Edge {
+            self.sent = false;
+        }
+    }
+
+    fn eoi(&mut self) {
+        if self.trigger == Trigger::Level {
+            self.in_service = false;
+        }
+    }
+
+    fn retrigger(&mut self) -> bool {
+        if self.trigger == Trigger::Level || !self.retriggers {
+            return false;
+        }
+        self.sent = true;
+        true
+    }
+
+    fn activate(&mut self) {
+        self.active = true;
+    }
+
+    fn deactivate(&mut self) {
+        self.active = false;
+    }
+
+    fn aim(&mut self, cpu: CpuNo) {
+        self.target = cpu;
+    }
+
+    fn signal(&self) -> bool {
+        match self.trigger {
+            Trigger::Edge => self.sent,
+            Trigger::Level => self.high && !self.masked && !self.in_service,
+        }
+    }
+}
+
+#[cfg(test)]
+mod tests;
