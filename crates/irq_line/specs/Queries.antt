@@ -12,6 +12,7 @@ use Rattle.irq_model.specs.Next.{next}
 use Rattle.irq_model.specs.Reason.{is_being_freed}
 use Rattle.irq_model.specs.Rounds.{flow, has_flow}
 use Rattle.irq_model.specs.Threads.{is_woken, is_running}
+use Rattle.irq_laws.specs.Blocks.{Block, Nothing, Flow, Threads, Mutex, Device}
 use Rattle.irq_line.specs.Seen.{LineSeen}
 use Rattle.irq_line.specs.declared.queries.Blocks.{Blocks}
 
@@ -54,3 +55,11 @@ blocks_at def past = record { flow = has_flow def past; threads = are_threads_at
 
 abbrev pub blocks_of : LineSeen → Blocks
 blocks_of line = blocks_at line.def (reverse line.entries)
+
+-- whether a call that waits for this can't go on; where it waits for a device, that is the one that is being freed
+abbrev pub is_blocked : Block → Blocks → Bool
+is_blocked Nothing blocks = false
+is_blocked Flow blocks = blocks.flow
+is_blocked Threads blocks = blocks.threads
+is_blocked Mutex blocks = blocks.mutex
+is_blocked (Device d) blocks = blocks.freed

@@ -3,11 +3,18 @@
 //! them: one that looks everything up in its history, or one that keeps marks.
 #![tactic(auto)]
 
-ghost use Rattle.std.specs.Prelude.{◌≡◌, Option, Result, Err};
+ghost use Rattle.std.specs.Prelude.{◌≡◌, ◌↔◌, ℕ, IsTrue, Option, Some, None, Result, Err, reverse};
+ghost use Rattle.irq_base.specs.declared.calls.Call.{Call};
 ghost use Rattle.irq_base.specs.declared.entries.Actor.{Actor};
+ghost use Rattle.irq_base.specs.declared.entries.Actor.TheVariants as actors;
+ghost use Rattle.irq_base.specs.declared.numbers.DriverNo.{DriverNo};
+ghost use Rattle.irq_model.specs.Due.{due_call};
+ghost use Rattle.irq_model.specs.Next.{next};
+ghost use Rattle.irq_laws.specs.Blocks.{block_of};
 ghost use Rattle.callbacks.specs.Seen.{SaidSeen};
 ghost use Rattle.irq_line.specs.Answers.{Answers};
-ghost use Rattle.irq_line.specs.Seen.{LineSeen};
+ghost use Rattle.irq_line.specs.Queries.{blocks_of, is_blocked};
+ghost use Rattle.irq_line.specs.Seen.{LineSeen, IsSound};
 ghost use Rattle.irq_line.specs.declared.answers.StepRefused.{StepRefused};
 ghost use Rattle.irq_line.specs.declared.answers.StepRefused.TheVariants as refusals;
 ghost use Rattle.irq_line.specs.declared.answers.Stepped.{Stepped};
@@ -28,4 +35,16 @@ pub fn step_has_one_answer()
     ensures law { (old : LineSeen) (who : Actor) (said : Option SaidSeen) (a b : Result Stepped StepRefused) (new other : LineSeen)
         → Answers old who said a new → Answers old who said b other
         → (a ≡ Err refusals.NoMemory → ⊥) → (b ≡ Err refusals.NoMemory → ⊥) → a ≡ b }
+{}
+
+/// A driver whose call isn't complete has no entry due exactly where what its call waits for stands, as `blocks` tells
+/// it; so after each step the four facts say which drivers can go on, and nobody asks them one by one. A driver whose
+/// calls are all complete never has one due.
+#[tactic(auto, using(crate::proofs::Waits::call_waits, crate::proofs::Waits::complete_rests))]
+pub fn calls_wait_for_blocks()
+    ensures law { (line : LineSeen) (r : DriverNo) (c : Call) (n : ℕ) → IsSound line
+        → due_call line.def r (reverse line.entries) ≡ Some (c, n)
+        → (next line.def line.entries (actors.Driver r) ≡ None) ↔ IsTrue (is_blocked (block_of c n) (blocks_of line)) }
+    ensures complete { (line : LineSeen) (r : DriverNo) → due_call line.def r (reverse line.entries) ≡ None
+        → next line.def line.entries (actors.Driver r) ≡ None }
 {}
