@@ -2,7 +2,7 @@
 -- gives the array back.
 use Rattle.std.specs.Prelude.{◌≡◌, ℕ, ◌+◌, ◌-◌, ◌<◌, ◌≤◌, List, ◌++◌, length, take, drop, slice_set}
 use Rattle.std.proofs.Math.ListN.{replicate}
-use Rattle.std.proofs.Common.{refl, sym, ap, ◌∙◌, arith}
+use Rattle.std.proofs.Common.{sym, ap, ◌∙◌, arith}
 use Rattle.std.proofs.lemmas.List.{take-append-drop, length-take-le, drop-set-lt, drop-drop, drop-replicate, length-set}
 use Rattle.irq_base.specs.declared.domains.Path.TheInside.{Inside}
 

@@ -13,6 +13,15 @@ pub struct Flags {
     pub noauto: bool,
 }
 
+impl Flags {
+    /// No flag is set.
+    pub const NONE: Flags = Flags {
+        shared: false,
+        oneshot: false,
+        noauto: false,
+    };
+}
+
 /// A call of a driver's script, on the one line that it is about.
 #[derive(Clone, Copy, PartialEq, Eq)]
 pub enum Call {

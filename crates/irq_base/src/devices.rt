@@ -1,4 +1,7 @@
 //! Devices: what raises interrupts, and how its handlers answer.
+ghost use Rattle.std.specs.Prelude.{◌≡◌};
+ghost use Rattle.irq_base.specs.Handlers.{has_thread};
+
 use crate::lists::ItemList;
 use crate::numbers::{DevNo, LineNo};
 
@@ -34,6 +37,18 @@ pub enum Kind {
     Null,
     /// The handler never serves and never recognises its device.
     Stuck,
+}
+
+impl Kind {
+    /// Whether a device of this kind has a thread (`thread_fn` of `struct irqaction`).
+    pub fn has_thread(self) -> bool
+        ensures { result ≡ has_thread self }
+    {
+        match self {
+            Kind::Check | Kind::Null => true,
+            Kind::Direct | Kind::Stuck => false,
+        }
+    }
 }
 
 /// A device, the line it raises, and its kind.

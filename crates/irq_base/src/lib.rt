@@ -7,6 +7,7 @@
 #![tactic(auto)]
 
 pub mod calls;
+pub mod chip;
 pub mod devices;
 pub mod domains;
 pub mod entries;
@@ -18,6 +19,7 @@ pub mod numbers;
 pub mod reporting;
 
 pub use calls::{Call, CallList, Flags};
+pub use chip::Chip;
 pub use devices::{Answer, DeviceDef, DeviceList, Kind, Part};
 pub use domains::{DomainDef, LevelKind, MapKind, Path};
 pub use entries::{
@@ -29,7 +31,7 @@ pub use lines::{FlowKind, LineDef, Trigger};
 pub use lists::ItemList;
 pub use memory::NoMemory;
 pub use numbers::{CpuNo, DevNo, DriverNo, LineNo};
-pub use reporting::{LineReport, Reports};
+pub use reporting::{LineReport, Logs, Reports};
 
 #[cfg(test)]
 mod tests;

@@ -1,5 +1,8 @@
 //! The histories that a run of the program hands out.
-ghost use Rattle.std.specs.Prelude.{◌≡◌, ℕ, ◌+◌, ◌-◌, ◌<◌, ◌≤◌, ◌==◌, [], ◌∷◌, ◌++◌, length, IfOk, OnOk, OnErr, IsOk, slice_get};
+ghost use Rattle.std.specs.Prelude.{◌≡◌, ℕ, ◌+◌, ◌-◌, ◌<◌, ◌≤◌, ◌==◌, [], ◌∷◌, ◌++◌, length, IfOk, OnOk, OnErr, IsOk, slice_get, slice_set, Some};
+ghost use Rattle.std.specs.Borrow.{Lends, sem};
+ghost use Rattle.irq_base.specs.contracts.reporting.Logs.{the_row as logs_row};
+ghost use Rattle.irq_base.specs.contracts.histories.History.{the_row as history_row};
 ghost use Rattle.std.specs.Option.{option_copied};
 
 use crate::histories::History;
@@ -85,5 +88,70 @@ impl Reports {
         ensures { option_copied result ≡ slice_get self.now.reports i }
     {
         self.reports.get(i)
+    }
+}
+
+/// One history a line of a board. Contracts see the list of them.
+#[derive(Drop)]
+pub struct Logs {
+    histories: Vec<History>,
+}
+
+impl Model for Logs {
+    ghost use Rattle.std.specs.Prelude.{List};
+    ghost use Rattle.irq_base.specs.Seen.{HistorySeen};
+
+    ghost Value = { List HistorySeen };
+
+    ghost view = { λ l. l.histories.items };
+}
+
+impl Logs {
+    /// The empty list. It takes no memory yet.
+    pub fn new(alloc: Global) -> Logs
+        ensures { result ≡ [] }
+    {
+        Logs {
+            histories: Vec::new(alloc),
+        }
+    }
+
+    /// Adds the history at the end. Refused, the list is as before.
+    pub fn push(&mut self, history: History) -> Result<(), NoMemory>
+        ensures ok { OnOk result (self.new ≡ self.old ++ history ∷ []) }
+        ensures err { OnErr result (self.new ≡ self.old) }
+    {
+        self.histories.push(history)?;
+        Ok(())
+    }
+
+    /// The number of histories.
+    pub fn len(&self) -> usize
+        ensures { result ≡ length self.now }
+    {
+        self.histories.len()
+    }
+
+    /// Whether there are none.
+    pub fn is_empty(&self) -> bool
+        ensures { result ≡ (length self.now == 0) }
+    {
+        self.histories.is_empty()
+    }
+
+    /// The history at the place, counted from 0; none from the length on.
+    pub fn get(&self, i: usize) -> Option<&History>
+        ensures { option_copied result ≡ slice_get self.now i }
+    {
+        self.histories.get(i)
+    }
+
+    /// The history at a place below the length, to be written. All others stay.
+    pub fn history_mut(&mut self, i: usize) -> &mut History
+        requires { i < length self.old }
+        ensures* writes_back { sem 𝓛 (Lends logs_row history_row self.entry result (slice_set self.old i)) }
+        ensures value { slice_get self.old i ≡ Some result.now }
+    {
+        &mut self.histories[i]
     }
 }

@@ -1,7 +1,7 @@
 //! Each public function once, and that none of them wants for memory where there is plenty.
 use crate::{
-    Actor, Call, CallList, CpuNo, DevNo, DeviceDef, DeviceList, DriverNo, Entry, FlowKind, History,
-    Kind, LineDef, LineNo, LineReport, NoMemory, Path, Reports, Trigger,
+    Actor, Call, CallList, CpuNo, DevNo, DeviceDef, DeviceList, DriverNo, Entry, Flags, FlowKind,
+    History, Kind, LineDef, LineNo, LineReport, Logs, NoMemory, Path, Reports, Trigger,
 };
 use std::test::Fail;
 
@@ -16,7 +16,8 @@ const DEVICE: DeviceDef = DeviceDef {
 #[test]
 fn lists_and_definitions(rt: HostRuntime) -> Result<(), Fail> {
     let mut devices = DeviceList::new(rt.alloc());
-    assert!(rt; devices.is_empty());
+    assert!(rt; devices.is_empty() && DEVICE.kind.has_thread());
+    assert!(rt; !Flags::NONE.shared && !Flags::NONE.oneshot && !Flags::NONE.noauto);
     devices.push(DEVICE)?;
     let mut calls = CallList::new(rt.alloc());
     calls.push((DriverNo(3), Call::Sync))?;
@@ -74,6 +75,25 @@ fn histories_and_reports(rt: HostRuntime) -> Result<(), Fail> {
     assert!(rt; reports.len() == 1);
     assert!(rt; reports.get(0).map(|r| r.line) == Some(LINE));
     assert!(rt; reports.get(1).map(|r| r.line) == None);
+    Ok(())
+}
+
+#[test]
+fn logs_are_written_line_by_line(rt: HostRuntime) -> Result<(), Fail> {
+    let mut logs = Logs::new(rt.alloc());
+    assert!(rt; logs.is_empty());
+    for _ in 0..2 {
+        let history = History::with_room(rt.alloc(), 1)?;
+        logs.push(history)?;
+    }
+    if logs.len() == 2 {
+        let history = logs.history_mut(1);
+        history.reserve(1)?;
+        history.push(Entry::Done { dev: DevNo(7) });
+    }
+    assert!(rt; logs.get(0).map(|h| h.len()) == Some(0));
+    assert!(rt; logs.get(1).map(|h| h.len()) == Some(1));
+    assert!(rt; logs.get(2).map(|h| h.len()) == None);
     Ok(())
 }
 
