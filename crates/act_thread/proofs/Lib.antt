@@ -1,0 +1,4 @@
+pub mod Marking
+pub mod Starting
+pub mod Finding
+pub mod Changing

@@ -1,0 +1,53 @@
+-- The threads of a line: what is read off all rows, and what an entry makes of them.
+use Rattle.std.specs.Prelude.{ℕ, Bool, true, false, Option, Some, None, List}
+use Rattle.irq_base.specs.declared.devices.Answer.TheVariants as answers
+use Rattle.irq_base.specs.declared.entries.Entry.{Entry}
+use Rattle.irq_base.specs.declared.entries.Entry.TheVariants as entries
+use Rattle.irq_base.specs.declared.numbers.DevNo.{DevNo}
+use Rattle.device_table.specs.Rows.{at, change}
+use Rattle.device_table.specs.Sums.{weigh_all, how_many}
+use Rattle.act_thread.specs.Steps.{is_idle_row, may_begin, may_return, may_end, finished_by, active_row, woken_row, begun_row, returned_row, finished_row, done_row}
+use Rattle.act_thread.specs.declared.rows.Finished.{Finished}
+use Rattle.act_thread.specs.declared.rows.Finished.TheVariants as finishes
+use Rattle.act_thread.specs.declared.rows.ThreadRow.{ThreadRow}
+
+-- how many threads are to run, and how many are in a run
+abbrev pub active_in : List (DevNo × ThreadRow) → ℕ
+active_in t = weigh_all active_row t
+
+-- how many bits stand
+abbrev pub held_in : List (DevNo × ThreadRow) → ℕ
+held_in t = how_many (λ r. r.held) t
+
+-- the test of a device's row; what it is of a device without a row
+abbrev pub row_passes : (ThreadRow → Bool) → Bool → Option ThreadRow → Bool
+row_passes p absent None = absent
+row_passes p absent (Some r) = p r
+
+abbrev pub is_idle_at : List (DevNo × ThreadRow) → DevNo → Bool
+is_idle_at t d = row_passes is_idle_row true (at t d)
+
+abbrev pub begins_at : List (DevNo × ThreadRow) → DevNo → Bool
+begins_at t d = row_passes may_begin false (at t d)
+
+abbrev pub returns_at : List (DevNo × ThreadRow) → DevNo → Bool
+returns_at t d = row_passes may_return false (at t d)
+
+abbrev pub ends_at : Bool → List (DevNo × ThreadRow) → DevNo → Bool
+ends_at oneshot t d = row_passes (may_end oneshot) false (at t d)
+
+abbrev pub finish_of : Option ThreadRow → Finished
+finish_of None = finishes.NotDue
+finish_of (Some r) = finished_by r
+
+abbrev pub finishes_at : List (DevNo × ThreadRow) → DevNo → Finished
+finishes_at t d = finish_of (at t d)
+
+-- what an entry makes of the threads of a line, one-shot or not
+abbrev pub threads_after : Bool → Entry → List (DevNo × ThreadRow) → List (DevNo × ThreadRow)
+threads_after oneshot (entries.Return cpu dev answers.Wake served) t = change (woken_row oneshot) t dev
+threads_after oneshot (entries.ThreadBegin dev) t = change begun_row t dev
+threads_after oneshot (entries.ThreadReturn dev served) t = change returned_row t dev
+threads_after oneshot (entries.Finish dev kept unmask) t = change finished_row t dev
+threads_after oneshot (entries.Done dev) t = change (done_row oneshot) t dev
+threads_after _ _ t = t

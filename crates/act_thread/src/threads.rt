@@ -1,0 +1,188 @@
+//! The threads of a line.
+ghost use Rattle.std.specs.Prelude.{◌≡◌, ℕ, ◌<◌, ◌≤◌, if◌then◌else◌, length, Some, IfOk};
+ghost use Rattle.irq_model.specs.Valid.{HasDistinctDevices};
+ghost use Rattle.device_table.specs.Rows.{at, put, change, all_with, lowest_where};
+ghost use Rattle.device_table.specs.Ranks.{IsRanking};
+ghost use Rattle.device_table.specs.RankSets.{holds};
+ghost use Rattle.act_thread.specs.Steps.{woken_row, begun_row, returned_row, finished_row, done_row, could_step, idle_row};
+ghost use Rattle.act_thread.specs.Threads.{active_in, held_in, is_idle_at, begins_at, returns_at, finishes_at, ends_at};
+ghost use Rattle.act_thread.specs.Marked.{is_rank};
+
+use crate::rows::{Finished, Stage, ThreadRow};
+use device_table::{DeviceTable, RankSet, Ranks};
+use irq_base::{DevNo, LineDef, NoMemory};
+use std::alloc::Global;
+use std::marker::Model;
+
+/// The threads of a line's devices. Contracts see each device's number with its row.
+#[derive(Drop)]
+pub struct Threads {
+    rows: DeviceTable<ThreadRow>,
+    active: u32,
+    held: u32,
+    ranks: Ranks,
+    ready: RankSet,
+    returned: RankSet,
+}
+
+impl Model for Threads {
+    ghost use Rattle.std.specs.Prelude.{List};
+    ghost use Rattle.irq_base.specs.declared.numbers.DevNo.{DevNo};
+    ghost use Rattle.act_thread.specs.declared.rows.ThreadRow.{ThreadRow};
+    ghost use Rattle.act_thread.specs.Marked.{IsKept};
+
+    ghost Value = { List (DevNo × ThreadRow) };
+
+    ghost view = { λ t. t.rows };
+
+    ghost invariant = { λ t. IsKept t.rows t.active t.held t.ranks t.ready t.returned };
+}
+
+impl Threads {
+    /// The threads of the line's devices, all at rest. Refused only for want of memory.
+    pub fn new(alloc: Global, def: &LineDef) -> Result<Threads, NoMemory>
+        requires distinct { HasDistinctDevices def.now.devices }
+        requires few { length def.now.devices ≤ 256 }
+        ensures { IfOk result (λ t. t ≡ all_with idle_row def.now.devices) }
+    {
+        let idle = ThreadRow {
+            woken: false,
+            stage: Stage::Idle,
+            held: false,
+        };
+        let rows = DeviceTable::new(alloc, &def.devices, idle)?;
+        let ranks = Ranks::new(alloc, &def.devices)?;
+        Ok(Threads {
+            rows,
+            active: 0,
+            held: 0,
+            ranks,
+            ready: RankSet::new(),
+            returned: RankSet::new(),
+        })
+    }
+
+    /// The row of the device, if it is one of the line's.
+    pub fn get(&self, dev: DevNo) -> Option<ThreadRow>
+        ensures { result ≡ at self.now dev }
+    {
+        self.rows.get(dev)
+    }
+
+    /// Whether the device's thread is neither to run nor in a run; a device that the line lacks is so.
+    pub fn idle(&self, dev: DevNo) -> bool
+        ensures { result ≡ is_idle_at self.now dev }
+    {
+        match self.rows.get(dev) {
+            Some(row) => row.is_idle(),
+            None => true,
+        }
+    }
+
+    /// How many threads are to run, plus how many are in a run (`threads_active`).
+    pub fn active(&self) -> u32
+        ensures { result ≡ active_in self.now }
+    {
+        self.active
+    }
+
+    /// How many bits stand (`threads_oneshot`).
+    pub fn held(&self) -> u32
+        ensures { result ≡ held_in self.now }
+    {
+        self.held
+    }
+
+    /// The lowest device by number whose thread could step. `goes_on`: a run whose handler has returned may go on,
+    /// since the line isn't one-shot or no flow is in progress.
+    pub fn lowest(&self, goes_on: bool) -> Option<DevNo>
+        ensures { result ≡ lowest_where (could_step goes_on) self.now }
+    {
+        let rank = self.ready.first(&self.returned, goes_on)?;
+        self.ranks.device(rank)
+    }
+
+    /// The handler of the device asks for its thread (`__irq_wake_thread`). `oneshot`: the device was linked with a
+    /// thread bit.
+    pub fn wake(&mut self, dev: DevNo, oneshot: bool)
+        ensures { self.new ≡ change (woken_row oneshot) self.old dev }
+    {
+        let Some(row) = self.rows.get(dev) else {
+            return;
+        };
+        self.replace(dev, row, row.woken(oneshot));
+    }
+
+    /// The thread begins a run (`irq_thread_fn`). Answers whether it could.
+    pub fn begin(&mut self, dev: DevNo) -> bool
+        ensures could { result ≡ begins_at self.old dev }
+        ensures rows { self.new ≡ change begun_row self.old dev }
+    {
+        let Some(row) = self.rows.get(dev) else {
+            return false;
+        };
+        self.replace(dev, row, row.begun());
+        row.may_begin()
+    }
+
+    /// The thread's handler returns. Answers whether it could.
+    pub fn returned(&mut self, dev: DevNo) -> bool
+        ensures could { result ≡ returns_at self.old dev }
+        ensures rows { self.new ≡ change returned_row self.old dev }
+    {
+        let Some(row) = self.rows.get(dev) else {
+            return false;
+        };
+        self.replace(dev, row, row.returned());
+        row.may_return()
+    }
+
+    /// The thread gives its bit up, unless it is to run again (`irq_finalize_oneshot`). Whether the line is one-shot
+    /// and a flow is in progress is the caller's to look at.
+    pub fn finish(&mut self, dev: DevNo) -> Finished
+        ensures could { result ≡ finishes_at self.old dev }
+        ensures rows { self.new ≡ change finished_row self.old dev }
+    {
+        let Some(row) = self.rows.get(dev) else {
+            return Finished::NotDue;
+        };
+        self.replace(dev, row, row.finished());
+        row.finish()
+    }
+
+    /// The run is over, and the thread waits (`irq_wait_for_interrupt`). `oneshot`: the line is one-shot. Answers
+    /// whether it could end.
+    pub fn done(&mut self, dev: DevNo, oneshot: bool) -> bool
+        ensures could { result ≡ ends_at oneshot self.old dev }
+        ensures rows { self.new ≡ change (done_row oneshot) self.old dev }
+    {
+        let Some(row) = self.rows.get(dev) else {
+            return false;
+        };
+        self.replace(dev, row, row.done(oneshot));
+        row.may_end(oneshot)
+    }
+
+    /// Puts another row in the place of the device's, and keeps the counts and the bits by rank.
+    fn replace(&mut self, dev: DevNo, old: ThreadRow, new: ThreadRow)
+        requires { at self.old dev ≡ Some old }
+        ensures { self.new ≡ put self.old dev new }
+    {
+        self.active = self.active + new.active_part() - old.active_part();
+        self.held = self.held + new.held_part() - old.held_part();
+        mark(&mut self.ready, &self.ranks, dev, new.is_ready());
+        mark(&mut self.returned, &self.ranks, dev, new.is_returned());
+        self.rows.set(dev, new);
+    }
+}
+
+/// Puts the device's rank into the set, or takes it out.
+fn mark(set: &mut RankSet, ranks: &Ranks, dev: DevNo, to: bool)
+    requires { IsRanking ranks.now }
+    ensures { (r : ℕ) → r < 256 → holds set.new r ≡ (if is_rank r (at ranks.now dev) then to else holds set.old r) }
+{
+    let Some(rank) = ranks.rank(dev) else {
+        return;
+    };
+    set.put(rank, to);
+}

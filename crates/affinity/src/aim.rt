@@ -1,0 +1,90 @@
+//! The mask in force, and the one that waits.
+ghost use Rattle.std.specs.Prelude.{◌≡◌, ◌≤◌, ◌<◌, IsSome, Some, None, is_some};
+ghost use Rattle.irq_model.specs.Signal.{lowest_in};
+ghost use Rattle.affinity.specs.Seen.{set_answer, after_set, after_move};
+
+use irq_base::{AffinityAnswer, CpuNo, Errno};
+use std::marker::Model;
+
+/// The processors that may take a line's interrupts: bit c of a mask stands for processor c. The type keeps that each
+/// mask has a processor of the machine.
+#[derive(Drop)]
+pub struct Aim {
+    cpus: u32,
+    later: bool,
+    mask: u32,
+    waiting: Option<u32>,
+}
+
+impl Model for Aim {
+    ghost use Rattle.affinity.specs.Seen.{AimSeen};
+
+    ghost Value = { AimSeen };
+
+    ghost use Rattle.affinity.specs.Kept.{seen, IsAimed};
+
+    ghost view = { seen };
+
+    ghost invariant = { IsAimed };
+}
+
+impl Aim {
+    /// The aim of a line on a machine of so many processors, at most 32. `later`: a change waits for the next
+    /// interrupt (`irqd_can_move_in_process_context` is false).
+    pub fn new(cpus: u32, mask: u32, later: bool) -> Aim
+        requires few { cpus ≤ 32 }
+        requires some { IsSome (lowest_in cpus mask) }
+        ensures { result ≡ record { cpus = cpus; later = later; mask = mask; waiting = None } }
+    {
+        Aim {
+            cpus,
+            later,
+            mask,
+            waiting: None,
+        }
+    }
+
+    /// Changes the mask, now or at the next interrupt. Refused with EINVAL, and nothing changes, where it has no
+    /// processor of the machine.
+    pub fn set(&mut self, mask: u32) -> AffinityAnswer
+        ensures answer { result ≡ set_answer self.old mask }
+        ensures aim { self.new ≡ after_set result mask self.old }
+    {
+        if !has_processor(self.cpus, mask) {
+            return AffinityAnswer::Refused(Errno::Inval);
+        }
+        if self.later {
+            self.waiting = Some(mask);
+            return AffinityAnswer::Later;
+        }
+        self.mask = mask;
+        self.waiting = None;
+        AffinityAnswer::Now
+    }
+
+    /// An interrupt is taken: the mask that waits is put in force (`irq_move_masked_irq`).
+    pub fn move_now(&mut self)
+        ensures { self.new ≡ after_move self.old }
+    {
+        if let Some(mask) = self.waiting {
+            self.mask = mask;
+        }
+        self.waiting = None;
+    }
+
+    /// The processor that takes the line's interrupts: the lowest of the mask in force that the machine has.
+    pub fn target(&self) -> CpuNo
+        ensures { Some result ≡ lowest_in self.now.cpus self.now.mask }
+    {
+        let mask = self.mask;
+        CpuNo(mask.trailing_zeros())
+    }
+}
+
+/// Whether the mask has a processor of a machine of so many, at most 32.
+fn has_processor(cpus: u32, mask: u32) -> bool
+    requires { cpus ≤ 32 }
+    ensures { result ≡ is_some (lowest_in cpus mask) }
+{
+    mask.trailing_zeros() < cpus
+}

@@ -1,0 +1,140 @@
+//! The counts of all devices.
+ghost use Rattle.std.specs.Prelude.{◌≡◌, ◌≤◌, Some, length, nat_lt, IfOk};
+ghost use Rattle.irq_model.specs.Valid.{HasDistinctDevices};
+ghost use Rattle.device_table.specs.Rows.{at, put, change, all_with};
+ghost use Rattle.device_table.specs.Sums.{one_if, how_many};
+ghost use Rattle.ask_counts.specs.Rows.{is_waiting, no_asks, asked, called, begun, served, HasRoom};
+
+use crate::rows::AskRow;
+use device_table::DeviceTable;
+use irq_base::{DevNo, LineDef, NoMemory};
+use std::alloc::Global;
+use std::marker::Model;
+
+/// The counts of the asks of a line's devices. Contracts see each device's number with its row.
+#[derive(Drop)]
+pub struct Asks {
+    rows: DeviceTable<AskRow>,
+    waiting: u32,
+}
+
+impl Model for Asks {
+    ghost use Rattle.std.specs.Prelude.{List};
+    ghost use Rattle.irq_base.specs.declared.numbers.DevNo.{DevNo};
+    ghost use Rattle.ask_counts.specs.declared.rows.AskRow.{AskRow};
+    ghost use Rattle.ask_counts.specs.Rows.{IsCounted};
+
+    ghost Value = { List (DevNo × AskRow) };
+
+    ghost view = { λ a. a.rows };
+
+    ghost invariant = { λ a. IsCounted a.rows a.waiting };
+}
+
+impl Asks {
+    /// The devices of the line, of which none has asked. Refused only for want of memory.
+    pub fn new(alloc: Global, def: &LineDef) -> Result<Asks, NoMemory>
+        requires distinct { HasDistinctDevices def.now.devices }
+        requires few { length def.now.devices ≤ 256 }
+        ensures { IfOk result (λ a. a ≡ all_with no_asks def.now.devices) }
+    {
+        let none = AskRow {
+            unserved: 0,
+            fresh: 0,
+            met_by_handler: 0,
+            met_by_thread: 0,
+        };
+        let rows = DeviceTable::new(alloc, &def.devices, none)?;
+        Ok(Asks { rows, waiting: 0 })
+    }
+
+    /// The row of the device, if it is one of the line's.
+    pub fn get(&self, dev: DevNo) -> Option<AskRow>
+        ensures { result ≡ at self.now dev }
+    {
+        self.rows.get(dev)
+    }
+
+    /// Whether some device has an unserved ask: the level of a level line.
+    pub fn is_high(&self) -> bool
+        ensures { result ≡ nat_lt 0 (how_many is_waiting self.now) }
+    {
+        self.waiting > 0
+    }
+
+    /// The device asks for service.
+    pub fn asked(&mut self, dev: DevNo)
+        requires { HasRoom (at self.old dev) }
+        ensures { self.new ≡ change asked self.old dev }
+    {
+        let Some(row) = self.rows.get(dev) else {
+            return;
+        };
+        let new = AskRow {
+            unserved: row.unserved + 1,
+            fresh: row.fresh + 1,
+            ..row
+        };
+        self.replace(dev, row, new);
+    }
+
+    /// The device's handler is called. `serves`: this is its serving run.
+    pub fn called(&mut self, dev: DevNo, serves: bool)
+        ensures { self.new ≡ change (called serves) self.old dev }
+    {
+        let Some(row) = self.rows.get(dev) else {
+            return;
+        };
+        let new = AskRow {
+            met_by_handler: row.unserved,
+            fresh: if serves { 0 } else { row.fresh },
+            ..row
+        };
+        self.replace(dev, row, new);
+    }
+
+    /// The device's thread begins a run. `serves`: this is its serving run.
+    pub fn begun(&mut self, dev: DevNo, serves: bool)
+        ensures { self.new ≡ change (begun serves) self.old dev }
+    {
+        let Some(row) = self.rows.get(dev) else {
+            return;
+        };
+        let new = AskRow {
+            met_by_thread: row.unserved,
+            fresh: if serves { 0 } else { row.fresh },
+            ..row
+        };
+        self.replace(dev, row, new);
+    }
+
+    /// A run of the device returns. `serves`: it was its serving run, so that the asks since it began are left.
+    pub fn served(&mut self, dev: DevNo, serves: bool)
+        ensures { self.new ≡ change (served serves) self.old dev }
+    {
+        let Some(row) = self.rows.get(dev) else {
+            return;
+        };
+        let new = AskRow {
+            unserved: if serves { row.fresh } else { row.unserved },
+            ..row
+        };
+        self.replace(dev, row, new);
+    }
+
+    /// Puts another row in the place of the device's, and keeps the count.
+    fn replace(&mut self, dev: DevNo, old: AskRow, new: AskRow)
+        requires { at self.old dev ≡ Some old }
+        ensures { self.new ≡ put self.old dev new }
+    {
+        self.waiting = self.waiting + waiting_part(new) - waiting_part(old);
+        self.rows.set(dev, new);
+    }
+}
+
+/// One where an ask of the row is unserved, else nought.
+fn waiting_part(row: AskRow) -> u32
+    ensures { result ≡ one_if (is_waiting row) }
+{
+    u32::from(row.unserved > 0)
+}

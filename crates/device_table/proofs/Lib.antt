@@ -1,0 +1,6 @@
+pub mod Tables
+pub mod Weights
+pub mod Steps
+pub mod Ranking
+pub mod Words
+pub mod Lowest

@@ -1,0 +1,4 @@
+pub mod Rows
+pub mod Sums
+pub mod Ranks
+pub mod RankSets

@@ -1,0 +1,50 @@
+-- A table of the devices of a line: their numbers with their values, in the order of the definition.
+use Rattle.std.specs.Prelude.{◌≡◌, Bool, if◌then◌else◌, nat_lt, Option, Some, None, is_some, List, [], ◌∷◌}
+use Rattle.std.specs.Map.{lookup, set_value}
+use Rattle.irq_base.specs.declared.devices.DeviceDef.{DeviceDef}
+use Rattle.irq_base.specs.declared.numbers.DevNo.{DevNo}
+use Rattle.irq_model.specs.Kinds.{same_dev}
+
+-- the device of the lower number
+abbrev pub lower : DevNo → Option DevNo → DevNo
+lower d None = d
+lower d (Some e) = if nat_lt e.0 d.0 then e else d
+
+module _ {R : Type 0} where
+  -- the value of d
+  abbrev pub at : List (DevNo × R) → DevNo → Option R
+  at t d = lookup (same_dev d) t
+
+  abbrev pub has : List (DevNo × R) → DevNo → Bool
+  has t d = is_some (at t d)
+
+  -- the table, with this value of d
+  abbrev pub put : List (DevNo × R) → DevNo → R → List (DevNo × R)
+  put t d r = set_value (same_dev d) t r
+
+  -- the table of these devices whose values are f's
+  abbrev pub table_by : (DevNo → R) → List DeviceDef → List (DevNo × R)
+  table_by f [] = []
+  table_by f (x ∷ xs) = (x.dev, f x.dev) ∷ table_by f xs
+
+  -- every device of the line has this value
+  abbrev pub all_with : R → List DeviceDef → List (DevNo × R)
+  all_with r xs = table_by (λ d. r) xs
+
+  -- the table, with h of d's value in its place; as it was where d has none
+  abbrev pub changed : (R → R) → List (DevNo × R) → DevNo → Option R → List (DevNo × R)
+  changed h t d None = t
+  changed h t d (Some r) = put t d (h r)
+
+  abbrev pub change : (R → R) → List (DevNo × R) → DevNo → List (DevNo × R)
+  change h t d = changed h t d (at t d)
+
+  -- of the devices whose values pass, the one of the lowest number
+  abbrev pub lowest_where : (R → Bool) → List (DevNo × R) → Option DevNo
+  lowest_where p [] = None
+  lowest_where p (e ∷ es) = if p e.1 then Some (lower e.0 (lowest_where p es)) else lowest_where p es
+
+  -- no two rows have one number
+  abbrev pub HasOwnKeys : List (DevNo × R) → Type 0
+  HasOwnKeys [] = Unit {0}
+  HasOwnKeys (e ∷ es) = (at es e.0 ≡ None) × HasOwnKeys es

@@ -1,0 +1,78 @@
+//! The table.
+ghost use Rattle.std.specs.Prelude.{◌≡◌, IfOk, OnOk, false, true, None, [], ◌∷◌, ◌++◌};
+ghost use Rattle.std.specs.List.{list_any};
+ghost use Rattle.irq_model.specs.Lines.{is_device};
+ghost use Rattle.irq_model.specs.Valid.{HasDistinctDevices};
+ghost use Rattle.device_table.specs.Rows.{at, put, all_with};
+
+use indexmap::IndexMap;
+use irq_base::{DevNo, DeviceList, NoMemory};
+use std::alloc::Global;
+use std::marker::Model;
+
+/// A value for each device of a line. Contracts see the list of the devices' numbers with their values, in the order
+/// of the line's definition.
+#[derive(Drop)]
+pub struct DeviceTable<R: Copy> {
+    rows: IndexMap<DevNo, R>,
+}
+
+impl<R: Copy> Model for DeviceTable<R> {
+    ghost use Rattle.std.specs.Prelude.{List};
+    ghost use Rattle.irq_base.specs.declared.numbers.DevNo.{DevNo};
+
+    ghost Value = { List (DevNo × R) };
+
+    ghost view = { λ t. t.rows.entries };
+}
+
+impl<R: Copy> DeviceTable<R> {
+    /// The table of these devices, each with the same value. Refused only for want of memory.
+    pub fn new(alloc: Global, devices: &DeviceList, row: R) -> Result<DeviceTable<R>, NoMemory>
+        requires { HasDistinctDevices devices.now }
+        ensures { IfOk result (λ t. t ≡ all_with row devices.now) }
+    {
+        let mut table = DeviceTable::empty(alloc);
+        for i in 0..devices.len() {
+            if let Some(device) = devices.get(i) {
+                table.add(device.dev, row)?;
+            }
+        }
+        Ok(table)
+    }
+
+    /// The table of no devices. It takes no memory yet.
+    pub(crate) fn empty(alloc: Global) -> DeviceTable<R>
+        ensures { result ≡ [] }
+    {
+        DeviceTable {
+            rows: IndexMap::new(alloc),
+        }
+    }
+
+    /// Adds a device that the table lacks, at the end.
+    pub(crate) fn add(&mut self, dev: DevNo, row: R) -> Result<(), NoMemory>
+        requires { at self.old dev ≡ None }
+        ensures { OnOk result (self.new ≡ self.old ++ (dev, row) ∷ []) }
+    {
+        self.rows.insert(dev, row)?;
+        Ok(())
+    }
+
+    /// The value of the device, if it is one of the line's.
+    pub fn get(&self, dev: DevNo) -> Option<R>
+        ensures { result ≡ at self.now dev }
+    {
+        self.rows.get(&dev).copied()
+    }
+
+    /// Sets the value of a device of the line; nothing changes where it isn't one.
+    pub fn set(&mut self, dev: DevNo, row: R)
+        ensures { self.new ≡ put self.old dev row }
+    {
+        let Some(place) = self.rows.get_mut(&dev) else {
+            return;
+        };
+        *place = row;
+    }
+}

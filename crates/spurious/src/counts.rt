@@ -1,0 +1,91 @@
+//! The counts of a line.
+ghost use Rattle.std.specs.Prelude.{◌≡◌, ℕ, ◌+◌, ◌<◌, ◌^◌, ◌-◌};
+ghost use Rattle.irq_model.specs.Spurious.{no_counts};
+ghost use Rattle.spurious.specs.Seen.{noted_at, after_note, after_thread, after_reset};
+
+use crate::tally::Tally;
+use irq_base::Note;
+use std::marker::Model;
+
+/// What a line keeps for the rule. Contracts see the window, the limit and the counts of the rule; the type keeps that
+/// the counts stay within the window.
+#[derive(Drop)]
+pub struct Counts {
+    window: u32,
+    limit: u32,
+    tally: Tally,
+}
+
+impl Model for Counts {
+    ghost use Rattle.spurious.specs.Seen.{CountsSeen};
+
+    ghost Value = { CountsSeen };
+
+    ghost use Rattle.spurious.specs.Tallies.{rule_counts, IsWithin};
+
+    ghost view = { λ c. record { window = c.window; limit = c.limit; counts = rule_counts c.tally } };
+
+    ghost invariant = { λ c. IsWithin c.window c.tally };
+}
+
+impl Counts {
+    /// The counts of a line of which nothing has come yet. `window`: how many rounds are counted before the unhandled
+    /// ones among them are judged; `limit`: how many of these may be unhandled (100,000 and 99,900 in
+    /// `note_interrupt`).
+    pub fn new(window: u32, limit: u32) -> Counts
+        requires { 0 < window }
+        ensures { result ≡ record { window = window; limit = limit; counts = no_counts } }
+    {
+        Counts {
+            window,
+            limit,
+            tally: Tally::new(),
+        }
+    }
+
+    /// What the note of a round would be that ends at the moment `now`, in milliseconds. `wake`: some handler of the
+    /// round woke its thread; `handled`: some handler of it handled the interrupt.
+    pub fn judge(&self, now: u32, wake: bool, handled: bool) -> Note
+        ensures { result ≡ (noted_at now wake handled self.now).note }
+    {
+        self.tally
+            .noted(self.window, self.limit, now, wake, handled)
+            .note
+    }
+
+    /// Notes a round that ends at the moment `now` (`note_interrupt`). Where the note is Killed the line is to be
+    /// disabled.
+    pub fn note(&mut self, now: u32, wake: bool, handled: bool) -> Note
+        ensures note { result ≡ (noted_at now wake handled self.old).note }
+        ensures counts { self.new ≡ after_note now wake handled self.old }
+    {
+        let noted = self
+            .tally
+            .noted(self.window, self.limit, now, wake, handled);
+        self.tally = noted.tally;
+        noted.note
+    }
+
+    /// How many runs of threads have served.
+    pub fn threads_handled(&self) -> u32
+        ensures { result ≡ self.now.counts.threads_handled }
+    {
+        self.tally.threads_handled
+    }
+
+    /// A thread has served (`irq_thread`, `kernel/irq/manage.c`).
+    pub fn thread_handled(&mut self)
+        requires { self.old.counts.threads_handled < 2 ^ 32 - 1 }
+        ensures { self.new ≡ after_thread self.old }
+    {
+        self.tally.threads_handled += 1;
+    }
+
+    /// An action is linked: the window begins anew (`__setup_irq`, `kernel/irq/manage.c`).
+    pub fn reset(&mut self)
+        ensures { self.new ≡ after_reset self.old }
+    {
+        self.tally.irq_count = 0;
+        self.tally.irqs_unhandled = 0;
+    }
+}
