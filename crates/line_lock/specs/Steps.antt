@@ -1,0 +1,75 @@
+-- What each step on a word tells the pass that makes it.
+use Rattle.std.specs.Prelude.{◌≡◌, ◌≢◌, ℕ, ◌≤◌, true, false, Option, Some, IfSome, List, [], ◌∷◌, ◌++◌, length}
+use Rattle.atomic_table.specs.Table.{Me}
+use Rattle.irq_base.specs.Who.{actor_of}
+use Rattle.irq_base.specs.declared.entries.Actor.{Actor}
+use Rattle.irq_base.specs.declared.entries.Entry.{Entry}
+use Rattle.irq_base.specs.declared.lines.LineDef.{LineDef}
+use Rattle.line_lock.specs.Placed.{placed_of}
+use Rattle.line_lock.specs.Knows.{BeginsWith, looked, Meets, IsKnown}
+use Rattle.line_lock.specs.declared.view.View.{View}
+
+-- the pass has the turn, and holds a value with this history
+abbrev pub holding : View → List Entry → View
+holding v held = record v { turn = true; held = held }
+
+-- the pass has looked at the history of what it holds, which is this one now
+abbrev pub counted : View → List Entry → View
+counted v history = record v { knows = looked v.def.line v.knows history; held = history }
+
+abbrev pub idle : View → View
+idle v = record v { turn = false; held = [] }
+
+module _ {T : Type 0} (def_of : T → LineDef) (entries_of : T → List Entry) where
+  -- the value fits what the pass knows
+  pub record Suits (v : View) (value : T) : Type 0 where
+    pub def : def_of value ≡ v.def
+    pub begins : BeginsWith (entries_of value) v.knows.seen
+    pub mine : v.knows.mine ≡ placed_of v.def.line v.knows.actor (entries_of value)
+
+  -- the turn was free, and the pass has it now, with the value
+  pub record Took (before after : Me (Option T) View) : Type 0 where
+    pub value : T
+    pub suits : Suits before.0 value
+    pub then : after ≡ (holding before.0 (entries_of value), (0, Some value) ∷ [])
+
+  -- asked for the turn: the pass has it, or all is as before
+  pub data Takes (before : Me (Option T) View) (found : ℕ) (after : Me (Option T) View) : Type 0 where
+    got : found ≡ 0 → Took before after → Takes before found after
+    busy : found ≢ 0 → after ≡ before → Takes before found after
+
+  -- counted one entry more: the pass has seen the history of the value that it carries
+  pub record Raises (before after : Me (Option T) View) : Type 0 where
+    pub value : T
+    pub carried : before.1 ≡ (0, Some value) ∷ []
+    pub then : after ≡ (counted before.0 (entries_of value), before.1)
+
+  -- counted none: the pass has seen the history that it holds
+  abbrev pub Looks : Me (Option T) View → Me (Option T) View → Type 0
+  Looks before after = after ≡ (counted before.0 before.0.held, before.1)
+
+  -- gave the turn back, with the value
+  abbrev pub Gives : Me (Option T) View → Me (Option T) View → Type 0
+  Gives before after = after ≡ (idle before.0, [])
+
+  -- looked, and learned what came of a meeting
+  pub record Learns (before after : Me (Option T) View) : Type 0 where
+    pub then : after ≡ before
+    pub last : IfSome before.0.last (λ p. Meets before.0.def.line p.0 p.1 before.0.knows)
+    pub known : IsKnown before.0.def.line before.0.knows
+
+  -- what is carried is what was held and one entry of the actor, and few enough
+  pub record Added (who : Actor) (me : Me (Option T) View) : Type 0 where
+    pub value : T
+    pub entry : Entry
+    pub carried : me.1 ≡ (0, Some value) ∷ []
+    pub more : entries_of value ≡ me.0.held ++ entry ∷ []
+    pub by : actor_of me.0.def.line entry ≡ who
+    pub few : length (entries_of value) ≤ 100000000
+
+  -- what is carried has the history that was held, and the definition
+  pub record Ready (me : Me (Option T) View) : Type 0 where
+    pub value : T
+    pub carried : me.1 ≡ (0, Some value) ∷ []
+    pub def : def_of value ≡ me.0.def
+    pub same : entries_of value ≡ me.0.held
