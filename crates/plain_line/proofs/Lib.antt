@@ -2,3 +2,4 @@ pub mod Takers
 pub mod Lowest
 pub mod Queries
 pub mod Steps
+pub mod Rows

@@ -9,3 +9,6 @@ mod running;
 
 pub use line::PlainLine;
 pub use making::MakesPlainLine;
+
+#[cfg(test)]
+mod tests;
