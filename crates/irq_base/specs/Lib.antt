@@ -4,3 +4,5 @@ pub mod ReportsSeen
 pub mod PathLevels
 pub mod Handlers
 pub mod Cell
+pub mod Codes
+pub mod Packed

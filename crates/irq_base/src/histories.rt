@@ -1,25 +1,34 @@
 //! The list of a line's entries, with room that is taken beforehand.
-ghost use Rattle.std.specs.Prelude.{◌≡◌, ℕ, ◌+◌, ◌-◌, ◌<◌, ◌≤◌, ◌==◌, [], ◌∷◌, ◌++◌, length, IfOk, OnOk, OnErr, slice_get};
+ghost use Rattle.std.specs.Prelude.{◌≡◌, ℕ, ◌+◌, ◌-◌, ◌<◌, ◌≤◌, ◌==◌, [], ◌∷◌, ◌++◌, length, IfOk, OnOk, OnErr, slice_get, true};
+ghost use Rattle.irq_base.specs.Packed.{is_wide, place_of};
 
 use crate::entries::Entry;
 use crate::memory::NoMemory;
+use crate::packed::Packed;
 use std::alloc::Global;
 use std::marker::Model;
 
 /// What the holds of a line's lock left behind. Contracts see its entries, the oldest first, and `spare`, how
 /// many more fit without memory.
+///
+/// An entry takes eight bytes, but for those with a number that no board has, which stand in a list of their
+/// own: a processor above 31, a driver or a device above 65,535.
 #[derive(Drop)]
 pub struct History {
-    entries: Vec<Entry>,
+    words: Vec<Packed>,
+    wide: Vec<Entry>,
 }
 
 impl Model for History {
-    ghost use Rattle.std.specs.Prelude.{◌-◌, vec_len, vec_capacity};
+    ghost use Rattle.std.specs.Prelude.{◌-◌, min, map, length, All, vec_len, vec_capacity};
     ghost use Rattle.irq_base.specs.Seen.{HistorySeen};
+    ghost use Rattle.irq_base.specs.Packed.{unpack, IsPlaced};
 
     ghost Value = { HistorySeen };
 
-    ghost view = { λ h. record { entries = h.entries.items; spare = vec_capacity h.entries - vec_len h.entries } };
+    ghost view = { λ h. record { entries = map (unpack h.wide.items) h.words.items; spare = min (vec_capacity h.words - vec_len h.words) (vec_capacity h.wide - vec_len h.wide) } };
+
+    ghost invariant = { λ h. All (IsPlaced (length h.wide.items)) h.words.items };
 }
 
 impl History {
@@ -28,8 +37,9 @@ impl History {
         ensures empty { IfOk result (λ h. h.entries ≡ []) }
         ensures room { IfOk result (λ h. n ≤ h.spare) }
     {
-        let entries = Vec::with_capacity(alloc, n)?;
-        Ok(History { entries })
+        let words = Vec::with_capacity(alloc, n)?;
+        let wide = Vec::with_capacity(alloc, n)?;
+        Ok(History { words, wide })
     }
 
     /// Makes room for `n` more entries. Refused, all is as before.
@@ -38,7 +48,16 @@ impl History {
         ensures same { self.new.entries ≡ self.old.entries }
         ensures refused { OnErr result (self.new ≡ self.old) }
     {
-        self.entries.reserve(n)?;
+        // The roomier one first: where the other is refused, the smaller room is as it was.
+        let words_room = self.words.capacity() - self.words.len();
+        let wide_room = self.wide.capacity() - self.wide.len();
+        if words_room <= wide_room {
+            self.wide.reserve(n)?;
+            self.words.reserve(n)?;
+        } else {
+            self.words.reserve(n)?;
+            self.wide.reserve(n)?;
+        }
         Ok(())
     }
 
@@ -48,34 +67,52 @@ impl History {
         ensures entries { self.new.entries ≡ self.old.entries ++ e ∷ [] }
         ensures spare { self.old.spare ≤ self.new.spare + 1 }
     {
-        self.entries.push_reserved(e);
+        match Packed::pack(e) {
+            Some(word) => self.words.push_reserved(word),
+            None => {
+                let word = next_wide(&self.wide);
+                self.wide.push_reserved(e);
+                self.words.push_reserved(word);
+            }
+        }
     }
 
     /// The number of entries.
     pub fn len(&self) -> usize
         ensures { result ≡ length self.now.entries }
     {
-        self.entries.len()
+        self.words.len()
     }
 
     /// Whether there are no entries.
     pub fn is_empty(&self) -> bool
         ensures { result ≡ (length self.now.entries == 0) }
     {
-        self.entries.is_empty()
+        self.words.is_empty()
     }
 
     /// The entry at the place, counted from 0; none from the length on.
     pub fn get(&self, i: usize) -> Option<Entry>
         ensures { result ≡ slice_get self.now.entries i }
     {
-        self.entries.get(i).copied()
+        let word = *self.words.get(i)?;
+        Some(word.unpack(&self.wide))
     }
 
     /// How many more entries fit without memory.
     pub fn spare(&self) -> usize
         ensures { result ≡ self.now.spare }
     {
-        self.entries.capacity() - self.entries.len()
+        let words_room = self.words.capacity() - self.words.len();
+        let wide_room = self.wide.capacity() - self.wide.len();
+        words_room.min(wide_room)
     }
+}
+
+/// The word of the next wide entry. Its place fits: an entry takes twenty bytes, and a list at most 2^63 - 1.
+fn next_wide(wide: &[Entry]) -> Packed
+    ensures wide { is_wide result ≡ true }
+    ensures place { place_of result ≡ length wide.now }
+{
+    Packed::of_place(wide.len() as u64)
 }

@@ -8,6 +8,7 @@
 
 pub mod calls;
 pub mod chip;
+mod codes;
 pub mod devices;
 pub mod domains;
 pub mod entries;
@@ -16,6 +17,8 @@ pub mod lines;
 pub mod lists;
 pub mod memory;
 pub mod numbers;
+mod packed;
+mod parts;
 pub mod reporting;
 
 pub use calls::{Call, CallList, Flags};

@@ -1,0 +1,96 @@
+//! An entry in one word.
+ghost use Rattle.std.specs.Prelude.{◌≡◌, ℕ, ◌<◌, ◌^◌, Bool, true, false, is_some, IfSome, List, get_or};
+ghost use Rattle.irq_base.specs.Packed.{parts_of, is_wide, place_of, unpack, is_narrow, nothing};
+
+use crate::entries::Entry;
+use crate::numbers::DevNo;
+use crate::parts::{Parts, is_narrow};
+
+/// One entry, or the place of one. From its low end the word has a tag of 5 bits, a code of 8, a first number of
+/// 16 and a second of 32. With the tag 31 all else is the place in the list of wide entries.
+#[derive(Clone, Copy)]
+pub struct Packed(u64);
+
+// How many numbers each part has, from the low end.
+const TAGS: u64 = 32;
+
+const CODES: u64 = 256;
+
+const FIRSTS: u64 = 65_536;
+
+const SECONDS: u64 = 4_294_967_296;
+
+/// The tag of a word that has a place.
+const WIDE: u64 = 31;
+
+impl Packed {
+    /// The word of these parts.
+    pub fn of_parts(parts: Parts) -> Packed
+        requires tag { parts.tag < 31 }
+        requires code { parts.code < 256 }
+        requires first { parts.first < 65536 }
+        ensures narrow { is_wide result ≡ false }
+        ensures parts { parts_of result ≡ parts }
+    {
+        let first = u64::from(parts.first) + FIRSTS * u64::from(parts.second);
+        let code = u64::from(parts.code) + CODES * first;
+        Packed(u64::from(parts.tag) + TAGS * code)
+    }
+
+    /// The word of a place in the list of wide entries.
+    pub fn of_place(place: u64) -> Packed
+        requires { place < 2 ^ 59 }
+        ensures wide { is_wide result ≡ true }
+        ensures place { place_of result ≡ place }
+    {
+        Packed(WIDE + TAGS * place)
+    }
+
+    /// Its parts.
+    pub fn parts(self) -> Parts
+        ensures { result ≡ parts_of self }
+    {
+        let code = self.0 / TAGS;
+        let first = code / CODES;
+        let second = first / FIRSTS;
+        Parts {
+            tag: (self.0 % TAGS) as u32,
+            code: (code % CODES) as u32,
+            first: (first % FIRSTS) as u32,
+            second: (second % SECONDS) as u32,
+        }
+    }
+
+    /// The word of an entry whose numbers are small enough; none of any other.
+    pub fn pack(e: Entry) -> Option<Packed>
+        ensures narrow { is_some result ≡ is_narrow e }
+        ensures tag { IfSome result (λ w. is_wide w ≡ false) }
+        ensures back { IfSome result (λ w. (wide : List Entry) → unpack wide w ≡ e) }
+    {
+        if is_narrow(e) {
+            return Some(Packed::of_parts(Parts::of_entry(e)));
+        }
+        None
+    }
+
+    /// Its entry, where these are the wide ones.
+    #[tactic(auto, unfolding(crate::specs::Packed::unpack))]
+    pub fn unpack(self, wide: &[Entry]) -> Entry
+        ensures { result ≡ unpack wide.now self }
+    {
+        if self.0 % TAGS == WIDE {
+            return entry_at(wide, self.0 / TAGS);
+        }
+        self.parts().entry()
+    }
+}
+
+/// The wide entry at the place.
+fn entry_at(wide: &[Entry], place: u64) -> Entry
+    ensures { result ≡ get_or wide.now place nothing }
+{
+    match wide.get(place as usize) {
+        Some(entry) => *entry,
+        None => Entry::Done { dev: DevNo(0) },
+    }
+}

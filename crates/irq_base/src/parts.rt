@@ -1,0 +1,348 @@
+//! The parts of a packed word, and the entries that they stand for.
+ghost use Rattle.std.specs.Prelude.{◌≡◌, ◌/◌, ◌%◌, ◌<◌, true};
+ghost use Rattle.irq_base.specs.Codes.{way_at, take_at, answer_at, note_at, link_at, opened_at, flag_at};
+ghost use Rattle.irq_base.specs.Packed.{cpu_entry, thread_entry, driver_entry, entry_of, is_narrow, is_narrow_cpu, is_narrow_dev, is_narrow_driver, flags_at};
+
+use crate::calls::Flags;
+use crate::codes::{
+    affinity_at, affinity_number, answer_at, answer_number, enable_at, enable_number, flag_at,
+    flag_number, link_at, link_number, note_at, note_number, opened_at, opened_number, take_at,
+    take_number, unlink_at, unlink_number, way_at, way_number,
+};
+use crate::devices::Answer;
+use crate::entries::{Entry, LinkAnswer, Note, Opened, TakeAnswer, Way};
+use crate::numbers::{CpuNo, DevNo, DriverNo};
+
+/// The parts of a word. The tag says which entry it is, the code holds its small answers.
+#[derive(Clone, Copy)]
+pub struct Parts {
+    pub tag: u32,
+    pub code: u32,
+    pub first: u32,
+    pub second: u32,
+}
+
+// The tags: processors first, then threads, then drivers.
+const TAKE: u32 = 0;
+
+const BEGIN: u32 = 1;
+
+const RETURN: u32 = 2;
+
+const END: u32 = 3;
+
+const THREAD_BEGIN: u32 = 4;
+
+const THREAD_RETURN: u32 = 5;
+
+const FINISH: u32 = 6;
+
+const DONE: u32 = 7;
+
+const ASK: u32 = 8;
+
+const DISABLE: u32 = 9;
+
+const HARD_CLEAR: u32 = 10;
+
+const SYNCED: u32 = 11;
+
+const ENABLE: u32 = 12;
+
+const REQUEST: u32 = 13;
+
+const UNLINK: u32 = 14;
+
+const FREED: u32 = 15;
+
+const AFFINITY: u32 = 16;
+
+const MOMENT: u32 = 17;
+
+impl Parts {
+    fn new(tag: u32, code: u32, first: u32, second: u32) -> Parts
+        ensures { result ≡ record { tag = tag; code = code; first = first; second = second } }
+    {
+        Parts {
+            tag,
+            code,
+            first,
+            second,
+        }
+    }
+
+    /// The parts that stand for the entry.
+    #[tactic(auto, unfolding(crate::specs::Packed::entry_of, crate::specs::Packed::cpu_entry, crate::specs::Packed::thread_entry, crate::specs::Packed::driver_entry))]
+    pub fn of_entry(e: Entry) -> Parts
+        requires { is_narrow e ≡ true }
+        ensures tag { result.tag < 31 }
+        ensures code { result.code < 256 }
+        ensures first { result.first < 65536 }
+        ensures entry { entry_of result ≡ e }
+    {
+        match e {
+            Entry::Take { cpu, way, answer } => Parts::new(TAKE, take_code(way, answer), cpu.0, 0),
+            Entry::Begin { cpu, dev } => Parts::new(BEGIN, 0, cpu.0, dev.0),
+            Entry::Return {
+                cpu,
+                dev,
+                answer,
+                served,
+            } => Parts::new(RETURN, return_code(cpu, answer), dev.0, served),
+            Entry::End {
+                cpu,
+                again,
+                unmask,
+                note,
+            } => Parts::new(END, end_code(again, unmask, note), cpu.0, 0),
+            Entry::ThreadBegin { dev } => Parts::new(THREAD_BEGIN, 0, dev.0, 0),
+            Entry::ThreadReturn { dev, served } => Parts::new(THREAD_RETURN, 0, dev.0, served),
+            Entry::Finish { dev, kept, unmask } => {
+                Parts::new(FINISH, finish_code(kept, unmask), dev.0, 0)
+            }
+            Entry::Done { dev } => Parts::new(DONE, 0, dev.0, 0),
+            Entry::Ask { driver, dev } => Parts::new(ASK, 0, driver.0, dev.0),
+            Entry::Disable { driver } => Parts::new(DISABLE, 0, driver.0, 0),
+            Entry::HardClear { driver } => Parts::new(HARD_CLEAR, 0, driver.0, 0),
+            Entry::Synced { driver } => Parts::new(SYNCED, 0, driver.0, 0),
+            Entry::Enable { driver, answer } => {
+                Parts::new(ENABLE, enable_number(answer), driver.0, 0)
+            }
+            Entry::Request {
+                driver,
+                dev,
+                flags,
+                answer,
+                opened,
+            } => Parts::new(
+                REQUEST,
+                request_code(flags, answer, opened),
+                driver.0,
+                dev.0,
+            ),
+            Entry::Unlink {
+                driver,
+                dev,
+                answer,
+            } => Parts::new(UNLINK, unlink_number(answer), driver.0, dev.0),
+            Entry::Freed { driver, dev } => Parts::new(FREED, 0, driver.0, dev.0),
+            Entry::Affinity {
+                driver,
+                mask,
+                answer,
+            } => Parts::new(AFFINITY, affinity_number(answer), driver.0, mask),
+            Entry::Moment { driver, at } => Parts::new(MOMENT, 0, driver.0, at),
+        }
+    }
+
+    /// The entry that they stand for.
+    #[tactic(auto, unfolding(crate::specs::Packed::entry_of))]
+    pub fn entry(self) -> Entry
+        ensures { result ≡ entry_of self }
+    {
+        if self.tag <= END {
+            self.cpu_entry()
+        } else if self.tag <= DONE {
+            self.thread_entry()
+        } else {
+            self.driver_entry()
+        }
+    }
+
+    #[tactic(auto, unfolding(crate::specs::Packed::cpu_entry))]
+    fn cpu_entry(self) -> Entry
+        ensures { result ≡ cpu_entry self }
+    {
+        let cpu = CpuNo(self.first);
+        let code = self.code;
+        match self.tag {
+            TAKE => Entry::Take {
+                cpu,
+                way: way_at(code % 2),
+                answer: take_at(code / 2),
+            },
+            BEGIN => Entry::Begin {
+                cpu,
+                dev: DevNo(self.second),
+            },
+            RETURN => Entry::Return {
+                cpu: CpuNo(code % 32),
+                dev: DevNo(self.first),
+                answer: answer_at(code / 32),
+                served: self.second,
+            },
+            _ => Entry::End {
+                cpu,
+                again: flag_at(code % 2),
+                unmask: flag_at(code / 2 % 2),
+                note: note_at(code / 4),
+            },
+        }
+    }
+
+    #[tactic(auto, unfolding(crate::specs::Packed::thread_entry))]
+    fn thread_entry(self) -> Entry
+        ensures { result ≡ thread_entry self }
+    {
+        let dev = DevNo(self.first);
+        match self.tag {
+            THREAD_BEGIN => Entry::ThreadBegin { dev },
+            THREAD_RETURN => Entry::ThreadReturn {
+                dev,
+                served: self.second,
+            },
+            FINISH => Entry::Finish {
+                dev,
+                kept: flag_at(self.code % 2),
+                unmask: flag_at(self.code / 2),
+            },
+            _ => Entry::Done { dev },
+        }
+    }
+
+    #[tactic(auto, unfolding(crate::specs::Packed::driver_entry))]
+    fn driver_entry(self) -> Entry
+        ensures { result ≡ driver_entry self }
+    {
+        let driver = DriverNo(self.first);
+        let dev = DevNo(self.second);
+        match self.tag {
+            ASK => Entry::Ask { driver, dev },
+            DISABLE => Entry::Disable { driver },
+            HARD_CLEAR => Entry::HardClear { driver },
+            SYNCED => Entry::Synced { driver },
+            ENABLE => Entry::Enable {
+                driver,
+                answer: enable_at(self.code),
+            },
+            REQUEST => Entry::Request {
+                driver,
+                dev,
+                flags: flags_at(self.code % 8),
+                answer: link_at(self.code / 8 % 4),
+                opened: opened_at(self.code / 32),
+            },
+            UNLINK => Entry::Unlink {
+                driver,
+                dev,
+                answer: unlink_at(self.code),
+            },
+            FREED => Entry::Freed { driver, dev },
+            AFFINITY => Entry::Affinity {
+                driver,
+                mask: self.second,
+                answer: affinity_at(self.code),
+            },
+            _ => Entry::Moment {
+                driver,
+                at: self.second,
+            },
+        }
+    }
+}
+
+#[tactic(auto, unfolding(crate::specs::Packed::flags_at))]
+fn flags_at(n: u32) -> Flags
+    ensures { result ≡ flags_at n }
+{
+    Flags {
+        shared: flag_at(n % 2),
+        oneshot: flag_at(n / 2 % 2),
+        noauto: flag_at(n / 4),
+    }
+}
+
+/// Whether the numbers of the entry fit into the parts of a word.
+pub fn is_narrow(e: Entry) -> bool
+    ensures { result ≡ is_narrow e }
+{
+    match e {
+        Entry::Take { cpu, .. } | Entry::End { cpu, .. } => is_narrow_cpu(cpu),
+        Entry::Begin { cpu, dev } | Entry::Return { cpu, dev, .. } => {
+            is_narrow_cpu(cpu) && is_narrow_dev(dev)
+        }
+        Entry::ThreadBegin { dev }
+        | Entry::ThreadReturn { dev, .. }
+        | Entry::Finish { dev, .. }
+        | Entry::Done { dev } => is_narrow_dev(dev),
+        Entry::Ask { driver, dev }
+        | Entry::Request { driver, dev, .. }
+        | Entry::Unlink { driver, dev, .. }
+        | Entry::Freed { driver, dev } => is_narrow_driver(driver) && is_narrow_dev(dev),
+        Entry::Disable { driver }
+        | Entry::HardClear { driver }
+        | Entry::Synced { driver }
+        | Entry::Enable { driver, .. }
+        | Entry::Affinity { driver, .. }
+        | Entry::Moment { driver, .. } => is_narrow_driver(driver),
+    }
+}
+
+fn is_narrow_cpu(cpu: CpuNo) -> bool
+    ensures { result ≡ is_narrow_cpu cpu }
+{
+    cpu.0 < 32
+}
+
+fn is_narrow_dev(dev: DevNo) -> bool
+    ensures { result ≡ is_narrow_dev dev }
+{
+    dev.0 < 65_536
+}
+
+fn is_narrow_driver(driver: DriverNo) -> bool
+    ensures { result ≡ is_narrow_driver driver }
+{
+    driver.0 < 65_536
+}
+
+fn take_code(way: Way, answer: TakeAnswer) -> u32
+    ensures below { result < 256 }
+    ensures way { way_at (result % 2) ≡ way }
+    ensures answer { take_at (result / 2) ≡ answer }
+{
+    way_number(way) + 2 * take_number(answer)
+}
+
+fn return_code(cpu: CpuNo, answer: Answer) -> u32
+    requires { cpu.0 < 32 }
+    ensures below { result < 256 }
+    ensures cpu { result % 32 ≡ cpu.0 }
+    ensures answer { answer_at (result / 32) ≡ answer }
+{
+    cpu.0 + 32 * answer_number(answer)
+}
+
+fn end_code(again: bool, unmask: bool, note: Note) -> u32
+    ensures below { result < 256 }
+    ensures again { flag_at (result % 2) ≡ again }
+    ensures unmask { flag_at (result / 2 % 2) ≡ unmask }
+    ensures note { note_at (result / 4) ≡ note }
+{
+    flag_number(again) + 2 * flag_number(unmask) + 4 * note_number(note)
+}
+
+fn finish_code(kept: bool, unmask: bool) -> u32
+    ensures below { result < 256 }
+    ensures kept { flag_at (result % 2) ≡ kept }
+    ensures unmask { flag_at (result / 2) ≡ unmask }
+{
+    flag_number(kept) + 2 * flag_number(unmask)
+}
+
+fn request_code(flags: Flags, answer: LinkAnswer, opened: Opened) -> u32
+    ensures below { result < 256 }
+    ensures flags { flags_at (result % 8) ≡ flags }
+    ensures answer { link_at (result / 8 % 4) ≡ answer }
+    ensures opened { opened_at (result / 32) ≡ opened }
+{
+    flags_number(flags) + 8 * link_number(answer) + 32 * opened_number(opened)
+}
+
+#[tactic(auto, unfolding(crate::specs::Packed::flags_at))]
+fn flags_number(flags: Flags) -> u32
+    ensures below { result < 8 }
+    ensures back { flags_at result ≡ flags }
+{
+    flag_number(flags.shared) + 2 * flag_number(flags.oneshot) + 4 * flag_number(flags.noauto)
+}
