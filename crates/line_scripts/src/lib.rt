@@ -1,12 +1,15 @@
 //! The drivers' scripts on one line: how far each driver is with its calls.
 //!
 //! `Scripts` takes its memory when it is made, in time linear in the calls. From then on it says which call of a
-//! driver is due, and counts one more entry of it, in constant time and without memory.
+//! driver is due, and counts one more entry of it, in constant time and without memory. `completes` says which entry of
+//! a call is its last.
 #![tactic(auto)]
 
+pub mod ending;
 pub mod row;
 pub mod scripts;
 
+pub use ending::completes;
 pub use row::Row;
 pub use scripts::Scripts;
 

@@ -1,0 +1,4 @@
+pub mod Actions
+pub mod Lists
+pub mod Stamps
+pub mod Kept

@@ -1,0 +1,221 @@
+//! The list with its rounds.
+ghost use Rattle.std.specs.Prelude.{◌≡◌, ◌+◌, ◌-◌, ◌<◌, ◌≤◌, ◌^◌, length, take, slice_get, false, [], IsOk, IfOk, OnOk, OnErr, IfSome};
+ghost use Rattle.std.specs.Map.{lookup};
+ghost use Rattle.irq_base.specs.declared.entries.LinkAnswer.TheVariants as links;
+ghost use Rattle.irq_model.specs.Kinds.{same_dev};
+ghost use Rattle.irq_model.specs.Valid.{HasDistinctDevices};
+ghost use Rattle.device_table.specs.Rows.{at, all_with};
+ghost use Rattle.act_list.specs.Actions.{has, is_bare, is_only_action, answer_by, bit_of};
+ghost use Rattle.act_list.specs.Lists.{first_list, begun_at, first_left, after_link, after_unlink, after_begin, after_begin_round, unlink_by};
+ghost use Rattle.act_list.specs.Stamps.{stamped, AreBegun};
+
+use crate::actions::{Action, Actions};
+use device_table::DeviceTable;
+use irq_base::{DevNo, Flags, Kind, LineDef, LinkAnswer, NoMemory, UnlinkAnswer};
+use std::alloc::Global;
+use std::marker::Model;
+
+/// The actions of a line, and whose handler was called in the round. Contracts see the actions in order, for each
+/// device of the line whether its handler was called, the number of rounds so far, and beside these how many more
+/// actions fit without memory.
+#[derive(Drop)]
+pub struct ActList {
+    actions: Actions,
+    stamps: DeviceTable<u32>,
+    rounds: u32,
+    hint: usize,
+}
+
+impl Model for ActList {
+    ghost use Rattle.act_list.specs.Lists.{ActListSeen};
+
+    ghost Value = { ActListSeen };
+
+    ghost use Rattle.act_list.specs.Kept.{seen, IsKept};
+
+    ghost view = { seen };
+
+    ghost invariant = { IsKept };
+}
+
+impl ActList {
+    /// The list of a line of which nothing was linked yet. Refused only for want of memory.
+    pub fn new(alloc: Global, def: &LineDef) -> Result<ActList, NoMemory>
+        requires { HasDistinctDevices def.now.devices }
+        ensures { IfOk result (λ a. a.list ≡ first_list def.now.devices) }
+    {
+        let stamps = DeviceTable::new(alloc, &def.devices, 0u32)?;
+        Ok(ActList {
+            actions: Actions::new(alloc),
+            stamps,
+            rounds: 0,
+            hint: 0,
+        })
+    }
+
+    /// Whether nothing is linked.
+    pub fn is_empty(&self) -> bool
+        ensures { result ≡ is_bare self.now.list.actions }
+    {
+        self.actions.is_empty()
+    }
+
+    /// Whether the device is linked.
+    pub fn contains(&self, dev: DevNo) -> bool
+        ensures { result ≡ has dev self.now.list.actions }
+    {
+        self.actions.contains(dev)
+    }
+
+    /// Whether the device is linked and nothing else is.
+    pub fn is_only(&self, dev: DevNo) -> bool
+        ensures { result ≡ is_only_action dev self.now.list.actions }
+    {
+        self.actions.is_only(dev)
+    }
+
+    /// The device's thread bit (`thread_mask`), as a word in which this one bit is set; none where it isn't linked or
+    /// has none.
+    pub fn bit(&self, dev: DevNo) -> Option<u64>
+        ensures { result ≡ bit_of (lookup (same_dev dev) self.now.list.actions) }
+    {
+        self.actions.bit(dev)
+    }
+
+    /// What a request with these flags of a device of that kind is answered (`__setup_irq`).
+    pub fn answer(&self, kind: Kind, flags: Flags) -> LinkAnswer
+        ensures { result ≡ answer_by kind flags self.now.list.actions }
+    {
+        self.actions.answer(kind, flags)
+    }
+
+    /// Makes room for one more action. Refused only for want of memory; the list is as before either way.
+    pub fn reserve(&mut self) -> Result<(), NoMemory>
+        ensures room { OnOk result (1 ≤ self.new.spare) }
+        ensures spare { self.old.spare ≤ self.new.spare }
+        ensures list { self.new.list ≡ self.old.list }
+    {
+        self.actions.reserve()
+    }
+
+    /// Links a device with an action at the end, or says why not: EINVAL for a shared request that isn't to start the
+    /// line, EBUSY where its flags don't go with those of the others or all thread bits are in use, EINVAL for the
+    /// default handler without one-shot. `NoMemory` comes only where it would be linked and there was no room.
+    pub fn link(&mut self, dev: DevNo, kind: Kind, flags: Flags) -> Result<LinkAnswer, NoMemory>
+        requires { has dev self.old.list.actions ≡ false }
+        ensures answer { IfOk result (λ answer. answer ≡ answer_by kind flags self.old.list.actions) }
+        ensures list { IfOk result (λ answer. self.new.list ≡ after_link answer dev flags self.old.list) }
+        ensures cause { OnErr result (answer_by kind flags self.old.list.actions ≡ links.Linked) }
+        ensures refused { OnErr result (self.new.list ≡ self.old.list) }
+        ensures room { 1 ≤ self.old.spare → IsOk result }
+        ensures spare { self.old.spare ≤ self.new.spare + 1 }
+    {
+        let answer = self.actions.answer(kind, flags);
+        if answer == LinkAnswer::Linked {
+            let bit = if flags.oneshot {
+                self.actions.free_bit()
+            } else {
+                0
+            };
+            self.actions.add(dev, Action { flags, bit })?;
+        }
+        Ok(answer)
+    }
+
+    /// Takes the device's action out, and says whether it was there and the last (`__free_irq`). The rest keeps its
+    /// order.
+    pub fn unlink(&mut self, dev: DevNo) -> UnlinkAnswer
+        ensures answer { result ≡ unlink_by dev self.old.list.actions }
+        ensures list { self.new.list ≡ after_unlink dev self.old.list }
+        ensures spare { self.old.spare ≤ self.new.spare }
+    {
+        let answer = self.unlink_answer(dev);
+        self.actions.remove(dev);
+        self.hint = place_left(&self.actions, &self.stamps, self.rounds + 1, 0);
+        answer
+    }
+
+    /// What an unlink of the device is answered.
+    fn unlink_answer(&self, dev: DevNo) -> UnlinkAnswer
+        ensures { result ≡ unlink_by dev self.now.list.actions }
+    {
+        if !self.actions.contains(dev) {
+            return UnlinkAnswer::NotThere;
+        }
+        UnlinkAnswer::Unlinked {
+            last: self.actions.is_only(dev),
+        }
+    }
+
+    /// A round begins: no handler was called in it yet.
+    pub fn begin_round(&mut self)
+        requires { self.old.list.rounds < 2 ^ 32 - 2 }
+        ensures list { self.new.list ≡ after_begin_round self.old.list }
+        ensures spare { self.new.spare ≡ self.old.spare }
+    {
+        self.rounds += 1;
+        self.hint = 0;
+    }
+
+    /// How many rounds have begun.
+    pub fn rounds(&self) -> u32
+        ensures { result ≡ self.now.list.rounds }
+    {
+        self.rounds
+    }
+
+    /// The device's handler is called.
+    pub fn begin(&mut self, dev: DevNo)
+        ensures list { self.new.list ≡ after_begin dev self.old.list }
+        ensures spare { self.new.spare ≡ self.old.spare }
+    {
+        let stamp = self.rounds + 1;
+        self.stamps.set(dev, stamp);
+        self.hint = place_left(&self.actions, &self.stamps, stamp, self.hint);
+    }
+
+    /// Whether the device's handler was called in the round.
+    pub fn has_begun(&self, dev: DevNo) -> bool
+        ensures { result ≡ begun_at self.now.list.begun dev }
+    {
+        is_stamped(&self.stamps, self.rounds + 1, dev)
+    }
+
+    /// The first linked device whose handler wasn't called in the round; none where all were.
+    pub fn first_left(&self) -> Option<DevNo>
+        ensures { result ≡ first_left self.now.list.begun self.now.list.actions }
+    {
+        let place = place_left(&self.actions, &self.stamps, self.rounds + 1, self.hint);
+        self.actions.device(place)
+    }
+}
+
+/// Whether the device has this stamp.
+fn is_stamped(stamps: &DeviceTable<u32>, stamp: u32, dev: DevNo) -> bool
+    ensures { result ≡ begun_at (stamped stamp stamps.now) dev }
+{
+    match stamps.get(dev) {
+        Some(found) => found == stamp,
+        None => false,
+    }
+}
+
+/// The place of the first action from `from` on whose device lacks the stamp, or the number of actions.
+fn place_left(actions: &Actions, stamps: &DeviceTable<u32>, stamp: u32, from: usize) -> usize
+    requires within { from ≤ length actions.now.actions }
+    requires begun { AreBegun (stamped stamp stamps.now) (take from actions.now.actions) }
+    ensures within { result ≤ length actions.now.actions }
+    ensures begun { AreBegun (stamped stamp stamps.now) (take result actions.now.actions) }
+    ensures left { IfSome (slice_get actions.now.actions result) (λ e. begun_at (stamped stamp stamps.now) e.0 ≡ false) }
+{
+    // The number of actions fits a usize, and so does each place.
+    let _length = actions.len();
+    let mut place = from;
+    while let Some(dev) = actions.device(place) {
+        if !is_stamped(stamps, stamp, dev) {
+            return place;
+        }
+        place += 1;
+    }
+    place
+}

@@ -1,0 +1,21 @@
+-- Which entry of a call is its last.
+use Rattle.std.specs.Prelude.{Bool, true, false}
+use Rattle.irq_base.specs.declared.calls.Call.{Call}
+use Rattle.irq_base.specs.declared.calls.Call.TheVariants as calls
+use Rattle.irq_base.specs.declared.entries.Entry.{Entry}
+use Rattle.irq_base.specs.declared.entries.Entry.TheVariants as entries
+use Rattle.irq_base.specs.declared.entries.UnlinkAnswer.TheVariants as unlinks
+use Rattle.irq_model.specs.Kinds.{is_synced}
+
+-- a free ends with its last step, or at once where there was nothing to free
+abbrev pub ends_free : Entry → Bool
+ends_free (entries.Freed driver dev) = true
+ends_free (entries.Unlink driver dev unlinks.NotThere) = true
+ends_free _ = false
+
+-- the entry, which is one of the call's, completes it
+abbrev pub completes : Call → Entry → Bool
+completes calls.Disable e = is_synced e
+completes calls.Sync e = is_synced e
+completes (calls.Free dev) e = ends_free e
+completes _ e = true

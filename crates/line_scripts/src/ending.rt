@@ -1,0 +1,33 @@
+//! Which entry of a call is its last.
+ghost use Rattle.std.specs.Prelude.{◌≡◌};
+ghost use Rattle.line_scripts.specs.Endings.{completes, ends_free};
+
+use irq_base::{Call, Entry, UnlinkAnswer};
+
+/// Whether the entry, which is one of the call's, completes it: the last of a disable or a synchronisation is
+/// `Synced`, of a free `Freed`, or the unlink that found nothing; any other call makes one entry.
+pub fn completes(call: Call, entry: &Entry) -> bool
+    ensures { result ≡ completes call entry.now }
+{
+    match call {
+        Call::Disable | Call::Sync => matches!(*entry, Entry::Synced { .. }),
+        Call::Free { .. } => ends_free(entry),
+        Call::Ask { .. }
+        | Call::Request { .. }
+        | Call::DisableNosync
+        | Call::Enable
+        | Call::Affinity { .. }
+        | Call::Moment { .. } => true,
+    }
+}
+
+/// Whether the entry ends a free.
+fn ends_free(entry: &Entry) -> bool
+    ensures { result ≡ ends_free entry.now }
+{
+    match *entry {
+        Entry::Freed { .. } => true,
+        Entry::Unlink { answer, .. } => answer == UnlinkAnswer::NotThere,
+        _ => false,
+    }
+}
