@@ -1,0 +1,57 @@
+-- One hold of the line by a pass.
+use Rattle.std.proofs.Common.{◌≡◌, Option, Some, None, Result, Ok, Err, List, [], ◌∷◌, ◌++◌, length, refl, sym, ap, subst, ◌∙◌}
+use Rattle.irq_base.specs.Who.{actor_of}
+use Rattle.irq_base.specs.declared.entries.Actor.{Actor}
+use Rattle.irq_base.specs.declared.entries.Entry.{Entry}
+use Rattle.irq_base.specs.declared.lines.LineDef.{LineDef}
+use Rattle.callbacks.specs.Seen.{SaidSeen}
+use Rattle.irq_line.specs.Answers.{Answers}
+use Rattle.irq_line.specs.Seen.{LineSeen, IsSound}
+use Rattle.irq_line.specs.declared.answers.StepRefused.{StepRefused}
+use Rattle.irq_line.specs.declared.answers.StepRefused.TheVariants as refusals
+use Rattle.irq_line.specs.declared.answers.Stepped.{Stepped}
+use Rattle.irq_line.specs.declared.answers.Stepped.TheVariants as stepped
+use Rattle.line_lock.specs.Knows.{BeginsWith, looked}
+use Rattle.line_lock.specs.Placed.{placed, placed_of}
+use Rattle.line_lock.specs.declared.view.Known.{Known}
+use Rattle.line_lock.specs.declared.view.Placed.{Placed}
+use Rattle.line_lock.proofs.Placing.{placed_own}
+use Rattle.line_shared.specs.Stepping.{Gains, Steps}
+
+module _ (key : LineDef) (who : Actor) (old new : Known) (line after : LineSeen) (def : line.def ≡ key) (actor : old.actor ≡ Some who) (mine : old.mine ≡ placed_of key.line (Some who) line.entries) (seen : new ≡ looked key.line old after.entries) where
+  mine_is : (h : List Entry) → after.entries ≡ h → new.mine ≡ placed key.line who h
+  mine_is h same = ap (λ (k : Known). k.mine) seen ∙ (ap (λ (o : Option Actor). placed_of key.line o after.entries) actor ∙ ap (placed key.line who) same)
+
+  unchanged : after ≡ line → (new.seen ≡ line.entries) × (new.mine ≡ old.mine)
+  unchanged same =
+      let entries : after.entries ≡ line.entries = ap (λ (l : LineSeen). l.entries) same in
+      (ap (λ (k : Known). k.seen) seen ∙ entries, mine_is line.entries entries ∙ sym mine)
+
+  gains : (said : Option SaidSeen) (result : Result Stepped StepRefused) → Answers line who said result after → Gains old line.entries result new
+  gains said (Ok (stepped.Added e)) a =
+      let by : actor_of key.line e ≡ who = ap (λ (d : LineDef). actor_of d.line e) (sym def) ∙ a.actor in (
+        ap (λ (k : Known). k.seen) seen ∙ a.entries,
+        mine_is (line.entries ++ e ∷ []) a.entries ∙ (placed_own key.line who line.entries e by ∙ ap (λ (xs : List Placed). xs ++ record { place = length line.entries; entry = e } ∷ []) (sym mine)),
+      )
+  gains said (Ok (stepped.Run d part unserved)) a = unchanged a.1
+  gains said (Ok stepped.NotYet) a = unchanged a.1
+  gains said (Err (refusals.Full len)) a = unchanged a.1
+  gains said (Err refusals.NoMemory) a = unchanged a
+
+pub steps : (key : LineDef) (who : Actor) (old new : Known) (line after : LineSeen) (said : Option SaidSeen) (result : Result Stepped StepRefused)
+    → line.def ≡ key → old.actor ≡ Some who → IsSound line → BeginsWith line.entries old.seen → old.mine ≡ placed_of key.line old.actor line.entries
+    → Answers line who said result after → IsSound after → new ≡ looked key.line old after.entries → Steps key who old said result new
+steps key who old new line after said result def actor sound begins mine answer sound_after seen =
+    let own = mine ∙ ap (λ (o : Option Actor). placed_of key.line o line.entries) actor in
+    record {
+      line = line;
+      after = after;
+      def = def;
+      sound = sound;
+      begins = begins;
+      mine = own;
+      answer = answer;
+      sound_after = sound_after;
+      seen = seen;
+      gains = gains key who old new line after def actor own seen said result answer;
+    }

@@ -1,0 +1,22 @@
+use Rattle.std.proofs.Common.{rules, ◌≡◌, Some, sym, ap, subst, ◌∙◌}
+use Rattle.std.proofs.lemmas.Option.{same_Some}
+use Rattle.irq_base.specs.declared.entries.Actor.{Actor}
+use Rattle.irq_base.specs.declared.entries.Entry.{Entry}
+use Rattle.irq_line.specs.Answers.{Answers}
+use Rattle.line_lock.specs.Knows.{looked}
+use Rattle.line_lock.specs.Placed.{placed_of}
+use Rattle.line_shared.proofs.Stepped.{steps}
+use Rattle.line_shared.proofs.shared.SharedLine.step.Goals as goal
+
+pub returns-clause-steps : goal.returns-clause-steps
+returns-clause-steps g c = λ who is.
+    let seen = g.L.IrqLine.seen in
+    let line = seen c.hold-held.result.line.value in
+    let after = seen c.step_held-answer.new.held.line.value in
+    let def : line.def ≡ c.args.self.now.def = search rules in
+    let actor : c.in-Some.actor ≡ who = same_Some c.in-Some.actor who (sym c.in-Some.is ∙ (c.actor.ensures ∙ is)) in
+    let answer = subst (λ (a : Actor). Answers line a c.args.said c.step_held-answer.result after) actor c.step_held-answer.ensures.answer in
+    let mine : c.args.pass.now.knows.mine ≡ placed_of c.args.self.now.def.line c.args.pass.now.knows.actor line.entries =
+    c.hold-held.ensures.mine ∙ ap (λ l. placed_of l.def.line c.args.pass.now.knows.actor line.entries) c.self.view_is in
+    let now : c.leave.new.pass.knows ≡ looked c.args.self.now.def.line c.args.pass.now.knows after.entries = search rules in
+    steps c.args.self.now.def who c.args.pass.now.knows c.leave.new.pass.knows line after c.args.said c.step_held-answer.result def is c.step_held-answer.ensures.sound.0 c.hold-held.ensures.begins mine answer c.step_held-answer.ensures.sound.1 now

@@ -1,0 +1,39 @@
+-- What a step of a shared line does to the pass that makes it.
+use Rattle.std.specs.Prelude.{◌≡◌, ◌≤◌, ℕ, Option, Some, None, Result, Ok, Err, List, [], ◌∷◌, ◌++◌, length}
+use Rattle.irq_base.specs.declared.entries.Actor.{Actor}
+use Rattle.irq_base.specs.declared.entries.Entry.{Entry}
+use Rattle.irq_base.specs.declared.lines.LineDef.{LineDef}
+use Rattle.callbacks.specs.Seen.{SaidSeen}
+use Rattle.irq_line.specs.Answers.{Answers}
+use Rattle.irq_line.specs.Seen.{LineSeen, IsSound}
+use Rattle.irq_line.specs.declared.answers.StepRefused.{StepRefused}
+use Rattle.irq_line.specs.declared.answers.Stepped.{Stepped}
+use Rattle.irq_line.specs.declared.answers.Stepped.TheVariants as stepped
+use Rattle.line_lock.specs.Knows.{BeginsWith, looked}
+use Rattle.line_lock.specs.Placed.{placed_of}
+use Rattle.line_lock.specs.declared.view.Known.{Known}
+
+-- Where an entry was added, it stands at the end of what is seen, and is the pass's own, at the place that it has there.
+-- After every other answer what is seen is the history as it was, and the pass has no entry more.
+abbrev pub Gains : Known → List Entry → Result Stepped StepRefused → Known → Type 0
+Gains old history (Ok (stepped.Added e)) new = (new.seen ≡ history ++ e ∷ []) × (new.mine ≡ old.mine ++ record { place = length history; entry = e } ∷ [])
+Gains old history (Ok (stepped.Run def part unserved)) new = (new.seen ≡ history) × (new.mine ≡ old.mine)
+Gains old history (Ok stepped.NotYet) new = (new.seen ≡ history) × (new.mine ≡ old.mine)
+Gains old history (Err refused) new = (new.seen ≡ history) × (new.mine ≡ old.mine)
+
+-- One hold of the line by the pass, whose actor is `who`.
+pub record Steps (whole : LineDef) (who : Actor) (old : Known) (said : Option SaidSeen) (result : Result Stepped StepRefused) (new : Known) : Type 0 where
+  -- the line as it was at this hold, and as it is afterwards
+  pub line : LineSeen
+  pub after : LineSeen
+  pub def : line.def ≡ whole
+  pub sound : IsSound line
+  -- what the pass had seen is a beginning of its history, and its own entries are exactly those of its actor in it
+  pub begins : BeginsWith line.entries old.seen
+  pub mine : old.mine ≡ placed_of whole.line (Some who) line.entries
+  -- the answer is the line's own
+  pub answer : Answers line who said result after
+  -- and the pass has seen the history as it is now
+  pub sound_after : IsSound after
+  pub seen : new ≡ looked whole.line old after.entries
+  pub gains : Gains old line.entries result new

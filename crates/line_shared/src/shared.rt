@@ -1,0 +1,155 @@
+//! The shared line.
+ghost use Rattle.std.specs.Prelude.{◌≡◌, ◌≤◌, true, false, [], Some, None, IsSome, IfOk, IfErr, length};
+ghost use Rattle.irq_base.specs.declared.entries.Actor.{Actor};
+ghost use Rattle.line_lock.specs.Knows.{nothing_known, is_among, forked, newcomer, Meets};
+ghost use Rattle.irq_line.specs.Answers.{Answers};
+ghost use Rattle.irq_line.specs.Seen.{IsSound};
+ghost use Rattle.line_lock.specs.Passes.{IsPassOf, Extends};
+ghost use Rattle.line_shared.specs.Stepping.{Steps};
+
+use crate::held::HeldLine;
+use callbacks::Said;
+use irq_base::{Actor, LineDef};
+use irq_line::{IrqLine, StepRefused, Stepped};
+use line_lock::{CountedLock, LockRefused};
+use std::alloc::{AllocFailed, Global};
+use std::marker::Model;
+use std::sync::Wait;
+
+/// What a thread steps a shared line with.
+pub type Pass<L> = line_lock::Pass<HeldLine<L>>;
+
+/// A line that threads step, one at a time. Contracts see its definition, which never changes.
+#[derive(Drop)]
+pub struct SharedLine<L: IrqLine> {
+    lock: CountedLock<HeldLine<L>>,
+}
+
+/// Memory was refused. The line comes back.
+#[derive(Drop)]
+pub struct ShareRefused<L: IrqLine> {
+    pub line: L,
+}
+
+impl<L: IrqLine> Model for SharedLine<L> {
+    ghost use Rattle.line_lock.specs.Passes.{LockSeen};
+
+    ghost Value = { LockSeen };
+
+    ghost view = { λ s. s.lock };
+}
+
+impl<L: IrqLine> SharedLine<L> {
+    /// Shares a line to which nothing has happened, and gives its first pass. Refused only for want of memory: the line
+    /// comes back.
+    pub fn new(alloc: Global, line: L) -> Result<(SharedLine<L>, Pass<L>), ShareRefused<L>>
+        requires empty { (L.seen line).entries ≡ [] }
+        ensures def { IfOk result (λ r. r.0.def ≡ (L.seen line).def) }
+        ensures pass { IfOk result (λ r. IsPassOf r.0 r.1) }
+        ensures knows { IfOk result (λ r. r.1.knows ≡ nothing_known) }
+        ensures idle { IfOk result (λ r. r.1.turn ≡ false) }
+        ensures refused { IfErr result (λ r. r.line ≡ line) }
+    {
+        let line = match Box::new(alloc, line) {
+            Ok(line) => line,
+            Err(AllocFailed { value }) => return Err(ShareRefused { line: value }),
+        };
+        match CountedLock::new(alloc, HeldLine { line }) {
+            Ok((lock, pass)) => Ok((SharedLine { lock }, pass)),
+            Err(LockRefused { value }) => Err(ShareRefused {
+                line: Box::into_inner(value.line),
+            }),
+        }
+    }
+
+    /// Gives a pass to the actor, which has seen what the first pass has. It takes no memory.
+    pub fn fork(&self, pass: &mut Pass<L>, actor: Actor) -> Pass<L>
+        requires pass { IsPassOf self.now pass.old }
+        requires idle { pass.old.turn ≡ false }
+        requires first { pass.old.knows.actor ≡ None }
+        requires fresh { is_among actor pass.old.knows.given ≡ false }
+        ensures pass { IsPassOf self.now pass.new × IsPassOf self.now result }
+        ensures idle { (pass.new.turn ≡ false) × (result.turn ≡ false) }
+        ensures gave { pass.new.knows ≡ forked pass.old.knows actor }
+        ensures given { result.knows ≡ newcomer pass.old.knows actor }
+    {
+        self.lock.fork(pass, actor)
+    }
+
+    /// Waits for the line, and has it make a step of the pass's actor: `IrqLine::step` on the history as it is then.
+    ///
+    /// # Errors
+    ///
+    /// Those of the line's step. The line hasn't changed then, and the pass has seen its history.
+    pub fn step<R: Wait>(
+        &self,
+        rt: &R,
+        pass: &mut Pass<L>,
+        said: Option<Said>,
+    ) -> Result<Stepped, StepRefused>
+        requires pass { IsPassOf self.now pass.old }
+        requires idle { pass.old.turn ≡ false }
+        requires actor { IsSome pass.old.knows.actor }
+        ensures pass { IsPassOf self.now pass.new }
+        ensures idle { pass.new.turn ≡ false }
+        ensures steps { (who : Actor) → pass.old.knows.actor ≡ Some who → Steps self.now.def who pass.old.knows said result pass.new.knows }
+    {
+        let Some(actor) = pass.actor() else {
+            unreachable!()
+        };
+        let mut held = self.lock.hold(rt, pass);
+        let answer = step_held(&mut held, actor, said);
+        self.lock.leave(pass, held);
+        answer
+    }
+
+    /// Takes in what the other pass has seen. Its actor gets no pass any more.
+    pub fn meet(&self, pass: &mut Pass<L>, other: Pass<L>)
+        requires pass { IsPassOf self.now pass.old × IsPassOf self.now other }
+        requires idle { (pass.old.turn ≡ false) × (other.turn ≡ false) }
+        requires first { pass.old.knows.actor ≡ None }
+        requires actor { IsSome other.knows.actor }
+        ensures pass { IsPassOf self.now pass.new }
+        ensures idle { pass.new.turn ≡ false }
+        ensures met { Meets self.now.def.line pass.old.knows other.knows pass.new.knows }
+    {
+        self.lock.meet(pass, other);
+    }
+
+    /// The line, where no actor is out. Its history is what the first pass has seen.
+    pub fn finish(self, pass: Pass<L>) -> L
+        requires pass { IsPassOf self pass }
+        requires idle { pass.turn ≡ false }
+        requires first { pass.knows.actor ≡ None }
+        requires nobody { pass.knows.out ≡ [] }
+        ensures def { (L.seen result).def ≡ self.def }
+        ensures entries { (L.seen result).entries ≡ pass.knows.seen }
+    {
+        let SharedLine { lock } = self;
+        Box::into_inner(lock.finish(pass).line)
+    }
+
+    /// How many entries there are about now, without a wait. Nothing is claimed of it: it may tell that a step isn't
+    /// worth while.
+    pub fn count(&self) -> u64 {
+        self.lock.count()
+    }
+}
+
+/// One step of a line that is held, which is sound before and after it.
+fn step_held<L: IrqLine>(
+    held: &mut HeldLine<L>,
+    actor: Actor,
+    said: Option<Said>,
+) -> Result<Stepped, StepRefused>
+    ensures def { (L.seen held.new.line.value).def ≡ (L.seen held.old.line.value).def }
+    ensures sound { IsSound (L.seen held.old.line.value) × IsSound (L.seen held.new.line.value) }
+    ensures answer { Answers (L.seen held.old.line.value) actor said result (L.seen held.new.line.value) }
+    ensures few { length (L.seen held.new.line.value).entries ≤ 100000000 }
+    ensures extends { Extends (L.seen held.old.line.value).def.line (Some actor) (L.seen held.old.line.value).entries (L.seen held.new.line.value).entries }
+{
+    held.line.is_sound();
+    let answer = held.line.step(actor, said);
+    held.line.is_sound();
+    answer
+}
