@@ -12,18 +12,12 @@
 //! No call takes memory or refuses.
 #![tactic(auto)]
 
-pub mod eoi;
-pub mod latch;
-pub mod level;
-pub mod lpi;
-pub mod plain;
+pub mod controller;
+pub mod kinds;
 pub mod vector;
 
-pub use eoi::EoiChip;
-pub use latch::LatchChip;
-pub use level::LevelChip;
-pub use lpi::LpiChip;
-pub use plain::PlainChip;
+pub use controller::{Controller, ControllerKind};
+pub use kinds::{Eoi, EoiChip, Latch, LatchChip, Level, LevelChip, Lpi, LpiChip, Plain, PlainChip};
 pub use vector::VectorChip;
 
 #[cfg(test)]
