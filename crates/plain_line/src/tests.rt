@@ -8,19 +8,16 @@ mod edges;
 mod levels;
 
 use crate::line::PlainLine;
-use crate::making::MakesPlainLine;
 use callbacks::{Boxed, ByKind, Callbacks, Handler};
 use irq_base::{
-    Actor, Answer, Call, CpuNo, DevNo, DeviceDef, DriverNo, Entry, Flags, FlowKind, History,
-    ItemList, Kind, LineDef, LineNo, LinkAnswer, NoMemory, Note, Opened, Part, Resend, TakeAnswer,
-    Trigger, Way,
+    Actor, Answer, Call, CpuNo, DevNo, DeviceDef, DriverNo, Entry, FlowKind, History, ItemList,
+    LineDef, LineNo, NoMemory, Note, Part, TakeAnswer, Trigger, Way,
 };
-use irq_line::{Blocks, IrqLine, MakesLine, StepRefused, Stepped};
+use irq_line::{Blocks, IrqLine, StepRefused, Stepped};
 use std::alloc::{AllocError, Global};
 use std::process::Abort;
 use std::sync::Arc;
 use std::sync::atomic::{AtomicU64, Ordering};
-use std::test::Fail;
 
 const LINE: LineNo = LineNo(1);
 
