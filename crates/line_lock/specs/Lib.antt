@@ -3,3 +3,4 @@ pub mod Knows
 pub mod Rule
 pub mod Steps
 pub mod Passes
+pub mod Tests

@@ -16,3 +16,6 @@ pub use kept::Kept;
 pub use lock::{CountedLock, LockRefused};
 pub use pass::Pass;
 pub use view::{Known, Placed};
+
+#[cfg(test)]
+mod tests;

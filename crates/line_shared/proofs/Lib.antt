@@ -1,3 +1,4 @@
 pub mod Stepped
 pub mod MetLaws
 pub mod FreeLaws
+pub mod TestScripts

@@ -7,3 +7,6 @@ pub mod laws;
 pub mod shared;
 
 pub use shared::{Pass, ShareRefused, SharedLine};
+
+#[cfg(test)]
+mod tests;

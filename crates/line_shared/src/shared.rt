@@ -92,6 +92,7 @@ impl<L: IrqLine> SharedLine<L> {
         requires actor { IsSome pass.old.knows.actor }
         ensures pass { IsPassOf self.now pass.new }
         ensures idle { pass.new.turn ≡ false }
+        ensures same_actor { pass.new.knows.actor ≡ pass.old.knows.actor }
         ensures steps { (who : Actor) → pass.old.knows.actor ≡ Some who → Steps self.now.def who pass.old.knows said result pass.new.knows }
     {
         let Some(actor) = pass.actor() else {

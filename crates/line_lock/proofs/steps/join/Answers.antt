@@ -1,4 +1,6 @@
-use Rattle.std.proofs.Common.{arith, refl, ap, ◌∙◌}
+use Rattle.std.proofs.Common.{Option, arith, refl, ap, ◌∙◌}
+use Rattle.atomic_table.specs.Table.{Me}
+use Rattle.line_lock.specs.declared.view.View.{View}
 use Rattle.line_lock.specs.Rule.{spent_view}
 use Rattle.line_lock.proofs.Turning.{join_step, learn_step}
 use Rattle.line_lock.proofs.steps.join.Goals as goal
@@ -10,4 +12,4 @@ join_seat-requires g c =
 pub load-requires : goal.load-requires
 load-requires g c =
     let same = c.join_seat.ensures.2 in
-    (c.join_seat.ensures.0 ∙ c.requires.table.0, omega arith, learn_step g.T.Kept.definition g.T.Kept.entries c.args.lock.now.key c.args.lock.now.table_id.slots c.join_seat.new.seat.id c.join_seat.new.seat.me (ap (λ m. m.0.spent) same ∙ c.requires.idle.1) (ap (λ m. m.0.knows.actor) same ∙ c.requires.first))
+    (c.join_seat.ensures.0 ∙ c.requires.table.0, omega arith, learn_step g.T.Kept.definition g.T.Kept.entries c.args.lock.now.key c.args.lock.now.table_id.slots c.join_seat.new.seat.id c.join_seat.new.seat.me (ap {A = Me (Option g.row.T.Denot) View} (λ m. m.0.spent) same ∙ c.requires.idle.1) (ap {A = Me (Option g.row.T.Denot) View} (λ m. m.0.knows.actor) same ∙ c.requires.first))
