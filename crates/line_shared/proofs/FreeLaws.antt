@@ -8,7 +8,7 @@ use Rattle.irq_base.specs.declared.entries.Entry.{Entry}
 use Rattle.irq_base.specs.declared.lines.LineDef.{LineDef}
 use Rattle.irq_model.specs.Places.{EachEntry, stands}
 use Rattle.irq_model.specs.Kinds.{is_freed, links_dev}
-use Rattle.irq_model.specs.Laws.{IsSilentAfterFree, is_run_of}
+use Rattle.irq_model.specs.Laws.{is_run_of}
 use Rattle.irq_model.specs.Legal.{IsLegal}
 use Rattle.irq_model.specs.Valid.{IsValid}
 use Rattle.irq_laws.proofs.RunLaws.{silent_after_free}

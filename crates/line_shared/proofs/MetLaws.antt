@@ -1,5 +1,5 @@
 -- What a first pass keeps of those that it met.
-use Rattle.std.proofs.Common.{◌≡◌, ℕ, suc, ◌+◌, Bool, true, false, cond, IfSome, Option, Some, None, List, [], ◌∷◌, ◌++◌, length, All, Contains, slice_get, refl, sym, ap, subst, ◌∙◌, inl, inr, arith}
+use Rattle.std.proofs.Common.{◌≡◌, ℕ, suc, ◌+◌, Bool, true, false, cond, IfSome, Option, Some, List, [], ◌∷◌, All, Contains, slice_get, refl, sym, ap, subst, ◌∙◌, inl, inr, arith}
 use Rattle.std.proofs.lemmas.Bool.{false≢true}
 use Rattle.std.proofs.lemmas.List.Elements.{All-nil, All-cons, All-weaker, All-contains}
 use Rattle.std.proofs.lemmas.Option.{same_Some}
@@ -7,11 +7,11 @@ use Rattle.irq_base.specs.Who.{actor_of}
 use Rattle.irq_base.specs.declared.numbers.LineNo.{LineNo}
 use Rattle.irq_base.specs.declared.entries.Actor.{Actor}
 use Rattle.irq_base.specs.declared.entries.Entry.{Entry}
-use Rattle.line_lock.specs.Knows.{is_among, without, without_of, forked, met, Meets, IsKnown}
+use Rattle.line_lock.specs.Knows.{is_among, without_of, forked, Meets, IsKnown}
 use Rattle.line_lock.specs.Placed.{same_actor, is_by, placed, placed_from, placed_of}
 use Rattle.line_lock.specs.declared.view.Known.{Known}
 use Rattle.line_lock.specs.declared.view.Placed.{Placed}
-use Rattle.line_lock.proofs.Actors.{actor_from_same, same_or_not, apart_from, among_old, among_snoc, among_without, same_self_actor}
+use Rattle.line_lock.proofs.Actors.{actor_from_same, same_or_not, among_old, among_snoc, among_without, same_self_actor}
 use Rattle.line_shared.specs.Meeting.{HasMet, StandsIn}
 
 module _ (line : LineNo) (k other new : Known) (who : Actor) (m : Meets line k other new) where

@@ -139,11 +139,13 @@ fn serve<R: Wait>(
     for _ in 0..tries {
         match line.step(rt, &mut pass, said.take()) {
             Ok(Stepped::Added(_)) => (),
-            Ok(Stepped::Run {
-                def,
-                part,
-                unserved,
-            }) => {
+            Ok(
+                Stepped::Run {
+                    def,
+                    part,
+                    unserved,
+                },
+            ) => {
                 said = Some(handlers.call(def, part, unserved));
             }
             _ => return (pass, true),

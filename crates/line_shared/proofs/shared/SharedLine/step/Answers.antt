@@ -1,7 +1,6 @@
-use Rattle.std.proofs.Common.{rules, ◌≡◌, Some, sym, ap, subst, ◌∙◌}
+use Rattle.std.proofs.Common.{rules, ◌≡◌, sym, ap, subst, ◌∙◌}
 use Rattle.std.proofs.lemmas.Option.{same_Some}
 use Rattle.irq_base.specs.declared.entries.Actor.{Actor}
-use Rattle.irq_base.specs.declared.entries.Entry.{Entry}
 use Rattle.irq_line.specs.Answers.{Answers}
 use Rattle.line_lock.specs.Knows.{looked}
 use Rattle.line_lock.specs.Placed.{placed_of}
