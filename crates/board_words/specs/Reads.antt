@@ -1,7 +1,7 @@
 -- What reading a text line's words comes to.
-use Rattle.std.specs.Prelude.{◌≡◌, ℕ, Some, None, List, Result, Ok, Err}
+use Rattle.std.specs.Prelude.{◌≡◌, ℕ, true, Some, None, List, [], ◌∷◌, Result, Ok, Err, codes}
 use Rattle.board_words.specs.Faults.{first_in_order}
-use Rattle.board_words.specs.Forms.{faults_of}
+use Rattle.board_words.specs.Forms.{faults_of, is}
 use Rattle.board_words.specs.Statements.{statement_of}
 use Rattle.board_words.specs.declared.faults.FaultKind.{FaultKind}
 use Rattle.board_words.specs.declared.statements.Statement.{Statement}
@@ -17,3 +17,14 @@ Tells kinds said (Err refusals.NoMemory) = Unit {0}
 -- the first fault of the words, and where there is none what they say
 abbrev pub Reads : List (List ℕ) → Result Statement StatementRefused → Type 0
 Reads words result = Tells (faults_of words) (statement_of words) result
+
+-- the first word is `picks`
+abbrev pub ArePicks : List (List ℕ) → Type 0
+ArePicks [] = ⊥
+ArePicks (word ∷ words) = is word (codes "picks") ≡ true
+
+-- memory is wanted for picks alone
+abbrev pub WantsForPicks : List (List ℕ) → Result Statement StatementRefused → Type 0
+WantsForPicks words (Ok statement) = Unit {0}
+WantsForPicks words (Err (refusals.Fault kind)) = Unit {0}
+WantsForPicks words (Err refusals.NoMemory) = ArePicks words

@@ -2,7 +2,7 @@
 ghost use Rattle.std.specs.Prelude.{◌≡◌, false, codes};
 ghost use Rattle.board_words.specs.Forms as forms;
 ghost use Rattle.board_words.specs.Places.{reads};
-ghost use Rattle.board_words.specs.Reads.{Reads, Tells};
+ghost use Rattle.board_words.specs.Reads.{Reads, Tells, WantsForPicks};
 ghost use Rattle.board_words.specs.Seen.{words_left};
 ghost use Rattle.board_words.specs.Statements as said;
 ghost use Rattle.board_words.specs.declared.statements.Statement.TheVariants as statements;
@@ -18,7 +18,8 @@ use std::alloc::Global;
 
 /// What the words of a text line say. Only picks take memory.
 pub fn read_statement(alloc: Global, words: Words<'_>) -> Result<Statement, StatementRefused>
-    ensures { Reads (words_left words.entry) result }
+    ensures exact { Reads (words_left words.entry) result }
+    ensures memory { WantsForPicks (words_left words.entry) result }
 {
     let mut rest = words;
     let Some(word) = rest.next() else {

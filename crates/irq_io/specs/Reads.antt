@@ -22,7 +22,7 @@ GotWithin room answer = IfGot answer (λ n. (1 ≤ n) × (n ≤ room))
 -- where the source tells what is left: the bytes that came are the first of it and are taken, the end comes
 -- where nothing is left, and a fault takes nothing
 abbrev pub Reads : Option (List ℕ) → Option (List ℕ) → List ℕ → ReadAnswer → Type 0
-Reads None now buf answer = now ≡ None
+Reads None now buf answer = Unit {0}
 Reads (Some before) now buf (answers.Got n) = (now ≡ Some (drop n before)) × (take n buf ≡ take n before) × (n ≤ length before)
 Reads (Some before) now buf answers.End = (before ≡ []) × (now ≡ Some [])
 Reads (Some before) now buf answers.Failed = now ≡ Some before

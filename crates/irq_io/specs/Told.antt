@@ -1,14 +1,8 @@
--- Contents that an end tells or not, and lists that others begin with.
-use Rattle.std.specs.Prelude.{◌≡◌, ℕ, List, ◌++◌, Option, Some, None}
-
--- the content of an end that doesn't tell it
-abbrev pub untold : Option (List ℕ)
-untold = None
-
--- the content, where it is told, with the bytes at its end
-abbrev pub with_more : Option (List ℕ) → List ℕ → Option (List ℕ)
-with_more None bytes = None
-with_more (Some content) bytes = Some (content ++ bytes)
+-- Contents that an end tells or not, and lists that others begin with. Of an end that doesn't tell its content nothing is
+-- said, not even that it goes on so: std's traits leave that open.
+use Rattle.std.specs.Prelude.{◌≡◌, ℕ, List, [], ◌++◌, Option, Some, None}
+use Rattle.std.proofs.Common.{sym}
+use Rattle.std.proofs.lemmas.List.{append-nil}
 
 -- the second list begins with the first
 abbrev pub IsBeginning : List ℕ → List ℕ → Type 0
@@ -20,3 +14,18 @@ IsToldBeginning None None = Unit {0}
 IsToldBeginning None (Some all) = ⊥
 IsToldBeginning (Some first) None = ⊥
 IsToldBeginning (Some first) (Some all) = IsBeginning first all
+
+-- where it was told: it still is, and begins with what it was
+abbrev pub GrowsTo : Option (List ℕ) → Option (List ℕ) → Type 0
+GrowsTo None now = Unit {0}
+GrowsTo (Some before) now = IsToldBeginning (Some before) now
+
+-- where it was told: it is as it was
+abbrev pub Stays : Option (List ℕ) → Option (List ℕ) → Type 0
+Stays None now = Unit {0}
+Stays (Some before) now = now ≡ Some before
+
+-- each list begins with itself
+abbrev pub begins_itself : (told : Option (List ℕ)) → IsToldBeginning told told
+begins_itself None = tt
+begins_itself (Some all) = ([], sym (append-nil all))

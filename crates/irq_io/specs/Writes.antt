@@ -1,6 +1,5 @@
 -- What a write and a flush answer, and what the sink holds after them.
-use Rattle.std.specs.Prelude.{◌≡◌, ℕ, ◌≤◌, Bool, true, false, Option, List, take}
-use Rattle.irq_io.specs.Told.{with_more}
+use Rattle.std.specs.Prelude.{◌≡◌, ℕ, ◌≤◌, Bool, true, false, Option, Some, None, List, [], ◌++◌, take}
 use Rattle.irq_io.specs.declared.sinks.WriteAnswer.{WriteAnswer}
 use Rattle.irq_io.specs.declared.sinks.WriteAnswer.TheVariants as writes
 use Rattle.irq_io.specs.declared.sinks.FlushAnswer.{FlushAnswer}
@@ -25,15 +24,21 @@ IfTook writes.Failed P = Unit {0}
 abbrev pub TookWithin : ℕ → WriteAnswer → Type 0
 TookWithin given answer = IfTook answer (λ n. (1 ≤ n) × (n ≤ given))
 
--- the content grew by the bytes that were taken; a fault adds nothing
-abbrev pub written_after : Option (List ℕ) → List ℕ → WriteAnswer → Option (List ℕ)
-written_after content bytes (writes.Took n) = with_more content (take n bytes)
-written_after content bytes writes.Failed = content
+-- where the sink tells its content: it grew by the bytes that were taken; a fault adds nothing
+abbrev pub Writes : Option (List ℕ) → Option (List ℕ) → List ℕ → WriteAnswer → Type 0
+Writes None now bytes answer = Unit {0}
+Writes (Some before) now bytes (writes.Took n) = now ≡ Some (before ++ take n bytes)
+Writes (Some before) now bytes writes.Failed = now ≡ Some before
 
 -- after a flush that is done all that was written has been handed on
 abbrev pub HandsAllOn : Option (List ℕ) → Option (List ℕ) → FlushAnswer → Type 0
 HandsAllOn handed_on written flushes.Done = handed_on ≡ written
 HandsAllOn handed_on written flushes.Failed = Unit {0}
+
+-- after a flush that is done nothing is kept back
+abbrev pub LeavesNone : List ℕ → FlushAnswer → Type 0
+LeavesNone kept flushes.Done = kept ≡ []
+LeavesNone kept flushes.Failed = Unit {0}
 
 -- how many bytes were taken
 abbrev pub taken_of : WriteAnswer → ℕ

@@ -4,8 +4,8 @@ ghost use Rattle.std.specs.List.{Contains};
 ghost use Rattle.std.proofs.Common.{sym};
 ghost use Rattle.std.proofs.lemmas.List.{append-nil};
 ghost use Rattle.irq_io.specs.Faults.{Counts, next_count, count_after};
-ghost use Rattle.irq_io.specs.Told.{IsToldBeginning};
-ghost use Rattle.irq_io.specs.Writes.{HandsAllOn, IfTook, TookWithin, flush_failed, taken_of, write_failed, written_after};
+ghost use Rattle.irq_io.specs.Told.{GrowsTo, Stays};
+ghost use Rattle.irq_io.specs.Writes.{HandsAllOn, IfTook, LeavesNone, TookWithin, Writes, flush_failed, taken_of, write_failed};
 
 use crate::listed::is_listed;
 use crate::sinks::{FlushAnswer, Sink, WriteAnswer};
@@ -96,6 +96,8 @@ impl Sink for MemSink {
 
     ghost handed_on = { λ s. Some s.content };
 
+    ghost kept = { λ s. [] };
+
     ghost faults = { λ s. s.faults };
 
     ghost in_order = { λ s. ([], sym (append-nil s.content)) };
@@ -103,8 +105,8 @@ impl Sink for MemSink {
     fn write(&mut self, bytes: &[u8]) -> WriteAnswer
         requires { 0 < length bytes.now }
         ensures bound { TookWithin (length bytes.now) result }
-        ensures content { Some self.new.content ≡ written_after (Some self.old.content) bytes.now result }
-        ensures handed { IsToldBeginning (Some self.old.content) (Some self.new.content) }
+        ensures content { Writes (Some self.old.content) (Some self.new.content) bytes.now result }
+        ensures handed { GrowsTo (Some self.old.content) (Some self.new.content) }
         ensures cause { Counts self.old.faults self.new.faults (write_failed result) }
 
         // It takes all, or as much as fits. A listed write fails, and one that finds no room.
@@ -131,9 +133,10 @@ impl Sink for MemSink {
     }
 
     fn flush(&mut self) -> FlushAnswer
-        ensures content { Some self.new.content ≡ Some self.old.content }
-        ensures handed { IsToldBeginning (Some self.old.content) (Some self.new.content) }
+        ensures content { Stays (Some self.old.content) (Some self.new.content) }
+        ensures handed { GrowsTo (Some self.old.content) (Some self.new.content) }
         ensures all { HandsAllOn (Some self.new.content) (Some self.new.content) result }
+        ensures emptied { LeavesNone [] result }
         ensures cause { Counts self.old.faults self.new.faults (flush_failed result) }
 
         ensures fails { (result ≡ FlushAnswer.Failed)

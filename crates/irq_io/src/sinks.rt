@@ -22,14 +22,17 @@ pub enum FlushAnswer {
 pub trait Sink {
     ghost use Rattle.std.specs.Prelude.{◌≡◌, ℕ, Option, List, ◌<◌, length};
     ghost use Rattle.irq_io.specs.Faults.{Counts};
-    ghost use Rattle.irq_io.specs.Told.{IsToldBeginning};
-    ghost use Rattle.irq_io.specs.Writes.{HandsAllOn, TookWithin, flush_failed, write_failed, written_after};
+    ghost use Rattle.irq_io.specs.Told.{GrowsTo, IsToldBeginning, Stays};
+    ghost use Rattle.irq_io.specs.Writes.{HandsAllOn, LeavesNone, TookWithin, Writes, flush_failed, write_failed};
 
     /// The bytes that it took so far, where the sink tells them.
     ghost written: { Self → Option (List ℕ) };
 
     /// Those of them that it has handed on.
     ghost handed_on: { Self → Option (List ℕ) };
+
+    /// The bytes of them that it keeps back in a buffer of its own.
+    ghost kept: { Self → List ℕ };
 
     /// The number of faults so far.
     ghost faults: { Self → ℕ };
@@ -38,15 +41,16 @@ pub trait Sink {
     fn write(&mut self, bytes: &[u8]) -> WriteAnswer
         requires { 0 < length bytes.now }
         ensures bound { TookWithin (length bytes.now) result }
-        ensures content { written self.new ≡ written_after (written self.old) bytes.now result }
-        ensures handed { IsToldBeginning (handed_on self.old) (handed_on self.new) }
+        ensures content { Writes (written self.old) (written self.new) bytes.now result }
+        ensures handed { GrowsTo (handed_on self.old) (handed_on self.new) }
         ensures cause { Counts (faults self.old) (faults self.new) (write_failed result) };
 
     /// Hands on all that was taken.
     fn flush(&mut self) -> FlushAnswer
-        ensures content { written self.new ≡ written self.old }
-        ensures handed { IsToldBeginning (handed_on self.old) (handed_on self.new) }
+        ensures content { Stays (written self.old) (written self.new) }
+        ensures handed { GrowsTo (handed_on self.old) (handed_on self.new) }
         ensures all { HandsAllOn (handed_on self.new) (written self.new) result }
+        ensures emptied { LeavesNone (kept self.new) result }
         ensures cause { Counts (faults self.old) (faults self.new) (flush_failed result) };
 
     /// What was handed on is a beginning of what was written, and both are told or neither.

@@ -1,35 +1,37 @@
 //! A sink over std's writers.
-ghost use Rattle.std.specs.Prelude.{◌≡◌, ◌<◌, length, take};
-ghost use Rattle.std.specs.Io.KnownBytes.{Appends, Keeps};
+ghost use Rattle.std.specs.Prelude.{◌≡◌, ◌<◌, length};
+ghost use Rattle.std.specs.Io.Buffered.{writer_buffer, writer_contents, writer_inner};
 ghost use Rattle.irq_io.specs.Faults.{Counts, count_after};
-ghost use Rattle.irq_io.specs.Told.{IsToldBeginning};
-ghost use Rattle.irq_io.specs.Told.{untold};
-ghost use Rattle.irq_io.specs.Writes.{HandsAllOn, TookWithin, flush_failed, taken_of, write_failed, written_after};
+ghost use Rattle.irq_io.specs.Told.{GrowsTo, Stays, begins_itself};
+ghost use Rattle.irq_io.specs.Writes.{HandsAllOn, LeavesNone, TookWithin, Writes, flush_failed, write_failed};
 
 use crate::sinks::{FlushAnswer, Sink, WriteAnswer};
-use std::io::Write;
+use std::io::{BufWriter, Write};
 use std::marker::Model;
 
-/// A sink over a writer of std. Each `Err` is a fault, also an interrupted write, and so is a write that takes
-/// nothing. The sink tells no content: what reaches an operating system no contract knows. Contracts see the
-/// `writer` and `faults`.
+/// A sink over a writer of std, with std's buffer in front of it. Each `Err` is a fault, also an interrupted write,
+/// and so is a write that takes nothing. It tells the content that the writer tells, then the buffer's: all of it is
+/// handed to std, and what the buffer still has is `kept` back. A flush that is done leaves the buffer empty, and so
+/// all in the writer. Contracts see the `writer` with its buffer, and `faults`.
 #[derive(Drop)]
-pub struct StdSink<W> {
-    writer: W,
+pub struct StdSink<W: Write + Drop> {
+    writer: BufWriter<W>,
     faults: u64,
 }
 
-impl<W> Model for StdSink<W> {
+impl<W: Write + Drop> Model for StdSink<W> {
+    ghost use Rattle.std.specs.Global.{Global};
+    ghost use Rattle.std.specs.declared.io.buffered.BufWriter.{BufWriter};
     ghost use Rattle.irq_io.specs.StdEnds.{StdSinkSeen};
 
-    ghost Value = { StdSinkSeen W };
+    ghost Value = { StdSinkSeen (BufWriter W Global) };
 
     ghost view = { λ s. record { writer = s.writer; faults = s.faults } };
 }
 
-impl<W> StdSink<W> {
+impl<W: Write + Drop> StdSink<W> {
     /// The sink over this writer.
-    pub fn new(writer: W) -> StdSink<W>
+    pub fn new(writer: BufWriter<W>) -> StdSink<W>
         ensures writer { result.writer ≡ writer }
         ensures counts { result.faults ≡ 0 }
     {
@@ -42,26 +44,34 @@ impl<W> StdSink<W> {
     {
         self.faults
     }
+
+    /// The writer. What is still kept back is let go, and nothing is written.
+    pub fn into_writer(self) -> W
+        ensures { result ≡ writer_inner self.writer }
+    {
+        let (writer, _) = self.writer.into_parts();
+        writer
+    }
 }
 
-impl<W: Write> Sink for StdSink<W> {
-    ghost written = { λ s. untold };
+impl<W: Write + Drop> Sink for StdSink<W> {
+    ghost written = { λ s. writer_contents W.contents s.writer };
 
-    ghost handed_on = { λ s. untold };
+    ghost handed_on = { λ s. writer_contents W.contents s.writer };
+
+    ghost kept = { λ s. writer_buffer s.writer };
 
     ghost faults = { λ s. s.faults };
 
-    ghost in_order = { λ s. tt };
+    ghost in_order = { λ s. begins_itself (writer_contents W.contents s.writer) };
 
     fn write(&mut self, bytes: &[u8]) -> WriteAnswer
         requires { 0 < length bytes.now }
         ensures bound { TookWithin (length bytes.now) result }
-        ensures content { untold ≡ written_after untold bytes.now result }
-        ensures handed { IsToldBeginning untold untold }
+        ensures content { Writes (writer_contents W.contents self.old.writer) (writer_contents W.contents self.new.writer) bytes.now result }
+        ensures handed { GrowsTo (writer_contents W.contents self.old.writer) (writer_contents W.contents self.new.writer) }
         ensures cause { Counts self.old.faults self.new.faults (write_failed result) }
 
-        // Where the writer itself tells its content, it grew by exactly the bytes that were taken.
-        ensures passes { Appends (W.contents self.old.writer) (W.contents self.new.writer) (take (taken_of result) bytes.now) }
         ensures faults { self.new.faults ≡ count_after self.old.faults (write_failed result) }
     {
         match self.writer.write(bytes) {
@@ -74,12 +84,12 @@ impl<W: Write> Sink for StdSink<W> {
     }
 
     fn flush(&mut self) -> FlushAnswer
-        ensures content { untold ≡ untold }
-        ensures handed { IsToldBeginning untold untold }
-        ensures all { HandsAllOn untold untold result }
+        ensures content { Stays (writer_contents W.contents self.old.writer) (writer_contents W.contents self.new.writer) }
+        ensures handed { GrowsTo (writer_contents W.contents self.old.writer) (writer_contents W.contents self.new.writer) }
+        ensures all { HandsAllOn (writer_contents W.contents self.new.writer) (writer_contents W.contents self.new.writer) result }
+        ensures emptied { LeavesNone (writer_buffer self.new.writer) result }
         ensures cause { Counts self.old.faults self.new.faults (flush_failed result) }
 
-        ensures passes { Keeps (W.contents self.old.writer) (W.contents self.new.writer) }
         ensures faults { self.new.faults ≡ count_after self.old.faults (flush_failed result) }
     {
         match self.writer.flush() {

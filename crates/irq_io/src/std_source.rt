@@ -2,15 +2,14 @@
 ghost use Rattle.std.specs.Prelude.{◌≡◌, ◌<◌, length};
 ghost use Rattle.irq_io.specs.Faults.{Counts, count_after};
 ghost use Rattle.irq_io.specs.Reads.{GotWithin, Reads, read_failed};
-ghost use Rattle.irq_io.specs.StdEnds.{PassesOn};
-ghost use Rattle.irq_io.specs.Told.{untold};
 
 use crate::sources::{ReadAnswer, Source};
 use std::io::Read;
 use std::marker::Model;
 
-/// A source over a reader of std. Each `Err` is a fault, also an interrupted read. The source tells no
-/// content: what an operating system gives no contract knows. Contracts see the `reader` and `faults`.
+/// A source over a reader of std. Each `Err` is a fault, also an interrupted read. The source tells
+/// what the reader tells: a slice its bytes, and standard input nothing, since what an operating system gives no
+/// contract knows. Contracts see the `reader` and `faults`.
 #[derive(Drop)]
 pub struct StdSource<R> {
     reader: R,
@@ -43,18 +42,16 @@ impl<R> StdSource<R> {
 }
 
 impl<R: Read> Source for StdSource<R> {
-    ghost left = { λ s. untold };
+    ghost left = { λ s. R.remaining s.reader };
 
     ghost faults = { λ s. s.faults };
 
     fn read(&mut self, buf: &mut [u8]) -> ReadAnswer
         requires { 0 < length buf.old }
         ensures bound { GotWithin (length buf.old) result }
-        ensures content { Reads untold untold buf.new result }
+        ensures content { Reads (R.remaining self.old.reader) (R.remaining self.new.reader) buf.new result }
         ensures cause { Counts self.old.faults self.new.faults (read_failed result) }
 
-        // Where the reader itself tells what remains, exactly what was taken from it is given.
-        ensures passes { PassesOn (R.remaining self.old.reader) (R.remaining self.new.reader) buf.new result }
         ensures faults { self.new.faults ≡ count_after self.old.faults (read_failed result) }
     {
         match self.reader.read(buf) {

@@ -1,6 +1,9 @@
 //! The ends, told what to do beforehand, and the loops over them.
+ghost use Rattle.std.specs.Prelude.{◌≡◌, ◌≤◌, IfOk, IfSome, take};
+
 use super::*;
-use std::io::{Error, ErrorKind, Read, Write};
+use std::alloc::Global;
+use std::io::{BufWriter, Error, ErrorKind, Read, Write};
 use std::test::Fail;
 
 /// A memory source over "abcdef", read into a buffer of four bytes.
@@ -191,7 +194,7 @@ fn make_flaky() -> Flaky {
 }
 
 #[test]
-fn std_faults_are_counted(rt: HostRuntime) {
+fn std_faults_are_counted(rt: HostRuntime) -> Result<(), Fail> {
     let mut source = StdSource::new(make_flaky());
     let mut buf = [0u8; 4];
     let reads = [
@@ -206,7 +209,7 @@ fn std_faults_are_counted(rt: HostRuntime) {
     assert_eq!(rt; buf.as_slice(), b"hi\0\0".as_slice());
     assert_eq!(rt; source.faults(), 2);
 
-    let mut sink = StdSink::new(make_flaky());
+    let mut sink = StdSink::new(BufWriter::with_capacity(rt.alloc(), 0, make_flaky())?);
     for wanted in [
         WriteAnswer::Failed,
         WriteAnswer::Failed,
@@ -218,6 +221,7 @@ fn std_faults_are_counted(rt: HostRuntime) {
         assert_eq!(rt; sink.flush(), wanted);
     }
     assert_eq!(rt; sink.faults(), 4);
+    Ok(())
 }
 
 #[test]
@@ -255,6 +259,10 @@ fn readings_stop_at_the_bound_the_end_and_a_fault(rt: HostRuntime) -> Result<(),
     let mut source = StdSource::new(long.as_slice());
     assert_eq!(rt; read_up_to(rt.alloc(), &mut source, 9_999)?.len(), 9_999);
     assert_eq!(rt; read_up_to(rt.alloc(), &mut source, 9_999)?.len(), 1);
+    assert_eq!(rt;
+        read_from_slice(rt.alloc(), b"abcd", 3)?.as_slice(),
+        b"abc".as_slice()
+    );
     Ok(())
 }
 
@@ -277,16 +285,32 @@ fn writings_go_on_until_all_is_taken(rt: HostRuntime) -> Result<(), Fail> {
     assert_eq!(rt; write_all(&mut full, b""), WriteEnd::Done);
     assert_eq!(rt; full.faults(), 0);
 
-    let mut sink = StdSink::new(make_flaky());
+    let mut sink = StdSink::new(BufWriter::with_capacity(rt.alloc(), 0, make_flaky())?);
     for wanted in [WriteEnd::Failed, WriteEnd::Failed, WriteEnd::Done] {
         assert_eq!(rt; write_all(&mut sink, b"abcde"), wanted);
     }
-    let mut held = Vec::new(rt.alloc());
-    let mut sink = StdSink::new(&mut held);
-    assert_eq!(rt; write_all(&mut sink, b"abcde"), WriteEnd::Done);
-    assert_eq!(rt; sink.flush(), FlushAnswer::Done);
-    assert_eq!(rt; sink.faults(), 0);
-    drop(sink);
-    assert_eq!(rt; held.as_slice(), b"abcde".as_slice());
+    for room in [0, 3, 100] {
+        let held = written_to_list(rt.alloc(), room, b"abcde")?;
+        assert!(rt; held.is_some_and(|held| held.as_slice() == b"abcde".as_slice()));
+    }
     Ok(())
+}
+
+/// What a list has of bytes that were written to it through a buffer with that room and flushed, unless that failed.
+fn written_to_list(alloc: Global, room: usize, bytes: &[u8]) -> Result<Option<Vec<u8>>, Fail>
+    ensures { IfOk result (λ held. IfSome held (λ list. list.items ≡ bytes.now)) }
+{
+    let mut sink = StdSink::new(BufWriter::with_capacity(alloc, room, Vec::new(alloc))?);
+    if write_all(&mut sink, bytes) == WriteEnd::Done && sink.flush() == FlushAnswer::Done {
+        return Ok(Some(sink.into_writer()));
+    }
+    Ok(None)
+}
+
+/// The first bytes of a slice, read from it as from a source.
+fn read_from_slice(alloc: Global, bytes: &[u8], most: usize) -> Result<Vec<u8>, ReadRefused>
+    requires { 1 ≤ most }
+    ensures { IfOk result (λ came. came.items ≡ take most bytes.now) }
+{
+    read_up_to(alloc, &mut StdSource::new(bytes), most)
 }

@@ -51,7 +51,7 @@ at_end : (line : LineSeen) (picks : List Actor) (end : PlayEnd) → IsValid line
 at_end line picks ends.Done valid legal play = headline line.def picks line.entries valid legal play
 at_end line picks (ends.Full len) valid legal play =
     let long = sym (length-reverse line.entries) ∙ play.0.2.1 in (record { play = play.0; legal = legal; length_is = long }, sym play.1 ∙ long)
-at_end line picks ends.NoMemory valid legal play = tt
+at_end line picks ends.NoMemory valid legal play = record { left = play.left; chosen = play.chosen; due = play.next; legal = legal; below = play.cause.0 }
 
 -- what the play's end says of the history that was taken out of the line
 pub ended : (def : LineDef) (line : LineSeen) (picks : List Actor) (h : List Entry) (end : PlayEnd) → line.def ≡ def → h ≡ line.entries → IsValid line.def → IsLegal line.def line.entries → IsPlay line picks end

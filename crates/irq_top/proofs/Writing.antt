@@ -5,19 +5,19 @@ use Rattle.std.proofs.lemmas.Grind.{flat_map-append}
 use Rattle.std.proofs.lemmas.List.{take_more, take_all, flat_map_more, take-append-drop, append-nil}
 use Rattle.std.proofs.lemmas.List.FromFn.{length-range_with_len, get_or-range_with_len}
 use Rattle.std.proofs.lemmas.Option.{slice_get_within, get_or_from_slice_get, slice_get-get_or}
+use Rattle.irq_io.specs.Told.{Stays}
 use Rattle.irq_io.specs.Whole.{WritesAll}
 use Rattle.irq_io.specs.declared.whole.WriteEnd.{WriteEnd}
 use Rattle.irq_io.specs.declared.whole.WriteEnd.TheVariants as ends
 
 -- nothing was written
 pub nothing : (a : Option (List ℕ)) → WritesAll a a [] ends.Done
-nothing None = refl
+nothing None = tt
 nothing (Some old) = ap Some (sym (append-nil old))
 
 -- what was written, and what is written after it
 pub and_then : (a b c : Option (List ℕ)) (xs ys : List ℕ) (end : WriteEnd) → WritesAll a b xs ends.Done → WritesAll b c ys end → WritesAll a c (xs ++ ys) end
-and_then None b c xs ys ends.Done h k = subst (λ (o : Option (List ℕ)). WritesAll o c ys ends.Done) h k
-and_then None b c xs ys ends.Failed h k = subst (λ (o : Option (List ℕ)). WritesAll o c ys ends.Failed) h k
+and_then None b c xs ys end h k = tt
 and_then (Some old) b c xs ys ends.Done h k =
     subst (λ (o : Option (List ℕ)). WritesAll o c ys ends.Done) h k ∙ ap Some (append_assoc old xs ys)
 and_then (Some old) b c xs ys ends.Failed h k =
@@ -26,13 +26,19 @@ and_then (Some old) b c xs ys ends.Failed h k =
 
 -- what failed within a part failed within the whole
 pub failed_within : (a b : Option (List ℕ)) (xs ys : List ℕ) → WritesAll a b xs ends.Failed → WritesAll a b (xs ++ ys) ends.Failed
-failed_within None b xs ys h = h
+failed_within None b xs ys h = tt
 failed_within (Some old) b xs ys h = (h.0, (h.1.0 ++ ys, ap (λ zs. zs ++ ys) h.1.1 ∙ append_assoc h.0 h.1.0 ys), h.2)
 
 -- a fault after the last byte
 pub failed_after : (a b : Option (List ℕ)) (xs : List ℕ) → WritesAll a b xs ends.Done → WritesAll a b xs ends.Failed
-failed_after None b xs h = h
+failed_after None b xs h = tt
 failed_after (Some old) b xs h = (xs, ([], sym (append-nil xs)), h)
+
+-- what was written, and then stayed
+pub then_stays : (a b c : Option (List ℕ)) (xs : List ℕ) (end : WriteEnd) → WritesAll a b xs end → Stays b c → WritesAll a c xs end
+then_stays None b c xs end h k = tt
+then_stays (Some old) b c xs ends.Done h k = subst (λ (o : Option (List ℕ)). Stays o c) h k
+then_stays (Some old) b c xs ends.Failed h k = (h.0, h.1, subst (λ (o : Option (List ℕ)). Stays o c) h.2 k)
 
 -- one item more
 items_more : {X : Type 0} (f : X → List ℕ) (xs : List X) (i : ℕ) (x : X) → slice_get xs i ≡ Some x → flat_map f (take (i + 1) xs) ≡ flat_map f (take i xs) ++ f x

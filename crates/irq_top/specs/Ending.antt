@@ -14,7 +14,7 @@ use Rattle.irq_top.specs.declared.inputs.InputRefused.TheVariants as refusals
 use Rattle.irq_top.specs.declared.ending.Ending.{Ending}
 use Rattle.irq_top.specs.declared.ending.Ending.TheVariants as endings
 use Rattle.irq_top.specs.Reading.{left_after}
-use Rattle.irq_top.specs.Printing.{HandsOn}
+use Rattle.irq_top.specs.Printing.{HandsOn, KeepsNone}
 
 abbrev pub status_of : Ending → ℕ
 status_of endings.Done = 0
@@ -94,10 +94,11 @@ Prints before now text endings.Done = WritesAll before now text writes.Done
 Prints before now text endings.WriteFault = WritesAll before now text writes.Failed
 Prints before now text _ = Unit {0}
 
--- The error sink gained the row and has handed it on; or its count of faults rose, and it gained a beginning
--- of the row.
-pub record Tells (row : List ℕ) (written_before written_now handed_on_now : Option (List ℕ)) (faults_before faults_now : ℕ) : Type 0 where
+-- The error sink gained the row, has handed it on and keeps nothing back; or its count of faults rose, and it gained a
+-- beginning of the row.
+pub record Tells (row : List ℕ) (written_before written_now handed_on_now : Option (List ℕ)) (kept_now : List ℕ) (faults_before faults_now : ℕ) : Type 0 where
   pub end : WriteEnd
   pub content : WritesAll written_before written_now row end
   pub handed : HandsOn handed_on_now written_now end
+  pub emptied : KeepsNone kept_now end
   pub cause : Counts faults_before faults_now (writing_failed end)

@@ -1,5 +1,5 @@
 -- What holds of the history that is printed.
-use Rattle.std.specs.Prelude.{◌≡◌, List, ◌∷◌, [], ◌++◌, length}
+use Rattle.std.specs.Prelude.{◌≡◌, ◌<◌, IsSome, List, ◌∷◌, [], ◌++◌, length, reverse}
 use Rattle.irq_base.specs.declared.entries.Actor.{Actor}
 use Rattle.irq_base.specs.declared.lines.LineDef.{LineDef}
 use Rattle.irq_base.specs.declared.entries.Entry.{Entry}
@@ -13,7 +13,7 @@ use Rattle.irq_laws.specs.Quiet.{IsQuiet}
 use Rattle.board_def.specs.LineOf.{line_of_row}
 use Rattle.board_def.specs.Seen.{BoardSeen}
 use Rattle.board_def.specs.declared.rows.LineRow.{LineRow}
-use Rattle.play_laws.specs.Play.{Done, Full, Plays}
+use Rattle.play_laws.specs.Play.{Done, Full, IsChosen, Plays, choice}
 use Rattle.line_play.specs.declared.plays.PlayEnd.{PlayEnd}
 use Rattle.line_play.specs.declared.plays.PlayEnd.TheVariants as ends
 
@@ -48,11 +48,20 @@ pub record FullLog (def : LineDef) (picks : List Actor) (h : List Entry) : Type 
   pub legal : IsLegal def h
   pub length_is : length h ≡ def.log
 
+-- the history of a line whose play stopped for want of memory: the play so far, below the greatest length, where a
+-- further entry was due
+pub record CutShort (def : LineDef) (picks : List Actor) (h : List Entry) : Type 0 where
+  pub left : List Actor
+  pub chosen : IsChosen def picks (reverse h) left
+  pub due : IsSome (choice def (reverse h) left)
+  pub legal : IsLegal def h
+  pub below : length h < def.log
+
 -- what a play's end says of its history
 abbrev pub HasEnded : LineDef → List Actor → List Entry → PlayEnd → Type 0
 HasEnded def picks h ends.Done = Headline def picks h
 HasEnded def picks h (ends.Full len) = FullLog def picks h × (len ≡ def.log)
-HasEnded def picks h ends.NoMemory = Unit {0}
+HasEnded def picks h ends.NoMemory = CutShort def picks h
 
 -- the board's one line was played, and so its play ended
 pub record PlaysLine (b : BoardSeen) (line : LineNo) (h : List Entry) (end : PlayEnd) : Type 0 where

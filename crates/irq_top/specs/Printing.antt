@@ -1,4 +1,5 @@
-use Rattle.std.specs.Prelude.{◌≡◌, ℕ, Option, List}
+-- What is said of a sink after a writing and its flush.
+use Rattle.std.specs.Prelude.{◌≡◌, ℕ, Option, List, []}
 use Rattle.irq_io.specs.declared.whole.WriteEnd.{WriteEnd}
 use Rattle.irq_io.specs.declared.whole.WriteEnd.TheVariants as ends
 
@@ -6,3 +7,8 @@ use Rattle.irq_io.specs.declared.whole.WriteEnd.TheVariants as ends
 abbrev pub HandsOn : Option (List ℕ) → Option (List ℕ) → WriteEnd → Type 0
 HandsOn handed_on written ends.Done = handed_on ≡ written
 HandsOn handed_on written ends.Failed = Unit {0}
+
+-- where the printing is done, the sink keeps nothing back
+abbrev pub KeepsNone : List ℕ → WriteEnd → Type 0
+KeepsNone kept ends.Done = kept ≡ []
+KeepsNone kept ends.Failed = Unit {0}

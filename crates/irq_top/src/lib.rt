@@ -13,7 +13,7 @@ pub mod top;
 
 pub use ending::Ending;
 pub use inputs::InputRefused;
-pub use top::{Outcome, irq_main};
+pub use top::{Outcome, end_early, irq_main};
 
 #[cfg(test)]
 mod tests;

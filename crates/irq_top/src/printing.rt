@@ -7,7 +7,7 @@ ghost use Rattle.log_text.specs.EntryWords.{IsPrintable};
 ghost use Rattle.log_text.specs.LayoutRows.{layout_rows};
 ghost use Rattle.log_text.specs.Rows.{history_text};
 ghost use Rattle.irq_top.specs.Report.{one_report_text};
-ghost use Rattle.irq_top.specs.Printing.{HandsOn};
+ghost use Rattle.irq_top.specs.Printing.{HandsOn, KeepsNone};
 
 use board_def::{Board, Layout};
 use irq_base::{History, LineNo};
@@ -27,6 +27,7 @@ pub fn print_report<O: Sink>(
     requires printable { All IsPrintable history.now.entries }
     ensures content { WritesAll (O.written out.old) (O.written out.new) (one_report_text board.now line history.now.entries) result }
     ensures handed { HandsOn (O.handed_on out.new) (O.written out.new) result }
+    ensures emptied { KeepsNone (O.kept out.new) result }
     ensures cause { Counts (O.faults out.old) (O.faults out.new) (writing_failed result) }
 {
     let mut row = TextRow::new();

@@ -48,10 +48,11 @@ pub fn irq_main<S: Source, O: Sink, E: Sink>(
 
     ensures plays { PlaysOrNot (S.left src.old) result.reports.reports (O.written out.old) (O.written out.new) result.ending }
     ensures handed_on { result.ending ≡ Ending.Done → O.handed_on out.new ≡ O.written out.new }
+    ensures emptied { result.ending ≡ Ending.Done → O.kept out.new ≡ [] }
     ensures write_fault { Counts (O.faults out.old) (O.faults out.new) (is_write_fault_end result.ending) }
     ensures silent { is_printing result.ending ≡ false → out.new ≡ out.old }
 
-    ensures tells { (result.ending ≡ Ending.Done → ⊥) → Tells (error_text result.ending) (E.written err.old) (E.written err.new) (E.handed_on err.new) (E.faults err.old) (E.faults err.new) }
+    ensures tells { (result.ending ≡ Ending.Done → ⊥) → Tells (error_text result.ending) (E.written err.old) (E.written err.new) (E.handed_on err.new) (E.kept err.new) (E.faults err.old) (E.faults err.new) }
     ensures quiet { result.ending ≡ Ending.Done → err.new ≡ err.old }
 {
     let outcome = work(alloc, words, src, out);
@@ -69,6 +70,7 @@ fn work<S: Source, O: Sink>(alloc: Global, words: &[&str], src: &mut S, out: &mu
     ensures read_fault { Counts (S.faults src.old) (S.faults src.new) (is_read_fault_end result.ending) }
     ensures plays { PlaysOrNot (S.left src.old) result.reports.reports (O.written out.old) (O.written out.new) result.ending }
     ensures handed_on { result.ending ≡ Ending.Done → O.handed_on out.new ≡ O.written out.new }
+    ensures emptied { result.ending ≡ Ending.Done → O.kept out.new ≡ [] }
     ensures write_fault { Counts (O.faults out.old) (O.faults out.new) (is_write_fault_end result.ending) }
     ensures silent { is_printing result.ending ≡ false → out.new ≡ out.old }
 {
@@ -113,6 +115,7 @@ fn play_and_print<O: Sink>(alloc: Global, board: &Board, out: &mut O) -> Outcome
     ensures reports { HasReports board.now result.reports.reports result.ending }
     ensures prints { Prints (O.written out.old) (O.written out.new) (report_text board.now result.reports.reports) result.ending }
     ensures handed_on { result.ending ≡ Ending.Done → O.handed_on out.new ≡ O.written out.new }
+    ensures emptied { result.ending ≡ Ending.Done → O.kept out.new ≡ [] }
     ensures write_fault { Counts (O.faults out.old) (O.faults out.new) (is_write_fault_end result.ending) }
     ensures silent { is_printing result.ending ≡ false → out.new ≡ out.old }
 {
@@ -141,6 +144,7 @@ fn print_ending<O: Sink>(out: &mut O, board: &Board, played: &Played) -> Ending
     ensures printing { IsTrue (is_printing result) }
     ensures prints { Prints (O.written out.old) (O.written out.new) (one_report_text board.now played.now.line played.now.history.entries) result }
     ensures handed_on { result ≡ Ending.Done → O.handed_on out.new ≡ O.written out.new }
+    ensures emptied { result ≡ Ending.Done → O.kept out.new ≡ [] }
     ensures write_fault { Counts (O.faults out.old) (O.faults out.new) (is_write_fault_end result) }
 {
     match print_report(out, board, &played.layout, played.line, &played.history) {
@@ -149,9 +153,19 @@ fn print_ending<O: Sink>(out: &mut O, board: &Board, played: &Played) -> Ending
     }
 }
 
+/// An ending before anything was read or played, which is told on `err`.
+pub fn end_early<E: Sink>(alloc: Global, ending: Ending, err: &mut E) -> Outcome
+    ensures ending { result.ending ≡ ending }
+    ensures reports { result.reports.reports ≡ [] }
+    ensures tells { Tells (error_text ending) (E.written err.old) (E.written err.new) (E.handed_on err.new) (E.kept err.new) (E.faults err.old) (E.faults err.new) }
+{
+    tell(err, ending);
+    without_reports(alloc, ending)
+}
+
 /// Tells on the error sink how the call ended.
 fn tell<E: Sink>(err: &mut E, ending: Ending)
-    ensures { Tells (error_text ending) (E.written err.old) (E.written err.new) (E.handed_on err.new) (E.faults err.old) (E.faults err.new) }
+    ensures { Tells (error_text ending) (E.written err.old) (E.written err.new) (E.handed_on err.new) (E.kept err.new) (E.faults err.old) (E.faults err.new) }
 {
     let mut row = TextRow::new();
     error_row(&mut row, ending);
@@ -160,7 +174,7 @@ fn tell<E: Sink>(err: &mut E, ending: Ending)
 
 /// Writes the row, and hands it on.
 fn tell_row<E: Sink>(err: &mut E, row: &[u8])
-    ensures { Tells row.now (E.written err.old) (E.written err.new) (E.handed_on err.new) (E.faults err.old) (E.faults err.new) }
+    ensures { Tells row.now (E.written err.old) (E.written err.new) (E.handed_on err.new) (E.kept err.new) (E.faults err.old) (E.faults err.new) }
 {
     if let WriteEnd::Done = write_all(err, row) {
         let _ = err.flush();

@@ -5,6 +5,7 @@ use Rattle.irq_base.specs.declared.entries.Entry.{Entry}
 use Rattle.line_core.specs.Seen.{LineSeen}
 use Rattle.line_core.specs.Steps.{HasCause}
 use Rattle.line_core.specs.declared.answers.StepRefused.{StepRefused}
+use Rattle.line_core.specs.declared.answers.StepRefused.TheVariants as refusals
 use Rattle.line_core.specs.declared.answers.Stepped.{Stepped}
 use Rattle.line_core.specs.declared.answers.Stepped.TheVariants as stepped
 use Rattle.play_laws.specs.Play.{Done, Full, first_move, choice, IsChosen, Plays}
@@ -40,8 +41,9 @@ pub record IsRefused (line : LineSeen) (picks : List Actor) (refused : StepRefus
   pub cause : HasCause line refused
 
 -- the history is the play of the line with these picks, done or full as was answered; a full one has the length
--- that is told
+-- that is told. Where memory was refused, the history is the play so far, a next move is there, and there was no room
+-- for it.
 abbrev pub IsPlay : LineSeen → List Actor → PlayEnd → Type 0
 IsPlay line picks ends.Done = Plays line.def picks line.entries Done
 IsPlay line picks (ends.Full len) = Plays line.def picks line.entries Full × (length line.entries ≡ len)
-IsPlay line picks ends.NoMemory = Unit {0}
+IsPlay line picks ends.NoMemory = IsRefused line picks refusals.NoMemory

@@ -1,7 +1,7 @@
 use Rattle.std.proofs.Common.{arith, ◌∙◌, length, drop, ◌-◌}
 use Rattle.std.proofs.lemmas.List.{length-take, length-drop, take_rest}
-use Rattle.irq_io.proofs.Beginning.{IsToldBeginning-trans}
-use Rattle.irq_io.proofs.Pieces.{WritesAll-failed, with_more-more}
+use Rattle.irq_io.proofs.Beginning.{GrowsTo-same, GrowsTo-trans}
+use Rattle.irq_io.proofs.Pieces.{WritesAll-failed, WritesAll-more, WritesAll-none}
 use Rattle.irq_io.proofs.whole.write_all.Goals as goal
 
 pub loop-done-preserved : goal.loop-done-preserved
@@ -12,11 +12,11 @@ loop-done-preserved g c =
     let write = c.in-Took.ensures in
     record {
       within = omega (arith, write.bound.1, length-take (length bytes - done) (drop done bytes), length-drop done bytes, before.within);
-      content = with_more-more _ _ _ bytes done c.in-Took.count before.content (rw (take_rest bytes done) at write.content);
-      handed = IsToldBeginning-trans _ _ _ before.handed write.handed;
+      content = WritesAll-more _ _ _ bytes done c.in-Took.count before.content (rw (take_rest bytes done) at write.content);
+      handed = GrowsTo-trans _ _ _ before.handed write.handed;
       same = write.cause ∙ before.same;
       nothing = λ none. absurd (omega (arith, write.bound.0));
     }
 
 pub returns-in-Failed-clause-content : goal.returns-in-Failed-clause-content
-returns-in-Failed-clause-content g c = WritesAll-failed _ _ _ _ _ c.loop-done.invariant.content c.in-Failed.ensures.content
+returns-in-Failed-clause-content g c = WritesAll-failed _ _ _ _ _ _ c.loop-done.invariant.content c.in-Failed.ensures.content

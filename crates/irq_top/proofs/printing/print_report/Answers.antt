@@ -1,7 +1,8 @@
 use Rattle.irq_io.specs.declared.whole.WriteEnd.TheVariants as ends
 use Rattle.log_text.specs.LayoutRows.{layout_rows}
 use Rattle.log_text.specs.Rows.{history_text}
-use Rattle.irq_top.proofs.Writing.{and_then, failed_within}
+use Rattle.irq_top.specs.Report.{one_report_text}
+use Rattle.irq_top.proofs.Writing.{and_then, failed_within, then_stays}
 use Rattle.irq_top.proofs.printing.print_report.Goals as goal
 
 pub returns-in-Failed-clause-content : goal.returns-in-Failed-clause-content
@@ -10,8 +11,9 @@ returns-in-Failed-clause-content g c =
 
 pub returns-in-Done-flush-clause-content : goal.returns-in-Done-flush-clause-content
 returns-in-Done-flush-clause-content g c =
-    rw c.in-Done-flush.ensures.content
+    then_stays (g.O.Sink.written c.args.out.now) (g.O.Sink.written c.print_rows.new.out) (g.O.Sink.written c.flush.new.self) (one_report_text c.args.board.now c.args.line c.args.history.now.entries) ends.Done
     (and_then (g.O.Sink.written c.args.out.now) (g.O.Sink.written c.print_layout.new.out) (g.O.Sink.written c.print_rows.new.out) (layout_rows c.args.board.now) (history_text c.args.line c.args.history.now.entries) ends.Done c.in-Done.ensures.content c.in-Done-print_rows.ensures.content)
+    c.in-Done-flush.ensures.content
 
 pub returns-in-Failed-print_rows-clause-content : goal.returns-in-Failed-print_rows-clause-content
 returns-in-Failed-print_rows-clause-content g c =

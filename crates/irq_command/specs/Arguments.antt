@@ -1,0 +1,42 @@
+-- The arguments of the program, as std gives them: a list, whose first is the program's name; or why there is none.
+use Rattle.std.specs.Prelude.{◌≡◌, ◌⊎◌, List, ℕ, [], ◌∷◌, drop, map, codes, Ok, Err, Result, string_bytes}
+use Rattle.std.specs.Global.{Global}
+use Rattle.std.specs.IoError.{error_kind}
+use Rattle.std.specs.Vec.Iter.{into_iter_items}
+use Rattle.std.specs.declared.string.String.{String}
+use Rattle.std.specs.declared.vec.IntoIter.{IntoIter}
+use Rattle.std.specs.declared.io.Error.{Error}
+use Rattle.std.specs.declared.io.ErrorKind.TheVariants as kinds
+use Rattle.irq_top.specs.declared.ending.Ending.{Ending}
+use Rattle.irq_top.specs.declared.ending.Ending.TheVariants as endings
+
+-- what std gives as the program's arguments
+abbrev pub Arguments : Type 0
+Arguments = Result (IntoIter (String Global) Global) Error
+
+-- all but the program's name
+abbrev pub after_name : {A : Type 0} → List A → List A
+after_name all = drop 1 all
+
+-- the arguments are text, and these are the words after the program's name
+abbrev pub AreText : Arguments → List (List ℕ) → Type 0
+AreText (Ok args) words = words ≡ map string_bytes (after_name (into_iter_items args))
+AreText (Err error) words = ⊥
+
+-- one of the arguments isn't UTF-8
+abbrev pub IsNotText : Arguments → Type 0
+IsNotText (Ok args) = ⊥
+IsNotText (Err error) = error_kind error ≡ kinds.InvalidData
+
+-- the words are the one form that is built so far
+abbrev pub IsPlayWords : List (List ℕ) → Type 0
+IsPlayWords words = words ≡ codes "play" ∷ []
+
+-- the arguments are the program's name and the one form
+abbrev pub IsPlayForm : Arguments → Type 0
+IsPlayForm (Ok args) = IsPlayWords (map string_bytes (after_name (into_iter_items args)))
+IsPlayForm (Err error) = ⊥
+
+-- how the program ends for arguments that give no words: they aren't text, or memory was wanted
+abbrev pub IsRefusal : Arguments → Ending → Type 0
+IsRefusal args ending = (IsNotText args × (ending ≡ endings.Usage)) ⊎ ((IsNotText args → ⊥) × (ending ≡ endings.NoMemory))
