@@ -1,7 +1,6 @@
 -- One more line keeps the rules of boards.
-use Rattle.std.proofs.Common.{◌≡◌, ℕ, zero, suc, ◌*◌, ◌<◌, ◌≤◌, true, false, is_none, IsSome, Option, Some, None, List, [], ◌∷◌, length, refl, sym, subst, arith}
-use Rattle.std.specs.List.{All}
-use Rattle.std.proofs.lemmas.Bool.{leb-false, eq-eqb, not-false}
+use Rattle.std.proofs.Common.{◌≡◌, ℕ, zero, suc, ◌*◌, ◌<◌, ◌≤◌, true, false, is_none, IsSome, Option, Some, None, List, [], length, refl, sym, subst, arith}
+use Rattle.std.proofs.lemmas.Bool.{eq-eqb, not-false}
 use Rattle.std.proofs.lemmas.List.Elements.{All-same, All-nil}
 use Rattle.std.proofs.lemmas.Nat.Bits.{bit_at_ones}
 use Rattle.irq_model.specs.Lines.{is_in_mask}

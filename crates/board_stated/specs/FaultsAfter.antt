@@ -12,7 +12,6 @@ use Rattle.board_def.specs.Rules.{has_name, has_line, find_device, has_driver, i
 use Rattle.board_def.specs.Seen.{BoardSeen}
 use Rattle.board_def.specs.declared.names.Name.{Name}
 use Rattle.board_def.specs.declared.rows.DomainRow.{DomainRow}
-use Rattle.board_def.specs.declared.rows.LineRow.{LineRow}
 use Rattle.board_words.specs.declared.faults.FaultKind.{FaultKind}
 use Rattle.board_words.specs.declared.faults.FaultKind.TheVariants as faults
 use Rattle.board_words.specs.declared.statements.CallWords.{CallWords}

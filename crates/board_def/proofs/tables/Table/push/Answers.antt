@@ -1,4 +1,4 @@
-use Rattle.std.proofs.Common.{◌≡◌, ◌∙◌, ◌++◌, [], ◌∷◌, ap, sym, subst}
+use Rattle.std.proofs.Common.{◌∙◌, ◌++◌, [], ◌∷◌, ap, sym, subst}
 use Rattle.board_def.specs.Tables.{values_of, IsKeyedBy}
 use Rattle.board_def.proofs.Tabled.{row_added, values_more, keyed_more}
 use Rattle.board_def.proofs.tables.Table.push.Goals as goal
