@@ -81,8 +81,8 @@ impl Aim {
     }
 }
 
-/// Whether the mask has a processor of a machine of so many, at most 32.
-fn has_processor(cpus: u32, mask: u32) -> bool
+/// Whether one of the processors 0 to `cpus` - 1 is in the mask (`cpumask_intersects`, `include/linux/cpumask.h`).
+pub fn has_processor(cpus: u32, mask: u32) -> bool
     requires { cpus ≤ 32 }
     ensures { result ≡ is_some (lowest_in cpus mask) }
 {

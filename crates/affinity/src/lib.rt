@@ -6,7 +6,7 @@
 
 pub mod aim;
 
-pub use aim::Aim;
+pub use aim::{Aim, has_processor};
 
 #[cfg(test)]
 mod tests;

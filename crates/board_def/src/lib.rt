@@ -8,7 +8,6 @@ pub mod board;
 pub mod definitions;
 pub mod layouts;
 pub mod levels;
-pub mod masks;
 pub mod names;
 pub mod placing;
 pub mod rows;
@@ -16,6 +15,5 @@ pub mod tables;
 
 pub use board::Board;
 pub use layouts::{Layout, Placement, Unmapped};
-pub use masks::has_processor;
 pub use names::{LONGEST_NAME, Name};
 pub use rows::{DomainRow, LineRow, ScriptCall};

@@ -6,7 +6,8 @@ ghost use Rattle.board_stated.specs.FaultsAfter.{is_misplaced, is_not_there, nam
 ghost use Rattle.board_def.specs.Find.{place_of_name};
 ghost use Rattle.board_stated.specs.Stated.{driver_writing, parent_place, place_or_first};
 
-use board_def::{Board, Name, has_processor};
+use affinity::has_processor;
+use board_def::{Board, Name};
 use board_words::{CallWords, PickList, Picked, Statement};
 use irq_base::{DevNo, DriverNo, LineNo};
 
