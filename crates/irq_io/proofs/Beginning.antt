@@ -1,7 +1,7 @@
 -- What begins with what.
-use Rattle.std.proofs.Common.{◌≡◌, ℕ, List, [], ◌++◌, Option, Some, None, take, drop, refl, sym, ap, ◌∙◌, append_assoc}
+use Rattle.std.proofs.Common.{◌≡◌, ℕ, List, [], ◌++◌, Option, Some, None, take, drop, sym, ap, ◌∙◌, append_assoc}
 use Rattle.std.proofs.lemmas.List.{append-nil, take-append-drop}
-use Rattle.irq_io.specs.Told.{IsBeginning, IsToldBeginning, GrowsTo}
+use Rattle.irq_io.specs.Told.{IsBeginning, GrowsTo}
 
 pub IsBeginning-more : (xs ys zs : List ℕ) → zs ≡ xs ++ ys → IsBeginning xs zs
 IsBeginning-more xs ys zs e = (ys, e)

@@ -1,5 +1,5 @@
 -- One piece more, read or written.
-use Rattle.std.proofs.Common.{◌≡◌, ℕ, ◌+◌, ◌≤◌, List, [], ◌++◌, Option, Some, None, length, take, drop, refl, sym, ap, subst, ◌∙◌, append_assoc, take-add}
+use Rattle.std.proofs.Common.{◌≡◌, ℕ, ◌+◌, ◌≤◌, List, ◌++◌, Option, Some, None, length, take, drop, sym, ap, subst, ◌∙◌, append_assoc, take-add}
 use Rattle.std.proofs.lemmas.List.{append-nil, take-append-drop}
 use Rattle.irq_io.specs.declared.sources.ReadAnswer.TheVariants as answers
 use Rattle.irq_io.specs.declared.sinks.WriteAnswer.TheVariants as writes

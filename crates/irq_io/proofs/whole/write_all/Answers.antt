@@ -1,7 +1,7 @@
 use Rattle.std.proofs.Common.{arith, ◌∙◌, length, drop, ◌-◌}
 use Rattle.std.proofs.lemmas.List.{length-take, length-drop, take_rest}
-use Rattle.irq_io.proofs.Beginning.{GrowsTo-same, GrowsTo-trans}
-use Rattle.irq_io.proofs.Pieces.{WritesAll-failed, WritesAll-more, WritesAll-none}
+use Rattle.irq_io.proofs.Beginning.{GrowsTo-trans}
+use Rattle.irq_io.proofs.Pieces.{WritesAll-failed, WritesAll-more}
 use Rattle.irq_io.proofs.whole.write_all.Goals as goal
 
 pub loop-done-preserved : goal.loop-done-preserved
