@@ -1,6 +1,5 @@
 -- Linked actions go together.
-use Rattle.std.proofs.Common.{◌≡◌, ℕ, Bool, true, false, not, ◌||◌, ◌&&◌, cond, is_some, option_map, Option, Some, None, slice_get, List, [], ◌∷◌, ◌++◌, refl, sym, ap, ◌∙◌, arith}
-use Rattle.std.specs.List.{list_any}
+use Rattle.std.proofs.Common.{◌≡◌, Bool, true, false, not, ◌||◌, cond, is_some, Some, slice_get, List, [], ◌∷◌, ◌++◌, refl, sym, ap, ◌∙◌, arith}
 use Rattle.std.specs.Map.{lookup, remove_entry}
 use Rattle.indexmap.specs.IndexMap.{insert_entry}
 use Rattle.irq_base.specs.declared.calls.Flags.{Flags}
@@ -32,7 +31,7 @@ pub by_first : (new : Flags) (e : DevNo × Action) (es : Actions) → AreAlike (
 by_first new e es h = none_or new e.1.flags es h
 
 -- one more action that goes with the first
-agree : (s n o p : Bool) → (not s || (not n || not (same_flag o p))) ≡ false → (s ≡ n) × (o ≡ p)
+pub agree : (s n o p : Bool) → (not s || (not n || not (same_flag o p))) ≡ false → (s ≡ n) × (o ≡ p)
 agree s n o p h = (grind arith, grind arith)
 
 one_more : (f : Flags) (x : DevNo × Action) (es : Actions) → x.1.flags.shared ≡ f.shared → x.1.flags.oneshot ≡ f.oneshot → GoWith f es → GoWith f (es ++ x ∷ [])

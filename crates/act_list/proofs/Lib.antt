@@ -1,3 +1,4 @@
 pub mod Alike
 pub mod Stamping
 pub mod Walking
+pub mod Bits

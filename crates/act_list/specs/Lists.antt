@@ -9,7 +9,7 @@ use Rattle.irq_base.specs.declared.entries.UnlinkAnswer.TheVariants as unlinks
 use Rattle.irq_base.specs.declared.numbers.DevNo.{DevNo}
 use Rattle.irq_model.specs.Kinds.{same_dev, is_linked_answer}
 use Rattle.device_table.specs.Rows.{at, change, all_with}
-use Rattle.act_list.specs.Actions.{has, is_only_action, bits_of, lowest_free}
+use Rattle.act_list.specs.Actions.{has, is_only_action, bit_by}
 use Rattle.act_list.specs.declared.actions.Action.{Action}
 
 -- the actions in order, for each device of the line whether its handler was called in the round, and the number of
@@ -43,7 +43,7 @@ first_left b (e ∷ es) = if begun_at b e.0 then first_left b es else Some e.0
 
 -- the action of a request: a one-shot one has the lowest free thread bit
 abbrev pub action_by : Flags → List (DevNo × Action) → Action
-action_by flags t = record { flags = flags; bit = if flags.oneshot then lowest_free (bits_of t) else 0 }
+action_by flags t = record { flags = flags; bit = bit_by flags t }
 
 abbrev pub after_link : LinkAnswer → DevNo → Flags → ListSeen → ListSeen
 after_link answer d flags l = if is_linked_answer answer then record l { actions = l.actions ++ (d, action_by flags l.actions) ∷ [] } else l

@@ -1,9 +1,9 @@
 //! The linked actions.
-ghost use Rattle.std.specs.Prelude.{◌≡◌, ◌+◌, ◌≤◌, ◌++◌, [], ◌∷◌, false, not, ◌&&◌, nat_lt, length, slice_get, option_map, IsOk, OnOk, OnErr};
+ghost use Rattle.std.specs.Prelude.{◌≡◌, ◌+◌, ◌==◌, ◌<◌, ◌≤◌, ◌++◌, [], ◌∷◌, true, false, not, ◌&&◌, nat_lt, bit_and, count_ones, is_some, length, slice_get, option_map, IfSome, IsOk, OnOk, OnErr};
 ghost use Rattle.std.specs.Map.{lookup, remove_entry};
 ghost use Rattle.irq_model.specs.Kinds.{same_dev};
 ghost use Rattle.irq_model.specs.Next.{flags_differ, is_null};
-ghost use Rattle.act_list.specs.Actions.{has, is_bare, is_only_action, is_mismatch, answer_by, bits_of, lowest_free, bit_in, bit_of, first_of};
+ghost use Rattle.act_list.specs.Actions.{has, is_bare, is_only_action, is_mismatch, answer_where, answer_by, bits_of, lowest_free, bit_by, bits_due, bit_in, bit_of, is_oneshot_in, is_full, IsLowestFree, first_of};
 
 use indexmap::IndexMap;
 use irq_base::{DevNo, Errno, Flags, Kind, LinkAnswer, NoMemory};
@@ -27,14 +27,14 @@ pub(crate) struct Actions {
 }
 
 impl Model for Actions {
-    ghost use Rattle.act_list.specs.Actions.{ActionsSeen, AreAlike};
+    ghost use Rattle.act_list.specs.Actions.{ActionsSeen, AreKept};
     ghost use Rattle.indexmap.specs.IndexMap.{spare};
 
     ghost Value = { ActionsSeen };
 
     ghost view = { λ a. record { actions = a.map.entries; spare = spare a.map } };
 
-    ghost invariant = { λ a. AreAlike a.map.entries };
+    ghost invariant = { λ a. AreKept a.map.entries };
 }
 
 impl Actions {
@@ -87,7 +87,9 @@ impl Actions {
 
     /// The device's thread bit; none where it isn't linked or has none.
     pub(crate) fn bit(&self, dev: DevNo) -> Option<u64>
-        ensures { result ≡ bit_of (lookup (same_dev dev) self.now.actions) }
+        ensures bit { result ≡ bit_of (lookup (same_dev dev) self.now.actions) }
+        ensures oneshot { is_some result ≡ is_oneshot_in (lookup (same_dev dev) self.now.actions) }
+        ensures one { IfSome result (λ b. count_ones b ≡ 1) }
     {
         let action = self.map.get(&dev).copied()?;
         if action.bit == 0 {
@@ -108,7 +110,9 @@ impl Actions {
 
     /// What a request with these flags of a device of that kind is answered.
     pub(crate) fn answer(&self, kind: Kind, flags: Flags) -> LinkAnswer
-        ensures { result ≡ answer_by kind flags self.now.actions }
+        ensures answer { result ≡ answer_by kind flags self.now.actions }
+        ensures many { result ≡ answer_where (length self.now.actions == 64) kind flags self.now.actions }
+        ensures full { result ≡ answer_where (is_full self.now.actions) kind flags self.now.actions }
     {
         if is_contrary(flags) {
             return LinkAnswer::Refused(Errno::Inval);
@@ -137,7 +141,10 @@ impl Actions {
 
     /// Whether each of the 64 thread bits is in use: each one-shot action has one, and all linked ones are one-shot.
     fn has_no_bit(&self, flags: Flags) -> bool
-        ensures { result ≡ (flags.oneshot && not (nat_lt (length self.now.actions) 64)) }
+        requires { is_mismatch flags self.now.actions ≡ false }
+        ensures many { result ≡ (flags.oneshot && (length self.now.actions == 64)) }
+        ensures full { result ≡ (flags.oneshot && is_full self.now.actions) }
+        ensures above { result ≡ (flags.oneshot && not (nat_lt (length self.now.actions) 64)) }
     {
         flags.oneshot && self.map.len() >= 64
     }
@@ -163,18 +170,35 @@ impl Actions {
         }
     }
 
-    /// The lowest thread bit that is free.
-    pub(crate) fn free_bit(&self) -> u64
-        ensures { result ≡ lowest_free (bits_of self.now.actions) }
+    /// The lowest thread bit that is free: one is, where fewer than 64 actions have one each.
+    fn free_bit(&self) -> u64
+        requires { length self.now.actions < 64 }
+        ensures bit { result ≡ lowest_free (bits_of self.now.actions) }
+        ensures free { IsLowestFree self.now.actions result }
     {
+        // That no two actions have the same bit is kept of the map; so the place is below 64.
+        let _map = &self.map;
         let place = self.used_bits().trailing_ones();
-        if place < 64 { 1 << place } else { 0 }
+        1 << place
+    }
+
+    /// The thread bit of a new action with these flags, or 0 where it isn't one-shot.
+    pub(crate) fn new_bit(&self, flags: Flags) -> u64
+        requires { flags.oneshot ≡ true → length self.now.actions < 64 }
+        ensures bit { result ≡ bit_by flags self.now.actions }
+        ensures free { flags.oneshot ≡ true → IsLowestFree self.now.actions result }
+        ensures due { count_ones result ≡ bits_due flags }
+        ensures apart { bit_and (bits_of self.now.actions) result ≡ 0 }
+    {
+        if flags.oneshot { self.free_bit() } else { 0 }
     }
 
     /// Adds an action at the end.
     pub(crate) fn add(&mut self, dev: DevNo, action: Action) -> Result<(), NoMemory>
         requires absent { has dev self.old.actions ≡ false }
         requires goes { is_mismatch action.flags self.old.actions ≡ false }
+        requires due { count_ones action.bit ≡ bits_due action.flags }
+        requires apart { bit_and (bits_of self.old.actions) action.bit ≡ 0 }
         ensures ok { OnOk result (self.new.actions ≡ self.old.actions ++ (dev, action) ∷ []) }
         ensures refused { OnErr result (self.new.actions ≡ self.old.actions) }
         ensures room { 1 ≤ self.old.spare → IsOk result }

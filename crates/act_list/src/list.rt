@@ -1,12 +1,12 @@
 //! The list with its rounds.
-ghost use Rattle.std.specs.Prelude.{◌≡◌, ◌+◌, ◌-◌, ◌<◌, ◌≤◌, ◌^◌, length, take, slice_get, false, [], IsOk, IfOk, OnOk, OnErr, IfSome};
+ghost use Rattle.std.specs.Prelude.{◌≡◌, true, is_some, count_ones, ◌==◌, ◌+◌, ◌-◌, ◌<◌, ◌≤◌, ◌^◌, length, take, slice_get, false, [], IsOk, IfOk, OnOk, OnErr, IfSome};
 ghost use Rattle.std.specs.Map.{lookup};
 ghost use Rattle.irq_base.specs.declared.entries.LinkAnswer.TheVariants as links;
 ghost use Rattle.irq_model.specs.Kinds.{same_dev};
 ghost use Rattle.irq_model.specs.Valid.{HasDistinctDevices};
 ghost use Rattle.device_table.specs.Rows.{at, all_with};
-ghost use Rattle.act_list.specs.Actions.{has, is_bare, is_only_action, answer_by, bit_of};
-ghost use Rattle.act_list.specs.Lists.{first_list, begun_at, first_left, after_link, after_unlink, after_begin, after_begin_round, unlink_by};
+ghost use Rattle.act_list.specs.Actions.{has, is_bare, is_only_action, answer_where, answer_by, bit_of, is_oneshot_in, is_full, IsLowestFree};
+ghost use Rattle.act_list.specs.Lists.{first_list, action_by, begun_at, first_left, after_link, after_unlink, after_begin, after_begin_round, unlink_by};
 ghost use Rattle.act_list.specs.Stamps.{stamped, AreBegun};
 
 use crate::actions::{Action, Actions};
@@ -75,16 +75,20 @@ impl ActList {
     }
 
     /// The device's thread bit (`thread_mask`), as a word in which this one bit is set; none where it isn't linked or
-    /// has none.
+    /// isn't one-shot.
     pub fn bit(&self, dev: DevNo) -> Option<u64>
-        ensures { result ≡ bit_of (lookup (same_dev dev) self.now.list.actions) }
+        ensures bit { result ≡ bit_of (lookup (same_dev dev) self.now.list.actions) }
+        ensures oneshot { is_some result ≡ is_oneshot_in (lookup (same_dev dev) self.now.list.actions) }
+        ensures one { IfSome result (λ b. count_ones b ≡ 1) }
     {
         self.actions.bit(dev)
     }
 
     /// What a request with these flags of a device of that kind is answered (`__setup_irq`).
     pub fn answer(&self, kind: Kind, flags: Flags) -> LinkAnswer
-        ensures { result ≡ answer_by kind flags self.now.list.actions }
+        ensures answer { result ≡ answer_by kind flags self.now.list.actions }
+        ensures many { result ≡ answer_where (length self.now.list.actions == 64) kind flags self.now.list.actions }
+        ensures full { result ≡ answer_where (is_full self.now.list.actions) kind flags self.now.list.actions }
     {
         self.actions.answer(kind, flags)
     }
@@ -105,6 +109,7 @@ impl ActList {
         requires { has dev self.old.list.actions ≡ false }
         ensures answer { IfOk result (λ answer. answer ≡ answer_by kind flags self.old.list.actions) }
         ensures list { IfOk result (λ answer. self.new.list ≡ after_link answer dev flags self.old.list) }
+        ensures bit { IfOk result (λ answer. answer ≡ links.Linked → flags.oneshot ≡ true → IsLowestFree self.old.list.actions (action_by flags self.old.list.actions).bit) }
         ensures cause { OnErr result (answer_by kind flags self.old.list.actions ≡ links.Linked) }
         ensures refused { OnErr result (self.new.list ≡ self.old.list) }
         ensures room { 1 ≤ self.old.spare → IsOk result }
@@ -112,11 +117,7 @@ impl ActList {
     {
         let answer = self.actions.answer(kind, flags);
         if answer == LinkAnswer::Linked {
-            let bit = if flags.oneshot {
-                self.actions.free_bit()
-            } else {
-                0
-            };
+            let bit = self.actions.new_bit(flags);
             self.actions.add(dev, Action { flags, bit })?;
         }
         Ok(answer)

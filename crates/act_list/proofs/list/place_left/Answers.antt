@@ -1,4 +1,4 @@
-use Rattle.std.proofs.Common.{◌+◌, ◌≤◌, length, sym, ap, ◌∙◌, arith}
+use Rattle.std.proofs.Common.{sym, ◌∙◌, arith}
 use Rattle.act_list.specs.Stamps.{stamped}
 use Rattle.act_list.proofs.Walking.{begun_next, place_within}
 use Rattle.act_list.proofs.list.place_left.Goals as goal

@@ -1,4 +1,4 @@
-use Rattle.std.proofs.Common.{◌≡◌, ◌+◌, bit_or, drop, sym, ap, ◌∙◌, arith}
+use Rattle.std.proofs.Common.{◌+◌, bit_or, drop, sym, ap, ◌∙◌, arith}
 use Rattle.act_list.specs.Actions.{bits_from}
 use Rattle.act_list.proofs.Walking.{bits_next, bits_all}
 use Rattle.act_list.proofs.actions.Actions.used_bits.Goals as goal

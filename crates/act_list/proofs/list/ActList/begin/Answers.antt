@@ -1,4 +1,4 @@
-use Rattle.std.proofs.Common.{◌≡◌, ℕ, ◌+◌, Bool, List, take, sym, subst, ap, ◌∙◌}
+use Rattle.std.proofs.Common.{◌+◌, Bool, List, take, sym, subst, ap, ◌∙◌}
 use Rattle.irq_base.specs.declared.numbers.DevNo.{DevNo}
 use Rattle.act_list.specs.Lists.{ActListSeen, ListSeen, after_begin}
 use Rattle.act_list.specs.Stamps.{stamped, AreStamps, AreBegun}

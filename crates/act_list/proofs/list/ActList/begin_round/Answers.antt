@@ -1,4 +1,4 @@
-use Rattle.std.proofs.Common.{◌≡◌, ◌+◌, ℕ, Bool, List, ap, ◌∙◌, arith}
+use Rattle.std.proofs.Common.{◌+◌, Bool, List, ap, ◌∙◌, arith}
 use Rattle.irq_base.specs.declared.numbers.DevNo.{DevNo}
 use Rattle.act_list.specs.Lists.{ActListSeen, ListSeen, after_begin_round}
 use Rattle.act_list.proofs.Stamping.{next_round, still_stamps}

@@ -1,4 +1,4 @@
-use Rattle.std.proofs.Common.{◌≡◌, ℕ, Bool, [], List, sym, subst, ap, ◌∙◌, arith}
+use Rattle.std.proofs.Common.{Bool, [], List, sym, subst, ap, ◌∙◌, arith}
 use Rattle.irq_base.specs.declared.numbers.DevNo.{DevNo}
 use Rattle.act_list.specs.Lists.{ListSeen}
 use Rattle.act_list.specs.Stamps.{stamped, AreStamps}
