@@ -1,5 +1,6 @@
 //! The worked row on both maps, and what stands lowest between the calls, by hand.
 use crate::{AssocAnswer, DisposeAnswer, LinearMap, Revmap, TreeMap};
+use irq_base::NoMemory;
 
 /// What is asked of a map, with its answer.
 #[derive(Clone, Copy)]
@@ -20,9 +21,9 @@ fn is_as_named<M: Revmap>(map: &mut M, asked: Asked, lowest: u32) -> bool {
 }
 
 #[test]
-fn maps_by_hand(rt: HostRuntime) {
+fn maps_by_hand(rt: HostRuntime) -> Result<(), NoMemory> {
     let alloc = rt.alloc();
-    let mut linear = LinearMap::new(alloc, 4).unwrap();
+    let mut linear = LinearMap::new(alloc, 4)?;
     let mut tree = TreeMap::new(alloc);
     let both = [
         (Asked::Associate(5, 3, AssocAnswer::Ok), 0),
@@ -56,4 +57,5 @@ fn maps_by_hand(rt: HostRuntime) {
     assert!(rt; is_as_named(&mut tree, Asked::Associate(1, far, AssocAnswer::Ok), 4));
     assert!(rt; is_as_named(&mut tree, Asked::Associate(2, far, AssocAnswer::Taken), 4));
     assert!(rt; is_as_named(&mut tree, Asked::Resolve(far, Some(1)), 4));
+    Ok(())
 }
