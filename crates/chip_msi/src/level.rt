@@ -1,7 +1,8 @@
 //! The level of one message.
 ghost use Rattle.std.specs.Prelude.{◌≡◌, true, false, not, ◌||◌};
 
-/// The mask bit and the pending bit of one message (`pci_msi_mask_irq`, `drivers/pci/msi/irqdomain.c`).
+/// The mask bit and the pending bit of one message (`irq_mask`, `irq_unmask` of `struct irq_chip`,
+/// `include/linux/irq.h`).
 #[derive(Drop)]
 pub struct MsiLevel {
     masked: bool,
