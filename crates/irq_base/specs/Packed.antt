@@ -1,6 +1,6 @@
 -- How an entry stands in one word (ours). From its low end a word has a tag of 5 bits, a code of 8, a first
 -- number of 16 and a second of 32. The tag says which entry it is, the code holds its small answers.
-use Rattle.std.specs.Prelude.{ℕ, ◌/◌, ◌%◌, ◌<◌, ◌==◌, nat_lt, ◌≡◌, Bool, true, ◌&&◌, if◌then◌else◌, List, get_or}
+use Rattle.std.specs.Prelude.{ℕ, ◌/◌, ◌%◌, ◌<◌, ◌==◌, nat_lt, ◌≡◌, Bool, true, false, ◌&&◌, if◌then◌else◌, List, get_or}
 use Rattle.irq_base.specs.declared.numbers.CpuNo.{CpuNo}
 use Rattle.irq_base.specs.declared.numbers.DevNo.{DevNo}
 use Rattle.irq_base.specs.declared.numbers.DriverNo.{DriverNo}
@@ -52,6 +52,27 @@ driver_entry p =
     else (if p.tag == 15 then entries.Freed (driver_no p.first) (dev_no p.second)
     else (if p.tag == 16 then entries.Affinity (driver_no p.first) p.second (affinity_at p.code)
     else entries.Moment (driver_no p.first) p.second))))))))
+
+-- whether the entry is a driver's
+abbrev pub is_of_driver : Entry → Bool
+is_of_driver (entries.Take cpu way answer) = false
+is_of_driver (entries.Begin cpu dev) = false
+is_of_driver (entries.Return cpu dev answer served) = false
+is_of_driver (entries.End cpu again unmask note) = false
+is_of_driver (entries.ThreadBegin dev) = false
+is_of_driver (entries.ThreadReturn dev served) = false
+is_of_driver (entries.Finish dev kept unmask) = false
+is_of_driver (entries.Done dev) = false
+is_of_driver (entries.Ask driver dev) = true
+is_of_driver (entries.Disable driver) = true
+is_of_driver (entries.HardClear driver) = true
+is_of_driver (entries.Synced driver) = true
+is_of_driver (entries.Enable driver answer) = true
+is_of_driver (entries.Request driver dev flags answer opened) = true
+is_of_driver (entries.Unlink driver dev answer) = true
+is_of_driver (entries.Freed driver dev) = true
+is_of_driver (entries.Affinity driver mask answer) = true
+is_of_driver (entries.Moment driver at) = true
 
 -- the entry that the parts of a word stand for
 unfoldable pub entry_of : Parts → Entry

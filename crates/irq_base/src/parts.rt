@@ -1,7 +1,7 @@
 //! The parts of a packed word, and the entries that they stand for.
-ghost use Rattle.std.specs.Prelude.{◌≡◌, ◌/◌, ◌%◌, ◌<◌, true};
+ghost use Rattle.std.specs.Prelude.{◌≡◌, ◌/◌, ◌%◌, ◌<◌, ◌≤◌, true};
 ghost use Rattle.irq_base.specs.Codes.{way_at, take_at, answer_at, note_at, link_at, opened_at, flag_at};
-ghost use Rattle.irq_base.specs.Packed.{cpu_entry, thread_entry, driver_entry, entry_of, is_narrow, is_narrow_cpu, is_narrow_dev, is_narrow_driver, flags_at};
+ghost use Rattle.irq_base.specs.Packed.{cpu_entry, thread_entry, driver_entry, entry_of, is_narrow, is_narrow_cpu, is_narrow_dev, is_narrow_driver, is_of_driver, flags_at};
 
 use crate::calls::Flags;
 use crate::codes::{
@@ -72,7 +72,7 @@ impl Parts {
     }
 
     /// The parts that stand for the entry.
-    #[tactic(auto, unfolding(crate::specs::Packed::entry_of, crate::specs::Packed::cpu_entry, crate::specs::Packed::thread_entry, crate::specs::Packed::driver_entry))]
+    #[tactic(auto, unfolding(crate::specs::Packed::entry_of, crate::specs::Packed::cpu_entry, crate::specs::Packed::thread_entry))]
     pub fn of_entry(e: Entry) -> Parts
         requires { is_narrow e ≡ true }
         ensures tag { result.tag < 31 }
@@ -101,6 +101,21 @@ impl Parts {
                 Parts::new(FINISH, finish_code(kept, unmask), dev.0, 0)
             }
             Entry::Done { dev } => Parts::new(DONE, 0, dev.0, 0),
+            _ => Parts::of_driver(e),
+        }
+    }
+
+    #[tactic(auto, unfolding(crate::specs::Packed::driver_entry))]
+    fn of_driver(e: Entry) -> Parts
+        requires driver { is_of_driver e ≡ true }
+        requires narrow { is_narrow e ≡ true }
+        ensures from { 8 ≤ result.tag }
+        ensures below { result.tag < 31 }
+        ensures code { result.code < 256 }
+        ensures first { result.first < 65536 }
+        ensures entry { driver_entry result ≡ e }
+    {
+        match e {
             Entry::Ask { driver, dev } => Parts::new(ASK, 0, driver.0, dev.0),
             Entry::Disable { driver } => Parts::new(DISABLE, 0, driver.0, 0),
             Entry::HardClear { driver } => Parts::new(HARD_CLEAR, 0, driver.0, 0),
@@ -132,6 +147,7 @@ impl Parts {
                 answer,
             } => Parts::new(AFFINITY, affinity_number(answer), driver.0, mask),
             Entry::Moment { driver, at } => Parts::new(MOMENT, 0, driver.0, at),
+            _ => unreachable!(),
         }
     }
 

@@ -61,8 +61,8 @@ pub fn judge(alloc: Global, def: &LineDef, entries: &[Entry]) -> Result<Verdict,
 #[cfg(test)]
 mod tests {
     use super::*;
-    use crate::lines::{ASK, DEV, FLAGS, OWNER, REQUEST, definition};
-    use irq_base::{LinkAnswer, Opened, Resend};
+    use crate::lines::{ASK, DEV, OWNER, REQUEST, definition};
+    use irq_base::{Flags, LinkAnswer, Opened, Resend};
     use std::test::Fail;
 
     #[test]
@@ -71,7 +71,7 @@ mod tests {
         let request = Entry::Request {
             driver: OWNER,
             dev: DEV,
-            flags: FLAGS,
+            flags: Flags::NONE,
             answer: LinkAnswer::Linked,
             opened: Opened::Started { resend: Resend::No },
         };

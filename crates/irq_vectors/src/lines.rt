@@ -14,17 +14,11 @@ pub const DEV: DevNo = DevNo(3);
 /// The driver that requests and frees the device.
 pub const OWNER: DriverNo = DriverNo(1);
 
-pub const FLAGS: Flags = Flags {
-    shared: false,
-    oneshot: false,
-    noauto: false,
-};
-
 pub const REQUEST: (DriverNo, Call) = (
     OWNER,
     Call::Request {
         dev: DEV,
-        flags: FLAGS,
+        flags: Flags::NONE,
     },
 );
 

@@ -29,17 +29,11 @@ const DRIVER: DriverNo = DriverNo(1);
 /// A driver that only asks.
 const OTHER: DriverNo = DriverNo(2);
 
-const FLAGS: Flags = Flags {
-    shared: false,
-    oneshot: false,
-    noauto: false,
-};
-
 const REQUEST: (DriverNo, Call) = (
     DRIVER,
     Call::Request {
         dev: DEV,
-        flags: FLAGS,
+        flags: Flags::NONE,
     },
 );
 
@@ -111,7 +105,7 @@ fn request() -> Stepped {
     Stepped::Added(Entry::Request {
         driver: DRIVER,
         dev: DEV,
-        flags: FLAGS,
+        flags: Flags::NONE,
         answer: LinkAnswer::Linked,
         opened: Opened::Started { resend: Resend::No },
     })

@@ -27,17 +27,11 @@ const OWNER: DriverNo = DriverNo(1);
 /// A driver that only asks.
 const OTHER: DriverNo = DriverNo(2);
 
-const FLAGS: Flags = Flags {
-    shared: false,
-    oneshot: false,
-    noauto: false,
-};
-
 pub(crate) const REQUEST: (DriverNo, Call) = (
     OWNER,
     Call::Request {
         dev: DEV,
-        flags: FLAGS,
+        flags: Flags::NONE,
     },
 );
 
@@ -113,7 +107,7 @@ pub(crate) fn definition(
 const REQUESTED: Entry = Entry::Request {
     driver: OWNER,
     dev: DEV,
-    flags: FLAGS,
+    flags: Flags::NONE,
     answer: LinkAnswer::Linked,
     opened: Opened::Started { resend: Resend::No },
 };

@@ -17,11 +17,7 @@ const ASK: Call = Call::Ask { dev: DEV };
 
 const REQUEST: Call = Call::Request {
     dev: DEV,
-    flags: Flags {
-        shared: false,
-        oneshot: false,
-        noauto: false,
-    },
+    flags: Flags::NONE,
 };
 
 const FREE: Call = Call::Free { dev: DEV };

@@ -27,12 +27,6 @@ const DRIVER: DriverNo = DriverNo(1);
 
 const OTHER: DriverNo = DriverNo(2);
 
-const FLAGS: Flags = Flags {
-    shared: false,
-    oneshot: false,
-    noauto: false,
-};
-
 /// A request by the driver, and then asks of both drivers in turn.
 #[tactic(auto, using(crate::proofs::TestScripts::no_asks, crate::proofs::TestScripts::more_asks, crate::proofs::TestScripts::whole_script))]
 fn script(alloc: Global, rounds: u32) -> Result<CallList, NoMemory>
@@ -44,7 +38,7 @@ fn script(alloc: Global, rounds: u32) -> Result<CallList, NoMemory>
         DRIVER,
         Call::Request {
             dev: DEV,
-            flags: FLAGS,
+            flags: Flags::NONE,
         },
     ))?;
     for _ in 0..rounds {
@@ -178,7 +172,7 @@ fn passes_see_what_the_others_did(rt: HostRuntime) -> Result<(), Fail> {
     let request = Entry::Request {
         driver: DRIVER,
         dev: DEV,
-        flags: FLAGS,
+        flags: Flags::NONE,
         answer: LinkAnswer::Linked,
         opened: Opened::Started { resend: Resend::No },
     };

@@ -148,11 +148,7 @@ fn flags_in(e: Option<Entry>) -> Flags
 {
     match e {
         Some(Entry::Request { flags, .. }) => flags,
-        _ => Flags {
-            shared: false,
-            oneshot: false,
-            noauto: false,
-        },
+        _ => Flags::NONE,
     }
 }
 

@@ -101,12 +101,6 @@ mod tests {
     };
     use std::test::Fail;
 
-    const PLAIN: Flags = Flags {
-        shared: false,
-        oneshot: false,
-        noauto: false,
-    };
-
     /// A line with one device, which one driver requests.
     fn small_line(alloc: Global) -> Result<LineDef, NoMemory>
         ensures cpus { IfOk result (λ def. def.cpus ≤ 32) }
@@ -121,7 +115,7 @@ mod tests {
             kind: Kind::Direct,
         })?;
         let mut calls = CallList::new(alloc);
-        calls.push((DriverNo(1), Call::Request { dev, flags: PLAIN }))?;
+        calls.push((DriverNo(1), Call::Request { dev, flags: Flags::NONE }))?;
         Ok(LineDef {
             line,
             flow: FlowKind::Edge,
@@ -148,7 +142,7 @@ mod tests {
         let request = Entry::Request {
             driver: DriverNo(1),
             dev: DevNo(1),
-            flags: PLAIN,
+            flags: Flags::NONE,
             answer: LinkAnswer::Linked,
             opened: Opened::Started { resend: Resend::No },
         };
