@@ -115,7 +115,13 @@ mod tests {
             kind: Kind::Direct,
         })?;
         let mut calls = CallList::new(alloc);
-        calls.push((DriverNo(1), Call::Request { dev, flags: Flags::NONE }))?;
+        calls.push((
+            DriverNo(1),
+            Call::Request {
+                dev,
+                flags: Flags::NONE,
+            },
+        ))?;
         Ok(LineDef {
             line,
             flow: FlowKind::Edge,
