@@ -1,6 +1,6 @@
 -- Lists each of whose items meets a condition after those before it.
 use Rattle.std.proofs.Common.{◌≡◌, zero, suc, List, [], ◌∷◌, ◌++◌, refl, subst}
-use Rattle.board_def.specs.Rules.{EachAfter}
+use Rattle.domain_rules.specs.Domains.{EachAfter}
 
 -- a first item, and each other after it
 pub each_first : {A : Type 0} (P : List A → A → Type 0) (z : A) (zs : List A) → P [] z → EachAfter (λ earlier y. P (z ∷ earlier) y) zs → EachAfter P (z ∷ zs)

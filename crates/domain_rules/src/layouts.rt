@@ -1,4 +1,4 @@
-//! Layouts: where the lines of a board lie.
+//! Layouts: where lines lie.
 use irq_base::{ItemList, Path};
 
 /// Why a line has no place.
@@ -21,5 +21,5 @@ pub enum Placement {
     Refused(Unmapped),
 }
 
-/// One placement for each line of a board, in the board's order.
+/// One placement for each line, in the order in which they were asked for.
 pub type Layout = ItemList<Placement>;

@@ -6,10 +6,10 @@ use Rattle.irq_base.specs.declared.lines.FlowKind.{FlowKind}
 use Rattle.irq_base.specs.declared.lines.FlowKind.TheVariants as flows
 use Rattle.irq_base.specs.declared.lines.Trigger.{Trigger}
 use Rattle.irq_base.specs.declared.lines.Trigger.TheVariants as triggers
-use Rattle.board_def.specs.Levels.{keeps, recalls, retriggers, root_kind, masking_kind, trigger_of_root, flow_of_root, serves_kind}
+use Rattle.domain_rules.specs.Levels.{keeps, recalls, retriggers, masking_kind, trigger_of_root, flow_of_root, serves}
 
 abbrev cell : List LevelKind → Bool × Bool × Bool × Bool
-cell kinds = (keeps kinds, recalls kinds, retriggers kinds, serves_kind (root_kind kinds))
+cell kinds = (keeps kinds, recalls kinds, retriggers kinds, serves kinds)
 
 latch : cell (levels.Latch ∷ []) ≡ (true, true, true, false)
 latch = refl
@@ -44,6 +44,16 @@ eoi = refl
 remap_eoi : cell (levels.Remap ∷ levels.Eoi ∷ []) ≡ (false, false, false, true)
 remap_eoi = refl
 
+lpi : cell (levels.Lpi ∷ []) ≡ (true, true, true, false)
+lpi = refl
+
+remap_lpi : cell (levels.Remap ∷ levels.Lpi ∷ []) ≡ (true, true, true, false)
+remap_lpi = refl
+
+-- the messages mask, and masking them takes nothing back
+msi_lpi : cell (levels.Msi ∷ levels.Lpi ∷ []) ≡ (true, false, true, false)
+msi_lpi = refl
+
 -- no level masks
 vector : masking_kind (levels.Vector ∷ []) ≡ None
 vector = refl
@@ -73,3 +83,6 @@ plain_levels = refl
 
 fast_eois : handling levels.Eoi ≡ handled_by triggers.Level flows.Eoi
 fast_eois = refl
+
+edge_eois : handling levels.Lpi ≡ handled_by triggers.Edge flows.Eoi
+edge_eois = refl

@@ -1,12 +1,12 @@
 -- The levels of interrupt controllers between a line and its processors, and what they make of its signal.
-use Rattle.std.specs.Prelude.{ℕ, zero, suc, Bool, true, false, ◌&&◌, if◌then◌else◌, Option, Some, None, List, [], ◌∷◌, map, slice_get}
+use Rattle.std.specs.Prelude.{Bool, true, false, ◌&&◌, if◌then◌else◌, Option, Some, None, List, [], ◌∷◌}
+use Rattle.irq_base.specs.Cell.{Cell, fresh_cell}
 use Rattle.irq_base.specs.declared.domains.LevelKind.{LevelKind}
 use Rattle.irq_base.specs.declared.domains.LevelKind.TheVariants as levels
 use Rattle.irq_base.specs.declared.lines.FlowKind.{FlowKind}
 use Rattle.irq_base.specs.declared.lines.FlowKind.TheVariants as flows
 use Rattle.irq_base.specs.declared.lines.Trigger.{Trigger}
 use Rattle.irq_base.specs.declared.lines.Trigger.TheVariants as triggers
-use Rattle.board_def.specs.declared.rows.DomainRow.{DomainRow}
 
 -- a level that stands at the processors' end; the others are children
 abbrev pub is_root_kind : LevelKind → Bool
@@ -56,28 +56,6 @@ flow_of_root levels.Eoi = flows.Eoi
 flow_of_root levels.Lpi = flows.Eoi
 flow_of_root _ = flows.Edge
 
--- the most levels between a line and its processors
-abbrev pub most_levels : ℕ
-most_levels = 8
-
-abbrev pub parent_in : Option DomainRow → Option ℕ
-parent_in (Some row) = row.def.parent
-parent_in None = None
-
--- the places of the domains from one to its root, itself first, at most n of them
-abbrev pub way : ℕ → List DomainRow → Option ℕ → List ℕ
-way zero domains from = []
-way (suc n) domains None = []
-way (suc n) domains (Some place) = place ∷ way n domains (parent_in (slice_get domains place))
-
-abbrev pub kind_in : Option DomainRow → LevelKind
-kind_in (Some row) = row.def.chip
-kind_in None = levels.Remap
-
--- the kinds of the levels from a domain to its root, the root's last
-abbrev pub kinds_from : List DomainRow → Option ℕ → List LevelKind
-kinds_from domains from = map (λ place. kind_in (slice_get domains place)) (way most_levels domains from)
-
 abbrev pub last_kind : LevelKind → List LevelKind → LevelKind
 last_kind k [] = k
 last_kind k (x ∷ xs) = last_kind x xs
@@ -99,10 +77,22 @@ masking_kind (k ∷ ks) = if masks_kind k then Some k else masking_kind ks
 abbrev pub keeps : List LevelKind → Bool
 keeps kinds = is_some_kind keeps_kind (masking_kind kinds)
 
+-- a root that stores the edges which come while it masks
+abbrev pub stores_at_root : LevelKind → Bool
+stores_at_root kind = is_root_kind kind && keeps_kind kind
+
 -- masking takes back what was sent: the root masks, and stores
 abbrev pub recalls : List LevelKind → Bool
-recalls kinds = is_some_kind (λ k. is_root_kind k && keeps_kind k) (masking_kind kinds)
+recalls kinds = is_some_kind stores_at_root (masking_kind kinds)
 
 -- the line can be made to send an edge again
 abbrev pub retriggers : List LevelKind → Bool
 retriggers kinds = retriggers_kind (root_kind kinds)
+
+-- what was accepted is in service until its end of interrupt
+abbrev pub serves : List LevelKind → Bool
+serves kinds = serves_kind (root_kind kinds)
+
+-- the cell of the levels together, before anything was done to it
+abbrev pub cell_of : List LevelKind → Cell
+cell_of kinds = fresh_cell (trigger_of_root (root_kind kinds)) (keeps kinds) (recalls kinds) (retriggers kinds) (serves kinds)
