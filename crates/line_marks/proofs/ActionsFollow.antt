@@ -79,7 +79,7 @@ removed f d (x ∷ xs) h = by_test (same_dev d x) (same_both x d) h (removed f d
     by_test true is n rest = rw is (ap (flags_by f) (without d xs (omega (arith, n))))
     by_test false is n rest = rw is (ap (λ (t : List (DevNo × Flags)). (x, f x) ∷ t) (rest n))
 
-linked_once : (d : DevNo) (past : List Entry) → count_of (same_dev d) (linked past) ≤ 1
+pub linked_once : (d : DevNo) (past : List Entry) → count_of (same_dev d) (linked past) ≤ 1
 linked_once d past = omega (arith, count_filter (same_dev d) (is_linked past) (requested past), requested_once d past)
 
 -- a linked device isn't one that is requested

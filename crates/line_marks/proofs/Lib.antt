@@ -10,3 +10,4 @@ pub mod CountsFollow
 pub mod FreeingFollows
 pub mod ScriptsFollow
 pub mod Bounds
+pub mod UpFollow
