@@ -11,3 +11,6 @@ pub mod FreeingFollows
 pub mod ScriptsFollow
 pub mod Bounds
 pub mod UpFollow
+pub mod TargetFollow
+pub mod CellFollows
+pub mod StateFollows
