@@ -1,5 +1,5 @@
 -- The state of a line follows its history.
-use Rattle.std.proofs.Common.{◌≡◌, List, ◌∷◌, refl, sym, ap, ◌∙◌}
+use Rattle.std.proofs.Common.{◌≡◌, List, [], ◌∷◌, refl, sym, ap, ◌∙◌}
 use Rattle.irq_base.specs.declared.entries.Entry.{Entry}
 use Rattle.irq_base.specs.declared.lines.LineDef.{LineDef}
 use Rattle.irq_model.specs.Legal.{IsLegalPast}
@@ -18,7 +18,7 @@ use Rattle.line_marks.proofs.TargetFollow.{aimed_more}
 use Rattle.line_marks.proofs.ThreadsFollow.{threads_follow}
 use Rattle.line_marks.proofs.UpFollow.{active_follows}
 use Rattle.line_marks.specs.Desc.{desc_of, desc_after}
-use Rattle.line_marks.specs.State.{StateSeen, state_of, state_after}
+use Rattle.line_marks.specs.State.{StateSeen, first_state, state_of, state_after}
 
 same_state : (a b : StateSeen) → a.desc ≡ b.desc → a.cell ≡ b.cell → a.active ≡ b.active → a.aimed ≡ b.aimed → a.aim ≡ b.aim → a.list ≡ b.list → a.threads ≡ b.threads → a.asks ≡ b.asks → a.kinds ≡ b.kinds → a.round ≡ b.round
     → a.counts ≡ b.counts → a.freeing ≡ b.freeing → a ≡ b
@@ -53,3 +53,7 @@ state_follows def e past valid legal =
     (round_more def e past)
     (tally_more def e past)
     (freeing_more e past)
+
+-- it begins as one to which nothing was done
+pub state_first : (def : LineDef) → state_of def [] ≡ first_state def
+state_first def = refl
