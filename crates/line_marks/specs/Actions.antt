@@ -1,0 +1,51 @@
+-- The list of a line's actions, read off its past, and what an entry makes of it.
+use Rattle.std.specs.Prelude.{if◌then◌else◌, List, [], ◌∷◌, ◌++◌}
+use Rattle.std.specs.Map.{remove_entry}
+use Rattle.irq_base.specs.declared.calls.Flags.{Flags}
+use Rattle.irq_base.specs.declared.entries.Entry.{Entry}
+use Rattle.irq_base.specs.declared.entries.Entry.TheVariants as entries
+use Rattle.irq_base.specs.declared.entries.LinkAnswer.TheVariants as links
+use Rattle.irq_base.specs.declared.entries.UnlinkAnswer.TheVariants as unlinks
+use Rattle.irq_base.specs.declared.lines.LineDef.{LineDef}
+use Rattle.irq_base.specs.declared.numbers.DevNo.{DevNo}
+use Rattle.irq_model.specs.Kinds.{same_dev}
+use Rattle.irq_model.specs.Links.{linked, linking_flags}
+use Rattle.irq_model.specs.Places.{count_of}
+use Rattle.irq_model.specs.Rounds.{begins_round, has_begun}
+use Rattle.device_table.specs.Rows.{table_by}
+use Rattle.act_list.specs.Lists.{ListSeen, action_by, after_link, after_unlink, after_begin, after_begin_round}
+use Rattle.act_list.specs.declared.actions.Action.{Action}
+
+-- the devices with what they were linked with last
+abbrev pub flags_by : (DevNo → Flags) → List DevNo → List (DevNo × Flags)
+flags_by f [] = []
+flags_by f (d ∷ ds) = (d, f d) ∷ flags_by f ds
+
+-- the linked devices in the order in which they are walked, each with its flags
+abbrev pub linked_flags : List Entry → List (DevNo × Flags)
+linked_flags past = flags_by (linking_flags past) (linked past)
+
+-- what an entry makes of the actions
+abbrev pub actions_after : Entry → List (DevNo × Action) → List (DevNo × Action)
+actions_after (entries.Request driver dev flags links.Linked opened) t = t ++ (dev, action_by flags t) ∷ []
+actions_after (entries.Unlink driver dev (unlinks.Unlinked last)) t = remove_entry (same_dev dev) t
+actions_after _ t = t
+
+-- the linked devices with their actions: a one-shot one got the lowest thread bit that none had as it was linked
+abbrev pub actions_of : List Entry → List (DevNo × Action)
+actions_of [] = []
+actions_of (e ∷ past) = actions_after e (actions_of past)
+
+-- the actions, whose handler was called in the round, and the number of rounds so far
+abbrev pub list_of : LineDef → List Entry → ListSeen
+list_of def past = record {
+  actions = actions_of past;
+  begun = table_by (has_begun def past) def.devices;
+  rounds = count_of (begins_round def) past;
+}
+
+abbrev pub list_after : LineDef → Entry → ListSeen → ListSeen
+list_after def (entries.Request driver dev flags answer opened) l = after_link answer dev flags l
+list_after def (entries.Unlink driver dev (unlinks.Unlinked last)) l = after_unlink dev l
+list_after def (entries.Begin cpu dev) l = after_begin dev l
+list_after def e l = if begins_round def e then after_begin_round l else l

@@ -1,0 +1,19 @@
+-- The counts of the rule on spurious interrupts, read off a line's past, and what an entry makes of them.
+use Rattle.std.specs.Prelude.{if◌then◌else◌, nat_lt, List}
+use Rattle.irq_base.specs.declared.entries.Entry.{Entry}
+use Rattle.irq_base.specs.declared.entries.Entry.TheVariants as entries
+use Rattle.irq_base.specs.declared.entries.LinkAnswer.TheVariants as links
+use Rattle.irq_base.specs.declared.lines.LineDef.{LineDef}
+use Rattle.irq_model.specs.Spurious.{counts_of}
+use Rattle.spurious.specs.Seen.{CountsSeen, after_note, after_thread, after_reset}
+use Rattle.line_marks.specs.Rounds.{RoundSeen}
+
+abbrev pub tally_of : LineDef → List Entry → CountsSeen
+tally_of def past = record { window = def.window; limit = def.limit; counts = counts_of def past }
+
+-- where this was the round before the entry
+abbrev pub tally_after : Entry → RoundSeen → CountsSeen → CountsSeen
+tally_after (entries.ThreadReturn dev served) r c = if nat_lt 0 served then after_thread c else c
+tally_after (entries.Request driver dev flags links.Linked opened) r c = after_reset c
+tally_after (entries.End cpu again unmask note) r c = after_note r.moment r.wakes r.handles c
+tally_after _ r c = c

@@ -1,0 +1,55 @@
+-- What holds just before an entry that is due, and what its function asks for: its answers are those of the state, and
+-- the counts have room.
+use Rattle.std.specs.Prelude.{◌≡◌, ◌<◌, ◌-◌, ◌^◌, true, false, not}
+use Rattle.irq_base.specs.declared.entries.Entry.{Entry}
+use Rattle.irq_base.specs.declared.entries.Entry.TheVariants as entries
+use Rattle.irq_base.specs.declared.entries.LinkAnswer.{LinkAnswer}
+use Rattle.irq_base.specs.declared.entries.LinkAnswer.TheVariants as links
+use Rattle.irq_base.specs.declared.entries.Opened.{Opened}
+use Rattle.irq_base.specs.declared.entries.Opened.TheVariants as opens
+use Rattle.irq_base.specs.declared.calls.Flags.{Flags}
+use Rattle.irq_base.specs.declared.lines.LineDef.{LineDef}
+use Rattle.irq_model.specs.Lines.{is_edge_line, is_eoi_flow}
+use Rattle.device_table.specs.Rows.{at}
+use Rattle.act_list.specs.Actions.{is_bare, has, answer_by as link_answer_by}
+use Rattle.act_list.specs.Lists.{unlink_by}
+use Rattle.affinity.specs.Seen.{set_answer}
+use Rattle.ask_counts.specs.Rows.{HasRoom}
+use Rattle.desc_state.specs.Desc.{enable_by}
+use Rattle.line_marks.specs.Acts.{killed_if, left_by}
+use Rattle.line_marks.specs.CpuDue.{take_by, note_by, is_held, end_with}
+use Rattle.line_marks.specs.DriversDue.{opened_by}
+use Rattle.line_marks.specs.Kinds.{kind_at}
+use Rattle.line_marks.specs.State.{StateSeen}
+
+-- a round more fits
+abbrev pub HasRounds : StateSeen → Type 0
+HasRounds s = s.list.rounds < 2 ^ 32 - 2
+
+-- a disable more fits
+abbrev pub HasDepth : StateSeen → Type 0
+HasDepth s = s.desc.depth < 2 ^ 32 - 1
+
+-- an enabled edge line on the fast-EOI flow is open
+abbrev pub IsOpen : LineDef → StateSeen → Type 0
+IsOpen def s = is_edge_line def ≡ true → is_eoi_flow def.flow ≡ true → s.desc.depth ≡ 0 → s.cell.masked ≡ false
+
+-- what a request makes of the depth, by its answer
+abbrev pub opened_with : LineDef → Flags → StateSeen → LinkAnswer → Opened
+opened_with def flags s links.Linked = opened_by def flags s
+opened_with def flags s (links.Refused error) = opens.No
+
+abbrev pub IsExpected : LineDef → Entry → StateSeen → Type 0
+IsExpected def (entries.Ask driver dev) s = HasRoom (at s.asks dev)
+IsExpected def (entries.Take cpu way answer) s = (answer ≡ take_by s) × HasRounds s
+IsExpected def (entries.End cpu again unmask note) s =
+    (entries.End cpu again unmask note ≡ end_with cpu (note_by s) (left_by def def.flow (is_held s) (killed_if (note_by s) s.desc)))
+    × HasRounds s × HasDepth s × IsOpen def s
+IsExpected def (entries.ThreadReturn dev served) s = s.counts.counts.threads_handled < 2 ^ 32 - 1
+IsExpected def (entries.Disable driver) s = HasDepth s
+IsExpected def (entries.Enable driver answer) s = answer ≡ enable_by (not (is_bare s.list.actions)) def.trigger s.desc s.cell
+IsExpected def (entries.Request driver dev flags answer opened) s =
+    (has dev s.list.actions ≡ false) × (answer ≡ link_answer_by (kind_at s.kinds dev) flags s.list.actions) × (opened ≡ opened_with def flags s answer)
+IsExpected def (entries.Unlink driver dev answer) s = answer ≡ unlink_by dev s.list.actions
+IsExpected def (entries.Affinity driver mask answer) s = answer ≡ set_answer s.aim mask
+IsExpected def _ s = Unit {0}

@@ -1,0 +1,21 @@
+-- What holds of a line at every moment.
+use Rattle.std.specs.Prelude.{◌≡◌, ◌≤◌, List, length, reverse}
+use Rattle.irq_base.specs.declared.entries.Entry.{Entry}
+use Rattle.irq_base.specs.declared.lines.LineDef.{LineDef}
+use Rattle.irq_base.specs.declared.numbers.DriverNo.{DriverNo}
+use Rattle.irq_model.specs.Due.{calls_by}
+use Rattle.irq_model.specs.Legal.{IsLegal}
+use Rattle.irq_model.specs.Valid.{IsValid}
+use Rattle.line_scripts.specs.Rows.{RowSeen, calls_of, place_of, within_of}
+use Rattle.line_marks.specs.Scripts.{IsAt}
+use Rattle.line_marks.specs.State.{StateSeen, state_of}
+
+-- its definition is valid, its history legal and not too long, its state is that of its history, and so are the
+-- places of its drivers
+pub record IsLine (def : LineDef) (entries : List Entry) (s : StateSeen) (scripts : List (DriverNo × RowSeen)) : Type 0 where
+  pub valid : IsValid def
+  pub legal : IsLegal def entries
+  pub state : s ≡ state_of def (reverse entries)
+  pub calls : (r : DriverNo) → calls_of scripts r ≡ calls_by r def.calls
+  pub at : (r : DriverNo) → IsAt def (reverse entries) r (place_of scripts r) (within_of scripts r)
+  pub room : length entries ≤ def.log
