@@ -11,3 +11,11 @@ pub mod FreeingFollows
 pub mod ScriptsFollow
 pub mod Bounds
 pub mod UpFollow
+pub mod Listed
+pub mod Known
+pub mod ThreadsDue
+pub mod CpuDueIs
+pub mod DriversDueIs
+pub mod Takes
+pub mod Linking
+pub mod Ends
