@@ -119,7 +119,7 @@ module _ (def : LineDef) (c : CpuNo) (past : List Entry) where
   eoi_end notes.Counted true is = rw (is, or_false (is_disabled past)) refl
   eoi_end notes.Counted false is = rw (is, or_false (is_disabled past), held_known past def.devices) (ap (λ b. entries.End c false b notes.Counted) (oneshot_first (is_disabled past) (is_oneshot past) _))
 
-  end_is : (f : FlowKind) (note : Note) → IsEnd f note
+  pub end_is : (f : FlowKind) (note : Note) → IsEnd f note
   end_is flows.Level note = level_end note
   end_is flows.Edge note = edge_end note
   end_is flows.Eoi note = eoi_end note (is_edge_line def) refl
@@ -139,7 +139,7 @@ module _ (def : LineDef) (c : CpuNo) (past : List Entry) where
     in_flow_is None is =
         ap (begin_or_end def c past) (left_known def past valid legal) ∙ walk_is (left_in (table_by (has_begun def past) def.devices) (actions_of past))
 
-    take_answer_is : take_answer def past ≡ take_by (state_of def past)
+    pub take_answer_is : take_answer def past ≡ take_by (state_of def past)
     take_answer_is = rw (bare_is def past valid legal) (ap (λ b. cond (has_flow def past) takes.Busy (cond (is_disabled past || b) takes.Off takes.Handle)) (twice (is_none_linked past)))
       where
         twice : (b : Bool) → b ≡ not (not b)

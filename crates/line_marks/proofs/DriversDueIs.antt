@@ -97,7 +97,7 @@ module _ (def : LineDef) (past : List Entry) (valid : IsValid def) (legal : IsLe
   resend_is =
       ap (resend_by def.trigger (desc_of def past)) (cell_known def past valid legal) ∙ resend_so (is_edge_line def) def.retriggers (is_pending def past) _ _ _
 
-  enable_is : enable_by (not (is_bare (actions_of past))) def.trigger (desc_of def past) (cell_after def past) ≡ enable_answer def past
+  pub enable_is : enable_by (not (is_bare (actions_of past))) def.trigger (desc_of def past) (cell_after def past) ≡ enable_answer def past
   enable_is =
       ap (λ b. enable_by (not b) def.trigger (desc_of def past) (cell_after def past)) (bare_is def past valid legal)
       ∙ (turned (is_none_linked past) (depth past == 0) enables.Unbalanced (cond (depth past == 1) (enables.Started (resend_by def.trigger (desc_of def past) (cell_after def past))) enables.Lowered)
@@ -105,7 +105,7 @@ module _ (def : LineDef) (past : List Entry) (valid : IsValid def) (legal : IsLe
 
   -- ---- a request
 
-  answer_is : (d : DevNo) (flags : Flags) → link_answer def d flags past ≡ answer_by (kind_at (kinds_of def) d) flags (actions_of past)
+  pub answer_is : (d : DevNo) (flags : Flags) → link_answer def d flags past ≡ answer_by (kind_at (kinds_of def) d) flags (actions_of past)
   answer_is d flags =
       rw (kind_is def d, mismatch_of (linking_flags past) flags (actions_of past) (linked past) (actions_are def past valid legal), many_of (linking_flags past) (actions_of past) (linked past) (actions_are def past valid legal)) refl
 

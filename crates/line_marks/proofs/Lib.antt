@@ -19,3 +19,5 @@ pub mod DriversDueIs
 pub mod Takes
 pub mod Linking
 pub mod Ends
+pub mod DueIs
+pub mod ExpectedOf
