@@ -21,3 +21,6 @@ pub mod Linking
 pub mod Ends
 pub mod DueIs
 pub mod ExpectedOf
+pub mod TargetFollow
+pub mod CellFollows
+pub mod StateFollows
