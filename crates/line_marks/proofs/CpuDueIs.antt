@@ -36,8 +36,9 @@ use Rattle.device_table.specs.Rows.{at, table_by}
 use Rattle.act_list.specs.Lists.{first_left as left_in}
 use Rattle.ask_counts.specs.declared.rows.AskRow.{AskRow}
 use Rattle.line_marks.proofs.ActionsFollow.{actions_are, bare_is}
+use Rattle.line_marks.proofs.CellFollows.{presents_is}
 use Rattle.line_marks.proofs.KindsFixed.{kind_is}
-use Rattle.line_marks.proofs.Known.{signals_known, linked_named, held_known}
+use Rattle.line_marks.proofs.Known.{linked_named, held_known}
 use Rattle.line_marks.proofs.Listed.{first_by, left_of}
 use Rattle.line_marks.specs.Actions.{actions_of}
 use Rattle.line_marks.specs.Acts.{left_by, killed_if}
@@ -148,7 +149,7 @@ module _ (def : LineDef) (c : CpuNo) (past : List Entry) where
 
     take_is : next_take def c past ≡ next_take_by (state_of def past) c
     take_is =
-        ap (λ b. cond (not (is_cpu c (target def past))) None (cond b (Some (entries.Take c ways.Line (take_answer def past))) (cond (is_soft past) (Some (entries.Take c ways.Resend (take_answer def past))) None))) (signals_known def past valid legal)
+        ap (λ b. cond (not (is_cpu c (target def past))) None (cond b (Some (entries.Take c ways.Line (take_answer def past))) (cond (is_soft past) (Some (entries.Take c ways.Resend (take_answer def past))) None))) (sym (presents_is def past valid legal))
         ∙ ap (λ (a : TakeAnswer). cond (not (is_cpu c (target def past))) None (cond (presents (cell_after def past)) (Some (entries.Take c ways.Line a)) (cond (is_soft past) (Some (entries.Take c ways.Resend a)) None))) take_answer_is
 
 pub cpu_due_is : (def : LineDef) (past : List Entry) (c : CpuNo) → IsValid def → IsLegalPast def past → next_of_cpu def c past ≡ cpu_due def (state_of def past) c

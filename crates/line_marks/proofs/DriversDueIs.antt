@@ -5,6 +5,7 @@ use Rattle.irq_base.specs.declared.calls.Call.{Call}
 use Rattle.irq_base.specs.declared.calls.Call.TheVariants as calls
 use Rattle.irq_base.specs.declared.calls.Flags.{Flags}
 use Rattle.irq_base.specs.declared.devices.DeviceDef.{DeviceDef}
+use Rattle.irq_base.specs.declared.entries.Actor.TheVariants as actors
 use Rattle.irq_base.specs.declared.entries.EnableAnswer.{EnableAnswer}
 use Rattle.irq_base.specs.declared.entries.EnableAnswer.TheVariants as enables
 use Rattle.irq_base.specs.declared.entries.Entry.{Entry}
@@ -21,11 +22,12 @@ use Rattle.irq_base.specs.declared.numbers.DriverNo.{DriverNo}
 use Rattle.irq_laws.proofs.KeptAlways.{kept}
 use Rattle.irq_laws.specs.Driven.{cell_after}
 use Rattle.irq_laws.specs.Kept.{freeing}
+use Rattle.irq_model.specs.Due.{due_call}
 use Rattle.irq_model.specs.Kinds.{opened_by_enable}
 use Rattle.irq_model.specs.Legal.{IsLegalPast}
 use Rattle.irq_model.specs.Lines.{is_device, is_edge_line}
 use Rattle.irq_model.specs.Links.{linked, is_none_linked, depth, linking_flags, has_spurious_mark}
-use Rattle.irq_model.specs.Next.{next_of_call, next_of_request, next_of_free, request_with, link_answer, opened_by_request, unlink_answer, is_only, resend_of, enable_answer, freed_of, synced_of, hard_clear_of}
+use Rattle.irq_model.specs.Next.{next_past, next_of_call, next_of_request, next_of_free, request_with, link_answer, opened_by_request, unlink_answer, is_only, resend_of, enable_answer, freed_of, synced_of, hard_clear_of}
 use Rattle.irq_model.specs.Places.{count_of}
 use Rattle.irq_model.specs.Threads.{is_woken, is_running}
 use Rattle.irq_model.specs.Valid.{IsValid}
@@ -40,8 +42,9 @@ use Rattle.act_thread.specs.Threads.{active_in, is_idle_at, row_passes}
 use Rattle.desc_state.specs.Desc.{resend_by, enable_by}
 use Rattle.line_marks.proofs.FreeingFollows.{mutex_is}
 use Rattle.line_marks.proofs.ActionsFollow.{actions_are, bare_is}
+use Rattle.line_marks.proofs.CellFollows.{cell_is}
 use Rattle.line_marks.proofs.KindsFixed.{kind_is}
-use Rattle.line_marks.proofs.Known.{cell_known, linked_known, no_thread, in_run}
+use Rattle.line_marks.proofs.Known.{linked_known, no_thread, in_run}
 use Rattle.line_marks.proofs.Listed.{mismatch_of, many_of, only_of}
 use Rattle.line_marks.specs.Actions.{actions_of}
 use Rattle.line_marks.specs.Desc.{desc_of}
@@ -95,7 +98,7 @@ module _ (def : LineDef) (past : List Entry) (valid : IsValid def) (legal : IsLe
 
   resend_is : resend_by def.trigger (desc_of def past) (cell_after def past) ≡ resend_of def past
   resend_is =
-      ap (resend_by def.trigger (desc_of def past)) (cell_known def past valid legal) ∙ resend_so (is_edge_line def) def.retriggers (is_pending def past) _ _ _
+      ap (resend_by def.trigger (desc_of def past)) (cell_is def past valid legal) ∙ resend_so (is_edge_line def) def.retriggers (is_pending def past) _ _ _
 
   pub enable_is : enable_by (not (is_bare (actions_of past))) def.trigger (desc_of def past) (cell_after def past) ≡ enable_answer def past
   enable_is =
@@ -173,3 +176,6 @@ module _ (def : LineDef) (past : List Entry) (valid : IsValid def) (legal : IsLe
 
 pub driver_due_is : (def : LineDef) (past : List Entry) (r : DriverNo) (o : Option (Call × ℕ)) → IsValid def → IsLegalPast def past → next_of_call def r past o ≡ driver_due def (state_of def past) r o
 driver_due_is def past r o valid legal = call_due_is def past valid legal r o
+
+pub driver_is : (def : LineDef) (past : List Entry) (r : DriverNo) → IsValid def → IsLegalPast def past → next_past def past (actors.Driver r) ≡ driver_due def (state_of def past) r (due_call def r past)
+driver_is def past r valid legal = driver_due_is def past r (due_call def r past) valid legal

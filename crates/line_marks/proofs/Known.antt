@@ -1,24 +1,19 @@
 -- What is read off the marks of a line, told by its past.
-use Rattle.std.proofs.Common.{◌≡◌, ◌+◌, Bool, true, false, ◌||◌, cond, ltb, List, [], ◌∷◌, filter, reverse, refl, sym, ap, subst, ◌∙◌, arith}
-use Rattle.std.proofs.lemmas.List.{reverse-reverse}
+use Rattle.std.proofs.Common.{◌≡◌, ◌+◌, Bool, true, false, ◌||◌, cond, ltb, List, [], ◌∷◌, filter, refl, sym, ap, ◌∙◌, arith}
 use Rattle.std.proofs.lemmas.Bool.Decides.{nat_tests}
 use Rattle.std.specs.List.{list_any}
-use Rattle.irq_base.specs.Cell.{signals as presents}
 use Rattle.irq_base.specs.declared.devices.DeviceDef.{DeviceDef}
 use Rattle.irq_base.specs.declared.entries.Entry.{Entry}
 use Rattle.irq_base.specs.declared.lines.LineDef.{LineDef}
 use Rattle.irq_base.specs.declared.numbers.DevNo.{DevNo}
-use Rattle.irq_laws.proofs.CellKept.{is_driven_cell}
 use Rattle.irq_laws.proofs.Requested.{of_linked}
 use Rattle.irq_laws.proofs.RestKept.{running_there, woken_there, there_named}
-use Rattle.irq_laws.specs.Driven.{cell_after, cell_of}
 use Rattle.irq_laws.specs.Kept.{Kept}
 use Rattle.irq_model.specs.Kinds.{same_dev}
-use Rattle.irq_model.specs.Legal.{IsLegal, IsLegalPast}
+use Rattle.irq_model.specs.Legal.{IsLegalPast}
 use Rattle.irq_model.specs.Lines.{is_device}
 use Rattle.irq_model.specs.Links.{linked, is_linked, requested, linking_flags}
 use Rattle.irq_model.specs.Reason.{is_being_freed}
-use Rattle.irq_model.specs.Signal.{signals}
 use Rattle.irq_model.specs.Threads.{is_woken, is_running, is_unfinished}
 use Rattle.irq_model.specs.Valid.{IsValid}
 use Rattle.irq_steps.proofs.Same.{same_self, dev_from_same}
@@ -31,20 +26,6 @@ use Rattle.line_marks.proofs.ActionsFollow.{actions_are}
 use Rattle.line_marks.proofs.Listed.{has_of}
 use Rattle.line_marks.specs.Actions.{actions_of}
 use Rattle.line_marks.specs.Threads.{thread_of, stage_by}
-
--- ---- the cell
-
-pub cell_known : (def : LineDef) (past : List Entry) → IsValid def → IsLegalPast def past → cell_after def past ≡ cell_of def past
-cell_known def past valid legal =
-    let back : reverse (reverse past) ≡ past = reverse-reverse past in
-    let same : IsLegal def (reverse past) = subst (λ (h : List Entry). IsLegalPast def h) (sym back) legal in
-    subst (λ (h : List Entry). cell_after def h ≡ cell_of def h) back (is_driven_cell def (reverse past) valid same).keeps
-
-pub signals_known : (def : LineDef) (past : List Entry) → IsValid def → IsLegalPast def past → signals def past ≡ presents (cell_after def past)
-signals_known def past valid legal =
-    let back : reverse (reverse past) ≡ past = reverse-reverse past in
-    let same : IsLegal def (reverse past) = subst (λ (h : List Entry). IsLegalPast def h) (sym back) legal in
-    subst (λ (h : List Entry). signals def h ≡ presents (cell_after def h)) back (sym (is_driven_cell def (reverse past) valid same).presents)
 
 -- ---- the actions
 
@@ -86,9 +67,10 @@ contrary b h i = cc
 
 -- a device that the line lacks has no thread at work
 pub no_thread : (def : LineDef) (past : List Entry) (d : DevNo) → Kept def past → list_any (is_device d) def.devices ≡ false → (is_running past d ≡ false) × (is_woken past d ≡ false)
-no_thread def past d k gone =
-    (is_off (is_running past d) (λ on. contrary (list_any (is_device d) def.devices) (there_named def past k d (running_there def past k d on)) gone),
-    is_off (is_woken past d) (λ on. contrary (list_any (is_device d) def.devices) (there_named def past k d (woken_there def past k d on)) gone))
+no_thread def past d k gone = (
+  is_off (is_running past d) (λ on. contrary (list_any (is_device d) def.devices) (there_named def past k d (running_there def past k d on)) gone),
+  is_off (is_woken past d) (λ on. contrary (list_any (is_device d) def.devices) (there_named def past k d (woken_there def past k d on)) gone),
+)
 
 pub in_run : (r t f : Bool) → is_in_run (stage_by r t f) ≡ r
 in_run false t f = refl

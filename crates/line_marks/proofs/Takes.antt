@@ -11,13 +11,8 @@ use Rattle.irq_base.specs.declared.lines.LineDef.{LineDef}
 use Rattle.irq_base.specs.declared.numbers.CpuNo.{CpuNo}
 use Rattle.irq_model.specs.Lines.{is_edge_line, is_level_line, is_edge_flow, is_level_flow}
 use Rattle.irq_model.specs.Valid.{IsValid}
-use Rattle.desc_state.specs.Desc.{DescSeen}
 use Rattle.line_marks.specs.Acts.{arrived, moved, entered, handling_from}
 use Rattle.line_marks.specs.State.{StateSeen, state_after}
-
--- the state with this descriptor, after the rest of the take
-abbrev taken_to : LineDef → CpuNo → Way → TakeAnswer → StateSeen → DescSeen → StateSeen
-taken_to def cpu way answer s d = record (state_after def (entries.Take cpu way answer) s) { desc = d }
 
 masked_so : (x m : Bool) → ((x || false) || m) ≡ (m || x)
 masked_so true true = refl
@@ -50,9 +45,6 @@ module _ (def : LineDef) (cpu : CpuNo) (s : StateSeen) where
   on_edge ways.Resend takes.Handle is edge = rw is refl
   on_edge ways.Resend takes.Busy is edge = rw (is, edge) refl
   on_edge ways.Resend takes.Off is edge = rw is refl
-
-  handled : Bool → StateSeen → StateSeen
-  handled m t = record t { desc = record t.desc { masked = m } }
 
   on_eoi : (way : Way) (answer : TakeAnswer) → def.flow ≡ flows.Eoi → IsTaken flows.Eoi way answer
   on_eoi ways.Line takes.Handle is = rw (is, masked_so (is_level_line def && s.desc.oneshot) s.desc.masked) refl

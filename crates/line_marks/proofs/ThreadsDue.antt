@@ -93,9 +93,10 @@ is_off false h = refl
 
 -- a device that the line lacks has no thread at work
 pub no_thread : (def : LineDef) (past : List Entry) (d : DevNo) → Kept def past → list_any (is_device d) def.devices ≡ false → (is_running past d ≡ false) × (is_woken past d ≡ false)
-no_thread def past d k gone =
-    (is_off (is_running past d) (λ on. contrary (list_any (is_device d) def.devices) (there_named def past k d (running_there def past k d on)) gone),
-    is_off (is_woken past d) (λ on. contrary (list_any (is_device d) def.devices) (there_named def past k d (woken_there def past k d on)) gone))
+no_thread def past d k gone = (
+  is_off (is_running past d) (λ on. contrary (list_any (is_device d) def.devices) (there_named def past k d (running_there def past k d on)) gone),
+  is_off (is_woken past d) (λ on. contrary (list_any (is_device d) def.devices) (there_named def past k d (woken_there def past k d on)) gone),
+)
 
 other_held : (def : LineDef) (past : List Entry) (d : DevNo) → IsValid def → list_any (is_device d) def.devices ≡ true → is_other_unfinished def past d ≡ others_held (state_of def past) (thread_of past d)
 other_held def past d valid there = others (thread_of past) d def.devices valid.distinct there
