@@ -63,7 +63,7 @@ impl<C: Chip> LineState<C> {
     {
         self.aim.set(mask);
         if answer == AffinityAnswer::Now {
-            self.chip.aim(self.aim.target());
+            self.aim_chip();
         }
     }
 

@@ -6,6 +6,7 @@ ghost use Rattle.irq_model.specs.Valid.{IsValid};
 ghost use Rattle.act_list.specs.Actions.{is_bare};
 ghost use Rattle.flow_handlers.specs.Flows.{answer_by};
 ghost use Rattle.line_marks.specs.Acts.{arrived, moved, entered, handling_from, round_begun, noted_at, killed_by, left_at, gone_on};
+ghost use Rattle.line_marks.specs.Aim.{aimed_by};
 ghost use Rattle.line_marks.specs.CpuDue.{is_held};
 ghost use Rattle.line_marks.specs.Expected.{IsExpected, HasRounds, HasDepth, IsOpen};
 ghost use Rattle.line_marks.specs.State.{state_after};
@@ -57,6 +58,15 @@ impl<C: Chip> LineState<C> {
         ensures { self.new.state ≡ moved self.old.state }
     {
         self.aim.move_now();
+        self.aim_chip();
+    }
+
+    /// The chip is aimed at the line's target.
+    #[tactic(auto, using(crate::proofs::Targets::target_below))]
+    pub(crate) fn aim_chip(&mut self)
+        requires { self.old.state.aim.cpus ≤ 32 }
+        ensures { self.new.state ≡ record self.old.state { aimed = aimed_by self.old.state.aim } }
+    {
         self.chip.aim(self.aim.target());
     }
 
