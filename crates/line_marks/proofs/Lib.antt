@@ -1,1 +1,16 @@
-
+pub mod KindsFixed
+pub mod ActionsFollow
+pub mod DescFollow
+pub mod ThreadsFollow
+pub mod AsksFollow
+pub mod AimFollow
+pub mod RoundsFollow
+pub mod ListFollows
+pub mod CountsFollow
+pub mod FreeingFollows
+pub mod ScriptsFollow
+pub mod Bounds
+pub mod UpFollow
+pub mod TargetFollow
+pub mod CellFollows
+pub mod StateFollows

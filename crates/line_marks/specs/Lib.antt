@@ -17,4 +17,5 @@ pub mod DriversDue
 pub mod Next
 pub mod Expected
 pub mod Below
+pub mod Bounded
 pub mod Line

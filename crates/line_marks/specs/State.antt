@@ -1,6 +1,6 @@
 -- All that a line keeps of its history but the drivers' places, read off its past, and what an entry makes of it.
-use Rattle.std.specs.Prelude.{◌≡◌, ℕ, Bool, ◌&&◌, if◌then◌else◌, nat_lt, Option, List}
-use Rattle.irq_base.specs.Cell.{Cell, after_edge, after_high}
+use Rattle.std.specs.Prelude.{◌≡◌, ℕ, Bool, false, ◌&&◌, if◌then◌else◌, nat_lt, Option, None, List}
+use Rattle.irq_base.specs.Cell.{Cell, fresh_cell, after_edge, after_high}
 use Rattle.irq_base.specs.declared.devices.Kind.{Kind}
 use Rattle.irq_base.specs.declared.entries.Entry.{Entry}
 use Rattle.irq_base.specs.declared.entries.Entry.TheVariants as entries
@@ -8,22 +8,26 @@ use Rattle.irq_base.specs.declared.lines.LineDef.{LineDef}
 use Rattle.irq_base.specs.declared.numbers.DevNo.{DevNo}
 use Rattle.irq_base.specs.declared.numbers.DriverNo.{DriverNo}
 use Rattle.irq_model.specs.Kinds.{is_kill, is_last_unlink, is_chip_start, is_start}
-use Rattle.irq_model.specs.Lines.{is_edge_line, is_level_line}
+use Rattle.irq_model.specs.Lines.{is_edge_line, is_level_line, serves}
+use Rattle.irq_model.specs.Signal.{lowest_in}
+use Rattle.irq_model.specs.Spurious.{no_counts}
 use Rattle.irq_model.specs.Up.{is_up}
 use Rattle.irq_laws.specs.Driven.{cell_after, accepted, taken, ended, masked_if, unmasked_if, retriggered_if}
 use Rattle.irq_laws.specs.Kept.{freeing}
+use Rattle.device_table.specs.Rows.{all_with}
 use Rattle.device_table.specs.Sums.{how_many}
 use Rattle.act_list.specs.Actions.{is_bare}
-use Rattle.act_list.specs.Lists.{ListSeen}
+use Rattle.act_list.specs.Lists.{ListSeen, first_list}
+use Rattle.act_thread.specs.Steps.{idle_row}
 use Rattle.act_thread.specs.Threads.{threads_after}
 use Rattle.act_thread.specs.declared.rows.ThreadRow.{ThreadRow}
-use Rattle.ask_counts.specs.Rows.{is_waiting}
+use Rattle.ask_counts.specs.Rows.{is_waiting, no_asks}
 use Rattle.ask_counts.specs.declared.rows.AskRow.{AskRow}
 use Rattle.affinity.specs.Seen.{AimSeen}
 use Rattle.spurious.specs.Seen.{CountsSeen}
-use Rattle.desc_state.specs.Desc.{DescSeen}
+use Rattle.desc_state.specs.Desc.{DescSeen, fresh_desc}
 use Rattle.line_marks.specs.Actions.{list_of, list_after}
-use Rattle.line_marks.specs.Aim.{aim_of, aim_after, aimed_of, aimed_after}
+use Rattle.line_marks.specs.Aim.{number_of, aim_of, aim_after, aimed_of, aimed_after}
 use Rattle.line_marks.specs.Asks.{asks_of, asks_after}
 use Rattle.line_marks.specs.Counts.{tally_of, tally_after}
 use Rattle.line_marks.specs.Desc.{desc_of, desc_after}
@@ -64,6 +68,23 @@ state_of def past = record {
   round = round_of def past;
   counts = tally_of def past;
   freeing = freeing past;
+}
+
+-- a line to which nothing was done
+abbrev pub first_state : LineDef → StateSeen
+first_state def = record {
+  desc = fresh_desc def.unlazy;
+  cell = fresh_cell def.trigger def.keeps def.recalls def.retriggers (serves def);
+  active = false;
+  aimed = number_of (lowest_in def.cpus def.mask);
+  aim = record { cpus = def.cpus; later = def.later; mask = def.mask; waiting = None };
+  list = first_list def.devices;
+  threads = all_with idle_row def.devices;
+  asks = all_with no_asks def.devices;
+  kinds = kinds_of def;
+  round = record { working = None; wakes = false; handles = false; moment = 0 };
+  counts = record { window = def.window; limit = def.limit; counts = no_counts };
+  freeing = None;
 }
 
 -- the level: some device has an unserved ask

@@ -2,3 +2,16 @@
 //! and the law that the two agree, for every valid definition and every legal history; and the entry that is due of
 //! each actor, told by the state alone. No code: each law is the clause of a function with an empty body.
 #![tactic(auto)]
+
+pub mod parts;
+pub mod whole;
+
+pub use parts::{
+    actions_are, active_follows, aim_follows, aimed_follows, asks_follow, bare_is, desc_follows,
+    freeing_follows, freeing_holds_mutex, kinds_stand, list_follows, places_follow, places_stay,
+    rounds_follow, tally_follows, threads_follow, up_is,
+};
+pub use whole::{
+    cell_follows, cell_is_open, cell_is_told, cell_keeps_kind, counts_have_room, counts_stay_below,
+    levels_are_told, state_begins, state_follows,
+};

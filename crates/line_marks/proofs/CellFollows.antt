@@ -1,0 +1,90 @@
+-- The cell of a line follows its history: what an entry does to it is told by the state; and what it is.
+use Rattle.std.proofs.Common.{◌≡◌, Bool, true, false, not, ◌||◌, ◌&&◌, cond, ltb, List, [], ◌∷◌, reverse, refl, sym, ap, ◌∙◌, subst}
+use Rattle.std.proofs.lemmas.List.{reverse-reverse}
+use Rattle.std.specs.List.{list_any}
+use Rattle.irq_base.specs.Cell.{Cell, after_edge, after_high, signals as presents}
+use Rattle.irq_base.specs.declared.devices.DeviceDef.{DeviceDef}
+use Rattle.irq_base.specs.declared.entries.Entry.{Entry}
+use Rattle.irq_base.specs.declared.entries.Entry.TheVariants as entries
+use Rattle.irq_base.specs.declared.lines.LineDef.{LineDef}
+use Rattle.irq_base.specs.declared.numbers.DevNo.{DevNo}
+use Rattle.irq_model.specs.Asks.{is_high, unserved_asks}
+use Rattle.irq_model.specs.Kinds.{is_kill}
+use Rattle.irq_model.specs.Legal.{IsLegalPast}
+use Rattle.irq_model.specs.Lines.{is_edge_line, is_level_line}
+use Rattle.irq_model.specs.Signal.{signals}
+use Rattle.irq_model.specs.Valid.{IsValid}
+use Rattle.irq_laws.proofs.CellKept.{is_driven_cell}
+use Rattle.irq_laws.proofs.KeptAlways.{kept}
+use Rattle.irq_laws.specs.Driven.{cell_after, cell_of, driven, ended, masked_if}
+use Rattle.device_table.specs.Rows.{table_by}
+use Rattle.device_table.proofs.Weights.{some_passes}
+use Rattle.ask_counts.specs.Rows.{is_waiting}
+use Rattle.ask_counts.specs.declared.rows.AskRow.{AskRow}
+use Rattle.line_marks.proofs.AsksFollow.{asks_more}
+use Rattle.line_marks.specs.Asks.{ask_row, asks_of, asks_after}
+use Rattle.line_marks.specs.Desc.{desc_of}
+use Rattle.line_marks.specs.Expected.{IsOpen}
+use Rattle.line_marks.specs.Kinds.{kinds_of}
+use Rattle.line_marks.specs.State.{IsOf, state_of, high_in, driven_by}
+
+-- ---- what an entry does to it
+
+any_row : (def : LineDef) (past : List Entry) (xs : List DeviceDef) → list_any (λ (x : DeviceDef). ltb 0 (unserved_asks def x.dev past)) xs ≡ list_any (λ (e : DevNo × AskRow). is_waiting e.1) (table_by (ask_row def past) xs)
+any_row def past [] = refl
+any_row def past (x ∷ xs) = ap (λ b. ltb 0 (unserved_asks def x.dev past) || b) (any_row def past xs)
+
+pub high_is : (def : LineDef) (past : List Entry) → is_high def past ≡ (is_level_line def && high_in (asks_of def past))
+high_is def past = ap (λ b. is_level_line def && b) (any_row def past def.devices ∙ some_passes is_waiting (asks_of def past))
+
+by_edge : (b h g : Bool) (k : Cell) (f : Bool → Cell) → h ≡ (not b && g) → cond b k (f h) ≡ cond b k (f g)
+by_edge true h g k f e = refl
+by_edge false h g k f e = ap f e
+
+by_level : (b n h g : Bool) (k : Cell) (f : Bool → Cell) → h ≡ (not b && g) → cond (not b && n) (f h) k ≡ cond (not b && n) (f g) k
+by_level true n h g k f e = refl
+by_level false true h g k f e = ap f e
+by_level false false h g k f e = refl
+
+high_after : (def : LineDef) (e : Entry) (past : List Entry) → IsValid def → is_high def (e ∷ past) ≡ (is_level_line def && high_in (asks_after (kinds_of def) e (asks_of def past)))
+high_after def e past valid = high_is def (e ∷ past) ∙ ap (λ (t : List (DevNo × AskRow)). is_level_line def && high_in t) (asks_more def e past valid)
+
+turned : (a b : Bool) → (a && b) ≡ (b && a)
+turned true true = refl
+turned true false = refl
+turned false true = refl
+turned false false = refl
+
+pub cell_more : (def : LineDef) (e : Entry) (past : List Entry) (c : Cell) → IsValid def → driven def e past c ≡ driven_by def e (desc_of def past) (high_in (asks_after (kinds_of def) e (asks_of def past))) c
+cell_more def (entries.Ask r d) past c valid =
+    let e = entries.Ask r d in
+    by_edge (is_edge_line def) (is_high def (e ∷ past)) (high_in (asks_after (kinds_of def) e (asks_of def past))) (after_edge c) (λ b. after_high b c) (high_after def e past valid)
+cell_more def (entries.Return cpu d answer n) past c valid =
+    let e = entries.Return cpu d answer n in
+    by_level (is_edge_line def) (ltb 0 n) (is_high def (e ∷ past)) (high_in (asks_after (kinds_of def) e (asks_of def past))) c (λ b. after_high b c) (high_after def e past valid)
+cell_more def (entries.ThreadReturn d n) past c valid =
+    let e = entries.ThreadReturn d n in
+    by_level (is_edge_line def) (ltb 0 n) (is_high def (e ∷ past)) (high_in (asks_after (kinds_of def) e (asks_of def past))) c (λ b. after_high b c) (high_after def e past valid)
+cell_more def (entries.End cpu again unmask note) past c valid = ap (λ b. ended def def.flow again unmask (masked_if b c)) (turned def.unlazy (is_kill (entries.End cpu again unmask note)))
+cell_more def _ past c valid = refl
+
+-- ---- what it is
+
+-- its marks are those that are read off the entries
+pub cell_is : (def : LineDef) (past : List Entry) → IsValid def → IsLegalPast def past → cell_after def past ≡ cell_of def past
+cell_is def past valid legal =
+    let turned_back : reverse (reverse past) ≡ past = reverse-reverse past in
+    let k = is_driven_cell def (reverse past) valid (subst (IsLegalPast def) (sym turned_back) legal) in
+    subst (λ (xs : List Entry). cell_after def xs ≡ cell_of def xs) turned_back k.keeps
+
+-- it presents what the line signals
+pub presents_is : (def : LineDef) (past : List Entry) → IsValid def → IsLegalPast def past → presents (cell_after def past) ≡ signals def past
+presents_is def past valid legal = ap presents (cell_is def past valid legal)
+
+-- it is one of the definition's
+pub is_of : (def : LineDef) (past : List Entry) → IsValid def → IsLegalPast def past → IsOf def (state_of def past)
+is_of def past valid legal = let c = cell_is def past valid legal in record { trigger = ap (λ (k : Cell). k.trigger) c; retriggers = ap (λ (k : Cell). k.retriggers) c }
+
+-- on the fast-EOI flow an enabled edge line's is open
+pub is_open : (def : LineDef) (past : List Entry) → IsValid def → IsLegalPast def past → IsOpen def (state_of def past)
+is_open def past valid legal edge eoi zero = ap (λ (k : Cell). k.masked) (cell_is def past valid legal) ∙ (kept def past valid legal).edges.eoi_edge edge eoi zero

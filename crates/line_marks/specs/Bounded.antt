@@ -1,0 +1,22 @@
+-- How far the counts of a line can go.
+use Rattle.std.specs.Prelude.{◌≡◌, ℕ, ◌+◌, ◌-◌, ◌^◌, ◌<◌, ◌≤◌, Some}
+use Rattle.irq_base.specs.declared.numbers.DevNo.{DevNo}
+use Rattle.device_table.specs.Rows.{at}
+use Rattle.ask_counts.specs.Rows.{HasRoom}
+use Rattle.ask_counts.specs.declared.rows.AskRow.{AskRow}
+use Rattle.line_marks.specs.Expected.{HasRounds, HasDepth}
+use Rattle.line_marks.specs.State.{StateSeen}
+
+-- no count is above the number of entries, the depth not above it by more than the one of the beginning
+pub record IsFew (n : ℕ) (s : StateSeen) : Type 0 where
+  pub depth : s.desc.depth ≤ n + 1
+  pub rounds : s.list.rounds ≤ n
+  pub handled : s.counts.counts.threads_handled ≤ n
+  pub asks : (d : DevNo) (r : AskRow) → at s.asks d ≡ Some r → (r.unserved ≤ n) × (r.fresh ≤ n)
+
+-- one more fits each
+pub record HasSpace (s : StateSeen) : Type 0 where
+  pub depth : HasDepth s
+  pub rounds : HasRounds s
+  pub handled : s.counts.counts.threads_handled < 2 ^ 32 - 1
+  pub asks : (d : DevNo) → HasRoom (at s.asks d)
