@@ -1,13 +1,12 @@
 //! The parts, and what is read off them.
-ghost use Rattle.std.specs.Prelude.{◌≡◌, ◌≤◌, [], false, IfOk, OnOk};
-ghost use Rattle.irq_laws.specs.Driven.{cell_after};
+ghost use Rattle.std.specs.Prelude.{◌≡◌, ◌≤◌, false, IfOk, OnOk};
 ghost use Rattle.irq_model.specs.Valid.{IsValid};
 ghost use Rattle.device_table.specs.Rows.{at};
 ghost use Rattle.act_thread.specs.Threads.{active_in, is_idle_at};
 ghost use Rattle.line_marks.specs.CpuDue.{met_by};
 ghost use Rattle.line_marks.specs.Due.{met_in};
 ghost use Rattle.line_marks.specs.Kinds.{kind_at};
-ghost use Rattle.line_marks.specs.State.{state_of};
+ghost use Rattle.line_marks.specs.State.{first_state};
 ghost use Rattle.line_state.specs.Seen.{taker_of, lowest_due, may_go_on};
 
 use crate::kinds::Kinds;
@@ -50,11 +49,12 @@ impl<C: Chip> Model for LineState<C> {
 impl<C: Chip + Drop> LineState<C> {
     /// The state of a line of that definition to which nothing has happened, over a chip to which nothing has been
     /// done; the chip is aimed at the line's target. Refused only for want of memory.
+    #[tactic(auto, using(crate::proofs::Targets::target_below))]
     pub fn new(alloc: Global, def: &LineDef, chip: C) -> Result<LineState<C>, NoMemory>
         requires valid { IsValid def.now }
-        requires cell { C.cell chip ≡ cell_after def.now [] }
+        requires cell { C.cell chip ≡ (first_state def.now).cell }
         requires inactive { C.active chip ≡ false }
-        ensures { IfOk result (λ s. s.state ≡ state_of def.now []) }
+        ensures { IfOk result (λ s. s.state ≡ first_state def.now) }
     {
         let actions = ActList::new(alloc, def)?;
         let threads = Threads::new(alloc, def)?;
