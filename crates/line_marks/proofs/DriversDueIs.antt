@@ -137,7 +137,7 @@ module _ (def : LineDef) (past : List Entry) (valid : IsValid def) (legal : IsLe
       ap (λ b. cond b (unlinks.Unlinked (is_only d (linked past))) unlinks.NotThere) (linked_known def past d valid legal)
       ∙ ap (λ b. cond (has d (actions_of past)) (unlinks.Unlinked b) unlinks.NotThere) (sym (only_of (linking_flags past) d (actions_of past) (linked past) (actions_are def past valid legal)))
 
-  idle_is : (d : DevNo) → is_idle_at (threads_of def past) d ≡ (not (is_woken past d) && not (is_running past d))
+  pub idle_is : (d : DevNo) → is_idle_at (threads_of def past) d ≡ (not (is_woken past d) && not (is_running past d))
   idle_is d = by_test (list_any (is_device d) def.devices) refl
     where
       by_test : (b : Bool) → list_any (is_device d) def.devices ≡ b → is_idle_at (threads_of def past) d ≡ (not (is_woken past d) && not (is_running past d))
