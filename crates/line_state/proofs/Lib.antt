@@ -1,0 +1,2 @@
+pub mod KindRows
+pub mod Targets

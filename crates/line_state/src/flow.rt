@@ -1,0 +1,142 @@
+//! What the takes and ends of flow handlers make of the state.
+ghost use Rattle.std.specs.Prelude.{◌≡◌, ◌≤◌, not, true};
+ghost use Rattle.irq_base.specs.declared.entries.Entry.TheVariants as entries;
+ghost use Rattle.irq_model.specs.Lines.{is_edge_line};
+ghost use Rattle.irq_model.specs.Valid.{IsValid};
+ghost use Rattle.act_list.specs.Actions.{is_bare};
+ghost use Rattle.flow_handlers.specs.Flows.{answer_by};
+ghost use Rattle.line_marks.specs.Acts.{arrived, moved, entered, handling_from, round_begun, noted_at, killed_by, left_at, gone_on};
+ghost use Rattle.line_marks.specs.Aim.{aimed_by};
+ghost use Rattle.line_marks.specs.CpuDue.{is_held};
+ghost use Rattle.line_marks.specs.Expected.{IsExpected, HasRounds, HasDepth, IsOpen};
+ghost use Rattle.line_marks.specs.State.{state_after};
+
+use crate::state::LineState;
+use flow_handlers::{edge, fasteoi, level};
+use irq_base::{Chip, CpuNo, FlowKind, LineDef, Note, TakeAnswer, Way};
+
+impl<C: Chip> LineState<C> {
+    /// A take, by the line's flow. Whatever its answer, a waiting mask is put in force.
+    pub(crate) fn take(&mut self, def: &LineDef, cpu: CpuNo, way: Way, answer: TakeAnswer)
+        requires valid { IsValid def.now }
+        requires few { self.old.state.aim.cpus ≤ 32 }
+        requires expected { IsExpected def.now (entries.Take cpu way answer) self.old.state }
+        ensures { self.new.state ≡ state_after def.now (entries.Take cpu way answer) self.old.state }
+    {
+        self.arrive(way);
+        self.enter(def, cpu, answer);
+        self.move_affinity();
+        self.begin_round_if(answer);
+    }
+
+    /// What is presented is accepted; what the software resends waits no more.
+    fn arrive(&mut self, way: Way)
+        ensures { self.new.state ≡ arrived way self.old.state }
+    {
+        match way {
+            Way::Line => self.chip.accept(),
+            Way::Resend => self.desc.set_soft(false),
+        }
+    }
+
+    /// The flow handler up to its first handler.
+    fn enter(&mut self, def: &LineDef, cpu: CpuNo, answer: TakeAnswer)
+        requires { answer ≡ answer_by (not (is_bare self.old.state.list.actions)) self.old.state.desc }
+        ensures { self.new.state ≡ entered def.now def.now.flow answer cpu self.old.state }
+    {
+        let linked = !self.actions.is_empty();
+        match def.flow {
+            FlowKind::Level => level::enter(&mut self.desc, &mut self.chip, cpu, linked),
+            FlowKind::Edge => edge::enter(&mut self.desc, &mut self.chip, cpu, linked),
+            FlowKind::Eoi => fasteoi::enter(&mut self.desc, &mut self.chip, cpu, linked, def.trigger),
+        };
+    }
+
+    /// A mask that waits is put in force, and the chip is aimed (`irq_move_masked_irq`, `kernel/irq/migration.c`).
+    fn move_affinity(&mut self)
+        requires { self.old.state.aim.cpus ≤ 32 }
+        ensures { self.new.state ≡ moved self.old.state }
+    {
+        self.aim.move_now();
+        self.aim_chip();
+    }
+
+    /// The chip is aimed at the line's target.
+    #[tactic(auto, using(crate::proofs::Targets::target_below))]
+    pub(crate) fn aim_chip(&mut self)
+        requires { self.old.state.aim.cpus ≤ 32 }
+        ensures { self.new.state ≡ record self.old.state { aimed = aimed_by self.old.state.aim } }
+    {
+        self.chip.aim(self.aim.target());
+    }
+
+    fn begin_round_if(&mut self, answer: TakeAnswer)
+        requires { HasRounds self.old.state }
+        ensures { self.new.state ≡ handling_from answer self.old.state }
+    {
+        if answer == TakeAnswer::Handle {
+            self.begin_round();
+        }
+    }
+
+    /// A round begins: no handler was called in it.
+    fn begin_round(&mut self)
+        requires { HasRounds self.old.state }
+        ensures { self.new.state ≡ round_begun self.old.state }
+    {
+        self.round.begin();
+        self.actions.begin_round();
+    }
+
+    /// The end of a round: the note on spurious interrupts, the kill that it may make, and then what the flow handler
+    /// does after its last handler.
+    pub(crate) fn end(&mut self, def: &LineDef, cpu: CpuNo, again: bool, unmask: bool, note: Note)
+        requires valid { IsValid def.now }
+        requires expected { IsExpected def.now (entries.End cpu again unmask note) self.old.state }
+        ensures { self.new.state ≡ state_after def.now (entries.End cpu again unmask note) self.old.state }
+    {
+        self.note_round();
+        self.kill_by(note);
+        self.leave(def);
+        self.go_on(def, again);
+    }
+
+    fn note_round(&mut self)
+        ensures { self.new.state ≡ noted_at self.old.state }
+    {
+        let (wakes, handles) = (self.round.wakes(), self.round.handles());
+        self.counts.note(self.round.moment(), wakes, handles);
+    }
+
+    fn kill_by(&mut self, note: Note)
+        requires { HasDepth self.old.state }
+        ensures { self.new.state ≡ killed_by note self.old.state }
+    {
+        if note == Note::Killed {
+            self.desc.kill(&mut self.chip);
+        }
+    }
+
+    /// The flow handler after its last handler.
+    fn leave(&mut self, def: &LineDef)
+        requires { IsOpen def.now self.old.state }
+        ensures { self.new.state ≡ left_at def.now def.now.flow (is_held self.old.state) self.old.state }
+    {
+        let held = self.is_held();
+        match def.flow {
+            FlowKind::Level => level::leave(&mut self.desc, &mut self.chip, held),
+            FlowKind::Edge => edge::leave(&mut self.desc, &mut self.chip, held),
+            FlowKind::Eoi => fasteoi::leave(&mut self.desc, &mut self.chip, held, def.trigger),
+        };
+    }
+
+    /// A flow that goes on begins a new round; on the fast-EOI flow it is over.
+    fn go_on(&mut self, def: &LineDef, again: bool)
+        requires { HasRounds self.old.state }
+        ensures { self.new.state ≡ gone_on def.now again self.old.state }
+    {
+        if again && def.flow != FlowKind::Eoi {
+            self.begin_round();
+        }
+    }
+}

@@ -1,0 +1,178 @@
+//! The parts, and what is read off them.
+ghost use Rattle.std.specs.Prelude.{◌≡◌, ◌≤◌, false, IfOk, OnOk};
+ghost use Rattle.irq_model.specs.Valid.{IsValid};
+ghost use Rattle.device_table.specs.Rows.{at};
+ghost use Rattle.act_thread.specs.Threads.{active_in, is_idle_at};
+ghost use Rattle.line_marks.specs.CpuDue.{met_by};
+ghost use Rattle.line_marks.specs.Due.{met_in};
+ghost use Rattle.line_marks.specs.Kinds.{kind_at};
+ghost use Rattle.line_marks.specs.State.{first_state};
+ghost use Rattle.line_state.specs.Seen.{taker_of, lowest_due, may_go_on};
+
+use crate::kinds::Kinds;
+use crate::round::Round;
+use act_list::ActList;
+use act_thread::Threads;
+use affinity::Aim;
+use ask_counts::Asks;
+use desc_state::Desc;
+use irq_base::{Chip, CpuNo, DevNo, DriverNo, Kind, LineDef, NoMemory};
+use spurious::Counts;
+use std::alloc::Global;
+use std::marker::Model;
+
+/// All that a line keeps of its history but its drivers' places in their scripts (`struct irq_desc`,
+/// `include/linux/irqdesc.h`). Contracts see the state that the definitions read off a history, and how many more
+/// actions fit without memory.
+#[derive(Drop)]
+pub struct LineState<C: Chip> {
+    pub(crate) desc: Desc,
+    pub(crate) chip: C,
+    pub(crate) aim: Aim,
+    pub(crate) actions: ActList,
+    pub(crate) threads: Threads,
+    pub(crate) asks: Asks,
+    pub(crate) kinds: Kinds,
+    pub(crate) round: Round,
+    pub(crate) counts: Counts,
+    pub(crate) freeing: Option<(DriverNo, DevNo)>,
+}
+
+impl<C: Chip> Model for LineState<C> {
+    ghost use Rattle.line_state.specs.Seen.{LineStateSeen};
+
+    ghost Value = { LineStateSeen };
+
+    ghost view = { λ s. record { state = record { desc = s.desc; cell = C.cell s.chip; active = C.active s.chip; aimed = C.aimed s.chip; aim = s.aim; list = s.actions.list; threads = s.threads; asks = s.asks; kinds = s.kinds; round = s.round; counts = s.counts; freeing = s.freeing }; spare = s.actions.spare } };
+}
+
+impl<C: Chip + Drop> LineState<C> {
+    /// The state of a line of that definition to which nothing has happened, over a chip to which nothing has been
+    /// done; the chip is aimed at the line's target. Refused only for want of memory.
+    #[tactic(auto, using(crate::proofs::Targets::target_below))]
+    pub fn new(alloc: Global, def: &LineDef, chip: C) -> Result<LineState<C>, NoMemory>
+        requires valid { IsValid def.now }
+        requires cell { C.cell chip ≡ (first_state def.now).cell }
+        requires inactive { C.active chip ≡ false }
+        ensures { IfOk result (λ s. s.state ≡ first_state def.now) }
+    {
+        let actions = ActList::new(alloc, def)?;
+        let threads = Threads::new(alloc, def)?;
+        let asks = Asks::new(alloc, def)?;
+        let kinds = Kinds::new(alloc, def)?;
+        let aim = Aim::new(def.cpus, def.mask, def.later);
+        let mut chip = chip;
+        chip.aim(aim.target());
+        Ok(LineState {
+            desc: Desc::new(def.unlazy),
+            chip,
+            aim,
+            actions,
+            threads,
+            asks,
+            kinds,
+            round: Round::new(),
+            counts: Counts::new(def.window, def.limit),
+            freeing: None,
+        })
+    }
+}
+
+impl<C: Chip> LineState<C> {
+    /// Makes room for one more action, so that a request that is linked takes no memory. Refused only for want of
+    /// memory; the state is as before either way.
+    pub fn reserve(&mut self) -> Result<(), NoMemory>
+        ensures room { OnOk result (1 ≤ self.new.spare) }
+        ensures state { self.new.state ≡ self.old.state }
+    {
+        self.actions.reserve()
+    }
+
+    /// The chips of the line. Contracts see them by the state.
+    pub fn chip(&self) -> &C
+        ensures cell { C.cell result.now ≡ self.now.state.cell }
+        ensures active { C.active result.now ≡ self.now.state.active }
+        ensures aimed { C.aimed result.now ≡ self.now.state.aimed }
+    {
+        &self.chip
+    }
+
+    /// The processor of the flow in progress, if there is one.
+    pub fn in_flow(&self) -> Option<CpuNo>
+        ensures { result ≡ self.now.state.desc.flow }
+    {
+        self.desc.flow()
+    }
+
+    /// The one processor of which a take is due, if there is one: the line's target, where the line signals or the
+    /// software resends, unless the flow in progress is its own.
+    pub fn taker(&self) -> Option<CpuNo>
+        ensures { result ≡ taker_of self.now.state }
+    {
+        if !self.chip.signal() && !self.desc.soft() {
+            return None;
+        }
+        let target = self.aim.target();
+        if self.is_in_flow(target) {
+            return None;
+        }
+        Some(target)
+    }
+
+    /// The device of the lowest number whose thread has an entry due, if there is one.
+    pub fn lowest_thread(&self) -> Option<DevNo>
+        ensures { result ≡ lowest_due self.now.state }
+    {
+        let goes_on = !self.desc.oneshot() || self.desc.flow().is_none();
+        self.threads.lowest(goes_on)
+    }
+
+    /// How many threads are to run, plus how many are in a run: what `synchronize_irq` waits for.
+    pub fn active_threads(&self) -> u32
+        ensures { result ≡ active_in self.now.state.threads }
+    {
+        self.threads.active()
+    }
+
+    /// Who frees which device, if somebody does: the request mutex is held meanwhile (`request_mutex` of
+    /// `struct irq_desc`).
+    pub fn freeing(&self) -> Option<(DriverNo, DevNo)>
+        ensures { result ≡ self.now.state.freeing }
+    {
+        self.freeing
+    }
+
+    /// Whether the device's thread is neither to run nor in a run.
+    pub fn is_at_rest(&self, dev: DevNo) -> bool
+        ensures { result ≡ is_idle_at self.now.state.threads dev }
+    {
+        self.threads.idle(dev)
+    }
+
+    /// The kind of the device; a device that the line lacks is a stuck one.
+    pub fn kind(&self, dev: DevNo) -> Kind
+        ensures { result ≡ kind_at self.now.state.kinds dev }
+    {
+        self.kinds.get(dev)
+    }
+
+    /// The asks of the device that were unserved as its handler was last called.
+    pub fn met_by_handler(&self, dev: DevNo) -> u32
+        ensures { result ≡ met_by (at self.now.state.asks dev) }
+    {
+        match self.asks.get(dev) {
+            Some(row) => row.met_by_handler,
+            None => 0,
+        }
+    }
+
+    /// The asks of the device that were unserved as its thread's run last began.
+    pub fn met_by_thread(&self, dev: DevNo) -> u32
+        ensures { result ≡ met_in (at self.now.state.asks dev) }
+    {
+        match self.asks.get(dev) {
+            Some(row) => row.met_by_thread,
+            None => 0,
+        }
+    }
+}
