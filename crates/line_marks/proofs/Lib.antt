@@ -11,6 +11,16 @@ pub mod FreeingFollows
 pub mod ScriptsFollow
 pub mod Bounds
 pub mod UpFollow
+pub mod Listed
+pub mod Known
+pub mod ThreadsDue
+pub mod CpuDueIs
+pub mod DriversDueIs
+pub mod Takes
+pub mod Linking
+pub mod Ends
+pub mod DueIs
+pub mod ExpectedOf
 pub mod TargetFollow
 pub mod CellFollows
 pub mod StateFollows

@@ -3,9 +3,14 @@
 //! each actor, told by the state alone. No code: each law is the clause of a function with an empty body.
 #![tactic(auto)]
 
+pub mod due;
 pub mod parts;
 pub mod whole;
 
+pub use due::{
+    cpu_due_is_told, driver_due_is_told, due_call_is_told, due_is_expected, due_is_told,
+    end_is_its_parts, request_is_its_parts, take_is_its_parts, thread_due_is_told,
+};
 pub use parts::{
     actions_are, active_follows, aim_follows, aimed_follows, asks_follow, bare_is, desc_follows,
     freeing_follows, freeing_holds_mutex, kinds_stand, list_follows, places_follow, places_stay,

@@ -1,0 +1,49 @@
+-- What is due of an actor is due by the state and by the places of the drivers.
+use Rattle.std.proofs.Common.{◌≡◌, cond, Option, None, List, slice_get, reverse, sym, ap, ◌∙◌}
+use Rattle.std.proofs.lemmas.Bool.{cond-true}
+use Rattle.irq_base.specs.declared.calls.Call.{Call}
+use Rattle.irq_base.specs.declared.entries.Actor.{Actor}
+use Rattle.irq_base.specs.declared.entries.Actor.TheVariants as actors
+use Rattle.irq_base.specs.declared.entries.Entry.{Entry}
+use Rattle.irq_base.specs.declared.lines.LineDef.{LineDef}
+use Rattle.irq_base.specs.declared.numbers.DevNo.{DevNo}
+use Rattle.irq_base.specs.declared.numbers.DriverNo.{DriverNo}
+use Rattle.irq_model.specs.Due.{calls_by, entries_by, due_call}
+use Rattle.irq_model.specs.Kinds.{same_line}
+use Rattle.irq_model.specs.Legal.{IsLegalPast}
+use Rattle.irq_model.specs.Next.{next, next_past, next_of_call}
+use Rattle.irq_model.specs.Valid.{IsValid}
+use Rattle.irq_steps.proofs.DueSteps.{due_laid}
+use Rattle.irq_steps.proofs.Same.{same_self_line}
+use Rattle.irq_steps.specs.Laid.{with_count}
+use Rattle.line_scripts.specs.Rows.{RowSeen, calls_of, place_of, within_of}
+use Rattle.line_marks.proofs.CpuDueIs.{cpu_due_is}
+use Rattle.line_marks.proofs.DriversDueIs.{driver_due_is}
+use Rattle.line_marks.proofs.ThreadsDue.{thread_due_is}
+use Rattle.line_marks.specs.Due.{thread_due}
+use Rattle.line_marks.specs.Line.{IsLine}
+use Rattle.line_marks.specs.Next.{due_call_in, due_by}
+use Rattle.line_marks.specs.Scripts.{IsAt}
+use Rattle.line_marks.specs.State.{StateSeen, state_of}
+
+-- of a thread of the line itself
+pub thread_is : (def : LineDef) (past : List Entry) (d : DevNo) → IsValid def → IsLegalPast def past → next_past def past (actors.Thread def.line d) ≡ thread_due (state_of def past) d
+thread_is def past d valid legal = cond-true _ _ _ (same_self_line def.line) ∙ thread_due_is def past d valid legal
+
+module _ (def : LineDef) (past : List Entry) (scripts : List (DriverNo × RowSeen)) (calls : (r : DriverNo) → calls_of scripts r ≡ calls_by r def.calls) (laid : (r : DriverNo) → IsAt def past r (place_of scripts r) (within_of scripts r)) where
+  -- the due call by the driver's place
+  pub call_is : (r : DriverNo) → due_call def r past ≡ due_call_in scripts r
+  call_is r =
+      due_laid (calls_by r def.calls) (entries_by r past) (place_of scripts r) (within_of scripts r) (laid r)
+      ∙ ap (λ (cs : List Call). with_count (slice_get cs (place_of scripts r)) (within_of scripts r)) (sym (calls r))
+
+  pub due_is : (a : Actor) → IsValid def → IsLegalPast def past → next_past def past a ≡ due_by def (state_of def past) scripts a
+  due_is (actors.Thread line d) valid legal = ap (λ (o : Option Entry). cond (same_line line def.line) o None) (thread_due_is def past d valid legal)
+  due_is (actors.Cpu c) valid legal = cpu_due_is def past c valid legal
+  due_is (actors.Driver r) valid legal = ap (next_of_call def r past) (call_is r) ∙ driver_due_is def past r (due_call_in scripts r) valid legal
+
+-- the same of a line
+pub due_on : (def : LineDef) (h : List Entry) (s : StateSeen) (scripts : List (DriverNo × RowSeen)) (a : Actor) → IsLine def h s scripts → next def h a ≡ due_by def s scripts a
+due_on def h s scripts a line =
+    due_is def (reverse h) scripts line.calls line.at a line.valid line.legal
+    ∙ ap (λ (x : StateSeen). due_by def x scripts a) (sym line.state)

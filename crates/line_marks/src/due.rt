@@ -1,0 +1,103 @@
+//! What is due of every actor is told by the state and by the drivers' places; and what the state's functions expect of
+//! an entry holds where the entry is due.
+ghost use Rattle.std.specs.Prelude.{◌≡◌, ℕ, ◌≤◌, Bool, List, Option, length};
+ghost use Rattle.irq_base.specs.declared.calls.Call.{Call};
+ghost use Rattle.irq_base.specs.declared.calls.Flags.{Flags};
+ghost use Rattle.irq_base.specs.declared.entries.Actor.{Actor};
+ghost use Rattle.irq_base.specs.declared.entries.Actor.TheVariants as actors;
+ghost use Rattle.irq_base.specs.declared.entries.Entry.{Entry};
+ghost use Rattle.irq_base.specs.declared.entries.Entry.TheVariants as entries;
+ghost use Rattle.irq_base.specs.declared.entries.LinkAnswer.TheVariants as links;
+ghost use Rattle.irq_base.specs.declared.entries.Note.{Note};
+ghost use Rattle.irq_base.specs.declared.entries.Opened.{Opened};
+ghost use Rattle.irq_base.specs.declared.entries.TakeAnswer.{TakeAnswer};
+ghost use Rattle.irq_base.specs.declared.entries.Way.{Way};
+ghost use Rattle.irq_base.specs.declared.lines.LineDef.{LineDef};
+ghost use Rattle.irq_base.specs.declared.numbers.CpuNo.{CpuNo};
+ghost use Rattle.irq_base.specs.declared.numbers.DevNo.{DevNo};
+ghost use Rattle.irq_base.specs.declared.numbers.DriverNo.{DriverNo};
+ghost use Rattle.irq_model.specs.Due.{calls_by, due_call};
+ghost use Rattle.irq_model.specs.Legal.{IsDue, IsLegalPast};
+ghost use Rattle.irq_model.specs.Next.{next, next_past, next_of_call};
+ghost use Rattle.irq_model.specs.Valid.{IsValid};
+ghost use Rattle.act_list.specs.Actions.{is_bare};
+ghost use Rattle.line_scripts.specs.Rows.{RowSeen, calls_of, place_of, within_of};
+ghost use Rattle.line_marks.specs.Acts.{arrived, moved, entered, handling_from, noted_at, killed_by, killed_if, left_by, left_at, gone_on, linked_at, activated_if, opened_to};
+ghost use Rattle.line_marks.specs.CpuDue.{cpu_due, is_held, note_by, end_with};
+ghost use Rattle.line_marks.specs.DriversDue.{driver_due, opened_by};
+ghost use Rattle.line_marks.specs.Due.{thread_due};
+ghost use Rattle.line_marks.specs.Expected.{IsExpected};
+ghost use Rattle.line_marks.specs.Line.{IsLine};
+ghost use Rattle.line_marks.specs.Next.{due_call_in, due_by};
+ghost use Rattle.line_marks.specs.Scripts.{IsAt};
+ghost use Rattle.line_marks.specs.State.{StateSeen, state_of, state_after};
+
+/// Of a thread of the line: its run begins, its handler returns, the run is finalized or is over.
+#[tactic(auto, using(crate::proofs::DueIs::thread_is))]
+pub fn thread_due_is_told()
+    ensures law { (def : LineDef) (past : List Entry) (d : DevNo) → IsValid def → IsLegalPast def past → next_past def past (actors.Thread def.line d) ≡ thread_due (state_of def past) d }
+{}
+
+/// Of a processor: in its flow the return of the handler at work, the next handler, or the end by the line's flow; else
+/// the take of what is presented or resent.
+#[tactic(auto, using(crate::proofs::CpuDueIs::cpu_due_is))]
+pub fn cpu_due_is_told()
+    ensures law { (def : LineDef) (past : List Entry) (c : CpuNo) → IsValid def → IsLegalPast def past → next_past def past (actors.Cpu c) ≡ cpu_due def (state_of def past) c }
+{}
+
+/// Of a driver, by its due call and how many entries of it are there: all nine calls.
+#[tactic(auto, using(crate::proofs::DriversDueIs::driver_due_is, crate::proofs::DriversDueIs::driver_is))]
+pub fn driver_due_is_told()
+    ensures calls { (def : LineDef) (past : List Entry) (r : DriverNo) (o : Option (Call × ℕ)) → IsValid def → IsLegalPast def past → next_of_call def r past o ≡ driver_due def (state_of def past) r o }
+    ensures law { (def : LineDef) (past : List Entry) (r : DriverNo) → IsValid def → IsLegalPast def past → next_past def past (actors.Driver r) ≡ driver_due def (state_of def past) r (due_call def r past) }
+{}
+
+/// Of every actor, by the state and the places of the drivers' scripts.
+#[tactic(auto, using(crate::proofs::DueIs::due_is, crate::proofs::DueIs::due_on))]
+pub fn due_is_told()
+    ensures law { (def : LineDef) (past : List Entry) (scripts : List (DriverNo × RowSeen))
+        → ((r : DriverNo) → calls_of scripts r ≡ calls_by r def.calls)
+        → ((r : DriverNo) → IsAt def past r (place_of scripts r) (within_of scripts r))
+        → (a : Actor) → IsValid def → IsLegalPast def past → next_past def past a ≡ due_by def (state_of def past) scripts a }
+    ensures line { (def : LineDef) (h : List Entry) (s : StateSeen) (scripts : List (DriverNo × RowSeen)) (a : Actor)
+        → IsLine def h s scripts → next def h a ≡ due_by def s scripts a }
+{}
+
+/// A driver's due call is told by its place.
+#[tactic(auto, using(crate::proofs::DueIs::call_is))]
+pub fn due_call_is_told()
+    ensures law { (def : LineDef) (past : List Entry) (scripts : List (DriverNo × RowSeen))
+        → ((r : DriverNo) → calls_of scripts r ≡ calls_by r def.calls)
+        → ((r : DriverNo) → IsAt def past r (place_of scripts r) (within_of scripts r))
+        → (r : DriverNo) → due_call def r past ≡ due_call_in scripts r }
+{}
+
+/// An entry that is due is one that the functions of the state expect: its answers are those of the state, a device that
+/// is requested isn't linked, and each count has room for one more.
+#[tactic(auto, using(crate::proofs::ExpectedOf::expected))]
+pub fn due_is_expected()
+    ensures law { (def : LineDef) (past : List Entry) → IsValid def → IsLegalPast def past → length past ≤ def.log
+        → (e : Entry) → IsDue def e past → IsExpected def e (state_of def past) }
+{}
+
+/// What a take makes of the state is what its parts make of it, one after another.
+#[tactic(auto, using(crate::proofs::Takes::take_is))]
+pub fn take_is_its_parts()
+    ensures law { (def : LineDef) (cpu : CpuNo) (way : Way) (answer : TakeAnswer) (s : StateSeen) → IsValid def
+        → state_after def (entries.Take cpu way answer) s ≡ handling_from answer (moved (entered def def.flow answer cpu (arrived way s))) }
+{}
+
+/// So is what an end makes of it, where it is the end that the state tells.
+#[tactic(auto, using(crate::proofs::Ends::end_is))]
+pub fn end_is_its_parts()
+    ensures law { (def : LineDef) (c : CpuNo) (again unmask : Bool) (note : Note) (s : StateSeen)
+        → entries.End c again unmask note ≡ end_with c (note_by s) (left_by def def.flow (is_held s) (killed_if (note_by s) s.desc))
+        → state_after def (entries.End c again unmask note) s ≡ gone_on def again (left_at def def.flow (is_held s) (killed_by note (noted_at s))) }
+{}
+
+/// And what a linked request makes of it, where it opens the line as the state tells.
+#[tactic(auto, using(crate::proofs::Linking::request_is))]
+pub fn request_is_its_parts()
+    ensures law { (def : LineDef) (r : DriverNo) (d : DevNo) (flags : Flags) (opened : Opened) (s : StateSeen) → opened ≡ opened_by def flags s
+        → state_after def (entries.Request r d flags links.Linked opened) s ≡ opened_to (is_bare s.list.actions) opened (activated_if (is_bare s.list.actions) (linked_at d flags s)) }
+{}
