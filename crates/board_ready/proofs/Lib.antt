@@ -1,3 +1,4 @@
 pub mod First
 pub mod Numbers
 pub mod Trees
+pub mod Processors

@@ -83,3 +83,11 @@ some_number word small = by_test (eqb word 0) refl
     by_test : (b : Bool) → eqb word 0 ≡ b → not b ≡ is_some (first_of (has word) 64)
     by_test true is = let e : word ≡ 0 = eqb-true word 0 is in sym (ap (λ w. is_some (first_of (has w) 64)) e ∙ ap is_some (no_number 64))
     by_test false is = let ne : word ≡ 0 → ⊥ = eqb-false word 0 is in sym (ap is_some (lowest_number word (omega (arith, ne)) small))
+
+-- the numbers of five words
+pub all_have : (n a b c d r : ℕ) (p q s t : Bool) → has a r ≡ p → has b r ≡ q → has c r ≡ s → has d r ≡ t → has (bit_or (bit_or (bit_or (bit_or n a) b) c) d) r ≡ ((((has n r || p) || q) || s) || t)
+all_have n a b c d r p q s t of_a of_b of_c of_d =
+    step (bit_or (bit_or (bit_or n a) b) c) d (((has n r || p) || q) || s) t (step (bit_or (bit_or n a) b) c ((has n r || p) || q) s (step (bit_or n a) b (has n r || p) q (step n a (has n r) p refl of_a) of_b) of_c) of_d
+  where
+    step : (x y : ℕ) (u v : Bool) → has x r ≡ u → has y r ≡ v → has (bit_or x y) r ≡ (u || v)
+    step x y u v of_x of_y = either_has x y r ∙ (ap (λ e. e || has y r) of_x ∙ ap (λ e. u || e) of_y)

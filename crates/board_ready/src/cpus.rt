@@ -67,7 +67,7 @@ impl CpuLines {
     /// The processors that have a line.
     pub fn cpus(&self) -> u64
         ensures some { (c : ℕ) → c < 32 → has result c ≡ is_some (first_of (is_of self.now c) 64) }
-        ensures few { (c : ℕ) → 32 ≤ c → has result c ≡ false }
+        ensures few { (c : ℕ) → 32 ≤ c → c < 64 → has result c ≡ false }
     {
         self.some
     }
