@@ -2,3 +2,4 @@ pub mod First
 pub mod Numbers
 pub mod Trees
 pub mod Processors
+pub mod Keeping

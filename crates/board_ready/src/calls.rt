@@ -90,7 +90,7 @@ impl CallSets {
 
 /// The word, or none of it where it is barred.
 fn unless(barred: bool, word: u64) -> u64
-    ensures { (i : ℕ) → has result i ≡ (not barred && has word i) }
+    ensures { (i : ℕ) → has result i ≡ (has word i && not barred) }
 {
     if barred { 0 } else { word }
 }
