@@ -1,5 +1,5 @@
 -- The first number that passes.
-use Rattle.std.proofs.Common.{◌≡◌, ℕ, zero, suc, ◌+◌, ◌<◌, ◌≤◌, Bool, true, false, cond, eqb, is_some, Option, Some, None, refl, sym, ap, ◌∙◌, eqb-true, arith}
+use Rattle.std.proofs.Common.{◌≡◌, ℕ, zero, suc, ◌+◌, ◌<◌, ◌≤◌, Bool, true, false, cond, eqb, Option, Some, None, IfSome, refl, sym, ap, ◌∙◌, eqb-true, subst, arith}
 use Rattle.std.proofs.lemmas.Bool.{eqb-false}
 use Rattle.board_ready.specs.First.{first_from, first_of}
 
@@ -41,3 +41,23 @@ first_cut p n m few none = from_cut p 0 n m few (λ i a b. none i (omega (arith,
 -- two tests that agree below n, of which the other passes nothing from there on
 pub first_within : (p q : ℕ → Bool) (n m : ℕ) → n ≤ m → ((i : ℕ) → i < n → q i ≡ p i) → ((i : ℕ) → n ≤ i → i < m → q i ≡ false) → first_of q m ≡ first_of p n
 first_within p q n m few same none = first_cut q n m few none ∙ same_first q p n same
+
+-- what is found is one of the numbers
+from_below : (p : ℕ → Bool) (k n : ℕ) → IfSome (first_from p k n) (λ t. t < k + n)
+from_below p k zero = tt
+from_below p k (suc n) = by_test (p k) (widened (first_from p (k + 1) n) (from_below p (k + 1) n))
+  where
+    widened : (o : Option ℕ) → IfSome o (λ t. t < k + 1 + n) → IfSome o (λ t. t < k + suc n)
+    widened None h = tt
+    widened (Some t) h = omega (arith, h)
+
+    by_test : (b : Bool) → IfSome (first_from p (k + 1) n) (λ t. t < k + suc n) → IfSome (cond b (Some k) (first_from p (k + 1) n)) (λ t. t < k + suc n)
+    by_test true rest = omega arith
+    by_test false rest = rest
+
+pub found_below : (p : ℕ → Bool) (n : ℕ) (o : Option ℕ) → o ≡ first_of p n → IfSome o (λ t. t < n)
+found_below p n o is = subst (λ (x : Option ℕ). IfSome x (λ t. t < n)) (sym is) (narrowed (first_of p n) (from_below p 0 n))
+  where
+    narrowed : (x : Option ℕ) → IfSome x (λ t. t < 0 + n) → IfSome x (λ t. t < n)
+    narrowed None h = tt
+    narrowed (Some t) h = omega (arith, h)

@@ -3,3 +3,4 @@ pub mod Numbers
 pub mod Trees
 pub mod Processors
 pub mod Keeping
+pub mod Searching
