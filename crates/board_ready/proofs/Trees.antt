@@ -120,7 +120,7 @@ pub record IsUpTo (nodes old : List (Option ReadyThread)) (line n : ℕ) (t : Op
 
 pub up_first : (nodes : List (Option ReadyThread)) (line : ℕ) (t : Option ReadyThread) → length nodes ≡ 128 → line < 64 → IsTree nodes → IsUpTo (slice_set nodes (64 + line) t) nodes line ((64 + line) / 2) t
 up_first nodes line t long few tree = record
-  { few = omega (arith, few); joined = λ i some below other. joined_but nodes (64 + line) i t (λ e. omega (arith, e, below)) other (tree i some below); leaves = λ k small. leaf_set nodes line k t long few }
+    { few = omega (arith, few); joined = λ i some below other. joined_but nodes (64 + line) i t (λ e. omega (arith, e, below)) other (tree i some below); leaves = λ k small. leaf_set nodes line k t long few }
 
 pub up_next : (nodes old : List (Option ReadyThread)) (line n : ℕ) (t x : Option ReadyThread) → length nodes ≡ 128 → 0 < n → x ≡ lower_of (node nodes (2 * n)) (node nodes (2 * n + 1)) → IsUpTo nodes old line n t
     → IsUpTo (slice_set nodes n x) old line (n / 2) t
@@ -150,6 +150,6 @@ pub fresh_leaf : (nodes : List (Option ReadyThread)) → nodes ≡ replicate 128
 fresh_leaf nodes is k small = ap (λ (s : List (Option ReadyThread)). leaf s k) is ∙ fresh_node 128 (64 + k)
 
 pub fresh_tree : (nodes : List (Option ReadyThread)) → nodes ≡ replicate 128 None → IsTree nodes
-fresh_tree nodes is i some few = 
+fresh_tree nodes is i some few =
     let at : (j : ℕ) → node nodes j ≡ None = λ j. ap (λ (s : List (Option ReadyThread)). node s j) is ∙ fresh_node 128 j in
     at i ∙ (sym (ap (lower_of None) (at (2 * i + 1))) ∙ sym (ap (λ x. lower_of x (node nodes (2 * i + 1))) (at (2 * i))))

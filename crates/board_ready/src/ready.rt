@@ -71,7 +71,11 @@ impl ReadyActors {
         self.flows.put(part.flow, line, true);
         self.takes.put(old.taker, line, false);
         self.takes.put(part.taker, line, true);
-        self.ready = chosen(self.ready, self.calls.on_line(line), self.calls.open(part.barriers));
+        self.ready = chosen(
+            self.ready,
+            self.calls.on_line(line),
+            self.calls.open(part.barriers),
+        );
         self.lines[line] = part;
     }
 

@@ -77,12 +77,6 @@ fn lower(first: Option<ReadyThread>, second: Option<ReadyThread>) -> Option<Read
     match (first, second) {
         (None, _) => second,
         (Some(_), None) => first,
-        (Some(a), Some(b)) => {
-            if b.dev.0 < a.dev.0 {
-                second
-            } else {
-                first
-            }
-        }
+        (Some(a), Some(b)) => { if b.dev.0 < a.dev.0 { second } else { first } }
     }
 }
