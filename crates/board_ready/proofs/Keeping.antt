@@ -1,11 +1,9 @@
 -- The sets stay those of the lists.
-use Rattle.std.proofs.Common.{◌≡◌, ℕ, zero, suc, ◌+◌, ◌<◌, ◌≤◌, Bool, true, false, not, ◌&&◌, ◌||◌, cond, eqb, is_some, unwrap_or, Option, Some, None, List, [], ◌∷◌, length, slice_get, slice_set, set, get_or, replicate, refl, sym, ap, ◌∙◌, eqb-true, arith}
+use Rattle.std.proofs.Common.{◌≡◌, ℕ, zero, suc, ◌<◌, Bool, true, false, not, ◌&&◌, ◌||◌, cond, eqb, unwrap_or, Option, Some, None, List, [], ◌∷◌, length, slice_get, set, replicate, refl, sym, ap, ◌∙◌, eqb-true, arith}
 use Rattle.std.proofs.lemmas.Bool.{eqb-false}
-use Rattle.irq_base.specs.declared.numbers.CpuNo.{CpuNo}
-use Rattle.irq_base.specs.declared.numbers.DevNo.{DevNo}
-use Rattle.board_ready.specs.Kept.{thread_of, AreThreads, AreFlows, AreTakes, AreOnLines, AreWaiting, AreReady}
-use Rattle.board_ready.specs.Ready.{idle, thread_on, is_cpu, has_flow, has_take, is_barred, is_open, can_go_on, current_call}
-use Rattle.board_ready.specs.Sets.{has, leaf, is_of, CallsSeen, on_line, word_for, is_wait, is_on, is_waiting, may_go_on}
+use Rattle.board_ready.specs.Kept.{thread_of, AreThreads, AreOnLines, AreWaiting, AreReady}
+use Rattle.board_ready.specs.Ready.{idle, thread_on, is_barred, is_open, can_go_on, current_call}
+use Rattle.board_ready.specs.Sets.{has, leaf, CallsSeen, on_line, word_for, is_wait, is_on, is_waiting, may_go_on}
 use Rattle.board_ready.specs.declared.parts.Barriers.{Barriers}
 use Rattle.board_ready.specs.declared.parts.CurrentCall.{CurrentCall}
 use Rattle.board_ready.specs.declared.parts.LinePart.{LinePart}

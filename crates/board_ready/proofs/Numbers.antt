@@ -1,5 +1,5 @@
 -- Bits of a word, as truth values.
-use Rattle.std.proofs.Common.{◌≡◌, ℕ, zero, suc, ◌-◌, ◌<◌, ◌≤◌, ◌^◌, ◌*◌, ◌%◌, Bool, true, false, not, ◌||◌, ◌&&◌, cond, ◌==◌, eqb, min, max, is_some, Option, Some, None, bit_or, bit_and, w64, refl, sym, ap, ◌∙◌, eqb-true, arith}
+use Rattle.std.proofs.Common.{◌≡◌, ℕ, zero, suc, ◌-◌, ◌<◌, ◌^◌, ◌*◌, ◌%◌, Bool, true, false, not, ◌||◌, ◌&&◌, cond, ◌==◌, eqb, min, max, is_some, Some, None, bit_or, bit_and, w64, refl, sym, ap, ◌∙◌, eqb-true, arith}
 use Rattle.std.proofs.lemmas.Bool.{eqb-false}
 use Rattle.std.proofs.lemmas.Nat.Bits.{bit_at_or, bit_at_and, bit_at_not, bit_at-lt, bit_at-zero, bit_at-trailing_zeros, bit_at_set_same, bit_at_set_other, bit_at_clear_same, bit_at_clear_other}
 use Rattle.std.specs.Int.{bit_at, bit_not, trailing_zeros}

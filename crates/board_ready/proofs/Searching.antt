@@ -1,5 +1,5 @@
 -- What the sets tell is what a search over the lists finds.
-use Rattle.std.proofs.Common.{◌≡◌, ℕ, zero, suc, ◌+◌, ◌<◌, ◌≤◌, Bool, true, false, ◌||◌, cond, is_some, unwrap_or, Option, Some, None, List, [], ◌∷◌, length, slice_get, bit_or, refl, sym, ap, ◌∙◌, subst, arith}
+use Rattle.std.proofs.Common.{◌≡◌, ℕ, zero, suc, ◌+◌, ◌<◌, ◌≤◌, Bool, false, ◌||◌, cond, is_some, unwrap_or, Option, Some, None, List, [], ◌∷◌, length, slice_get, bit_or, refl, sym, ap, ◌∙◌, subst, arith}
 use Rattle.std.proofs.lemmas.Bool.{lt-ltb}
 use Rattle.std.proofs.lemmas.Option.{slice_get_past}
 use Rattle.board_ready.specs.First.{first_of}

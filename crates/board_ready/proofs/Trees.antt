@@ -1,6 +1,6 @@
 -- The lowest of 64 threads is what stands at the root of their tree.
-use Rattle.std.proofs.Common.{◌≡◌, ℕ, zero, suc, ◌+◌, ◌*◌, ◌/◌, ◌<◌, ◌≤◌, Bool, true, false, cond, eqb, nat_lt, ltb, Option, Some, None, List, [], ◌∷◌, length, slice_get, slice_set, set, get_or, refl, sym, ap, ◌∙◌, replicate, eqb-true, subst, arith}
-use Rattle.std.proofs.lemmas.Bool.{eqb-false, cases_lt, lt-ltb, le-ltb, ltb-true, ltb-false}
+use Rattle.std.proofs.Common.{◌≡◌, ℕ, zero, suc, ◌+◌, ◌*◌, ◌/◌, ◌<◌, ◌≤◌, Bool, true, false, cond, eqb, nat_lt, Option, Some, None, List, length, slice_set, get_or, refl, sym, ap, ◌∙◌, replicate, eqb-true, subst, arith}
+use Rattle.std.proofs.lemmas.Bool.{eqb-false, lt-ltb, le-ltb, ltb-true, ltb-false}
 use Rattle.std.proofs.lemmas.List.{get_or-set_same, get_or-set_other}
 use Rattle.board_ready.specs.declared.parts.ReadyThread.{ReadyThread}
 use Rattle.board_ready.specs.Ready.{lower, lower_of}

@@ -1,4 +1,4 @@
-use Rattle.std.proofs.Common.{arith, sym, ap, ◌∙◌, cond, eqb, false, true}
+use Rattle.std.proofs.Common.{sym, ap, ◌∙◌, cond, eqb}
 use Rattle.board_ready.specs.Sets.{has}
 use Rattle.board_ready.proofs.Numbers.{with_number, without_number}
 use Rattle.board_ready.proofs.bits.with_bit.Goals as goal

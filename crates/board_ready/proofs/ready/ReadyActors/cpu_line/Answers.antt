@@ -1,4 +1,4 @@
-use Rattle.std.proofs.Common.{◌≡◌, ℕ, ◌<◌, Option, Some, None, List, sym, ap, ◌∙◌, arith}
+use Rattle.std.proofs.Common.{ℕ, Option, sym, ap, ◌∙◌, arith}
 use Rattle.board_ready.specs.First.{first_of}
 use Rattle.board_ready.specs.Ready.{flow_or_take, cpu_line}
 use Rattle.board_ready.specs.Seen.{ReadySeen}

@@ -1,4 +1,4 @@
-use Rattle.std.proofs.Common.{◌≡◌, ℕ, Option, ap, ◌∙◌}
+use Rattle.std.proofs.Common.{ap, ◌∙◌}
 use Rattle.board_ready.specs.Ready.{lowest_cpu, is_cpu_ready}
 use Rattle.board_ready.specs.Seen.{ReadySeen}
 use Rattle.board_ready.proofs.First.{found_below}

@@ -1,4 +1,4 @@
-use Rattle.std.proofs.Common.{◌≡◌, ap, ◌∙◌}
+use Rattle.std.proofs.Common.{ap, ◌∙◌}
 use Rattle.board_ready.specs.Ready.{lowest_driver}
 use Rattle.board_ready.specs.Seen.{ReadySeen}
 use Rattle.board_ready.proofs.Searching.{driver_found}

@@ -1,4 +1,4 @@
-use Rattle.std.proofs.Common.{◌≡◌, ℕ, Option, Some, None, sym, ap, ◌∙◌}
+use Rattle.std.proofs.Common.{ℕ, Option, sym, ap, ◌∙◌}
 use Rattle.board_ready.specs.Ready.{lowest_thread, lowest_cpu, thread_or, cpu_mover}
 use Rattle.board_ready.specs.Seen.{ReadySeen}
 use Rattle.board_ready.specs.declared.parts.ReadyThread.{ReadyThread}

@@ -1,4 +1,4 @@
-use Rattle.std.proofs.Common.{rules, ◌≡◌, ℕ, false, Option, None, List, length, replicate, refl, ap, ◌∙◌, arith}
+use Rattle.std.proofs.Common.{rules, ◌≡◌, false, Option, None, List, length, replicate, refl, ap, ◌∙◌, arith}
 use Rattle.std.proofs.lemmas.List.{length-replicate}
 use Rattle.board_ready.specs.Kept.{thread_of}
 use Rattle.board_ready.specs.Ready.{idle, thread_on, has_flow, has_take, can_go_on}

@@ -1,4 +1,4 @@
-use Rattle.std.proofs.Common.{◌≡◌, ℕ, List, Option, ap, ◌∙◌}
+use Rattle.std.proofs.Common.{List, Option, ap, ◌∙◌}
 use Rattle.board_ready.specs.declared.parts.ReadyThread.{ReadyThread}
 use Rattle.board_ready.specs.Sets.{leaf, lowest_in}
 use Rattle.board_ready.proofs.Trees.{root_is}

@@ -1,4 +1,4 @@
-use Rattle.std.proofs.Common.{◌≡◌, ◌<◌, ◌+◌, ◌/◌, List, Option, sym, subst, length, slice_set, arith}
+use Rattle.std.proofs.Common.{◌+◌, ◌/◌, List, Option, subst, slice_set, arith}
 use Rattle.board_ready.specs.Ready.{thread_on}
 use Rattle.board_ready.specs.declared.parts.ReadyThread.{ReadyThread}
 use Rattle.board_ready.proofs.Trees.{IsUpTo, up_first, up_next, up_last}
