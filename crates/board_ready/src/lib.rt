@@ -6,12 +6,12 @@
 //! none takes memory.
 #![tactic(auto)]
 
-pub mod bits;
-pub mod calls;
-pub mod cpus;
+mod bits;
+mod calls;
+mod cpus;
 pub mod parts;
 pub mod ready;
-pub mod tree;
+mod tree;
 
 pub use parts::{Barriers, CurrentCall, LinePart, Mover, ReadyThread, WaitFor};
 pub use ready::ReadyActors;
