@@ -4,3 +4,4 @@ pub mod Trees
 pub mod Processors
 pub mod Keeping
 pub mod Searching
+pub mod Lowest

@@ -9,10 +9,12 @@
 mod bits;
 mod calls;
 mod cpus;
+mod found;
 pub mod parts;
 pub mod ready;
 mod tree;
 
+pub use found::{first_is_first, lowest_thread_is_lowest};
 pub use parts::{Barriers, CurrentCall, LinePart, Mover, ReadyThread, WaitFor};
 pub use ready::ReadyActors;
 
