@@ -1,5 +1,5 @@
 -- What the sets tell is what a search over the lists finds.
-use Rattle.std.proofs.Common.{◌≡◌, ℕ, zero, suc, ◌+◌, ◌<◌, ◌≤◌, Bool, false, ◌||◌, cond, is_some, unwrap_or, Option, Some, None, List, [], ◌∷◌, length, slice_get, bit_or, refl, sym, ap, ◌∙◌, subst, arith}
+use Rattle.std.proofs.Common.{IfSome, ◌≡◌, ℕ, zero, suc, ◌+◌, ◌<◌, ◌≤◌, Bool, false, ◌||◌, cond, is_some, unwrap_or, Option, Some, None, List, [], ◌∷◌, length, slice_get, bit_or, refl, sym, ap, ◌∙◌, subst, arith}
 use Rattle.std.proofs.lemmas.Bool.{lt-ltb}
 use Rattle.std.proofs.lemmas.Option.{slice_get_past}
 use Rattle.board_ready.specs.First.{first_of}
@@ -9,7 +9,7 @@ use Rattle.board_ready.specs.Sets.{has, leaf, lowest_in, is_of}
 use Rattle.board_ready.specs.declared.parts.CurrentCall.{CurrentCall}
 use Rattle.board_ready.specs.declared.parts.LinePart.{LinePart}
 use Rattle.board_ready.specs.declared.parts.ReadyThread.{ReadyThread}
-use Rattle.board_ready.proofs.First.{first_within}
+use Rattle.board_ready.proofs.First.{first_within, found_below}
 use Rattle.board_ready.proofs.Numbers.{either_has}
 
 -- the first of 64 lines is the first of those that there are
@@ -31,6 +31,7 @@ pub cpu_found : (lines : List LinePart) (flows takes : List ℕ) (a b : ℕ) →
     → ((c : ℕ) → c < 32 → has a c ≡ is_some (first_of (is_of flows c) 64)) → ((c : ℕ) → c < 32 → has b c ≡ is_some (first_of (is_of takes c) 64))
     → ((c : ℕ) → 32 ≤ c → c < 64 → has a c ≡ false) → ((c : ℕ) → 32 ≤ c → c < 64 → has b c ≡ false)
     → first_of (has (bit_or a b)) 64 ≡ lowest_cpu lines
+unfolding lowest_cpu
 cpu_found lines flows takes a b few are_flows are_takes of_a of_b past_a past_b =
     first_within (is_cpu_ready lines) (has (bit_or a b)) 32 64 (omega arith)
     (λ c small. of_two c (of_a c small) (of_b c small) ∙ (either_some (first_of (is_of flows c) 64) (first_of (is_of takes c) 64) ∙ ap is_some (chosen_line lines flows takes c few small are_flows are_takes)))
@@ -42,6 +43,10 @@ cpu_found lines flows takes a b few are_flows are_takes of_a of_b past_a past_b 
     either_some : (x y : Option ℕ) → (is_some x || is_some y) ≡ is_some (flow_or_take x y)
     either_some None y = refl
     either_some (Some k) y = refl
+
+pub cpu_below : (lines : List LinePart) (o : Option ℕ) → o ≡ lowest_cpu lines → IfSome o (λ c. c < 32)
+unfolding lowest_cpu
+cpu_below lines o is = found_below (is_cpu_ready lines) 32 o is
 
 -- the drivers that can go on
 pub driver_found : (lines : List LinePart) (drivers : List (Option CurrentCall)) (word : ℕ) → length drivers ≤ 64 → AreReady lines drivers word

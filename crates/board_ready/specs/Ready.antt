@@ -73,7 +73,8 @@ cpu_line lines c = if nat_lt c 32 then flow_or_take (flow_line lines c) (take_li
 abbrev pub is_cpu_ready : List LinePart → ℕ → Bool
 is_cpu_ready lines c = is_some (cpu_line lines c)
 
-abbrev pub lowest_cpu : List LinePart → Option ℕ
+-- the first of processors 0 to 31 that moves; opened by name, so that a goal doesn't spell out all 32
+unfoldable pub lowest_cpu : List LinePart → Option ℕ
 lowest_cpu lines = first_of (is_cpu_ready lines) 32
 
 -- what is waited for stands in the way

@@ -1,8 +1,7 @@
 use Rattle.std.proofs.Common.{ap, ◌∙◌}
-use Rattle.board_ready.specs.Ready.{lowest_cpu, is_cpu_ready}
+use Rattle.board_ready.specs.Ready.{lowest_cpu}
 use Rattle.board_ready.specs.Seen.{ReadySeen}
-use Rattle.board_ready.proofs.First.{found_below}
-use Rattle.board_ready.proofs.Searching.{cpu_found}
+use Rattle.board_ready.proofs.Searching.{cpu_found, cpu_below}
 use Rattle.board_ready.proofs.ready.ReadyActors.lowest_cpu.Goals as goal
 
 pub returns-clause-first : goal.returns-clause-first
@@ -12,4 +11,4 @@ returns-clause-first c =
     ∙ (cpu_found c.self.inside.lines.items c.self.inside.flows c.self.inside.takes c.cpus.result c.cpus-2.result k.few_lines k.flows k.takes c.cpus.ensures.some c.cpus-2.ensures.some c.cpus.ensures.few c.cpus-2.ensures.few ∙ ap (λ (s : ReadySeen). lowest_cpu s.lines) c.self.view_is)
 
 pub returns-clause-few : goal.returns-clause-few
-returns-clause-few c = found_below (is_cpu_ready c.args.self.now.lines) 32 c.first_bit.result (returns-clause-first c)
+returns-clause-few c = cpu_below c.args.self.now.lines c.first_bit.result (returns-clause-first c)
