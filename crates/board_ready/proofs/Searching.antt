@@ -1,0 +1,87 @@
+-- What the sets tell is what a search over the lists finds.
+use Rattle.std.proofs.Common.{IfSome, ◌≡◌, ℕ, zero, suc, ◌+◌, ◌<◌, ◌≤◌, Bool, false, ◌||◌, cond, is_some, unwrap_or, Option, Some, None, List, [], ◌∷◌, length, slice_get, bit_or, refl, sym, ap, ◌∙◌, subst, arith}
+use Rattle.std.proofs.lemmas.Bool.{lt-ltb}
+use Rattle.std.proofs.lemmas.Option.{slice_get_past}
+use Rattle.board_ready.specs.First.{first_of}
+use Rattle.board_ready.specs.Kept.{thread_of, AreThreads, AreFlows, AreTakes, AreReady}
+use Rattle.board_ready.specs.Ready.{lower_of, thread_on, lowest_from, lowest_thread, has_flow, has_take, flow_line, take_line, flow_or_take, cpu_line, is_cpu_ready, lowest_cpu, current_call, can_go_on}
+use Rattle.board_ready.specs.Sets.{has, leaf, lowest_in, is_of}
+use Rattle.board_ready.specs.declared.parts.CurrentCall.{CurrentCall}
+use Rattle.board_ready.specs.declared.parts.LinePart.{LinePart}
+use Rattle.board_ready.specs.declared.parts.ReadyThread.{ReadyThread}
+use Rattle.board_ready.proofs.First.{first_within, found_below}
+use Rattle.board_ready.proofs.Numbers.{either_has}
+
+-- the first of 64 lines is the first of those that there are
+parts_first : (test : Option LinePart → Bool) (lines : List LinePart) (on : ℕ → Bool) → test None ≡ false → length lines ≤ 64 → ((k : ℕ) → k < 64 → on k ≡ test (slice_get lines k))
+    → first_of on 64 ≡ first_of (λ k. test (slice_get lines k)) (length lines)
+parts_first test lines on none few is =
+    first_within (λ k. test (slice_get lines k)) on (length lines) 64 few (λ k inside. is k (omega (arith, inside, few))) (λ k past small. is k small ∙ (ap test (slice_get_past lines k past) ∙ none))
+
+-- flows go before takes
+pub chosen_line : (lines : List LinePart) (flows takes : List ℕ) (c : ℕ) → length lines ≤ 64 → c < 32 → AreFlows lines flows → AreTakes lines takes
+    → flow_or_take (first_of (is_of flows c) 64) (first_of (is_of takes c) 64) ≡ cpu_line lines c
+chosen_line lines flows takes c few small are_flows are_takes =
+    ap (λ (o : Option ℕ). flow_or_take o (first_of (is_of takes c) 64)) (parts_first (has_flow c) lines (is_of flows c) refl few (λ k less. are_flows c k small less))
+    ∙ (ap (flow_or_take (flow_line lines c)) (parts_first (has_take c) lines (is_of takes c) refl few (λ k less. are_takes c k small less))
+    ∙ sym (ap (λ b. cond b (flow_or_take (flow_line lines c) (take_line lines c)) None) (lt-ltb c 32 small)))
+
+-- the processors that have a flow or a take
+pub cpu_found : (lines : List LinePart) (flows takes : List ℕ) (a b : ℕ) → length lines ≤ 64 → AreFlows lines flows → AreTakes lines takes
+    → ((c : ℕ) → c < 32 → has a c ≡ is_some (first_of (is_of flows c) 64)) → ((c : ℕ) → c < 32 → has b c ≡ is_some (first_of (is_of takes c) 64))
+    → ((c : ℕ) → 32 ≤ c → c < 64 → has a c ≡ false) → ((c : ℕ) → 32 ≤ c → c < 64 → has b c ≡ false)
+    → first_of (has (bit_or a b)) 64 ≡ lowest_cpu lines
+unfolding lowest_cpu
+cpu_found lines flows takes a b few are_flows are_takes of_a of_b past_a past_b =
+    first_within (is_cpu_ready lines) (has (bit_or a b)) 32 64 (omega arith)
+    (λ c small. of_two c (of_a c small) (of_b c small) ∙ (either_some (first_of (is_of flows c) 64) (first_of (is_of takes c) 64) ∙ ap is_some (chosen_line lines flows takes c few small are_flows are_takes)))
+    (λ c past small. of_two c (past_a c past small) (past_b c past small))
+  where
+    of_two : {x y : Bool} (c : ℕ) → has a c ≡ x → has b c ≡ y → has (bit_or a b) c ≡ (x || y)
+    of_two {x} {y} c p q = either_has a b c ∙ (ap (λ z. z || has b c) p ∙ ap (λ z. x || z) q)
+
+    either_some : (x y : Option ℕ) → (is_some x || is_some y) ≡ is_some (flow_or_take x y)
+    either_some None y = refl
+    either_some (Some k) y = refl
+
+pub cpu_below : (lines : List LinePart) (o : Option ℕ) → o ≡ lowest_cpu lines → IfSome o (λ c. c < 32)
+unfolding lowest_cpu
+cpu_below lines o is = found_below (is_cpu_ready lines) 32 o is
+
+-- the drivers that can go on
+pub driver_found : (lines : List LinePart) (drivers : List (Option CurrentCall)) (word : ℕ) → length drivers ≤ 64 → AreReady lines drivers word
+    → first_of (has word) 64 ≡ first_of (λ r. can_go_on lines (current_call drivers r)) (length drivers)
+driver_found lines drivers word few is =
+    first_within (λ r. can_go_on lines (current_call drivers r)) (has word) (length drivers) 64 few (λ r inside. is r (omega (arith, inside, few)))
+    (λ r past small. is r small ∙ ap (λ (o : Option (Option CurrentCall)). can_go_on lines (unwrap_or o None)) (slice_get_past drivers r past))
+
+-- the lowest of the threads
+nobody : (f : ℕ → Option ReadyThread) (k n : ℕ) → ((j : ℕ) → j < n → f (k + j) ≡ None) → lowest_in f k n ≡ None
+nobody f k zero none = refl
+nobody f k (suc n) none =
+    let e : k + 0 ≡ k = omega arith in
+    let here : f k ≡ None = ap f (sym e) ∙ none 0 (omega arith) in
+    let rest : (j : ℕ) → j < n → f (k + 1 + j) ≡ None = λ j less. ap f (next j) ∙ none (suc j) (omega (arith, less)) in
+    ap (λ (o : Option ReadyThread). lower_of o (lowest_in f (k + 1) n)) here ∙ nobody f (k + 1) n rest
+  where
+    next : (j : ℕ) → k + 1 + j ≡ k + suc j
+    next j = omega arith
+
+listed : (lines : List LinePart) (f : ℕ → Option ReadyThread) (k n : ℕ) → length lines ≤ n → ((j : ℕ) → j < n → f (k + j) ≡ thread_on (k + j) (thread_of (slice_get lines j))) → lowest_in f k n ≡ lowest_from k lines
+listed [] f k n few is = nobody f k n is
+listed (x ∷ xs) f k zero few is = absurd (omega (arith, few))
+listed (x ∷ xs) f k (suc n) few is =
+    ap (λ (o : Option ReadyThread). lower_of o (lowest_in f (k + 1) n)) (subst (λ i. f i ≡ thread_on i x.thread) first (is 0 (omega arith)))
+    ∙ ap (lower_of (thread_on k x.thread)) (listed xs f (k + 1) n (omega (arith, few)) (λ j less. subst (λ i. f i ≡ thread_on i (thread_of (slice_get xs j))) (next j) (is (suc j) (omega (arith, less)))))
+  where
+    first : k + 0 ≡ k
+    first = omega arith
+
+    next : (j : ℕ) → k + suc j ≡ k + 1 + j
+    next j = omega arith
+
+pub thread_found : (lines : List LinePart) (nodes : List (Option ReadyThread)) → length lines ≤ 64 → AreThreads lines nodes → lowest_in (leaf nodes) 0 64 ≡ lowest_thread lines
+thread_found lines nodes few are = listed lines (leaf nodes) 0 64 few (λ j less. subst (λ i. leaf nodes i ≡ thread_on i (thread_of (slice_get lines j))) (from_zero j) (are j less))
+  where
+    from_zero : (j : ℕ) → j ≡ 0 + j
+    from_zero j = omega arith
