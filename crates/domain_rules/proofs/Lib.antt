@@ -1,0 +1,3 @@
+pub mod EachAfters
+mod CellRows
+mod LayoutRows

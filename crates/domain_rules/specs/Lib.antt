@@ -1,0 +1,4 @@
+pub mod Levels
+pub mod Paths
+pub mod Domains
+pub mod Layout
