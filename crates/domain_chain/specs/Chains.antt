@@ -1,0 +1,63 @@
+-- The chip of a path: its root and, where a level of messages masks, that level before it. Each other level passes
+-- everything on and is open for good.
+use Rattle.std.specs.Prelude.{◌≡◌, ℕ, Bool, true, false, not, ◌&&◌, if◌then◌else◌, IfSome, Option, Some, None, List, [], ◌∷◌}
+use Rattle.std.specs.List.{list_any}
+use Rattle.std.specs.Option.{option_map}
+use Rattle.irq_base.specs.Cell.{Cell, is_edge_cell, fresh_cell}
+use Rattle.irq_base.specs.declared.domains.LevelKind.{LevelKind}
+use Rattle.chip_msi.specs.Messages.{LevelSeen, message_of}
+use Rattle.chip_msi.specs.declared.message.Message.{Message}
+use Rattle.domain_rules.specs.Domains.{is_msi}
+use Rattle.domain_rules.specs.Levels.{is_root_kind, keeps_kind, stores_at_root, retriggers_kind, serves_kind, trigger_of_root}
+
+-- the kinds of a path's levels, leaf first: children, and a root at the end
+abbrev pub is_path_of_kinds : List LevelKind → Bool
+is_path_of_kinds [] = false
+is_path_of_kinds (k ∷ []) = is_root_kind k
+is_path_of_kinds (k ∷ (x ∷ xs)) = not (is_root_kind k) && is_path_of_kinds (x ∷ xs)
+
+-- a level of it sends messages
+abbrev pub has_messages : List LevelKind → Bool
+has_messages kinds = list_any is_msi kinds
+
+-- a root of that kind by itself, before anything was done to it
+abbrev pub root_cell : LevelKind → Cell
+root_cell kind = fresh_cell (trigger_of_root kind) (keeps_kind kind) (stores_at_root kind) (retriggers_kind kind) (serves_kind kind)
+
+-- The cell of both. The level of messages, where there is one, masks and stores in the root's place, and what the
+-- root was sent is not taken back.
+abbrev pub chain_cell : Option LevelSeen → Cell → Cell
+chain_cell None root = root
+chain_cell (Some level) root = record root { keeps = true; recalls = false; masked = level.masked; stored = level.pending }
+
+-- where a level of messages masks, the root presents edges and is open
+abbrev pub IsOpenBehind : Option LevelSeen → Cell → Type 0
+IsOpenBehind level root = IfSome level (λ _. (is_edge_cell root ≡ true) × (root.masked ≡ false))
+
+-- what is seen of a chain
+pub record ChainSeen : Type 0 where
+  pub cell : Cell
+  -- its domains have activated the interrupt
+  pub active : Bool
+  -- the processor that it is aimed at
+  pub aimed : ℕ
+  -- the number of its levels
+  pub levels : ℕ
+  -- the number that its messages carry, where it sends messages: the one at its root
+  pub number : Option ℕ
+
+-- a chain to which nothing was done
+abbrev pub fresh_chain : Cell → ℕ → Option ℕ → ChainSeen
+fresh_chain cell levels number = record { cell = cell; active = false; aimed = 0; levels = levels; number = number }
+
+-- what a chain sends while it is active
+abbrev pub message_by : ChainSeen → Option Message
+message_by c = if c.active then option_map (message_of c.aimed) c.number else None
+
+abbrev pub some_if : Bool → ℕ → Option ℕ
+some_if b number = if b then Some number else None
+
+-- the number that messages carry, where a level sends them
+abbrev pub number_sent : Option LevelSeen → ℕ → Option ℕ
+number_sent None number = None
+number_sent (Some level) number = Some number

@@ -1,0 +1,161 @@
+//! The chip of a path.
+ghost use Rattle.std.specs.Prelude.{◌≡◌, ◌≤◌, ℕ, Bool, true, false, ◌&&◌, is_some, length, if◌then◌else◌};
+ghost use Rattle.chip_msi.specs.Messages.{LevelSeen};
+ghost use Rattle.domain_chain.specs.Chains.{ChainSeen, is_path_of_kinds, has_messages, fresh_chain, chain_cell, IsOpenBehind, number_sent, message_by, some_if};
+ghost use Rattle.domain_rules.specs.Levels.{masking_kind, root_kind, presents_level_kind, cell_of};
+
+use crate::roots::{masks_by_message, root_of};
+use chip_msi::{Message, MsiLevel, compose};
+use irq_base::{Chip, CpuNo, LevelKind};
+use line_cell::Cell;
+use std::marker::Model;
+
+/// The chip of a path (`struct irq_data` with its `parent_data`, `include/linux/irq.h`). What a level lacks is passed to
+/// its parent, so the first level from the device that can mask does, and the others are open for good.
+#[derive(Drop)]
+pub struct Chain {
+    message: Option<MsiLevel>,
+    root: Cell,
+    levels: u32,
+    number: u32,
+    active: bool,
+    target: CpuNo,
+}
+
+impl Model for Chain {
+    ghost use Rattle.std.specs.Prelude.{◌<◌};
+    ghost use Rattle.domain_chain.specs.Chains.{ChainSeen, chain_cell, IsOpenBehind, number_sent};
+
+    ghost Value = { ChainSeen };
+
+    ghost view = { λ c. record { cell = chain_cell c.message (⟦<Cell as Chip>⟧.cell c.root); active = c.active; aimed = c.target.0; levels = c.levels; number = number_sent c.message c.number } };
+
+    ghost invariant = { λ c. IsOpenBehind c.message (⟦<Cell as Chip>⟧.cell c.root) × (c.target.0 < 32) };
+}
+
+impl Chain {
+    /// The chip of a path with levels of these kinds, leaf first, one of which can mask, and with that number at its
+    /// root. Its mask is closed, it isn't active, and it is aimed at processor 0.
+    pub fn new(kinds: &[LevelKind], number: u32) -> Chain
+        requires few { length kinds.now ≤ 8 }
+        requires path { is_path_of_kinds kinds.now ≡ true }
+        requires masks { is_some (masking_kind kinds.now) ≡ true }
+        requires edges { has_messages kinds.now && presents_level_kind (root_kind kinds.now) ≡ false }
+        ensures { result ≡ fresh_chain (cell_of kinds.now) (length kinds.now) (some_if (has_messages kinds.now) number) }
+    {
+        let levels = kinds.len() as u32;
+        let mut root = root_of(kinds[kinds.len() - 1]);
+        if masks_by_message(kinds) {
+            root.unmask();
+            return Chain::made(Some(MsiLevel::new()), root, levels, number);
+        }
+        Chain::made(None, root, levels, number)
+    }
+
+    // The chip of that root, with that level of messages before it if there is one.
+    fn made(message: Option<MsiLevel>, root: Cell, levels: u32, number: u32) -> Chain
+        requires { IsOpenBehind message (⟦<Cell as Chip>⟧.cell root) }
+        ensures { result ≡ fresh_chain (chain_cell message (⟦<Cell as Chip>⟧.cell root)) levels (number_sent message number) }
+    {
+        Chain {
+            message,
+            root,
+            levels,
+            number,
+            active: false,
+            target: CpuNo(0),
+        }
+    }
+
+    /// How many levels are active: all while the interrupt is, else none.
+    pub fn active_levels(&self) -> u32
+        ensures { result ≡ (if self.now.active then self.now.levels else 0) }
+    {
+        if self.active { self.levels } else { 0 }
+    }
+
+    /// The message that the path sends (`irq_chip_compose_msi_msg`, `kernel/irq/chip.c`): to the processor that it is
+    /// aimed at, with the number at its root; none exactly where no level sends messages, or it isn't active.
+    pub fn message(&self) -> Option<Message>
+        ensures { result ≡ message_by self.now }
+    {
+        if self.active && self.message.is_some() {
+            Some(compose(self.target, self.number))
+        } else {
+            None
+        }
+    }
+}
+
+impl Chip for Chain {
+    ghost cell = { λ c. c.cell };
+
+    ghost active = { λ c. c.active };
+
+    ghost aimed = { λ c. c.aimed };
+
+    fn edge(&mut self) {
+        match &mut self.message {
+            Some(level) => {
+                if level.edge() {
+                    self.root.edge();
+                }
+            }
+            None => self.root.edge(),
+        }
+    }
+
+    fn set_high(&mut self, high: bool) {
+        self.root.set_high(high);
+    }
+
+    fn mask(&mut self) {
+        match &mut self.message {
+            Some(level) => level.mask(),
+            None => self.root.mask(),
+        }
+    }
+
+    fn unmask(&mut self) {
+        match &mut self.message {
+            Some(level) => {
+                if level.unmask() {
+                    self.root.edge();
+                }
+            }
+            None => self.root.unmask(),
+        }
+    }
+
+    fn accept(&mut self) {
+        self.root.accept();
+    }
+
+    fn ack(&mut self) {
+        self.root.ack();
+    }
+
+    fn eoi(&mut self) {
+        self.root.eoi();
+    }
+
+    fn retrigger(&mut self) -> bool {
+        self.root.retrigger()
+    }
+
+    fn activate(&mut self) {
+        self.active = true;
+    }
+
+    fn deactivate(&mut self) {
+        self.active = false;
+    }
+
+    fn aim(&mut self, cpu: CpuNo) {
+        self.target = cpu;
+    }
+
+    fn signal(&self) -> bool {
+        self.root.signal()
+    }
+}

@@ -1,0 +1,5 @@
+pub mod Slots
+pub mod Counting
+pub mod Ways
+pub mod Agreement
+pub mod Keeps

@@ -1,0 +1,2 @@
+pub mod PathsInUse
+pub mod Hierarchies

@@ -1,0 +1,77 @@
+//! Walks over the levels of a domain's way to its root, and of a path.
+ghost use Rattle.std.specs.Prelude.{◌≡◌, ◌≤◌, is_some, length, drop, map, slice_get};
+ghost use Rattle.std.specs.List.{list_any};
+ghost use Rattle.domain_rules.specs.Layout.{is_past_domain, is_past_path};
+ghost use Rattle.domain_rules.specs.Levels.{masks_kind, masking_kind};
+ghost use Rattle.domain_rules.specs.Paths.{kind_in, parent_in, way};
+
+use irq_base::{DomainDef, LevelKind, MapKind, Path};
+
+/// The domain at the place; none from their number on.
+pub(crate) fn domain_at(domains: &[DomainDef], place: usize) -> Option<DomainDef>
+    ensures { result ≡ slice_get domains.now place }
+{
+    domains.get(place).copied()
+}
+
+/// The kind of a domain; one that isn't there passes everything on.
+pub(crate) fn kind_of(def: Option<DomainDef>) -> LevelKind
+    ensures { result ≡ kind_in def }
+{
+    match def {
+        Some(def) => def.chip,
+        None => LevelKind::Remap,
+    }
+}
+
+/// The place of a domain's parent; none for a root.
+pub(crate) fn parent_of(def: Option<DomainDef>) -> Option<usize>
+    ensures { result ≡ parent_in def }
+{
+    def?.parent
+}
+
+/// Whether one of the levels from a domain to its root, at most `left` of them, can mask.
+pub(crate) fn can_mask(domains: &[DomainDef], left: usize, at: Option<usize>) -> bool
+    ensures { result ≡ is_some (masking_kind (map (λ place. kind_in (slice_get domains.now place)) (way left domains.now at))) }
+{
+    let Some(place) = at else {
+        return false;
+    };
+    if left == 0 {
+        return false;
+    }
+    let def = domain_at(domains, place);
+    masks(kind_of(def)) || can_mask(domains, left - 1, parent_of(def))
+}
+
+// Whether a level of that kind can mask.
+fn masks(kind: LevelKind) -> bool
+    ensures { result ≡ masks_kind kind }
+{
+    !matches!(kind, LevelKind::Remap | LevelKind::Vector)
+}
+
+/// Whether a level of the path, from that place on, has no room for its number.
+pub(crate) fn is_past(domains: &[DomainDef], path: &Path, from: usize) -> bool
+    requires few { length path.now ≤ 8 }
+    ensures { result ≡ list_any (is_past_path domains.now) (drop from path.now) }
+{
+    let Some((place, number)) = path.get(from) else {
+        return false;
+    };
+    is_past_map(domain_at(domains, place), number) || is_past(domains, path, from + 1)
+}
+
+// Whether the domain has no room for the number.
+fn is_past_map(def: Option<DomainDef>, number: u32) -> bool
+    ensures { result ≡ is_past_domain def number }
+{
+    let Some(def) = def else {
+        return false;
+    };
+    match def.map {
+        MapKind::Linear(size) => number >= size,
+        MapKind::Tree => false,
+    }
+}
