@@ -13,7 +13,6 @@ use Rattle.board_words.specs.declared.faults.FaultKind.{FaultKind}
 use Rattle.board_words.specs.declared.faults.FaultKind.TheVariants as faults
 use Rattle.board_words.specs.declared.statements.Statement.{Statement}
 use Rattle.board_words.specs.declared.statements.Statement.TheVariants as statements
-use Rattle.board_stated.specs.BuiltSoFar.{is_built}
 use Rattle.board_stated.specs.FaultsAfter.{is_empty, fault_after}
 use Rattle.board_stated.specs.Sections.{section_reached}
 use Rattle.board_stated.specs.Sound.{IsWellFormed, IsSound, draft_of}
@@ -119,12 +118,10 @@ pub record IsTextOf (lines : List (List ℕ)) (b : BoardSeen) : Type 0 where
   pub sound : IsSound (with_lines [] lines)
   pub states : b ≡ board_of (with_lines [] lines)
   pub entries : b.log * length b.lines ≤ 4000000
-  pub built : is_built (with_lines [] lines) b ≡ true
 
-stated : (large built : Bool) (a b : BoardSeen) (x y : BoardFault) → cond large (Err x) (cond built (Ok a) (Err y)) ≡ Ok b → (large ≡ false) × (built ≡ true) × (a ≡ b)
-stated true built a b x y h = absurd cc
-stated false true a b x y h = (refl, refl, (let same : a ≡ b = cc in same))
-stated false false a b x y h = absurd cc
+stated : (large : Bool) (a b : BoardSeen) (x : BoardFault) → cond large (Err x) (Ok a) ≡ Ok b → (large ≡ false) × (a ≡ b)
+stated true a b x h = absurd cc
+stated false a b x h = (refl, (let same : a ≡ b = cc in same))
 
 no_fault_of : (t : Bool) (rest : Option BoardFault) (x : BoardFault) → cond t rest (Some x) ≡ None → rest ≡ None
 no_fault_of true rest x h = h
@@ -135,12 +132,11 @@ unless lines (Some fault) b is h = absurd cc
 unless lines None b is h =
     let past = with_lines [] lines in
     let at_end = board_of past in
-    let parts = stated (nat_lt 4000000 (at_end.log * length at_end.lines)) (is_built past at_end) at_end b (whole faults.LogTooLarge) (whole faults.NotBuilt) h in
+    let parts = stated (nat_lt 4000000 (at_end.log * length at_end.lines)) at_end b (whole faults.LogTooLarge) h in
     record {
       sound = sound_lines 1 [] lines tt (no_fault_of (list_any has_words lines) (first_fault 1 [] lines) _ is);
-      states = sym parts.2;
-      entries = subst (λ (c : BoardSeen). c.log * length c.lines ≤ 4000000) parts.2 (ltb-false 4000000 (at_end.log * length at_end.lines) parts.0);
-      built = subst (λ (c : BoardSeen). is_built past c ≡ true) parts.2 parts.1;
+      states = sym parts.1;
+      entries = subst (λ (c : BoardSeen). c.log * length c.lines ≤ 4000000) parts.1 (ltb-false 4000000 (at_end.log * length at_end.lines) parts.0);
     }
 
 within_limit : (t : Bool) (x : BoardFault) (rest : Result BoardSeen BoardFault) (b : BoardSeen) → cond t (Err x) rest ≡ Ok b → rest ≡ Ok b

@@ -8,7 +8,6 @@ use Rattle.board_words.specs.Statements.{statement_of}
 use Rattle.board_words.specs.declared.faults.FaultKind.{FaultKind}
 use Rattle.board_words.specs.declared.faults.FaultKind.TheVariants as faults
 use Rattle.board_words.specs.declared.statements.Statement.{Statement}
-use Rattle.board_stated.specs.BuiltSoFar.{is_built}
 use Rattle.board_stated.specs.FaultsAfter.{fault_after, is_empty}
 use Rattle.board_stated.specs.Stated.{board_of}
 use Rattle.board_words.specs.declared.faults.BoardFault.{BoardFault}
@@ -78,12 +77,14 @@ abbrev pub board_unless : Option BoardFault → List Statement → Result BoardS
 board_unless (Some fault) past = Err fault
 board_unless None past =
     let b = board_of past in
-    if nat_lt 4000000 (b.log * length b.lines) then Err (whole faults.LogTooLarge)
-    else if is_built past b then Ok b
-    else Err (whole faults.NotBuilt)
+    if nat_lt 4000000 (b.log * length b.lines) then Err (whole faults.LogTooLarge) else Ok b
+
+-- the statements of a text, the newest first
+abbrev pub statements_of : List ℕ → List Statement
+statements_of bytes = with_lines [] (text_lines bytes)
 
 -- the board of a text, or its first fault
 abbrev pub board_of_text : List ℕ → Result BoardSeen BoardFault
 board_of_text bytes =
     if nat_lt longest_text (length bytes) then Err (whole faults.TooLong)
-    else board_unless (fault_of_lines (text_lines bytes)) (with_lines [] (text_lines bytes))
+    else board_unless (fault_of_lines (text_lines bytes)) (statements_of bytes)

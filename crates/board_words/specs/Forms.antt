@@ -48,7 +48,7 @@ mask_number = number 0 4294967295
 -- the statements
 
 abbrev pub level_kinds : List (List ℕ)
-level_kinds = codes "latch" ∷ codes "plain" ∷ codes "level" ∷ codes "eoi" ∷ codes "vector" ∷ codes "msi" ∷ codes "remap" ∷ []
+level_kinds = codes "latch" ∷ codes "plain" ∷ codes "level" ∷ codes "eoi" ∷ codes "vector" ∷ codes "msi" ∷ codes "remap" ∷ codes "lpi" ∷ []
 
 abbrev pub device_kinds : List (List ℕ)
 device_kinds = codes "direct" ∷ codes "check" ∷ codes "null" ∷ codes "stuck" ∷ []

@@ -53,6 +53,7 @@ level_kind word =
     else if is word (codes "eoi") then levels.Eoi
     else if is word (codes "vector") then levels.Vector
     else if is word (codes "msi") then levels.Msi
+    else if is word (codes "lpi") then levels.Lpi
     else levels.Remap
 
 abbrev pub device_kind : List ℕ → Kind
