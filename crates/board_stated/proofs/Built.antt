@@ -59,7 +59,7 @@ bare_row b l h =
     record { unlazy = unlazy.0; later = later.0; mask = all_of b.cpus l.mask later.1 }
 
 defaults_more : (s : Statement) (section : ℕ) (b : BoardSeen) → section ≤ section_of s → NoneLater section b → is_spurious s ≡ false → has_options s ≡ false → HasDefaults b → HasDefaults (with_statement s b)
-defaults_more statements.Board section b early none plain off d = d
+defaults_more (statements.Board version) section b early none plain off d = d
 defaults_more (statements.Cpus cpus) section b early none plain off d =
     record { window = d.window; limit = d.limit; bare = All-same (IsBare cpus) b.lines [] (none.lines (omega arith)) (All-nil (IsBare cpus)) }
 defaults_more (statements.Spurious window limit) section b early none plain off d = absurd cc

@@ -77,7 +77,7 @@ impl Reader {
         if self.lacks_header(words) {
             return Err(StatementRefused::Fault(FaultKind::NoHeader));
         }
-        let statement = read_statement(alloc, words)?;
+        let statement = read_statement(alloc, words, self.stood.moments)?;
         if let Some(kind) = self.fault_of(&statement) {
             return Err(StatementRefused::Fault(kind));
         }
