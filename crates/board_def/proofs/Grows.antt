@@ -67,7 +67,7 @@ fits_stays : (line : LineNo) (xs : List DeviceDef) (x : DeviceDef) (call : Call)
 fits_stays line xs x (calls.Ask dev) h = test_stays (is_on_line line) refl dev xs x h
 fits_stays line xs x (calls.Request dev flags) h = test_stays (is_on_line line) refl dev xs x h
 fits_stays line xs x (calls.Free dev) h = test_stays (is_on_line line) refl dev xs x h
-fits_stays line xs x (calls.Moment at) h = absurd cc
+fits_stays line xs x (calls.Moment at) h = refl
 fits_stays line xs x calls.Disable h = refl
 fits_stays line xs x calls.DisableNosync h = refl
 fits_stays line xs x calls.Enable h = refl

@@ -111,12 +111,11 @@ abbrev pub is_on_line : LineNo → Option DeviceDef → Bool
 is_on_line line (Some x) = x.line.0 == line.0
 is_on_line line None = false
 
--- the device of a call is one of the line; no time is handed in
+-- the device of a call is one of the line; a moment is handed in to the line itself
 abbrev pub fits_line : List DeviceDef → LineNo → Call → Bool
 fits_line devices line (calls.Ask dev) = is_on_line line (find_device devices dev)
 fits_line devices line (calls.Request dev flags) = is_on_line line (find_device devices dev)
 fits_line devices line (calls.Free dev) = is_on_line line (find_device devices dev)
-fits_line devices line (calls.Moment at) = false
 fits_line devices line _ = true
 
 pub record IsCallAfter (b : BoardSeen) (earlier : List ScriptCall) (c : ScriptCall) : Type 0 where

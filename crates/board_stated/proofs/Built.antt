@@ -1,5 +1,5 @@
 -- The board of a text is one that can be played so far.
-use Rattle.std.proofs.Common.{◌≡◌, ℕ, zero, ◌<◌, ◌≤◌, ◌==◌, true, false, not, ◌&&◌, ◌||◌, is_some, IfSome, Option, Some, None, Ok, List, [], ◌∷◌, length, refl, sym, ap, ◌∙◌, subst, arith}
+use Rattle.std.proofs.Common.{◌≡◌, ℕ, zero, ◌<◌, ◌≤◌, ◌==◌, Bool, true, false, cond, not, ◌&&◌, ◌||◌, is_some, IfSome, Option, Some, None, Result, Ok, Err, List, [], ◌∷◌, length, refl, sym, ap, ◌∙◌, subst, arith}
 use Rattle.std.specs.List.{All, list_any, list_all}
 use Rattle.std.proofs.lemmas.Bool.{ltb-true, eqb-true, and_parts, or_parts, not-true}
 use Rattle.std.proofs.lemmas.List.Elements.{All-nil, All-cons, All-head, All-append, All-same}
@@ -26,7 +26,10 @@ use Rattle.board_stated.specs.BuiltSoFar.{has_options, is_latch, is_within_map, 
 use Rattle.board_stated.specs.Sections.{section_of, section_reached, is_spurious}
 use Rattle.board_stated.specs.Sound.{IsSound}
 use Rattle.board_stated.specs.Stated.{all_processors, mask_or_all, line_row, with_statement, board_of}
-use Rattle.board_stated.specs.TextOf.{with_lines, board_of_text}
+use Rattle.board_stated.specs.TextOf.{with_lines, board_of_text, whole}
+use Rattle.board_stated.specs.ToPlay.{can_be_played, only_built, board_to_play}
+use Rattle.board_words.specs.declared.faults.BoardFault.{BoardFault}
+use Rattle.board_words.specs.declared.faults.FaultKind.TheVariants as faults
 use Rattle.board_stated.proofs.Ascending.{first_or_rest, each_alone}
 use Rattle.board_stated.proofs.Calls.{devices_on_lines}
 use Rattle.board_stated.proofs.Kept.{text_states, text_is_board}
@@ -56,7 +59,7 @@ bare_row b l h =
     record { unlazy = unlazy.0; later = later.0; mask = all_of b.cpus l.mask later.1 }
 
 defaults_more : (s : Statement) (section : ℕ) (b : BoardSeen) → section ≤ section_of s → NoneLater section b → is_spurious s ≡ false → has_options s ≡ false → HasDefaults b → HasDefaults (with_statement s b)
-defaults_more statements.Board section b early none plain off d = d
+defaults_more (statements.Board version) section b early none plain off d = d
 defaults_more (statements.Cpus cpus) section b early none plain off d =
     record { window = d.window; limit = d.limit; bare = All-same (IsBare cpus) b.lines [] (none.lines (omega arith)) (All-nil (IsBare cpus)) }
 defaults_more (statements.Spurious window limit) section b early none plain off d = absurd cc
@@ -200,9 +203,24 @@ built_board past b board defaults tests =
       calls = λ k d h. (tests.calls k d h, of_one_line b.lines row _ latch.one_line (about k d h));
     }
 
-pub built_of_text : (bytes : List ℕ) (b : BoardSeen) → board_of_text bytes ≡ Ok b → IsBuiltBoard b
-built_of_text bytes b h =
-    let text = text_states bytes b h in
+played_by : (t : Bool) (a b : BoardSeen) → cond t (Ok a) (Err (whole faults.NotBuilt)) ≡ Ok b → (t ≡ true) × (a ≡ b)
+played_by true a b h = (refl, (let same : a ≡ b = cc in same))
+played_by false a b h = absurd cc
+
+-- what is played is a board, which can be
+only_played : (test : BoardSeen → Bool) (told : Result BoardSeen BoardFault) (b : BoardSeen) → only_built test told ≡ Ok b → (told ≡ Ok b) × (test b ≡ true)
+only_played test (Err fault) b h = absurd cc
+only_played test (Ok a) b h =
+    let both = played_by (test a) a b h in
+    (ap (λ (c : BoardSeen). Ok c) both.1, subst (λ (c : BoardSeen). test c ≡ true) both.1 both.0)
+
+pub played_of_text : (bytes : List ℕ) (b : BoardSeen) → board_to_play bytes ≡ Ok b → board_of_text bytes ≡ Ok b
+played_of_text bytes b h = (only_played (can_be_played bytes) (board_of_text bytes) b h).0
+
+pub built_of_text : (bytes : List ℕ) (b : BoardSeen) → board_to_play bytes ≡ Ok b → IsBuiltBoard b
+built_of_text bytes b played =
+    let both = only_played (can_be_played bytes) (board_of_text bytes) b played in
+    let text = text_states bytes b both.0 in
     let past = with_lines [] (text_lines bytes) in
-    let tests = passes past b text.built in
-    built_board past b (text_is_board bytes b h) (subst HasDefaults (sym text.states) (defaults_left past text.sound tests.plain)) tests
+    let tests = passes past b both.1 in
+    built_board past b (text_is_board bytes b both.0) (subst HasDefaults (sym text.states) (defaults_left past text.sound tests.plain)) tests

@@ -56,6 +56,7 @@ line_declared b (words.DisableNosync line) each h = not-false (has_line b.lines 
 line_declared b (words.Enable line) each h = not-false (has_line b.lines line) h
 line_declared b (words.Sync line) each h = not-false (has_line b.lines line) h
 line_declared b (words.Affinity line mask) each h = not-false (has_line b.lines line) h
+line_declared b (words.Moment line at) each h = not-false (has_line b.lines line) h
 
 device_fits : (b : BoardSeen) (c : CallWords) → names_nothing b c ≡ false → fits_line b.devices (line_of_call b.devices c) (call_of_words c) ≡ true
 device_fits b (words.Request dev flags twice) h = is_of_line (find_device b.devices dev) h
@@ -66,6 +67,7 @@ device_fits b (words.DisableNosync line) h = refl
 device_fits b (words.Enable line) h = refl
 device_fits b (words.Sync line) h = refl
 device_fits b (words.Affinity line mask) h = refl
+device_fits b (words.Moment line at) h = refl
 
 -- the calls before are of drivers declared before
 scripts_in_order : (b : BoardSeen) → IsBoard b → All (λ e. e.driver.0 ≤ (driver_writing b.drivers).0) b.calls

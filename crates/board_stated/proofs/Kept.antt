@@ -13,11 +13,11 @@ use Rattle.board_words.specs.declared.faults.FaultKind.{FaultKind}
 use Rattle.board_words.specs.declared.faults.FaultKind.TheVariants as faults
 use Rattle.board_words.specs.declared.statements.Statement.{Statement}
 use Rattle.board_words.specs.declared.statements.Statement.TheVariants as statements
-use Rattle.board_stated.specs.BuiltSoFar.{is_built}
 use Rattle.board_stated.specs.FaultsAfter.{is_empty, fault_after}
 use Rattle.board_stated.specs.Sections.{section_reached}
 use Rattle.board_stated.specs.Sound.{IsWellFormed, IsSound, draft_of}
 use Rattle.board_stated.specs.Stated.{board_of}
+use Rattle.board_stated.specs.Sections.{has_moments}
 use Rattle.board_stated.specs.TextOf.{begins_with_board, or_else, fault_of_statement, fault_of_line, with_line, with_lines, fault_or, first_fault, has_words, fault_of_lines, longest_text, whole, board_unless, board_of_text}
 use Rattle.board_words.specs.declared.faults.BoardFault.{BoardFault}
 use Rattle.board_stated.proofs.Calls.{call_kept}
@@ -59,7 +59,7 @@ none_drafted : (n : ℕ) (past : List Statement) → NoneLater n (board_of past)
 none_drafted n past none = record { domains = none.domains; lines = none.lines; devices = none.devices; drivers = none.drivers; calls = none.calls; picks = none.picks }
 
 draft_more : (past : List Statement) (s : Statement) → FitsAfter past s → IsWellFormed s → NoneLater (section_reached past) (draft_of past) → IsBoard (draft_of past) → IsBoard (draft_of (s ∷ past))
-draft_more past statements.Board fits formed none board = board
+draft_more past (statements.Board version) fits formed none board = board
 draft_more past (statements.Cpus cpus) fits formed none board = cpus_kept (draft_of past) cpus (section_reached past) fits.section none board formed
 draft_more past (statements.Spurious window limit) fits formed none board = spurious_kept (draft_of past) window limit (section_reached past) fits.section none board formed
 draft_more past (statements.Log log) fits formed none board = board
@@ -96,8 +96,8 @@ after_test false kind rest h = h
 
 sound_statement : (past : List Statement) (words : List (List ℕ)) → IsSound past → fault_of_statement past words ≡ None → IsSound (statement_of words ∷ past)
 sound_statement past words sound h =
-    let both = neither (fault_of_words words) (fault_after past (statement_of words)) (after_test (is_empty past && not (begins_with_board words)) faults.NoHeader _ h) in
-    (sound, statement_is_well_formed words both.0, both.1)
+    let both = neither (fault_of_words (has_moments past) words) (fault_after past (statement_of words)) (after_test (is_empty past && not (begins_with_board words)) faults.NoHeader _ h) in
+    (sound, statement_is_well_formed (has_moments past) words both.0, both.1)
 
 by_words : (t : Bool) (past : List Statement) (words : List (List ℕ)) → IsSound past → cond t None (fault_of_statement past words) ≡ None → IsSound (cond t past (statement_of words ∷ past))
 by_words true past words sound h = sound
@@ -119,12 +119,10 @@ pub record IsTextOf (lines : List (List ℕ)) (b : BoardSeen) : Type 0 where
   pub sound : IsSound (with_lines [] lines)
   pub states : b ≡ board_of (with_lines [] lines)
   pub entries : b.log * length b.lines ≤ 4000000
-  pub built : is_built (with_lines [] lines) b ≡ true
 
-stated : (large built : Bool) (a b : BoardSeen) (x y : BoardFault) → cond large (Err x) (cond built (Ok a) (Err y)) ≡ Ok b → (large ≡ false) × (built ≡ true) × (a ≡ b)
-stated true built a b x y h = absurd cc
-stated false true a b x y h = (refl, refl, (let same : a ≡ b = cc in same))
-stated false false a b x y h = absurd cc
+stated : (large : Bool) (a b : BoardSeen) (x : BoardFault) → cond large (Err x) (Ok a) ≡ Ok b → (large ≡ false) × (a ≡ b)
+stated true a b x h = absurd cc
+stated false a b x h = (refl, (let same : a ≡ b = cc in same))
 
 no_fault_of : (t : Bool) (rest : Option BoardFault) (x : BoardFault) → cond t rest (Some x) ≡ None → rest ≡ None
 no_fault_of true rest x h = h
@@ -135,12 +133,11 @@ unless lines (Some fault) b is h = absurd cc
 unless lines None b is h =
     let past = with_lines [] lines in
     let at_end = board_of past in
-    let parts = stated (nat_lt 4000000 (at_end.log * length at_end.lines)) (is_built past at_end) at_end b (whole faults.LogTooLarge) (whole faults.NotBuilt) h in
+    let parts = stated (nat_lt 4000000 (at_end.log * length at_end.lines)) at_end b (whole faults.LogTooLarge) h in
     record {
       sound = sound_lines 1 [] lines tt (no_fault_of (list_any has_words lines) (first_fault 1 [] lines) _ is);
-      states = sym parts.2;
-      entries = subst (λ (c : BoardSeen). c.log * length c.lines ≤ 4000000) parts.2 (ltb-false 4000000 (at_end.log * length at_end.lines) parts.0);
-      built = subst (λ (c : BoardSeen). is_built past c ≡ true) parts.2 parts.1;
+      states = sym parts.1;
+      entries = subst (λ (c : BoardSeen). c.log * length c.lines ≤ 4000000) parts.1 (ltb-false 4000000 (at_end.log * length at_end.lines) parts.0);
     }
 
 within_limit : (t : Bool) (x : BoardFault) (rest : Result BoardSeen BoardFault) (b : BoardSeen) → cond t (Err x) rest ≡ Ok b → rest ≡ Ok b

@@ -65,7 +65,7 @@ none_first : NoneLater 0 (board_of [])
 none_first = record { domains = λ h. refl; lines = λ h. refl; devices = λ h. refl; drivers = λ h. refl; calls = λ h. refl; picks = λ h. refl }
 
 none_more : (s : Statement) (section : ℕ) (b : BoardSeen) → section ≤ section_of s → NoneLater section b → NoneLater (section_of s) (with_statement s b)
-none_more statements.Board section b h n = record { domains = λ i. n.domains (omega arith); lines = λ i. n.lines (omega arith); devices = λ i. n.devices (omega arith); drivers = λ i. n.drivers (omega arith); calls = λ i. n.calls (omega arith); picks = λ i. n.picks (omega arith) }
+none_more (statements.Board version) section b h n = record { domains = λ i. n.domains (omega arith); lines = λ i. n.lines (omega arith); devices = λ i. n.devices (omega arith); drivers = λ i. n.drivers (omega arith); calls = λ i. n.calls (omega arith); picks = λ i. n.picks (omega arith) }
 none_more (statements.Cpus cpus) section b h n = record { domains = λ i. n.domains (omega arith); lines = λ i. n.lines (omega arith); devices = λ i. n.devices (omega arith); drivers = λ i. n.drivers (omega arith); calls = λ i. n.calls (omega arith); picks = λ i. n.picks (omega arith) }
 none_more (statements.Spurious window limit) section b h n = record { domains = λ i. n.domains (omega arith); lines = λ i. n.lines (omega arith); devices = λ i. n.devices (omega arith); drivers = λ i. n.drivers (omega arith); calls = λ i. n.calls (omega arith); picks = λ i. n.picks (omega arith) }
 none_more (statements.Log log) section b h n = record { domains = λ i. n.domains (omega arith); lines = λ i. n.lines (omega arith); devices = λ i. n.devices (omega arith); drivers = λ i. n.drivers (omega arith); calls = λ i. n.calls (omega arith); picks = λ i. n.picks (omega arith) }

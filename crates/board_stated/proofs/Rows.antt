@@ -1,5 +1,5 @@
 -- Texts by hand: the board that each states, or its first fault. The checker computes them.
-use Rattle.std.proofs.Common.{◌≡◌, ℕ, true, false, Bool, None, Result, Ok, Err, List, [], ◌∷◌, ◌++◌, codes, refl}
+use Rattle.std.proofs.Common.{◌≡◌, ℕ, true, false, Bool, Some, None, Result, Ok, Err, List, [], ◌∷◌, ◌++◌, codes, refl}
 use Rattle.irq_base.specs.declared.calls.Call.TheVariants as calls
 use Rattle.irq_base.specs.declared.devices.Kind.TheVariants as kinds
 use Rattle.irq_base.specs.declared.domains.LevelKind.TheVariants as levels
@@ -10,6 +10,7 @@ use Rattle.board_def.specs.Seen.{BoardSeen}
 use Rattle.board_words.specs.declared.faults.FaultKind.{FaultKind}
 use Rattle.board_words.specs.declared.faults.FaultKind.TheVariants as faults
 use Rattle.board_stated.specs.TextOf.{board_of_text}
+use Rattle.board_stated.specs.ToPlay.{board_to_play}
 use Rattle.board_words.specs.declared.faults.BoardFault.{BoardFault}
 
 -- text lines, each with its end
@@ -176,14 +177,74 @@ picks_count_their_times = refl
 refused_lines_count : board_of_text (text (codes "board 1" ∷ codes "log 1000000" ∷ codes "domain a linear 1 latch" ∷ codes "line 1 a 0" ∷ codes "line 2 a 0" ∷ codes "line 3 a 0" ∷ codes "line 4 a 0" ∷ codes "line 5 a 0" ∷ [])) ≡ fault 0 faults.LogTooLarge
 refused_lines_count = refl
 
-spurious_written : board_of_text (text (codes "board 1" ∷ codes "spurious 100000 99900" ∷ codes "domain a linear 4 latch" ∷ codes "line 1 a 0" ∷ [])) ≡ fault 0 faults.NotBuilt
+spurious_written : board_to_play (text (codes "board 1" ∷ codes "spurious 100000 99900" ∷ codes "domain a linear 4 latch" ∷ codes "line 1 a 0" ∷ [])) ≡ fault 0 faults.NotBuilt
 spurious_written = refl
 
-mask_written : board_of_text (text (codes "board 1" ∷ codes "domain a linear 4 latch" ∷ codes "line 1 a 0 mask 1" ∷ [])) ≡ fault 0 faults.NotBuilt
+mask_written : board_to_play (text (codes "board 1" ∷ codes "domain a linear 4 latch" ∷ codes "line 1 a 0 mask 1" ∷ [])) ≡ fault 0 faults.NotBuilt
 mask_written = refl
 
-cpus_written : is_board (board_of_text (text (codes "board 1" ∷ codes "cpus 1" ∷ codes "domain a linear 4 latch" ∷ codes "line 1 a 0" ∷ []))) ≡ true
+cpus_written : is_board (board_to_play (text (codes "board 1" ∷ codes "cpus 1" ∷ codes "domain a linear 4 latch" ∷ codes "line 1 a 0" ∷ []))) ≡ true
 cpus_written = refl
 
-header_alone : board_of_text (codes "board 1") ≡ fault 0 faults.NotBuilt
+header_alone : board_to_play (codes "board 1") ≡ fault 0 faults.NotBuilt
 header_alone = refl
+
+-- no fault of the text
+header_is_a_text : is_board (board_of_text (codes "board 1")) ≡ true
+header_is_a_text = refl
+
+mask_is_no_fault : is_board (board_of_text (text (codes "board 1" ∷ codes "domain a linear 4 latch" ∷ codes "line 1 a 0 mask 1" ∷ []))) ≡ true
+mask_is_no_fault = refl
+
+-- ---- the second version: moments
+
+second_version : is_board (board_of_text (codes "board 2")) ≡ true
+second_version = refl
+
+no_third_version : board_of_text (codes "board 3") ≡ fault 1 faults.BadNumber
+no_third_version = refl
+
+-- an Lpi, two lines on it, of which the second is seen through messages, and a driver; and then those lines
+abbrev on_lpi : List (List ℕ) → List ℕ
+on_lpi lines = text (codes "board 2" ∷ codes "domain its tree lpi" ∷ codes "domain m tree msi parent its" ∷ codes "line 1 its 2 unlazy" ∷ codes "line 2 m 2 unlazy" ∷ codes "driver 1" ∷ lines)
+
+moments : board_of_text (on_lpi (codes "moment 1 0" ∷ codes "moment 2 4294967295" ∷ []))
+    ≡ Ok (record {
+      cpus = 1;
+      window = 100000;
+      limit = 99900;
+      log = 10000;
+      domains = record { name = name_of (codes "its"); def = record { map = maps.Tree; chip = levels.Lpi; parent = None } }
+          ∷ record { name = name_of (codes "m"); def = record { map = maps.Tree; chip = levels.Msi; parent = Some 0 } } ∷ [];
+      lines = record { line = record { 0 = 1 }; domain = 0; hw = 2; unlazy = true; later = false; mask = 1 }
+          ∷ record { line = record { 0 = 2 }; domain = 1; hw = 2; unlazy = true; later = false; mask = 1 } ∷ [];
+      devices = [];
+      drivers = record { 0 = 1 } ∷ [];
+      calls = record { driver = record { 0 = 1 }; line = record { 0 = 1 }; call = calls.Moment 0 }
+          ∷ record { driver = record { 0 = 1 }; line = record { 0 = 2 }; call = calls.Moment 4294967295 } ∷ [];
+      picks = [];
+    })
+moments = refl
+
+moment_too_late : board_of_text (on_lpi (codes "moment 1 4294967296" ∷ [])) ≡ fault 7 faults.BadNumber
+moment_too_late = refl
+
+moment_of_no_line : board_of_text (on_lpi (codes "moment 3 5" ∷ [])) ≡ fault 7 faults.NotThere
+moment_of_no_line = refl
+
+moment_before_driver : board_of_text (text (codes "board 2" ∷ codes "moment 1 5" ∷ [])) ≡ fault 2 faults.OutOfOrder
+moment_before_driver = refl
+
+-- whatever follows the word
+moment_in_first_version : board_of_text (on_latch (codes "moment 1 5" ∷ [])) ≡ fault 6 faults.UnknownWord
+moment_in_first_version = refl
+
+-- a header that stands again is told, and not its version
+version_again : board_of_text (text (codes "board 1" ∷ codes "board 2" ∷ codes "moment 1 5" ∷ [])) ≡ fault 2 faults.Twice
+version_again = refl
+
+lpi_has_no_parent : board_of_text (text (codes "board 1" ∷ codes "domain a tree latch" ∷ codes "domain b tree lpi parent a" ∷ [])) ≡ fault 3 faults.BadParent
+lpi_has_no_parent = refl
+
+moments_to_play : board_to_play (on_lpi (codes "moment 1 0" ∷ [])) ≡ fault 0 faults.NotBuilt
+moments_to_play = refl

@@ -68,7 +68,7 @@ spurious_kept b window limit n early none board fits =
 -- ---- the log limit
 
 log_more : (s : Statement) (b : BoardSeen) → IsWellFormed s → (1 ≤ b.log) × (b.log ≤ 1000000) → (1 ≤ (with_statement s b).log) × ((with_statement s b).log ≤ 1000000)
-log_more statements.Board b fits h = h
+log_more (statements.Board version) b fits h = h
 log_more (statements.Cpus cpus) b fits h = h
 log_more (statements.Spurious window limit) b fits h = h
 log_more (statements.Log log) b fits h = fits

@@ -4,7 +4,7 @@ use Rattle.std.proofs.lemmas.Bool.{leb-true}
 use Rattle.board_def.specs.Names.{is_name, name_of, name_bytes}
 use Rattle.board_def.proofs.NameBack.{name_back}
 use Rattle.board_words.specs.Faults.{rank, earlier, first_in_order}
-use Rattle.board_words.specs.Forms.{is, number, name, at, full, part_number, mask_number, level_kinds, device_kinds, one_of, spurious_form, parents_form, map_form, line_options, form_after, fault_of_words}
+use Rattle.board_words.specs.Forms.{is, number, name, at, full, part_number, mask_number, level_kinds, device_kinds, one_of, spurious_form, parents_form, map_form, line_options, form_after, is_unknown_moment, faults_of, fault_of_words}
 use Rattle.board_words.specs.Spelling.{value_of, is_decimal}
 use Rattle.board_words.specs.Statements.{number_at, domain_words, domain_of, picks_of, call_of, statement_after, statement_of}
 use Rattle.board_words.specs.declared.faults.FaultKind.{FaultKind}
@@ -102,6 +102,11 @@ after_first word words =
     (if_right (is word (codes "driver")) _ _ _ _ (first_number 1 65535 full words)
     (λ h. call_or_picks (is word (codes "picks")) (picks_of words) (call_of word words)))))))))
 
-pub statement_is_well_formed : (words : List (List ℕ)) → fault_of_words words ≡ None → IsWellFormed (statement_of words)
-statement_is_well_formed [] h = absurd cc
-statement_is_well_formed (word ∷ words) h = after_first word words (none_listed (form_after word words) h)
+known_word : (t : Bool) (kinds : List FaultKind) → cond t (faults.UnknownWord ∷ []) kinds ≡ [] → kinds ≡ []
+known_word true kinds h = absurd cc
+known_word false kinds h = h
+
+pub statement_is_well_formed : (moments : Bool) (words : List (List ℕ)) → fault_of_words moments words ≡ None → IsWellFormed (statement_of words)
+statement_is_well_formed moments [] h = absurd cc
+statement_is_well_formed moments (word ∷ words) h =
+    after_first word words (known_word (is_unknown_moment moments word) (form_after word words) (none_listed (faults_of moments (word ∷ words)) h))

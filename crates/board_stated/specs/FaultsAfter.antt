@@ -49,7 +49,7 @@ has_flag_twice (words.Request dev flags twice) = twice
 has_flag_twice _ = false
 
 abbrev pub is_twice : List Statement → Statement → Bool
-is_twice past statements.Board = list_any is_header past
+is_twice past (statements.Board version) = list_any is_header past
 is_twice past (statements.Cpus cpus) = list_any is_cpus past
 is_twice past (statements.Spurious window limit) = list_any is_spurious past
 is_twice past (statements.Log log) = list_any is_log past
@@ -76,6 +76,7 @@ names_nothing b (words.DisableNosync line) = not (has_line b.lines line)
 names_nothing b (words.Enable line) = not (has_line b.lines line)
 names_nothing b (words.Sync line) = not (has_line b.lines line)
 names_nothing b (words.Affinity line mask) = not (has_line b.lines line)
+names_nothing b (words.Moment line at) = not (has_line b.lines line)
 
 abbrev pub has_no_thread : Option DeviceDef → Bool
 has_no_thread (Some x) = not (has_thread x.kind)

@@ -74,6 +74,7 @@ line_of_call devices (words.DisableNosync line) = line
 line_of_call devices (words.Enable line) = line
 line_of_call devices (words.Sync line) = line
 line_of_call devices (words.Affinity line mask) = line
+line_of_call devices (words.Moment line at) = line
 
 abbrev pub call_of_words : CallWords → Call
 call_of_words (words.Request dev flags twice) = calls.Request dev flags
@@ -84,6 +85,7 @@ call_of_words (words.DisableNosync line) = calls.DisableNosync
 call_of_words (words.Enable line) = calls.Enable
 call_of_words (words.Sync line) = calls.Sync
 call_of_words (words.Affinity line mask) = calls.Affinity mask
+call_of_words (words.Moment line at) = calls.Moment at
 
 abbrev pub script_call : BoardSeen → CallWords → ScriptCall
 script_call b c = record { driver = driver_writing b.drivers; line = line_of_call b.devices c; call = call_of_words c }
@@ -97,9 +99,9 @@ actor_picked devices (picked.Driver driver) = actors.Driver driver
 abbrev pub actors_picked : List DeviceDef → PickWord → List Actor
 actors_picked devices p = replicate p.times (actor_picked devices p.who)
 
--- what a statement adds
+-- what a statement adds; a version says what a text may say, and nothing of its board
 abbrev pub with_statement : Statement → BoardSeen → BoardSeen
-with_statement statements.Board b = b
+with_statement (statements.Board version) b = b
 with_statement (statements.Cpus cpus) b = record b { cpus = cpus }
 with_statement (statements.Spurious window limit) b = record b { window = window; limit = limit }
 with_statement (statements.Log log) b = record b { log = log }

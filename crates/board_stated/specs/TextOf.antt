@@ -8,8 +8,8 @@ use Rattle.board_words.specs.Statements.{statement_of}
 use Rattle.board_words.specs.declared.faults.FaultKind.{FaultKind}
 use Rattle.board_words.specs.declared.faults.FaultKind.TheVariants as faults
 use Rattle.board_words.specs.declared.statements.Statement.{Statement}
-use Rattle.board_stated.specs.BuiltSoFar.{is_built}
 use Rattle.board_stated.specs.FaultsAfter.{fault_after, is_empty}
+use Rattle.board_stated.specs.Sections.{has_moments}
 use Rattle.board_stated.specs.Stated.{board_of}
 use Rattle.board_words.specs.declared.faults.BoardFault.{BoardFault}
 
@@ -27,7 +27,7 @@ or_else None other = other
 abbrev pub fault_of_statement : List Statement → List (List ℕ) → Option FaultKind
 fault_of_statement past words =
     if is_empty past && not (begins_with_board words) then Some faults.NoHeader
-    else or_else (fault_of_words words) (fault_after past (statement_of words))
+    else or_else (fault_of_words (has_moments past) words) (fault_after past (statement_of words))
 
 -- the first fault of a text line; one without words is no statement
 abbrev pub fault_of_line : List Statement → List ℕ → Option FaultKind
@@ -78,12 +78,14 @@ abbrev pub board_unless : Option BoardFault → List Statement → Result BoardS
 board_unless (Some fault) past = Err fault
 board_unless None past =
     let b = board_of past in
-    if nat_lt 4000000 (b.log * length b.lines) then Err (whole faults.LogTooLarge)
-    else if is_built past b then Ok b
-    else Err (whole faults.NotBuilt)
+    if nat_lt 4000000 (b.log * length b.lines) then Err (whole faults.LogTooLarge) else Ok b
+
+-- the statements of a text, the newest first
+abbrev pub statements_of : List ℕ → List Statement
+statements_of bytes = with_lines [] (text_lines bytes)
 
 -- the board of a text, or its first fault
 abbrev pub board_of_text : List ℕ → Result BoardSeen BoardFault
 board_of_text bytes =
     if nat_lt longest_text (length bytes) then Err (whole faults.TooLong)
-    else board_unless (fault_of_lines (text_lines bytes)) (with_lines [] (text_lines bytes))
+    else board_unless (fault_of_lines (text_lines bytes)) (statements_of bytes)

@@ -17,7 +17,7 @@ use Rattle.board_text.specs.declared.reader.Reader.{Reader}
 -- one more statement
 
 pub draft_more : (past : List Statement) (s : Statement) → draft_of (s ∷ past) ≡ drafted s (draft_of past)
-draft_more past statements.Board = refl
+draft_more past (statements.Board version) = refl
 draft_more past (statements.Cpus cpus) = refl
 draft_more past (statements.Spurious window limit) = refl
 draft_more past (statements.Log log) = refl
@@ -29,7 +29,7 @@ draft_more past (statements.Call c) = refl
 draft_more past (statements.Picks picks) = refl
 
 pub calls_more : (past : List Statement) (s : Statement) → (board_of (s ∷ past)).calls ≡ (with_statement s (draft_of past)).calls
-calls_more past statements.Board = refl
+calls_more past (statements.Board version) = refl
 calls_more past (statements.Cpus cpus) = refl
 calls_more past (statements.Spurious window limit) = refl
 calls_more past (statements.Log log) = refl
@@ -41,7 +41,7 @@ calls_more past (statements.Call c) = refl
 calls_more past (statements.Picks picks) = refl
 
 pub log_more : (past : List Statement) (s : Statement) → (board_of (s ∷ past)).log ≡ log_after (board_of past).log s
-log_more past statements.Board = refl
+log_more past (statements.Board version) = refl
 log_more past (statements.Cpus cpus) = refl
 log_more past (statements.Spurious window limit) = refl
 log_more past (statements.Log log) = refl
@@ -70,6 +70,7 @@ names_same past (words.DisableNosync line) = refl
 names_same past (words.Enable line) = refl
 names_same past (words.Sync line) = refl
 names_same past (words.Affinity line mask) = refl
+names_same past (words.Moment line at) = refl
 
 pick_same : (past : List Statement) (who : Picked) → picks_nothing (draft_of past) who ≡ picks_nothing (board_of past) who
 pick_same past (picked.Thread dev) = refl

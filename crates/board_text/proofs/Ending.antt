@@ -1,11 +1,12 @@
 -- The end of a text.
-use Rattle.std.proofs.Common.{◌≡◌, ℕ, ◌*◌, ◌<◌, ◌≤◌, Bool, true, false, cond, nat_lt, None, Ok, Err, List, length, refl, sym, ap, subst, ◌∙◌, arith}
+use Rattle.std.proofs.Common.{◌≡◌, ℕ, ◌*◌, ◌<◌, ◌≤◌, Bool, true, false, cond, nat_lt, Option, None, Result, Ok, Err, List, length, refl, sym, ap, subst, ◌∙◌, arith}
 use Rattle.std.proofs.lemmas.Bool.Decides.{nat_tests}
 use Rattle.board_def.specs.Rules.{IsBoard}
 use Rattle.board_def.specs.Seen.{BoardSeen}
-use Rattle.board_stated.specs.BuiltSoFar.{is_built}
 use Rattle.board_stated.specs.Stated.{board_of}
-use Rattle.board_stated.specs.TextOf.{board_unless, whole}
+use Rattle.board_stated.specs.TextOf.{board_unless, whole, fault_of_lines, longest_text, statements_of, board_of_text}
+use Rattle.board_stated.specs.ToPlay.{only_built}
+use Rattle.board_words.specs.Lines.{text_lines}
 use Rattle.board_words.specs.declared.faults.BoardFault.{BoardFault}
 use Rattle.board_stated.proofs.Kept.{draft_is_board}
 use Rattle.board_stated.proofs.Settings.{log_range, log_kept}
@@ -14,14 +15,11 @@ use Rattle.board_words.specs.declared.statements.Statement.{Statement}
 use Rattle.board_text.specs.Kept.{Keeps, IsKept}
 use Rattle.board_text.specs.declared.reader.Reader.{Reader}
 
-large : (t built : Bool) (a : BoardSeen) (x y : BoardFault) → t ≡ true → cond t (Err x) (cond built (Ok a) (Err y)) ≡ Err x
-large t built a x y e = rw e refl
+large : (t : Bool) (a : BoardSeen) (x : BoardFault) → t ≡ true → cond t (Err x) (Ok a) ≡ Err x
+large t a x e = rw e refl
 
-unbuilt : (t built : Bool) (a : BoardSeen) (x y : BoardFault) → t ≡ false → built ≡ false → cond t (Err x) (cond built (Ok a) (Err y)) ≡ Err y
-unbuilt t built a x y e f = rw (e, f) refl
-
-good : (t built : Bool) (a : BoardSeen) (x y : BoardFault) → t ≡ false → built ≡ true → cond t (Err x) (cond built (Ok a) (Err y)) ≡ Ok a
-good t built a x y e f = rw (e, f) refl
+good : (t : Bool) (a : BoardSeen) (x : BoardFault) → t ≡ false → cond t (Err x) (Ok a) ≡ Ok a
+good t a x e = rw e refl
 
 above : (n : ℕ) → 4000000 < n → nat_lt 4000000 n ≡ true
 above n h = grind (arith, nat_tests)
@@ -33,25 +31,17 @@ within n h = grind (arith, nat_tests)
 entries_of : (past : List Statement) (r : Reader) → Keeps past r → r.log * length r.board.lines ≡ (board_of past).log * length (board_of past).lines
 entries_of past r h = ap (λ n. n * length r.board.lines) h.agrees.log ∙ ap (λ (b : BoardSeen). (board_of past).log * length b.lines) h.agrees.board
 
--- what is built, by the reader's board
-built_of : (past : List Statement) (r : Reader) → Keeps past r → is_built past r.board ≡ is_built past (board_of past)
-built_of past r h = ap (is_built past) h.agrees.board
-
 pub ends_large : (past : List Statement) (r : Reader) → Keeps past r → 4000000 < r.log * length r.board.lines → board_unless None past ≡ Err (whole faults.LogTooLarge)
-ends_large past r h more = large _ (is_built past (board_of past)) (board_of past) (whole faults.LogTooLarge) (whole faults.NotBuilt) (above _ (subst (λ n. 4000000 < n) (entries_of past r h) more))
-
-pub ends_unbuilt : (past : List Statement) (r : Reader) → Keeps past r → r.log * length r.board.lines ≤ 4000000 → is_built past r.board ≡ false → board_unless None past ≡ Err (whole faults.NotBuilt)
-ends_unbuilt past r h few no_play =
-    unbuilt _ (is_built past (board_of past)) (board_of past) (whole faults.LogTooLarge) (whole faults.NotBuilt) (within _ (subst (λ n. n ≤ 4000000) (entries_of past r h) few)) (sym (built_of past r h) ∙ no_play)
+ends_large past r h more = large _ (board_of past) (whole faults.LogTooLarge) (above _ (subst (λ n. 4000000 < n) (entries_of past r h) more))
 
 -- the board with its log limit
 board_with_log : (past : List Statement) (r : Reader) → Keeps past r → record r.board { log = r.log } ≡ board_of past
 board_with_log past r h =
     ap (λ (b : BoardSeen). record b { log = r.log }) h.agrees.board ∙ ap (λ n. record (board_of past) { log = n }) h.agrees.log
 
-pub ends_good : (past : List Statement) (r : Reader) (b : BoardSeen) → Keeps past r → r.log * length r.board.lines ≤ 4000000 → is_built past r.board ≡ true → b ≡ record r.board { log = r.log } → board_unless None past ≡ Ok b
-ends_good past r b h few plays is =
-    good _ (is_built past (board_of past)) (board_of past) (whole faults.LogTooLarge) (whole faults.NotBuilt) (within _ (subst (λ n. n ≤ 4000000) (entries_of past r h) few)) (sym (built_of past r h) ∙ plays)
+pub ends_good : (past : List Statement) (r : Reader) (b : BoardSeen) → Keeps past r → r.log * length r.board.lines ≤ 4000000 → b ≡ record r.board { log = r.log } → board_unless None past ≡ Ok b
+ends_good past r b h few is =
+    good _ (board_of past) (whole faults.LogTooLarge) (within _ (subst (λ n. n ≤ 4000000) (entries_of past r h) few))
     ∙ ap (λ (x : BoardSeen). Ok x) (sym (is ∙ board_with_log past r h))
 
 pub log_fits : (r : Reader) → IsKept r → r.log * length r.board.lines ≤ 4000000 → IsBoard (record r.board { log = r.log })
@@ -59,3 +49,27 @@ log_fits r h few =
     let past = h.past in
     subst IsBoard (sym (board_with_log past r h.keeps))
     (log_kept (board_of past) (draft_is_board past h.keeps.sound) (log_range past h.keeps.sound) (subst (λ n. n ≤ 4000000) (entries_of past r h.keeps) few))
+
+-- what reading the lines gives is what reading the text gives
+
+unless_is : (fault : Option BoardFault) (past : List Statement) → fault ≡ None → board_unless fault past ≡ board_unless None past
+unless_is fault past e = ap (λ f. board_unless f past) e
+
+-- a text whose lines have no fault is what its end says
+pub text_ended : (bytes : List ℕ) → nat_lt longest_text (length bytes) ≡ false → fault_of_lines (text_lines bytes) ≡ None → board_of_text bytes ≡ board_unless None (statements_of bytes)
+text_ended bytes short none =
+    ap (λ b. cond b (Err (whole faults.TooLong)) (board_unless (fault_of_lines (text_lines bytes)) (statements_of bytes))) short ∙ unless_is (fault_of_lines (text_lines bytes)) (statements_of bytes) none
+
+pub played : (test : BoardSeen → Bool) (told : Result BoardSeen BoardFault) (b : BoardSeen) → told ≡ Ok b → test b ≡ true → only_built test told ≡ Ok b
+played test told b e can = ap (only_built test) e ∙ ap (λ t. cond t (Ok b) (Err (whole faults.NotBuilt))) can
+
+pub unplayed : (test : BoardSeen → Bool) (told : Result BoardSeen BoardFault) (b : BoardSeen) → told ≡ Ok b → test b ≡ false → only_built test told ≡ Err (whole faults.NotBuilt)
+unplayed test told b e cannot = ap (only_built test) e ∙ ap (λ t. cond t (Ok b) (Err (whole faults.NotBuilt))) cannot
+
+-- the board that the end gives is that of the statements
+same_board : (t : Bool) (a b : BoardSeen) (x : BoardFault) → cond t (Err x) (Ok a) ≡ Ok b → a ≡ b
+same_board true a b x h = absurd cc
+same_board false a b x h = cc
+
+pub ended_board : (past : List Statement) (b : BoardSeen) → board_unless None past ≡ Ok b → board_of past ≡ b
+ended_board past b h = same_board (nat_lt 4000000 ((board_of past).log * length (board_of past).lines)) (board_of past) b (whole faults.LogTooLarge) h

@@ -1,11 +1,12 @@
 -- What reading a text gives.
-use Rattle.std.specs.Prelude.{◌≡◌, ℕ, Some, None, Result, Ok, Err, List, []}
+use Rattle.std.specs.Prelude.{◌≡◌, ℕ, false, nat_lt, Some, None, Result, Ok, Err, List, [], length}
 use Rattle.board_def.specs.Seen.{BoardSeen}
 use Rattle.board_words.specs.declared.faults.FaultKind.{FaultKind}
 use Rattle.board_words.specs.declared.statements.Statement.{Statement}
 use Rattle.board_words.specs.declared.statements.StatementRefused.{StatementRefused}
 use Rattle.board_words.specs.declared.statements.StatementRefused.TheVariants as lines
-use Rattle.board_stated.specs.TextOf.{fault_of_line, with_line, first_fault, with_lines, whole, board_unless}
+use Rattle.board_stated.specs.TextOf.{fault_of_line, with_line, first_fault, with_lines, whole, board_unless, fault_of_lines, longest_text, statements_of, board_of_text}
+use Rattle.board_words.specs.Lines.{text_lines}
 use Rattle.board_words.specs.declared.faults.BoardFault.{BoardFault}
 use Rattle.board_text.specs.Kept.{Keeps}
 use Rattle.board_text.specs.declared.reader.Reader.{Reader}
@@ -29,6 +30,12 @@ abbrev pub ReadsLines : List (List ℕ) → Result Reader BoardRefused → Type 
 ReadsLines all (Ok reader) = (first_fault 1 [] all ≡ None) × Keeps (with_lines [] all) reader
 ReadsLines all (Err (texts.Fault fault)) = first_fault 1 [] all ≡ Some fault
 ReadsLines all (Err texts.NoMemory) = Unit {0}
+
+-- a whole text was read: no text line has a fault, and the reader keeps what they say; or it has that fault
+abbrev pub ReadsText : List ℕ → Result Reader BoardRefused → Type 0
+ReadsText bytes (Ok reader) = (nat_lt longest_text (length bytes) ≡ false) × (fault_of_lines (text_lines bytes) ≡ None) × Keeps (statements_of bytes) reader
+ReadsText bytes (Err (texts.Fault fault)) = board_of_text bytes ≡ Err fault
+ReadsText bytes (Err texts.NoMemory) = Unit {0}
 
 -- the text has ended after those statements
 abbrev pub Ends : List Statement → Result BoardSeen FaultKind → Type 0

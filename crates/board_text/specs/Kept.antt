@@ -6,7 +6,7 @@ use Rattle.board_words.specs.declared.statements.Statement.{Statement}
 use Rattle.board_words.specs.declared.statements.Statement.TheVariants as statements
 use Rattle.board_stated.specs.BuiltSoFar.{has_options}
 use Rattle.board_stated.specs.FaultsAfter.{is_empty}
-use Rattle.board_stated.specs.Sections.{section_reached, is_header, is_cpus, is_spurious, is_log}
+use Rattle.board_stated.specs.Sections.{section_reached, has_moments, is_header, is_cpus, is_spurious, is_log}
 use Rattle.board_stated.specs.Sound.{IsSound, draft_of}
 use Rattle.board_stated.specs.Stated.{board_of, with_statement}
 use Rattle.board_text.specs.Owned.{Owns}
@@ -30,6 +30,7 @@ abbrev pub stood_after : List Statement → Stood
 stood_after past = record {
   begun = not (is_empty past);
   header = list_any is_header past;
+  moments = has_moments past;
   cpus = list_any is_cpus past;
   spurious = list_any is_spurious past;
   log = list_any is_log past;
@@ -38,7 +39,7 @@ stood_after past = record {
 
 -- a header or a setting that stood before
 abbrev pub is_setting_again : List Statement → Statement → Bool
-is_setting_again past statements.Board = list_any is_header past
+is_setting_again past (statements.Board version) = list_any is_header past
 is_setting_again past (statements.Cpus cpus) = list_any is_cpus past
 is_setting_again past (statements.Spurious window limit) = list_any is_spurious past
 is_setting_again past (statements.Log log) = list_any is_log past

@@ -17,7 +17,7 @@ pub fn add_statement(board: &mut Board, statement: &Statement) -> Result<(), NoM
     ensures { OnOk result (board.new ≡ drafted statement.now board.old) }
 {
     match statement {
-        Statement::Board | Statement::Log(_) => {}
+        Statement::Board(_) | Statement::Log(_) => {}
         Statement::Cpus(cpus) => board.set_cpus(*cpus),
         Statement::Spurious { window, limit } => board.set_spurious(*window, *limit),
         Statement::Domain(domain) => board.add_domain(domain_row(board, domain))?,
@@ -97,6 +97,7 @@ pub fn call_of_words(call: CallWords) -> Call
         CallWords::Enable { .. } => Call::Enable,
         CallWords::Sync { .. } => Call::Sync,
         CallWords::Affinity { mask, .. } => Call::Affinity { mask },
+        CallWords::Moment { at, .. } => Call::Moment { at },
     }
 }
 
@@ -113,6 +114,7 @@ fn line_of_call(board: &Board, call: CallWords) -> LineNo
         | CallWords::Enable { line }
         | CallWords::Sync { line }
         | CallWords::Affinity { line, .. } => line,
+        CallWords::Moment { line, .. } => line,
     }
 }
 

@@ -108,7 +108,8 @@ fn names_nothing(board: &Board, call: CallWords) -> bool
         | CallWords::DisableNosync { line }
         | CallWords::Enable { line }
         | CallWords::Sync { line }
-        | CallWords::Affinity { line, .. } => !has_line(board, line),
+        | CallWords::Affinity { line, .. }
+        | CallWords::Moment { line, .. } => !has_line(board, line),
     }
 }
 

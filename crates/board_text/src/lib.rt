@@ -1,4 +1,5 @@
-//! Reading a board's text: the board that it states, or the text's first fault.
+//! Reading a board's text: the board that it states, or the text's first fault; and whether that board can be played
+//! yet, which only a play asks.
 //!
 //! A text is read once, line by line, in time linear in its bytes; a first look at it only finds whether it has a
 //! statement at all. Each statement is judged against the board that the statements before it state, and then added
@@ -16,7 +17,7 @@ pub mod sections;
 pub mod stood;
 
 pub use board_words::{BoardFault, FaultKind};
-pub use reading::{BoardRefused, LONGEST_TEXT, read_board};
+pub use reading::{BoardRefused, LONGEST_TEXT, read_board, read_board_to_play};
 
 #[cfg(test)]
 mod tests;

@@ -1,5 +1,6 @@
 //! The reader: the board that the statements so far state, and what it keeps of them to judge the next one.
 ghost use Rattle.std.specs.Prelude.{◌≡◌, List, [], ◌∷◌, ◌&&◌, not, OnOk};
+ghost use Rattle.board_stated.specs.BuiltSoFar.{is_built};
 ghost use Rattle.board_stated.specs.FaultsAfter.{is_empty, is_out_of_order, is_twice, has_bad_owner, has_flag_twice, fault_after};
 ghost use Rattle.board_stated.specs.Stated.{board_of, with_statement};
 ghost use Rattle.board_stated.specs.TextOf.{begins_with_board};
@@ -76,7 +77,7 @@ impl Reader {
         if self.lacks_header(words) {
             return Err(StatementRefused::Fault(FaultKind::NoHeader));
         }
-        let statement = read_statement(alloc, words)?;
+        let statement = read_statement(alloc, words, self.stood.moments)?;
         if let Some(kind) = self.fault_of(&statement) {
             return Err(StatementRefused::Fault(kind));
         }
@@ -171,23 +172,22 @@ impl Reader {
         Ok(())
     }
 
+    /// Whether the board of the statements so far can be played yet.
+    pub fn can_be_played(&self) -> bool
+        ensures { (past : List Statement) → Agrees past self.now → result ≡ is_built past (board_of past) }
+    {
+        is_built(&self.board, self.stood)
+    }
+
     /// The board of the whole text, where no statement had a fault.
     pub fn end(self) -> Result<Board, FaultKind>
         requires { IsKept self }
         ensures { (past : List Statement) → Keeps past self → Ends past result }
     {
-        let Reader {
-            mut board,
-            log,
-            stood,
-            ..
-        } = self;
+        let Reader { mut board, log, .. } = self;
         board.is_board();
         if u64::from(log) * board.lines_len() as u64 > MOST_ENTRIES {
             return Err(FaultKind::LogTooLarge);
-        }
-        if !is_built(&board, stood) {
-            return Err(FaultKind::NotBuilt);
         }
         board.set_log(log);
         Ok(board)

@@ -3,7 +3,8 @@ ghost use Rattle.std.specs.Prelude.{◌≡◌, ◌≤◌, length};
 ghost use Rattle.std.specs.List.{list_any};
 ghost use Rattle.board_words.specs.Lines.{text_lines};
 ghost use Rattle.board_stated.specs.TextOf.{board_of_text, has_words, fault_without_statement, whole};
-ghost use Rattle.board_text.specs.Given.{Gives, ReadsLines};
+ghost use Rattle.board_stated.specs.ToPlay.{board_to_play};
+ghost use Rattle.board_text.specs.Given.{Gives, ReadsLines, ReadsText};
 
 use crate::reader::Reader;
 use board_def::Board;
@@ -30,17 +31,41 @@ pub enum BoardRefused {
 pub fn read_board(alloc: Global, bytes: &[u8]) -> Result<Board, BoardRefused>
     ensures exact { Gives (board_of_text bytes.now) result }
 {
+    let reader = read_text(alloc, bytes)?;
+    match reader.end() {
+        Ok(board) => Ok(board),
+        Err(kind) => Err(whole(kind)),
+    }
+}
+
+/// Reads the text as `read_board` does, for a play: a board that can't be played yet is refused, as not built.
+pub fn read_board_to_play(alloc: Global, bytes: &[u8]) -> Result<Board, BoardRefused>
+    ensures exact { Gives (board_to_play bytes.now) result }
+{
+    let reader = read_text(alloc, bytes)?;
+    let can_be_played = reader.can_be_played();
+    let board = match reader.end() {
+        Ok(board) => board,
+        Err(kind) => return Err(whole(kind)),
+    };
+    if can_be_played {
+        Ok(board)
+    } else {
+        Err(whole(FaultKind::NotBuilt))
+    }
+}
+
+/// Reads all text lines of a text that isn't too long and has a statement.
+fn read_text(alloc: Global, bytes: &[u8]) -> Result<Reader, BoardRefused>
+    ensures { ReadsText bytes.now result }
+{
     if bytes.len() > LONGEST_TEXT {
         return Err(whole(FaultKind::TooLong));
     }
     if !has_statement(bytes) {
         return Err(fault_at(1, fault_without_statement(bytes)));
     }
-    let reader = read_lines(alloc, bytes)?;
-    match reader.end() {
-        Ok(board) => Ok(board),
-        Err(kind) => Err(whole(kind)),
-    }
+    read_lines(alloc, bytes)
 }
 
 /// Whether a text line has words.

@@ -30,7 +30,7 @@ impl Section {
         ensures { place_of result ≡ section_of statement.now }
     {
         match statement {
-            Statement::Board => Section::Header,
+            Statement::Board(_) => Section::Header,
             Statement::Cpus(_) | Statement::Spurious { .. } | Statement::Log(_) => {
                 Section::Settings
             }

@@ -12,6 +12,8 @@ pub struct Stood {
     pub begun: bool,
     /// `board`.
     pub header: bool,
+    /// `board 2`, whose texts have moments.
+    pub moments: bool,
     /// `cpus`.
     pub cpus: bool,
     /// `spurious`.
@@ -30,6 +32,7 @@ impl Stood {
         Stood {
             begun: false,
             header: false,
+            moments: false,
             cpus: false,
             spurious: false,
             log: false,
@@ -43,7 +46,10 @@ impl Stood {
     {
         self.begun = true;
         match statement {
-            Statement::Board => self.header = true,
+            Statement::Board(version) => {
+                self.header = true;
+                self.moments = *version == 2 || self.moments;
+            }
             Statement::Cpus(_) => self.cpus = true,
             Statement::Spurious { .. } => self.spurious = true,
             Statement::Log(_) => self.log = true,
@@ -58,7 +64,7 @@ impl Stood {
         ensures { (past : List Statement) → self ≡ stood_after past → result ≡ is_setting_again past statement.now }
     {
         match statement {
-            Statement::Board => self.header,
+            Statement::Board(_) => self.header,
             Statement::Cpus(_) => self.cpus,
             Statement::Spurious { .. } => self.spurious,
             Statement::Log(_) => self.log,

@@ -2,7 +2,7 @@
 //!
 //! A table has a row for each text: what is told of it, `=` and the text, in which `|` stands for a line feed and `^`
 //! for a byte beyond ASCII. Rows that begin with `#` are headings.
-use crate::{BoardRefused, LONGEST_TEXT, read_board};
+use crate::{BoardRefused, LONGEST_TEXT, read_board, read_board_to_play};
 use board_def::{Board, ScriptCall};
 use irq_base::{Actor, Call, CpuNo, DevNo, DeviceDef, DriverNo, Kind, LevelKind, LineNo, MapKind};
 use std::alloc::Global;
@@ -34,7 +34,8 @@ line 2: unknown word=board 1|device 1 1 foo extra
 line 1: wrong count=board
 line 2: wrong count=board 1|domain a linear latch
 line 2: wrong count=board 1|line 1 a 0 mask 1 mask
-line 1: bad number=board 2
+line 1: bad number=board 3
+line 0: not built yet=board 2
 line 2: bad number=board 1|cpus 33
 line 2: bad number=board 1|spurious 1 1
 line 2: bad number=board 1|ask 0
@@ -48,10 +49,12 @@ line 3: out of order=board 1|cpus 1|board 1
 line 4: out of order=board 1|domain a tree latch||log 1
 line 3: out of order=board 1|picks c0|driver 2
 line 2: out of order=board 1|ask 1
+line 2: out of order=board 2|moment 1 5
 line 3: out of order=board 1|driver 2|driver 2
 line 0: not built yet=board 1|log 1|spurious 2 1|cpus 2
 # settings, names and options that stand again
 line 2: twice=board 1|board 1
+line 2: twice=board 1|board 2|moment 1 5
 line 4: twice=board 1|cpus 2|log 1|cpus 2
 line 3: twice=board 1|spurious 2 1|spurious 2 1
 line 3: twice=board 1|log 1|log 1
@@ -65,6 +68,8 @@ line 2: not there=board 1|domain a tree msi parent a
 line 2: not there=board 1|domain a tree latch parent b
 line 3: bad parent=board 1|domain a tree latch|domain b tree plain parent a
 line 2: bad parent=board 1|domain a tree remap
+line 3: bad parent=board 1|domain a tree latch|domain b tree lpi parent a
+line 0: not built yet=board 1|domain a tree lpi|domain b tree msi parent a|line 1 b 0 unlazy
 line 3: bad parent=board 1|domain a tree level|domain b tree msi parent a
 line 4: bad parent=board 1|domain a tree eoi|domain b tree remap parent a|domain c tree msi parent b
 line 0: not built yet=board 1|domain a tree vector|domain b tree remap parent a|domain c tree msi parent b
@@ -76,6 +81,7 @@ line 5: not there=board 1|domain a tree latch|line 2 a 0|line 3 a 0|device 2 4 d
 line 3: bad unlazy=board 1|domain a tree plain|line 1 a 0 unlazy mask 0
 line 4: bad unlazy=board 1|domain a tree vector|domain b tree remap parent a|line 1 b 0 unlazy
 line 0: not built yet=board 1|domain a tree level|line 1 a 0 unlazy
+line 0: not built yet=board 1|domain a tree lpi|line 1 a 0 unlazy
 line 0: not built yet=board 1|domain a tree plain|domain b tree msi parent a|line 1 b 0 unlazy
 line 3: bad mask=board 1|domain a tree latch|line 1 a 0 mask 0
 line 3: bad mask=board 1|domain a tree latch|line 1 a 0 mask 4294967294
@@ -113,6 +119,8 @@ line 8: not there=disable_nosync 1
 line 8: not there=enable 3
 line 8: not there=sync 3
 line 8: not there=affinity 3 0
+line 8: unknown word=moment 2 5
+line 8: unknown word=moment
 line 0: not built yet=affinity 2 0|enable 2|sync 2
 line 8: not there=picks t3
 line 8: not there=picks t4
@@ -135,6 +143,20 @@ line 0: not built yet=picks c0*65535 c0
 line 8: too many=picks c0*65535 c0*2
 line 11: too many=picks c0*65535|picks c0||picks d7
 line 8: not there=picks t4 c0*65535 c0*2
+";
+
+/// Two lines on an Lpi, one of them through messages, and a driver, in a text of the second version.
+const SECOND: &str =
+    "board 2|domain a tree lpi|domain b tree msi parent a|line 2 a 0|line 3 b 0 unlazy|device 3 2 direct|driver 7|";
+
+/// What follows it, which has seven text lines.
+const MOMENTS: &str = "line 0: not built yet=moment 2 0|moment 3 4294967295|ask 3|moment 2 0
+line 8: wrong count=moment 2
+line 8: bad number=moment 2 4294967296
+line 8: bad number=moment 0 5
+line 8: not there=moment 4 5
+line 9: unknown word=moment 3 5|moments 3 5
+line 9: out of order=picks d7|moment 3 5
 ";
 
 /// Declarations that stand again and again, numbered from 1: before, what is before the number and after it, how many
@@ -196,9 +218,9 @@ fn bytes_of(alloc: Global, head: &str, text: &str) -> Result<Vec<u8>, Fail> {
     Ok(bytes)
 }
 
-/// What is told of the text: its first fault.
+/// What a play is told of the text: its first fault, or that its board isn't built yet.
 fn told(alloc: Global, text: &[u8]) -> Result<String, Fail> {
-    match read_board(alloc, text) {
+    match read_board_to_play(alloc, text) {
         Ok(_) => Ok(String::from_str(alloc, "no fault")?),
         Err(BoardRefused::Fault(fault)) => Ok(format!(in alloc; "{fault}")?),
         Err(refused) => Err(refused.into()),
@@ -211,6 +233,9 @@ fn read_table(rt: &impl Abort, alloc: Global, head: &str, table: &str) -> Result
         let (want, text) = row.split_once('=').ok_or("a row without a text")?;
         let bytes = bytes_of(alloc, head, text)?;
         assert_eq!(rt; told(alloc, &bytes)?.as_str(), want, "{row}");
+        // not to be built yet is no fault of a text
+        let is_text = want == "line 0: not built yet";
+        assert!(rt; read_board(alloc, &bytes).is_ok() == is_text, "{row}");
     }
     Ok(())
 }
@@ -218,7 +243,24 @@ fn read_table(rt: &impl Abort, alloc: Global, head: &str, table: &str) -> Result
 #[test]
 fn texts_with_faults(rt: HostRuntime) -> Result<(), Fail> {
     read_table(&rt, rt.alloc(), "", TEXTS)?;
-    read_table(&rt, rt.alloc(), HEAD, AFTER)
+    read_table(&rt, rt.alloc(), HEAD, AFTER)?;
+    read_table(&rt, rt.alloc(), SECOND, MOMENTS)
+}
+
+#[test]
+fn moments(rt: HostRuntime) -> Result<(), Fail> {
+    let text = bytes_of(rt.alloc(), SECOND, "moment 3 5|moment 2 4294967295")?;
+    let board = read_board(rt.alloc(), &text)?;
+    for (i, line, at) in [(0, LineNo(3), 5), (1, LineNo(2), 4_294_967_295)] {
+        let call = ScriptCall {
+            driver: DriverNo(7),
+            line,
+            call: Call::Moment { at },
+        };
+        assert!(rt; board.call(i) == Some(call), "{i}");
+    }
+    assert_eq!(rt; board.calls_len(), 2);
+    Ok(())
 }
 
 #[test]

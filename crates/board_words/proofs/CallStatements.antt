@@ -17,6 +17,7 @@ said_call calls.DisableNosync words = refl
 said_call calls.Enable words = refl
 said_call calls.Sync words = refl
 said_call calls.Affinity words = refl
+said_call calls.Moment words = refl
 
 pub outcome_is_ok : {A : Type 0} (found : Option FaultKind) (v x : A) → Ok x ≡ outcome found v → (found ≡ None) × (x ≡ v)
 outcome_is_ok None v x h = (refl, cc)

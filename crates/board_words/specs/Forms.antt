@@ -1,6 +1,6 @@
 -- The forms of the statements. A form lays the words at its places, one after another, and lists what is wrong:
 -- a word that doesn't fit its place, a place without a word, words that are left over.
-use Rattle.std.specs.Prelude.{ℕ, ◌-◌, Bool, is_some, if◌then◌else◌, Option, List, [], ◌∷◌, ◌++◌, codes}
+use Rattle.std.specs.Prelude.{ℕ, ◌-◌, Bool, not, ◌&&◌, is_some, if◌then◌else◌, Option, List, [], ◌∷◌, ◌++◌, codes}
 use Rattle.std.specs.List.{list_any, flat_map}
 use Rattle.std.specs.Str.{bytes_eq}
 use Rattle.board_def.specs.Names.{is_name}
@@ -45,10 +45,14 @@ part_number = number 1 65535
 abbrev pub mask_number : List ℕ → List FaultKind
 mask_number = number 0 4294967295
 
+-- milliseconds
+abbrev pub moment_number : List ℕ → List FaultKind
+moment_number = number 0 4294967295
+
 -- the statements
 
 abbrev pub level_kinds : List (List ℕ)
-level_kinds = codes "latch" ∷ codes "plain" ∷ codes "level" ∷ codes "eoi" ∷ codes "vector" ∷ codes "msi" ∷ codes "remap" ∷ []
+level_kinds = codes "latch" ∷ codes "plain" ∷ codes "level" ∷ codes "eoi" ∷ codes "vector" ∷ codes "msi" ∷ codes "remap" ∷ codes "lpi" ∷ []
 
 abbrev pub device_kinds : List (List ℕ)
 device_kinds = codes "direct" ∷ codes "check" ∷ codes "null" ∷ codes "stuck" ∷ []
@@ -91,7 +95,7 @@ picks_form = at pick (flat_map pick)
 -- the places after a statement's first word
 abbrev pub form_after : List ℕ → List (List ℕ) → List FaultKind
 form_after word words =
-    if is word (codes "board") then at (number 1 1) full words
+    if is word (codes "board") then at (number 1 2) full words
     else if is word (codes "cpus") then at (number 1 32) full words
     else if is word (codes "spurious") then spurious_form words
     else if is word (codes "log") then at (number 1 1000000) full words
@@ -101,15 +105,20 @@ form_after word words =
     else if is word (codes "driver") then at part_number full words
     else if is word (codes "request") then at part_number (flat_map (one_of request_flags)) words
     else if is word (codes "affinity") then at part_number (at mask_number full) words
+    else if is word (codes "moment") then at part_number (at moment_number full) words
     else if is word (codes "picks") then picks_form words
     else if list_any (is word) (codes "free" ∷ codes "ask" ∷ codes "disable" ∷ codes "disable_nosync" ∷ codes "enable" ∷ codes "sync" ∷ []) then at part_number full words
     else faults.UnknownWord ∷ []
 
--- what is wrong with a statement in itself
-abbrev pub faults_of : List (List ℕ) → List FaultKind
-faults_of [] = faults.UnknownWord ∷ []
-faults_of (word ∷ words) = form_after word words
+-- the word is `moment`, which a text knows in its second version alone
+abbrev pub is_unknown_moment : Bool → List ℕ → Bool
+is_unknown_moment has_moments word = not has_moments && is word (codes "moment")
+
+-- what is wrong with a statement in itself, in a text whose version has moments or not
+abbrev pub faults_of : Bool → List (List ℕ) → List FaultKind
+faults_of has_moments [] = faults.UnknownWord ∷ []
+faults_of has_moments (word ∷ words) = if is_unknown_moment has_moments word then faults.UnknownWord ∷ [] else form_after word words
 
 -- the first of it
-abbrev pub fault_of_words : List (List ℕ) → Option FaultKind
-fault_of_words words = first_in_order (faults_of words)
+abbrev pub fault_of_words : Bool → List (List ℕ) → Option FaultKind
+fault_of_words has_moments words = first_in_order (faults_of has_moments words)

@@ -27,6 +27,7 @@ call_text calls.DisableNosync = codes "disable_nosync"
 call_text calls.Enable = codes "enable"
 call_text calls.Sync = codes "sync"
 call_text calls.Affinity = codes "affinity"
+call_text calls.Moment = codes "moment"
 
 abbrev pub call_texts : List (List ℕ)
-call_texts = codes "request" ∷ codes "free" ∷ codes "ask" ∷ codes "disable" ∷ codes "disable_nosync" ∷ codes "enable" ∷ codes "sync" ∷ codes "affinity" ∷ []
+call_texts = codes "request" ∷ codes "free" ∷ codes "ask" ∷ codes "disable" ∷ codes "disable_nosync" ∷ codes "enable" ∷ codes "sync" ∷ codes "affinity" ∷ codes "moment" ∷ []

@@ -1,5 +1,5 @@
 -- What reading a text line's words comes to.
-use Rattle.std.specs.Prelude.{◌≡◌, ℕ, true, Some, None, List, [], ◌∷◌, Result, Ok, Err, codes}
+use Rattle.std.specs.Prelude.{◌≡◌, ℕ, Bool, true, Some, None, List, [], ◌∷◌, Result, Ok, Err, codes}
 use Rattle.board_words.specs.Faults.{first_in_order}
 use Rattle.board_words.specs.Forms.{faults_of, is}
 use Rattle.board_words.specs.Statements.{statement_of}
@@ -15,8 +15,8 @@ Tells kinds said (Err (refusals.Fault kind)) = first_in_order kinds ≡ Some kin
 Tells kinds said (Err refusals.NoMemory) = Unit {0}
 
 -- the first fault of the words, and where there is none what they say
-abbrev pub Reads : List (List ℕ) → Result Statement StatementRefused → Type 0
-Reads words result = Tells (faults_of words) (statement_of words) result
+abbrev pub Reads : Bool → List (List ℕ) → Result Statement StatementRefused → Type 0
+Reads has_moments words result = Tells (faults_of has_moments words) (statement_of words) result
 
 -- the first word is `picks`
 abbrev pub ArePicks : List (List ℕ) → Type 0

@@ -53,6 +53,7 @@ level_kind word =
     else if is word (codes "eoi") then levels.Eoi
     else if is word (codes "vector") then levels.Vector
     else if is word (codes "msi") then levels.Msi
+    else if is word (codes "lpi") then levels.Lpi
     else levels.Remap
 
 abbrev pub device_kind : List ℕ → Kind
@@ -127,11 +128,12 @@ call_of word words =
     else if is word (codes "disable_nosync") then calls.DisableNosync (line_at 0 words)
     else if is word (codes "enable") then calls.Enable (line_at 0 words)
     else if is word (codes "sync") then calls.Sync (line_at 0 words)
+    else if is word (codes "moment") then calls.Moment (line_at 0 words) (number_at 1 words)
     else calls.Affinity (line_at 0 words) (number_at 1 words)
 
 abbrev pub statement_after : List ℕ → List (List ℕ) → Statement
 statement_after word words =
-    if is word (codes "board") then statements.Board
+    if is word (codes "board") then statements.Board (number_at 0 words)
     else if is word (codes "cpus") then statements.Cpus (number_at 0 words)
     else if is word (codes "spurious") then statements.Spurious (number_at 0 words) (number_at 1 words)
     else if is word (codes "log") then statements.Log (number_at 0 words)
@@ -143,5 +145,5 @@ statement_after word words =
     else statements.Call (call_of word words)
 
 abbrev pub statement_of : List (List ℕ) → Statement
-statement_of [] = statements.Board
+statement_of [] = statements.Board 1
 statement_of (word ∷ words) = statement_after word words

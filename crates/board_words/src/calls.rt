@@ -27,6 +27,7 @@ pub(crate) fn read_call(call: CallWord, words: Words<'_>) -> Result<CallWords, F
         CallWord::Enable => Ok(CallWords::Enable { line: line(words)? }),
         CallWord::Sync => Ok(CallWords::Sync { line: line(words)? }),
         CallWord::Affinity => affinity(words),
+        CallWord::Moment => moment(words),
     }
 }
 
@@ -72,4 +73,15 @@ fn affinity(words: Words<'_>) -> Result<CallWords, FaultKind>
     let mask = places.number(0, u32::MAX);
     places.full();
     places.give(CallWords::Affinity { line, mask })
+}
+
+/// What follows `moment`.
+fn moment(words: Words<'_>) -> Result<CallWords, FaultKind>
+    ensures { result ≡ reads (forms.form_after (call_text calls.Moment)) (said.call_of (call_text calls.Moment)) words.entry }
+{
+    let mut places = Places::new(words);
+    let line = LineNo(places.number(1, 65_535));
+    let at = places.number(0, u32::MAX);
+    places.full();
+    places.give(CallWords::Moment { line, at })
 }

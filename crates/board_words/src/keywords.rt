@@ -30,6 +30,7 @@ pub(crate) enum CallWord {
     Enable,
     Sync,
     Affinity,
+    Moment,
 }
 
 /// The part that the word names.
@@ -90,6 +91,9 @@ pub(crate) fn call_word(word: &[u8]) -> Option<CallWord>
     }
     if is(word, b"affinity") {
         return Some(CallWord::Affinity);
+    }
+    if is(word, b"moment") {
+        return Some(CallWord::Moment);
     }
     None
 }

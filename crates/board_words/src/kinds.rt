@@ -30,6 +30,9 @@ pub(crate) fn level_kind(word: &[u8]) -> Option<LevelKind>
     if is(word, b"msi") {
         return Some(LevelKind::Msi);
     }
+    if is(word, b"lpi") {
+        return Some(LevelKind::Lpi);
+    }
     if is(word, b"remap") {
         return Some(LevelKind::Remap);
     }

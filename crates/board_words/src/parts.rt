@@ -29,10 +29,7 @@ pub(crate) fn read_part(part: PartWord, words: Words<'_>) -> Result<Statement, F
     ensures { result ≡ reads (forms.form_after (part_text part)) (said.statement_after (part_text part)) words.entry }
 {
     match part {
-        PartWord::Board => {
-            sole_number(words, 1, 1)?;
-            Ok(Statement::Board)
-        }
+        PartWord::Board => Ok(Statement::Board(sole_number(words, 1, 2)?)),
         PartWord::Cpus => Ok(Statement::Cpus(sole_number(words, 1, 32)?)),
         PartWord::Spurious => spurious(words),
         PartWord::Log => Ok(Statement::Log(sole_number(words, 1, 1_000_000)?)),

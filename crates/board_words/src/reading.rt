@@ -16,15 +16,22 @@ use crate::statements::{PickList, Statement, StatementRefused};
 use crate::words::{Words, is};
 use std::alloc::Global;
 
-/// What the words of a text line say. Only picks take memory.
-pub fn read_statement(alloc: Global, words: Words<'_>) -> Result<Statement, StatementRefused>
-    ensures exact { Reads (words_left words.entry) result }
+/// What the words of a text line say, in a text whose version has moments or not. Only picks take memory.
+pub fn read_statement(
+    alloc: Global,
+    words: Words<'_>,
+    has_moments: bool,
+) -> Result<Statement, StatementRefused>
+    ensures exact { Reads has_moments (words_left words.entry) result }
     ensures memory { WantsForPicks (words_left words.entry) result }
 {
     let mut rest = words;
     let Some(word) = rest.next() else {
         return Err(StatementRefused::Fault(FaultKind::UnknownWord));
     };
+    if is_unknown_moment(word, has_moments) {
+        return Err(StatementRefused::Fault(FaultKind::UnknownWord));
+    }
     if is(word, b"picks") {
         return read_picks(alloc, rest);
     }
@@ -32,6 +39,13 @@ pub fn read_statement(alloc: Global, words: Words<'_>) -> Result<Statement, Stat
         Ok(statement) => Ok(statement),
         Err(kind) => Err(StatementRefused::Fault(kind)),
     }
+}
+
+/// Whether the word is `moment`, in a text that has none.
+fn is_unknown_moment(word: &[u8], has_moments: bool) -> bool
+    ensures { result ≡ forms.is_unknown_moment has_moments word.now }
+{
+    !has_moments && is(word, b"moment")
 }
 
 /// What a statement other than picks says, by its first word and those after it.

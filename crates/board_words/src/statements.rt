@@ -78,6 +78,11 @@ pub enum CallWords {
         line: LineNo,
         mask: u32,
     },
+    /// `moment`: the time in milliseconds.
+    Moment {
+        line: LineNo,
+        at: u32,
+    },
 }
 
 /// Whose step a pick is.
@@ -106,8 +111,8 @@ pub type PickList = ItemList<PickWord>;
 /// What one text line says.
 #[derive(Drop)]
 pub enum Statement {
-    /// `board 1`.
-    Board,
+    /// `board`: the version of the text, 1 or 2.
+    Board(u32),
     /// `cpus`: the number of processors, 1 to 32.
     Cpus(u32),
     /// `spurious`: how many interrupts of a line are counted before the unhandled ones are judged, and how many may

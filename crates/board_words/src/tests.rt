@@ -12,7 +12,7 @@ use std::test::Fail;
 const FAULTS: &str = "\
 wrong count=board
 bad number=board 0
-bad number=board 2
+bad number=board 3
 bad number=board 01
 wrong count=board 2 2
 unknown word=Board 1
@@ -33,7 +33,8 @@ wrong count=domain
 wrong count=domain a linear latch
 bad number=domain a linear 0 latch
 bad number=domain a linear 1025 latch
-unknown word=domain a linear 4 lpi
+unknown word=domain a linear 4 lpis
+unknown word=domain a linear 4 LPI
 unknown word=domain 1 flat
 bad name=domain A tree latch
 bad name=domain a-b tree latch
@@ -87,8 +88,15 @@ bad name=picks t1*0
 bad name=picks t1*65536
 bad name=picks t1*2*3
 bad name=picks *2
-unknown word=moment
-unknown word=moment 1 take
+wrong count=moment
+wrong count=moment 1
+wrong count=moment 1 2 3
+bad number=moment 0 1
+bad number=moment 65536 1
+bad number=moment 1 4294967296
+bad number=moment 1 -1
+bad number=moment 1 take
+unknown word=moments 1 2
 unknown word=disable-nosync 1
 ";
 
@@ -104,10 +112,25 @@ fn wrong_statements(rt: HostRuntime) -> Result<(), Fail> {
     Ok(())
 }
 
+/// Statements of a moment, which no text of the first version has, whatever follows the word.
+const MOMENTS: [&str; 4] = ["moment", "moment 1 2", "moment 0 x y", "moment moment"];
+
+#[test]
+fn no_moments(rt: HostRuntime) -> Result<(), Fail> {
+    let unknown = StatementRefused::Fault(FaultKind::UnknownWord);
+    for line in MOMENTS {
+        match read_statement(rt.alloc(), Words::of_line(line.as_bytes()), false) {
+            Err(refused) => assert!(rt; refused == unknown, "{line}"),
+            Ok(_) => assert!(rt; false, "{line}"),
+        }
+    }
+    Ok(())
+}
+
 /// What a statement of few parts says.
 #[derive(Clone, Copy)]
 enum Said {
-    Board,
+    Board(u32),
     Cpus(u32),
     Spurious(u32, u32),
     Log(u32),
@@ -118,7 +141,7 @@ enum Said {
 
 fn says(statement: &Statement, said: Said) -> bool {
     match (statement, said) {
-        (Statement::Board, Said::Board) => true,
+        (Statement::Board(version), Said::Board(v)) => *version == v,
         (Statement::Cpus(count), Said::Cpus(n)) => *count == n,
         (Statement::Spurious { window, limit }, Said::Spurious(w, l)) => *window == w
             && *limit == l,
@@ -148,8 +171,9 @@ const OTHERS: Flags = Flags {
     noauto: true,
 };
 
-const STATEMENTS: [(&str, Said); 24] = [
-    ("board 1", Said::Board),
+const STATEMENTS: [(&str, Said); 27] = [
+    ("board 1", Said::Board(1)),
+    ("board 2", Said::Board(2)),
     ("\tcpus\r1 \r", Said::Cpus(1)),
     ("cpus 32#33", Said::Cpus(32)),
     ("spurious 1 0", Said::Spurious(1, 0)),
@@ -225,6 +249,17 @@ const STATEMENTS: [(&str, Said); 24] = [
             mask: 4_294_967_295,
         }),
     ),
+    (
+        "moment 9 0",
+        Said::Call(CallWords::Moment { line: LINE, at: 0 }),
+    ),
+    (
+        "moment 9 4294967295",
+        Said::Call(CallWords::Moment {
+            line: LINE,
+            at: 4_294_967_295,
+        }),
+    ),
 ];
 
 #[test]
@@ -236,7 +271,7 @@ fn statements(rt: HostRuntime) -> Result<(), Fail> {
     Ok(())
 }
 
-const DOMAINS: [(&str, MapKind, LevelKind); 7] = [
+const DOMAINS: [(&str, MapKind, LevelKind); 8] = [
     (
         "domain a_1 linear 1 latch",
         MapKind::Linear(1),
@@ -252,6 +287,7 @@ const DOMAINS: [(&str, MapKind, LevelKind); 7] = [
     ("domain a_1 tree vector", MapKind::Tree, LevelKind::Vector),
     ("domain a_1 tree remap", MapKind::Tree, LevelKind::Remap),
     ("domain a_1 tree msi", MapKind::Tree, LevelKind::Msi),
+    ("domain a_1 tree lpi", MapKind::Tree, LevelKind::Lpi),
 ];
 
 #[test]
@@ -288,7 +324,7 @@ fn domains(rt: HostRuntime) -> Result<(), Fail> {
 }
 
 fn read(alloc: Global, line: &str) -> Result<Statement, StatementRefused> {
-    read_statement(alloc, Words::of_line(line.as_bytes()))
+    read_statement(alloc, Words::of_line(line.as_bytes()), true)
 }
 
 fn is_domain(statement: &Statement, domain: DomainWords) -> bool {
@@ -368,6 +404,7 @@ fn picks(rt: HostRuntime) -> Result<(), Fail> {
     match read_statement(
         rt.alloc(),
         Words::of_line(b"picks t65535 c0*65535 c31*1 d1*20"),
+        false,
     )? {
         Statement::Picks(list) => {
             assert!(rt; list.len() == 4);
@@ -458,12 +495,12 @@ fn large_texts(rt: HostRuntime) -> Result<(), Fail> {
     for _ in 0..300_000 {
         text.extend_from_slice(b" t1")?;
     }
-    match read_statement(rt.alloc(), Words::of_line(&text))? {
+    match read_statement(rt.alloc(), Words::of_line(&text), false)? {
         Statement::Picks(list) => assert!(rt; list.len() == 300_000),
         _ => assert!(rt; false),
     }
     let word = vec![in rt.alloc(); b'a'; 1_000_000]?;
-    match read_statement(rt.alloc(), Words::of_line(&word)) {
+    match read_statement(rt.alloc(), Words::of_line(&word), true) {
         Err(refused) => assert!(rt; refused == StatementRefused::Fault(FaultKind::UnknownWord)),
         Ok(_) => assert!(rt; false),
     }

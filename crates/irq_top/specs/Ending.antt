@@ -7,7 +7,7 @@ use Rattle.irq_io.specs.declared.whole.WriteEnd.{WriteEnd}
 use Rattle.irq_io.specs.declared.whole.WriteEnd.TheVariants as writes
 use Rattle.board_def.specs.Seen.{BoardSeen}
 use Rattle.board_words.specs.FaultTexts.{fault_text}
-use Rattle.board_stated.specs.TextOf.{board_of_text}
+use Rattle.board_stated.specs.ToPlay.{board_to_play}
 use Rattle.board_words.specs.declared.faults.BoardFault.{BoardFault}
 use Rattle.irq_top.specs.declared.inputs.InputRefused.{InputRefused}
 use Rattle.irq_top.specs.declared.inputs.InputRefused.TheVariants as refusals
@@ -70,7 +70,7 @@ is_printing _ = false
 
 -- the bytes state a board, and were read to their end
 abbrev pub StatesBoard : List ℕ → Option (List ℕ) → Type 0
-StatesBoard bytes now = ((board : BoardSeen) × (board_of_text bytes ≡ Ok board)) × (now ≡ Some [])
+StatesBoard bytes now = ((board : BoardSeen) × (board_to_play bytes ≡ Ok board)) × (now ≡ Some [])
 
 -- what an ending says of an input that was told: it states a board, and was read to its end; or it has that fault,
 -- and was read to its end or one byte past the longest text
@@ -78,7 +78,7 @@ abbrev pub ReadsInput : List ℕ → Option (List ℕ) → Ending → Type 0
 ReadsInput bytes now endings.Done = StatesBoard bytes now
 ReadsInput bytes now endings.WriteFault = StatesBoard bytes now
 ReadsInput bytes now (endings.LogFull line len) = StatesBoard bytes now
-ReadsInput bytes now (endings.Board fault) = (board_of_text bytes ≡ Err fault) × (now ≡ Some (left_after bytes))
+ReadsInput bytes now (endings.Board fault) = (board_to_play bytes ≡ Err fault) × (now ≡ Some (left_after bytes))
 ReadsInput bytes now endings.ReadFault = Unit {0}
 ReadsInput bytes now endings.NoMemory = Unit {0}
 ReadsInput bytes now endings.Usage = ⊥

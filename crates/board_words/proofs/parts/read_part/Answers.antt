@@ -29,7 +29,7 @@ returns-in_err-driver-in-Driver c =
     rw (c.in-Driver.is, p.1, p.2) (outcome_err _ _ (statement_after (part_text parts.Driver) (words_left c.args.words)) _ (sym c.in_err-driver-in-Driver.was ∙ c.sole_number-in-Driver.ensures))
 
 pub returns-in_ok-sole_number-in-Board : goal.returns-in_ok-sole_number-in-Board
-returns-in_ok-sole_number-in-Board c = rw c.in-Board.is (outcome_ok (λ n. statements.Board) _ _ _ (sym c.in_ok-sole_number-in-Board.was ∙ c.sole_number.ensures))
+returns-in_ok-sole_number-in-Board c = rw c.in-Board.is (outcome_ok (λ n. statements.Board n) _ _ _ (sym c.in_ok-sole_number-in-Board.was ∙ c.sole_number.ensures))
 
 pub returns-in_ok-sole_number-in-Cpus : goal.returns-in_ok-sole_number-in-Cpus
 returns-in_ok-sole_number-in-Cpus c = rw c.in-Cpus.is (outcome_ok (λ n. statements.Cpus n) _ _ _ (sym c.in_ok-sole_number-in-Cpus.was ∙ c.sole_number-in-Cpus.ensures))

@@ -1,6 +1,5 @@
-use Rattle.std.proofs.Common.{◌≡◌, ◌*◌, ◌≤◌, ◌<◌, ◌∙◌, length, true, false, sym}
-use Rattle.board_stated.specs.BuiltSoFar.{is_built}
-use Rattle.board_text.proofs.Ending.{ends_large, ends_unbuilt, ends_good, log_fits}
+use Rattle.std.proofs.Common.{◌*◌, ◌≤◌, ◌<◌, length}
+use Rattle.board_text.proofs.Ending.{ends_large, ends_good, log_fits}
 use Rattle.board_text.proofs.reader.Reader.end.Goals as goal
 
 pub set_log-requires : goal.set_log-requires
@@ -13,15 +12,7 @@ pub returns : goal.returns
 returns c = λ past h.
     let r = c.args.self in
     let few : r.log * length r.board.lines ≤ 4000000 = rw (← c.from.ensures, ← c.lines_len.ensures) c.if-from-lines_len-gt-MOST_ENTRIES.false in
-    let plays : is_built past r.board ≡ true = sym (c.is_built.ensures past h.agrees.stood) ∙ c.if-not-is_built.false in
-    ends_good past r c.set_log.new.self h few plays c.set_log.ensures.set
-
-pub returns-then-not-is_built : goal.returns-then-not-is_built
-returns-then-not-is_built c = λ past h.
-    let r = c.args.self in
-    let few : r.log * length r.board.lines ≤ 4000000 = rw (← c.from.ensures, ← c.lines_len.ensures) c.if-from-lines_len-gt-MOST_ENTRIES.false in
-    let unplayed : is_built past r.board ≡ false = sym (c.is_built.ensures past h.agrees.stood) ∙ c.if-not-is_built.true in
-    ends_unbuilt past r h few unplayed
+    ends_good past r c.set_log.new.self h few c.set_log.ensures.set
 
 pub returns-then-from-lines_len-gt-MOST_ENTRIES : goal.returns-then-from-lines_len-gt-MOST_ENTRIES
 returns-then-from-lines_len-gt-MOST_ENTRIES c = λ past h.
