@@ -1,5 +1,5 @@
 -- The queries of a line are answered by its state.
-use Rattle.std.proofs.Common.{◌≡◌, ◌↔◌, Option, Some, None, List, reverse, refl, sym, ap, subst, ◌∙◌}
+use Rattle.std.proofs.Common.{◌≡◌, Option, Some, None, List, reverse, refl, sym, ap, subst, ◌∙◌}
 use Rattle.irq_base.specs.declared.numbers.DevNo.{DevNo}
 use Rattle.irq_base.specs.declared.numbers.DriverNo.{DriverNo}
 use Rattle.irq_line.specs.Queries.{IsTaker, IsLowestThread, flow_of, blocks_of}

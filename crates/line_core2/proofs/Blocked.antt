@@ -26,9 +26,8 @@ use Rattle.irq_steps.proofs.Same.{dev_from_same}
 use Rattle.device_table.specs.Rows.{table_by}
 use Rattle.device_table.specs.Sums.{one_if}
 use Rattle.act_thread.specs.Steps.{is_in_run}
-use Rattle.act_thread.specs.Threads.{active_in, is_idle_at}
-use Rattle.irq_line.specs.Queries.{blocks_at, are_threads_at_work, is_freed_at_work}
-use Rattle.irq_line.specs.declared.queries.Blocks.{Blocks}
+use Rattle.act_thread.specs.Threads.{active_in}
+use Rattle.irq_line.specs.Queries.{blocks_at, is_freed_at_work}
 use Rattle.line_marks.proofs.DriversDueIs.{idle_is}
 use Rattle.line_marks.proofs.FreeingFollows.{mutex_is}
 use Rattle.line_marks.proofs.Known.{in_run, same_test}

@@ -1,12 +1,9 @@
 -- What is asked of a line is told by its state.
-use Rattle.std.proofs.Common.{◌≡◌, ◌↔◌, ℕ, ◌+◌, ◌≤◌, Bool, true, false, not, ◌||◌, ◌&&◌, cond, ltb, is_some, Option, Some, None, List, [], ◌∷◌, reverse, refl, sym, ap, subst, ◌∙◌, arith}
+use Rattle.std.proofs.Common.{◌≡◌, ◌↔◌, ◌≤◌, Bool, true, false, not, ◌||◌, ◌&&◌, cond, is_some, Option, Some, None, List, refl, sym, ap, subst, ◌∙◌}
 use Rattle.std.proofs.lemmas.Bool.{false≢true}
-use Rattle.std.proofs.lemmas.Bool.Decides.{nat_tests}
 use Rattle.std.proofs.lemmas.Option.{none-some, same_Some}
 use Rattle.std.specs.Prelude.{IsTrue, IsSome}
-use Rattle.std.specs.List.{list_any}
 use Rattle.irq_base.specs.Cell.{signals}
-use Rattle.irq_base.specs.declared.devices.DeviceDef.{DeviceDef}
 use Rattle.irq_base.specs.declared.entries.Actor.TheVariants as actors
 use Rattle.irq_base.specs.declared.entries.Entry.{Entry}
 use Rattle.irq_base.specs.declared.entries.Entry.TheVariants as entries
@@ -14,23 +11,16 @@ use Rattle.irq_base.specs.declared.entries.Way.TheVariants as ways
 use Rattle.irq_base.specs.declared.lines.LineDef.{LineDef}
 use Rattle.irq_base.specs.declared.numbers.CpuNo.{CpuNo}
 use Rattle.irq_base.specs.declared.numbers.DevNo.{DevNo}
-use Rattle.irq_base.specs.declared.numbers.DriverNo.{DriverNo}
-use Rattle.irq_laws.proofs.KeptAlways.{kept}
-use Rattle.irq_laws.specs.Kept.{freeing}
-use Rattle.irq_model.specs.Due.{holds_mutex}
 use Rattle.irq_model.specs.Kinds.{is_take, same_cpu}
 use Rattle.irq_model.specs.Legal.{IsLegalPast}
-use Rattle.irq_model.specs.Lines.{is_device}
 use Rattle.irq_model.specs.Next.{next_past}
-use Rattle.irq_model.specs.Reason.{is_being_freed}
 use Rattle.irq_model.specs.Rounds.{is_cpu}
 use Rattle.irq_model.specs.Signal.{lowest_in}
-use Rattle.irq_model.specs.Threads.{is_woken, is_running}
 use Rattle.irq_model.specs.Valid.{IsValid}
 use Rattle.irq_steps.proofs.Same.{same_self_cpu, cpu_from_same}
 use Rattle.act_list.specs.Lists.{first_left}
 use Rattle.act_thread.specs.Steps.{could_step, steps_at, is_returned_stage}
-use Rattle.act_thread.specs.Threads.{active_in, is_idle_at, row_passes}
+use Rattle.act_thread.specs.Threads.{row_passes}
 use Rattle.act_thread.specs.declared.rows.Stage.{Stage}
 use Rattle.act_thread.specs.declared.rows.Stage.TheVariants as stages
 use Rattle.act_thread.specs.declared.rows.ThreadRow.{ThreadRow}
@@ -41,7 +31,7 @@ use Rattle.irq_line.specs.Queries.{is_some_take}
 use Rattle.line_marks.proofs.CpuDueIs.{cpu_due_is}
 use Rattle.line_marks.proofs.DueIs.{thread_is}
 use Rattle.line_marks.specs.Threads.{threads_of, thread_of}
-use Rattle.line_marks.specs.CpuDue.{cpu_due, in_flow_by, begin_or_end_by, next_take_by, take_by}
+use Rattle.line_marks.specs.CpuDue.{in_flow_by, begin_or_end_by, next_take_by, take_by}
 use Rattle.line_marks.specs.Due.{due_of_row, due_at_stage}
 use Rattle.line_marks.specs.State.{StateSeen, state_of}
 use Rattle.line_state.specs.Seen.{taker_of, unless_in_flow, lowest_due, may_go_on}
