@@ -1,2 +1,4 @@
+pub mod EndIs
 pub mod KindRows
 pub mod Targets
+pub mod Unlinking
