@@ -1,5 +1,5 @@
 -- The lines that the tests take are valid, and what is fixed of them stays.
-use Rattle.std.proofs.Common.{◌≡◌, ◌<◌, ◌≤◌, Bool, true, false, List, [], ◌∷◌, refl, arith}
+use Rattle.std.proofs.Common.{◌≡◌, ◌<◌, ◌≤◌, ℕ, Bool, true, false, List, [], ◌∷◌, Some, refl, sym, ap, ◌∙◌, arith}
 use Rattle.irq_base.specs.declared.devices.Kind.{Kind}
 use Rattle.std.proofs.lemmas.List.Elements.{All-cons, All-nil}
 use Rattle.std.specs.Prelude.{All}
@@ -10,7 +10,11 @@ use Rattle.irq_model.specs.Valid.{IsValid, names_one_of}
 use Rattle.irq_base.specs.declared.entries.Entry.{Entry}
 use Rattle.irq_base.specs.declared.lines.LineDef.{LineDef}
 use Rattle.line_marks.specs.State.{StateSeen, state_after}
-use Rattle.line_state.specs.Tests.{the_line, two_devices, tried_line, IsTried}
+use Rattle.line_marks.specs.DriversDue.{driver_due}
+use Rattle.line_marks.specs.Expected.{IsExpected}
+use Rattle.line_state.specs.Seen.{HasCallRoom}
+use Rattle.line_state.specs.Tests.{the_line, two_devices, tried_line, TriedSeen, IsTried}
+use Rattle.line_state.proofs.Expecting.{expected_of_call}
 use Rattle.line_state.proofs.Keeping.{is_of_kept, aim_of_kept}
 
 on_line : (a b : Kind) → All (λ (x : DeviceDef). x.line ≡ the_line) (two_devices a b)
@@ -68,3 +72,7 @@ tried_is_valid false unlazy later a b = record {
 pub tried_kept : (def : LineDef) (e : Entry) (s roomy last : StateSeen) → IsTried (record { def = def; state = s }) → roomy ≡ s → last ≡ state_after def e roomy → IsTried (record { def = def; state = last })
 tried_kept def e s roomy last tried as_before is =
     rw (is, as_before) (record { valid = tried.valid; is_of = is_of_kept def e s tried.is_of; aim = aim_of_kept def e s tried.aim })
+
+pub call_tried : (l m : TriedSeen) → l ≡ m → (r : DriverNo) (call : Call) (n : ℕ) (e : Entry) → Some e ≡ driver_due l.def l.state r (Some (call, n)) → HasCallRoom call m.state → IsExpected m.def e m.state
+call_tried l m same r call n e due room =
+    expected_of_call m.def m.state r call n e (ap (λ (k : TriedSeen). driver_due k.def k.state r (Some (call, n))) (sym same) ∙ sym due) room

@@ -157,7 +157,6 @@ impl Tried {
         Ok(Some(entry))
     }
 
-    #[tactic(auto, using(crate::proofs::Expecting::expected_of_call))]
     fn step_call(&mut self, call: Call, within: u32) -> Result<Option<Entry>, NoMemory> {
         let Some(entry) = self.state.due_of_call(&self.def, DRIVER, call, within) else {
             return Ok(None);
@@ -197,7 +196,6 @@ impl Tried {
     }
 
     /// Brings the state up to the entry.
-    #[tactic(auto, using(crate::proofs::TestLines::tried_kept))]
     fn make(&mut self, entry: Entry) -> Result<(), NoMemory>
         requires { IsExpected self.old.def entry self.old.state }
     {
