@@ -21,26 +21,25 @@ impl<C: Chip> LineState<C> {
         ensures { self.new.state ≡ state_after def.now entry self.old.state }
     {
         match entry {
-            Entry::Ask { driver, dev } => self.ask(def, driver, dev),
-            Entry::Take { cpu, way, answer } => self.take(def, cpu, way, answer),
-            Entry::Begin { cpu, dev } => self.begin(def, cpu, dev),
-            Entry::Return { cpu, dev, answer, served } => self.returned(def, cpu, dev, answer, served),
-            Entry::End { cpu, again, unmask, note } => self.end(def, cpu, again, unmask, note),
-            Entry::ThreadBegin { dev } => self.thread_begin(def, dev),
+            Entry::Ask { dev, .. } => self.ask(def, dev),
+            Entry::Take { cpu, way, .. } => self.take(def, cpu, way),
+            Entry::Begin { dev, .. } => self.begin(dev),
+            Entry::Return { dev, answer, served, .. } => self.returned(def, dev, answer, served),
+            Entry::End { .. } => self.end(def),
+            Entry::ThreadBegin { dev } => self.thread_begin(dev),
             Entry::ThreadReturn { dev, served } => self.thread_returned(def, dev, served),
-            Entry::Finish { dev, kept, unmask } => self.finish(def, dev, kept, unmask),
-            Entry::Done { dev } => self.done(def, dev),
-            Entry::Disable { driver } => self.disable(def, driver),
-            Entry::HardClear { driver } => self.hard_clear(def, driver),
-            Entry::Synced { driver } => self.synced(def, driver),
-            Entry::Enable { driver, answer } => self.enable(def, driver, answer),
+            Entry::Finish { dev, unmask, .. } => self.finish(dev, unmask),
+            Entry::Done { dev } => self.done(dev),
+            Entry::Disable { .. } => self.disable(),
+            Entry::HardClear { .. } | Entry::Synced { .. } => {}
+            Entry::Enable { .. } => self.enable(def),
             Entry::Request { driver, dev, flags, answer, opened } => {
                 self.request(def, driver, dev, flags, answer, opened);
             }
-            Entry::Unlink { driver, dev, answer } => self.unlink(def, driver, dev, answer),
-            Entry::Freed { driver, dev } => self.freed(def, driver, dev),
-            Entry::Affinity { driver, mask, answer } => self.affinity(def, driver, mask, answer),
-            Entry::Moment { driver, at } => self.moment(def, driver, at),
+            Entry::Unlink { driver, dev, .. } => self.unlink(driver, dev),
+            Entry::Freed { .. } => self.freed(),
+            Entry::Affinity { mask, .. } => self.affinity(mask),
+            Entry::Moment { at, .. } => self.moment(at),
         }
     }
 }

@@ -1,30 +1,28 @@
 //! What the takes and ends of flow handlers make of the state.
-ghost use Rattle.std.specs.Prelude.{◌≡◌, ◌≤◌, not, true};
+ghost use Rattle.std.specs.Prelude.{◌≡◌, ◌≤◌};
 ghost use Rattle.irq_base.specs.declared.entries.Entry.TheVariants as entries;
-ghost use Rattle.irq_model.specs.Lines.{is_edge_line};
+ghost use Rattle.irq_base.specs.declared.numbers.CpuNo.{CpuNo};
 ghost use Rattle.irq_model.specs.Valid.{IsValid};
-ghost use Rattle.act_list.specs.Actions.{is_bare};
-ghost use Rattle.flow_handlers.specs.Flows.{answer_by};
-ghost use Rattle.line_marks.specs.Acts.{arrived, moved, entered, handling_from, round_begun, noted_at, killed_by, left_at, gone_on};
+ghost use Rattle.line_marks.specs.Acts.{arrived, moved, entered, handling_from, round_begun, noted_at, killed_by, left_by, left_at, gone_on};
 ghost use Rattle.line_marks.specs.Aim.{aimed_by};
-ghost use Rattle.line_marks.specs.CpuDue.{is_held};
-ghost use Rattle.line_marks.specs.Expected.{IsExpected, HasRounds, HasDepth, IsOpen};
+ghost use Rattle.line_marks.specs.CpuDue.{is_held, take_by, note_by, end_by};
+ghost use Rattle.line_marks.specs.Expected.{HasRounds, HasDepth, IsOpen};
 ghost use Rattle.line_marks.specs.State.{state_after};
 
 use crate::state::LineState;
-use flow_handlers::{edge, fasteoi, level};
+use flow_handlers::{Left, edge, fasteoi, level};
 use irq_base::{Chip, CpuNo, FlowKind, LineDef, Note, TakeAnswer, Way};
 
 impl<C: Chip> LineState<C> {
     /// A take, by the line's flow. Whatever its answer, a waiting mask is put in force.
-    pub(crate) fn take(&mut self, def: &LineDef, cpu: CpuNo, way: Way, answer: TakeAnswer)
+    pub(crate) fn take(&mut self, def: &LineDef, cpu: CpuNo, way: Way)
         requires valid { IsValid def.now }
         requires few { self.old.state.aim.cpus ≤ 32 }
-        requires expected { IsExpected def.now (entries.Take cpu way answer) self.old.state }
-        ensures { self.new.state ≡ state_after def.now (entries.Take cpu way answer) self.old.state }
+        requires rounds { HasRounds self.old.state }
+        ensures { self.new.state ≡ state_after def.now (entries.Take cpu way (take_by self.old.state)) self.old.state }
     {
         self.arrive(way);
-        self.enter(def, cpu, answer);
+        let answer = self.enter(def, cpu);
         self.move_affinity();
         self.begin_round_if(answer);
     }
@@ -40,16 +38,16 @@ impl<C: Chip> LineState<C> {
     }
 
     /// The flow handler up to its first handler.
-    fn enter(&mut self, def: &LineDef, cpu: CpuNo, answer: TakeAnswer)
-        requires { answer ≡ answer_by (not (is_bare self.old.state.list.actions)) self.old.state.desc }
-        ensures { self.new.state ≡ entered def.now def.now.flow answer cpu self.old.state }
+    fn enter(&mut self, def: &LineDef, cpu: CpuNo) -> TakeAnswer
+        ensures answer { result ≡ take_by self.old.state }
+        ensures state { self.new.state ≡ entered def.now def.now.flow result cpu self.old.state }
     {
         let linked = !self.actions.is_empty();
         match def.flow {
             FlowKind::Level => level::enter(&mut self.desc, &mut self.chip, cpu, linked),
             FlowKind::Edge => edge::enter(&mut self.desc, &mut self.chip, cpu, linked),
             FlowKind::Eoi => fasteoi::enter(&mut self.desc, &mut self.chip, cpu, linked, def.trigger),
-        };
+        }
     }
 
     /// A mask that waits is put in force, and the chip is aimed (`irq_move_masked_irq`, `kernel/irq/migration.c`).
@@ -90,22 +88,26 @@ impl<C: Chip> LineState<C> {
 
     /// The end of a round: the note on spurious interrupts, the kill that it may make, and then what the flow handler
     /// does after its last handler.
-    pub(crate) fn end(&mut self, def: &LineDef, cpu: CpuNo, again: bool, unmask: bool, note: Note)
+    pub(crate) fn end(&mut self, def: &LineDef)
         requires valid { IsValid def.now }
-        requires expected { IsExpected def.now (entries.End cpu again unmask note) self.old.state }
-        ensures { self.new.state ≡ state_after def.now (entries.End cpu again unmask note) self.old.state }
+        requires rounds { HasRounds self.old.state }
+        requires depth { HasDepth self.old.state }
+        requires open { IsOpen def.now self.old.state }
+        ensures { (cpu : CpuNo) → self.new.state ≡ state_after def.now (end_by def.now self.old.state cpu) self.old.state }
     {
-        self.note_round();
+        let note = self.note_round();
         self.kill_by(note);
-        self.leave(def);
-        self.go_on(def, again);
+        let left = self.leave(def);
+        self.go_on(def, left.again);
     }
 
-    fn note_round(&mut self)
-        ensures { self.new.state ≡ noted_at self.old.state }
+    /// The rule on spurious interrupts counts the round (`note_interrupt`, `kernel/irq/spurious.c`).
+    fn note_round(&mut self) -> Note
+        ensures note { result ≡ note_by self.old.state }
+        ensures state { self.new.state ≡ noted_at self.old.state }
     {
         let (wakes, handles) = (self.round.wakes(), self.round.handles());
-        self.counts.note(self.round.moment(), wakes, handles);
+        self.counts.note(self.round.moment(), wakes, handles)
     }
 
     fn kill_by(&mut self, note: Note)
@@ -118,16 +120,17 @@ impl<C: Chip> LineState<C> {
     }
 
     /// The flow handler after its last handler.
-    fn leave(&mut self, def: &LineDef)
+    fn leave(&mut self, def: &LineDef) -> Left
         requires { IsOpen def.now self.old.state }
-        ensures { self.new.state ≡ left_at def.now def.now.flow (is_held self.old.state) self.old.state }
+        ensures left { result ≡ left_by def.now def.now.flow (is_held self.old.state) self.old.state.desc }
+        ensures state { self.new.state ≡ left_at def.now def.now.flow (is_held self.old.state) self.old.state }
     {
         let held = self.is_held();
         match def.flow {
             FlowKind::Level => level::leave(&mut self.desc, &mut self.chip, held),
             FlowKind::Edge => edge::leave(&mut self.desc, &mut self.chip, held),
             FlowKind::Eoi => fasteoi::leave(&mut self.desc, &mut self.chip, held, def.trigger),
-        };
+        }
     }
 
     /// A flow that goes on begins a new round; on the fast-EOI flow it is over.

@@ -1,6 +1,9 @@
 //! What asks and the runs of handlers and threads make of the state.
-ghost use Rattle.std.specs.Prelude.{◌≡◌, ◌-◌, ◌<◌, ◌^◌};
+ghost use Rattle.std.specs.Prelude.{◌≡◌, ◌-◌, ◌<◌, ◌^◌, Bool};
 ghost use Rattle.irq_base.specs.declared.entries.Entry.TheVariants as entries;
+ghost use Rattle.irq_base.specs.declared.lines.LineDef.{LineDef};
+ghost use Rattle.irq_base.specs.declared.numbers.CpuNo.{CpuNo};
+ghost use Rattle.irq_base.specs.declared.numbers.DriverNo.{DriverNo};
 ghost use Rattle.device_table.specs.Rows.{at};
 ghost use Rattle.ask_counts.specs.Rows.{HasRoom};
 ghost use Rattle.line_marks.specs.Acts.{lowered};
@@ -9,14 +12,14 @@ ghost use Rattle.line_marks.specs.Kinds.{kind_at};
 ghost use Rattle.line_marks.specs.State.{state_after, IsOf};
 
 use crate::state::LineState;
-use irq_base::{Answer, Chip, CpuNo, DevNo, DriverNo, Kind, LineDef, Trigger};
+use irq_base::{Answer, Chip, DevNo, Kind, LineDef, Trigger};
 
 impl<C: Chip> LineState<C> {
     /// The device asks: an edge comes, or the level is high.
-    pub(crate) fn ask(&mut self, def: &LineDef, driver: DriverNo, dev: DevNo)
+    pub(crate) fn ask(&mut self, def: &LineDef, dev: DevNo)
         requires is_of { IsOf def.now self.old.state }
         requires room { HasRoom (at self.old.state.asks dev) }
-        ensures { self.new.state ≡ state_after def.now (entries.Ask driver dev) self.old.state }
+        ensures { (driver : DriverNo) → self.new.state ≡ state_after def.now (entries.Ask driver dev) self.old.state }
     {
         self.asks.asked(dev);
         match def.trigger {
@@ -26,8 +29,8 @@ impl<C: Chip> LineState<C> {
     }
 
     /// The device's handler is called.
-    pub(crate) fn begin(&mut self, def: &LineDef, cpu: CpuNo, dev: DevNo)
-        ensures { self.new.state ≡ state_after def.now (entries.Begin cpu dev) self.old.state }
+    pub(crate) fn begin(&mut self, dev: DevNo)
+        ensures { (def : LineDef) (cpu : CpuNo) → self.new.state ≡ state_after def (entries.Begin cpu dev) self.old.state }
     {
         let serves = self.is_direct(dev);
         self.asks.called(dev, serves);
@@ -36,9 +39,9 @@ impl<C: Chip> LineState<C> {
     }
 
     /// It returns: what it met is served where it serves, and its thread is woken where it says so.
-    pub(crate) fn returned(&mut self, def: &LineDef, cpu: CpuNo, dev: DevNo, answer: Answer, served: u32)
+    pub(crate) fn returned(&mut self, def: &LineDef, dev: DevNo, answer: Answer, served: u32)
         requires { IsOf def.now self.old.state }
-        ensures { self.new.state ≡ state_after def.now (entries.Return cpu dev answer served) self.old.state }
+        ensures { (cpu : CpuNo) → self.new.state ≡ state_after def.now (entries.Return cpu dev answer served) self.old.state }
     {
         let serves = self.is_direct(dev);
         self.asks.served(dev, serves);
@@ -61,8 +64,8 @@ impl<C: Chip> LineState<C> {
     }
 
     /// The device's thread begins a run.
-    pub(crate) fn thread_begin(&mut self, def: &LineDef, dev: DevNo)
-        ensures { self.new.state ≡ state_after def.now (entries.ThreadBegin dev) self.old.state }
+    pub(crate) fn thread_begin(&mut self, dev: DevNo)
+        ensures { (def : LineDef) → self.new.state ≡ state_after def (entries.ThreadBegin dev) self.old.state }
     {
         let serves = self.is_threaded(dev);
         self.threads.begin(dev);
@@ -85,8 +88,8 @@ impl<C: Chip> LineState<C> {
     }
 
     /// Its run is finalized, which may open the line.
-    pub(crate) fn finish(&mut self, def: &LineDef, dev: DevNo, kept: bool, unmask: bool)
-        ensures { self.new.state ≡ state_after def.now (entries.Finish dev kept unmask) self.old.state }
+    pub(crate) fn finish(&mut self, dev: DevNo, unmask: bool)
+        ensures { (def : LineDef) (kept : Bool) → self.new.state ≡ state_after def (entries.Finish dev kept unmask) self.old.state }
     {
         self.threads.finish(dev);
         if unmask {
@@ -95,8 +98,8 @@ impl<C: Chip> LineState<C> {
     }
 
     /// Its run is over.
-    pub(crate) fn done(&mut self, def: &LineDef, dev: DevNo)
-        ensures { self.new.state ≡ state_after def.now (entries.Done dev) self.old.state }
+    pub(crate) fn done(&mut self, dev: DevNo)
+        ensures { (def : LineDef) → self.new.state ≡ state_after def (entries.Done dev) self.old.state }
     {
         let oneshot = self.desc.oneshot();
         self.threads.done(dev, oneshot);
