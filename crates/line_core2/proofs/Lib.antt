@@ -1,3 +1,6 @@
 pub mod More
 pub mod Runs
 pub mod Lowest
+pub mod Queries
+pub mod Blocked
+pub mod Asked

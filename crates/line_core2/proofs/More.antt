@@ -1,7 +1,6 @@
 -- One more due entry keeps what holds of a line.
-use Rattle.std.proofs.Common.{◌≡◌, ℕ, ◌+◌, ◌<◌, ◌≤◌, ◌^◌, Bool, true, false, cond, is_some, Option, Some, None, List, [], ◌∷◌, ◌++◌, length, slice_get, reverse, refl, sym, ap, subst, ◌∙◌, arith}
-use Rattle.std.proofs.lemmas.Bool.{false≢true}
-use Rattle.std.proofs.lemmas.List.{length-append, reverse-append}
+use Rattle.std.proofs.Common.{◌≡◌, ℕ, ◌+◌, ◌<◌, ◌≤◌, Bool, true, false, cond, is_some, Option, Some, None, List, [], ◌∷◌, ◌++◌, length, slice_get, reverse, refl, sym, ap, subst, ◌∙◌, arith}
+use Rattle.std.proofs.lemmas.List.{length-append, length-reverse, reverse-append}
 use Rattle.std.proofs.lemmas.Option.{none-some}
 use Rattle.irq_base.specs.Who.{actor_of}
 use Rattle.irq_base.specs.declared.calls.Call.{Call}
@@ -13,23 +12,28 @@ use Rattle.irq_base.specs.declared.entries.Entry.TheVariants as entries
 use Rattle.irq_base.specs.declared.lines.LineDef.{LineDef}
 use Rattle.irq_base.specs.declared.numbers.DriverNo.{DriverNo}
 use Rattle.irq_base.specs.declared.numbers.LineNo.{LineNo}
-use Rattle.irq_laws.proofs.OwnLaws.{due_is_own, due_is_own_past}
+use Rattle.irq_laws.proofs.OwnLaws.{due_is_own}
 use Rattle.irq_model.specs.Due.{calls_by, entries_by, due_call, entries_of_call, begins_not_there}
 use Rattle.irq_model.specs.Kinds.{same_driver, is_driver, is_by_driver}
-use Rattle.irq_model.specs.Legal.{IsDue, IsLegal, IsLegalPast}
+use Rattle.irq_model.specs.Legal.{IsDue, IsLegalPast}
 use Rattle.irq_model.specs.Next.{next, next_past, next_of_call}
-use Rattle.irq_steps.proofs.DueSteps.{laid_within, part_at}
+use Rattle.irq_steps.proofs.DueSteps.{laid_start, laid_within, part_at}
 use Rattle.irq_steps.specs.Laid.{with_count}
 use Rattle.irq_steps.proofs.Same.{same_self_driver, driver_from_same}
 use Rattle.line_scripts.specs.Endings.{completes}
 use Rattle.line_scripts.specs.Rows.{RowSeen, calls_of, call_of, place_of, within_of}
 use Rattle.line_marks.proofs.DueIs.{call_is}
 use Rattle.line_marks.proofs.ScriptsFollow.{own_place, other_place}
-use Rattle.line_marks.proofs.StateFollows.{state_follows}
+use Rattle.line_marks.proofs.CellFollows.{is_of}
+use Rattle.line_marks.proofs.ExpectedOf.{expected}
+use Rattle.line_marks.proofs.StateFollows.{state_follows, state_first}
+use Rattle.line_marks.specs.Expected.{IsExpected}
+use Rattle.line_state.specs.Seen.{IsAimOf}
+use Rattle.irq_model.specs.Valid.{IsValid}
 use Rattle.line_marks.specs.Line.{IsLine}
 use Rattle.line_marks.specs.Next.{due_call_in}
 use Rattle.line_marks.specs.Scripts.{IsAt, place_after, within_after}
-use Rattle.line_marks.specs.State.{StateSeen, state_of, state_after}
+use Rattle.line_marks.specs.State.{StateSeen, IsOf, first_state, state_of, state_after}
 use Rattle.line_core2.specs.Moves.{IsMoved, Moves, CanMove, ends_call}
 
 pub newest : (h : List Entry) (e : Entry) → reverse (h ++ e ∷ []) ≡ e ∷ reverse h
@@ -160,3 +164,31 @@ module _ (def : LineDef) (h : List Entry) (s : StateSeen) (scripts after : List 
         at = λ r. subst (λ (x : List Entry). IsAt def x r (place_of after r) (within_of after r)) (sym (newest h e)) (at_after a due (due_is_own def h a e due) m r);
         room = omega (arith, long, below);
       }
+
+-- ---- what the state's functions ask for
+
+pub line_is_of : (def : LineDef) (h : List Entry) (s : StateSeen) (scripts : List (DriverNo × RowSeen)) → IsLine def h s scripts → IsOf def s
+line_is_of def h s scripts is = subst (λ (x : StateSeen). IsOf def x) (sym is.state) (is_of def (reverse h) is.valid is.legal)
+
+pub line_aim_of : (def : LineDef) (h : List Entry) (s : StateSeen) (scripts : List (DriverNo × RowSeen)) → IsLine def h s scripts → IsAimOf def s.aim
+line_aim_of def h s scripts is = record { cpus = ap (λ (x : StateSeen). x.aim.cpus) is.state; later = ap (λ (x : StateSeen). x.aim.later) is.state }
+
+pub line_expects : (def : LineDef) (h : List Entry) (s : StateSeen) (scripts : List (DriverNo × RowSeen)) (a : Actor) (e : Entry) → IsLine def h s scripts → next def h a ≡ Some e → IsExpected def e s
+line_expects def h s scripts a e is due =
+    let long : length (reverse h) ≡ length h = length-reverse h in
+    subst (λ (x : StateSeen). IsExpected def e x) (sym is.state)
+    (expected def (reverse h) is.valid is.legal (omega (arith, long, is.room)) e (due_past def h s scripts scripts e is a due))
+
+-- ---- a new line
+
+pub line_starts : (def : LineDef) (s : StateSeen) (scripts : List (DriverNo × RowSeen)) → IsValid def → s ≡ first_state def
+    → ((r : DriverNo) → calls_of scripts r ≡ calls_by r def.calls) → ((r : DriverNo) → place_of scripts r ≡ 0) → ((r : DriverNo) → within_of scripts r ≡ 0)
+    → IsLine def [] s scripts
+line_starts def s scripts valid is calls places withins = record {
+  valid = valid;
+  legal = tt;
+  state = is ∙ sym (state_first def);
+  calls = calls;
+  at = λ r. subst (λ (n : ℕ). IsAt def [] r (place_of scripts r) n) (sym (withins r)) (subst (λ (n : ℕ). IsAt def [] r n 0) (sym (places r)) (laid_start (calls_by r def.calls)));
+  room = omega arith;
+}

@@ -1,9 +1,7 @@
 -- The run that a due entry ends is told by the state.
-use Rattle.std.proofs.Common.{◌≡◌, ℕ, Bool, true, false, ◌||◌, Option, Some, None, List, reverse, refl, sym, ap, ◌∙◌}
+use Rattle.std.proofs.Common.{◌≡◌, ℕ, true, Some, List, refl, sym, ap, ◌∙◌}
 use Rattle.std.specs.List.{list_any}
-use Rattle.irq_base.specs.declared.devices.DeviceDef.{DeviceDef}
 use Rattle.irq_base.specs.declared.devices.Kind.{Kind}
-use Rattle.irq_base.specs.declared.devices.Part.{Part}
 use Rattle.irq_base.specs.declared.devices.Part.TheVariants as parts
 use Rattle.irq_base.specs.declared.entries.Entry.{Entry}
 use Rattle.irq_base.specs.declared.entries.Entry.TheVariants as entries
@@ -18,8 +16,6 @@ use Rattle.irq_model.specs.Lines.{is_device}
 use Rattle.irq_model.specs.Valid.{IsValid}
 use Rattle.device_table.proofs.Tables.{at_device}
 use Rattle.device_table.specs.Rows.{at}
-use Rattle.ask_counts.specs.declared.rows.AskRow.{AskRow}
-use Rattle.callbacks.specs.Seen.{Run}
 use Rattle.irq_line.specs.Runs.{run_ended}
 use Rattle.line_marks.proofs.KindsFixed.{kind_is}
 use Rattle.line_marks.specs.Asks.{asks_of, ask_row}

@@ -1,5 +1,5 @@
 -- The run that an entry ends, told by the state.
-use Rattle.std.specs.Prelude.{◌≡◌, ℕ, Option, Some, None}
+use Rattle.std.specs.Prelude.{Option, Some, None}
 use Rattle.irq_base.specs.declared.devices.DeviceDef.{DeviceDef}
 use Rattle.irq_base.specs.declared.devices.Part.TheVariants as parts
 use Rattle.irq_base.specs.declared.entries.Entry.{Entry}

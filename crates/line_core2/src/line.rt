@@ -1,0 +1,210 @@
+//! The line.
+ghost use Rattle.std.specs.Prelude.{◌≡◌, ◌+◌, ◌<◌, ◌≤◌, [], ◌∷◌, ◌++◌, length, IfOk, IsOk, OnOk, OnErr, IsTrue, Some, false, reverse};
+ghost use Rattle.irq_base.specs.Cell.{fresh_cell};
+ghost use Rattle.irq_model.specs.Kinds.{is_linked_request};
+ghost use Rattle.irq_model.specs.Lines.{serves};
+ghost use Rattle.irq_model.specs.Next.{next};
+ghost use Rattle.irq_model.specs.Signal.{target};
+ghost use Rattle.irq_model.specs.Up.{is_up};
+ghost use Rattle.irq_model.specs.Valid.{IsValid};
+ghost use Rattle.irq_laws.specs.Driven.{cell_after};
+ghost use Rattle.line_core2.specs.Blocking.{freed_in, blocks_by};
+
+use crate::due::due_by;
+use crate::moving::advance;
+use crate::room::make_room;
+use crate::running::unanswered;
+use callbacks::Said;
+use irq_base::{Actor, Chip, CpuNo, DevNo, DriverNo, Entry, History, LineDef, NoMemory};
+use irq_line::{Blocks, IrqLine, StepRefused, Stepped};
+use line_scripts::Scripts;
+use line_state::LineState;
+use std::alloc::Global;
+use std::marker::Model;
+
+/// A definition, a history, and what that comes to: the state of the line and the places of its drivers.
+#[derive(Drop)]
+pub struct Line<C: Chip> {
+    def: LineDef,
+    history: History,
+    state: LineState<C>,
+    scripts: Scripts,
+}
+
+impl<C: Chip> Model for Line<C> {
+    ghost use Rattle.irq_line.specs.Seen.{LineSeen};
+    ghost use Rattle.line_marks.specs.Line.{IsLine};
+
+    ghost Value = { LineSeen };
+
+    ghost view = { λ l. record { def = l.def; entries = l.history.entries; spare = l.history.spare } };
+
+    ghost invariant = { λ l. IsLine l.def l.history.entries l.state.state l.scripts };
+}
+
+impl<C: Chip + Drop> Line<C> {
+    /// The line of that definition over these chips, to which nothing has happened. The chips are those that the
+    /// definition describes, masked and not active; they are aimed at the line's target. Refused only for want of
+    /// memory.
+    #[tactic(auto, using(crate::proofs::More::line_starts))]
+    pub fn new(alloc: Global, def: &LineDef, chip: C) -> Result<Line<C>, NoMemory>
+        requires valid { IsValid def.now }
+        requires cell { C.cell chip ≡ fresh_cell def.now.trigger def.now.keeps def.now.recalls def.now.retriggers (serves def.now) }
+        requires inactive { C.active chip ≡ false }
+        ensures def { IfOk result (λ line. line.def ≡ def.now) }
+        ensures empty { IfOk result (λ line. line.entries ≡ []) }
+    {
+        let state = LineState::new(alloc, def, chip)?;
+        let scripts = Scripts::new(alloc, &def.calls)?;
+        let history = History::with_room(alloc, 0)?;
+        let def = def.try_clone(alloc)?;
+        Ok(Line {
+            def,
+            history,
+            state,
+            scripts,
+        })
+    }
+}
+
+impl<C: Chip> Line<C> {
+    /// The chips. Their cell is the one that the entries drive, they are active exactly while the line is up, and they
+    /// are aimed at the line's target.
+    pub fn chip(&self) -> &C
+        ensures cell { C.cell result.now ≡ cell_after self.now.def (reverse self.now.entries) }
+        ensures active { C.active result.now ≡ is_up (reverse self.now.entries) }
+        ensures aimed { target self.now.def (reverse self.now.entries) ≡ Some (record { 0 = C.aimed result.now }) }
+    {
+        self.state.chip()
+    }
+
+    /// The entry that is due of the actor, if there is one.
+    fn due(&self, actor: Actor) -> Option<Entry>
+        ensures { result ≡ next self.now.def self.now.entries actor }
+    {
+        due_by(&self.def, &self.state, &self.scripts, actor)
+    }
+
+    /// Adds the entry, which is due of the actor, and brings the state up to it. Where no action is linked and the
+    /// history has room, no memory is wanted.
+    fn add(&mut self, actor: Actor, entry: Entry) -> Result<(), NoMemory>
+        requires due { next self.old.def self.old.entries actor ≡ Some entry }
+        requires below { length self.old.entries < self.old.def.log }
+        ensures def { self.new.def ≡ self.old.def }
+        ensures entries { OnOk result (self.new.entries ≡ self.old.entries ++ entry ∷ []) }
+        ensures spare { OnOk result (self.old.spare ≤ self.new.spare + 1) }
+        ensures refused { OnErr result (self.new ≡ self.old) }
+        ensures needless { is_linked_request entry ≡ false → 1 ≤ self.old.spare → IsOk result }
+    {
+        make_room(&mut self.state, &mut self.history, &entry)?;
+        self.state.apply(&self.def, entry);
+        advance(&mut self.scripts, actor, &entry);
+        self.history.push(entry);
+        Ok(())
+    }
+}
+
+/// Whether it is that processor.
+fn is_that(taker: Option<CpuNo>, cpu: CpuNo) -> bool
+    ensures sound { IsTrue result → taker ≡ Some cpu }
+    ensures complete { taker ≡ Some cpu → IsTrue result }
+{
+    match taker {
+        Some(taker) => taker == cpu,
+        None => false,
+    }
+}
+
+/// Whether the thread of the device that is being freed isn't at rest.
+fn freed_at_work<C: Chip>(state: &LineState<C>) -> bool
+    ensures { result ≡ freed_in state.now.state.threads state.now.state.freeing }
+{
+    match state.freeing() {
+        Some((_, dev)) => !state.is_at_rest(dev),
+        None => false,
+    }
+}
+
+/// What drivers' calls wait for, as the state tells it.
+fn blocks_by<C: Chip>(state: &LineState<C>) -> Blocks
+    ensures { result ≡ blocks_by state.now.state }
+{
+    Blocks {
+        flow: state.in_flow().is_some(),
+        threads: state.active_threads() > 0,
+        mutex: state.freeing().is_some(),
+        freed: freed_at_work(state),
+    }
+}
+
+impl<C: Chip + Drop> IrqLine for Line<C> {
+    ghost seen = { λ l. l };
+
+    fn step(&mut self, actor: Actor, said: Option<Said>) -> Result<Stepped, StepRefused> {
+        let Some(entry) = self.due(actor) else {
+            return Ok(Stepped::NotYet);
+        };
+        let len = self.history.len();
+        if len >= self.def.log as usize {
+            return Err(StepRefused::Full { len: len as u32 });
+        }
+        if let Some(run) = unanswered(&self.def, &self.state, &entry, &said) {
+            return Ok(Stepped::Run {
+                def: run.def,
+                part: run.part,
+                unserved: run.unserved,
+            });
+        }
+        self.add(actor, entry)?;
+        Ok(Stepped::Added(entry))
+    }
+
+    fn reserve(&mut self) -> Result<(), NoMemory> {
+        if self.history.spare() == 0 {
+            self.history.reserve(1)?;
+        }
+        Ok(())
+    }
+
+    fn spare(&self) -> usize {
+        self.history.spare()
+    }
+
+    fn definition(&self) -> &LineDef {
+        &self.def
+    }
+
+    fn history(&self) -> &History {
+        &self.history
+    }
+
+    fn into_history(self) -> History {
+        let Line { history, .. } = self;
+        history
+    }
+
+    #[tactic(auto, using(crate::proofs::Asked::sound))]
+    fn is_sound(&self) {
+        let _history = &self.history;
+    }
+
+    fn present(&self, cpu: CpuNo) -> bool {
+        is_that(self.state.taker(), cpu)
+    }
+
+    fn in_flow(&self) -> Option<CpuNo> {
+        self.state.in_flow()
+    }
+
+    fn taker(&self) -> Option<CpuNo> {
+        self.state.taker()
+    }
+
+    fn lowest_thread(&self) -> Option<DevNo> {
+        self.state.lowest_thread()
+    }
+
+    fn blocks(&self) -> Blocks {
+        blocks_by(&self.state)
+    }
+}
