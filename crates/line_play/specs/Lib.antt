@@ -1,3 +1,4 @@
 pub mod Numbers
 pub mod ActorLists
+pub mod Turning
 pub mod Playing
