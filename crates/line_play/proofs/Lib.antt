@@ -1,2 +1,4 @@
 pub mod Puts
 pub mod Underway
+pub mod Followed
+pub mod AtRest

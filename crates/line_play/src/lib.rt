@@ -3,9 +3,12 @@
 #![tactic(auto)]
 
 pub mod actors;
+pub mod following;
 pub mod numbers;
 pub mod plays;
+mod resting;
 mod turning;
 
 pub use actors::actors_of;
-pub use plays::PlayEnd;
+pub use following::scripts_of;
+pub use plays::{PlayEnd, play};

@@ -3,11 +3,14 @@ ghost use Rattle.std.specs.Prelude.{◌≡◌, [], length, List, IfOk, IfErr, On
 ghost use Rattle.irq_base.specs.declared.entries.Actor.{Actor};
 ghost use Rattle.play_laws.specs.Actors.{actors_of};
 ghost use Rattle.play_laws.specs.Play.{Done, Plays};
+ghost use Rattle.line_play.specs.Following.{IsFollowing};
 ghost use Rattle.line_play.specs.Playing.{Moves, Refuses, IsUnderway, IsRefused, IsPlay};
 
+use crate::resting::end_without_memory;
 use crate::turning::turn;
 use irq_base::{Actor, Entry};
 use irq_line::{IrqLine, StepRefused};
+use line_scripts::Scripts;
 
 /// How a play ended.
 #[derive(Clone, Copy, PartialEq, Eq)]
@@ -16,8 +19,36 @@ pub enum PlayEnd {
     Done,
     /// A further entry is due, and the history has the greatest length. `len`: that many entries.
     Full { len: u32 },
-    /// Memory was wanted and refused.
+    /// A further entry is due, there is a place for it, and memory was refused.
     NoMemory,
+}
+
+/// Plays the line from its beginning to its end: the picks in turn, where one that can't move is passed over, and
+/// then always the lowest actor that can move. `actors` are all of the line's, the lowest first; `scripts` its drivers'
+/// calls, of which none has begun.
+///
+/// A line may want memory where nothing is due. So where memory was refused, the line's queries and the drivers' calls
+/// tell whether a next move is there: without one the play is done, or full.
+#[tactic(auto, using(crate::proofs::AtRest::ends_so))]
+pub fn play<L: IrqLine>(
+    line: &mut L,
+    picks: &[Actor],
+    actors: &[Actor],
+    scripts: Scripts,
+) -> PlayEnd
+    requires fresh { (L.seen line.old).entries ≡ [] }
+    requires all { actors.now ≡ actors_of (L.seen line.old).def }
+    requires unbegun { IsFollowing (L.seen line.old).def [] scripts }
+    ensures def { (L.seen line.new).def ≡ (L.seen line.old).def }
+    ensures play { IsPlay (L.seen line.new) picks.now result }
+{
+    let played = play_all(line, picks, actors);
+    line.is_sound();
+    match played {
+        Ok(()) => PlayEnd::Done,
+        Err(StepRefused::Full { len }) => PlayEnd::Full { len },
+        Err(StepRefused::NoMemory) => end_without_memory(line, actors, scripts),
+    }
 }
 
 /// The picks, then the lowest actors.
