@@ -4,3 +4,4 @@ pub mod Lowest
 pub mod Queries
 pub mod Blocked
 pub mod Asked
+pub mod Stepping

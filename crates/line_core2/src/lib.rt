@@ -15,3 +15,6 @@ mod running;
 
 pub use line::Line;
 pub use making::MakesCellLine;
+
+#[cfg(test)]
+mod tests;

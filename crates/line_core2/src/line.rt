@@ -8,6 +8,8 @@ ghost use Rattle.irq_model.specs.Signal.{target};
 ghost use Rattle.irq_model.specs.Up.{is_up};
 ghost use Rattle.irq_model.specs.Valid.{IsValid};
 ghost use Rattle.irq_laws.specs.Driven.{cell_after};
+ghost use Rattle.irq_line.specs.Answers.{Answers};
+ghost use Rattle.line_core2.specs.Room.{WantsMemory};
 ghost use Rattle.line_core2.specs.Blocking.{freed_in, blocks_by};
 
 use crate::due::due_by;
@@ -140,7 +142,11 @@ fn blocks_by<C: Chip>(state: &LineState<C>) -> Blocks
 impl<C: Chip + Drop> IrqLine for Line<C> {
     ghost seen = { λ l. l };
 
-    fn step(&mut self, actor: Actor, said: Option<Said>) -> Result<Stepped, StepRefused> {
+    fn step(&mut self, actor: Actor, said: Option<Said>) -> Result<Stepped, StepRefused>
+        ensures def { self.new.def ≡ self.old.def }
+        ensures answer { Answers self.old actor said result self.new }
+        ensures memory { WantsMemory self.old actor result }
+    {
         let Some(entry) = self.due(actor) else {
             return Ok(Stepped::NotYet);
         };

@@ -44,6 +44,7 @@ list_of def past = record {
   rounds = count_of (begins_round def) past;
 }
 
+-- a linked request adds its action, an unlink takes one out, a begin marks its device, and a round begins with none
 abbrev pub list_after : LineDef → Entry → ListSeen → ListSeen
 list_after def (entries.Request driver dev flags answer opened) l = after_link answer dev flags l
 list_after def (entries.Unlink driver dev (unlinks.Unlinked last)) l = after_unlink dev l

@@ -16,9 +16,11 @@ waiting_of (entries.Affinity driver mask moves.Now ∷ past) = None
 waiting_of (entries.Take cpu way answer ∷ past) = None
 waiting_of (_ ∷ past) = waiting_of past
 
+-- the mask in force, and one that waits
 abbrev pub aim_of : LineDef → List Entry → AimSeen
 aim_of def past = record { cpus = def.cpus; later = def.later; mask = mask_in_force def past; waiting = waiting_of past }
 
+-- a change is put in force or waits; a take puts what waits in force (`irq_move_masked_irq`, `kernel/irq/migration.c`)
 abbrev pub aim_after : Entry → AimSeen → AimSeen
 aim_after (entries.Affinity driver mask answer) a = after_set answer mask a
 aim_after (entries.Take cpu way answer) a = after_move a

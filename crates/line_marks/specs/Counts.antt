@@ -8,6 +8,7 @@ use Rattle.irq_model.specs.Spurious.{counts_of}
 use Rattle.spurious.specs.Seen.{CountsSeen, after_note, after_thread, after_reset}
 use Rattle.line_marks.specs.Rounds.{RoundSeen}
 
+-- the numbers of the rule, with the window and the limit of the line
 abbrev pub tally_of : LineDef → List Entry → CountsSeen
 tally_of def past = record { window = def.window; limit = def.limit; counts = counts_of def past }
 

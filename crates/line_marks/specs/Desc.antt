@@ -42,6 +42,7 @@ depth_after first e n =
     if is_last_unlink e || (is_linked_request e && first) then (if is_start e then 0 else 1)
     else (if is_deepening e then n + 1 else (if is_lowering e then n - 1 else n))
 
+-- what an entry makes of the descriptor; `first`: nothing was linked before it
 abbrev pub desc_after : LineDef → Bool → Entry → DescSeen → DescSeen
 desc_after def first e d = record {
   unlazy = d.unlazy;

@@ -7,6 +7,7 @@ use Rattle.irq_base.specs.declared.numbers.DevNo.{DevNo}
 use Rattle.irq_model.specs.Lines.{kind_of}
 use Rattle.device_table.specs.Rows.{at, table_by}
 
+-- each device of the line with its kind
 abbrev pub kinds_of : LineDef → List (DevNo × Kind)
 kinds_of def = table_by (kind_of def) def.devices
 

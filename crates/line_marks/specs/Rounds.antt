@@ -17,6 +17,7 @@ pub record RoundSeen : Type 0 where
   -- the greatest moment handed in
   pub moment : ℕ
 
+-- each part by its definition
 abbrev pub round_of : LineDef → List Entry → RoundSeen
 round_of def past = record {
   working = at_work past;
@@ -25,10 +26,12 @@ round_of def past = record {
   moment = now past;
 }
 
+-- a moment moves on, never back
 abbrev pub now_after : Entry → ℕ → ℕ
 now_after (entries.Moment driver at) n = max at n
 now_after _ n = n
 
+-- an entry that begins a round clears what its handlers did
 abbrev pub round_after : LineDef → Entry → RoundSeen → RoundSeen
 round_after def e r = record {
   working = if is_begin_or_return e then dev_of_begin (Some e) else r.working;

@@ -14,5 +14,6 @@ IsAt def past r place within = Laid (calls_by r def.calls) (entries_by r past) p
 abbrev pub place_after : Bool → ℕ → ℕ
 place_after ends place = if ends then suc place else place
 
+-- how many entries of the next call are there then
 abbrev pub within_after : Bool → ℕ → ℕ
 within_after ends within = if ends then 0 else within + 1

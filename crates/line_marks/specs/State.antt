@@ -54,6 +54,7 @@ pub record StateSeen : Type 0 where
   -- who frees what; the request mutex is held while somebody does
   pub freeing : Option (DriverNo × DevNo)
 
+-- each part, read off the past
 abbrev pub state_of : LineDef → List Entry → StateSeen
 state_of def past = record {
   desc = desc_of def past;
@@ -107,6 +108,7 @@ driven_by def (entries.Enable driver answer) d high c =
     retriggered_if (is_chip_start (entries.Enable driver answer)) (unmasked_if (is_start (entries.Enable driver answer)) c)
 driven_by def _ d high c = c
 
+-- what an entry makes of each part
 abbrev pub state_after : LineDef → Entry → StateSeen → StateSeen
 state_after def e s = record {
   desc = desc_after def (is_bare s.list.actions) e s.desc;

@@ -1,2 +1,7 @@
+pub mod EndIs
 pub mod KindRows
 pub mod Targets
+pub mod Unlinking
+pub mod Expecting
+pub mod Keeping
+pub mod TestLines

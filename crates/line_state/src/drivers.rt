@@ -34,6 +34,7 @@ impl<C: Chip> LineState<C> {
     }
 
     /// The first step of `__free_irq`: the device leaves, and the last one shuts the line down.
+    #[tactic(auto, using(crate::proofs::Unlinking::left_alone))]
     pub(crate) fn unlink(&mut self, driver: DriverNo, dev: DevNo)
         ensures { (def : LineDef) → self.new.state ≡ state_after def (entries.Unlink driver dev (unlink_by dev self.old.state.list.actions)) self.old.state }
     {

@@ -20,3 +20,6 @@ pub mod state;
 pub mod thread_due;
 
 pub use state::LineState;
+
+#[cfg(test)]
+mod tests;
