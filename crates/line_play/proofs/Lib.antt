@@ -2,3 +2,4 @@ pub mod Puts
 pub mod Underway
 pub mod Followed
 pub mod AtRest
+pub mod Turns

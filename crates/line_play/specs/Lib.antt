@@ -4,3 +4,4 @@ pub mod Turning
 pub mod Playing
 pub mod Following
 pub mod Resting
+pub mod Tests

@@ -24,9 +24,10 @@ pub(crate) fn follow_all(scripts: &mut Scripts, def: &LineDef, history: &History
     ensures { IsFollowing def.now (reverse history.now.entries) scripts.new }
 {
     for i in 0..history.len() {
-        if let Some(entry) = history.get(i) {
-            follow(scripts, def.line, &entry);
-        }
+        let Some(entry) = history.get(i) else {
+            unreachable!();
+        };
+        follow(scripts, def.line, &entry);
     }
 }
 

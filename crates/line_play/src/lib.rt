@@ -12,3 +12,6 @@ mod turning;
 pub use actors::actors_of;
 pub use following::scripts_of;
 pub use plays::{PlayEnd, play};
+
+#[cfg(test)]
+mod tests;
