@@ -1,177 +1,194 @@
--- One more entry keeps what holds of a line.
-use Rattle.std.proofs.Common.{◌≡◌, ℕ, ◌+◌, ◌<◌, ◌≤◌, Bool, true, List, [], ◌∷◌, ◌++◌, length, Some, reverse, refl, sym, ap, subst, ◌∙◌, arith, length-append}
-use Rattle.std.proofs.lemmas.List.{reverse-append}
-use Rattle.std.proofs.lemmas.Bool.Decides.{nat_tests}
+-- One more due entry keeps what holds of a line.
+use Rattle.std.proofs.Common.{◌≡◌, ℕ, ◌+◌, ◌<◌, ◌≤◌, Bool, true, false, cond, is_some, Option, Some, None, List, [], ◌∷◌, ◌++◌, length, slice_get, reverse, refl, sym, ap, subst, ◌∙◌, arith}
+use Rattle.std.proofs.lemmas.List.{length-append, length-reverse, reverse-append}
+use Rattle.std.proofs.lemmas.Option.{none-some}
 use Rattle.irq_base.specs.Who.{actor_of}
 use Rattle.irq_base.specs.declared.calls.Call.{Call}
 use Rattle.irq_base.specs.declared.calls.Call.TheVariants as calls
 use Rattle.irq_base.specs.declared.entries.Actor.{Actor}
+use Rattle.irq_base.specs.declared.entries.Actor.TheVariants as actors
 use Rattle.irq_base.specs.declared.entries.Entry.{Entry}
 use Rattle.irq_base.specs.declared.entries.Entry.TheVariants as entries
-use Rattle.irq_base.specs.declared.entries.TakeAnswer.TheVariants as takes
-use Rattle.irq_base.specs.declared.entries.UnlinkAnswer.TheVariants as unlinks
 use Rattle.irq_base.specs.declared.lines.LineDef.{LineDef}
-use Rattle.irq_base.specs.declared.numbers.DevNo.{DevNo}
 use Rattle.irq_base.specs.declared.numbers.DriverNo.{DriverNo}
-use Rattle.irq_model.specs.Bounds.{ask_calls}
-use Rattle.irq_model.specs.Due.{calls_by}
-use Rattle.irq_model.specs.Legal.{IsLegalPast}
-use Rattle.irq_model.specs.Next.{next, next_past}
-use Rattle.irq_steps.proofs.DueSteps.{laid_start}
-use Rattle.irq_steps.specs.Laid.{Laid}
-use Rattle.line_core.proofs.Calls.{suits_due}
-use Rattle.line_core.proofs.Keeping.{driven_more}
-use Rattle.line_core.proofs.Past.{past_more}
-use Rattle.line_core.specs.Built.{Built, HasDirect, device_of}
-use Rattle.line_core.specs.Agreed.{Agreed}
-use Rattle.line_core.specs.Counts.{counts_after}
-use Rattle.line_core.specs.Due.{Comes, IsExpected}
-use Rattle.line_core.specs.Line.{IsSane, AreBounded, IsConsistent, IsDriven, IsPast, IsLine}
-use Rattle.line_core.specs.Marks.{marks_after, first_marks}
-use Rattle.line_core.specs.Script.{ScriptsAfter, progress_of}
-use Rattle.line_core.specs.declared.counts.Counts.{Counts}
-use Rattle.line_core.specs.declared.marks.Marks.{Marks}
-use Rattle.line_scripts.specs.Rows.{calls_of, place_of, within_of, asks_left}
-use Rattle.line_scripts.specs.declared.scripts.Scripts.{Scripts}
+use Rattle.irq_base.specs.declared.numbers.LineNo.{LineNo}
+use Rattle.irq_laws.proofs.OwnLaws.{due_is_own}
+use Rattle.irq_model.specs.Due.{calls_by, entries_by, due_call, entries_of_call, begins_not_there}
+use Rattle.irq_model.specs.Kinds.{same_driver, is_driver, is_by_driver}
+use Rattle.irq_model.specs.Legal.{IsDue, IsLegalPast}
+use Rattle.irq_model.specs.Next.{next, next_past, next_of_call}
+use Rattle.irq_steps.proofs.DueSteps.{laid_start, laid_within, part_at}
+use Rattle.irq_steps.specs.Laid.{with_count}
+use Rattle.irq_steps.proofs.Same.{same_self_driver, driver_from_same}
+use Rattle.line_scripts.specs.Endings.{completes}
+use Rattle.line_scripts.specs.Rows.{RowSeen, calls_of, call_of, place_of, within_of}
+use Rattle.line_marks.proofs.DueIs.{call_is}
+use Rattle.line_marks.proofs.ScriptsFollow.{own_place, other_place}
+use Rattle.line_marks.proofs.CellFollows.{is_of}
+use Rattle.line_marks.proofs.ExpectedOf.{expected}
+use Rattle.line_marks.proofs.StateFollows.{state_follows, state_first}
+use Rattle.line_marks.specs.Expected.{IsExpected}
+use Rattle.line_state.specs.Seen.{IsAimOf}
+use Rattle.irq_model.specs.Valid.{IsValid}
+use Rattle.line_marks.specs.Line.{IsLine}
+use Rattle.line_marks.specs.Next.{due_call_in}
+use Rattle.line_marks.specs.Scripts.{IsAt, place_after, within_after}
+use Rattle.line_marks.specs.State.{StateSeen, IsOf, first_state, state_of, state_after}
+use Rattle.line_core.specs.Moves.{IsMoved, Moves, CanMove, ends_call}
 
-pub unhandled_more : (window : ℕ) (handled : Bool) (c : Counts) → c.irqs_unhandled ≤ c.irq_count
-    → (counts_after window handled c).irqs_unhandled ≤ (counts_after window handled c).irq_count
-unhandled_more window handled c h = grind (arith, nat_tests)
-
-pub sane_more : (def : LineDef) (m : Marks) (s : Scripts) (e : Entry) → IsSane m → Comes def e → IsExpected def m s e → IsSane (marks_after def.window e m)
-sane_more def m s (entries.Ask driver dev) h comes expected = record { disabled = h.disabled; linked = h.linked; sent = grind arith; pending = h.pending; flow = h.flow; unhandled = h.unhandled }
-sane_more def m s (entries.Request driver dev flags answer opened) h comes expected = record { disabled = refl; linked = refl; sent = λ is. refl; pending = refl; flow = h.flow; unhandled = omega arith }
-sane_more def m s (entries.Take cpu way takes.Handle) h comes expected = record { disabled = h.disabled; linked = h.linked; sent = λ is. cc; pending = refl; flow = comes.0; unhandled = h.unhandled }
-sane_more def m s (entries.Take cpu way takes.Busy) h comes expected = cc
-sane_more def m s (entries.Take cpu way takes.Off) h comes expected = cc
-sane_more def m s (entries.Begin cpu dev) h comes expected = record { disabled = h.disabled; linked = h.linked; sent = h.sent; pending = h.pending; flow = h.flow; unhandled = h.unhandled }
-sane_more def m s (entries.Return cpu dev answer served) h comes expected = record { disabled = h.disabled; linked = h.linked; sent = h.sent; pending = h.pending; flow = h.flow; unhandled = h.unhandled }
-sane_more def m s (entries.End cpu again unmask note) h comes expected =
-    record { disabled = h.disabled; linked = h.linked; sent = h.sent; pending = h.pending; flow = tt; unhandled = unhandled_more def.window m.handled m.counts h.unhandled }
-sane_more def m s (entries.Unlink driver dev (unlinks.Unlinked last)) h comes expected = record { disabled = refl; linked = refl; sent = λ is. cc; pending = h.pending; flow = h.flow; unhandled = h.unhandled }
-sane_more def m s (entries.Unlink driver dev unlinks.NotThere) h comes expected = h
-sane_more def m s (entries.HardClear driver) h comes expected = h
-sane_more def m s (entries.Freed driver dev) h comes expected = record { disabled = h.disabled; linked = h.linked; sent = h.sent; pending = h.pending; flow = h.flow; unhandled = h.unhandled }
-sane_more def m s _ h comes expected = absurd comes
-
--- what is linked is the device: it was requested
-pub linked_more : (def : LineDef) (m : Marks) (s : Scripts) (e : Entry) → Built def → IsDriven def m s → (m.linked ≡ true → HasDirect def) → Comes def e → IsExpected def m s e → (marks_after def.window e m).linked ≡ true → HasDirect def
-linked_more def m s (entries.Ask driver dev) b d h comes expected = h
-linked_more def m s (entries.Request driver dev flags answer opened) b d h comes expected = λ on. let is = suits_due def m s driver (calls.Request dev flags) b d expected.0 in is.3
-linked_more def m s (entries.Take cpu way takes.Handle) b d h comes expected = h
-linked_more def m s (entries.Take cpu way takes.Busy) b d h comes expected = h
-linked_more def m s (entries.Take cpu way takes.Off) b d h comes expected = h
-linked_more def m s (entries.Begin cpu dev) b d h comes expected = h
-linked_more def m s (entries.Return cpu dev answer served) b d h comes expected = h
-linked_more def m s (entries.End cpu again unmask note) b d h comes expected = h
-linked_more def m s (entries.Unlink driver dev (unlinks.Unlinked last)) b d h comes expected = λ on. cc
-linked_more def m s (entries.Unlink driver dev unlinks.NotThere) b d h comes expected = h
-linked_more def m s (entries.HardClear driver) b d h comes expected = h
-linked_more def m s (entries.Freed driver dev) b d h comes expected = h
-linked_more def m s _ b d h comes expected = absurd comes
-
--- and so is what is at work: it was linked
-pub running_more : (def : LineDef) (m : Marks) (s : Scripts) (e : Entry) → (m.linked ≡ true → HasDirect def) → (m.running ≡ true → HasDirect def) → Comes def e → IsExpected def m s e → (marks_after def.window e m).running ≡ true → HasDirect def
-running_more def m s (entries.Ask driver dev) l h comes expected = h
-running_more def m s (entries.Request driver dev flags answer opened) l h comes expected = h
-running_more def m s (entries.Take cpu way takes.Handle) l h comes expected = h
-running_more def m s (entries.Take cpu way takes.Busy) l h comes expected = h
-running_more def m s (entries.Take cpu way takes.Off) l h comes expected = h
-running_more def m s (entries.Begin cpu dev) l h comes expected = λ on. l expected
-running_more def m s (entries.Return cpu dev answer served) l h comes expected = λ on. cc
-running_more def m s (entries.End cpu again unmask note) l h comes expected = h
-running_more def m s (entries.Unlink driver dev (unlinks.Unlinked last)) l h comes expected = h
-running_more def m s (entries.Unlink driver dev unlinks.NotThere) l h comes expected = h
-running_more def m s (entries.HardClear driver) l h comes expected = h
-running_more def m s (entries.Freed driver dev) l h comes expected = h
-running_more def m s _ l h comes expected = absurd comes
-
-pub bounded_more : (n window : ℕ) (m : Marks) (e : Entry) → AreBounded n m → AreBounded (n + 1) (marks_after window e m)
-bounded_more n window m (entries.Ask driver dev) h = record { unserved = omega (arith, h.unserved); fresh = omega (arith, h.fresh) }
-bounded_more n window m (entries.Request driver dev flags answer opened) h = record { unserved = omega (arith, h.unserved); fresh = omega (arith, h.fresh) }
-bounded_more n window m (entries.Take cpu way takes.Handle) h = record { unserved = omega (arith, h.unserved); fresh = omega (arith, h.fresh) }
-bounded_more n window m (entries.Begin cpu dev) h = record { unserved = omega (arith, h.unserved); fresh = omega arith }
-bounded_more n window m (entries.Return cpu dev answer served) h = record { unserved = omega (arith, h.fresh); fresh = omega (arith, h.fresh) }
-bounded_more n window m (entries.End cpu again unmask note) h = record { unserved = omega (arith, h.unserved); fresh = omega (arith, h.fresh) }
-bounded_more n window m (entries.Unlink driver dev (unlinks.Unlinked last)) h = record { unserved = omega (arith, h.unserved); fresh = omega (arith, h.fresh) }
-bounded_more n window m (entries.Freed driver dev) h = record { unserved = omega (arith, h.unserved); fresh = omega (arith, h.fresh) }
-bounded_more n window m _ h = record { unserved = omega (arith, h.unserved); fresh = omega (arith, h.fresh) }
-
--- read from the newest end, an entry at the end is the head
 pub newest : (h : List Entry) (e : Entry) → reverse (h ++ e ∷ []) ≡ e ∷ reverse h
 newest h e = reverse-append h (e ∷ [])
 
-consistent_more : (def : LineDef) (dev : DevNo) (m : Marks) (s t : Scripts) (e : Entry) → IsConsistent def dev m → IsDriven def m s → IsDriven def (marks_after def.window e m) t → Comes def e → IsExpected def m s e
-    → IsConsistent def dev (marks_after def.window e m)
-consistent_more def dev m s t e c old new comes expected = record {
-  built = c.built;
-  device = c.device;
-  sane = sane_more def m s e c.sane comes expected;
-  few_rounds = omega (arith, new.earned, c.built.window);
-  linked = linked_more def m s e c.built old c.linked comes expected;
-  running = running_more def m s e c.linked c.running comes expected;
+-- whose entry it is, whichever line it is of
+by_line : (r : DriverNo) (line : LineNo) (e : Entry) → is_by_driver r e ≡ is_driver r (actor_of line e)
+by_line r line (entries.Ask driver dev) = refl
+by_line r line (entries.Take cpu way answer) = refl
+by_line r line (entries.Begin cpu dev) = refl
+by_line r line (entries.Return cpu dev answer served) = refl
+by_line r line (entries.End cpu again unmask note) = refl
+by_line r line (entries.ThreadBegin dev) = refl
+by_line r line (entries.ThreadReturn dev served) = refl
+by_line r line (entries.Finish dev kept unmask) = refl
+by_line r line (entries.Done dev) = refl
+by_line r line (entries.Disable driver) = refl
+by_line r line (entries.HardClear driver) = refl
+by_line r line (entries.Synced driver) = refl
+by_line r line (entries.Enable driver answer) = refl
+by_line r line (entries.Request driver dev flags answer opened) = refl
+by_line r line (entries.Unlink driver dev answer) = refl
+by_line r line (entries.Freed driver dev) = refl
+by_line r line (entries.Affinity driver mask answer) = refl
+by_line r line (entries.Moment driver at) = refl
+
+module _ (def : LineDef) (h : List Entry) (s : StateSeen) (scripts after : List (DriverNo × RowSeen)) (e : Entry) (is : IsLine def h s scripts) where
+  abbrev past : List Entry
+  past = reverse h
+
+  abbrev IsAtAfter : DriverNo → Type 0
+  IsAtAfter r = IsAt def (e ∷ reverse h) r (place_of after r) (within_of after r)
+
+  by_whom : (a : Actor) → actor_of def.line e ≡ a → (r : DriverNo) → is_by_driver r e ≡ is_driver r a
+  by_whom a who r = by_line r def.line e ∙ ap (is_driver r) who
+
+  -- a driver whose place doesn't move
+  stays : (r : DriverNo) → is_by_driver r e ≡ false → place_of after r ≡ place_of scripts r → within_of after r ≡ within_of scripts r → IsAtAfter r
+  stays r other p k =
+      subst (λ (n : ℕ). IsAt def (e ∷ reverse h) r (place_of after r) n) (sym k)
+      (subst (λ (n : ℕ). IsAt def (e ∷ reverse h) r n (within_of scripts r)) (sym p) (other_place def (reverse h) e r (place_of scripts r) (within_of scripts r) other (is.at r)))
+
+  -- the call of the driver whose entry is due
+  record HasCall (w : DriverNo) : Type 0 where
+    call : Call
+    count : ℕ
+    due : due_call def w (reverse h) ≡ Some (call, count)
+    here : call_of scripts w ≡ Some call
+
+  has_call : (w : DriverNo) → next def h (actors.Driver w) ≡ Some e → HasCall w
+  has_call w due = by_call (call_of scripts w) refl
+    where
+      told : due_call def w (reverse h) ≡ due_call_in scripts w
+      told = call_is def (reverse h) scripts is.calls is.at w
+
+      by_call : (o : Option Call) → call_of scripts w ≡ o → HasCall w
+      by_call None none = absurd (none-some e (sym (ap (next_of_call def w (reverse h)) (told ∙ ap (λ (x : Option Call). with_count x (within_of scripts w)) none)) ∙ due))
+      by_call (Some c) there = record { call = c; count = within_of scripts w; due = told ∙ ap (λ (x : Option Call). with_count x (within_of scripts w)) there; here = there }
+
+  few_entries : (c : Call) (es : List Entry) → entries_of_call c es ≤ 3
+  few_entries (calls.Free d) es = by_found (begins_not_there es)
+    where
+      by_found : (b : Bool) → cond b 1 3 ≤ 3
+      by_found true = omega arith
+      by_found false = omega arith
+  few_entries (calls.Ask d) es = omega arith
+  few_entries (calls.Request d flags) es = omega arith
+  few_entries calls.Disable es = omega arith
+  few_entries calls.DisableNosync es = omega arith
+  few_entries calls.Enable es = omega arith
+  few_entries calls.Sync es = omega arith
+  few_entries (calls.Affinity mask) es = omega arith
+  few_entries (calls.Moment at) es = omega arith
+
+  pub can_move : (a : Actor) → next def h a ≡ Some e → CanMove a scripts
+  can_move (actors.Thread line d) due = tt
+  can_move (actors.Cpu c) due = tt
+  can_move (actors.Driver w) due =
+      let k = has_call w due in
+      let cs = calls_by w def.calls in
+      let es = entries_by w (reverse h) in
+      let there : slice_get cs (place_of scripts w) ≡ Some k.call = ap (λ (xs : List Call). slice_get xs (place_of scripts w)) (sym (is.calls w)) ∙ k.here in
+      let less = laid_within cs es (place_of scripts w) (within_of scripts w) k.call (is.at w) there in
+      let few = few_entries k.call (part_at cs es (place_of scripts w)) in
+      (ap is_some k.here, omega (arith, less, few))
+
+  moved : (w : DriverNo) → next def h (actors.Driver w) ≡ Some e → actor_of def.line e ≡ actors.Driver w → IsMoved w (ends_call (call_of scripts w) e) scripts after → (r : DriverNo) → IsAtAfter r
+  moved w due who m r = by_same (same_driver r w) refl
+    where
+      own : IsAtAfter w
+      own =
+          let k = has_call w due in
+          let ends : ends_call (call_of scripts w) e ≡ completes k.call e = ap (λ (o : Option Call). ends_call o e) k.here in
+          let at = own_place def (reverse h) e w (place_of scripts w) (within_of scripts w) k.call k.count due (by_whom (actors.Driver w) who w ∙ same_self_driver w) k.due (is.at w) in
+          subst (λ (n : ℕ). IsAt def (e ∷ reverse h) w (place_of after w) n) (sym (m.within ∙ ap (λ b. within_after b (within_of scripts w)) ends))
+          (subst (λ (n : ℕ). IsAt def (e ∷ reverse h) w n (within_after (completes k.call e) (within_of scripts w))) (sym (m.place ∙ ap (λ b. place_after b (place_of scripts w)) ends)) at)
+
+      by_same : (b : Bool) → same_driver r w ≡ b → IsAtAfter r
+      by_same true same = subst (λ (x : DriverNo). IsAtAfter x) (sym (driver_from_same r w same)) own
+      by_same false other = stays r (by_whom (actors.Driver w) who r ∙ other) (m.other_places r other) (m.other_withins r other)
+
+  unmoved : ((r : DriverNo) → is_by_driver r e ≡ false) → after ≡ scripts → (r : DriverNo) → IsAtAfter r
+  unmoved none same r = stays r (none r) (ap (λ (x : List (DriverNo × RowSeen)). place_of x r) same) (ap (λ (x : List (DriverNo × RowSeen)). within_of x r) same)
+
+  at_after : (a : Actor) → next def h a ≡ Some e → actor_of def.line e ≡ a → Moves a e scripts after → (r : DriverNo) → IsAtAfter r
+  at_after (actors.Thread line d) due who m = unmoved (by_whom (actors.Thread line d) who) m
+  at_after (actors.Cpu c) due who m = unmoved (by_whom (actors.Cpu c) who) m
+  at_after (actors.Driver w) due who m = moved w due who m
+
+  calls_after : (a : Actor) → Moves a e scripts after → (r : DriverNo) → calls_of after r ≡ calls_by r def.calls
+  calls_after (actors.Thread line d) m r = ap (λ (x : List (DriverNo × RowSeen)). calls_of x r) m ∙ is.calls r
+  calls_after (actors.Cpu c) m r = ap (λ (x : List (DriverNo × RowSeen)). calls_of x r) m ∙ is.calls r
+  calls_after (actors.Driver w) m r = m.calls r ∙ is.calls r
+
+  -- the entry is due of its actor
+  pub due_past : (a : Actor) → next def h a ≡ Some e → IsDue def e (reverse h)
+  due_past a due = ap (next_past def (reverse h)) (due_is_own def h a e due) ∙ due
+
+  pub line_more : (a : Actor) → next def h a ≡ Some e → length h < def.log → Moves a e scripts after → IsLine def (h ++ e ∷ []) (state_after def e s) after
+  line_more a due below m =
+      let legal : IsLegalPast def (e ∷ reverse h) = (due_past a due, is.legal) in
+      let long : length (h ++ e ∷ []) ≡ length h + 1 = length-append h (e ∷ []) in
+      record {
+        valid = is.valid;
+        legal = subst (λ (x : List Entry). IsLegalPast def x) (sym (newest h e)) legal;
+        state = ap (state_after def e) is.state ∙ (sym (state_follows def e (reverse h) is.valid legal) ∙ ap (state_of def) (sym (newest h e)));
+        calls = calls_after a m;
+        at = λ r. subst (λ (x : List Entry). IsAt def x r (place_of after r) (within_of after r)) (sym (newest h e)) (at_after a due (due_is_own def h a e due) m r);
+        room = omega (arith, long, below);
+      }
+
+-- ---- what the state's functions ask for
+
+pub line_is_of : (def : LineDef) (h : List Entry) (s : StateSeen) (scripts : List (DriverNo × RowSeen)) → IsLine def h s scripts → IsOf def s
+line_is_of def h s scripts is = subst (λ (x : StateSeen). IsOf def x) (sym is.state) (is_of def (reverse h) is.valid is.legal)
+
+pub line_aim_of : (def : LineDef) (h : List Entry) (s : StateSeen) (scripts : List (DriverNo × RowSeen)) → IsLine def h s scripts → IsAimOf def s.aim
+line_aim_of def h s scripts is = record { cpus = ap (λ (x : StateSeen). x.aim.cpus) is.state; later = ap (λ (x : StateSeen). x.aim.later) is.state }
+
+pub line_expects : (def : LineDef) (h : List Entry) (s : StateSeen) (scripts : List (DriverNo × RowSeen)) (a : Actor) (e : Entry) → IsLine def h s scripts → next def h a ≡ Some e → IsExpected def e s
+line_expects def h s scripts a e is due =
+    let long : length (reverse h) ≡ length h = length-reverse h in
+    subst (λ (x : StateSeen). IsExpected def e x) (sym is.state)
+    (expected def (reverse h) is.valid is.legal (omega (arith, long, is.room)) e (due_past def h s scripts scripts e is a due))
+
+-- ---- a new line
+
+pub line_starts : (def : LineDef) (s : StateSeen) (scripts : List (DriverNo × RowSeen)) → IsValid def → s ≡ first_state def
+    → ((r : DriverNo) → calls_of scripts r ≡ calls_by r def.calls) → ((r : DriverNo) → place_of scripts r ≡ 0) → ((r : DriverNo) → within_of scripts r ≡ 0)
+    → IsLine def [] s scripts
+line_starts def s scripts valid is calls places withins = record {
+  valid = valid;
+  legal = tt;
+  state = is ∙ sym (state_first def);
+  calls = calls;
+  at = λ r. subst (λ (n : ℕ). IsAt def [] r (place_of scripts r) n) (sym (withins r)) (subst (λ (n : ℕ). IsAt def [] r n 0) (sym (places r)) (laid_start (calls_by r def.calls)));
+  room = omega arith;
 }
-
-pub line_more : (def : LineDef) (dev : DevNo) (h : List Entry) (m : Marks) (s t : Scripts) (a : Actor) (e : Entry)
-    → IsLine def dev h m s → next def h a ≡ Some e → actor_of def.line e ≡ a → Comes def e → IsExpected def m s e → ScriptsAfter (progress_of e) s t → length h < def.log
-    → IsLine def dev (h ++ e ∷ []) (marks_after def.window e m) t
-line_more def dev h m s t a e is due who comes expected go room =
-    let n : length (h ++ e ∷ []) ≡ length h + 1 = omega (arith, length-append h (e ∷ [])) in
-    let B : ℕ → Type 0 = λ k. AreBounded k (marks_after def.window e m) in
-    let L : List Entry → Type 0 = λ past. IsLegalPast def past in
-    let P : List Entry → Type 0 = λ past. IsPast def past (marks_after def.window e m) t in
-    let old = is.consistent in
-    let driven = driven_more def m s t e old.built is.driven comes expected go in
-    record {
-      consistent = consistent_more def dev m s t e old is.driven driven comes expected;
-      driven = driven;
-      legal = subst L (sym (newest h e)) (ap (next_past def (reverse h)) who ∙ due, is.legal);
-      past = subst P (sym (newest h e)) (past_more def dev (reverse h) m s t e old is.driven is.past comes expected go);
-      bounded = subst B (sym n) (bounded_more (length h) def.window m e is.bounded);
-      room = omega (arith, n, room);
-    }
-
--- ---- a line to which nothing has happened
-
-first_agrees : (def : LineDef) → Agreed def [] first_marks
-first_agrees def = record {
-  actions = refl;
-  linked = refl;
-  depth = refl;
-  masked = refl;
-  sent = refl;
-  stored = refl;
-  pending = refl;
-  soft = refl;
-  flow = refl;
-  working = refl;
-  begun = refl;
-  handled = refl;
-  wakes = refl;
-  unserved = refl;
-  fresh = refl;
-  met = refl;
-  counts = refl;
-  moment = refl;
-  woken = λ d. refl;
-  thread = λ d. refl;
-}
-
-first_laid : (cs : List Call) (p k : ℕ) → p ≡ 0 → k ≡ 0 → Laid cs [] p k
-first_laid cs p k a b = rw (a, b) (laid_start cs)
-
-none_within : (n : ℕ) → n ≡ 0 → 1 ≤ n → ⊥
-none_within n a b = omega arith
-
-pub first_line : (def : LineDef) (s : Scripts) → Built def → ((r : DriverNo) → calls_of s r ≡ calls_by r def.calls) → ((r : DriverNo) → place_of s r ≡ 0) → ((r : DriverNo) → within_of s r ≡ 0)
-    → asks_left s ≡ ask_calls def → IsLine def (device_of def) [] first_marks s
-first_line def s b calls places withins asks =
-    let sane : IsSane first_marks = record { disabled = refl; linked = refl; sent = λ is. cc; pending = refl; flow = tt; unhandled = omega arith } in
-    record {
-      consistent = record { built = b; device = refl; sane = sane; few_rounds = omega (arith, b.window); linked = λ is. cc; running = λ is. cc };
-      driven = record { calls = calls; earned = omega (arith, asks); requested = λ is. cc; freeing = λ is. refl };
-      legal = tt;
-      past = record { agreed = first_agrees def; comes = tt; laid = λ r. first_laid (calls_by r def.calls) (place_of s r) (within_of s r) (places r) (withins r); mutex = refl };
-      bounded = record { unserved = omega arith; fresh = omega arith };
-      room = omega arith;
-    }

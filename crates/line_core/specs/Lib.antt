@@ -1,10 +1,4 @@
-pub mod Agreed
-pub mod Built
-pub mod Counts
-pub mod Due
-pub mod Line
-pub mod Marks
-pub mod Script
-pub mod Seen
-pub mod Steps
-pub mod Tests
+pub mod Moves
+pub mod Running
+pub mod Blocking
+pub mod Room

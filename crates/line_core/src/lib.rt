@@ -1,21 +1,20 @@
-//! One interrupt line of one processor: an edge line with at most one device, which has no thread, and any drivers
-//! that ask, request and free it.
+//! An interrupt line that keeps marks: its history beside the state that it comes to, so that a step looks at a few rows
+//! of tables and at no history.
 //!
-//! Each step adds the one entry that is due of its actor, by the table of steps of `irq_model`, or changes nothing
-//! where none is due. The marks that a line keeps are the values of the definitions at its history, which is never
-//! read: a step takes constant time, and no memory but the room of the history. What is due is decided before
-//! anything changes.
+//! `Line` is a line over any chips. A step says which entry is due of an actor, adds it, and brings the state up to it;
+//! the queries after it read the state. Memory is taken when a line is made, for the history's room and for an action
+//! that is linked, and nowhere else.
 #![tactic(auto)]
 
-pub mod answers;
-pub mod counts;
-pub mod due;
-pub mod line;
-pub mod marks;
-pub mod script;
+mod due;
+mod line;
+mod making;
+mod moving;
+mod room;
+mod running;
 
-pub use answers::{StepRefused, Stepped};
 pub use line::Line;
+pub use making::MakesCellLine;
 
 #[cfg(test)]
 mod tests;

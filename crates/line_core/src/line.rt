@@ -1,198 +1,216 @@
 //! The line.
-ghost use Rattle.std.specs.Prelude.{◌≡◌, ℕ, ◌+◌, ◌-◌, ◌<◌, ◌≤◌, ◌^◌, ◌↔◌, [], ◌∷◌, ◌++◌, length, IfOk, OnOk, IsOk, IfErr, OnErr, IsTrue, Ok, Err, None, reverse};
-ghost use Rattle.irq_model.specs.Legal.{IsLegal};
+ghost use Rattle.std.specs.Prelude.{◌≡◌, ◌+◌, ◌<◌, ◌≤◌, [], ◌∷◌, ◌++◌, length, IfOk, IsOk, OnOk, OnErr, IsTrue, Some, false, reverse};
+ghost use Rattle.irq_base.specs.Cell.{fresh_cell};
+ghost use Rattle.irq_model.specs.Kinds.{is_linked_request};
+ghost use Rattle.irq_model.specs.Lines.{serves};
 ghost use Rattle.irq_model.specs.Next.{next};
-ghost use Rattle.irq_model.specs.Places.{EachEntry};
+ghost use Rattle.irq_model.specs.Signal.{target};
+ghost use Rattle.irq_model.specs.Up.{is_up};
 ghost use Rattle.irq_model.specs.Valid.{IsValid};
-ghost use Rattle.line_core.specs.Built.{Built, device_of};
-ghost use Rattle.line_core.specs.Due.{Comes};
-ghost use Rattle.line_core.specs.Steps.{Steps, HasCause, IsDueOf, IsPresented};
-ghost use Rattle.line_core.specs.declared.answers.StepRefused.TheVariants as refusals;
-ghost use Rattle.line_core.specs.declared.answers.Stepped.TheVariants as stepped;
+ghost use Rattle.irq_laws.specs.Driven.{cell_after};
+ghost use Rattle.irq_line.specs.Answers.{Answers};
+ghost use Rattle.line_core.specs.Room.{WantsMemory};
+ghost use Rattle.line_core.specs.Blocking.{freed_in, blocks_by};
 
-use crate::answers::{StepRefused, Stepped};
-use crate::due::due_entry;
-use crate::marks::Marks;
-use crate::script::advance;
-use irq_base::{Actor, CpuNo, DevNo, Entry, History, LineDef, NoMemory};
+use crate::due::due_by;
+use crate::moving::advance;
+use crate::room::make_room;
+use crate::running::unanswered;
+use callbacks::Said;
+use irq_base::{Actor, Chip, CpuNo, DevNo, DriverNo, Entry, History, LineDef, NoMemory};
+use irq_line::{Blocks, IrqLine, StepRefused, Stepped};
 use line_scripts::Scripts;
+use line_state::LineState;
 use std::alloc::Global;
 use std::marker::Model;
 
-/// A line. Contracts see its definition, its entries, the oldest first, and `spare`, how many more fit without
-/// memory.
+/// A definition, a history, and what that comes to: the state of the line and the places of its drivers.
 #[derive(Drop)]
-pub struct Line {
+pub struct Line<C: Chip> {
     def: LineDef,
-    dev: DevNo,
     history: History,
-    marks: Marks,
+    state: LineState<C>,
     scripts: Scripts,
 }
 
-impl Model for Line {
-    ghost use Rattle.line_core.specs.Seen.{LineSeen};
-    ghost use Rattle.line_core.specs.Line.{IsLine};
+impl<C: Chip> Model for Line<C> {
+    ghost use Rattle.irq_line.specs.Seen.{LineSeen};
+    ghost use Rattle.line_marks.specs.Line.{IsLine};
 
     ghost Value = { LineSeen };
 
     ghost view = { λ l. record { def = l.def; entries = l.history.entries; spare = l.history.spare } };
 
-    ghost invariant = { λ l. IsLine l.def l.dev l.history.entries l.marks l.scripts };
+    ghost invariant = { λ l. IsLine l.def l.history.entries l.state.state l.scripts };
 }
 
-impl Line {
-    /// The line of that definition, to which nothing has happened. The definition is that of a latch line of one
-    /// processor with at most one device, which is direct, and any drivers that ask, request without flags, and free.
-    /// Refused only for want of memory.
-    pub fn new(alloc: Global, def: &LineDef) -> Result<Line, NoMemory>
-        requires { Built def.now }
-        ensures def { IfOk result (λ l. l.def ≡ def.now) }
-        ensures empty { IfOk result (λ l. l.entries ≡ []) }
+impl<C: Chip + Drop> Line<C> {
+    /// The line of that definition over these chips, to which nothing has happened. The chips are those that the
+    /// definition describes, masked and not active; they are aimed at the line's target. Refused only for want of
+    /// memory.
+    #[tactic(auto, using(crate::proofs::More::line_starts))]
+    pub fn new(alloc: Global, def: &LineDef, chip: C) -> Result<Line<C>, NoMemory>
+        requires valid { IsValid def.now }
+        requires cell { C.cell chip ≡ fresh_cell def.now.trigger def.now.keeps def.now.recalls def.now.retriggers (serves def.now) }
+        requires inactive { C.active chip ≡ false }
+        ensures def { IfOk result (λ line. line.def ≡ def.now) }
+        ensures empty { IfOk result (λ line. line.entries ≡ []) }
     {
-        let dev = device(def);
+        let state = LineState::new(alloc, def, chip)?;
         let scripts = Scripts::new(alloc, &def.calls)?;
-        let def = def.try_clone(alloc)?;
         let history = History::with_room(alloc, 0)?;
+        let def = def.try_clone(alloc)?;
         Ok(Line {
             def,
-            dev,
             history,
-            marks: Marks::new(),
+            state,
             scripts,
         })
     }
+}
 
-    /// Adds the entry that is due of the actor, if there is one. Where none is due, nothing else is asked; then
-    /// comes the greatest length, then memory.
-    ///
-    /// # Errors
-    ///
-    /// `Full` where an entry is due and the history has the greatest length that the definition allows. `NoMemory`
-    /// where there is no room for it and memory was refused. Nothing has changed then.
-    pub fn step(&mut self, actor: Actor) -> Result<Stepped, StepRefused>
-        ensures ok { IfOk result (λ answer. Steps self.old actor answer self.new) }
-        ensures not_yet { (result ≡ Ok stepped.NotYet) ↔ (next self.old.def self.old.entries actor ≡ None) }
-        ensures full { (result ≡ Err (refusals.Full (length self.old.entries)))
-            ↔ (IsDueOf self.old actor × (length self.old.entries ≡ self.old.def.log)) }
-        // Memory is wanted for the entry alone: with room for it none is. (On a line of more devices a request may
-        // want some for its action. There is none here.)
-        ensures cause { IfErr result (HasCause self.old) }
-        ensures due { OnErr result (IsDueOf self.old actor) }
-        ensures refused { OnErr result (self.new ≡ self.old) }
+impl<C: Chip> Line<C> {
+    /// The chips. Their cell is the one that the entries drive, they are active exactly while the line is up, and they
+    /// are aimed at the line's target.
+    pub fn chip(&self) -> &C
+        ensures cell { C.cell result.now ≡ cell_after self.now.def (reverse self.now.entries) }
+        ensures active { C.active result.now ≡ is_up (reverse self.now.entries) }
+        ensures aimed { target self.now.def (reverse self.now.entries) ≡ Some (record { 0 = C.aimed result.now }) }
     {
-        let Some(entry) = due_entry(&self.def, self.dev, &self.marks, &self.scripts, actor) else {
+        self.state.chip()
+    }
+
+    /// The entry that is due of the actor, if there is one.
+    fn due(&self, actor: Actor) -> Option<Entry>
+        ensures { result ≡ next self.now.def self.now.entries actor }
+    {
+        due_by(&self.def, &self.state, &self.scripts, actor)
+    }
+
+    /// Adds the entry, which is due of the actor, and brings the state up to it. Where no action is linked and the
+    /// history has room, no memory is wanted.
+    fn add(&mut self, actor: Actor, entry: Entry) -> Result<(), NoMemory>
+        requires due { next self.old.def self.old.entries actor ≡ Some entry }
+        requires below { length self.old.entries < self.old.def.log }
+        ensures def { self.new.def ≡ self.old.def }
+        ensures entries { OnOk result (self.new.entries ≡ self.old.entries ++ entry ∷ []) }
+        ensures spare { OnOk result (self.old.spare ≤ self.new.spare + 1) }
+        ensures refused { OnErr result (self.new ≡ self.old) }
+        ensures needless { is_linked_request entry ≡ false → 1 ≤ self.old.spare → IsOk result }
+    {
+        make_room(&mut self.state, &mut self.history, &entry)?;
+        self.state.apply(&self.def, entry);
+        advance(&mut self.scripts, actor, &entry);
+        self.history.push(entry);
+        Ok(())
+    }
+}
+
+/// Whether it is that processor.
+fn is_that(taker: Option<CpuNo>, cpu: CpuNo) -> bool
+    ensures sound { IsTrue result → taker ≡ Some cpu }
+    ensures complete { taker ≡ Some cpu → IsTrue result }
+{
+    match taker {
+        Some(taker) => taker == cpu,
+        None => false,
+    }
+}
+
+/// Whether the thread of the device that is being freed isn't at rest.
+fn freed_at_work<C: Chip>(state: &LineState<C>) -> bool
+    ensures { result ≡ freed_in state.now.state.threads state.now.state.freeing }
+{
+    match state.freeing() {
+        Some((_, dev)) => !state.is_at_rest(dev),
+        None => false,
+    }
+}
+
+/// What drivers' calls wait for, as the state tells it.
+fn blocks_by<C: Chip>(state: &LineState<C>) -> Blocks
+    ensures { result ≡ blocks_by state.now.state }
+{
+    Blocks {
+        flow: state.in_flow().is_some(),
+        threads: state.active_threads() > 0,
+        mutex: state.freeing().is_some(),
+        freed: freed_at_work(state),
+    }
+}
+
+impl<C: Chip + Drop> IrqLine for Line<C> {
+    ghost seen = { λ l. l };
+
+    fn step(&mut self, actor: Actor, said: Option<Said>) -> Result<Stepped, StepRefused>
+        ensures def { self.new.def ≡ self.old.def }
+        ensures answer { Answers self.old actor said result self.new }
+        ensures memory { WantsMemory self.old actor result }
+    {
+        let Some(entry) = self.due(actor) else {
             return Ok(Stepped::NotYet);
         };
         let len = self.history.len();
         if len >= self.def.log as usize {
             return Err(StepRefused::Full { len: len as u32 });
         }
-        make_room(&mut self.history)?;
-        self.marks.apply(&self.def, entry);
-        advance(&mut self.scripts, entry);
-        self.history.push(entry);
+        if let Some(run) = unanswered(&self.def, &self.state, &entry, &said) {
+            return Ok(Stepped::Run {
+                def: run.def,
+                part: run.part,
+                unserved: run.unserved,
+            });
+        }
+        self.add(actor, entry)?;
         Ok(Stepped::Added(entry))
     }
 
-    /// Whether a take of the processor is due. It is never one of another processor than 0.
-    pub fn present(&self, cpu: CpuNo) -> bool
-        ensures take { IsTrue result ↔ IsPresented self.now cpu }
-        ensures target { IsTrue result → cpu.0 ≡ 0 }
-    {
-        let due = due_entry(
-            &self.def,
-            self.dev,
-            &self.marks,
-            &self.scripts,
-            Actor::Cpu(cpu),
-        );
-        matches!(due, Some(Entry::Take { .. }))
+    fn reserve(&mut self) -> Result<(), NoMemory> {
+        if self.history.spare() == 0 {
+            self.history.reserve(1)?;
+        }
+        Ok(())
     }
 
-    /// What the line was made of.
-    pub fn definition(&self) -> &LineDef
-        ensures { result.now ≡ self.now.def }
-    {
+    fn spare(&self) -> usize {
+        self.history.spare()
+    }
+
+    fn definition(&self) -> &LineDef {
         &self.def
     }
 
-    /// The entries so far.
-    pub fn history(&self) -> &History
-        ensures entries { result.now.entries ≡ self.now.entries }
-        ensures spare { result.now.spare ≡ self.now.spare }
-    {
+    fn history(&self) -> &History {
         &self.history
     }
 
-    /// The entries so far, without the line.
-    pub fn into_history(self) -> History
-        ensures entries { result.entries ≡ self.entries }
-        ensures spare { result.spare ≡ self.spare }
-    {
+    fn into_history(self) -> History {
         let Line { history, .. } = self;
         history
     }
 
-    /// Makes room for one more entry, so that the next step takes no memory. Refused, all is as before.
-    pub fn reserve(&mut self) -> Result<(), NoMemory>
-        ensures room { OnOk result (1 ≤ self.new.spare) }
-        ensures def { self.new.def ≡ self.old.def }
-        ensures entries { self.new.entries ≡ self.old.entries }
-        ensures grows { self.old.spare ≤ self.new.spare }
-        ensures needed { OnErr result (self.old.spare ≡ 0) }
-        ensures refused { OnErr result (self.new ≡ self.old) }
-    {
-        make_room(&mut self.history)
-    }
-
-    /// How many more entries fit without memory.
-    pub fn spare(&self) -> usize
-        ensures { result ≡ self.now.spare }
-    {
-        self.history.spare()
-    }
-
-    /// What holds of every line: each entry is the one that was due of its actor after those before it, and of a kind
-    /// that comes on such a line.
-    pub fn is_legal(&self)
-        ensures legal { IsLegal self.now.def self.now.entries }
-        ensures comes { EachEntry (λ entry past. Comes self.now.def entry) (reverse self.now.entries) }
-    {
+    #[tactic(auto, using(crate::proofs::Asked::sound))]
+    fn is_sound(&self) {
         let _history = &self.history;
     }
 
-    /// What holds of every line: its definition is one of those of which lines are made, it is valid, and the history
-    /// isn't longer than it allows.
-    pub fn is_within_log(&self)
-        ensures built { Built self.now.def }
-        ensures valid { IsValid self.now.def }
-        ensures log { length self.now.entries ≤ self.now.def.log }
-    {
-        let _history = &self.history;
+    fn present(&self, cpu: CpuNo) -> bool {
+        is_that(self.state.taker(), cpu)
     }
-}
 
-/// The device of the line, or 0 where it has none.
-fn device(def: &LineDef) -> DevNo
-    ensures { result ≡ device_of def.now }
-{
-    match def.devices.get(0) {
-        Some(device) => device.dev,
-        None => DevNo(0),
+    fn in_flow(&self) -> Option<CpuNo> {
+        self.state.in_flow()
     }
-}
 
-/// Makes room for one more entry, where there is none.
-fn make_room(history: &mut History) -> Result<(), NoMemory>
-    ensures room { OnOk result (1 ≤ history.new.spare) }
-    ensures entries { history.new.entries ≡ history.old.entries }
-    ensures grows { history.old.spare ≤ history.new.spare }
-    ensures needed { OnErr result (history.old.spare ≡ 0) }
-    ensures refused { OnErr result (history.new ≡ history.old) }
-{
-    if history.spare() == 0 {
-        history.reserve(1)?;
+    fn taker(&self) -> Option<CpuNo> {
+        self.state.taker()
     }
-    Ok(())
+
+    fn lowest_thread(&self) -> Option<DevNo> {
+        self.state.lowest_thread()
+    }
+
+    fn blocks(&self) -> Blocks {
+        blocks_by(&self.state)
+    }
 }

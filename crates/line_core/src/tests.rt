@@ -1,177 +1,284 @@
-//! Whole lines, step by step. The expected entries are worked out by hand.
-ghost use Rattle.std.specs.Prelude.{◌≡◌, ℕ, ◌≤◌, IfOk, IsTrue, false, length};
-ghost use Rattle.line_core.specs.Built.{Built};
-ghost use Rattle.line_core.specs.Tests.{takes_turns};
+//! The line and the plain line, which looks everything up in its history, step side by side: the same answers, and the
+//! same told after each step. How many entries the drivers make is counted by hand.
+ghost use Rattle.std.specs.Prelude.{◌≡◌, IfOk, IsTrue};
+ghost use Rattle.irq_model.specs.Valid.{IsValid};
+ghost use Rattle.plain_line.specs.Tests.{fits, row_line};
 
-mod frees;
-mod rounds;
-
-use crate::answers::{StepRefused, Stepped};
-use crate::line::Line;
+use crate::making::MakesCellLine;
+use callbacks::{ByKind, Callbacks};
 use irq_base::{
-    Actor, Answer, Call, CallList, CpuNo, DevNo, DeviceDef, DeviceList, DriverNo, Entry, Flags,
-    FlowKind, Kind, LineDef, LineNo, LinkAnswer, NoMemory, Note, Opened, Resend, TakeAnswer,
-    Trigger, UnlinkAnswer, Way,
+    Actor, Call, Chip, CpuNo, DevNo, DeviceDef, DriverNo, Entry, Flags, FlowKind, History,
+    ItemList, Kind, LineDef, LineNo, NoMemory, Trigger,
 };
+use irq_line::{IrqLine, MakesLine, StepRefused, Stepped};
+use plain_line::PlainLine;
 use std::alloc::Global;
 use std::process::Abort;
 use std::test::Fail;
 
-const LINE: LineNo = LineNo(7);
+const LINE: LineNo = LineNo(1);
 
-const DEV: DevNo = DevNo(3);
+const DEV: DevNo = DevNo(1);
 
-const CPU: CpuNo = CpuNo(0);
+const SECOND: DevNo = DevNo(2);
 
-/// The driver that requests and frees the device.
 const DRIVER: DriverNo = DriverNo(1);
 
-/// A driver that only asks.
-const OTHER: DriverNo = DriverNo(2);
+const ACTORS: [Actor; 7] = [
+    Actor::Driver(DRIVER),
+    Actor::Cpu(CpuNo(0)),
+    Actor::Thread(LINE, SECOND),
+    Actor::Cpu(CpuNo(1)),
+    Actor::Thread(LINE, DEV),
+    Actor::Thread(LineNo(2), DEV),
+    Actor::Driver(DriverNo(2)),
+];
 
-const REQUEST: (DriverNo, Call) = (
-    DRIVER,
-    Call::Request {
-        dev: DEV,
-        flags: Flags::NONE,
-    },
-);
+const ONESHOT: Flags = Flags {
+    shared: true,
+    oneshot: true,
+    noauto: false,
+};
 
-const ASK: (DriverNo, Call) = (DRIVER, Call::Ask { dev: DEV });
+/// The flow, the trigger, and whether the chip stores edges, takes them back and can send them again.
+#[derive(Clone, Copy)]
+struct Shape(FlowKind, Trigger, bool);
 
-const OTHER_ASK: (DriverNo, Call) = (OTHER, Call::Ask { dev: DEV });
+const fn device(dev: DevNo, kind: Kind) -> DeviceDef {
+    DeviceDef {
+        dev,
+        line: LINE,
+        kind,
+    }
+}
 
-const FREE: (DriverNo, Call) = (DRIVER, Call::Free { dev: DEV });
-
-fn call_list(alloc: Global, items: &[(DriverNo, Call)]) -> Result<CallList, NoMemory>
+fn item_list<T: Copy>(alloc: Global, items: &[T]) -> Result<ItemList<T>, NoMemory>
     ensures { IfOk result (λ list. list ≡ items.now) }
 {
-    let mut list = CallList::new(alloc);
+    let mut list = ItemList::new(alloc);
     for item in items {
         list.push(*item)?;
     }
     Ok(list)
 }
 
-/// A line of these calls.
-fn definition(alloc: Global, log: u32, calls: &[(DriverNo, Call)]) -> Result<LineDef, NoMemory>
-    requires low { 1 ≤ log }
-    requires high { log ≤ 100000000 }
-    requires calls { IsTrue (takes_turns false calls.now) }
-    requires few { length calls.now ≤ 100 }
-    ensures { IfOk result Built }
+/// The line of that shape with these devices and calls, on two processors.
+fn definition(
+    alloc: Global,
+    shape: Shape,
+    devices: &[DeviceDef],
+    calls: &[(DriverNo, Call)],
+) -> Result<LineDef, NoMemory>
+    requires { IsTrue (fits (row_line shape.0 shape.1 shape.2 3 2 100000 99900 devices.now calls.now)) }
+    ensures { IfOk result IsValid }
 {
-    let mut devices = DeviceList::new(alloc);
-    devices.push(DeviceDef {
-        dev: DEV,
-        line: LINE,
-        kind: Kind::Direct,
-    })?;
     Ok(LineDef {
         line: LINE,
-        flow: FlowKind::Edge,
-        trigger: Trigger::Edge,
-        keeps: true,
-        recalls: true,
-        retriggers: true,
+        flow: shape.0,
+        trigger: shape.1,
+        keeps: shape.2,
+        recalls: shape.2,
+        retriggers: shape.2,
         unlazy: false,
         later: false,
-        mask: 1,
-        cpus: 1,
+        mask: 3,
+        cpus: 2,
         window: 100_000,
         limit: 99_900,
-        log,
-        devices,
-        calls: call_list(alloc, calls)?,
+        log: 100,
+        devices: item_list(alloc, devices)?,
+        calls: item_list(alloc, calls)?,
     })
 }
 
-/// A step's actor, its answer, and whether processor 0 is presented an interrupt after it.
-#[derive(Clone, Copy)]
-struct Row(Actor, Result<Stepped, StepRefused>, bool);
-
-/// Makes the steps of the table, each of which must give its answer.
-fn walk(rt: &impl Abort, line: &mut Line, table: &[Row]) {
-    for (i, row) in table.iter().enumerate() {
-        assert!(rt; line.step(row.0) == row.1, "the answer of step {i}");
-        assert!(rt;
-            line.present(CPU) == row.2,
-            "what is presented after step {i}"
-        );
+/// One step, with the call of the handler where its answer is wanted.
+fn step<L: IrqLine>(line: &mut L, actor: Actor) -> Result<Stepped, StepRefused> {
+    match line.step(actor, None)? {
+        Stepped::Run {
+            def,
+            part,
+            unserved,
+        } => line.step(
+            actor,
+            Some(Callbacks::new(ByKind).call(def, part, unserved)),
+        ),
+        other => Ok(other),
     }
 }
 
-fn request() -> Stepped {
-    Stepped::Added(Entry::Request {
-        driver: DRIVER,
-        dev: DEV,
-        flags: Flags::NONE,
-        answer: LinkAnswer::Linked,
-        opened: Opened::Started { resend: Resend::No },
-    })
+/// One step of each, which must agree in everything.
+fn step_both<L: IrqLine, M: IrqLine>(rt: &impl Abort, line: &mut L, other: &mut M, actor: Actor) {
+    assert!(rt; step(line, actor) == step(other, actor));
+    assert!(rt; line.lowest_thread() == other.lowest_thread());
+    assert!(rt; line.in_flow() == other.in_flow());
+    assert!(rt; line.taker() == other.taker());
+    assert!(rt; line.blocks() == other.blocks());
+    assert!(rt; line.present(CpuNo(0)) == other.present(CpuNo(0)));
+    assert!(rt; line.present(CpuNo(1)) == other.present(CpuNo(1)));
 }
 
-fn ask_of(driver: DriverNo) -> Stepped {
-    Stepped::Added(Entry::Ask { driver, dev: DEV })
+/// How many entries of the history a driver made.
+fn of_drivers(history: &History) -> u64 {
+    let mut found = 0u64;
+    for i in 0..history.len() {
+        if let Some(entry) = history.get(i) {
+            if let Actor::Driver(_) = entry.actor(LINE) {
+                found = found.wrapping_add(1);
+            }
+        }
+    }
+    found
 }
 
-fn ask() -> Stepped {
-    ask_of(DRIVER)
+/// Both lines of a definition, thirty rounds of all actors. `wanted`: how many entries the calls make.
+fn compare(
+    rt: &impl Abort,
+    alloc: Global,
+    shape: Shape,
+    devices: &[DeviceDef],
+    calls: &[(DriverNo, Call)],
+    wanted: u64,
+) -> Result<(), NoMemory>
+    requires { IsTrue (fits (row_line shape.0 shape.1 shape.2 3 2 100000 99900 devices.now calls.now)) }
+{
+    let def = definition(alloc, shape, devices, calls)?;
+    let mut line = MakesCellLine.make(alloc, 9, &def)?;
+    let mut plain = PlainLine::new(alloc, &def)?;
+    for _ in 0..30 {
+        for actor in &ACTORS {
+            step_both(rt, &mut line, &mut plain, *actor);
+        }
+    }
+    assert!(rt; of_drivers(line.history()) == wanted);
+    assert!(rt; !line.chip().signal());
+    line.is_sound();
+    line.reserve()?;
+    assert!(rt; line.spare() >= 1);
+    assert!(rt; line.definition().line == LINE);
+    assert!(rt; line.into_history().len() == plain.history().len());
+    Ok(())
 }
 
-fn begin() -> Stepped {
-    Stepped::Added(Entry::Begin { cpu: CPU, dev: DEV })
+/// An edge line of one threaded device: two asks, a synchronisation and a free.
+#[test]
+fn edge_line(rt: HostRuntime) -> Result<(), Fail> {
+    let devices = [device(DEV, Kind::Check)];
+    let calls = [
+        (
+            DRIVER,
+            Call::Request {
+                dev: DEV,
+                flags: Flags::NONE,
+            },
+        ),
+        (DRIVER, Call::Ask { dev: DEV }),
+        (DRIVER, Call::Ask { dev: DEV }),
+        (DRIVER, Call::Sync),
+        (DRIVER, Call::Free { dev: DEV }),
+    ];
+    compare(
+        &rt,
+        rt.alloc(),
+        Shape(FlowKind::Edge, Trigger::Edge, true),
+        &devices,
+        &calls,
+        8,
+    )?;
+    Ok(())
 }
 
-fn handled(served: u32) -> Stepped {
-    Stepped::Added(Entry::Return {
-        cpu: CPU,
-        dev: DEV,
-        answer: Answer::Handled,
-        served,
-    })
+/// A level line that two devices share, both one-shot, disabled between their asks.
+#[test]
+fn level_line(rt: HostRuntime) -> Result<(), Fail> {
+    let devices = [device(DEV, Kind::Check), device(SECOND, Kind::Null)];
+    let calls = [
+        (
+            DRIVER,
+            Call::Request {
+                dev: DEV,
+                flags: ONESHOT,
+            },
+        ),
+        (
+            DRIVER,
+            Call::Request {
+                dev: SECOND,
+                flags: ONESHOT,
+            },
+        ),
+        (DRIVER, Call::Ask { dev: SECOND }),
+        (DRIVER, Call::Disable),
+        (DRIVER, Call::Ask { dev: DEV }),
+        (DRIVER, Call::Enable),
+        (DRIVER, Call::Enable),
+        (DRIVER, Call::Free { dev: SECOND }),
+        (DRIVER, Call::Free { dev: DEV }),
+    ];
+    compare(
+        &rt,
+        rt.alloc(),
+        Shape(FlowKind::Level, Trigger::Level, false),
+        &devices,
+        &calls,
+        15,
+    )?;
+    Ok(())
 }
 
-fn take() -> Stepped {
-    Stepped::Added(Entry::Take {
-        cpu: CPU,
-        way: Way::Line,
-        answer: TakeAnswer::Handle,
-    })
+/// A level line on the fast-EOI flow, aimed at another processor on the way.
+#[test]
+fn fast_eoi_line(rt: HostRuntime) -> Result<(), Fail> {
+    let devices = [device(DEV, Kind::Direct)];
+    let calls = [
+        (
+            DRIVER,
+            Call::Request {
+                dev: DEV,
+                flags: ONESHOT,
+            },
+        ),
+        (DRIVER, Call::Ask { dev: DEV }),
+        (DRIVER, Call::Affinity { mask: 2 }),
+        (DRIVER, Call::Moment { at: 5 }),
+        (DRIVER, Call::Ask { dev: DEV }),
+        (DRIVER, Call::Free { dev: DEV }),
+    ];
+    compare(
+        &rt,
+        rt.alloc(),
+        Shape(FlowKind::Eoi, Trigger::Level, false),
+        &devices,
+        &calls,
+        8,
+    )?;
+    Ok(())
 }
 
-fn end(note: Note) -> Stepped {
-    Stepped::Added(Entry::End {
-        cpu: CPU,
-        again: false,
-        unmask: false,
-        note,
-    })
-}
-
-fn unlink() -> Stepped {
-    Stepped::Added(Entry::Unlink {
-        driver: DRIVER,
-        dev: DEV,
-        answer: UnlinkAnswer::Unlinked { last: true },
-    })
-}
-
-fn not_there() -> Stepped {
-    Stepped::Added(Entry::Unlink {
-        driver: DRIVER,
-        dev: DEV,
-        answer: UnlinkAnswer::NotThere,
-    })
-}
-
-fn hard_clear() -> Stepped {
-    Stepped::Added(Entry::HardClear { driver: DRIVER })
-}
-
-fn freed() -> Stepped {
-    Stepped::Added(Entry::Freed {
-        driver: DRIVER,
-        dev: DEV,
-    })
+/// An edge line on the fast-EOI flow: what comes while it is disabled is sent again.
+#[test]
+fn fast_eoi_edge_line(rt: HostRuntime) -> Result<(), Fail> {
+    let devices = [device(DEV, Kind::Direct)];
+    let calls = [
+        (
+            DRIVER,
+            Call::Request {
+                dev: DEV,
+                flags: Flags::NONE,
+            },
+        ),
+        (DRIVER, Call::DisableNosync),
+        (DRIVER, Call::Ask { dev: DEV }),
+        (DRIVER, Call::Sync),
+        (DRIVER, Call::Enable),
+        (DRIVER, Call::Ask { dev: DEV }),
+    ];
+    compare(
+        &rt,
+        rt.alloc(),
+        Shape(FlowKind::Eoi, Trigger::Edge, true),
+        &devices,
+        &calls,
+        7,
+    )?;
+    Ok(())
 }

@@ -1,2 +1,5 @@
 pub mod Puts
 pub mod Underway
+pub mod Followed
+pub mod AtRest
+pub mod Turns

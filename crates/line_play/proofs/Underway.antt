@@ -7,15 +7,14 @@ use Rattle.irq_base.specs.declared.lines.LineDef.{LineDef}
 use Rattle.irq_base.specs.declared.entries.Actor.{Actor}
 use Rattle.irq_base.specs.declared.entries.Entry.{Entry}
 use Rattle.irq_model.specs.Next.{next, next_past}
-use Rattle.line_core.specs.Seen.{LineSeen}
-use Rattle.line_core.specs.Steps.{Steps, HasCause, IsDueOf}
-use Rattle.line_core.specs.declared.answers.StepRefused.{StepRefused}
-use Rattle.line_core.specs.declared.answers.StepRefused.TheVariants as refusals
-use Rattle.line_core.specs.declared.answers.Stepped.{Stepped}
-use Rattle.line_core.specs.declared.answers.Stepped.TheVariants as stepped
+use Rattle.irq_line.specs.Answers.{IsDueOf, IsFull}
+use Rattle.irq_line.specs.Seen.{LineSeen}
+use Rattle.irq_line.specs.declared.answers.StepRefused.{StepRefused}
+use Rattle.irq_line.specs.declared.answers.StepRefused.TheVariants as refusals
 use Rattle.play_laws.specs.Actors.{actors_of}
-use Rattle.play_laws.specs.Play.{Done, Full, or_choice, with_picks, first_move, choice, IsChosen, Plays}
-use Rattle.line_play.specs.Playing.{Moves, MovesLowest, CanMove, IsUnderway, IsRefused}
+use Rattle.play_laws.specs.Play.{Done, Full, or_else, or_choice, with_picks, first_move, choice, IsChosen, Plays}
+use Rattle.line_play.specs.Playing.{Moves, AddsLowest, Refuses, IsFullAmong, IsUnderway, IsSoFar, IsRefused}
+use Rattle.line_play.specs.Turning.{Adds, Turns}
 
 pub fresh : (line : LineSeen) (picks : List Actor) → line.entries ≡ [] → IsUnderway line picks picks
 fresh line picks empty = record {
@@ -41,18 +40,17 @@ with_move def past pick rest e due = ap (λ (o : Option Entry). or_choice (with_
 passed_over : (def : LineDef) (past : List Entry) (pick : Actor) (rest : List Actor) → next_past def past pick ≡ None → choice def past (pick ∷ rest) ≡ choice def past rest
 passed_over def past pick rest due = ap (λ (o : Option Entry). or_choice (with_picks rest o) (choice def past rest)) due
 
-pub pick_more : (old new : LineSeen) (picks rest : List Actor) (pick : Actor) (answer : Stepped) → IsUnderway old picks (pick ∷ rest) → Steps old pick answer new
-    → (answer ≡ stepped.NotYet → next old.def old.entries pick ≡ None) → IsUnderway new picks rest
-pick_more old new picks rest pick (stepped.Added e) u steps not_yet = record {
+pub pick_more : (old new : LineSeen) (picks rest : List Actor) (pick : Actor) (answer : Option Entry) → IsUnderway old picks (pick ∷ rest) → Turns old pick (Ok answer) new → IsUnderway new picks rest
+pick_more old new picks rest pick (Some e) u turns = record {
   left = rest;
-  chosen = more old new picks u.left rest e steps.def steps.entries steps.below u.chosen (u.next ∙ with_move old.def (reverse old.entries) pick rest e steps.due);
+  chosen = more old new picks u.left rest e turns.def turns.entries turns.below u.chosen (u.next ∙ with_move old.def (reverse old.entries) pick rest e turns.due);
   next = refl;
 }
-pick_more old new picks rest pick stepped.NotYet u steps not_yet =
-    subst (λ (line : LineSeen). IsUnderway line picks rest) (sym steps) (record {
+pick_more old new picks rest pick None u turns =
+    subst (λ (line : LineSeen). IsUnderway line picks rest) (sym turns.1) (record {
       left = u.left;
       chosen = u.chosen;
-      next = u.next ∙ passed_over old.def (reverse old.entries) pick rest (not_yet refl);
+      next = u.next ∙ passed_over old.def (reverse old.entries) pick rest turns.0;
     })
 
 some_move : (picks : List Actor) (o : Option Entry) (other : Option (Entry × List Actor)) → IsSome o → IsSome (or_choice (with_picks picks o) other)
@@ -62,28 +60,30 @@ some_move picks (Some e) other there = there
 some_along : {A : Type 0} (a b : Option A) → a ≡ b → IsSome b → IsSome a
 some_along a b same there = subst IsSome (sym same) there
 
-pub pick_refused : (old new : LineSeen) (picks rest : List Actor) (pick : Actor) (refused : StepRefused) → IsUnderway old picks (pick ∷ rest) → IsDueOf old pick → HasCause old refused → new ≡ old
-    → IsRefused new picks refused
-pick_refused old new picks rest pick refused u due cause same =
-    subst (λ (line : LineSeen). IsRefused line picks refused) (sym same) (record {
-      left = u.left;
-      chosen = u.chosen;
-      next = some_along _ _ u.next (some_move rest (next old.def old.entries pick) (choice old.def (reverse old.entries) rest) due);
-      cause = cause;
-    })
+-- a next move of a history of the greatest length
+is_full : (line : LineSeen) (picks left : List Actor) (len : ℕ) → IsChosen line.def picks (reverse line.entries) left → IsSome (choice line.def (reverse line.entries) left) → len ≡ length line.entries
+    → length line.entries ≡ line.def.log → IsRefused line picks (refusals.Full len)
+is_full line picks left len chosen next told log = ((left, chosen, (next, length-reverse line.entries ∙ log)), sym told)
+
+pub pick_refused : (old new : LineSeen) (picks rest : List Actor) (pick : Actor) (refused : StepRefused) → IsUnderway old picks (pick ∷ rest) → Turns old pick (Err refused) new → IsRefused new picks refused
+pick_refused old new picks rest pick (refusals.Full len) u turns =
+    subst (λ (line : LineSeen). IsRefused line picks (refusals.Full len)) (sym turns.1)
+    (is_full old picks u.left len u.chosen
+    (some_along _ _ u.next (some_move rest (next old.def old.entries pick) (choice old.def (reverse old.entries) rest) turns.0.due)) turns.0.told turns.0.log)
+pick_refused old new picks rest pick refusals.NoMemory u turns = subst (λ (line : LineSeen). IsSoFar line picks) (sym turns) (record { left = u.left; chosen = u.chosen })
 
 -- the choice of the lowest after the picks
 lowest_choice : (line : LineSeen) (among : List Actor) → among ≡ actors_of line.def → choice line.def (reverse line.entries) [] ≡ with_picks [] (first_move line.def (reverse line.entries) among)
 lowest_choice line among all = ap (λ (actors : List Actor). with_picks [] (first_move line.def (reverse line.entries) actors)) (sym all)
 
-pub lowest_more : (old new : LineSeen) (picks among : List Actor) (e : Entry) → among ≡ actors_of old.def → IsUnderway old picks [] → MovesLowest old among e new → IsUnderway new picks []
+pub lowest_more : (old new : LineSeen) (picks among : List Actor) (e : Entry) → among ≡ actors_of old.def → IsUnderway old picks [] → AddsLowest old among e new → IsUnderway new picks []
 lowest_more old new picks among e all u moves = record {
   left = [];
-  chosen = more old new picks u.left [] e moves.def moves.entries moves.below u.chosen (u.next ∙ lowest_choice old among all ∙ ap (with_picks []) moves.lowest);
+  chosen = more old new picks u.left [] e moves.adds.def moves.adds.entries moves.adds.below u.chosen (u.next ∙ lowest_choice old among all ∙ ap (with_picks []) moves.lowest);
   next = refl;
 }
 
-pub lowest_done : (old new : LineSeen) (picks among : List Actor) → among ≡ actors_of old.def → IsUnderway old picks [] → Moves old among stepped.NotYet new → Plays new.def picks new.entries Done
+pub lowest_done : (old new : LineSeen) (picks among : List Actor) → among ≡ actors_of old.def → IsUnderway old picks [] → Moves old among None new → Plays new.def picks new.entries Done
 lowest_done old new picks among all u moves =
     subst (λ (line : LineSeen). Plays line.def picks line.entries Done) (sym moves.1)
     (u.left, u.chosen, u.next ∙ lowest_choice old among all ∙ ap (with_picks []) moves.0)
@@ -92,30 +92,51 @@ some_with : (picks : List Actor) (o : Option Entry) → IsSome o → IsSome (wit
 some_with picks None there = cc
 some_with picks (Some e) there = there
 
-pub lowest_refused : (old new : LineSeen) (picks among : List Actor) (refused : StepRefused) → among ≡ actors_of old.def → IsUnderway old picks [] → CanMove old among → HasCause old refused → new ≡ old
+pub lowest_refused : (old new : LineSeen) (picks among : List Actor) (refused : StepRefused) → among ≡ actors_of old.def → IsUnderway old picks [] → Refuses old among refused → new ≡ old
     → IsRefused new picks refused
-lowest_refused old new picks among refused all u can cause same =
-    subst (λ (line : LineSeen). IsRefused line picks refused) (sym same) (record {
-      left = u.left;
-      chosen = u.chosen;
-      next = some_along _ _ (u.next ∙ lowest_choice old among all) (some_with [] (first_move old.def (reverse old.entries) among) can);
-      cause = cause;
-    })
-
--- a play that was refused for the length of the log
-pub full : (line : LineSeen) (picks : List Actor) (len : ℕ) → IsRefused line picks (refusals.Full len) → Plays line.def picks line.entries Full × (length line.entries ≡ len)
-full line picks len r = ((r.left, r.chosen, (r.next, length-reverse line.entries ∙ (r.cause.0 ∙ r.cause.1))), r.cause.0)
+lowest_refused old new picks among (refusals.Full len) all u full same =
+    subst (λ (line : LineSeen). IsRefused line picks (refusals.Full len)) (sym same)
+    (is_full old picks u.left len u.chosen (some_along _ _ (u.next ∙ lowest_choice old among all) (some_with [] (first_move old.def (reverse old.entries) among) full.due)) full.told full.log)
+lowest_refused old new picks among refusals.NoMemory all u cause same = subst (λ (line : LineSeen). IsSoFar line picks) (sym same) (record { left = u.left; chosen = u.chosen })
 
 -- an error that was handed on
 pub err_along : {A E : Type 0} (r : Result A E) (e : E) (P : E → Type 0) → IsErrAnd r (λ x. x ≡ e) → P e → IfErr r P
 err_along (Ok v) e P same holds = tt
 err_along (Err x) e P same holds = subst P (sym same) holds
 
+-- the actor at a place, and those after it
+at_drop : (among : List Actor) (i : ℕ) (d : Actor) → i < length among → drop i among ≡ get_or among i d ∷ drop (i + 1) among
+at_drop among i d within = drop-cons among i d within ∙ ap (λ (k : ℕ). get_or among i d ∷ drop k among) (sym (add-one i))
+
 -- the pick at a place, and those after it
 pub at_pick : (line : LineSeen) (picks : List Actor) (i : ℕ) (d : Actor) → i < length picks → IsUnderway line picks (drop i picks) → IsUnderway line picks (get_or picks i d ∷ drop (i + 1) picks)
 at_pick line picks i d within u =
     subst (IsUnderway line picks) (drop-cons picks i d within ∙ ap (λ (k : ℕ). get_or picks i d ∷ drop k picks) (sym (add-one i))) u
 
-pub same_def : (old new : LineSeen) (pick : Actor) (answer : Stepped) → Steps old pick answer new → new.def ≡ old.def
-same_def old new pick (stepped.Added e) steps = steps.def
-same_def old new pick stepped.NotYet steps = ap (λ (line : LineSeen). line.def) steps
+pub same_def : (old new : LineSeen) (pick : Actor) (answer : Option Entry) → Turns old pick (Ok answer) new → new.def ≡ old.def
+same_def old new pick (Some e) turns = turns.def
+same_def old new pick None turns = ap (λ (line : LineSeen). line.def) turns.1
+
+-- one actor further, of which nothing is due
+pub none_first : (line : LineSeen) (among : List Actor) (i : ℕ) (d : Actor) → i < length among → next line.def line.entries (get_or among i d) ≡ None
+    → first_move line.def (reverse line.entries) (drop i among) ≡ first_move line.def (reverse line.entries) (drop (i + 1) among)
+none_first line among i d within none =
+    ap (first_move line.def (reverse line.entries)) (at_drop among i d within)
+    ∙ ap (λ (o : Option Entry). or_else o (first_move line.def (reverse line.entries) (drop (i + 1) among))) none
+
+-- and one of which an entry is
+pub some_first : (line : LineSeen) (among : List Actor) (i : ℕ) (d : Actor) (e : Entry) → i < length among → next line.def line.entries (get_or among i d) ≡ Some e
+    → first_move line.def (reverse line.entries) (drop i among) ≡ Some e
+some_first line among i d e within due =
+    ap (first_move line.def (reverse line.entries)) (at_drop among i d within)
+    ∙ ap (λ (o : Option Entry). or_else o (first_move line.def (reverse line.entries) (drop (i + 1) among))) due
+
+some_else : (o other : Option Entry) → IsSome o → IsSome (or_else o other)
+some_else None other there = cc
+some_else (Some e) other there = there
+
+pub due_first : (line : LineSeen) (among : List Actor) (i : ℕ) (d : Actor) → i < length among → IsDueOf line (get_or among i d)
+    → IsSome (first_move line.def (reverse line.entries) (drop i among))
+due_first line among i d within due =
+    some_along _ _ (ap (first_move line.def (reverse line.entries)) (at_drop among i d within))
+    (some_else (next line.def line.entries (get_or among i d)) (first_move line.def (reverse line.entries) (drop (i + 1) among)) due)

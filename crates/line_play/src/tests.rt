@@ -1,17 +1,19 @@
 //! Plays with picks. The expected logs are worked out by hand.
 ghost use Rattle.std.specs.Prelude.{◌≡◌, ℕ, ◌≤◌, IfOk, IsTrue, false, length, map};
-ghost use Rattle.line_core.specs.Built.{Built};
-ghost use Rattle.line_core.specs.Tests.{takes_turns};
-ghost use Rattle.line_core.proofs.Turns.{one_device, test_line};
+ghost use Rattle.irq_model.specs.Valid.{IsValid};
+ghost use Rattle.line_play.specs.Tests.{takes_turns};
+ghost use Rattle.line_play.proofs.Turns.{one_device, test_line};
 
 use crate::actors::actors_of;
+use crate::following::scripts_of;
 use crate::plays::{PlayEnd, play};
 use irq_base::{
     Actor, Answer, Call, CallList, CpuNo, DevNo, DeviceDef, DeviceList, DriverNo, Entry, Flags,
     FlowKind, Kind, LineDef, LineNo, LinkAnswer, NoMemory, Note, Opened, Resend, TakeAnswer,
     Trigger, Way,
 };
-use line_core::Line;
+use irq_line::{IrqLine, MakesLine};
+use plain_line::MakesPlainLine;
 use std::alloc::Global;
 use std::test::Fail;
 
@@ -98,7 +100,7 @@ pub(crate) fn definition(
     requires high { log ≤ 100000000 }
     requires calls { IsTrue (takes_turns false calls.now) }
     requires few { length calls.now ≤ 100 }
-    ensures { IfOk result Built }
+    ensures { IfOk result IsValid }
 {
     let devices = device_list(alloc, &[DEV.0])?;
     Ok(line_of(1, log, devices, call_list(alloc, calls)?))
@@ -163,8 +165,10 @@ fn plays(alloc: Global, case: &Case<'_>) -> Result<bool, Fail>
 {
     let def = definition(alloc, case.log, case.calls)?;
     let actors = actors_of(alloc, &def)?;
-    let mut line = Line::new(alloc, &def)?;
-    let end = play(&mut line, case.picks, actors.as_slice());
+    let scripts = scripts_of(alloc, &def)?;
+    // the lines that the tests take
+    let mut line = MakesPlainLine.make(alloc, 0, &def)?;
+    let end = play(&mut line, case.picks, actors.as_slice(), scripts);
     let history = line.history();
     let same = (0..case.entries.len()).all(|i| history.get(i) == case.entries.get(i).copied());
     Ok(end == case.end && history.len() == case.entries.len() && same)

@@ -1,12 +1,9 @@
-use Rattle.std.proofs.Common.{◌≡◌, List, ◌++◌, ap, ◌∙◌}
-use Rattle.irq_base.specs.declared.devices.DeviceDef.{DeviceDef}
-use Rattle.irq_base.specs.declared.numbers.LineNo.{LineNo}
-use Rattle.line_core.proofs.Turns.{test_built, one_device}
+use Rattle.plain_line.specs.Tests.{row_line}
+use Rattle.plain_line.proofs.Rows.{fits_is_valid}
 use Rattle.line_core.proofs.tests.definition.Goals as goal
 
 pub returns : goal.returns
 returns c =
-    let line : LineNo = record { 0 = 7 } in
-    let devices : c.devices.inside.items.items ≡ one_device line =
-    c.devices.view_is ∙ (c.in_ok-push.ensures.ok ∙ ap (λ (xs : List DeviceDef). xs ++ one_device line) c.new-devices.ensures) in
-    rw (c.in_ok-call_list.ensures, devices) (test_built line c.args.log c.args.calls.now c.requires.calls c.requires.few c.requires.low c.requires.high)
+    let s = c.args.shape in
+    rw (c.in_ok-item_list.ensures, c.in_ok-item_list-2.ensures)
+    (fits_is_valid (row_line s.0 s.1 s.2 3 2 100000 99900 c.args.devices.now c.args.calls.now) c.requires)

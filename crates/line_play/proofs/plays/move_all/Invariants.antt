@@ -4,10 +4,10 @@ use Rattle.line_play.specs.Playing.{IsUnderway}
 use Rattle.line_play.proofs.plays.move_all.Given as goal
 
 abbrev pub invariant-loop : goal.invariant-loop
-invariant-loop l = record {
-  def : l.line.def ≡ l.fn.line.def;
-  underway : (picks : List Actor) → IsUnderway l.fn.line picks [] → IsUnderway l.line picks [];
+invariant-loop g l = record {
+  def : (g.L.IrqLine.seen l.line).def ≡ (g.L.IrqLine.seen l.fn.line).def;
+  underway : (picks : List Actor) → IsUnderway (g.L.IrqLine.seen l.fn.line) picks [] → IsUnderway (g.L.IrqLine.seen l.line) picks [];
 }
 
 abbrev pub decreases-loop : goal.decreases-loop
-decreases-loop l = l.line.def.log - length l.line.entries
+decreases-loop g l = (g.L.IrqLine.seen l.line).def.log - length (g.L.IrqLine.seen l.line).entries

@@ -1,7 +1,13 @@
-use Rattle.line_core.proofs.More.{first_line}
+use Rattle.std.proofs.Common.{◌≡◌, ◌∙◌, [], ap, sym, subst, List}
+use Rattle.irq_base.specs.declared.calls.Call.{Call}
+use Rattle.irq_base.specs.declared.entries.Entry.{Entry}
+use Rattle.irq_base.specs.declared.lines.LineDef.{LineDef}
+use Rattle.line_marks.specs.Line.{IsLine}
+use Rattle.line_core.proofs.More.{line_starts}
 use Rattle.line_core.proofs.line.Line.new.Goals as goal
 
 pub invariant_of-result : goal.invariant_of-result
-invariant_of-result c =
-    let s = c.in_ok-scripts.ensures in
-    rw (c.device-dev.ensures, c.in_ok-history.ensures.empty, c.new-2.ensures, c.in_ok-def.ensures) (first_line c.args.def.now c.in_ok-scripts.scripts c.requires s.calls s.place s.within s.asks)
+invariant_of-result g c =
+    subst (λ (def : LineDef). IsLine def c.in_ok-history.history.entries c.in_ok-state.state.state c.in_ok-scripts.scripts) (sym c.in_ok-def.ensures)
+    (subst (λ (h : List Entry). IsLine c.args.def.now h c.in_ok-state.state.state c.in_ok-scripts.scripts) (sym c.in_ok-history.ensures.empty)
+    (line_starts c.args.def.now c.in_ok-state.state.state c.in_ok-scripts.scripts c.requires.valid c.in_ok-state.ensures c.in_ok-scripts.ensures.calls c.in_ok-scripts.ensures.place c.in_ok-scripts.ensures.within))

@@ -1,0 +1,154 @@
+-- What is asked of a line is told by its state.
+use Rattle.std.proofs.Common.{◌≡◌, ◌↔◌, ◌≤◌, Bool, true, false, not, ◌||◌, ◌&&◌, cond, is_some, Option, Some, None, List, refl, sym, ap, subst, ◌∙◌}
+use Rattle.std.proofs.lemmas.Bool.{false≢true}
+use Rattle.std.proofs.lemmas.Option.{none-some, same_Some}
+use Rattle.std.specs.Prelude.{IsTrue, IsSome}
+use Rattle.irq_base.specs.Cell.{signals}
+use Rattle.irq_base.specs.declared.entries.Actor.TheVariants as actors
+use Rattle.irq_base.specs.declared.entries.Entry.{Entry}
+use Rattle.irq_base.specs.declared.entries.Entry.TheVariants as entries
+use Rattle.irq_base.specs.declared.entries.Way.TheVariants as ways
+use Rattle.irq_base.specs.declared.lines.LineDef.{LineDef}
+use Rattle.irq_base.specs.declared.numbers.CpuNo.{CpuNo}
+use Rattle.irq_base.specs.declared.numbers.DevNo.{DevNo}
+use Rattle.irq_model.specs.Kinds.{is_take, same_cpu}
+use Rattle.irq_model.specs.Legal.{IsLegalPast}
+use Rattle.irq_model.specs.Next.{next_past}
+use Rattle.irq_model.specs.Rounds.{is_cpu}
+use Rattle.irq_model.specs.Signal.{lowest_in}
+use Rattle.irq_model.specs.Valid.{IsValid}
+use Rattle.irq_steps.proofs.Same.{same_self_cpu, cpu_from_same}
+use Rattle.act_list.specs.Lists.{first_left}
+use Rattle.act_thread.specs.Steps.{could_step, steps_at, is_returned_stage}
+use Rattle.act_thread.specs.Threads.{row_passes}
+use Rattle.act_thread.specs.declared.rows.Stage.{Stage}
+use Rattle.act_thread.specs.declared.rows.Stage.TheVariants as stages
+use Rattle.act_thread.specs.declared.rows.ThreadRow.{ThreadRow}
+use Rattle.device_table.proofs.Lowest.{own_by}
+use Rattle.line_core.proofs.Lowest.{Below, least, passes}
+use Rattle.device_table.specs.Rows.{at, lowest_where}
+use Rattle.irq_line.specs.Queries.{is_some_take}
+use Rattle.line_marks.proofs.CpuDueIs.{cpu_due_is}
+use Rattle.line_marks.proofs.DueIs.{thread_is}
+use Rattle.line_marks.specs.Threads.{threads_of, thread_of}
+use Rattle.line_marks.specs.CpuDue.{in_flow_by, begin_or_end_by, next_take_by, take_by}
+use Rattle.line_marks.specs.Due.{due_of_row, due_at_stage}
+use Rattle.line_marks.specs.State.{StateSeen, state_of}
+use Rattle.line_state.specs.Seen.{taker_of, unless_in_flow, lowest_due, may_go_on}
+
+-- ---- takes
+
+flow_takes_none : (def : LineDef) (s : StateSeen) (c : CpuNo) (o : Option DevNo) → is_take (in_flow_by def s c o) ≡ false
+flow_takes_none def s c (Some d) = refl
+flow_takes_none def s c None = by_left (first_left s.list.begun s.list.actions)
+  where
+    by_left : (o : Option DevNo) → is_take (begin_or_end_by def s c o) ≡ false
+    by_left (Some d) = refl
+    by_left None = refl
+
+take_told : (s : StateSeen) (c : CpuNo) (target line soft : Bool)
+    → is_some_take (cond (not target) None (cond line (Some (entries.Take c ways.Line (take_by s))) (cond soft (Some (entries.Take c ways.Resend (take_by s))) None))) ≡ (target && (line || soft))
+take_told s c true true soft = refl
+take_told s c true false true = refl
+take_told s c true false false = refl
+take_told s c false line soft = refl
+
+due_told : (def : LineDef) (s : StateSeen) (c : CpuNo) (b : Bool) → is_cpu c s.desc.flow ≡ b
+    → is_some_take (cond b (Some (in_flow_by def s c s.round.working)) (next_take_by s c)) ≡ (not b && (is_cpu c (lowest_in s.aim.cpus s.aim.mask) && (signals s.cell || s.desc.soft)))
+due_told def s c true is = flow_takes_none def s c s.round.working
+due_told def s c false is = take_told s c (is_cpu c (lowest_in s.aim.cpus s.aim.mask)) (signals s.cell) s.desc.soft
+
+no_take : (x y : Bool) → IsTrue (not x && (y && false)) → ⊥
+no_take true y h = false≢true h
+no_take false true h = false≢true h
+no_take false false h = false≢true h
+
+no_target : (x g : Bool) → IsTrue (not x && (false && g)) → ⊥
+no_target true g h = false≢true h
+no_target false g h = false≢true h
+
+-- the target takes, where something waits, and it isn't in the flow
+module _ (s : StateSeen) (c : CpuNo) where
+  by_target : (t : CpuNo) (b : Bool) → is_cpu t s.desc.flow ≡ b → (e : Bool) → same_cpu c t ≡ e → (cond b None (Some t) ≡ Some c) ↔ IsTrue (not (is_cpu c s.desc.flow) && (e && true))
+  by_target t true busy true same =
+      (λ h. absurd (none-some c h),
+      λ h. absurd (false≢true (ap (λ x. not x && true) (sym (ap (λ (x : CpuNo). is_cpu x s.desc.flow) (cpu_from_same c t same) ∙ busy)) ∙ h)))
+  by_target t true busy false other = (λ h. absurd (none-some c h), λ h. absurd (no_target (is_cpu c s.desc.flow) true h))
+  by_target t false busy true same =
+      (λ h. ap (λ x. not x && true) (ap (λ (x : CpuNo). is_cpu x s.desc.flow) (cpu_from_same c t same) ∙ busy),
+      λ h. ap Some (sym (cpu_from_same c t same)))
+  by_target t false busy false other =
+      (λ h. absurd (false≢true (sym other ∙ (ap (same_cpu c) (same_Some t c h) ∙ same_self_cpu c))), λ h. absurd (no_target (is_cpu c s.desc.flow) true h))
+
+  taker_told : (g : Bool) (o : Option CpuNo) → (cond g (unless_in_flow s o) None ≡ Some c) ↔ IsTrue (not (is_cpu c s.desc.flow) && (is_cpu c o && g))
+  taker_told false o = (λ h. absurd (none-some c h), λ h. absurd (no_take (is_cpu c s.desc.flow) (is_cpu c o) h))
+  taker_told true None = (λ h. absurd (none-some c h), λ h. absurd (no_target (is_cpu c s.desc.flow) true h))
+  taker_told true (Some t) = by_target t (is_cpu t s.desc.flow) refl (same_cpu c t) refl
+
+-- ---- threads
+
+or_none : (a b : Bool) → a ≡ (a || (b && false))
+or_none true b = refl
+or_none false true = refl
+or_none false false = refl
+
+goes_so : (o f : Bool) (x y : Entry) → is_some (cond o (cond f None (Some x)) (Some y)) ≡ ((not o || not f) && true)
+goes_so true true x y = refl
+goes_so true false x y = refl
+goes_so false f x y = refl
+
+wakes_so : (w : Bool) (x : Entry) → is_some (cond w (Some x) None) ≡ w
+wakes_so true x = refl
+wakes_so false x = refl
+
+by_stage : (s : StateSeen) (d : DevNo) (r : ThreadRow) (st : Stage) → is_some (due_at_stage st s d r) ≡ (steps_at r.woken st || (may_go_on s.desc && is_returned_stage st))
+by_stage s d r stages.Idle = wakes_so r.woken (entries.ThreadBegin d) ∙ or_none r.woken (may_go_on s.desc)
+by_stage s d r stages.Begun = refl
+by_stage s d r stages.Returned = goes_so s.desc.oneshot (is_some s.desc.flow) _ _
+by_stage s d r stages.Finished = refl
+
+row_due : (s : StateSeen) (d : DevNo) (o : Option ThreadRow) → is_some (due_of_row s d o) ≡ row_passes (could_step (may_go_on s.desc)) false o
+row_due s d None = refl
+row_due s d (Some r) = by_stage s d r r.stage
+
+-- a device that passes has a row that passes
+record Passing (p : ThreadRow → Bool) (o : Option ThreadRow) : Type 0 where
+  row : ThreadRow
+  is : o ≡ Some row
+  so : p row ≡ true
+
+passing : (p : ThreadRow → Bool) (o : Option ThreadRow) → row_passes p false o ≡ true → Passing p o
+passing p None h = absurd (false≢true h)
+passing p (Some r) h = record { row = r; is = refl; so = h }
+
+module _ (def : LineDef) (past : List Entry) (valid : IsValid def) (legal : IsLegalPast def past) where
+  pub is_taker : (c : CpuNo) → (taker_of (state_of def past) ≡ Some c) ↔ IsTrue (is_some_take (next_past def past (actors.Cpu c)))
+  is_taker c =
+      let told : is_some_take (next_past def past (actors.Cpu c)) ≡ _ = ap is_some_take (cpu_due_is def past c valid legal) ∙ due_told def (state_of def past) c (is_cpu c (state_of def past).desc.flow) refl in
+      let both = taker_told (state_of def past) c (signals (state_of def past).cell || (state_of def past).desc.soft) (lowest_in (state_of def past).aim.cpus (state_of def past).aim.mask) in
+      (λ h. told ∙ both.0 h, λ h. both.1 (sym told ∙ h))
+
+  due_so : (d : DevNo) → is_some (next_past def past (actors.Thread def.line d)) ≡ row_passes (could_step (may_go_on (state_of def past).desc)) false (at (threads_of def past) d)
+  due_so d = ap is_some (thread_is def past d valid legal) ∙ row_due (state_of def past) d (at (threads_of def past) d)
+
+  abbrev pub IsDueThread : DevNo → Type 0
+  IsDueThread d = IsSome (next_past def past (actors.Thread def.line d))
+
+  abbrev pub IsLowest : Option DevNo → Type 0
+  IsLowest None = (d : DevNo) → IsDueThread d → ⊥
+  IsLowest (Some l) = IsDueThread l × ((d : DevNo) → IsDueThread d → l.0 ≤ d.0)
+
+  pub is_lowest : IsLowest (lowest_due (state_of def past))
+  is_lowest = by_lowest (lowest_due (state_of def past)) refl
+    where
+      p : ThreadRow → Bool
+      p = could_step (may_go_on (state_of def past).desc)
+
+      below : (d : DevNo) → IsDueThread d → Below (lowest_where p (threads_of def past)) d
+      below d due = let w = passing p (at (threads_of def past) d) (sym (due_so d) ∙ due) in least p (threads_of def past) d w.row w.is w.so
+
+      by_lowest : (o : Option DevNo) → lowest_where p (threads_of def past) ≡ o → IsLowest o
+      by_lowest None is = λ d due. subst (λ (o : Option DevNo). Below o d) is (below d due)
+      by_lowest (Some l) is =
+          let w = passes p (threads_of def past) l (own_by (thread_of past) def.devices valid.distinct) is in
+          (due_so l ∙ (ap (row_passes p false) w.1 ∙ w.2), λ d due. subst (λ (o : Option DevNo). Below o d) is (below d due))

@@ -1,0 +1,50 @@
+-- The run that a due entry ends is told by the state.
+use Rattle.std.proofs.Common.{◌≡◌, ℕ, true, Some, List, refl, sym, ap, ◌∙◌}
+use Rattle.std.specs.List.{list_any}
+use Rattle.irq_base.specs.declared.devices.Kind.{Kind}
+use Rattle.irq_base.specs.declared.devices.Part.TheVariants as parts
+use Rattle.irq_base.specs.declared.entries.Entry.{Entry}
+use Rattle.irq_base.specs.declared.entries.Entry.TheVariants as entries
+use Rattle.irq_base.specs.declared.lines.LineDef.{LineDef}
+use Rattle.irq_base.specs.declared.numbers.DevNo.{DevNo}
+use Rattle.irq_laws.proofs.ImpliesFlow.{return_due}
+use Rattle.irq_laws.proofs.ImpliesThread.{thread_return_due}
+use Rattle.irq_laws.proofs.KeptAlways.{kept}
+use Rattle.irq_laws.proofs.RestKept.{called_there, running_there, there_named}
+use Rattle.irq_model.specs.Legal.{IsDue, IsLegalPast}
+use Rattle.irq_model.specs.Lines.{is_device}
+use Rattle.irq_model.specs.Valid.{IsValid}
+use Rattle.device_table.proofs.Tables.{at_device}
+use Rattle.device_table.specs.Rows.{at}
+use Rattle.irq_line.specs.Runs.{run_ended}
+use Rattle.line_marks.proofs.KindsFixed.{kind_is}
+use Rattle.line_marks.specs.Asks.{asks_of, ask_row}
+use Rattle.line_marks.specs.CpuDue.{met_by}
+use Rattle.line_marks.specs.Due.{met_in}
+use Rattle.line_marks.specs.State.{state_of}
+use Rattle.line_core.specs.Running.{run_by, device_by}
+
+module _ (def : LineDef) (past : List Entry) (valid : IsValid def) (legal : IsLegalPast def past) where
+  row_is : (d : DevNo) → list_any (is_device d) def.devices ≡ true → at (asks_of def past) d ≡ Some (ask_row def past d)
+  row_is d there = at_device (ask_row def past) def.devices d there
+
+  pub run_is : (e : Entry) → IsDue def e past → run_ended def past e ≡ run_by def (state_of def past) e
+  run_is (entries.Return c d answer served) due =
+      let k = kept def past valid legal in
+      let there = there_named def past k d (called_there def past k d (k.runs.working d (return_due def c d answer served past due).is_at_work).0) in
+      told (ap met_by (sym (row_is d there)))
+    where
+      told : (ask_row def past d).met_by_handler ≡ met_by (at (asks_of def past) d) → run_ended def past (entries.Return c d answer served) ≡ run_by def (state_of def past) (entries.Return c d answer served)
+      told met =
+          ap (λ (x : Kind). Some (record { def = record { dev = d; line = def.line; kind = x }; part = parts.Primary; unserved = (ask_row def past d).met_by_handler })) (sym (kind_is def d))
+          ∙ ap (λ (n : ℕ). Some (record { def = device_by def (state_of def past) d; part = parts.Primary; unserved = n })) met
+  run_is (entries.ThreadReturn d served) due =
+      let k = kept def past valid legal in
+      let there = there_named def past k d (running_there def past k d (thread_return_due def d served past due).running) in
+      told (ap met_in (sym (row_is d there)))
+    where
+      told : (ask_row def past d).met_by_thread ≡ met_in (at (asks_of def past) d) → run_ended def past (entries.ThreadReturn d served) ≡ run_by def (state_of def past) (entries.ThreadReturn d served)
+      told met =
+          ap (λ (x : Kind). Some (record { def = record { dev = d; line = def.line; kind = x }; part = parts.Thread; unserved = (ask_row def past d).met_by_thread })) (sym (kind_is def d))
+          ∙ ap (λ (n : ℕ). Some (record { def = device_by def (state_of def past) d; part = parts.Thread; unserved = n })) met
+  run_is _ due = refl

@@ -1,0 +1,84 @@
+//! The run of a handler that an entry ends.
+ghost use Rattle.std.specs.Prelude.{◌≡◌, ◌↔◌, IsTrue, IfSome, Some, None};
+ghost use Rattle.irq_line.specs.Answers.{IsSaidFor};
+ghost use Rattle.line_core.specs.Running.{device_by, run_by};
+
+use callbacks::Said;
+use irq_base::{Chip, DevNo, DeviceDef, Entry, LineDef, Part};
+use line_state::LineState;
+use std::marker::Model;
+
+/// A run: of which device, which part, and how many asks were unserved as it began.
+#[derive(Drop)]
+pub(crate) struct Running {
+    pub(crate) def: DeviceDef,
+    pub(crate) part: Part,
+    pub(crate) unserved: u32,
+}
+
+impl Model for Running {
+    ghost use Rattle.callbacks.specs.Seen.{Run};
+
+    ghost Value = { Run };
+
+    ghost view = { λ r. record { def = r.def; part = r.part; unserved = r.unserved } };
+}
+
+impl Running {
+    /// Whether what was handed in is its answer.
+    fn is_answered(&self, said: &Option<Said>) -> bool
+        ensures { IsTrue result ↔ IsSaidFor said.now self.now }
+    {
+        match said {
+            Some(said) => said.is_for(self.def, self.part, self.unserved),
+            None => false,
+        }
+    }
+}
+
+/// The line's device of that number.
+fn device<C: Chip>(def: &LineDef, state: &LineState<C>, dev: DevNo) -> DeviceDef
+    ensures { result ≡ device_by def.now state.now.state dev }
+{
+    DeviceDef {
+        dev,
+        line: def.line,
+        kind: state.kind(dev),
+    }
+}
+
+/// The run that the entry ends.
+fn run_by<C: Chip>(def: &LineDef, state: &LineState<C>, entry: &Entry) -> Option<Running>
+    ensures { result ≡ run_by def.now state.now.state entry.now }
+{
+    match *entry {
+        Entry::Return { dev, .. } => Some(Running {
+            def: device(def, state, dev),
+            part: Part::Primary,
+            unserved: state.met_by_handler(dev),
+        }),
+        Entry::ThreadReturn { dev, .. } => Some(Running {
+            def: device(def, state, dev),
+            part: Part::Thread,
+            unserved: state.met_by_thread(dev),
+        }),
+        _ => None,
+    }
+}
+
+/// The run that the entry ends, where what was handed in isn't its answer.
+pub(crate) fn unanswered<C: Chip>(
+    def: &LineDef,
+    state: &LineState<C>,
+    entry: &Entry,
+    said: &Option<Said>,
+) -> Option<Running>
+    ensures some { IfSome result (λ run. (run_by def.now state.now.state entry.now ≡ Some run) × (IsSaidFor said.now run → ⊥)) }
+    ensures none { result ≡ None → IfSome (run_by def.now state.now.state entry.now) (IsSaidFor said.now) }
+{
+    let run = run_by(def, state, entry)?;
+    if run.is_answered(said) {
+        return None;
+    }
+    Some(run)
+}

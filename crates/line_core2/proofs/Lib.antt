@@ -1,7 +1,0 @@
-pub mod More
-pub mod Runs
-pub mod Lowest
-pub mod Queries
-pub mod Blocked
-pub mod Asked
-pub mod Stepping

@@ -1,4 +1,0 @@
-pub mod Moves
-pub mod Running
-pub mod Blocking
-pub mod Room
