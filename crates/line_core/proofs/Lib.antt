@@ -5,3 +5,4 @@ pub mod Queries
 pub mod Blocked
 pub mod Asked
 pub mod Stepping
+pub mod Rows

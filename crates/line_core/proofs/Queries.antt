@@ -70,13 +70,15 @@ no_target false g h = false≢true h
 -- the target takes, where something waits, and it isn't in the flow
 module _ (s : StateSeen) (c : CpuNo) where
   by_target : (t : CpuNo) (b : Bool) → is_cpu t s.desc.flow ≡ b → (e : Bool) → same_cpu c t ≡ e → (cond b None (Some t) ≡ Some c) ↔ IsTrue (not (is_cpu c s.desc.flow) && (e && true))
-  by_target t true busy true same =
-      (λ h. absurd (none-some c h),
-      λ h. absurd (false≢true (ap (λ x. not x && true) (sym (ap (λ (x : CpuNo). is_cpu x s.desc.flow) (cpu_from_same c t same) ∙ busy)) ∙ h)))
+  by_target t true busy true same = (
+    λ h. absurd (none-some c h),
+    λ h. absurd (false≢true (ap (λ x. not x && true) (sym (ap (λ (x : CpuNo). is_cpu x s.desc.flow) (cpu_from_same c t same) ∙ busy)) ∙ h)),
+  )
   by_target t true busy false other = (λ h. absurd (none-some c h), λ h. absurd (no_target (is_cpu c s.desc.flow) true h))
-  by_target t false busy true same =
-      (λ h. ap (λ x. not x && true) (ap (λ (x : CpuNo). is_cpu x s.desc.flow) (cpu_from_same c t same) ∙ busy),
-      λ h. ap Some (sym (cpu_from_same c t same)))
+  by_target t false busy true same = (
+    λ h. ap (λ x. not x && true) (ap (λ (x : CpuNo). is_cpu x s.desc.flow) (cpu_from_same c t same) ∙ busy),
+    λ h. ap Some (sym (cpu_from_same c t same)),
+  )
   by_target t false busy false other =
       (λ h. absurd (false≢true (sym other ∙ (ap (same_cpu c) (same_Some t c h) ∙ same_self_cpu c))), λ h. absurd (no_target (is_cpu c s.desc.flow) true h))
 

@@ -1,17 +1,15 @@
-//! The line and the plain line, which looks everything up in its history, step side by side: the same answers, and the
-//! same told after each step. How many entries the drivers make is counted by hand.
+//! Worked histories. The entries, and what is told after each, are written by hand.
 ghost use Rattle.std.specs.Prelude.{◌≡◌, IfOk, IsTrue};
 ghost use Rattle.irq_model.specs.Valid.{IsValid};
-ghost use Rattle.plain_line.specs.Tests.{fits, row_line};
+ghost use Rattle.line_core.specs.Tests.{fits, row_line};
 
 use crate::making::MakesCellLine;
 use callbacks::{ByKind, Callbacks};
 use irq_base::{
-    Actor, Call, Chip, CpuNo, DevNo, DeviceDef, DriverNo, Entry, Flags, FlowKind, History,
-    ItemList, Kind, LineDef, LineNo, NoMemory, Trigger,
+    Actor, Answer, Call, Chip, CpuNo, DevNo, DeviceDef, DriverNo, Entry, Flags, FlowKind, ItemList,
+    Kind, LineDef, LineNo, LinkAnswer, NoMemory, Note, Opened, Resend, TakeAnswer, Trigger, Way,
 };
-use irq_line::{IrqLine, MakesLine, StepRefused, Stepped};
-use plain_line::PlainLine;
+use irq_line::{Blocks, IrqLine, MakesLine, StepRefused, Stepped};
 use std::alloc::Global;
 use std::process::Abort;
 use std::test::Fail;
@@ -20,37 +18,179 @@ const LINE: LineNo = LineNo(1);
 
 const DEV: DevNo = DevNo(1);
 
-const SECOND: DevNo = DevNo(2);
+const CPU: CpuNo = CpuNo(0);
 
 const DRIVER: DriverNo = DriverNo(1);
 
-const ACTORS: [Actor; 7] = [
-    Actor::Driver(DRIVER),
-    Actor::Cpu(CpuNo(0)),
-    Actor::Thread(LINE, SECOND),
-    Actor::Cpu(CpuNo(1)),
-    Actor::Thread(LINE, DEV),
-    Actor::Thread(LineNo(2), DEV),
-    Actor::Driver(DriverNo(2)),
-];
+const BY_CPU: Actor = Actor::Cpu(CPU);
+
+const BY_DRIVER: Actor = Actor::Driver(DRIVER);
+
+const BY_THREAD: Actor = Actor::Thread(LINE, DEV);
 
 const ONESHOT: Flags = Flags {
-    shared: true,
+    shared: false,
     oneshot: true,
     noauto: false,
+};
+
+const CHECK: DeviceDef = DeviceDef {
+    dev: DEV,
+    line: LINE,
+    kind: Kind::Check,
+};
+
+const REQUEST: (DriverNo, Call) = (
+    DRIVER,
+    Call::Request {
+        dev: DEV,
+        flags: ONESHOT,
+    },
+);
+
+const ASK: (DriverNo, Call) = (DRIVER, Call::Ask { dev: DEV });
+
+const NOTHING: Blocks = Blocks {
+    flow: false,
+    threads: false,
+    mutex: false,
+    freed: false,
+};
+
+const FLOW: Blocks = Blocks {
+    flow: true,
+    threads: false,
+    mutex: false,
+    freed: false,
+};
+
+const THREADS: Blocks = Blocks {
+    flow: false,
+    threads: true,
+    mutex: false,
+    freed: false,
+};
+
+const BOTH: Blocks = Blocks {
+    flow: true,
+    threads: true,
+    mutex: false,
+    freed: false,
 };
 
 /// The flow, the trigger, and whether the chip stores edges, takes them back and can send them again.
 #[derive(Clone, Copy)]
 struct Shape(FlowKind, Trigger, bool);
 
-const fn device(dev: DevNo, kind: Kind) -> DeviceDef {
-    DeviceDef {
-        dev,
-        line: LINE,
-        kind,
-    }
-}
+/// Who steps, which entry is added (or none), and then: the lowest thread, the taker, the blocks.
+#[derive(Clone, Copy)]
+struct Row(Actor, Option<Entry>, Option<DevNo>, Option<CpuNo>, Blocks);
+
+const TABLE: [Row; 12] = [
+    Row(
+        BY_DRIVER,
+        Some(Entry::Request {
+            driver: DRIVER,
+            dev: DEV,
+            flags: ONESHOT,
+            answer: LinkAnswer::Linked,
+            opened: Opened::Started { resend: Resend::No },
+        }),
+        None,
+        None,
+        NOTHING,
+    ),
+    Row(
+        BY_DRIVER,
+        Some(Entry::Ask {
+            driver: DRIVER,
+            dev: DEV,
+        }),
+        None,
+        Some(CPU),
+        NOTHING,
+    ),
+    Row(
+        BY_CPU,
+        Some(Entry::Take {
+            cpu: CPU,
+            way: Way::Line,
+            answer: TakeAnswer::Handle,
+        }),
+        None,
+        None,
+        FLOW,
+    ),
+    Row(
+        BY_CPU,
+        Some(Entry::Begin { cpu: CPU, dev: DEV }),
+        None,
+        None,
+        FLOW,
+    ),
+    Row(
+        BY_CPU,
+        Some(Entry::Return {
+            cpu: CPU,
+            dev: DEV,
+            answer: Answer::Wake,
+            served: 0,
+        }),
+        Some(DEV),
+        None,
+        BOTH,
+    ),
+    Row(
+        BY_THREAD,
+        Some(Entry::ThreadBegin { dev: DEV }),
+        Some(DEV),
+        None,
+        BOTH,
+    ),
+    // the thread is done before the flow ends, so it waits for that
+    Row(
+        BY_THREAD,
+        Some(Entry::ThreadReturn {
+            dev: DEV,
+            served: 1,
+        }),
+        None,
+        None,
+        BOTH,
+    ),
+    Row(BY_THREAD, None, None, None, BOTH),
+    Row(
+        BY_CPU,
+        Some(Entry::End {
+            cpu: CPU,
+            again: false,
+            unmask: false,
+            note: Note::Quiet,
+        }),
+        Some(DEV),
+        None,
+        THREADS,
+    ),
+    Row(
+        BY_THREAD,
+        Some(Entry::Finish {
+            dev: DEV,
+            kept: false,
+            unmask: true,
+        }),
+        Some(DEV),
+        None,
+        THREADS,
+    ),
+    Row(
+        BY_THREAD,
+        Some(Entry::Done { dev: DEV }),
+        None,
+        None,
+        NOTHING,
+    ),
+    Row(BY_DRIVER, None, None, None, NOTHING),
+];
 
 fn item_list<T: Copy>(alloc: Global, items: &[T]) -> Result<ItemList<T>, NoMemory>
     ensures { IfOk result (λ list. list ≡ items.now) }
@@ -106,179 +246,38 @@ fn step<L: IrqLine>(line: &mut L, actor: Actor) -> Result<Stepped, StepRefused> 
     }
 }
 
-/// One step of each, which must agree in everything.
-fn step_both<L: IrqLine, M: IrqLine>(rt: &impl Abort, line: &mut L, other: &mut M, actor: Actor) {
-    assert!(rt; step(line, actor) == step(other, actor));
-    assert!(rt; line.lowest_thread() == other.lowest_thread());
-    assert!(rt; line.in_flow() == other.in_flow());
-    assert!(rt; line.taker() == other.taker());
-    assert!(rt; line.blocks() == other.blocks());
-    assert!(rt; line.present(CpuNo(0)) == other.present(CpuNo(0)));
-    assert!(rt; line.present(CpuNo(1)) == other.present(CpuNo(1)));
+/// Makes the steps of the table, each of which must add its entry and leave what is told of the line as it says.
+fn play<L: IrqLine>(rt: &impl Abort, line: &mut L, table: &[Row]) {
+    for (i, row) in table.iter().enumerate() {
+        let wanted = match row.1 {
+            Some(entry) => Stepped::Added(entry),
+            None => Stepped::NotYet,
+        };
+        assert!(rt; step(line, row.0) == Ok(wanted), "the answer of step {i}");
+        assert!(rt;
+            line.lowest_thread() == row.2,
+            "the lowest thread after step {i}"
+        );
+        assert!(rt; line.taker() == row.3, "the taker after step {i}");
+        assert!(rt; line.blocks() == row.4, "the blocks after step {i}");
+    }
 }
 
-/// How many entries of the history a driver made.
-fn of_drivers(history: &History) -> u64 {
-    let mut found = 0u64;
-    for i in 0..history.len() {
-        if let Some(entry) = history.get(i) {
-            if let Actor::Driver(_) = entry.actor(LINE) {
-                found = found.wrapping_add(1);
-            }
-        }
-    }
-    found
-}
-
-/// Both lines of a definition, thirty rounds of all actors. `wanted`: how many entries the calls make.
-fn compare(
-    rt: &impl Abort,
-    alloc: Global,
-    shape: Shape,
-    devices: &[DeviceDef],
-    calls: &[(DriverNo, Call)],
-    wanted: u64,
-) -> Result<(), NoMemory>
-    requires { IsTrue (fits (row_line shape.0 shape.1 shape.2 3 2 100000 99900 devices.now calls.now)) }
-{
-    let def = definition(alloc, shape, devices, calls)?;
-    let mut line = MakesCellLine.make(alloc, 9, &def)?;
-    let mut plain = PlainLine::new(alloc, &def)?;
-    for _ in 0..30 {
-        for actor in &ACTORS {
-            step_both(rt, &mut line, &mut plain, *actor);
-        }
-    }
-    assert!(rt; of_drivers(line.history()) == wanted);
+/// A one-shot level line of one device, whose thread is done before the flow ends.
+#[test]
+fn one_shot_level(rt: HostRuntime) -> Result<(), Fail> {
+    let shape = Shape(FlowKind::Level, Trigger::Level, false);
+    let def = definition(rt.alloc(), shape, &[CHECK], &[REQUEST, ASK])?;
+    let mut line = MakesCellLine.make(rt.alloc(), 9, &def)?;
+    play(&rt, &mut line, &TABLE);
+    assert!(rt; line.in_flow() == None);
+    assert!(rt; !line.present(CPU));
     assert!(rt; !line.chip().signal());
     line.is_sound();
     line.reserve()?;
     assert!(rt; line.spare() >= 1);
     assert!(rt; line.definition().line == LINE);
-    assert!(rt; line.into_history().len() == plain.history().len());
-    Ok(())
-}
-
-/// An edge line of one threaded device: two asks, a synchronisation and a free.
-#[test]
-fn edge_line(rt: HostRuntime) -> Result<(), Fail> {
-    let devices = [device(DEV, Kind::Check)];
-    let calls = [
-        (
-            DRIVER,
-            Call::Request {
-                dev: DEV,
-                flags: Flags::NONE,
-            },
-        ),
-        (DRIVER, Call::Ask { dev: DEV }),
-        (DRIVER, Call::Ask { dev: DEV }),
-        (DRIVER, Call::Sync),
-        (DRIVER, Call::Free { dev: DEV }),
-    ];
-    compare(
-        &rt,
-        rt.alloc(),
-        Shape(FlowKind::Edge, Trigger::Edge, true),
-        &devices,
-        &calls,
-        8,
-    )?;
-    Ok(())
-}
-
-/// A level line that two devices share, both one-shot, disabled between their asks.
-#[test]
-fn level_line(rt: HostRuntime) -> Result<(), Fail> {
-    let devices = [device(DEV, Kind::Check), device(SECOND, Kind::Null)];
-    let calls = [
-        (
-            DRIVER,
-            Call::Request {
-                dev: DEV,
-                flags: ONESHOT,
-            },
-        ),
-        (
-            DRIVER,
-            Call::Request {
-                dev: SECOND,
-                flags: ONESHOT,
-            },
-        ),
-        (DRIVER, Call::Ask { dev: SECOND }),
-        (DRIVER, Call::Disable),
-        (DRIVER, Call::Ask { dev: DEV }),
-        (DRIVER, Call::Enable),
-        (DRIVER, Call::Enable),
-        (DRIVER, Call::Free { dev: SECOND }),
-        (DRIVER, Call::Free { dev: DEV }),
-    ];
-    compare(
-        &rt,
-        rt.alloc(),
-        Shape(FlowKind::Level, Trigger::Level, false),
-        &devices,
-        &calls,
-        15,
-    )?;
-    Ok(())
-}
-
-/// A level line on the fast-EOI flow, aimed at another processor on the way.
-#[test]
-fn fast_eoi_line(rt: HostRuntime) -> Result<(), Fail> {
-    let devices = [device(DEV, Kind::Direct)];
-    let calls = [
-        (
-            DRIVER,
-            Call::Request {
-                dev: DEV,
-                flags: ONESHOT,
-            },
-        ),
-        (DRIVER, Call::Ask { dev: DEV }),
-        (DRIVER, Call::Affinity { mask: 2 }),
-        (DRIVER, Call::Moment { at: 5 }),
-        (DRIVER, Call::Ask { dev: DEV }),
-        (DRIVER, Call::Free { dev: DEV }),
-    ];
-    compare(
-        &rt,
-        rt.alloc(),
-        Shape(FlowKind::Eoi, Trigger::Level, false),
-        &devices,
-        &calls,
-        8,
-    )?;
-    Ok(())
-}
-
-/// An edge line on the fast-EOI flow: what comes while it is disabled is sent again.
-#[test]
-fn fast_eoi_edge_line(rt: HostRuntime) -> Result<(), Fail> {
-    let devices = [device(DEV, Kind::Direct)];
-    let calls = [
-        (
-            DRIVER,
-            Call::Request {
-                dev: DEV,
-                flags: Flags::NONE,
-            },
-        ),
-        (DRIVER, Call::DisableNosync),
-        (DRIVER, Call::Ask { dev: DEV }),
-        (DRIVER, Call::Sync),
-        (DRIVER, Call::Enable),
-        (DRIVER, Call::Ask { dev: DEV }),
-    ];
-    compare(
-        &rt,
-        rt.alloc(),
-        Shape(FlowKind::Eoi, Trigger::Edge, true),
-        &devices,
-        &calls,
-        7,
-    )?;
+    assert!(rt; line.history().len() == 10);
+    assert!(rt; line.into_history().get(9) == Some(Entry::Done { dev: DEV }));
     Ok(())
 }

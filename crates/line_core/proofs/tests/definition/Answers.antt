@@ -1,5 +1,5 @@
-use Rattle.plain_line.specs.Tests.{row_line}
-use Rattle.plain_line.proofs.Rows.{fits_is_valid}
+use Rattle.line_core.specs.Tests.{row_line}
+use Rattle.line_core.proofs.Rows.{fits_is_valid}
 use Rattle.line_core.proofs.tests.definition.Goals as goal
 
 pub returns : goal.returns

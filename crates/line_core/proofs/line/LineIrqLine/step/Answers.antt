@@ -14,10 +14,12 @@ returns-in-Some-unanswered-clause-answer g c =
     let line : LineSeen = record { def = c.self.inside.def; entries = c.self.inside.history.entries; spare = c.self.inside.history.spare } in
     let due : next line.def line.entries c.args.actor ≡ Some c.in-Some.entry = subst (λ (l : LineSeen). next l.def l.entries c.args.actor ≡ Some c.in-Some.entry) (sym c.self.view_is) (sym c.due.ensures ∙ c.in-Some.is) in
     let below : length line.entries < line.def.log = search (rules, arith) in
-    let some = c.in-Some-unanswered.ensures.some in
-    (subst (λ (l : LineSeen). WantsRun l c.args.actor c.args.said (record { def = c.run.inside.def; part = c.run.inside.part; unserved = c.run.inside.unserved })) c.self.view_is
-    (subst (λ (r : Run). WantsRun line c.args.actor c.args.said r) (sym c.run.view_is)
-    (wants line c.self.inside.state.state c.self.inside.scripts c.args.actor c.args.said c.in-Some.entry c.self.invariant due c.in-Some-unanswered.run' some.0 some.1 below)), refl)
+    let some = c.in-Some-unanswered.ensures.some in (
+      subst (λ (l : LineSeen). WantsRun l c.args.actor c.args.said (record { def = c.run.inside.def; part = c.run.inside.part; unserved = c.run.inside.unserved })) c.self.view_is
+          (subst (λ (r : Run). WantsRun line c.args.actor c.args.said r) (sym c.run.view_is)
+          (wants line c.self.inside.state.state c.self.inside.scripts c.args.actor c.args.said c.in-Some.entry c.self.invariant due c.in-Some-unanswered.run' some.0 some.1 below)),
+      refl,
+    )
 
 pub returns-clause-answer : goal.returns-clause-answer
 returns-clause-answer g c =
