@@ -4,7 +4,6 @@ use Rattle.irq_base.specs.declared.entries.Note.{Note}
 use Rattle.irq_base.specs.declared.entries.Note.TheVariants as notes
 use Rattle.irq_base.specs.declared.lines.LineDef.{LineDef}
 use Rattle.irq_base.specs.declared.numbers.CpuNo.{CpuNo}
-use Rattle.desc_state.specs.Desc.{DescSeen}
 use Rattle.flow_handlers.specs.declared.left.Left.{Left}
 use Rattle.line_marks.specs.Acts.{noted_at, killed_by, killed_if, left_by, left_at, gone_on}
 use Rattle.line_marks.specs.CpuDue.{is_held, note_by, end_by}
@@ -37,5 +36,5 @@ end_joined def s noted killed ended last note left by_note by_noted by_killed by
     let k : killed ≡ killed_by (note_by s) (noted_at s) = by_killed ∙ rw (by_note, by_noted) refl in
     let l : left ≡ left_by def def.flow (is_held s) (killed_if (note_by s) s.desc) = by_left ∙ (ap (λ (t : StateSeen). left_by def def.flow (is_held t) t.desc) k ∙ killed_left def (note_by s) (noted_at s)) in
     let e : ended ≡ left_at def def.flow (is_held s) (killed_by (note_by s) (noted_at s)) =
-        by_ended ∙ (ap (λ (t : StateSeen). left_at def def.flow (is_held t) t) k ∙ ap (λ held. left_at def def.flow held (killed_by (note_by s) (noted_at s))) (killed_held (note_by s) (noted_at s))) in
+    by_ended ∙ (ap (λ (t : StateSeen). left_at def def.flow (is_held t) t) k ∙ ap (λ held. left_at def def.flow held (killed_by (note_by s) (noted_at s))) (killed_held (note_by s) (noted_at s))) in
     by_last ∙ (ap (λ (x : Left). gone_on def x.again ended) l ∙ (ap (gone_on def (left_by def def.flow (is_held s) (killed_if (note_by s) s.desc)).again) e ∙ sym (end_at def s c)))

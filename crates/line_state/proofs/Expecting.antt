@@ -1,5 +1,5 @@
 -- What is due is as its function expects it, where the counts have room.
-use Rattle.std.proofs.Common.{◌≡◌, ℕ, ◌==◌, ◌-◌, ◌<◌, ◌^◌, Bool, true, false, not, cond, eqb, is_some, Option, Some, None, refl, sym, ap, ◌∙◌, subst}
+use Rattle.std.proofs.Common.{◌≡◌, ℕ, ◌==◌, ◌-◌, ◌<◌, ◌^◌, Bool, true, false, not, cond, is_some, Option, Some, None, refl, sym, subst}
 use Rattle.irq_base.specs.Cell.{signals}
 use Rattle.irq_base.specs.declared.calls.Call.{Call}
 use Rattle.irq_base.specs.declared.calls.Call.TheVariants as calls
@@ -24,7 +24,7 @@ use Rattle.act_thread.specs.declared.rows.Stage.TheVariants as stages
 use Rattle.act_thread.specs.declared.rows.ThreadRow.{ThreadRow}
 use Rattle.line_marks.specs.CpuDue.{cpu_due, in_flow_by, begin_or_end_by, next_take_by, take_by}
 use Rattle.line_marks.specs.DriversDue.{driver_due, request_to, clear_by, synced_by, freed_by, free_by}
-use Rattle.line_marks.specs.Due.{thread_due, due_of_row, due_at_stage, after_return, finish_opens}
+use Rattle.line_marks.specs.Due.{thread_due, due_of_row, due_at_stage, finish_opens}
 use Rattle.line_marks.specs.Expected.{IsExpected, HasRounds, HasDepth, IsOpen}
 use Rattle.line_marks.specs.Kinds.{kind_at}
 use Rattle.line_marks.specs.State.{StateSeen}
@@ -71,7 +71,7 @@ takes def s c rounds =
     let by_line = Some (entries.Take c ways.Line (take_by s)) in
     let by_resend = Some (entries.Take c ways.Resend (take_by s)) in
     if_due def s (not (is_cpu c (lowest_in s.aim.cpus s.aim.mask))) None (cond (signals s.cell) by_line (cond s.desc.soft by_resend None)) record {}
-      (if_due def s (signals s.cell) by_line (cond s.desc.soft by_resend None) (refl, rounds) (if_due def s s.desc.soft by_resend None (refl, rounds) record {}))
+    (if_due def s (signals s.cell) by_line (cond s.desc.soft by_resend None) (refl, rounds) (if_due def s s.desc.soft by_resend None (refl, rounds) record {}))
 
 pub expected_of_cpu : (def : LineDef) (s : StateSeen) (c : CpuNo) (e : Entry) → cpu_due def s c ≡ Some e → HasRounds s → HasDepth s → IsOpen def s → IsExpected def e s
 expected_of_cpu def s c e due rounds depth opened =
@@ -89,7 +89,7 @@ frees : (def : LineDef) (s : StateSeen) (r : DriverNo) (d : DevNo) (n : ℕ) →
 frees def s r d n =
     let unlink = Some (entries.Unlink r d (unlink_by d s.list.actions)) in
     if_due def s (n == 0) (cond (is_some s.freeing) None unlink) (cond (n == 1) (clear_by r s) (freed_by r d s)) (if_due def s (is_some s.freeing) None unlink record {} refl)
-      (if_due def s (n == 1) (clear_by r s) (freed_by r d s) (clears def s r) (if_due def s (is_idle_at s.threads d) (Some (entries.Freed r d)) None record {} record {}))
+    (if_due def s (n == 1) (clear_by r s) (freed_by r d s) (clears def s r) (if_due def s (is_idle_at s.threads d) (Some (entries.Freed r d)) None record {} record {}))
 
 requests : (def : LineDef) (s : StateSeen) (r : DriverNo) (d : DevNo) (flags : Flags) (answer : LinkAnswer) → answer_by (kind_at s.kinds d) flags s.list.actions ≡ answer
     → has d s.list.actions ≡ false → Expects def s (Some (request_to def r d flags s answer))

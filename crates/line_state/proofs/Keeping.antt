@@ -1,5 +1,5 @@
 -- No entry changes what is fixed of a line's chip and of its aim.
-use Rattle.std.proofs.Common.{◌≡◌, ℕ, Bool, true, false, ◌&&◌, cond, refl, ◌∙◌}
+use Rattle.std.proofs.Common.{◌≡◌, Bool, true, false, ◌&&◌, cond, refl, ◌∙◌}
 use Rattle.irq_base.specs.Cell.{Cell, is_edge_cell, after_edge, after_high, after_mask, after_unmask, after_accept, after_ack, after_eoi, after_retrigger, can_retrigger}
 use Rattle.irq_base.specs.declared.entries.AffinityAnswer.TheVariants as moves
 use Rattle.irq_base.specs.declared.entries.Entry.{Entry}
@@ -82,14 +82,14 @@ enters def flows.Eoi o takes.Handle c = either c (is_edge_line def) (after_ack c
 enters def flows.Eoi o takes.Busy c = either c (is_edge_line def) (after_eoi (after_ack c)) (after_eoi c) (by c (after_ack c) (after_eoi (after_ack c)) (ack c) (eoi (after_ack c))) (eoi c)
 enters def flows.Eoi o takes.Off c =
     either c (is_edge_line def) (after_eoi (after_mask (after_ack c))) (after_eoi (after_mask c)) (by c (after_mask (after_ack c)) (after_eoi (after_mask (after_ack c))) (mask_ack c) (eoi (after_mask (after_ack c))))
-      (by c (after_mask c) (after_eoi (after_mask c)) (mask c) (eoi (after_mask c)))
+    (by c (after_mask c) (after_eoi (after_mask c)) (mask c) (eoi (after_mask c)))
 
 leaves : (def : LineDef) (f : FlowKind) (again u : Bool) (c : Cell) → Alike c (ended def f again u c)
 leaves def flows.Level again u c = unmask_if u c
 leaves def flows.Edge again u c = unmask_if u c
 leaves def flows.Eoi again u c =
     by c (unmasked_if u (after_eoi c)) (ended def flows.Eoi again u c) (by c (after_eoi c) (unmasked_if u (after_eoi c)) (eoi c) (unmask_if u (after_eoi c)))
-      (retrigger_if (is_edge_line def && again) (unmasked_if u (after_eoi c)))
+    (retrigger_if (is_edge_line def && again) (unmasked_if u (after_eoi c)))
 
 starts : (e : Entry) (c : Cell) → Alike c (retriggered_if (is_chip_start e) (unmasked_if (is_start e) c))
 starts e c = by c (unmasked_if (is_start e) c) (retriggered_if (is_chip_start e) (unmasked_if (is_start e) c)) (unmask_if (is_start e) c) (retrigger_if (is_chip_start e) (unmasked_if (is_start e) c))

@@ -6,7 +6,6 @@ use Rattle.irq_base.specs.declared.devices.Kind.{Kind}
 use Rattle.irq_base.specs.declared.lines.FlowKind.TheVariants as flows
 use Rattle.irq_base.specs.declared.lines.LineDef.{LineDef}
 use Rattle.irq_base.specs.declared.lines.Trigger.TheVariants as triggers
-use Rattle.irq_base.specs.declared.numbers.DevNo.{DevNo}
 use Rattle.irq_base.specs.declared.numbers.LineNo.{LineNo}
 use Rattle.irq_model.specs.Valid.{IsValid}
 use Rattle.line_marks.specs.State.{StateSeen, IsOf}

@@ -24,7 +24,12 @@ impl<C: Chip> LineState<C> {
             Entry::Ask { dev, .. } => self.ask(def, dev),
             Entry::Take { cpu, way, .. } => self.take(def, cpu, way),
             Entry::Begin { dev, .. } => self.begin(dev),
-            Entry::Return { dev, answer, served, .. } => self.returned(def, dev, answer, served),
+            Entry::Return {
+                dev,
+                answer,
+                served,
+                ..
+            } => self.returned(def, dev, answer, served),
             Entry::End { .. } => self.end(def),
             Entry::ThreadBegin { dev } => self.thread_begin(dev),
             Entry::ThreadReturn { dev, served } => self.thread_returned(def, dev, served),
@@ -33,7 +38,13 @@ impl<C: Chip> LineState<C> {
             Entry::Disable { .. } => self.disable(),
             Entry::HardClear { .. } | Entry::Synced { .. } => {}
             Entry::Enable { .. } => self.enable(def),
-            Entry::Request { driver, dev, flags, answer, opened } => {
+            Entry::Request {
+                driver,
+                dev,
+                flags,
+                answer,
+                opened,
+            } => {
                 self.request(def, driver, dev, flags, answer, opened);
             }
             Entry::Unlink { driver, dev, .. } => self.unlink(driver, dev),

@@ -12,7 +12,9 @@ ghost use Rattle.line_marks.specs.CpuDue.{is_held, met_by, return_by, note_by, e
 
 use crate::state::LineState;
 use flow_handlers::Left;
-use irq_base::{Answer, Chip, CpuNo, DevNo, Entry, FlowKind, Kind, LineDef, Note, TakeAnswer, Trigger, Way};
+use irq_base::{
+    Answer, Chip, CpuNo, DevNo, Entry, FlowKind, Kind, LineDef, Note, TakeAnswer, Trigger, Way,
+};
 
 impl<C: Chip> LineState<C> {
     /// The entry that is due of the processor, if there is one: in its flow the next of the round, else a take.
@@ -89,8 +91,11 @@ impl<C: Chip> LineState<C> {
     fn note(&self) -> Note
         ensures { result ≡ note_by self.now.state }
     {
-        self.counts
-            .judge(self.round.moment(), self.round.wakes(), self.round.handles())
+        self.counts.judge(
+            self.round.moment(),
+            self.round.wakes(),
+            self.round.handles(),
+        )
     }
 
     /// What the flow handler will do at the round's end, after that note: a kill leaves the line disabled.

@@ -14,14 +14,20 @@ ghost use Rattle.line_state.specs.Seen.{IsAimOf};
 use crate::state::LineState;
 use affinity::has_processor;
 use irq_base::{
-    AffinityAnswer, Call, Chip, DevNo, DriverNo, EnableAnswer, Entry, Errno, Flags, LineDef, LinkAnswer, Opened, Resend,
-    Trigger, UnlinkAnswer,
+    AffinityAnswer, Call, Chip, DevNo, DriverNo, EnableAnswer, Entry, Errno, Flags, LineDef,
+    LinkAnswer, Opened, Resend, Trigger, UnlinkAnswer,
 };
 
 impl<C: Chip> LineState<C> {
     /// The entry that is due of the driver, if there is one, where `call` is its first call that isn't complete and
     /// `within` of its entries are there.
-    pub fn due_of_call(&self, def: &LineDef, driver: DriverNo, call: Call, within: u32) -> Option<Entry>
+    pub fn due_of_call(
+        &self,
+        def: &LineDef,
+        driver: DriverNo,
+        call: Call,
+        within: u32,
+    ) -> Option<Entry>
         requires valid { IsValid def.now }
         requires is_of { IsOf def.now self.now.state }
         requires aim { IsAimOf def.now self.now.state.aim }
@@ -48,7 +54,13 @@ impl<C: Chip> LineState<C> {
     }
 
     /// `request_threaded_irq`, once no free is in progress.
-    fn due_of_request(&self, def: &LineDef, driver: DriverNo, dev: DevNo, flags: Flags) -> Option<Entry>
+    fn due_of_request(
+        &self,
+        def: &LineDef,
+        driver: DriverNo,
+        dev: DevNo,
+        flags: Flags,
+    ) -> Option<Entry>
         requires { IsOf def.now self.now.state }
         ensures { result ≡ (if is_some self.now.state.freeing then None
             else Some (request_to def.now driver dev flags self.now.state (answer_by (kind_at self.now.state.kinds dev) flags self.now.state.list.actions))) }

@@ -46,7 +46,13 @@ impl<C: Chip> LineState<C> {
         match def.flow {
             FlowKind::Level => level::enter(&mut self.desc, &mut self.chip, cpu, linked),
             FlowKind::Edge => edge::enter(&mut self.desc, &mut self.chip, cpu, linked),
-            FlowKind::Eoi => fasteoi::enter(&mut self.desc, &mut self.chip, cpu, linked, def.trigger),
+            FlowKind::Eoi => fasteoi::enter(
+                &mut self.desc,
+                &mut self.chip,
+                cpu,
+                linked,
+                def.trigger,
+            ),
         }
     }
 

@@ -17,7 +17,15 @@ use irq_base::{Chip, DevNo, DriverNo, Flags, LineDef, LinkAnswer, Opened, Trigge
 impl<C: Chip> LineState<C> {
     /// `__setup_irq`: where the request is linked, it starts or enables the line by `opened`. A refused one changes
     /// nothing.
-    pub(crate) fn request(&mut self, def: &LineDef, driver: DriverNo, dev: DevNo, flags: Flags, answer: LinkAnswer, opened: Opened)
+    pub(crate) fn request(
+        &mut self,
+        def: &LineDef,
+        driver: DriverNo,
+        dev: DevNo,
+        flags: Flags,
+        answer: LinkAnswer,
+        opened: Opened,
+    )
         requires expected { IsExpected def.now (entries.Request driver dev flags answer opened) self.old.state }
         requires room { is_linked_answer answer ≡ true → 1 ≤ self.old.spare }
         ensures { self.new.state ≡ state_after def.now (entries.Request driver dev flags answer opened) self.old.state }

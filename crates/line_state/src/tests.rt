@@ -6,6 +6,7 @@ ghost use Rattle.line_state.specs.Seen.{HasCallRoom};
 ghost use Rattle.line_state.specs.Tests.{two_devices, tried_line};
 
 mod lines;
+mod words;
 
 use crate::state::LineState;
 use irq_base::{
@@ -91,7 +92,11 @@ fn definition(
     let calls = CallList::new(alloc);
     Ok(LineDef {
         line: LineNo(1),
-        flow: if edge { FlowKind::Edge } else { FlowKind::Level },
+        flow: if edge {
+            FlowKind::Edge
+        } else {
+            FlowKind::Level
+        },
         trigger: if edge { Trigger::Edge } else { Trigger::Level },
         keeps: edge,
         recalls: edge,

@@ -1,49 +1,38 @@
 //! The tables.
-use super::{CPU, DRIVER, FIRST, OTHER_CPU, Row, SECOND, Stand, Tried, Who, play};
-use irq_base::{
-    AffinityAnswer, Answer, Call, EnableAnswer, Entry, Errno, Flags, Kind, LinkAnswer, Note, Opened,
-    Resend, TakeAnswer, UnlinkAnswer, Way,
+use super::words::{
+    AIM_AT_CPU1, AIM_OUTSIDE, ASK, ASK_SECOND, ASKED, BEGUN, CLEARED, COUNTED, CPU0, CPU1, DISABLE,
+    DISABLE_CLEAR, DISABLE_END, DISABLE_NOSYNC, DISABLED, DONE, ENABLE, ENDED, FINISHED, FREE,
+    FREE_CLEAR, FREE_END, FREE_SECOND, FREED, GOES_ON, HANDLED, KEPT, KILLED, LATER, LINKED,
+    LINKED_BOTH, LINKED_NOAUTO, LINKED_ONESHOT, LINKED_SHARED, LOWERED, MASKED, MASKED_FIRST,
+    MASKED_SECOND, MOMENT, MOVES_LATER, MOVES_NOW, MOVES_NOWHERE, NOT_THERE, OFF, OPEN, OPEN_FIRST,
+    OPEN_SECOND, OPENED, PENDING, REFUSED_CONTRARY, REQUEST, REQUEST_BOTH, REQUEST_CONTRARY,
+    REQUEST_NOAUTO, REQUEST_ONESHOT, REQUEST_SHARED, SECOND_ASKED, SECOND_BEGUN, SECOND_BOTH,
+    SECOND_BUSY, SECOND_DONE, SECOND_ENABLES, SECOND_FINISHED, SECOND_LINKED, SECOND_LINKED_ALONE,
+    SECOND_ONESHOT, SECOND_PLAIN, SECOND_REFUSED, SECOND_SHARED, SECOND_THREAD_BEGUN,
+    SECOND_THREAD_SERVED, SECOND_WOKE, SIGNALS, STARTED, STARTED_BY_CHIP, SYNC, SYNC_END, SYNCED,
+    TAKEN, TAKEN_BUSY, TAKEN_OFF, THREAD_BEGUN, THREAD_SERVED, THREAD1, THREAD2, TO_CPU0,
+    TO_CPU0_FIRST, TO_CPU1, UNBALANCED, UNHANDLED, UNLINKED, WOKE,
 };
+use super::{CPU, Row, Stand, Tried, play};
+use irq_base::Kind;
 use std::test::Fail;
 
-const CPU0: Who = Who::Cpu(CPU);
-
-const CPU1: Who = Who::Cpu(OTHER_CPU);
-
-const THREAD1: Who = Who::Thread(FIRST);
-
-const THREAD2: Who = Who::Thread(SECOND);
-
-const STARTED: Opened = Opened::Started { resend: Resend::No };
-
-const PLAIN: Flags = Flags { shared: false, oneshot: false, noauto: false };
-
-const SHARED: Flags = Flags { shared: true, oneshot: false, noauto: false };
-
-const ONESHOT: Flags = Flags { shared: false, oneshot: true, noauto: false };
-
-const NOAUTO: Flags = Flags { shared: false, oneshot: false, noauto: true };
-
-const SHARED_ONESHOT: Flags = Flags { shared: true, oneshot: true, noauto: false };
-
-const SHARED_NOAUTO: Flags = Flags { shared: true, oneshot: false, noauto: true };
-
 const AN_EDGE_DURING_THE_HANDLER: [Row; 14] = [
-    (Who::Call(Call::Request { dev: FIRST, flags: PLAIN }, 0), Some(Entry::Request { driver: DRIVER, dev: FIRST, flags: PLAIN, answer: LinkAnswer::Linked, opened: STARTED }), Stand(0, false, false, false, None, None)),
-    (Who::Call(Call::Ask { dev: FIRST }, 0), Some(Entry::Ask { driver: DRIVER, dev: FIRST }), Stand(0, false, false, true, Some(CPU), None)),
-    (CPU0, Some(Entry::Take { cpu: CPU, way: Way::Line, answer: TakeAnswer::Handle }), Stand(0, false, false, false, None, None)),
-    (CPU0, Some(Entry::Begin { cpu: CPU, dev: FIRST }), Stand(0, false, false, false, None, None)),
+    (REQUEST, LINKED, OPEN),
+    (ASK, ASKED, TO_CPU0),
+    (CPU0, TAKEN, OPEN),
+    (CPU0, BEGUN, OPEN),
     // an edge during the handler; the target is in the flow
-    (Who::Call(Call::Ask { dev: FIRST }, 0), Some(Entry::Ask { driver: DRIVER, dev: FIRST }), Stand(0, false, false, true, None, None)),
-    (CPU1, None, Stand(0, false, false, true, None, None)),
-    (Who::Call(Call::Affinity { mask: 2 }, 0), Some(Entry::Affinity { driver: DRIVER, mask: 2, answer: AffinityAnswer::Now }), Stand(0, false, false, true, Some(OTHER_CPU), None)),
-    (CPU1, Some(Entry::Take { cpu: OTHER_CPU, way: Way::Line, answer: TakeAnswer::Busy }), Stand(0, true, true, false, None, None)),
-    (CPU0, Some(Entry::Return { cpu: CPU, dev: FIRST, answer: Answer::Handled, served: 1 }), Stand(0, true, true, false, None, None)),
-    (CPU0, Some(Entry::End { cpu: CPU, again: true, unmask: true, note: Note::Quiet }), Stand(0, false, false, false, None, None)),
-    (CPU0, Some(Entry::Begin { cpu: CPU, dev: FIRST }), Stand(0, false, false, false, None, None)),
-    (CPU0, Some(Entry::Return { cpu: CPU, dev: FIRST, answer: Answer::Handled, served: 1 }), Stand(0, false, false, false, None, None)),
-    (CPU0, Some(Entry::End { cpu: CPU, again: false, unmask: false, note: Note::Quiet }), Stand(0, false, false, false, None, None)),
-    (CPU0, None, Stand(0, false, false, false, None, None)),
+    (ASK, ASKED, SIGNALS),
+    (CPU1, None, SIGNALS),
+    (AIM_AT_CPU1, MOVES_NOW, TO_CPU1),
+    (CPU1, TAKEN_BUSY, PENDING),
+    (CPU0, HANDLED, PENDING),
+    (CPU0, GOES_ON, OPEN),
+    (CPU0, BEGUN, OPEN),
+    (CPU0, HANDLED, OPEN),
+    (CPU0, ENDED, OPEN),
+    (CPU0, None, OPEN),
 ];
 
 /// An edge that comes while the handler runs is taken by another processor, found busy, and handled in a second round.
@@ -55,16 +44,16 @@ fn an_edge_during_the_handler(rt: HostRuntime) -> Result<(), Fail> {
 }
 
 const AFFINITY_LATER: [Row; 10] = [
-    (Who::Call(Call::Request { dev: FIRST, flags: PLAIN }, 0), Some(Entry::Request { driver: DRIVER, dev: FIRST, flags: PLAIN, answer: LinkAnswer::Linked, opened: STARTED }), Stand(0, false, false, false, None, None)),
-    (Who::Call(Call::Affinity { mask: 2 }, 0), Some(Entry::Affinity { driver: DRIVER, mask: 2, answer: AffinityAnswer::Later }), Stand(0, false, false, false, None, None)),
-    (Who::Call(Call::Ask { dev: FIRST }, 0), Some(Entry::Ask { driver: DRIVER, dev: FIRST }), Stand(0, false, false, true, Some(CPU), None)),
-    (CPU1, None, Stand(0, false, false, true, Some(CPU), None)),
-    (CPU0, Some(Entry::Take { cpu: CPU, way: Way::Line, answer: TakeAnswer::Handle }), Stand(0, false, false, false, None, None)),
-    (CPU0, Some(Entry::Begin { cpu: CPU, dev: FIRST }), Stand(0, false, false, false, None, None)),
-    (CPU0, Some(Entry::Return { cpu: CPU, dev: FIRST, answer: Answer::Handled, served: 1 }), Stand(0, false, false, false, None, None)),
-    (CPU0, Some(Entry::End { cpu: CPU, again: false, unmask: false, note: Note::Quiet }), Stand(0, false, false, false, None, None)),
-    (Who::Call(Call::Ask { dev: FIRST }, 0), Some(Entry::Ask { driver: DRIVER, dev: FIRST }), Stand(0, false, false, true, Some(OTHER_CPU), None)),
-    (Who::Call(Call::Affinity { mask: 4 }, 0), Some(Entry::Affinity { driver: DRIVER, mask: 4, answer: AffinityAnswer::Refused(Errno::Inval) }), Stand(0, false, false, true, Some(OTHER_CPU), None)),
+    (REQUEST, LINKED, OPEN),
+    (AIM_AT_CPU1, MOVES_LATER, OPEN),
+    (ASK, ASKED, TO_CPU0),
+    (CPU1, None, TO_CPU0),
+    (CPU0, TAKEN, OPEN),
+    (CPU0, BEGUN, OPEN),
+    (CPU0, HANDLED, OPEN),
+    (CPU0, ENDED, OPEN),
+    (ASK, ASKED, TO_CPU1),
+    (AIM_OUTSIDE, MOVES_NOWHERE, TO_CPU1),
 ];
 
 /// A change of the affinity waits for the next take, which the old target makes.
@@ -76,17 +65,17 @@ fn affinity_later(rt: HostRuntime) -> Result<(), Fail> {
 }
 
 const A_LEVEL_TAKEN_AGAIN: [Row; 11] = [
-    (Who::Call(Call::Request { dev: FIRST, flags: PLAIN }, 0), Some(Entry::Request { driver: DRIVER, dev: FIRST, flags: PLAIN, answer: LinkAnswer::Linked, opened: STARTED }), Stand(0, false, false, false, None, None)),
-    (Who::Call(Call::Ask { dev: FIRST }, 0), Some(Entry::Ask { driver: DRIVER, dev: FIRST }), Stand(0, false, false, true, Some(CPU), None)),
-    (CPU0, Some(Entry::Take { cpu: CPU, way: Way::Line, answer: TakeAnswer::Handle }), Stand(0, true, false, false, None, None)),
-    (CPU0, Some(Entry::Begin { cpu: CPU, dev: FIRST }), Stand(0, true, false, false, None, None)),
-    (Who::Call(Call::Ask { dev: FIRST }, 0), Some(Entry::Ask { driver: DRIVER, dev: FIRST }), Stand(0, true, false, false, None, None)),
-    (CPU0, Some(Entry::Return { cpu: CPU, dev: FIRST, answer: Answer::Handled, served: 1 }), Stand(0, true, false, false, None, None)),
-    (CPU0, Some(Entry::End { cpu: CPU, again: false, unmask: true, note: Note::Quiet }), Stand(0, false, false, true, Some(CPU), None)),
-    (CPU0, Some(Entry::Take { cpu: CPU, way: Way::Line, answer: TakeAnswer::Handle }), Stand(0, true, false, false, None, None)),
-    (CPU0, Some(Entry::Begin { cpu: CPU, dev: FIRST }), Stand(0, true, false, false, None, None)),
-    (CPU0, Some(Entry::Return { cpu: CPU, dev: FIRST, answer: Answer::Handled, served: 1 }), Stand(0, true, false, false, None, None)),
-    (CPU0, Some(Entry::End { cpu: CPU, again: false, unmask: true, note: Note::Quiet }), Stand(0, false, false, false, None, None)),
+    (REQUEST, LINKED, OPEN),
+    (ASK, ASKED, TO_CPU0),
+    (CPU0, TAKEN, MASKED),
+    (CPU0, BEGUN, MASKED),
+    (ASK, ASKED, MASKED),
+    (CPU0, HANDLED, MASKED),
+    (CPU0, OPENED, TO_CPU0),
+    (CPU0, TAKEN, MASKED),
+    (CPU0, BEGUN, MASKED),
+    (CPU0, HANDLED, MASKED),
+    (CPU0, OPENED, OPEN),
 ];
 
 /// An ask that comes after the handler began leaves the level high, and it is taken again.
@@ -98,25 +87,25 @@ fn a_level_taken_again(rt: HostRuntime) -> Result<(), Fail> {
 }
 
 const TWO_THREADS: [Row; 18] = [
-    (Who::Call(Call::Request { dev: FIRST, flags: SHARED_ONESHOT }, 0), Some(Entry::Request { driver: DRIVER, dev: FIRST, flags: SHARED_ONESHOT, answer: LinkAnswer::Linked, opened: STARTED }), Stand(0, false, false, false, None, None)),
-    (Who::Call(Call::Request { dev: SECOND, flags: SHARED_ONESHOT }, 0), Some(Entry::Request { driver: DRIVER, dev: SECOND, flags: SHARED_ONESHOT, answer: LinkAnswer::Linked, opened: Opened::No }), Stand(0, false, false, false, None, None)),
-    (Who::Call(Call::Ask { dev: FIRST }, 0), Some(Entry::Ask { driver: DRIVER, dev: FIRST }), Stand(0, false, false, true, Some(CPU), None)),
-    (Who::Call(Call::Ask { dev: SECOND }, 0), Some(Entry::Ask { driver: DRIVER, dev: SECOND }), Stand(0, false, false, true, Some(CPU), None)),
-    (CPU0, Some(Entry::Take { cpu: CPU, way: Way::Line, answer: TakeAnswer::Handle }), Stand(0, true, false, false, None, None)),
-    (CPU0, Some(Entry::Begin { cpu: CPU, dev: FIRST }), Stand(0, true, false, false, None, None)),
-    (CPU0, Some(Entry::Return { cpu: CPU, dev: FIRST, answer: Answer::Wake, served: 0 }), Stand(0, true, false, false, None, Some(FIRST))),
-    (CPU0, Some(Entry::Begin { cpu: CPU, dev: SECOND }), Stand(0, true, false, false, None, Some(FIRST))),
-    (CPU0, Some(Entry::Return { cpu: CPU, dev: SECOND, answer: Answer::Wake, served: 0 }), Stand(0, true, false, false, None, Some(FIRST))),
-    (CPU0, Some(Entry::End { cpu: CPU, again: false, unmask: false, note: Note::Quiet }), Stand(0, true, false, false, None, Some(FIRST))),
-    (THREAD1, Some(Entry::ThreadBegin { dev: FIRST }), Stand(0, true, false, false, None, Some(FIRST))),
-    (THREAD1, Some(Entry::ThreadReturn { dev: FIRST, served: 1 }), Stand(0, true, false, false, None, Some(FIRST))),
+    (REQUEST_BOTH, LINKED_BOTH, OPEN),
+    (SECOND_BOTH, SECOND_LINKED, OPEN),
+    (ASK, ASKED, TO_CPU0),
+    (ASK_SECOND, SECOND_ASKED, TO_CPU0),
+    (CPU0, TAKEN, MASKED),
+    (CPU0, BEGUN, MASKED),
+    (CPU0, WOKE, MASKED_FIRST),
+    (CPU0, SECOND_BEGUN, MASKED_FIRST),
+    (CPU0, SECOND_WOKE, MASKED_FIRST),
+    (CPU0, ENDED, MASKED_FIRST),
+    (THREAD1, THREAD_BEGUN, MASKED_FIRST),
+    (THREAD1, THREAD_SERVED, MASKED_FIRST),
     // the second thread holds the line
-    (THREAD1, Some(Entry::Finish { dev: FIRST, kept: false, unmask: false }), Stand(0, true, false, false, None, Some(FIRST))),
-    (THREAD1, Some(Entry::Done { dev: FIRST }), Stand(0, true, false, false, None, Some(SECOND))),
-    (THREAD2, Some(Entry::ThreadBegin { dev: SECOND }), Stand(0, true, false, false, None, Some(SECOND))),
-    (THREAD2, Some(Entry::ThreadReturn { dev: SECOND, served: 1 }), Stand(0, true, false, false, None, Some(SECOND))),
-    (THREAD2, Some(Entry::Finish { dev: SECOND, kept: false, unmask: true }), Stand(0, false, false, false, None, Some(SECOND))),
-    (THREAD2, Some(Entry::Done { dev: SECOND }), Stand(0, false, false, false, None, None)),
+    (THREAD1, FINISHED, MASKED_FIRST),
+    (THREAD1, DONE, MASKED_SECOND),
+    (THREAD2, SECOND_THREAD_BEGUN, MASKED_SECOND),
+    (THREAD2, SECOND_THREAD_SERVED, MASKED_SECOND),
+    (THREAD2, SECOND_FINISHED, OPEN_SECOND),
+    (THREAD2, SECOND_DONE, OPEN),
 ];
 
 /// A one-shot line stays masked until the last of its threads is done.
@@ -128,27 +117,27 @@ fn two_threads_of_a_oneshot_line(rt: HostRuntime) -> Result<(), Fail> {
 }
 
 const WOKEN_AGAIN: [Row; 20] = [
-    (Who::Call(Call::Request { dev: FIRST, flags: ONESHOT }, 0), Some(Entry::Request { driver: DRIVER, dev: FIRST, flags: ONESHOT, answer: LinkAnswer::Linked, opened: STARTED }), Stand(0, false, false, false, None, None)),
-    (Who::Call(Call::Ask { dev: FIRST }, 0), Some(Entry::Ask { driver: DRIVER, dev: FIRST }), Stand(0, false, false, true, Some(CPU), None)),
-    (CPU0, Some(Entry::Take { cpu: CPU, way: Way::Line, answer: TakeAnswer::Handle }), Stand(0, false, false, false, None, None)),
-    (CPU0, Some(Entry::Begin { cpu: CPU, dev: FIRST }), Stand(0, false, false, false, None, None)),
-    (CPU0, Some(Entry::Return { cpu: CPU, dev: FIRST, answer: Answer::Wake, served: 0 }), Stand(0, false, false, false, None, Some(FIRST))),
-    (CPU0, Some(Entry::End { cpu: CPU, again: false, unmask: false, note: Note::Quiet }), Stand(0, false, false, false, None, Some(FIRST))),
-    (THREAD1, Some(Entry::ThreadBegin { dev: FIRST }), Stand(0, false, false, false, None, Some(FIRST))),
-    (Who::Call(Call::Ask { dev: FIRST }, 0), Some(Entry::Ask { driver: DRIVER, dev: FIRST }), Stand(0, false, false, true, Some(CPU), Some(FIRST))),
-    (CPU0, Some(Entry::Take { cpu: CPU, way: Way::Line, answer: TakeAnswer::Handle }), Stand(0, false, false, false, None, Some(FIRST))),
-    (CPU0, Some(Entry::Begin { cpu: CPU, dev: FIRST }), Stand(0, false, false, false, None, Some(FIRST))),
-    (CPU0, Some(Entry::Return { cpu: CPU, dev: FIRST, answer: Answer::Wake, served: 0 }), Stand(0, false, false, false, None, Some(FIRST))),
+    (REQUEST_ONESHOT, LINKED_ONESHOT, OPEN),
+    (ASK, ASKED, TO_CPU0),
+    (CPU0, TAKEN, OPEN),
+    (CPU0, BEGUN, OPEN),
+    (CPU0, WOKE, OPEN_FIRST),
+    (CPU0, ENDED, OPEN_FIRST),
+    (THREAD1, THREAD_BEGUN, OPEN_FIRST),
+    (ASK, ASKED, TO_CPU0_FIRST),
+    (CPU0, TAKEN, OPEN_FIRST),
+    (CPU0, BEGUN, OPEN_FIRST),
+    (CPU0, WOKE, OPEN_FIRST),
     // a run that has returned waits for the end of the flow
-    (THREAD1, Some(Entry::ThreadReturn { dev: FIRST, served: 1 }), Stand(0, false, false, false, None, None)),
-    (THREAD1, None, Stand(0, false, false, false, None, None)),
-    (CPU0, Some(Entry::End { cpu: CPU, again: false, unmask: false, note: Note::Quiet }), Stand(0, false, false, false, None, Some(FIRST))),
-    (THREAD1, Some(Entry::Finish { dev: FIRST, kept: true, unmask: false }), Stand(0, false, false, false, None, Some(FIRST))),
-    (THREAD1, Some(Entry::Done { dev: FIRST }), Stand(0, false, false, false, None, Some(FIRST))),
-    (THREAD1, Some(Entry::ThreadBegin { dev: FIRST }), Stand(0, false, false, false, None, Some(FIRST))),
-    (THREAD1, Some(Entry::ThreadReturn { dev: FIRST, served: 1 }), Stand(0, false, false, false, None, Some(FIRST))),
-    (THREAD1, Some(Entry::Finish { dev: FIRST, kept: false, unmask: false }), Stand(0, false, false, false, None, Some(FIRST))),
-    (THREAD1, Some(Entry::Done { dev: FIRST }), Stand(0, false, false, false, None, None)),
+    (THREAD1, THREAD_SERVED, OPEN),
+    (THREAD1, None, OPEN),
+    (CPU0, ENDED, OPEN_FIRST),
+    (THREAD1, KEPT, OPEN_FIRST),
+    (THREAD1, DONE, OPEN_FIRST),
+    (THREAD1, THREAD_BEGUN, OPEN_FIRST),
+    (THREAD1, THREAD_SERVED, OPEN_FIRST),
+    (THREAD1, FINISHED, OPEN_FIRST),
+    (THREAD1, DONE, OPEN),
 ];
 
 /// A thread that is woken again in its run keeps its bit, and runs again.
@@ -160,23 +149,35 @@ fn woken_again_in_its_run(rt: HostRuntime) -> Result<(), Fail> {
 }
 
 const NESTED_DISABLES: [Row; 17] = [
-    (Who::Call(Call::Request { dev: FIRST, flags: PLAIN }, 0), Some(Entry::Request { driver: DRIVER, dev: FIRST, flags: PLAIN, answer: LinkAnswer::Linked, opened: STARTED }), Stand(0, false, false, false, None, None)),
-    (Who::Call(Call::DisableNosync, 0), Some(Entry::Disable { driver: DRIVER }), Stand(1, false, false, false, None, None)),
-    (Who::Call(Call::Disable, 0), Some(Entry::Disable { driver: DRIVER }), Stand(2, false, false, false, None, None)),
-    (Who::Call(Call::Disable, 1), Some(Entry::HardClear { driver: DRIVER }), Stand(2, false, false, false, None, None)),
-    (Who::Call(Call::Disable, 2), Some(Entry::Synced { driver: DRIVER }), Stand(2, false, false, false, None, None)),
-    (Who::Call(Call::Ask { dev: FIRST }, 0), Some(Entry::Ask { driver: DRIVER, dev: FIRST }), Stand(2, false, false, true, Some(CPU), None)),
-    (CPU0, Some(Entry::Take { cpu: CPU, way: Way::Line, answer: TakeAnswer::Off }), Stand(2, true, true, false, None, None)),
-    (Who::Call(Call::Enable, 0), Some(Entry::Enable { driver: DRIVER, answer: EnableAnswer::Lowered }), Stand(1, true, true, false, None, None)),
-    (Who::Call(Call::Enable, 0), Some(Entry::Enable { driver: DRIVER, answer: EnableAnswer::Started { resend: Resend::Chip } }), Stand(0, false, false, true, Some(CPU), None)),
-    (Who::Call(Call::Enable, 0), Some(Entry::Enable { driver: DRIVER, answer: EnableAnswer::Unbalanced }), Stand(0, false, false, true, Some(CPU), None)),
-    (CPU0, Some(Entry::Take { cpu: CPU, way: Way::Line, answer: TakeAnswer::Handle }), Stand(0, false, false, false, None, None)),
-    (Who::Call(Call::Sync, 0), None, Stand(0, false, false, false, None, None)),
-    (CPU0, Some(Entry::Begin { cpu: CPU, dev: FIRST }), Stand(0, false, false, false, None, None)),
-    (CPU0, Some(Entry::Return { cpu: CPU, dev: FIRST, answer: Answer::Handled, served: 1 }), Stand(0, false, false, false, None, None)),
-    (CPU0, Some(Entry::End { cpu: CPU, again: false, unmask: false, note: Note::Quiet }), Stand(0, false, false, false, None, None)),
-    (Who::Call(Call::Sync, 0), Some(Entry::HardClear { driver: DRIVER }), Stand(0, false, false, false, None, None)),
-    (Who::Call(Call::Sync, 1), Some(Entry::Synced { driver: DRIVER }), Stand(0, false, false, false, None, None)),
+    (REQUEST, LINKED, OPEN),
+    (
+        DISABLE_NOSYNC,
+        DISABLED,
+        Stand(1, false, false, false, None, None),
+    ),
+    (DISABLE, DISABLED, Stand(2, false, false, false, None, None)),
+    (
+        DISABLE_CLEAR,
+        CLEARED,
+        Stand(2, false, false, false, None, None),
+    ),
+    (
+        DISABLE_END,
+        SYNCED,
+        Stand(2, false, false, false, None, None),
+    ),
+    (ASK, ASKED, Stand(2, false, false, true, Some(CPU), None)),
+    (CPU0, TAKEN_OFF, Stand(2, true, true, false, None, None)),
+    (ENABLE, LOWERED, Stand(1, true, true, false, None, None)),
+    (ENABLE, STARTED_BY_CHIP, TO_CPU0),
+    (ENABLE, UNBALANCED, TO_CPU0),
+    (CPU0, TAKEN, OPEN),
+    (SYNC, None, OPEN),
+    (CPU0, BEGUN, OPEN),
+    (CPU0, HANDLED, OPEN),
+    (CPU0, ENDED, OPEN),
+    (SYNC, CLEARED, OPEN),
+    (SYNC_END, SYNCED, OPEN),
 ];
 
 /// What comes while two disables stand is sent again by the enable that undoes the last.
@@ -188,18 +189,18 @@ fn nested_disables(rt: HostRuntime) -> Result<(), Fail> {
 }
 
 const REFUSED_REQUESTS: [Row; 11] = [
-    (Who::Call(Call::Request { dev: SECOND, flags: PLAIN }, 0), Some(Entry::Request { driver: DRIVER, dev: SECOND, flags: PLAIN, answer: LinkAnswer::Refused(Errno::Inval), opened: Opened::No }), Stand(1, true, false, false, None, None)),
-    (Who::Call(Call::Request { dev: FIRST, flags: SHARED_NOAUTO }, 0), Some(Entry::Request { driver: DRIVER, dev: FIRST, flags: SHARED_NOAUTO, answer: LinkAnswer::Refused(Errno::Inval), opened: Opened::No }), Stand(1, true, false, false, None, None)),
-    (Who::Call(Call::Free { dev: SECOND }, 0), Some(Entry::Unlink { driver: DRIVER, dev: SECOND, answer: UnlinkAnswer::NotThere }), Stand(1, true, false, false, None, None)),
-    (Who::Call(Call::Enable, 0), Some(Entry::Enable { driver: DRIVER, answer: EnableAnswer::Unbalanced }), Stand(1, true, false, false, None, None)),
-    (Who::Call(Call::Request { dev: FIRST, flags: PLAIN }, 0), Some(Entry::Request { driver: DRIVER, dev: FIRST, flags: PLAIN, answer: LinkAnswer::Linked, opened: STARTED }), Stand(0, false, false, false, None, None)),
-    (Who::Call(Call::Request { dev: SECOND, flags: SHARED_ONESHOT }, 0), Some(Entry::Request { driver: DRIVER, dev: SECOND, flags: SHARED_ONESHOT, answer: LinkAnswer::Refused(Errno::Busy), opened: Opened::No }), Stand(0, false, false, false, None, None)),
-    (Who::Call(Call::Free { dev: FIRST }, 0), Some(Entry::Unlink { driver: DRIVER, dev: FIRST, answer: UnlinkAnswer::Unlinked { last: true } }), Stand(1, true, false, false, None, None)),
+    (SECOND_PLAIN, SECOND_REFUSED, OFF),
+    (REQUEST_CONTRARY, REFUSED_CONTRARY, OFF),
+    (FREE_SECOND, NOT_THERE, OFF),
+    (ENABLE, UNBALANCED, OFF),
+    (REQUEST, LINKED, OPEN),
+    (SECOND_BOTH, SECOND_BUSY, OPEN),
+    (FREE, UNLINKED, OFF),
     // the free holds the request mutex
-    (Who::Call(Call::Request { dev: SECOND, flags: ONESHOT }, 0), None, Stand(1, true, false, false, None, None)),
-    (Who::Call(Call::Free { dev: FIRST }, 1), Some(Entry::HardClear { driver: DRIVER }), Stand(1, true, false, false, None, None)),
-    (Who::Call(Call::Free { dev: FIRST }, 2), Some(Entry::Freed { driver: DRIVER, dev: FIRST }), Stand(1, true, false, false, None, None)),
-    (Who::Call(Call::Request { dev: SECOND, flags: ONESHOT }, 0), Some(Entry::Request { driver: DRIVER, dev: SECOND, flags: ONESHOT, answer: LinkAnswer::Linked, opened: STARTED }), Stand(0, false, false, false, None, None)),
+    (SECOND_ONESHOT, None, OFF),
+    (FREE_CLEAR, CLEARED, OFF),
+    (FREE_END, FREED, OFF),
+    (SECOND_ONESHOT, SECOND_LINKED_ALONE, OPEN),
 ];
 
 /// Requests are refused for their flags, for those of the others, and for a default handler without one-shot.
@@ -211,9 +212,9 @@ fn refused_requests(rt: HostRuntime) -> Result<(), Fail> {
 }
 
 const NOT_STARTED_BY_ITS_REQUEST: [Row; 3] = [
-    (Who::Call(Call::Request { dev: FIRST, flags: NOAUTO }, 0), Some(Entry::Request { driver: DRIVER, dev: FIRST, flags: NOAUTO, answer: LinkAnswer::Linked, opened: Opened::No }), Stand(1, true, false, false, None, None)),
-    (Who::Call(Call::Ask { dev: FIRST }, 0), Some(Entry::Ask { driver: DRIVER, dev: FIRST }), Stand(1, true, false, false, None, None)),
-    (Who::Call(Call::Enable, 0), Some(Entry::Enable { driver: DRIVER, answer: EnableAnswer::Started { resend: Resend::No } }), Stand(0, false, false, true, Some(CPU), None)),
+    (REQUEST_NOAUTO, LINKED_NOAUTO, OFF),
+    (ASK, ASKED, OFF),
+    (ENABLE, STARTED, TO_CPU0),
 ];
 
 /// A first request with `IRQF_NO_AUTOEN` leaves the line disabled until it is enabled.
@@ -225,24 +226,24 @@ fn a_line_not_started_by_its_request(rt: HostRuntime) -> Result<(), Fail> {
 }
 
 const A_KILL: [Row; 18] = [
-    (Who::Call(Call::Request { dev: FIRST, flags: SHARED }, 0), Some(Entry::Request { driver: DRIVER, dev: FIRST, flags: SHARED, answer: LinkAnswer::Linked, opened: STARTED }), Stand(0, false, false, false, None, None)),
-    (Who::Call(Call::Ask { dev: FIRST }, 0), Some(Entry::Ask { driver: DRIVER, dev: FIRST }), Stand(0, false, false, true, Some(CPU), None)),
-    (CPU0, Some(Entry::Take { cpu: CPU, way: Way::Line, answer: TakeAnswer::Handle }), Stand(0, false, false, false, None, None)),
-    (CPU0, Some(Entry::Begin { cpu: CPU, dev: FIRST }), Stand(0, false, false, false, None, None)),
-    (CPU0, Some(Entry::Return { cpu: CPU, dev: FIRST, answer: Answer::Nothing, served: 0 }), Stand(0, false, false, false, None, None)),
-    (CPU0, Some(Entry::End { cpu: CPU, again: false, unmask: false, note: Note::Counted }), Stand(0, false, false, false, None, None)),
-    (Who::Call(Call::Ask { dev: FIRST }, 0), Some(Entry::Ask { driver: DRIVER, dev: FIRST }), Stand(0, false, false, true, Some(CPU), None)),
-    (CPU0, Some(Entry::Take { cpu: CPU, way: Way::Line, answer: TakeAnswer::Handle }), Stand(0, false, false, false, None, None)),
-    (CPU0, Some(Entry::Begin { cpu: CPU, dev: FIRST }), Stand(0, false, false, false, None, None)),
-    (CPU0, Some(Entry::Return { cpu: CPU, dev: FIRST, answer: Answer::Nothing, served: 0 }), Stand(0, false, false, false, None, None)),
-    (CPU0, Some(Entry::End { cpu: CPU, again: false, unmask: false, note: Note::Counted }), Stand(0, false, false, false, None, None)),
-    (Who::Call(Call::Ask { dev: FIRST }, 0), Some(Entry::Ask { driver: DRIVER, dev: FIRST }), Stand(0, false, false, true, Some(CPU), None)),
-    (CPU0, Some(Entry::Take { cpu: CPU, way: Way::Line, answer: TakeAnswer::Handle }), Stand(0, false, false, false, None, None)),
-    (CPU0, Some(Entry::Begin { cpu: CPU, dev: FIRST }), Stand(0, false, false, false, None, None)),
-    (CPU0, Some(Entry::Return { cpu: CPU, dev: FIRST, answer: Answer::Nothing, served: 0 }), Stand(0, false, false, false, None, None)),
-    (CPU0, Some(Entry::End { cpu: CPU, again: false, unmask: false, note: Note::Killed }), Stand(1, true, false, false, None, None)),
-    (Who::Call(Call::Ask { dev: FIRST }, 0), Some(Entry::Ask { driver: DRIVER, dev: FIRST }), Stand(1, true, false, false, None, None)),
-    (Who::Call(Call::Request { dev: SECOND, flags: SHARED }, 0), Some(Entry::Request { driver: DRIVER, dev: SECOND, flags: SHARED, answer: LinkAnswer::Linked, opened: STARTED }), Stand(0, false, false, true, Some(CPU), None)),
+    (REQUEST_SHARED, LINKED_SHARED, OPEN),
+    (ASK, ASKED, TO_CPU0),
+    (CPU0, TAKEN, OPEN),
+    (CPU0, BEGUN, OPEN),
+    (CPU0, UNHANDLED, OPEN),
+    (CPU0, COUNTED, OPEN),
+    (ASK, ASKED, TO_CPU0),
+    (CPU0, TAKEN, OPEN),
+    (CPU0, BEGUN, OPEN),
+    (CPU0, UNHANDLED, OPEN),
+    (CPU0, COUNTED, OPEN),
+    (ASK, ASKED, TO_CPU0),
+    (CPU0, TAKEN, OPEN),
+    (CPU0, BEGUN, OPEN),
+    (CPU0, UNHANDLED, OPEN),
+    (CPU0, KILLED, OFF),
+    (ASK, ASKED, OFF),
+    (SECOND_SHARED, SECOND_ENABLES, TO_CPU0),
 ];
 
 /// The third unhandled round of three disables and masks an unlazy line; a further action enables it.
@@ -254,23 +255,23 @@ fn a_kill_of_an_unlazy_line(rt: HostRuntime) -> Result<(), Fail> {
 }
 
 const A_LATE_ROUND: [Row; 17] = [
-    (Who::Call(Call::Request { dev: FIRST, flags: SHARED }, 0), Some(Entry::Request { driver: DRIVER, dev: FIRST, flags: SHARED, answer: LinkAnswer::Linked, opened: STARTED }), Stand(0, false, false, false, None, None)),
-    (Who::Call(Call::Ask { dev: FIRST }, 0), Some(Entry::Ask { driver: DRIVER, dev: FIRST }), Stand(0, false, false, true, Some(CPU), None)),
-    (CPU0, Some(Entry::Take { cpu: CPU, way: Way::Line, answer: TakeAnswer::Handle }), Stand(0, false, false, false, None, None)),
-    (CPU0, Some(Entry::Begin { cpu: CPU, dev: FIRST }), Stand(0, false, false, false, None, None)),
-    (CPU0, Some(Entry::Return { cpu: CPU, dev: FIRST, answer: Answer::Nothing, served: 0 }), Stand(0, false, false, false, None, None)),
-    (CPU0, Some(Entry::End { cpu: CPU, again: false, unmask: false, note: Note::Counted }), Stand(0, false, false, false, None, None)),
-    (Who::Call(Call::Ask { dev: FIRST }, 0), Some(Entry::Ask { driver: DRIVER, dev: FIRST }), Stand(0, false, false, true, Some(CPU), None)),
-    (CPU0, Some(Entry::Take { cpu: CPU, way: Way::Line, answer: TakeAnswer::Handle }), Stand(0, false, false, false, None, None)),
-    (CPU0, Some(Entry::Begin { cpu: CPU, dev: FIRST }), Stand(0, false, false, false, None, None)),
-    (CPU0, Some(Entry::Return { cpu: CPU, dev: FIRST, answer: Answer::Nothing, served: 0 }), Stand(0, false, false, false, None, None)),
-    (CPU0, Some(Entry::End { cpu: CPU, again: false, unmask: false, note: Note::Counted }), Stand(0, false, false, false, None, None)),
-    (Who::Call(Call::Moment { at: 500 }, 0), Some(Entry::Moment { driver: DRIVER, at: 500 }), Stand(0, false, false, false, None, None)),
-    (Who::Call(Call::Ask { dev: FIRST }, 0), Some(Entry::Ask { driver: DRIVER, dev: FIRST }), Stand(0, false, false, true, Some(CPU), None)),
-    (CPU0, Some(Entry::Take { cpu: CPU, way: Way::Line, answer: TakeAnswer::Handle }), Stand(0, false, false, false, None, None)),
-    (CPU0, Some(Entry::Begin { cpu: CPU, dev: FIRST }), Stand(0, false, false, false, None, None)),
-    (CPU0, Some(Entry::Return { cpu: CPU, dev: FIRST, answer: Answer::Nothing, served: 0 }), Stand(0, false, false, false, None, None)),
-    (CPU0, Some(Entry::End { cpu: CPU, again: false, unmask: false, note: Note::Counted }), Stand(0, false, false, false, None, None)),
+    (REQUEST_SHARED, LINKED_SHARED, OPEN),
+    (ASK, ASKED, TO_CPU0),
+    (CPU0, TAKEN, OPEN),
+    (CPU0, BEGUN, OPEN),
+    (CPU0, UNHANDLED, OPEN),
+    (CPU0, COUNTED, OPEN),
+    (ASK, ASKED, TO_CPU0),
+    (CPU0, TAKEN, OPEN),
+    (CPU0, BEGUN, OPEN),
+    (CPU0, UNHANDLED, OPEN),
+    (CPU0, COUNTED, OPEN),
+    (MOMENT, LATER, OPEN),
+    (ASK, ASKED, TO_CPU0),
+    (CPU0, TAKEN, OPEN),
+    (CPU0, BEGUN, OPEN),
+    (CPU0, UNHANDLED, OPEN),
+    (CPU0, COUNTED, OPEN),
 ];
 
 /// A round that comes long after the last unhandled one begins the count anew.

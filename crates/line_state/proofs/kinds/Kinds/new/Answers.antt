@@ -1,4 +1,4 @@
-use Rattle.std.proofs.Common.{◌≡◌, ◌+◌, ◌++◌, [], ◌∷◌, sym, ap, ◌∙◌, arith}
+use Rattle.std.proofs.Common.{◌++◌, [], ◌∷◌, sym, ap, ◌∙◌, arith}
 use Rattle.device_table.specs.Rows.{at}
 use Rattle.device_table.proofs.Steps.{table_next, absent_next, none_left}
 use Rattle.irq_model.specs.Lines.{kind_in}
