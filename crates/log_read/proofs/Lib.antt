@@ -1,0 +1,5 @@
+mod Cutting
+mod Taking
+mod Digits
+mod Saying
+mod EachKind

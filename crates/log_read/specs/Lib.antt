@@ -1,0 +1,5 @@
+pub mod Left
+pub mod Takes
+pub mod Kinds
+pub mod Who
+pub mod Forms
