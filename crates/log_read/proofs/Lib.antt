@@ -3,3 +3,5 @@ mod Taking
 mod Digits
 mod Saying
 mod EachKind
+mod RowCutting
+mod Telling

@@ -3,3 +3,5 @@ pub mod Takes
 pub mod Kinds
 pub mod Who
 pub mod Forms
+pub mod LogOf
+pub mod Adding
