@@ -5,3 +5,4 @@ mod Saying
 mod EachKind
 mod RowCutting
 mod Telling
+mod TestBoards

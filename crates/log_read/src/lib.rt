@@ -15,3 +15,6 @@ mod said;
 mod words;
 
 pub use reading::{LogRefused, read_log};
+
+#[cfg(test)]
+mod tests;

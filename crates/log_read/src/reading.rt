@@ -45,6 +45,7 @@ impl From<NoMemory> for LogRefused {
 pub fn read_log(alloc: Global, board: &Board, bytes: &[u8]) -> Result<Logs, LogRefused>
     requires { length bytes.now ≤ 67108864 }
     ensures log { IsLogOf board.now.lines bytes.now result }
+    ensures each { IfOk result (λ logs. length logs ≡ length board.now.lines) }
     ensures few { IfOk result (λ logs. All (λ h. length h.entries ≤ length bytes.now) logs) }
 {
     board.is_board();

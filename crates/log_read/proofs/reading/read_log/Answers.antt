@@ -1,5 +1,5 @@
 use Rattle.std.proofs.Common.{rules, ◌≡◌, [], ◌∷◌, ◌++◌, drop, sym, ◌∙◌, arith}
-use Rattle.log_read.proofs.Telling.{first_malformed, unended_row, judged_wrong, judged_fine, drop_next, tell_next, all_told, short_logs}
+use Rattle.log_read.proofs.Telling.{first_malformed, unended_row, judged_wrong, judged_fine, drop_next, tell_next, all_told, short_logs, as_many}
 use Rattle.log_read.specs.LogOf.{rows_of, entries_of}
 use Rattle.log_read.proofs.reading.read_log.Goals as goal
 
@@ -38,4 +38,10 @@ pub returns-clause-few : goal.returns-clause-few
 returns-clause-few c =
     let lines = c.args.board.now.lines in
     short_logs lines c.args.bytes.now c.loop-rest.logs
+    (all_told lines c.args.bytes.now c.loop-rest.rest.now c.loop-rest.row c.loop-rest.logs c.loop-rest.invariant.left (search rules) c.loop-rest.invariant.told)
+
+pub returns-clause-each : goal.returns-clause-each
+returns-clause-each c =
+    let lines = c.args.board.now.lines in
+    as_many lines (rows_of c.args.bytes.now) c.loop-rest.logs
     (all_told lines c.args.bytes.now c.loop-rest.rest.now c.loop-rest.row c.loop-rest.logs c.loop-rest.invariant.left (search rules) c.loop-rest.invariant.told)
