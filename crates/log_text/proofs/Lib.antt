@@ -1,3 +1,6 @@
 pub mod Spacing
+pub mod Back
+pub mod Splitting
+pub mod RowLaws
 mod Levels
 mod TestBoards

@@ -3,3 +3,4 @@ pub mod EntryWords
 pub mod Rows
 pub mod Spaced
 pub mod LayoutRows
+pub mod Formed

@@ -5,9 +5,11 @@
 #![tactic(auto)]
 
 mod entries;
+mod laws;
 mod layouts;
 mod pieces;
 mod words;
 
 pub use entries::entry_row;
+pub use laws::{rows_tell_entries, texts_tell_histories};
 pub use layouts::layout_row;

@@ -1,0 +1,3 @@
+mod SameEntries
+mod Trying
+mod Lines

@@ -1,0 +1,22 @@
+-- What is told of a line's history.
+use Rattle.std.specs.Prelude.{◌≡◌, ℕ, ◌-◌, ◌≤◌, Bool, true, false, Option, Some, None, List, [], ◌∷◌, ◌++◌, take, slice_get, reverse}
+use Rattle.irq_base.specs.declared.entries.Entry.{Entry}
+use Rattle.irq_base.specs.declared.lines.LineDef.{LineDef}
+use Rattle.irq_line.specs.Seen.{LineSeen}
+use Rattle.irq_model.specs.Legal.{IsDue, IsLegal}
+
+-- some entry has that number, counted from 1, and isn't due after those before it, all of which are
+pub record IsFirstUndue (def : LineDef) (entries : List Entry) (number : ℕ) : Type 0 where
+  pub counted : 1 ≤ number
+  pub before : IsLegal def (take (number - 1) entries)
+  pub undue : (e : Entry) × (slice_get entries (number - 1) ≡ Some e) × (IsDue def e (reverse (take (number - 1) entries)) → ⊥)
+
+-- nothing where the history is legal, else the number of its first entry that isn't due
+abbrev pub Judged : LineDef → List Entry → Option ℕ → Type 0
+Judged def entries None = IsLegal def entries
+Judged def entries (Some number) = IsFirstUndue def entries number
+
+-- the entry was due, and the line has it; or it wasn't
+abbrev pub Tried : LineSeen → Entry → Bool → LineSeen → Type 0
+Tried old e true new = IsDue old.def e (reverse old.entries) × (new.entries ≡ old.entries ++ e ∷ [])
+Tried old e false new = IsDue old.def e (reverse old.entries) → ⊥

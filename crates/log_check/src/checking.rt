@@ -1,0 +1,108 @@
+//! The histories of all lines.
+ghost use Rattle.std.specs.Prelude.{◌≡◌, ℕ, ◌<◌, ◌≤◌, length, IfOk, All, slice_get, Some};
+ghost use Rattle.irq_base.specs.declared.lines.LineDef.{LineDef};
+ghost use Rattle.irq_model.specs.Valid.{IsValid};
+ghost use Rattle.board_def.specs.Layout.{layout_of, IsPathOf};
+ghost use Rattle.board_def.specs.LineOf.{line_of_row};
+ghost use Rattle.board_def.specs.declared.rows.LineRow.{LineRow};
+ghost use Rattle.log_check.specs.Judged.{Judged};
+ghost use Rattle.log_check.specs.Verdicts.{IsVerdict, JudgedAt};
+
+use crate::judging::judge;
+use board_def::{Board, Layout, LineRow, Placement};
+use irq_base::{History, LineNo, Logs, NoMemory, Path};
+use irq_line::{IrqLine, MakesLine};
+use std::alloc::Global;
+
+/// The most entries of a line that is judged. The board's own limit doesn't bound a log that is judged: how long a
+/// history may grow is no rule of what is due.
+const MOST_ENTRIES: u32 = 100_000_000;
+
+/// What is said of a board's logs.
+#[derive(Clone, Copy, PartialEq, Eq)]
+pub enum Verdict {
+    /// Each entry is the one that was due of its actor after those before it on its line, and no line that takes no
+    /// part has any.
+    Lawful,
+    /// This entry of this line, counted from 1, is the first that isn't, and no line before has one.
+    Unlawful { line: LineNo, entry: u32 },
+}
+
+/// Judges logs: one history for each line of the board, in its order. Lines of the maker judge: `L` is any type of
+/// lines, and `maker` makes one for each line that takes part.
+///
+/// # Errors
+///
+/// `NoMemory` where memory was wanted and refused.
+pub fn check<L: IrqLine, M: MakesLine<L>>(
+    alloc: Global,
+    board: &Board,
+    logs: &Logs,
+    maker: &M,
+) -> Result<Verdict, NoMemory>
+    requires makes { (virq : ℕ) (def : LineDef) → IsValid def → M.makes maker.now virq def }
+    requires each { length logs.now ≡ length board.now.lines }
+    requires few { All (λ h. length h.entries ≤ 100000000) logs.now }
+    ensures { IfOk result (λ verdict. IsVerdict board.now logs.now verdict) }
+{
+    let layout = board.layout(alloc)?;
+    for i in 0..board.lines_len() {
+        let Some(row) = board.line(i) else {
+            unreachable!();
+        };
+        if let Some(entry) = judge_at::<L, M>(alloc, board, &layout, logs, maker, i)? {
+            return Ok(Verdict::Unlawful {
+                line: row.line,
+                entry,
+            });
+        }
+    }
+    Ok(Verdict::Lawful)
+}
+
+/// Judges the history of the line at that place.
+fn judge_at<L: IrqLine, M: MakesLine<L>>(
+    alloc: Global,
+    board: &Board,
+    layout: &Layout,
+    logs: &Logs,
+    maker: &M,
+    i: usize,
+) -> Result<Option<u32>, NoMemory>
+    requires makes { (virq : ℕ) (def : LineDef) → IsValid def → M.makes maker.now virq def }
+    requires layout { layout.now ≡ layout_of board.now }
+    requires few { All (λ h. length h.entries ≤ 100000000) logs.now }
+    ensures { IfOk result (λ first. JudgedAt board.now logs.now i first) }
+{
+    let (Some(row), Some(placement), Some(history)) = (board.line(i), layout.get(i), logs.get(i)) else {
+        // there is no such line
+        return Ok(None);
+    };
+    match placement {
+        Placement::Mapped { virq, path } => judge_mapped::<L, M>(alloc, board, row, virq, &path, history, maker),
+        Placement::Refused(_) => Ok(if history.is_empty() { None } else { Some(1) }),
+    }
+}
+
+/// Judges the history of a line that takes part.
+fn judge_mapped<L: IrqLine, M: MakesLine<L>>(
+    alloc: Global,
+    board: &Board,
+    row: LineRow,
+    virq: u32,
+    path: &Path,
+    history: &History,
+    maker: &M,
+) -> Result<Option<u32>, NoMemory>
+    requires makes { (virq : ℕ) (def : LineDef) → IsValid def → M.makes maker.now virq def }
+    requires row { (i : ℕ) × (slice_get board.now.lines i ≡ Some row) }
+    requires path { IsPathOf board.now row.line path.now }
+    requires few { length history.now.entries ≤ 100000000 }
+    ensures { IfOk result (λ first. Judged (line_of_row board.now row) history.now.entries first) }
+{
+    board.is_board();
+    let mut def = board.line_def(alloc, row.line, path)?;
+    def.log = MOST_ENTRIES;
+    let mut line = maker.make(alloc, virq, &def)?;
+    judge(&mut line, history)
+}

@@ -1,0 +1,127 @@
+-- What follows the verb of a row, verb by verb; and what follows the first word of an answer.
+use Rattle.std.specs.Prelude.{◌≡◌, ℕ, Bool, None, List, [], ◌∷◌, ◌++◌, codes, drop}
+use Rattle.irq_base.specs.declared.calls.Flags.{Flags}
+use Rattle.irq_base.specs.declared.devices.Answer.{Answer}
+use Rattle.irq_base.specs.declared.entries.AffinityAnswer.{AffinityAnswer}
+use Rattle.irq_base.specs.declared.entries.AffinityAnswer.TheVariants as affinities
+use Rattle.irq_base.specs.declared.entries.EnableAnswer.{EnableAnswer}
+use Rattle.irq_base.specs.declared.entries.EnableAnswer.TheVariants as enables
+use Rattle.irq_base.specs.declared.entries.Entry.{Entry}
+use Rattle.irq_base.specs.declared.entries.Entry.TheVariants as entries
+use Rattle.irq_base.specs.declared.entries.Errno.{Errno}
+use Rattle.irq_base.specs.declared.entries.Errno.TheVariants as errnos
+use Rattle.irq_base.specs.declared.entries.LinkAnswer.{LinkAnswer}
+use Rattle.irq_base.specs.declared.entries.LinkAnswer.TheVariants as links
+use Rattle.irq_base.specs.declared.entries.Note.{Note}
+use Rattle.irq_base.specs.declared.entries.Opened.{Opened}
+use Rattle.irq_base.specs.declared.entries.Opened.TheVariants as opens
+use Rattle.irq_base.specs.declared.entries.Resend.{Resend}
+use Rattle.irq_base.specs.declared.entries.TakeAnswer.{TakeAnswer}
+use Rattle.irq_base.specs.declared.entries.UnlinkAnswer.{UnlinkAnswer}
+use Rattle.irq_base.specs.declared.entries.Way.{Way}
+use Rattle.irq_base.specs.declared.numbers.CpuNo.{CpuNo}
+use Rattle.irq_base.specs.declared.numbers.DevNo.{DevNo}
+use Rattle.irq_base.specs.declared.numbers.DriverNo.{DriverNo}
+use Rattle.log_text.specs.EntryWords.{entry_words}
+use Rattle.log_text.specs.Formed.{IsSmall, IsWritable}
+use Rattle.log_text.specs.Words.{way_word, take_word, answer_word, loop_word, mask_word, note_word, bit_word, resend_word, error_word, flags_word, unlink_word, enable_words, opened_words, link_words, affinity_words}
+use Rattle.log_read.specs.Left.{left_of}
+use Rattle.log_read.specs.Takes.{TakesAs, Takes, Any, one, number_words, Both, then, text_words}
+use Rattle.log_read.specs.Who.{who_of}
+use Rattle.log_read.specs.declared.kinds.CpuVerb.{CpuVerb}
+use Rattle.log_read.specs.declared.kinds.CpuVerb.TheVariants as cpu_verbs
+use Rattle.log_read.specs.declared.kinds.ThreadVerb.{ThreadVerb}
+use Rattle.log_read.specs.declared.kinds.ThreadVerb.TheVariants as thread_verbs
+use Rattle.log_read.specs.declared.kinds.DriverVerb.{DriverVerb}
+use Rattle.log_read.specs.declared.kinds.DriverVerb.TheVariants as driver_verbs
+use Rattle.log_read.specs.declared.kinds.Opening.{Opening}
+use Rattle.log_read.specs.declared.kinds.Opening.TheVariants as openings
+use Rattle.log_read.specs.declared.kinds.Linking.{Linking}
+use Rattle.log_read.specs.declared.kinds.Linking.TheVariants as linkings
+use Rattle.log_read.specs.declared.kinds.Moving.{Moving}
+use Rattle.log_read.specs.declared.kinds.Moving.TheVariants as movings
+use Rattle.log_read.specs.declared.numbers.Who.{Who}
+use Rattle.log_read.specs.declared.words.Words.{Words}
+
+abbrev pub dev_no : ℕ → DevNo
+dev_no n = record { 0 = n }
+
+-- no word
+abbrev pub no_words : Unit {0} → List (List ℕ)
+no_words u = []
+
+-- answers, by their first word
+
+abbrev pub TakesOpening : Opening → Words → Words → Opened → Type 0
+TakesOpening openings.No old new o = TakesAs Any no_words (λ u. opens.No) old new o
+TakesOpening openings.Unbalanced old new o = TakesAs Any no_words (λ u. opens.Unbalanced) old new o
+TakesOpening openings.Lowered old new o = TakesAs Any no_words (λ u. opens.Lowered) old new o
+TakesOpening openings.Started old new o = TakesAs Any (one resend_word) (λ r. opens.Started r) old new o
+
+abbrev pub TakesEnabling : Opening → Words → Words → EnableAnswer → Type 0
+TakesEnabling openings.No old new o = left_of new ≡ None
+TakesEnabling openings.Unbalanced old new o = TakesAs Any no_words (λ u. enables.Unbalanced) old new o
+TakesEnabling openings.Lowered old new o = TakesAs Any no_words (λ u. enables.Lowered) old new o
+TakesEnabling openings.Started old new o = TakesAs Any (one resend_word) (λ r. enables.Started r) old new o
+
+-- a refused request opened nothing
+abbrev pub IsLink : LinkAnswer × Opened → Type 0
+IsLink (links.Linked, opened) = Unit {0}
+IsLink (links.Refused errno, opened) = opened ≡ opens.No
+
+abbrev pub link_said : LinkAnswer × Opened → List (List ℕ)
+link_said link = link_words link.0 link.1
+
+abbrev pub TakesLinking : Linking → Words → Words → LinkAnswer × Opened → Type 0
+TakesLinking linkings.Linked old new link = TakesAs Any opened_words (λ opened. (links.Linked, opened)) old new link
+TakesLinking linkings.Refused old new link = TakesAs Any (one error_word) (λ errno. (links.Refused errno, opens.No)) old new link
+
+-- a mask is only refused as invalid
+abbrev pub IsMoved : AffinityAnswer → Type 0
+IsMoved affinities.Now = Unit {0}
+IsMoved affinities.Later = Unit {0}
+IsMoved (affinities.Refused errno) = errno ≡ errnos.Inval
+
+abbrev pub TakesMoving : Moving → Words → Words → AffinityAnswer → Type 0
+TakesMoving movings.Now old new answer = TakesAs Any no_words (λ u. affinities.Now) old new answer
+TakesMoving movings.Later old new answer = TakesAs Any no_words (λ u. affinities.Later) old new answer
+TakesMoving movings.Refused old new answer = TakesAs Any (text_words (codes "22")) (λ u. affinities.Refused errnos.Inval) old new answer
+
+-- entries, by their verb
+
+abbrev pub TakesCpu : CpuNo → CpuVerb → Words → Words → Entry → Type 0
+TakesCpu cpu cpu_verbs.Take old new e = TakesAs (Both Any Any) (then (one way_word) (one take_word)) (λ p. entries.Take cpu p.0 p.1) old new e
+TakesCpu cpu cpu_verbs.Begin old new e = TakesAs IsSmall number_words (λ n. entries.Begin cpu (dev_no n)) old new e
+TakesCpu cpu cpu_verbs.Return old new e =
+    TakesAs (Both IsSmall (Both Any IsSmall)) (then number_words (then (one answer_word) number_words)) (λ p. entries.Return cpu (dev_no p.0) p.1.0 p.1.1) old new e
+TakesCpu cpu cpu_verbs.End old new e =
+    TakesAs (Both Any (Both Any Any)) (then (one loop_word) (then (one mask_word) (one note_word))) (λ p. entries.End cpu p.0 p.1.0 p.1.1) old new e
+
+abbrev pub TakesThread : DevNo → ThreadVerb → Words → Words → Entry → Type 0
+TakesThread dev thread_verbs.Begin old new e = TakesAs Any no_words (λ u. entries.ThreadBegin dev) old new e
+TakesThread dev thread_verbs.Return old new e = TakesAs IsSmall number_words (λ n. entries.ThreadReturn dev n) old new e
+TakesThread dev thread_verbs.Finish old new e = TakesAs (Both Any Any) (then (one bit_word) (one mask_word)) (λ p. entries.Finish dev p.0 p.1) old new e
+TakesThread dev thread_verbs.Done old new e = TakesAs Any no_words (λ u. entries.Done dev) old new e
+
+abbrev pub TakesDriver : DriverNo → DriverVerb → Words → Words → Entry → Type 0
+TakesDriver driver driver_verbs.Ask old new e = TakesAs IsSmall number_words (λ n. entries.Ask driver (dev_no n)) old new e
+TakesDriver driver driver_verbs.Disable old new e = TakesAs Any no_words (λ u. entries.Disable driver) old new e
+TakesDriver driver driver_verbs.HardClear old new e = TakesAs Any no_words (λ u. entries.HardClear driver) old new e
+TakesDriver driver driver_verbs.Synced old new e = TakesAs Any no_words (λ u. entries.Synced driver) old new e
+TakesDriver driver driver_verbs.Enable old new e = TakesAs Any enable_words (λ answer. entries.Enable driver answer) old new e
+TakesDriver driver driver_verbs.Request old new e =
+    TakesAs (Both IsSmall (Both Any IsLink)) (then number_words (then (one flags_word) link_said)) (λ p. entries.Request driver (dev_no p.0) p.1.0 p.1.1.0 p.1.1.1) old new e
+TakesDriver driver driver_verbs.Unlink old new e =
+    TakesAs (Both IsSmall Any) (then number_words (one unlink_word)) (λ p. entries.Unlink driver (dev_no p.0) p.1) old new e
+TakesDriver driver driver_verbs.Freed old new e = TakesAs IsSmall number_words (λ n. entries.Freed driver (dev_no n)) old new e
+TakesDriver driver driver_verbs.Affinity old new e =
+    TakesAs (Both IsSmall IsMoved) (then number_words affinity_words) (λ p. entries.Affinity driver p.0 p.1) old new e
+TakesDriver driver driver_verbs.Moment old new e = TakesAs IsSmall number_words (λ n. entries.Moment driver n) old new e
+
+-- that one made the entry
+abbrev pub IsBy : Who → Entry → Type 0
+IsBy who e = IsWritable e × (who_of e ≡ who)
+
+-- the words behind the one of who made it
+abbrev pub behind : Entry → List (List ℕ)
+behind e = drop 1 (entry_words e)

@@ -1,0 +1,7 @@
+pub mod Left
+pub mod Takes
+pub mod Kinds
+pub mod Who
+pub mod Forms
+pub mod LogOf
+pub mod Adding

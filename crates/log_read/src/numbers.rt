@@ -1,0 +1,63 @@
+//! Numbers of a row, and who made an entry.
+ghost use Rattle.std.specs.Prelude.{◌≡◌, ◌∷◌, codes, decimal, MatchOption};
+ghost use Rattle.log_text.specs.Formed.{IsSmall};
+ghost use Rattle.log_read.specs.Takes.{Any, Reads, Takes, TakesAs, number_words, one, text_words};
+ghost use Rattle.log_read.specs.Who.{who_word, IsWho};
+
+use crate::words::Words;
+use irq_base::{CpuNo, DevNo, DriverNo};
+
+/// Who made an entry.
+#[derive(Clone, Copy)]
+pub(crate) enum Who {
+    /// The thread of a device.
+    Thread(DevNo),
+    /// A processor.
+    Cpu(CpuNo),
+    /// A driver.
+    Driver(DriverNo),
+}
+
+/// A number of 32 bits.
+pub(crate) fn number(words: &mut Words<'_>) -> u32
+    ensures { TakesAs IsSmall number_words (λ n. n) words.old words.new result }
+{
+    let word = words.next();
+    words.fit(number_of(word), 0)
+}
+
+#[tactic(auto, using(crate::proofs::Digits::number_read))]
+fn number_of(word: &[u8]) -> Option<u32>
+    ensures { Reads IsSmall decimal word.now result }
+{
+    board_words::number(word, 0, u32::MAX)
+}
+
+/// A letter, and at once a number.
+pub(crate) fn made_by(words: &mut Words<'_>) -> Who
+    ensures { TakesAs IsWho (one who_word) (λ w. w) words.old words.new result }
+{
+    let word = words.next();
+    words.fit(who_of(word), Who::Cpu(CpuNo(0)))
+}
+
+fn who_of(word: &[u8]) -> Option<Who>
+    ensures { Reads IsWho who_word word.now result }
+{
+    let (letter, digits) = word.split_first()?;
+    match *letter {
+        b'c' => Some(Who::Cpu(CpuNo(number_of(digits)?))),
+        b'd' => Some(Who::Driver(DriverNo(number_of(digits)?))),
+        b't' => Some(Who::Thread(DevNo(number_of(digits)?))),
+        _ => None,
+    }
+}
+
+/// This very word.
+pub(crate) fn expect(words: &mut Words<'_>, text: &[u8])
+    ensures { TakesAs Any (text_words text.now) (λ u. u) words.old words.new tt }
+{
+    if words.next() != text {
+        words.fail();
+    }
+}

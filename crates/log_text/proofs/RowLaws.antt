@@ -1,0 +1,160 @@
+-- Different entries have different rows, and different histories different texts.
+use Rattle.std.proofs.Common.{◌≡◌, ℕ, zero, suc, ◌+◌, ◌<◌, ◌≤◌, ◌^◌, Bool, true, false, cond, eqb, List, [], ◌∷◌, ◌++◌, codes, decimal, drop, get_or, length, append_assoc, refl, ap, ◌∙◌, sym, arith}
+use Rattle.std.specs.List.{All, join_with_byte, AllByRecursion}
+use Rattle.std.proofs.lemmas.List.Elements.{recursion_from_All}
+use Rattle.std.specs.Str.Parse.{digits_value}
+use Rattle.std.proofs.lemmas.Fmt.{decimal_injective}
+use Rattle.std.proofs.lemmas.List.{append_cancel_right}
+use Rattle.irq_base.specs.declared.entries.Entry.{Entry}
+use Rattle.irq_base.specs.declared.entries.Entry.TheVariants as entries
+use Rattle.irq_base.specs.declared.entries.Opened.TheVariants as openings
+use Rattle.irq_base.specs.declared.entries.LinkAnswer.TheVariants as links
+use Rattle.irq_base.specs.declared.numbers.CpuNo.{CpuNo}
+use Rattle.irq_base.specs.declared.numbers.DevNo.{DevNo}
+use Rattle.irq_base.specs.declared.numbers.DriverNo.{DriverNo}
+use Rattle.irq_base.specs.declared.numbers.LineNo.{LineNo}
+use Rattle.log_text.proofs.Back.{is, at, way_at, take_at, answer_at, loop_at, mask_at, note_at, bit_at, resend_at, flags_at, unlink_at, enable_at, opened_at, link_at, linked_at, affinity_at, way_back, take_back, answer_back, loop_back, mask_back, note_back, bit_back, flags_back, unlink_back, enable_back, opened_back, link_back, affinity_back, number_back}
+use Rattle.log_text.proofs.Splitting.{words_of, row_words, row_back, row_within, same_cut}
+use Rattle.log_text.specs.EntryWords.{entry_words, IsPrintable}
+use Rattle.log_text.specs.Formed.{IsSmall, HasSmallNumbers, IsWritable, IsRowOf}
+use Rattle.log_text.specs.Rows.{entry_text, history_text}
+use Rattle.log_text.specs.Words.{driver_word, cpu_word, thread_word, way_word, take_word, answer_word, loop_word, mask_word, note_word, bit_word, resend_word, error_word, flags_word, enable_words, opened_words, link_words, unlink_word, affinity_words}
+
+abbrev number_at : List (List ℕ) → ℕ → ℕ
+number_at words i = digits_value 10 (at words i)
+
+abbrev dev_at : List (List ℕ) → ℕ → DevNo
+dev_at words i = record { 0 = number_at words i }
+
+abbrev cpu_entry : CpuNo → List ℕ → List (List ℕ) → Entry
+cpu_entry cpu verb args =
+    cond (is verb (codes "take")) (entries.Take cpu (way_at (at args 0)) (take_at (at args 1)))
+    (cond (is verb (codes "begin")) (entries.Begin cpu (dev_at args 0))
+    (cond (is verb (codes "return")) (entries.Return cpu (dev_at args 0) (answer_at (at args 1)) (number_at args 2))
+    (entries.End cpu (loop_at (at args 0)) (mask_at (at args 1)) (note_at (at args 2)))))
+
+abbrev thread_entry : DevNo → List ℕ → List (List ℕ) → Entry
+thread_entry dev verb args =
+    cond (is verb (codes "begin")) (entries.ThreadBegin dev)
+    (cond (is verb (codes "return")) (entries.ThreadReturn dev (number_at args 0))
+    (cond (is verb (codes "finish")) (entries.Finish dev (bit_at (at args 0)) (mask_at (at args 1)))
+    (entries.Done dev)))
+
+abbrev driver_entry : DriverNo → List ℕ → List (List ℕ) → Entry
+driver_entry driver verb args =
+    cond (is verb (codes "ask")) (entries.Ask driver (dev_at args 0))
+    (cond (is verb (codes "disable")) (entries.Disable driver)
+    (cond (is verb (codes "hardclear")) (entries.HardClear driver)
+    (cond (is verb (codes "synced")) (entries.Synced driver)
+    (cond (is verb (codes "enable")) (entries.Enable driver (enable_at args))
+    (cond (is verb (codes "request")) (entries.Request driver (dev_at args 0) (flags_at (at args 1)) (link_at (drop 2 args)) (linked_at (drop 2 args)))
+    (cond (is verb (codes "unlink")) (entries.Unlink driver (dev_at args 0) (unlink_at (at args 1)))
+    (cond (is verb (codes "freed")) (entries.Freed driver (dev_at args 0))
+    (cond (is verb (codes "affinity")) (entries.Affinity driver (number_at args 0) (affinity_at (drop 1 args)))
+    (entries.Moment driver (number_at args 0))))))))))
+
+-- the entry that the words say
+abbrev entry_at : List (List ℕ) → Entry
+entry_at words =
+    let who : ℕ = digits_value 10 (drop 1 (at words 0)) in
+    let letter : ℕ = get_or (at words 0) 0 0 in
+    cond (eqb letter 99) (cpu_entry (record { 0 = who }) (at words 1) (drop 2 words))
+    (cond (eqb letter 116) (thread_entry (record { 0 = who }) (at words 1) (drop 2 words))
+    (driver_entry (record { 0 = who }) (at words 1) (drop 2 words)))
+
+ap2 : {A B C : Type 0} (f : A → B → C) {a a' : A} {b b' : B} → a ≡ a' → b ≡ b' → f a b ≡ f a' b'
+ap2 f {a = a} {a' = a'} {b = b} {b' = b'} p q = ap (λ x. f x b) p ∙ ap (λ y. f a' y) q
+
+ap3 : {A B C D : Type 0} (f : A → B → C → D) {a a' : A} {b b' : B} {c c' : C} → a ≡ a' → b ≡ b' → c ≡ c' → f a b c ≡ f a' b' c'
+ap3 f {a = a} {a' = a'} {b = b} {b' = b'} {c = c} {c' = c'} p q r = ap2 (λ x y. f x y c) p q ∙ ap (λ z. f a' b' z) r
+
+ap4 : {A B C D E : Type 0} (f : A → B → C → D → E) {a a' : A} {b b' : B} {c c' : C} {d d' : D} → a ≡ a' → b ≡ b' → c ≡ c' → d ≡ d' → f a b c d ≡ f a' b' c' d'
+ap4 f {a = a} {a' = a'} {b = b} {b' = b'} {c = c} {c' = c'} {d = d} {d' = d'} p q r s = ap3 (λ x y z. f x y z d) p q r ∙ ap (λ w. f a' b' c' w) s
+
+abbrev cpu_no : ℕ → CpuNo
+cpu_no n = record { 0 = n }
+
+abbrev dev_no : ℕ → DevNo
+dev_no n = record { 0 = n }
+
+abbrev driver_no : ℕ → DriverNo
+driver_no n = record { 0 = n }
+
+abbrev line_no : ℕ → LineNo
+line_no n = record { 0 = n }
+
+entry_back : (e : Entry) → IsWritable e → entry_at (entry_words e) ≡ e
+entry_back (entries.Ask driver dev) w = ap2 (λ a b. entries.Ask (driver_no a) (dev_no b)) (number_back driver.0 w.small.0) (number_back dev.0 w.small.1)
+entry_back (entries.Take cpu way answer) w = ap3 (λ a b c. entries.Take (cpu_no a) b c) (number_back cpu.0 w.small) (way_back way) (take_back answer)
+entry_back (entries.Begin cpu dev) w = ap2 (λ a b. entries.Begin (cpu_no a) (dev_no b)) (number_back cpu.0 w.small.0) (number_back dev.0 w.small.1)
+entry_back (entries.Return cpu dev answer served) w =
+    ap4 (λ a b c d. entries.Return (cpu_no a) (dev_no b) c d) (number_back cpu.0 w.small.0) (number_back dev.0 w.small.1) (answer_back answer) (number_back served w.small.2)
+entry_back (entries.End cpu again unmask note) w =
+    ap4 (λ a b c d. entries.End (cpu_no a) b c d) (number_back cpu.0 w.small) (loop_back again) (mask_back unmask) (note_back note)
+entry_back (entries.ThreadBegin dev) w = ap (λ a. entries.ThreadBegin (dev_no a)) (number_back dev.0 w.small)
+entry_back (entries.ThreadReturn dev served) w = ap2 (λ a b. entries.ThreadReturn (dev_no a) b) (number_back dev.0 w.small.0) (number_back served w.small.1)
+entry_back (entries.Finish dev kept unmask) w = ap3 (λ a b c. entries.Finish (dev_no a) b c) (number_back dev.0 w.small) (bit_back kept) (mask_back unmask)
+entry_back (entries.Done dev) w = ap (λ a. entries.Done (dev_no a)) (number_back dev.0 w.small)
+entry_back (entries.Disable driver) w = ap (λ a. entries.Disable (driver_no a)) (number_back driver.0 w.small)
+entry_back (entries.HardClear driver) w = ap (λ a. entries.HardClear (driver_no a)) (number_back driver.0 w.small)
+entry_back (entries.Synced driver) w = ap (λ a. entries.Synced (driver_no a)) (number_back driver.0 w.small)
+entry_back (entries.Enable driver answer) w = ap2 (λ a b. entries.Enable (driver_no a) b) (number_back driver.0 w.small) (enable_back answer)
+entry_back (entries.Request driver dev flags links.Linked opened) w =
+    ap4 (λ a b c d. entries.Request (driver_no a) (dev_no b) c links.Linked d) (number_back driver.0 w.small.0) (number_back dev.0 w.small.1) (flags_back flags) (opened_back opened)
+entry_back (entries.Request driver dev flags (links.Refused errno) opened) w =
+    ap4 (λ a b c d. entries.Request (driver_no a) (dev_no b) c d openings.No) (number_back driver.0 w.small.0) (number_back dev.0 w.small.1) (flags_back flags) (link_back (links.Refused errno) openings.No)
+    ∙ ap (λ o. entries.Request driver dev flags (links.Refused errno) o) (sym w.printable)
+entry_back (entries.Unlink driver dev answer) w =
+    ap3 (λ a b c. entries.Unlink (driver_no a) (dev_no b) c) (number_back driver.0 w.small.0) (number_back dev.0 w.small.1) (unlink_back answer)
+entry_back (entries.Freed driver dev) w = ap2 (λ a b. entries.Freed (driver_no a) (dev_no b)) (number_back driver.0 w.small.0) (number_back dev.0 w.small.1)
+entry_back (entries.Affinity driver mask answer) w =
+    ap3 (λ a b c. entries.Affinity (driver_no a) b c) (number_back driver.0 w.small.0) (number_back mask w.small.1) (affinity_back answer)
+entry_back (entries.Moment driver moment) w = ap2 (λ a b. entries.Moment (driver_no a) b) (number_back driver.0 w.small.0) (number_back moment w.small.1)
+
+-- entries of the same words are the same
+pub same_words : (e f : Entry) → IsWritable e → IsWritable f → entry_words e ≡ entry_words f → e ≡ f
+same_words e f we wf same = sym (entry_back e we) ∙ (ap entry_at same ∙ entry_back f wf)
+
+-- the words of a row tell its line and its entry
+same_row_words : (l m : LineNo) (e f : Entry) → IsSmall l.0 → IsSmall m.0 → IsWritable e → IsWritable f → row_words l e ≡ row_words m f → (l ≡ m) × (e ≡ f)
+same_row_words l m e f small low we wf same =
+    let numbers : decimal l.0 ≡ decimal m.0 = ap (λ (ws : List (List ℕ)). at ws 0) same in
+    let line : l.0 ≡ m.0 = decimal_injective l.0 m.0 (omega (arith, small)) (omega (arith, low)) numbers in
+    let words : entry_words e ≡ entry_words f = ap (λ (ws : List (List ℕ)). drop 1 ws) same in
+    (ap (λ n. line_no n) line, same_words e f we wf words)
+
+same_rows : (l m : LineNo) (e f : Entry) → IsSmall l.0 → IsSmall m.0 → IsWritable e → IsWritable f → join_with_byte 32 (row_words l e) ≡ join_with_byte 32 (row_words m f) → (l ≡ m) × (e ≡ f)
+same_rows l m e f small low we wf same =
+    same_row_words l m e f small low we wf (sym (row_back l e small we) ∙ (ap words_of same ∙ row_back m f low wf))
+
+-- a row tells its line and its entry
+pub rows_tell : (row : List ℕ) (l m : LineNo) (e f : Entry) → IsRowOf row l e → IsRowOf row m f → (l ≡ m) × (e ≡ f)
+rows_tell row l m e f r s =
+    same_rows l m e f r.number s.number r.writable s.writable
+    (append_cancel_right (join_with_byte 32 (row_words l e)) (join_with_byte 32 (row_words m f)) (codes "\n") (sym r.text ∙ s.text))
+
+-- texts of a line
+
+some_row : (l : LineNo) (e : Entry) (text : List ℕ) → entry_text l e ++ text ≡ join_with_byte 32 (row_words l e) ++ 10 ∷ text
+some_row l e text = append_assoc (join_with_byte 32 (row_words l e)) (codes "\n") text
+
+no_row : (l : LineNo) (e : Entry) (text : List ℕ) → [] ≡ entry_text l e ++ text → ⊥
+no_row l e text h = nothing (join_with_byte 32 (row_words l e)) text (h ∙ some_row l e text)
+  where
+    nothing : (a x : List ℕ) → [] ≡ a ++ 10 ∷ x → ⊥
+    nothing [] x i = cc
+    nothing (b ∷ bs) x i = cc
+
+-- the text of a line tells its entries
+pub texts_tell : (l : LineNo) (es fs : List Entry) → IsSmall l.0 → AllByRecursion IsWritable es → AllByRecursion IsWritable fs → history_text l es ≡ history_text l fs → es ≡ fs
+texts_tell l [] [] small we wf same = refl
+texts_tell l [] (f ∷ fs) small we wf same = absurd (no_row l f (history_text l fs) same)
+texts_tell l (e ∷ es) [] small we wf same = absurd (no_row l e (history_text l es) (sym same))
+texts_tell l (e ∷ es) (f ∷ fs) small we wf same =
+    let whole = sym (some_row l e (history_text l es)) ∙ (same ∙ some_row l f (history_text l fs)) in
+    let cut = same_cut _ _ _ _ (row_within l e small we.0) (row_within l f small wf.0) whole in
+    let first = (same_rows l l e f small small we.0 wf.0 cut.0).1 in
+    ap (λ x. x ∷ es) first ∙ ap (λ xs. f ∷ xs) (texts_tell l es fs small we.1 wf.1 cut.1)
+
+pub all_texts_tell : (l : LineNo) (es fs : List Entry) → IsSmall l.0 → All IsWritable es → All IsWritable fs → history_text l es ≡ history_text l fs → es ≡ fs
+all_texts_tell l es fs small we wf same = texts_tell l es fs small (recursion_from_All IsWritable es we) (recursion_from_All IsWritable fs wf) same
