@@ -43,7 +43,7 @@ path_short domains earlier leaf =
     let as_long : length (places (path_of domains earlier leaf)) ≡ length (path_of domains earlier leaf) = length-map (path_of domains earlier leaf) place_of in
     omega (arith, as_long, ap length (places_of_path domains earlier leaf), way_short 8 domains (Some leaf.0))
 
-kinds_of_places : (domains : List DomainDef) (path : List (ℕ × ℕ)) → kinds_on domains path ≡ map (λ place. kind_in (slice_get domains place)) (places path)
+pub kinds_of_places : (domains : List DomainDef) (path : List (ℕ × ℕ)) → kinds_on domains path ≡ map (λ place. kind_in (slice_get domains place)) (places path)
 kinds_of_places domains [] = refl
 kinds_of_places domains (level ∷ levels) = ap (λ ks. kind_at domains level ∷ ks) (kinds_of_places domains levels)
 

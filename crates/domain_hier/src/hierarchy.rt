@@ -5,12 +5,13 @@ ghost use Rattle.domain_maps.specs.Numbers.{virq_at, sizes, with_path, HasRoom};
 ghost use Rattle.domain_rules.specs.Domains.{IsDomainAfter};
 ghost use Rattle.domain_rules.specs.Layout.{path_of, lowest_unused};
 ghost use Rattle.domain_rules.specs.Paths.{way};
-ghost use Rattle.domain_hier.specs.Hierarchies.{HierarchySeen, IsAnswered, alloc_answer, after_alloc};
+ghost use Rattle.domain_hier.specs.Hierarchies.{HierarchySeen, IsAnswered, alloc_answer, after_alloc, chain_of};
 ghost use Rattle.domain_hier.specs.PathsInUse.{path_in, first_free, lowest_virq, placed, freed, in_use, lowest_levels};
 
 use crate::answers::AllocAnswer;
-use crate::levels::{can_mask, domain_at, is_past, parent_of};
+use crate::levels::{can_mask, chain_on, domain_at, is_past, parent_of};
 use crate::paths::PathTable;
+use domain_chain::Chain;
 use domain_maps::DomainMaps;
 use irq_base::domains::LEVELS;
 use irq_base::{DomainDef, NoMemory, Path};
@@ -112,6 +113,15 @@ impl Hierarchy {
             return None;
         }
         self.paths.get(virq as usize - 1)
+    }
+
+    /// The chip of the virq's whole path, to which nothing has been done. The virq is in use.
+    pub fn chain(&self, virq: u32) -> Chain
+        requires { is_some (path_in self.now.paths virq) ≡ true }
+        ensures { IfSome (path_in self.now.paths virq) (λ path. result ≡ chain_of self.now.domains path) }
+    {
+        let path = self.path(virq).unwrap();
+        chain_on(self.domains.as_slice(), &path)
     }
 
     // The path that the line takes: its own number, and the lowest free one at each level above.
