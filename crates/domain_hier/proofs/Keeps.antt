@@ -1,11 +1,11 @@
 -- What a hierarchy keeps: the path of an allocation has room, and after each call the maps are what the paths say.
-use Rattle.std.proofs.Common.{◌≡◌, ◌≢◌, ℕ, zero, suc, ◌+◌, ◌<◌, ◌≤◌, Bool, true, false, cond, ◌==◌, ◌&&◌, ◌||◌, IfSome, is_some, is_none, Option, Some, None, option_map, List, [], ◌∷◌, ◌++◌, length, map, get_or, refl, sym, ap, subst, ◌∙◌, eqb-true, add-one, arith}
+use Rattle.std.proofs.Common.{◌≡◌, ◌≢◌, ℕ, zero, suc, ◌+◌, ◌<◌, ◌≤◌, Bool, true, false, cond, ◌==◌, ◌||◌, is_some, is_none, Option, Some, None, option_map, List, [], ◌∷◌, ◌++◌, length, map, refl, sym, ap, subst, ◌∙◌, eqb-true, add-one, arith}
 use Rattle.std.proofs.Math.ListN.{set, length-map}
 use Rattle.std.specs.List.{slice_get, list_any}
 use Rattle.std.proofs.lemmas.Bool.{false≢true, eqb-false}
 use Rattle.std.proofs.lemmas.Bool.Decides.{leb_tells}
 use Rattle.std.proofs.lemmas.List.{map-append, length_push}
-use Rattle.std.proofs.lemmas.Option.{slice_get-map, slice_get_past}
+use Rattle.std.proofs.lemmas.Option.{slice_get-map}
 use Rattle.irq_base.specs.declared.domains.DomainDef.{DomainDef}
 use Rattle.irq_base.specs.declared.domains.MapKind.{MapKind}
 use Rattle.irq_base.specs.declared.domains.MapKind.TheVariants as kinds
@@ -13,7 +13,7 @@ use Rattle.irq_base.specs.declared.domains.LevelKind.TheVariants as levels
 use Rattle.domain_maps.specs.Numbers.{virq_at, sizes, size_of_kind, is_on, is_within, has_place_in, HasRoom, with_path, without_path}
 use Rattle.domain_maps.specs.declared.map.DomainMap.{DomainMap}
 use Rattle.domain_rules.specs.Domains.{EachAfter, IsDomainAfter}
-use Rattle.domain_rules.specs.Layout.{is_used, is_past_path, is_past_domain, lowest_unused, path_of, placement_of, count_of_mapped}
+use Rattle.domain_rules.specs.Layout.{is_used, is_past_path, is_past_domain, lowest_unused, path_of, count_of_mapped}
 use Rattle.domain_rules.specs.Levels.{masking_kind}
 use Rattle.domain_rules.specs.Paths.{most_levels, way, parent_in, kind_in, kind_at, kinds_on, kinds_from}
 use Rattle.domain_rules.proofs.EachAfters.{each_more}
@@ -22,11 +22,11 @@ use Rattle.domain_rules.specs.declared.layouts.Placement.TheVariants as placemen
 use Rattle.domain_rules.specs.declared.layouts.Unmapped.TheVariants as reasons
 use Rattle.domain_hier.specs.Hierarchies.{HierarchySeen, IsHierarchy, IsPlaced, has_level, first_place, answer_by, alloc_answer}
 use Rattle.domain_hier.specs.declared.answers.AllocAnswer.TheVariants as allocs
-use Rattle.domain_hier.specs.PathsInUse.{slot, path_in, first_free, lowest_virq, placed, in_use, in_use_from, lowest_levels}
+use Rattle.domain_hier.specs.PathsInUse.{slot, path_in, first_free, lowest_virq, placed, in_use, lowest_levels}
 use Rattle.domain_hier.proofs.Agreement.{each_once, unused_none, none_unused, some_used}
 use Rattle.domain_hier.proofs.Counting.{lowest_is_unused}
 use Rattle.domain_hier.proofs.Slots.{Paths, free_slot, placed_here, placed_elsewhere}
-use Rattle.domain_hier.proofs.Ways.{IsBelow, AllBelow, Falls, places, not_on, parent_before, parent_there, way_below, way_falls, way_short}
+use Rattle.domain_hier.proofs.Ways.{IsBelow, AllBelow, Falls, places, not_on, parent_there, way_below, way_falls, way_short}
 
 -- ---- the path of an allocation
 

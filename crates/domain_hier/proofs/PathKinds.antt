@@ -1,7 +1,7 @@
 -- The kinds on a path are those of a chain: children, and a root at the end; and the root of messages presents edges.
-use Rattle.std.proofs.Common.{◌≡◌, ℕ, zero, suc, ◌+◌, ◌<◌, ◌≤◌, Bool, true, false, not, ◌&&◌, ◌||◌, IfSome, is_some, Option, Some, None, List, [], ◌∷◌, ◌++◌, length, map, take, refl, sym, ap, subst, ◌∙◌, arith}
+use Rattle.std.proofs.Common.{◌≡◌, ℕ, zero, suc, ◌+◌, ◌<◌, ◌≤◌, Bool, true, false, not, ◌&&◌, ◌||◌, Option, Some, None, List, [], ◌∷◌, ◌++◌, length, map, take, refl, sym, ap, subst, ◌∙◌, arith}
 use Rattle.std.proofs.Math.ListN.{set, length-map}
-use Rattle.std.specs.List.{slice_get, list_any}
+use Rattle.std.specs.List.{slice_get}
 use Rattle.std.specs.Prelude.{nat_le}
 use Rattle.std.proofs.lemmas.List.{map-append}
 use Rattle.std.proofs.lemmas.Bool.{false≢true, leb-false}
@@ -10,9 +10,9 @@ use Rattle.irq_base.specs.declared.domains.LevelKind.{LevelKind}
 use Rattle.irq_base.specs.declared.domains.LevelKind.TheVariants as levels
 use Rattle.domain_chain.specs.Chains.{is_path_of_kinds, has_messages}
 use Rattle.domain_rules.specs.Domains.{EachAfter, IsDomainAfter, is_bad_parent, is_msi}
-use Rattle.domain_rules.specs.Levels.{is_root_kind, root_kind, last_kind, presents_level_kind, masking_kind}
+use Rattle.domain_rules.specs.Levels.{is_root_kind, root_kind, presents_level_kind}
 use Rattle.domain_rules.specs.Paths.{most_levels, way, parent_in, kind_in, kind_at, kinds_on, kinds_from}
-use Rattle.domain_hier.specs.Hierarchies.{IsPlaced, first_place}
+use Rattle.domain_hier.specs.Hierarchies.{IsPlaced}
 use Rattle.domain_hier.proofs.Keeps.{kinds_of_places}
 use Rattle.domain_hier.proofs.Ways.{IsBelow, AllBelow, places, parent_before, way_below, way_short}
 

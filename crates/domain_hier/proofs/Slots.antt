@@ -1,6 +1,5 @@
 -- Places and virqs.
-use Rattle.std.proofs.Common.{◌≡◌, ◌≢◌, ℕ, zero, suc, ◌+◌, ◌-◌, ◌<◌, ◌≤◌, Bool, true, false, is_some, Option, Some, None, List, [], ◌∷◌, ◌++◌, length, drop, get_or, refl, sym, ap, ◌∙◌, add-one, arith}
-use Rattle.std.specs.Prelude.{slice_index_or, slice_set}
+use Rattle.std.proofs.Common.{◌≡◌, ◌≢◌, ℕ, zero, suc, ◌+◌, ◌-◌, ◌<◌, ◌≤◌, Option, Some, None, List, [], ◌∷◌, ◌++◌, length, drop, refl, sym, ap, ◌∙◌, add-one, arith}
 use Rattle.std.proofs.Math.ListN.{set}
 use Rattle.domain_hier.specs.PathsInUse.{slot, path_in, first_free, placed, in_use_from}
 
@@ -70,3 +69,15 @@ free_few n (Some path ∷ paths) = omega (arith, free_few (n + 1) paths)
 pub virq_slot : (paths : Paths) (virq : ℕ) (path : List (ℕ × ℕ)) → path_in paths virq ≡ Some path → slot paths (virq - 1) ≡ Some path
 virq_slot paths zero path e = absurd cc
 virq_slot paths (suc i) path e = let before : suc i - 1 ≡ i = omega arith in ap (slot paths) before ∙ e
+
+pub placed_count : (n : ℕ) (paths : Paths) (new : List (ℕ × ℕ)) → length (in_use_from n (placed paths new)) ≡ length (in_use_from n paths) + 1
+placed_count n [] new = refl
+placed_count n (None ∷ paths) new = omega arith
+placed_count n (Some path ∷ paths) new = omega (arith, placed_count (n + 1) paths new)
+
+pub set_count : (n i : ℕ) (paths : Paths) → length (in_use_from n (set paths i None)) ≤ length (in_use_from n paths)
+set_count n i [] = omega arith
+set_count n zero (None ∷ paths) = omega arith
+set_count n zero (Some path ∷ paths) = omega arith
+set_count n (suc i) (None ∷ paths) = omega (arith, set_count (n + 1) i paths)
+set_count n (suc i) (Some path ∷ paths) = omega (arith, set_count (n + 1) i paths)

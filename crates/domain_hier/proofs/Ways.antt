@@ -1,10 +1,9 @@
 -- The way from a domain to its root: parents stand before their children.
-use Rattle.std.proofs.Common.{◌≡◌, ◌≢◌, ℕ, zero, suc, ◌+◌, ◌<◌, ◌≤◌, Bool, true, false, cond, ◌==◌, ◌&&◌, ◌||◌, IfSome, Option, Some, None, List, [], ◌∷◌, ◌++◌, length, map, take, refl, sym, ap, subst, ◌∙◌, eqb-true, arith}
-use Rattle.std.specs.List.{slice_get, list_any}
-use Rattle.std.proofs.lemmas.Bool.{false≢true, eqb-false}
-use Rattle.std.proofs.lemmas.Option.{slice_get_within}
+use Rattle.std.proofs.Common.{◌≡◌, ℕ, zero, suc, ◌<◌, ◌≤◌, Bool, true, false, ◌==◌, ◌&&◌, ◌||◌, IfSome, Option, Some, None, List, [], ◌∷◌, length, map, take, refl, sym, ap, subst, ◌∙◌, eqb-true, arith}
+use Rattle.std.specs.List.{slice_get}
+use Rattle.std.proofs.lemmas.Bool.{false≢true}
 use Rattle.irq_base.specs.declared.domains.DomainDef.{DomainDef}
-use Rattle.domain_maps.specs.Numbers.{is_on, is_level}
+use Rattle.domain_maps.specs.Numbers.{is_on}
 use Rattle.domain_rules.specs.Domains.{EachAfter, IsDomainAfter}
 use Rattle.domain_rules.specs.Paths.{way, parent_in}
 

@@ -75,6 +75,8 @@ impl Hierarchy {
         requires few { length (in_use self.old.paths) < 4294967295 }
         ensures answer { IsAnswered (alloc_answer self.old (domain, hw)) result }
         ensures after { self.new ≡ after_alloc result self.old (domain, hw) }
+        ensures domains { self.new.domains ≡ self.old.domains }
+        ensures count { length (in_use self.new.paths) ≤ length (in_use self.old.paths) + 1 }
     {
         if !can_mask(self.domains.as_slice(), LEVELS, Some(domain)) {
             return AllocAnswer::NoMask;
@@ -96,6 +98,7 @@ impl Hierarchy {
     pub fn free(&mut self, virq: u32) -> DisposeAnswer
         ensures answer { result ≡ (if is_some (path_in self.old.paths virq) then disposed.Ok else disposed.NotThere) }
         ensures after { self.new ≡ record self.old { paths = freed self.old.paths virq } }
+        ensures count { length (in_use self.new.paths) ≤ length (in_use self.old.paths) }
     {
         let Some(path) = self.path(virq) else {
             return DisposeAnswer::NotThere;

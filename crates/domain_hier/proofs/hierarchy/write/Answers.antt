@@ -1,5 +1,3 @@
-use Rattle.std.proofs.Common.{Some, ◌+◌}
-use Rattle.domain_hier.specs.PathsInUse.{first_free, lowest_virq}
 use Rattle.domain_maps.proofs.Levels.{gives_back}
 use Rattle.domain_hier.proofs.hierarchy.write.Goals as goal
 

@@ -1,4 +1,4 @@
-use Rattle.std.proofs.Common.{◌≡◌, length, take, true, false, ◌&&◌, List, sym, subst, ap, ◌∙◌}
+use Rattle.std.proofs.Common.{◌≡◌, take, ◌&&◌, List, ap, ◌∙◌}
 use Rattle.irq_base.specs.declared.domains.LevelKind.{LevelKind}
 use Rattle.domain_chain.specs.Chains.{is_path_of_kinds, has_messages}
 use Rattle.domain_rules.specs.Levels.{root_kind, presents_level_kind}

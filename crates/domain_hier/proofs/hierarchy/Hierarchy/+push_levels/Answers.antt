@@ -1,4 +1,4 @@
-use Rattle.std.proofs.Common.{◌<◌, ◌≤◌, ◌+◌, ◌-◌, ◌++◌, ◌∷◌, [], IfSome, Some, length, sym, subst, ap, ◌∙◌, ◌≡◌, arith}
+use Rattle.std.proofs.Common.{◌<◌, ◌+◌, length, sym, subst, ap, ◌∙◌, ◌≡◌, arith}
 use Rattle.std.specs.List.{slice_get}
 use Rattle.std.proofs.lemmas.List.{length_push}
 use Rattle.domain_rules.specs.Paths.{parent_in}

@@ -1,4 +1,4 @@
-use Rattle.std.proofs.Common.{◌≡◌, ◌++◌, ◌∷◌, [], sym, subst, ap, ◌∙◌}
+use Rattle.std.proofs.Common.{◌++◌, ◌∷◌, [], sym, subst, ap, ◌∙◌}
 use Rattle.domain_hier.specs.Hierarchies.{HierarchySeen, IsHierarchy}
 use Rattle.domain_rules.specs.Domains.{IsDomainAfter}
 use Rattle.domain_hier.proofs.Keeps.{keeps_added}

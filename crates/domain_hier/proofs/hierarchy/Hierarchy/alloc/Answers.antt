@@ -1,14 +1,14 @@
-use Rattle.std.proofs.Common.{◌≡◌, ◌<◌, ◌≤◌, ℕ, List, length, true, false, Some, None, Option, is_some, sym, subst, ap, ◌∙◌, refl, arith}
+use Rattle.std.proofs.Common.{◌≡◌, ◌<◌, ◌+◌, ℕ, length, true, false, Some, None, is_some, sym, subst, ap, ◌∙◌, arith}
 use Rattle.std.specs.List.{list_any}
 use Rattle.domain_maps.specs.Numbers.{virq_at, HasRoom}
-use Rattle.domain_rules.specs.Layout.{path_of, is_past_path, is_used}
+use Rattle.domain_rules.specs.Layout.{path_of, is_past_path}
 use Rattle.domain_rules.specs.Levels.{masking_kind}
 use Rattle.domain_rules.specs.Paths.{kinds_from}
 use Rattle.domain_hier.specs.Hierarchies.{HierarchySeen, IsHierarchy, IsPlaced, alloc_answer, is_allocated}
 use Rattle.domain_hier.specs.declared.answers.AllocAnswer.TheVariants as allocs
 use Rattle.domain_maps.proofs.Levels.{is_free}
 use Rattle.domain_hier.specs.PathsInUse.{in_use}
-use Rattle.domain_hier.proofs.Slots.{free_few}
+use Rattle.domain_hier.proofs.Slots.{free_few, placed_count}
 use Rattle.domain_hier.proofs.Keeps.{path_has_room, none_if, masks_at, past_at, taken_due, ok_due, keeps_same, keeps_placed, path_placed}
 use Rattle.domain_hier.proofs.hierarchy.Hierarchy.alloc.Goals as goal
 
@@ -80,3 +80,9 @@ returns-clause-answer c =
     let masks : is_some (masking_kind (kinds_from i.domains.items (Some leaf.0))) ≡ true = masks_at i.domains.items c.as_slice.result.now leaf.0 c.can_mask.result c.can_mask.ensures c.as_slice.ensures.value c.if-not-can_mask.false in
     let free : virq_at i.maps c.args.domain c.args.hw ≡ None = sym c.virq.ensures ∙ none_if c.virq.result (sym c.is_some.ensures ∙ c.if-is_some.false) in
     ap (λ v. allocs.Ok v) c.in-Ok.ensures.virq ∙ sym (ap (λ h. alloc_answer h leaf) (sym c.self.view_is) ∙ ok_due i.domains.items i.maps i.paths c.self.invariant leaf masks past free)
+
+pub returns-clause-count : goal.returns-clause-count
+returns-clause-count c =
+    let now : length (in_use c.write.new.paths) ≡ length (in_use c.self.inside.paths) + 1 = ap (λ ps. length (in_use ps)) c.in-Ok.ensures.placed ∙ placed_count 1 c.self.inside.paths c.path_to-path.result in
+    let was : length (in_use c.self.inside.paths) ≡ length (in_use c.args.self.now.paths) = ap (λ (h : HierarchySeen). length (in_use h.paths)) c.self.view_is in
+    omega (arith, now, was)

@@ -1,7 +1,5 @@
-use Rattle.std.proofs.Common.{◌≡◌, ◌<◌, ◌≤◌, ℕ, true, is_some, length, sym, subst, arith}
+use Rattle.std.proofs.Common.{◌<◌, ◌≤◌, length, sym, subst, arith}
 use Rattle.domain_hier.specs.Hierarchies.{HierarchySeen}
-use Rattle.domain_maps.specs.Numbers.{virq_at}
-use Rattle.domain_rules.specs.Layout.{lowest_unused}
 use Rattle.domain_hier.specs.PathsInUse.{in_use}
 use Rattle.domain_hier.proofs.Counting.{used_below, lowest_is}
 use Rattle.domain_hier.proofs.Agreement.{each_once, some_used, none_unused}

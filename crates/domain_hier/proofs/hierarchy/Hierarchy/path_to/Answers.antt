@@ -1,4 +1,4 @@
-use Rattle.std.proofs.Common.{◌<◌, IfSome, length, sym, subst, ap, ◌∙◌, ◌≡◌}
+use Rattle.std.proofs.Common.{◌<◌, length, sym, subst, ap, ◌∙◌, ◌≡◌}
 use Rattle.std.specs.List.{slice_get}
 use Rattle.domain_rules.specs.Paths.{parent_in}
 use Rattle.domain_hier.specs.Hierarchies.{HierarchySeen}
