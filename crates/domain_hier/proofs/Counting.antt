@@ -35,6 +35,7 @@ tally_one (suc c) test one = by (test c) refl (tally_one c test one)
     other : test c ≡ true → (j : ℕ) (b : Bool) → test j ≡ b → j < c → test j ≡ false
     other here j true is below = absurd (omega (arith, one j c is here, below))
     other here j false is below = is
+
     by : (b : Bool) → test c ≡ b → tally c test ≤ 1 → cond b (tally c test + 1) (tally c test) ≤ 1
     by true is rest = omega (arith, tally_none c test (λ j below. other is j (test j) refl below))
     by false is rest = rest
@@ -86,6 +87,7 @@ ends (suc left) k d earlier all = by (is_used earlier d k) refl (λ more. ends l
         at : (t : Bool) → (j == k) ≡ t → is_used earlier d j ≡ true
         at true e = ap (is_used earlier d) (eqb-true j k e) ∙ here
         at false e = let other : j ≢ k = eqb-false j k e in all j (omega (arith, below, other))
+
     by : (b : Bool) → is_used earlier d k ≡ b
         → (((j : ℕ) → j < k + 1 → is_used earlier d j ≡ true) → (is_used earlier d (unused_from left (k + 1) earlier d) ≡ false) ⊎ ((unused_from left (k + 1) earlier d ≡ k + 1 + left) × ((j : ℕ) → j < k + 1 + left → is_used earlier d j ≡ true)))
         → (is_used earlier d (cond b (unused_from left (k + 1) earlier d) k) ≡ false) ⊎ ((cond b (unused_from left (k + 1) earlier d) k ≡ k + suc left) × ((j : ℕ) → j < k + suc left → is_used earlier d j ≡ true))

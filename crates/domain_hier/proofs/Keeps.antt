@@ -195,6 +195,7 @@ keeps_placed domains maps new paths path h same written free own = record {
             let was : has_level (path_in paths v) d k ≡ true = h.mapped d k v e in
             let other : v ≢ lowest_virq paths = λ same. false≢true (sym (ap (λ x. has_level (path_in paths x) d k) same ∙ ap (λ o. has_level o d k) (virq_free paths)) ∙ was) in
             ap (λ o. has_level o d k) (other_virq paths path v other) ∙ was
+
     told : (d k v : ℕ) → has_level (path_in (placed paths path) v) d k ≡ true → virq_at new d k ≡ Some v
     told d k v on = by (v == lowest_virq paths) refl
       where
@@ -211,6 +212,7 @@ keeps_placed domains maps new paths path h same written free own = record {
             off : (b : Bool) → is_on path d k ≡ b → virq_at maps d k ≡ Some v → cond b (Some (lowest_virq paths)) (virq_at maps d k) ≡ Some v
             off true here at = let none : virq_at maps d k ≡ None = free d k here in absurd cc
             off false here at = at
+
     placed_all : (v : ℕ) (p : List (ℕ × ℕ)) → path_in (placed paths path) v ≡ Some p → IsPlaced domains p
     placed_all v p at = by (v == lowest_virq paths) refl
       where
@@ -258,6 +260,7 @@ keeps_freed domains maps new paths path i h same given here = record {
             let was : has_level (path_in paths v) d k ≡ true = h.mapped d k v e in
             let other : v ≢ suc i = λ same. false≢true (sym (ap (λ x. has_level (path_in paths x) d k) same ∙ (ap (λ o. has_level o d k) here ∙ off)) ∙ was) in
             ap (λ o. has_level o d k) (other_path paths i v other) ∙ was
+
     told : (d k v : ℕ) → has_level (path_in (set paths i None) v) d k ≡ true → virq_at new d k ≡ Some v
     told d k v on = by (v == suc i) refl
       where
@@ -273,6 +276,7 @@ keeps_freed domains maps new paths path i h same given here = record {
                 let same : v ≡ suc i = cc in
                 absurd (eqb-false v (suc i) e same)
             off false is at = at
+
     placed_all : (v : ℕ) (p : List (ℕ × ℕ)) → path_in (set paths i None) v ≡ Some p → IsPlaced domains p
     placed_all v p at = by (v == suc i) refl
       where

@@ -66,19 +66,19 @@ is_root_by true e = refl
 is_root_by false e = absurd (false≢true (sym e))
 
 root_alone : (k : LevelKind) → is_root_kind k ≡ true → IsPathOfKinds (k ∷ [])
-root_alone levels.Latch r = record { path = refl; edges = refl; }
-root_alone levels.Plain r = record { path = refl; edges = refl; }
-root_alone levels.Level r = record { path = refl; edges = refl; }
-root_alone levels.Eoi r = record { path = refl; edges = refl; }
-root_alone levels.Vector r = record { path = refl; edges = refl; }
-root_alone levels.Lpi r = record { path = refl; edges = refl; }
+root_alone levels.Latch r = record { path = refl; edges = refl }
+root_alone levels.Plain r = record { path = refl; edges = refl }
+root_alone levels.Level r = record { path = refl; edges = refl }
+root_alone levels.Eoi r = record { path = refl; edges = refl }
+root_alone levels.Vector r = record { path = refl; edges = refl }
+root_alone levels.Lpi r = record { path = refl; edges = refl }
 root_alone levels.Msi r = absurd (false≢true r)
 root_alone levels.Remap r = absurd (false≢true r)
 
 child_above : (k : LevelKind) (ks : List LevelKind) → is_root_kind k ≡ false → is_msi k && presents_level_kind (root_kind ks) ≡ false → IsPathOfKinds ks → IsPathOfKinds (k ∷ ks)
 child_above k [] r m h = absurd (false≢true h.path)
-child_above levels.Msi (x ∷ xs) r m h = record { path = h.path; edges = m; }
-child_above levels.Remap (x ∷ xs) r m h = record { path = h.path; edges = h.edges; }
+child_above levels.Msi (x ∷ xs) r m h = record { path = h.path; edges = m }
+child_above levels.Remap (x ∷ xs) r m h = record { path = h.path; edges = h.edges }
 child_above levels.Latch (x ∷ xs) r m h = absurd (false≢true (sym r))
 child_above levels.Plain (x ∷ xs) r m h = absurd (false≢true (sym r))
 child_above levels.Level (x ∷ xs) r m h = absurd (false≢true (sym r))

@@ -83,6 +83,7 @@ one_number d j k (level ∷ levels) falls a b = by (level.0 == d) refl a b (λ x
     last : AllBelow d (places levels) → (i : ℕ) (t : Bool) → (level.1 == i) ≡ t → t || is_on levels d i ≡ true → level.1 ≡ i
     last below i true is on = eqb-true level.1 i is
     last below i false is on = absurd (false≢true (sym (not_on d i levels below) ∙ on))
+
     by : (t : Bool) → (level.0 == d) ≡ t → (t && (level.1 == j)) || is_on levels d j ≡ true → (t && (level.1 == k)) || is_on levels d k ≡ true
         → (is_on levels d j ≡ true → is_on levels d k ≡ true → j ≡ k) → j ≡ k
     by true is x y rest =

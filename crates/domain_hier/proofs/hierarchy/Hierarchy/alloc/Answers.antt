@@ -68,7 +68,7 @@ invariant_of-self-2 c =
     let room : HasRoom i.maps c.path_to-path.result = subst (HasRoom i.maps) (sym is) (path_has_room i.domains.items i.maps i.paths c.self.invariant leaf there past free) in
     subst (IsHierarchy i.domains.items c.write.new.maps) (sym c.in-Ok.ensures.placed)
     (keeps_placed i.domains.items i.maps c.write.new.maps i.paths c.path_to-path.result c.self.invariant c.write.ensures.sizes c.in-Ok.ensures.ok
-        (λ d k on. is_free i.maps c.path_to-path.result d k room on) (subst (IsPlaced i.domains.items) (sym is) (path_placed i.domains.items (in_use i.paths) leaf there masks)))
+    (λ d k on. is_free i.maps c.path_to-path.result d k room on) (subst (IsPlaced i.domains.items) (sym is) (path_placed i.domains.items (in_use i.paths) leaf there masks)))
 
 pub returns-clause-answer : goal.returns-clause-answer
 returns-clause-answer c =
