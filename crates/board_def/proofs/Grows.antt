@@ -1,7 +1,7 @@
 -- A board with one thing more, which meets its rule after those before it, is a board.
-use Rattle.std.proofs.Common.{◌≡◌, ℕ, zero, suc, ◌+◌, ◌*◌, ◌<◌, ◌≤◌, ◌==◌, Bool, true, false, cond, ◌||◌, ◌&&◌, not, Option, Some, None, IfSome, List, [], ◌∷◌, ◌++◌, length, map, take, All, refl, sym, ap, subst, ◌∙◌, arith}
-use Rattle.std.specs.List.{slice_get, list_any}
-use Rattle.std.proofs.lemmas.List.{length_push, length-take}
+use Rattle.std.proofs.Common.{◌≡◌, ℕ, zero, suc, ◌+◌, ◌*◌, ◌<◌, ◌≤◌, ◌==◌, Bool, true, false, cond, ◌||◌, ◌&&◌, not, Option, Some, None, List, [], ◌∷◌, ◌++◌, length, take, All, refl, sym, ap, subst, ◌∙◌, arith}
+use Rattle.std.specs.List.{list_any}
+use Rattle.std.proofs.lemmas.List.{length_push}
 use Rattle.irq_base.specs.Cell.{is_edge_trigger}
 use Rattle.irq_base.specs.declared.calls.Call.{Call}
 use Rattle.irq_base.specs.declared.calls.Call.TheVariants as calls
@@ -12,13 +12,18 @@ use Rattle.irq_base.specs.declared.numbers.DevNo.{DevNo}
 use Rattle.irq_base.specs.declared.numbers.DriverNo.{DriverNo}
 use Rattle.irq_base.specs.declared.numbers.LineNo.{LineNo}
 use Rattle.irq_model.specs.Kinds.{same_dev}
-use Rattle.board_def.specs.Levels.{most_levels, way, kind_in, parent_in, root_kind, trigger_of_root, keeps}
-use Rattle.board_def.specs.Rules.{EachAfter, IsBoard, IsDomainAfter, IsLineAfter, IsDeviceAfter, IsDriverAfter, IsCallAfter, IsActorOf, has_driver, find_device, fits_line, is_on_line, is_threaded_on, is_bad_unlazy}
+use Rattle.domain_rules.specs.Levels.{root_kind, trigger_of_root, keeps}
+use Rattle.domain_rules.specs.Domains.{EachAfter, IsDomainAfter}
+use Rattle.board_def.specs.Rules.{IsBoard, IsDomainRowAfter, IsLineAfter, IsDeviceAfter, IsDriverAfter, IsCallAfter, IsActorOf, has_driver, find_device, fits_line, is_on_line, is_threaded_on, is_bad_unlazy}
 use Rattle.board_def.specs.Seen.{BoardSeen}
+use Rattle.board_def.specs.Unnamed.{def_of, defs_of}
+use Rattle.domain_rules.proofs.Ways.{kinds_stay}
+use Rattle.board_def.proofs.Unnaming.{defs_allowed}
+use Rattle.std.proofs.lemmas.List.{map-append, length-map}
 use Rattle.board_def.specs.declared.rows.DomainRow.{DomainRow}
 use Rattle.board_def.specs.declared.rows.LineRow.{LineRow}
 use Rattle.board_def.specs.declared.rows.ScriptCall.{ScriptCall}
-use Rattle.board_def.proofs.EachAfters.{each_more}
+use Rattle.domain_rules.proofs.EachAfters.{each_more}
 
 -- what one condition gives, each item
 pub each_from : {A : Type 0} (P Q : List A → A → Type 0) → ((earlier : List A) (x : A) → P earlier x → Q earlier x) → (xs : List A) → EachAfter P xs → EachAfter Q xs
@@ -69,36 +74,17 @@ fits_stays line xs x calls.Enable h = refl
 fits_stays line xs x calls.Sync h = refl
 fits_stays line xs x (calls.Affinity mask) h = refl
 
--- the way from a declared domain stays
+-- the levels from a declared domain stay
 
-domain_stays : (xs : List DomainRow) (x : DomainRow) (i : ℕ) → i < length xs → slice_get (xs ++ x ∷ []) i ≡ slice_get xs i
-domain_stays [] x i h = absurd (omega arith)
-domain_stays (y ∷ ys) x zero h = refl
-domain_stays (y ∷ ys) x (suc i) h = domain_stays ys x i (omega arith)
+module _ (xs : List DomainRow) (x : DomainRow) where
+  defs_more : defs_of (xs ++ x ∷ []) ≡ defs_of xs ++ def_of x ∷ []
+  defs_more = map-append def_of xs (x ∷ [])
 
-abbrev IsDeclared : List DomainRow → Option ℕ → Type 0
-IsDeclared xs up = IfSome up (λ parent. parent < length xs)
-
-declared_up : (xs : List DomainRow) → EachAfter IsDomainAfter xs → (place : ℕ) (r : Option DomainRow) → slice_get xs place ≡ r → IsDeclared xs (parent_in r)
-declared_up xs each place None at = tt
-declared_up xs each place (Some row) at = by row.def.parent (each place row at).declared
-  where
-    by : (up : Option ℕ) → IfSome up (λ parent. parent < length (take place xs)) → IsDeclared xs up
-    by None h = tt
-    by (Some parent) h = omega (arith, h, length-take place xs)
-
-way_stays : (n : ℕ) (xs : List DomainRow) (x : DomainRow) (from : Option ℕ) → EachAfter IsDomainAfter xs → IsDeclared xs from
-    → map (λ place. kind_in (slice_get (xs ++ x ∷ []) place)) (way n (xs ++ x ∷ []) from) ≡ map (λ place. kind_in (slice_get xs place)) (way n xs from)
-way_stays zero xs x from each h = refl
-way_stays (suc n) xs x None each h = refl
-way_stays (suc n) xs x (Some place) each h =
-    let same = domain_stays xs x place h in
-    ap (λ r. kind_in r ∷ map (λ place. kind_in (slice_get (xs ++ x ∷ []) place)) (way n (xs ++ x ∷ []) (parent_in r))) same
-    ∙ ap (λ ks. kind_in (slice_get xs place) ∷ ks) (way_stays n xs x (parent_in (slice_get xs place)) each (declared_up xs each place (slice_get xs place) refl))
-
-unlazy_stays : (xs : List DomainRow) (x : DomainRow) (place : ℕ) (unlazy : Bool) → EachAfter IsDomainAfter xs → place < length xs → is_bad_unlazy (xs ++ x ∷ []) place unlazy ≡ is_bad_unlazy xs place unlazy
-unlazy_stays xs x place unlazy each within =
-    ap (λ ks. unlazy && (is_edge_trigger (trigger_of_root (root_kind ks)) && not (keeps ks))) (way_stays most_levels xs x (Some place) each within)
+  unlazy_stays : (place : ℕ) (unlazy : Bool) → EachAfter IsDomainAfter (defs_of xs) → place < length xs → is_bad_unlazy (defs_of (xs ++ x ∷ [])) place unlazy ≡ is_bad_unlazy (defs_of xs) place unlazy
+  unlazy_stays place unlazy each within =
+      let declared : place < length (defs_of xs) = omega (arith, within, length-map xs def_of) in
+      ap (λ defs. is_bad_unlazy defs place unlazy) defs_more
+      ∙ ap (λ ks. unlazy && (is_edge_trigger (trigger_of_root (root_kind ks)) && not (keeps ks))) (kinds_stay (defs_of xs) (def_of x) place each declared)
 
 -- an actor stays, as far as it rests on the same
 same_actors : (b c : BoardSeen) → b.devices ≡ c.devices → b.cpus ≡ c.cpus → b.drivers ≡ c.drivers → (a : Actor) → IsActorOf b a → IsActorOf c a
@@ -108,7 +94,7 @@ same_actors b c d n r (actors.Driver driver) p = subst (λ xs. has_driver xs dri
 
 -- one more of each
 
-pub grows_domain : (b : BoardSeen) (row : DomainRow) → IsBoard b → length b.domains < 32 → IsDomainAfter b.domains row → IsBoard (record b { domains = b.domains ++ row ∷ [] })
+pub grows_domain : (b : BoardSeen) (row : DomainRow) → IsBoard b → length b.domains < 32 → IsDomainRowAfter b.domains row → IsBoard (record b { domains = b.domains ++ row ∷ [] })
 grows_domain b row h few here =
     let c = record b { domains = b.domains ++ row ∷ [] } in
     record {
@@ -125,13 +111,13 @@ grows_domain b row h few here =
       few_calls = h.few_calls;
       few_picks = h.few_picks;
       entries = h.entries;
-      domains = each_more IsDomainAfter b.domains row h.domains here;
+      domains = each_more IsDomainRowAfter b.domains row h.domains here;
       lines = each_from (IsLineAfter b) (IsLineAfter c)
           (λ earlier x l. record {
             number = l.number;
             rises = l.rises;
             domain = let d : x.domain < length b.domains = l.domain in omega (arith, length_push b.domains row);
-            unlazy = unlazy_stays b.domains row x.domain x.unlazy h.domains l.domain ∙ l.unlazy;
+            unlazy = unlazy_stays b.domains row x.domain x.unlazy (defs_allowed b.domains h.domains) l.domain ∙ l.unlazy;
             mask = l.mask;
           }) b.lines h.lines;
       devices = each_from (IsDeviceAfter b) (IsDeviceAfter c) (λ earlier x d. record { number = d.number; rises = d.rises; line = d.line }) b.devices h.devices;

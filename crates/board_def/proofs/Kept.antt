@@ -4,8 +4,8 @@ use Rattle.std.specs.List.{slice_get}
 use Rattle.std.proofs.lemmas.List.{append-nil, append_assoc, take_more, take_all}
 use Rattle.std.proofs.lemmas.List.Elements.{filter-append}
 use Rattle.std.proofs.lemmas.Option.{slice_get_within, get_or_from_slice_get}
-use Rattle.board_def.specs.Rules.{EachAfter}
-use Rattle.board_def.proofs.EachAfters.{each_none, each_more}
+use Rattle.domain_rules.specs.Domains.{EachAfter}
+use Rattle.domain_rules.proofs.EachAfters.{each_none, each_more}
 use Rattle.board_def.proofs.Rising.{all_of}
 
 module _ {A : Type 0} (P : List A → A → Type 0) (Q : List A → Type 0) (none : Q []) (more : (xs : List A) (x : A) → Q xs → P xs x → Q (xs ++ x ∷ [])) where

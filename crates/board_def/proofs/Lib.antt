@@ -1,4 +1,3 @@
-pub mod EachAfters
 pub mod Finds
 pub mod Grows
 mod Kept
@@ -8,7 +7,7 @@ pub mod Paths
 mod PlacingSteps
 pub mod Rising
 mod Tabled
+pub mod Unnaming
 mod Validity
 mod Walks
-mod CellRows
 mod LayoutRows

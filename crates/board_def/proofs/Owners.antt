@@ -15,7 +15,8 @@ use Rattle.irq_base.specs.declared.numbers.LineNo.{LineNo}
 use Rattle.irq_model.specs.Kinds.{same_dev}
 use Rattle.irq_model.specs.Valid.{HasOneOwner, IsFreedBetween, requests_dev, frees_dev}
 use Rattle.board_def.specs.LineOf.{with_driver}
-use Rattle.board_def.specs.Rules.{EachAfter, IsCallAfter, is_owning, first_owning, is_of_another, is_a_request, is_bad_owner, fits_line, is_on_line, find_device}
+use Rattle.domain_rules.specs.Domains.{EachAfter}
+use Rattle.board_def.specs.Rules.{IsCallAfter, is_owning, first_owning, is_of_another, is_a_request, is_bad_owner, fits_line, is_on_line, find_device}
 use Rattle.board_def.specs.Seen.{BoardSeen}
 use Rattle.board_def.specs.declared.rows.ScriptCall.{ScriptCall}
 use Rattle.board_def.proofs.Kept.{each_kept}

@@ -3,12 +3,11 @@ use Rattle.std.proofs.Common.{◌≡◌, ℕ, zero, suc, ◌+◌, ◌-◌, ◌<�
 use Rattle.std.specs.List.{slice_get, list_any}
 use Rattle.std.specs.Option.{option_map_or}
 use Rattle.std.proofs.lemmas.List.{drop_all, append-nil, append_assoc, length_push}
+use Rattle.irq_base.specs.declared.domains.DomainDef.{DomainDef}
 use Rattle.irq_model.proofs.Lists.{next_item}
-use Rattle.board_def.specs.Layout.{layout_after, placement_of, path_of, is_mapped, count_of_mapped, lowest_unused, is_used, unused_from}
-use Rattle.board_def.specs.Levels.{way, parent_in}
-use Rattle.board_def.specs.declared.layouts.Placement.{Placement}
-use Rattle.board_def.specs.declared.rows.DomainRow.{DomainRow}
-use Rattle.board_def.specs.declared.rows.LineRow.{LineRow}
+use Rattle.domain_rules.specs.Layout.{layout_after, placement_of, path_of, is_mapped, count_of_mapped, lowest_unused, is_used, unused_from}
+use Rattle.domain_rules.specs.Paths.{way, parent_in}
+use Rattle.domain_rules.specs.declared.layouts.Placement.{Placement}
 use Rattle.board_def.proofs.Kept.{past}
 
 -- a test that the item at the place fails is one of those after it
@@ -45,17 +44,17 @@ pub mapped_ends : (xs : List Placement) (i : ℕ) → length xs ≤ i → count_
 mapped_ends xs i h = ap count_of_mapped (drop_all i xs h)
 
 -- the numbers at the levels from one up
-abbrev pub numbers_above : List Placement → ℕ → List DomainRow → Option ℕ → List (ℕ × ℕ)
+abbrev pub numbers_above : List Placement → ℕ → List DomainDef → Option ℕ → List (ℕ × ℕ)
 numbers_above earlier n domains at = map (λ place. (place, lowest_unused earlier place)) (way n domains at)
 
-pub no_numbers : (earlier : List Placement) (n : ℕ) (domains : List DomainRow) → numbers_above earlier n domains None ≡ []
+pub no_numbers : (earlier : List Placement) (n : ℕ) (domains : List DomainDef) → numbers_above earlier n domains None ≡ []
 no_numbers earlier zero domains = refl
 no_numbers earlier (suc n) domains = refl
 
-pub full_path : (earlier : List Placement) (n : ℕ) (domains : List DomainRow) (at : Option ℕ) → n ≡ 0 → numbers_above earlier n domains at ≡ []
+pub full_path : (earlier : List Placement) (n : ℕ) (domains : List DomainDef) (at : Option ℕ) → n ≡ 0 → numbers_above earlier n domains at ≡ []
 full_path earlier n domains at e = ap (λ k. numbers_above earlier k domains at) e
 
-pub level_goes_on : (earlier : List Placement) (domains : List DomainRow) (path next all : List (ℕ × ℕ)) (at up : Option ℕ) (place : ℕ) → length path < 8 → at ≡ Some place
+pub level_goes_on : (earlier : List Placement) (domains : List DomainDef) (path next all : List (ℕ × ℕ)) (at up : Option ℕ) (place : ℕ) → length path < 8 → at ≡ Some place
     → next ≡ path ++ (place, lowest_unused earlier place) ∷ [] → up ≡ parent_in (slice_get domains place)
     → path ++ numbers_above earlier (8 - length path) domains at ≡ all → next ++ numbers_above earlier (8 - length next) domains up ≡ all
 level_goes_on earlier domains path next all at up place few here is above e =
@@ -68,14 +67,14 @@ level_goes_on earlier domains path next all at up place few here is above e =
     ∙ (ap (λ n. path ++ numbers_above earlier n domains (Some place)) (sym fewer)
     ∙ (ap (λ a. path ++ numbers_above earlier (8 - length path) domains a) (sym here) ∙ e))))
 
-pub lines_go_on : (domains : List DomainRow) (layout : List Placement) (lines : List LineRow) (i : ℕ) (row : LineRow) → slice_get lines i ≡ Some row
-    → layout ++ layout_after domains layout (drop i lines) ≡ (layout ++ placement_of domains layout row ∷ []) ++ layout_after domains (layout ++ placement_of domains layout row ∷ []) (drop (i + 1) lines)
-lines_go_on domains layout lines i row at =
-    ap (λ rows. layout ++ layout_after domains layout rows) (next_item lines i row at)
-    ∙ sym (append_assoc layout (placement_of domains layout row ∷ []) (layout_after domains (layout ++ placement_of domains layout row ∷ []) (drop (i + 1) lines)))
+pub lines_go_on : (domains : List DomainDef) (layout : List Placement) (leaves : List (ℕ × ℕ)) (i : ℕ) (leaf : ℕ × ℕ) → slice_get leaves i ≡ Some leaf
+    → layout ++ layout_after domains layout (drop i leaves) ≡ (layout ++ placement_of domains layout leaf ∷ []) ++ layout_after domains (layout ++ placement_of domains layout leaf ∷ []) (drop (i + 1) leaves)
+lines_go_on domains layout leaves i leaf at =
+    ap (λ rest. layout ++ layout_after domains layout rest) (next_item leaves i leaf at)
+    ∙ sym (append_assoc layout (placement_of domains layout leaf ∷ []) (layout_after domains (layout ++ placement_of domains layout leaf ∷ []) (drop (i + 1) leaves)))
 
-pub lines_end : (domains : List DomainRow) (layout : List Placement) (lines : List LineRow) (i : ℕ) → length lines ≤ i → layout ++ layout_after domains layout (drop i lines) ≡ layout
-lines_end domains layout lines i h = ap (λ rows. layout ++ layout_after domains layout rows) (drop_all i lines h) ∙ append-nil layout
+pub lines_end : (domains : List DomainDef) (layout : List Placement) (leaves : List (ℕ × ℕ)) (i : ℕ) → length leaves ≤ i → layout ++ layout_after domains layout (drop i leaves) ≡ layout
+lines_end domains layout leaves i h = ap (λ rest. layout ++ layout_after domains layout rest) (drop_all i leaves h) ∙ append-nil layout
 
 -- one number is tried
 
@@ -88,10 +87,10 @@ number_free earlier domain left fewer number e free =
     ap (λ n. unused_from n number earlier domain) e ∙ ap (λ b. cond b (unused_from fewer (number + 1) earlier domain) number) free
 
 -- the line's own level, and what is above it
-pub first_level : (earlier : List Placement) (domains : List DomainRow) (row : LineRow) (path : List (ℕ × ℕ)) (up : Option ℕ) → path ≡ (row.domain, row.hw) ∷ [] → up ≡ parent_in (slice_get domains row.domain)
-    → path ++ numbers_above earlier (8 - length path) domains up ≡ path_of domains earlier row
-first_level earlier domains row path up is above =
-    ap (λ (p : List (ℕ × ℕ)). p ++ numbers_above earlier (8 - length p) domains up) is ∙ ap (λ a. (row.domain, row.hw) ∷ numbers_above earlier 7 domains a) above
+pub first_level : (earlier : List Placement) (domains : List DomainDef) (leaf : ℕ × ℕ) (path : List (ℕ × ℕ)) (up : Option ℕ) → path ≡ leaf ∷ [] → up ≡ parent_in (slice_get domains leaf.0)
+    → path ++ numbers_above earlier (8 - length path) domains up ≡ path_of domains earlier leaf
+first_level earlier domains leaf path up is above =
+    ap (λ (p : List (ℕ × ℕ)). p ++ numbers_above earlier (8 - length p) domains up) is ∙ ap (λ a. leaf ∷ numbers_above earlier 7 domains a) above
 
 pub path_ended : (path rest all : List (ℕ × ℕ)) → path ++ rest ≡ all → rest ≡ [] → path ≡ all
 path_ended path rest all e none = sym (append-nil path) ∙ (ap (λ r. path ++ r) (sym none) ∙ e)

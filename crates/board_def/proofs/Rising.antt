@@ -9,7 +9,8 @@ use Rattle.irq_base.specs.declared.numbers.DriverNo.{DriverNo}
 use Rattle.irq_base.specs.declared.numbers.LineNo.{LineNo}
 use Rattle.board_def.specs.Find.{last_item}
 use Rattle.board_def.specs.LineOf.{find_line}
-use Rattle.board_def.specs.Rules.{EachAfter, find_device, has_driver}
+use Rattle.domain_rules.specs.Domains.{EachAfter}
+use Rattle.board_def.specs.Rules.{find_device, has_driver}
 use Rattle.board_def.specs.declared.rows.LineRow.{LineRow}
 
 -- what holds of each item holds of the first, and of the others

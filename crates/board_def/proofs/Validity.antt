@@ -1,5 +1,5 @@
 -- The definition of a board's line is valid.
-use Rattle.std.proofs.Common.{◌≡◌, ℕ, zero, suc, ◌<◌, ◌≤◌, ◌==◌, Bool, true, false, not, cond, ◌&&◌, ◌||◌, Option, Some, None, List, [], ◌∷◌, length, filter, map, take, All, refl, sym, ap, subst, ◌∙◌, arith}
+use Rattle.std.proofs.Common.{◌≡◌, ℕ, zero, suc, ◌<◌, ◌≤◌, ◌==◌, Bool, true, false, not, cond, ◌&&◌, ◌||◌, Some, List, [], ◌∷◌, length, filter, take, All, refl, ap, subst, ◌∙◌, arith}
 use Rattle.std.proofs.Math.ListN.{length-map}
 use Rattle.std.specs.List.{slice_get, list_any}
 use Rattle.std.proofs.lemmas.Bool.Decides.{nat_tests}
@@ -16,13 +16,16 @@ use Rattle.irq_base.specs.declared.numbers.LineNo.{LineNo}
 use Rattle.irq_model.specs.Kinds.{same_dev}
 use Rattle.irq_model.specs.Lines.{is_device, is_edge_flow, is_level_flow, is_eoi_flow}
 use Rattle.irq_model.specs.Valid.{IsValid, HasDistinctDevices, names_one_of}
-use Rattle.board_def.specs.Levels.{way, kinds_from, kind_in, parent_in, is_root_kind, root_kind, keeps, retriggers_kind, trigger_of_root, flow_of_root}
+use Rattle.domain_rules.specs.Paths.{kinds_from}
+use Rattle.domain_rules.specs.Levels.{root_kind, keeps, retriggers_kind, trigger_of_root, flow_of_root}
 use Rattle.board_def.specs.LineOf.{line_of_row, with_driver}
-use Rattle.board_def.specs.Rules.{IsBoard, is_bad_parent, fits_line, is_on_line, find_device}
+use Rattle.board_def.specs.Rules.{IsBoard, fits_line, is_on_line, find_device}
 use Rattle.board_def.specs.Seen.{BoardSeen}
-use Rattle.board_def.specs.declared.rows.DomainRow.{DomainRow}
 use Rattle.board_def.specs.declared.rows.LineRow.{LineRow}
 use Rattle.board_def.specs.declared.rows.ScriptCall.{ScriptCall}
+use Rattle.board_def.specs.Unnamed.{defs_of}
+use Rattle.domain_rules.proofs.Ways.{keeps_under_lpi}
+use Rattle.board_def.proofs.Unnaming.{defs_allowed}
 use Rattle.board_def.proofs.Kept.{all_kept, kept_fewer}
 use Rattle.board_def.proofs.Owners.{owned_on_line, one_owner, freed_between}
 use Rattle.board_def.proofs.Rising.{Rises, rises_on, head_of, differ}
@@ -59,44 +62,6 @@ lpi_root levels.Msi e f = absurd cc
 lpi_root levels.Remap e f = absurd cc
 lpi_root levels.Vector e f = absurd cc
 lpi_root levels.Lpi e f = refl
-
--- each level above which another stands is a child
-abbrev AreChildren : List DomainRow → Type 0
-AreChildren domains = (place : ℕ) (row : DomainRow) → slice_get domains place ≡ Some row → (parent : ℕ) → row.def.parent ≡ Some parent → is_root_kind row.def.chip ≡ false
-
-child_of : (domains : List DomainRow) → AreChildren domains → (place parent : ℕ) (r : Option DomainRow) → slice_get domains place ≡ r → parent_in r ≡ Some parent → is_root_kind (kind_in r) ≡ false
-child_of domains children place parent None at up = absurd cc
-child_of domains children place parent (Some row) at up = children place row at parent up
-
-keeps_more : (k : LevelKind) (ks : List LevelKind) → is_root_kind k ≡ false → keeps ks ≡ true → keeps (k ∷ ks) ≡ true
-keeps_more levels.Latch ks h rest = absurd cc
-keeps_more levels.Plain ks h rest = absurd cc
-keeps_more levels.Level ks h rest = absurd cc
-keeps_more levels.Eoi ks h rest = absurd cc
-keeps_more levels.Msi ks h rest = refl
-keeps_more levels.Remap ks h rest = rest
-keeps_more levels.Vector ks h rest = absurd cc
-keeps_more levels.Lpi ks h rest = absurd cc
-
-lpi_alone : (k : LevelKind) → k ≡ levels.Lpi → keeps (k ∷ []) ≡ true
-lpi_alone k h = ap (λ k. keeps (k ∷ [])) h
-
--- a path whose root is an Lpi keeps
-lpi_keeps : (domains : List DomainRow) → AreChildren domains → (n place : ℕ)
-    → root_kind (map (λ place. kind_in (slice_get domains place)) (way n domains (Some place))) ≡ levels.Lpi
-    → keeps (map (λ place. kind_in (slice_get domains place)) (way n domains (Some place))) ≡ true
-lpi_keeps domains children zero place root = absurd cc
-lpi_keeps domains children (suc n) place root =
-    by n (parent_in (slice_get domains place)) refl root (λ parent. lpi_keeps domains children n parent)
-  where
-    by : (n : ℕ) (up : Option ℕ) → parent_in (slice_get domains place) ≡ up → root_kind (kind_in (slice_get domains place) ∷ map (λ place. kind_in (slice_get domains place)) (way n domains up)) ≡ levels.Lpi
-        → ((parent : ℕ) → root_kind (map (λ place. kind_in (slice_get domains place)) (way n domains (Some parent))) ≡ levels.Lpi → keeps (map (λ place. kind_in (slice_get domains place)) (way n domains (Some parent))) ≡ true)
-        → keeps (kind_in (slice_get domains place) ∷ map (λ place. kind_in (slice_get domains place)) (way n domains up)) ≡ true
-    by zero up is root rest = lpi_alone (kind_in (slice_get domains place)) root
-    by (suc n) None is root rest = lpi_alone (kind_in (slice_get domains place)) root
-    by (suc n) (Some parent) is root rest =
-        keeps_more (kind_in (slice_get domains place)) (map (λ place. kind_in (slice_get domains place)) (way (suc n) domains (Some parent)))
-        (child_of domains children place parent (slice_get domains place) refl is) (rest parent root)
 
 -- devices
 
@@ -160,17 +125,10 @@ unlazy_keeps true true false h he hu = absurd cc
 unlazy_keeps true false k h he hu = absurd cc
 unlazy_keeps false e k h he hu = absurd cc
 
-no_parent_of_root : (r rest : Bool) → (r || rest) ≡ false → r ≡ false
-no_parent_of_root r rest h = grind arith
-
-board_children : (b : BoardSeen) → IsBoard b → AreChildren b.domains
-board_children b board place row at parent up =
-    no_parent_of_root (is_root_kind row.def.chip) _ (sym (ap (is_bad_parent (take place b.domains) row.def.chip) up) ∙ (board.domains place row at).parent)
-
 pub valid_row : (b : BoardSeen) (i : ℕ) (row : LineRow) → IsBoard b → slice_get b.lines i ≡ Some row → IsValid (line_of_row b row)
 valid_row b i row board at =
     let here = board.lines i row at in
-    let ks : List LevelKind = kinds_from b.domains (Some row.domain) in
+    let ks : List LevelKind = kinds_from (defs_of b.domains) (Some row.domain) in
     let on_line : DeviceDef → Bool = λ x. x.line.0 == row.line.0 in
     let call_on_line : ScriptCall → Bool = λ c. c.line.0 == row.line.0 in
     let owned = owned_on_line b row.line board.calls in
@@ -194,7 +152,7 @@ valid_row b i row board at =
       edge_flow = edge_root (root_kind ks);
       level_flow = level_root (root_kind ks);
       unlazy = unlazy_keeps row.unlazy (is_edge_trigger (trigger_of_root (root_kind ks))) (keeps ks) here.unlazy;
-      eoi_keeps = λ edge eoi. lpi_keeps b.domains (board_children b board) 8 row.domain (lpi edge eoi);
+      eoi_keeps = λ edge eoi. keeps_under_lpi (defs_of b.domains) (defs_allowed b.domains board.domains) row.domain (lpi edge eoi);
       eoi_retriggers = λ edge eoi. ap retriggers_kind (lpi edge eoi);
       devices = subst (All (λ (x : DeviceDef). x.line ≡ row.line)) (map-id (filter on_line b.devices))
           (all_kept on_line (λ (x : DeviceDef). x) (λ (x : DeviceDef). Unit {0}) (λ (x : DeviceDef). x.line ≡ row.line) (λ x p k. same_line x.line row.line k) b.devices (λ i x at. tt));

@@ -3,11 +3,11 @@ use Rattle.std.proofs.Common.{◌≡◌, ℕ, zero, suc, ◌+◌, ◌-◌, ◌<�
 use Rattle.std.specs.List.{slice_get}
 use Rattle.irq_base.specs.declared.domains.LevelKind.{LevelKind}
 use Rattle.irq_base.specs.declared.domains.LevelKind.TheVariants as levels
+use Rattle.irq_base.specs.declared.domains.DomainDef.{DomainDef}
 use Rattle.irq_model.proofs.Lists.{next_item}
-use Rattle.board_def.specs.Levels.{way, kind_in, parent_in, root_kind, last_kind, masking_kind, masks_kind}
-use Rattle.board_def.specs.LevelWalk.{kind_at}
+use Rattle.domain_rules.specs.Paths.{way, kind_in, parent_in, kind_at}
+use Rattle.domain_rules.specs.Levels.{root_kind, last_kind, masking_kind, masks_kind}
 use Rattle.board_def.specs.declared.levels.Levels.{Levels}
-use Rattle.board_def.specs.declared.rows.DomainRow.{DomainRow}
 
 abbrev pub one_passed : Levels → LevelKind → Levels
 one_passed p k = record { root = k; masking = cond (is_none p.masking && masks_kind k) (Some k) p.masking; count = p.count + 1 }
@@ -57,27 +57,27 @@ count_of_all ks = omega (arith, count_passed none_passed ks)
 -- from a domain to its root
 
 -- what is left of the way, n levels long at most
-abbrev pub left_of_way : ℕ → List DomainRow → Option ℕ → List LevelKind
+abbrev pub left_of_way : ℕ → List DomainDef → Option ℕ → List LevelKind
 left_of_way n domains at = map (λ place. kind_in (slice_get domains place)) (way n domains at)
 
-pub way_step : (n m : ℕ) (domains : List DomainRow) (place : ℕ) (p : Levels) → n ≡ suc m
+pub way_step : (n m : ℕ) (domains : List DomainDef) (place : ℕ) (p : Levels) → n ≡ suc m
     → passed p (left_of_way n domains (Some place)) ≡ passed (one_passed p (kind_in (slice_get domains place))) (left_of_way m domains (parent_in (slice_get domains place)))
 way_step n m domains place p e = ap (λ k. passed p (left_of_way k domains (Some place))) e
 
-pub way_ends : (n : ℕ) (domains : List DomainRow) → left_of_way n domains None ≡ []
+pub way_ends : (n : ℕ) (domains : List DomainDef) → left_of_way n domains None ≡ []
 way_ends zero domains = refl
 way_ends (suc n) domains = refl
 
-pub way_full : (n : ℕ) (domains : List DomainRow) (at : Option ℕ) → n ≡ 0 → left_of_way n domains at ≡ []
+pub way_full : (n : ℕ) (domains : List DomainDef) (at : Option ℕ) → n ≡ 0 → left_of_way n domains at ≡ []
 way_full n domains at e = ap (λ k. left_of_way k domains at) e
 
 -- along a path
 
-pub path_step : (domains : List DomainRow) (path : List (ℕ × ℕ)) (i : ℕ) (level : ℕ × ℕ) (p : Levels) → slice_get path i ≡ Some level
+pub path_step : (domains : List DomainDef) (path : List (ℕ × ℕ)) (i : ℕ) (level : ℕ × ℕ) (p : Levels) → slice_get path i ≡ Some level
     → passed p (map (kind_at domains) (drop i path)) ≡ passed (one_passed p (kind_at domains level)) (map (kind_at domains) (drop (i + 1) path))
 path_step domains path i level p at = ap (λ rest. passed p (map (kind_at domains) rest)) (next_item path i level at)
 
-pub path_ends : (domains : List DomainRow) (path : List (ℕ × ℕ)) (i : ℕ) → slice_get path i ≡ None → map (kind_at domains) (drop i path) ≡ []
+pub path_ends : (domains : List DomainDef) (path : List (ℕ × ℕ)) (i : ℕ) → slice_get path i ≡ None → map (kind_at domains) (drop i path) ≡ []
 path_ends domains [] zero at = refl
 path_ends domains [] (suc i) at = refl
 path_ends domains (x ∷ xs) zero at = absurd cc
@@ -87,7 +87,7 @@ path_ends domains (x ∷ xs) (suc i) at = path_ends domains xs i at
 pub ended : (p : Levels) (rest ks : List LevelKind) → passed p rest ≡ passed none_passed ks → rest ≡ [] → p ≡ passed none_passed ks
 ended p rest ks e none = ap (passed p) (sym none) ∙ e
 
-pub way_goes_on : (domains : List DomainRow) (all : List LevelKind) (p next : Levels) (at parent : Option ℕ) (place : ℕ) → p.count < 8 → at ≡ Some place
+pub way_goes_on : (domains : List DomainDef) (all : List LevelKind) (p next : Levels) (at parent : Option ℕ) (place : ℕ) → p.count < 8 → at ≡ Some place
     → next ≡ one_passed p (kind_in (slice_get domains place)) → parent ≡ parent_in (slice_get domains place)
     → passed p (left_of_way (8 - p.count) domains at) ≡ passed none_passed all → passed next (left_of_way (8 - next.count) domains parent) ≡ passed none_passed all
 way_goes_on domains all p next at parent place few here is up e =
@@ -98,7 +98,7 @@ way_goes_on domains all p next at parent place few here is up e =
     ∙ (sym (way_step (8 - p.count) (8 - (p.count + 1)) domains place p lower)
     ∙ (ap (λ a. passed p (left_of_way (8 - p.count) domains a)) (sym here) ∙ e)))
 
-pub path_goes_on : (domains : List DomainRow) (path : List (ℕ × ℕ)) (p next : Levels) (level : ℕ × ℕ) → slice_get path p.count ≡ Some level
+pub path_goes_on : (domains : List DomainDef) (path : List (ℕ × ℕ)) (p next : Levels) (level : ℕ × ℕ) → slice_get path p.count ≡ Some level
     → next ≡ one_passed p (kind_at domains level)
     → passed p (map (kind_at domains) (drop p.count path)) ≡ passed none_passed (map (kind_at domains) path)
     → passed next (map (kind_at domains) (drop next.count path)) ≡ passed none_passed (map (kind_at domains) path)

@@ -1,11 +1,9 @@
 pub mod Names
 pub mod Seen
-pub mod Levels
+pub mod Unnamed
 pub mod Rules
 pub mod Layout
 pub mod LineOf
 pub mod Tables
 pub mod Find
 pub mod Inside
-pub mod LevelWalk
-pub mod LayoutWalk

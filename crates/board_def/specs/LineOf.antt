@@ -4,8 +4,10 @@ use Rattle.irq_base.specs.declared.lines.LineDef.{LineDef}
 use Rattle.irq_base.specs.declared.numbers.LineNo.{LineNo}
 use Rattle.irq_base.specs.declared.calls.Call.{Call}
 use Rattle.irq_base.specs.declared.numbers.DriverNo.{DriverNo}
-use Rattle.board_def.specs.Levels.{kinds_from, root_kind, trigger_of_root, flow_of_root, keeps, recalls, retriggers}
+use Rattle.domain_rules.specs.Levels.{root_kind, trigger_of_root, flow_of_root, keeps, recalls, retriggers}
+use Rattle.domain_rules.specs.Paths.{kinds_from}
 use Rattle.board_def.specs.Seen.{BoardSeen}
+use Rattle.board_def.specs.Unnamed.{defs_of}
 use Rattle.board_def.specs.declared.rows.LineRow.{LineRow}
 use Rattle.board_def.specs.declared.rows.ScriptCall.{ScriptCall}
 
@@ -20,7 +22,7 @@ with_driver c = (c.driver, c.call)
 -- the calls about it, in the board's order.
 abbrev pub line_of_row : BoardSeen → LineRow → LineDef
 line_of_row b row =
-    let kinds = kinds_from b.domains (Some row.domain) in
+    let kinds = kinds_from (defs_of b.domains) (Some row.domain) in
     record {
       line = row.line;
       flow = flow_of_root (root_kind kinds);

@@ -1,15 +1,12 @@
 -- The rules that a board keeps. Each row is allowed after those before it.
-use Rattle.std.specs.Prelude.{◌≡◌, ℕ, ◌*◌, ◌<◌, ◌≤◌, Bool, true, false, not, ◌&&◌, ◌||◌, ◌==◌, nat_le, IsSome, IfSome, Option, Some, None, List, [], ◌∷◌, length, reverse, take, slice_get, if◌then◌else◌, All}
+use Rattle.std.specs.Prelude.{◌≡◌, ℕ, ◌*◌, ◌<◌, ◌≤◌, Bool, true, false, not, ◌&&◌, ◌||◌, ◌==◌, IsSome, Option, Some, None, List, [], ◌∷◌, length, reverse, if◌then◌else◌, All}
 use Rattle.std.specs.List.{list_any}
 use Rattle.irq_base.specs.Cell.{is_edge_trigger}
 use Rattle.irq_base.specs.Handlers.{has_thread}
 use Rattle.irq_base.specs.declared.calls.Call.{Call}
 use Rattle.irq_base.specs.declared.calls.Call.TheVariants as calls
 use Rattle.irq_base.specs.declared.devices.DeviceDef.{DeviceDef}
-use Rattle.irq_base.specs.declared.domains.LevelKind.{LevelKind}
-use Rattle.irq_base.specs.declared.domains.LevelKind.TheVariants as levels
-use Rattle.irq_base.specs.declared.domains.MapKind.{MapKind}
-use Rattle.irq_base.specs.declared.domains.MapKind.TheVariants as maps
+use Rattle.irq_base.specs.declared.domains.DomainDef.{DomainDef}
 use Rattle.irq_base.specs.declared.entries.Actor.{Actor}
 use Rattle.irq_base.specs.declared.entries.Actor.TheVariants as actors
 use Rattle.irq_base.specs.declared.numbers.DevNo.{DevNo}
@@ -19,16 +16,15 @@ use Rattle.irq_model.specs.Kinds.{same_dev}
 use Rattle.irq_model.specs.Signal.{lowest_in}
 use Rattle.irq_model.specs.Valid.{requests_dev, frees_dev}
 use Rattle.board_def.specs.Names.{is_name, name_bytes, same_name}
-use Rattle.board_def.specs.Levels.{most_levels, way, kinds_from, root_kind, is_root_kind, presents_level_kind, trigger_of_root, keeps}
+use Rattle.domain_rules.specs.Domains.{EachAfter, IsDomainAfter}
+use Rattle.domain_rules.specs.Levels.{root_kind, trigger_of_root, keeps}
+use Rattle.domain_rules.specs.Paths.{kinds_from}
 use Rattle.board_def.specs.Seen.{BoardSeen}
+use Rattle.board_def.specs.Unnamed.{defs_of}
 use Rattle.board_def.specs.declared.names.Name.{Name}
 use Rattle.board_def.specs.declared.rows.DomainRow.{DomainRow}
 use Rattle.board_def.specs.declared.rows.LineRow.{LineRow}
 use Rattle.board_def.specs.declared.rows.ScriptCall.{ScriptCall}
-
--- each item meets P after those before it
-abbrev pub EachAfter : {A : Type 0} → (List A → A → Type 0) → List A → Type 0
-EachAfter {A} P items = (i : ℕ) (x : A) → slice_get items i ≡ Some x → P (take i items) x
 
 -- the number of a line, a device or a driver
 abbrev pub IsNumber : ℕ → Type 0
@@ -54,31 +50,15 @@ has_driver drivers driver = list_any (λ d. d.0 == driver.0) drivers
 
 -- domains
 
-abbrev pub is_msi : LevelKind → Bool
-is_msi levels.Msi = true
-is_msi _ = false
-
--- A root has no parent, a child has one; messages are sent as edges; and a path has at most eight levels.
-abbrev pub is_bad_parent : List DomainRow → LevelKind → Option ℕ → Bool
-is_bad_parent earlier kind None = not (is_root_kind kind)
-is_bad_parent earlier kind (Some parent) =
-    is_root_kind kind || ((is_msi kind && presents_level_kind (root_kind (kinds_from earlier (Some parent)))) || nat_le most_levels (length (way most_levels earlier (Some parent))))
-
-abbrev pub IsSize : MapKind → Type 0
-IsSize (maps.Linear size) = (1 ≤ size) × (size ≤ 1024)
-IsSize maps.Tree = Unit {0}
-
-pub record IsDomainAfter (earlier : List DomainRow) (row : DomainRow) : Type 0 where
+pub record IsDomainRowAfter (earlier : List DomainRow) (row : DomainRow) : Type 0 where
   pub spelled : is_name (name_bytes row.name) ≡ true
   pub new : has_name earlier row.name ≡ false
-  pub size : IsSize row.def.map
-  pub declared : IfSome row.def.parent (λ parent. parent < length earlier)
-  pub parent : is_bad_parent earlier row.def.chip row.def.parent ≡ false
+  pub def : IsDomainAfter (defs_of earlier) row.def
 
 -- lines
 
 -- an edge line that is masked as soon as it is disabled needs a level that keeps what comes then
-abbrev pub is_bad_unlazy : List DomainRow → ℕ → Bool → Bool
+abbrev pub is_bad_unlazy : List DomainDef → ℕ → Bool → Bool
 is_bad_unlazy domains domain unlazy =
     unlazy && (is_edge_trigger (trigger_of_root (root_kind (kinds_from domains (Some domain)))) && not (keeps (kinds_from domains (Some domain))))
 
@@ -86,7 +66,7 @@ pub record IsLineAfter (b : BoardSeen) (earlier : List LineRow) (row : LineRow) 
   pub number : IsNumber row.line.0
   pub rises : All (λ e. e.line.0 < row.line.0) earlier
   pub domain : row.domain < length b.domains
-  pub unlazy : is_bad_unlazy b.domains row.domain row.unlazy ≡ false
+  pub unlazy : is_bad_unlazy (defs_of b.domains) row.domain row.unlazy ≡ false
   -- the mask has a processor of the machine
   pub mask : IsSome (lowest_in b.cpus row.mask)
 
@@ -174,7 +154,7 @@ pub record IsBoard (b : BoardSeen) : Type 0 where
   pub few_picks : length b.picks ≤ 65536
   -- all histories together
   pub entries : b.log * length b.lines ≤ 4000000
-  pub domains : EachAfter IsDomainAfter b.domains
+  pub domains : EachAfter IsDomainRowAfter b.domains
   pub lines : EachAfter (IsLineAfter b) b.lines
   pub devices : EachAfter (IsDeviceAfter b) b.devices
   pub drivers : EachAfter IsDriverAfter b.drivers

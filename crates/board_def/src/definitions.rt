@@ -3,8 +3,10 @@ ghost use Rattle.std.specs.Prelude.{◌≡◌, ◌==◌, Some, map, filter, IsSo
 ghost use Rattle.irq_model.specs.Valid.{IsValid};
 ghost use Rattle.board_def.specs.Layout.{IsPathOf};
 ghost use Rattle.board_def.specs.LineOf.{find_line, line_of_row, with_driver};
-ghost use Rattle.board_def.specs.Rules.{is_bad_parent, is_bad_unlazy};
+ghost use Rattle.board_def.specs.Rules.{is_bad_unlazy};
+ghost use Rattle.board_def.specs.Unnamed.{defs_of};
 ghost use Rattle.board_def.specs.declared.rows.LineRow.{LineRow};
+ghost use Rattle.domain_rules.specs.Domains.{is_bad_parent};
 
 use crate::board::Board;
 use crate::levels::{
@@ -18,7 +20,7 @@ impl Board {
     /// Whether no domain of that kind may have that parent, the place of one of the board's domains: a root has
     /// none, a child has one, messages are sent as edges, and a path has at most eight levels.
     pub fn has_bad_parent(&self, chip: LevelKind, parent: Option<usize>) -> bool
-        ensures { result ≡ is_bad_parent self.now.domains chip parent }
+        ensures { result ≡ is_bad_parent (defs_of self.now.domains) chip parent }
     {
         if parent.is_none() {
             return !is_root(chip);
@@ -32,7 +34,7 @@ impl Board {
     /// Whether a line at the domain of that place may not be masked as soon as it is disabled: it is an edge line,
     /// and no level keeps what comes then.
     pub fn is_bad_unlazy(&self, domain: usize, unlazy: bool) -> bool
-        ensures { result ≡ is_bad_unlazy self.now.domains domain unlazy }
+        ensures { result ≡ is_bad_unlazy (defs_of self.now.domains) domain unlazy }
     {
         let levels = levels_from(self, Some(domain));
         unlazy && trigger_of(levels.root) == Trigger::Edge && !levels.keeps()

@@ -1,13 +1,13 @@
 //! What the levels between a line and its processors make of its signal.
-ghost use Rattle.std.specs.Prelude.{◌≡◌, ◌+◌, ◌<◌, ◌≤◌, None, Some, map, length, is_none, ◌&&◌, if◌then◌else◌};
-ghost use Rattle.board_def.specs.Levels.{most_levels, way, kinds_from, root_kind, masking_kind, is_some_kind, is_root_kind, masks_kind, keeps_kind, retriggers_kind, presents_level_kind, trigger_of_root, flow_of_root, kind_in, parent_in};
-ghost use Rattle.board_def.specs.LevelWalk.{kind_at, stores_at_root};
+ghost use Rattle.std.specs.Prelude.{◌≡◌, ◌+◌, ◌<◌, ◌≤◌, None, Some, length, is_none, slice_get, ◌&&◌, if◌then◌else◌};
+ghost use Rattle.board_def.specs.Unnamed.{defs_of};
+ghost use Rattle.domain_rules.specs.Levels.{root_kind, masking_kind, is_some_kind, is_root_kind, masks_kind, keeps_kind, stores_at_root, retriggers_kind, presents_level_kind, trigger_of_root, flow_of_root};
+ghost use Rattle.domain_rules.specs.Paths.{most_levels, way, kinds_from, kinds_on, kind_in, parent_in};
 ghost use Rattle.irq_base.specs.declared.domains.LevelKind.TheVariants.{Remap};
 
 use crate::board::Board;
-use crate::rows::DomainRow;
 use irq_base::domains::LEVELS;
-use irq_base::{FlowKind, LevelKind, Path, Trigger};
+use irq_base::{DomainDef, FlowKind, LevelKind, Path, Trigger};
 
 /// Whether a level of that kind stands at the processors' end.
 pub fn is_root(kind: LevelKind) -> bool
@@ -122,27 +122,34 @@ impl Levels {
 }
 
 /// The kind of a domain; one that isn't there passes everything on.
-pub fn kind_of(row: Option<DomainRow>) -> LevelKind
-    ensures { result ≡ kind_in row }
+pub fn kind_of(def: Option<DomainDef>) -> LevelKind
+    ensures { result ≡ kind_in def }
 {
-    match row {
-        Some(row) => row.def.chip,
+    match def {
+        Some(def) => def.chip,
         None => LevelKind::Remap,
     }
 }
 
 /// The place of the parent; none for a root, nor for a domain that isn't there.
-pub fn parent_of(row: Option<DomainRow>) -> Option<usize>
-    ensures { result ≡ parent_in row }
+pub fn parent_of(def: Option<DomainDef>) -> Option<usize>
+    ensures { result ≡ parent_in def }
 {
-    row?.def.parent
+    def?.parent
+}
+
+/// The domain at the place, without its name; none from their number on.
+pub fn def_at(board: &Board, place: usize) -> Option<DomainDef>
+    ensures { result ≡ slice_get (defs_of board.now.domains) place }
+{
+    Some(board.domain(place)?.def)
 }
 
 /// The levels from the domain at that place to its root.
 pub fn levels_from(board: &Board, from: Option<usize>) -> Levels
-    ensures root { result.root ≡ root_kind (kinds_from board.now.domains from) }
-    ensures masking { result.masking ≡ masking_kind (kinds_from board.now.domains from) }
-    ensures count { result.count ≡ length (way most_levels board.now.domains from) }
+    ensures root { result.root ≡ root_kind (kinds_from (defs_of board.now.domains) from) }
+    ensures masking { result.masking ≡ masking_kind (kinds_from (defs_of board.now.domains) from) }
+    ensures count { result.count ≡ length (way most_levels (defs_of board.now.domains) from) }
 {
     let mut levels = Levels::none();
     let mut at = from;
@@ -150,9 +157,9 @@ pub fn levels_from(board: &Board, from: Option<usize>) -> Levels
         let Some(place) = at else {
             return levels;
         };
-        let row = board.domain(place);
-        levels.pass(kind_of(row));
-        at = parent_of(row);
+        let def = def_at(board, place);
+        levels.pass(kind_of(def));
+        at = parent_of(def);
     }
     levels
 }
@@ -160,12 +167,12 @@ pub fn levels_from(board: &Board, from: Option<usize>) -> Levels
 /// The levels of that path.
 pub fn levels_on(board: &Board, path: &Path) -> Levels
     requires few { length path.now ≤ 8 }
-    ensures root { result.root ≡ root_kind (map (kind_at board.now.domains) path.now) }
-    ensures masking { result.masking ≡ masking_kind (map (kind_at board.now.domains) path.now) }
+    ensures root { result.root ≡ root_kind (kinds_on (defs_of board.now.domains) path.now) }
+    ensures masking { result.masking ≡ masking_kind (kinds_on (defs_of board.now.domains) path.now) }
 {
     let mut levels = Levels::none();
     while let Some((place, _)) = path.get(levels.count) {
-        levels.pass(kind_of(board.domain(place)));
+        levels.pass(kind_of(def_at(board, place)));
     }
     levels
 }

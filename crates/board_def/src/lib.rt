@@ -6,7 +6,6 @@
 
 pub mod board;
 pub mod definitions;
-pub mod layouts;
 pub mod levels;
 pub mod names;
 pub mod placing;
@@ -14,6 +13,6 @@ pub mod rows;
 pub mod tables;
 
 pub use board::Board;
-pub use layouts::{Layout, Placement, Unmapped};
+pub use domain_rules::{Layout, Placement, Unmapped};
 pub use names::{LONGEST_NAME, Name};
 pub use rows::{DomainRow, LineRow, ScriptCall};

@@ -2,15 +2,16 @@
 ghost use Rattle.std.specs.Prelude.{◌≡◌, ◌+◌, ◌<◌, ◌≤◌, ◌==◌, ◌&&◌, false, length, IfOk};
 ghost use Rattle.std.specs.List.{list_any};
 ghost use Rattle.std.specs.Option.{option_map_or};
-ghost use Rattle.board_def.specs.Layout.{layout_of, placement_of, path_of, lowest_unused, is_used, is_mapped, has_number, is_past_domain, count_of_mapped};
-ghost use Rattle.board_def.specs.LayoutWalk.{is_past_path};
+ghost use Rattle.board_def.specs.Layout.{layout_of};
+ghost use Rattle.board_def.specs.Unnamed.{defs_of, leaf_of};
+ghost use Rattle.domain_rules.specs.Layout.{placement_of, path_of, lowest_unused, is_used, is_mapped, has_number, is_past_domain, is_past_path, count_of_mapped};
 
 use crate::board::Board;
-use crate::layouts::{Layout, Placement, Unmapped};
-use crate::levels::{levels_from, parent_of};
-use crate::rows::{DomainRow, LineRow};
+use crate::levels::{def_at, levels_from, parent_of};
+use crate::rows::LineRow;
+use domain_rules::{Layout, Placement, Unmapped};
 use irq_base::domains::LEVELS;
-use irq_base::{MapKind, NoMemory, Path};
+use irq_base::{DomainDef, MapKind, NoMemory, Path};
 use std::alloc::Global;
 
 impl Board {
@@ -34,7 +35,7 @@ impl Board {
 // Where the line lies, after those laid before.
 fn place_line(board: &Board, earlier: &Layout, row: LineRow) -> Placement
     requires few { length earlier.now ≤ 64 }
-    ensures { result ≡ placement_of board.now.domains earlier.now row }
+    ensures { result ≡ placement_of (defs_of board.now.domains) earlier.now (leaf_of row) }
 {
     if levels_from(board, Some(row.domain)).masking.is_none() {
         return Placement::Refused(Unmapped::NoMask);
@@ -55,17 +56,17 @@ fn place_line(board: &Board, earlier: &Layout, row: LineRow) -> Placement
 // The line's own number at its domain, and the lowest unused one at each level above.
 fn line_path(board: &Board, earlier: &Layout, row: LineRow) -> Path
     requires few { length earlier.now ≤ 64 }
-    ensures { result ≡ path_of board.now.domains earlier.now row }
+    ensures { result ≡ path_of (defs_of board.now.domains) earlier.now (leaf_of row) }
 {
     let mut path = Path::new();
     path.push((row.domain, row.hw));
-    let mut at = parent_of(board.domain(row.domain));
+    let mut at = parent_of(def_at(board, row.domain));
     while path.len() < LEVELS {
         let Some(place) = at else {
             return path;
         };
         path.push((place, free_number(earlier, place)));
-        at = parent_of(board.domain(place));
+        at = parent_of(def_at(board, place));
     }
     path
 }
@@ -133,7 +134,7 @@ fn is_level(level: Option<(usize, u32)>, domain: usize, number: u32) -> bool
 
 // Whether a level of the path has no room for its number.
 fn is_past(board: &Board, path: &Path) -> bool
-    ensures { result ≡ list_any (is_past_path board.now.domains) path.now }
+    ensures { result ≡ list_any (is_past_path (defs_of board.now.domains)) path.now }
 {
     for i in 0..path.len() {
         if is_past_level(board, path.get(i)) {
@@ -145,22 +146,22 @@ fn is_past(board: &Board, path: &Path) -> bool
 
 // Whether the level, if there is one, has no room for its number.
 fn is_past_level(board: &Board, level: Option<(usize, u32)>) -> bool
-    ensures { result ≡ option_map_or (is_past_path board.now.domains) level false }
+    ensures { result ≡ option_map_or (is_past_path (defs_of board.now.domains)) level false }
 {
     match level {
-        Some((place, number)) => is_past_map(board.domain(place), number),
+        Some((place, number)) => is_past_map(def_at(board, place), number),
         None => false,
     }
 }
 
 // Whether the domain has no room for the number.
-fn is_past_map(row: Option<DomainRow>, number: u32) -> bool
-    ensures { result ≡ is_past_domain row number }
+fn is_past_map(def: Option<DomainDef>, number: u32) -> bool
+    ensures { result ≡ is_past_domain def number }
 {
-    let Some(row) = row else {
+    let Some(def) = def else {
         return false;
     };
-    match row.def.map {
+    match def.map {
         MapKind::Linear(size) => number >= size,
         MapKind::Tree => false,
     }

@@ -5,8 +5,8 @@ use Rattle.std.specs.Option.{option_map_or}
 use Rattle.std.proofs.lemmas.Bool.{leb-false, eqb-true}
 use Rattle.std.proofs.lemmas.List.{length_push}
 use Rattle.std.proofs.lemmas.List.Elements.{All-nil, All-cons, All-head, All-tail}
-use Rattle.board_def.specs.Rules.{EachAfter}
-use Rattle.board_def.proofs.EachAfters.{each_none}
+use Rattle.domain_rules.specs.Domains.{EachAfter}
+use Rattle.domain_rules.proofs.EachAfters.{each_none}
 
 -- a number that isn't at most the last one is above it
 pub last_below : {A : Type 0} (number : A → ℕ) (n : ℕ) (last : Option A) → option_map_or (λ x. nat_le n (number x)) last false ≡ false → IfSome last (λ x. number x < n)

@@ -11,7 +11,8 @@ use Rattle.irq_base.specs.declared.domains.LevelKind.TheVariants as levels
 use Rattle.irq_base.specs.declared.domains.MapKind.{MapKind}
 use Rattle.irq_base.specs.declared.domains.MapKind.TheVariants as maps
 use Rattle.irq_base.specs.declared.numbers.LineNo.{LineNo}
-use Rattle.board_def.specs.Rules.{EachAfter, has_line, IsDomainAfter, IsLineAfter, IsCallAfter, IsBoard}
+use Rattle.domain_rules.specs.Domains.{EachAfter}
+use Rattle.board_def.specs.Rules.{has_line, IsDomainRowAfter, IsLineAfter, IsCallAfter, IsBoard}
 use Rattle.board_def.specs.Seen.{BoardSeen}
 use Rattle.board_def.specs.declared.rows.DomainRow.{DomainRow}
 use Rattle.board_def.specs.declared.rows.LineRow.{LineRow}
@@ -104,10 +105,10 @@ no_parent : (parent : Option ℕ) → IfSome parent (λ p. p < 0) → parent ≡
 no_parent None h = refl
 no_parent (Some p) h = absurd (omega arith)
 
-first_parent : (domains : List DomainRow) (domain : DomainRow) → domains ≡ domain ∷ [] → EachAfter IsDomainAfter domains → domain.def.parent ≡ None
+first_parent : (domains : List DomainRow) (domain : DomainRow) → domains ≡ domain ∷ [] → EachAfter IsDomainRowAfter domains → domain.def.parent ≡ None
 first_parent domains domain one each =
-    let first : EachAfter IsDomainAfter (domain ∷ []) = subst (λ (rows : List DomainRow). EachAfter IsDomainAfter rows) one each in
-    no_parent domain.def.parent (first zero domain refl).declared
+    let first : EachAfter IsDomainRowAfter (domain ∷ []) = subst (λ (rows : List DomainRow). EachAfter IsDomainRowAfter rows) one each in
+    no_parent domain.def.parent (first zero domain refl).def.declared
 
 latch_row : (domain : DomainRow) (size : ℕ) → domain.def.map ≡ maps.Linear size → domain.def.chip ≡ levels.Latch → domain.def.parent ≡ None
     → domain ≡ record { name = domain.name; def = record { map = maps.Linear size; chip = levels.Latch; parent = None } }

@@ -6,11 +6,12 @@ use Rattle.std.proofs.lemmas.List.Elements.{All-same, All-nil, All-head, All-tai
 use Rattle.irq_base.specs.declared.devices.DeviceDef.{DeviceDef}
 use Rattle.irq_base.specs.declared.numbers.DevNo.{DevNo}
 use Rattle.irq_model.specs.Kinds.{same_dev}
-use Rattle.board_def.specs.Rules.{EachAfter, has_line, find_device, has_driver, is_on_line, fits_line, IsDeviceAfter, IsCallAfter, IsActorOf, IsBoard}
+use Rattle.domain_rules.specs.Domains.{EachAfter}
+use Rattle.board_def.specs.Rules.{has_line, find_device, has_driver, is_on_line, fits_line, IsDeviceAfter, IsCallAfter, IsActorOf, IsBoard}
 use Rattle.board_def.specs.Seen.{BoardSeen}
 use Rattle.board_def.specs.declared.rows.LineRow.{LineRow}
 use Rattle.board_def.specs.declared.rows.ScriptCall.{ScriptCall}
-use Rattle.board_def.proofs.EachAfters.{each_more}
+use Rattle.domain_rules.proofs.EachAfters.{each_more}
 use Rattle.board_words.specs.declared.statements.CallWords.{CallWords}
 use Rattle.board_words.specs.declared.statements.CallWords.TheVariants as words
 use Rattle.board_words.specs.declared.statements.Statement.TheVariants as statements

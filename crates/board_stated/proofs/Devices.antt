@@ -7,10 +7,11 @@ use Rattle.irq_base.specs.declared.devices.Kind.{Kind}
 use Rattle.irq_base.specs.declared.numbers.DevNo.{DevNo}
 use Rattle.irq_base.specs.declared.numbers.LineNo.{LineNo}
 use Rattle.board_def.specs.Find.{last_item, last_device}
-use Rattle.board_def.specs.Rules.{EachAfter, has_line, IsNumber, IsDeviceAfter, IsCallAfter, IsActorOf, IsBoard}
+use Rattle.domain_rules.specs.Domains.{EachAfter}
+use Rattle.board_def.specs.Rules.{has_line, IsNumber, IsDeviceAfter, IsCallAfter, IsActorOf, IsBoard}
 use Rattle.board_def.specs.Seen.{BoardSeen}
 use Rattle.board_def.specs.declared.rows.LineRow.{LineRow}
-use Rattle.board_def.proofs.EachAfters.{each_more}
+use Rattle.domain_rules.proofs.EachAfters.{each_more}
 use Rattle.board_def.proofs.Rising.{all_below, last_number}
 use Rattle.board_words.specs.declared.statements.Statement.TheVariants as statements
 use Rattle.board_stated.specs.FaultsAfter.{is_misplaced, is_not_there, is_one_too_many}

@@ -3,12 +3,13 @@ use Rattle.std.proofs.Common.{◌≡◌, ℕ, ◌<◌, ◌≤◌, true, false, �
 use Rattle.std.proofs.lemmas.Bool.{or_parts}
 use Rattle.std.proofs.lemmas.List.Elements.{All-same, All-nil}
 use Rattle.board_def.specs.Find.{place_of_name}
-use Rattle.board_def.specs.Rules.{has_name, IsDomainAfter, IsLineAfter, IsDeviceAfter, IsCallAfter, IsActorOf, IsBoard}
+use Rattle.board_def.specs.Rules.{has_name, IsDomainRowAfter, IsLineAfter, IsDeviceAfter, IsCallAfter, IsActorOf, IsBoard}
 use Rattle.board_def.specs.Seen.{BoardSeen}
 use Rattle.board_def.specs.declared.names.Name.{Name}
 use Rattle.board_def.specs.declared.rows.DomainRow.{DomainRow}
-use Rattle.board_def.proofs.EachAfters.{each_more}
+use Rattle.domain_rules.proofs.EachAfters.{each_more}
 use Rattle.board_def.proofs.Finds.{place_within}
+use Rattle.board_def.proofs.Unnaming.{declared_def}
 use Rattle.board_words.specs.declared.statements.DomainWords.{DomainWords}
 use Rattle.board_words.specs.declared.statements.Statement.TheVariants as statements
 use Rattle.board_stated.specs.FaultsAfter.{has_bad_parent, is_one_too_many}
@@ -41,13 +42,11 @@ parent_declared rows None = tt
 -- ---- one more
 
 domain_after : (b : BoardSeen) (d : DomainWords) → IsWellFormed (statements.Domain d) → (has_name b.domains d.name || d.twice) ≡ false
-    → has_bad_parent b (statements.Domain d) ≡ false → IsDomainAfter b.domains (domain_row b.domains d)
+    → has_bad_parent b (statements.Domain d) ≡ false → IsDomainRowAfter b.domains (domain_row b.domains d)
 domain_after b d fits once parent = record {
   spelled = fits.0;
   new = (or_parts (has_name b.domains d.name) d.twice once).0;
-  size = fits.1;
-  declared = parent_declared b.domains d.parent;
-  parent = parent;
+  def = record { size = fits.1; declared = declared_def b.domains (parent_place b.domains d.parent) (parent_declared b.domains d.parent); parent = parent };
 }
 
 pub domain_kept : (b : BoardSeen) (d : DomainWords) (n : ℕ) → n ≤ 2 → NoneLater n b → IsBoard b → IsWellFormed (statements.Domain d) → (has_name b.domains d.name || d.twice) ≡ false
@@ -69,7 +68,7 @@ domain_kept b d n early none board fits once parent room =
       few_calls = board.few_calls;
       few_picks = board.few_picks;
       entries = board.entries;
-      domains = each_more IsDomainAfter b.domains row board.domains (domain_after b d fits once parent);
+      domains = each_more IsDomainRowAfter b.domains row board.domains (domain_after b d fits once parent);
       lines = each_of_none (IsLineAfter next) b.lines (none.lines (omega arith));
       devices = each_of_none (IsDeviceAfter next) b.devices (none.devices (omega arith));
       drivers = board.drivers;

@@ -6,10 +6,11 @@ use Rattle.std.proofs.lemmas.List.Elements.{All-same, All-nil}
 use Rattle.std.proofs.lemmas.List.Folds.{list_any-append}
 use Rattle.irq_base.specs.declared.numbers.DriverNo.{DriverNo}
 use Rattle.board_def.specs.Find.{last_from, last_item}
-use Rattle.board_def.specs.Rules.{EachAfter, has_driver, IsNumber, IsDriverAfter, IsCallAfter, IsActorOf, IsBoard}
+use Rattle.domain_rules.specs.Domains.{EachAfter}
+use Rattle.board_def.specs.Rules.{has_driver, IsNumber, IsDriverAfter, IsCallAfter, IsActorOf, IsBoard}
 use Rattle.board_def.specs.Seen.{BoardSeen}
 use Rattle.board_def.specs.declared.rows.ScriptCall.{ScriptCall}
-use Rattle.board_def.proofs.EachAfters.{each_more}
+use Rattle.domain_rules.proofs.EachAfters.{each_more}
 use Rattle.board_def.proofs.Rising.{all_below}
 use Rattle.board_words.specs.declared.statements.Statement.TheVariants as statements
 use Rattle.board_stated.specs.FaultsAfter.{is_empty, is_misplaced, is_one_too_many}

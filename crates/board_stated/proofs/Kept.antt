@@ -3,9 +3,9 @@ use Rattle.std.proofs.Common.{◌≡◌, ℕ, ◌+◌, ◌*◌, ◌≤◌, Bool,
 use Rattle.std.specs.List.{list_any}
 use Rattle.std.proofs.lemmas.Bool.{ltb-false}
 use Rattle.std.proofs.lemmas.List.Elements.{All-nil}
-use Rattle.board_def.specs.Rules.{IsDomainAfter, IsLineAfter, IsDeviceAfter, IsDriverAfter, IsCallAfter, IsActorOf, IsBoard}
+use Rattle.board_def.specs.Rules.{IsDomainRowAfter, IsLineAfter, IsDeviceAfter, IsDriverAfter, IsCallAfter, IsActorOf, IsBoard}
 use Rattle.board_def.specs.Seen.{BoardSeen}
-use Rattle.board_def.proofs.EachAfters.{each_none}
+use Rattle.domain_rules.proofs.EachAfters.{each_none}
 use Rattle.board_words.specs.Forms.{fault_of_words}
 use Rattle.board_words.specs.Lines.{text_lines, words_of, has_bad_byte}
 use Rattle.board_words.specs.Statements.{statement_of}
@@ -47,7 +47,7 @@ first_draft = record {
   few_calls = omega arith;
   few_picks = omega arith;
   entries = omega arith;
-  domains = each_none IsDomainAfter;
+  domains = each_none IsDomainRowAfter;
   lines = each_none (IsLineAfter (draft_of []));
   devices = each_none (IsDeviceAfter (draft_of []));
   drivers = each_none IsDriverAfter;

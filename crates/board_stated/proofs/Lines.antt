@@ -6,11 +6,13 @@ use Rattle.std.proofs.lemmas.Nat.Bits.{bit_at_ones}
 use Rattle.irq_model.specs.Lines.{is_in_mask}
 use Rattle.irq_model.specs.Signal.{lowest_in}
 use Rattle.board_def.specs.Find.{last_item, last_line}
-use Rattle.board_def.specs.Rules.{EachAfter, has_name, IsNumber, is_bad_unlazy, IsLineAfter, IsDeviceAfter, IsCallAfter, IsActorOf, IsBoard}
+use Rattle.domain_rules.specs.Domains.{EachAfter}
+use Rattle.board_def.specs.Rules.{has_name, IsNumber, is_bad_unlazy, IsLineAfter, IsDeviceAfter, IsCallAfter, IsActorOf, IsBoard}
 use Rattle.board_def.specs.Seen.{BoardSeen}
+use Rattle.board_def.specs.Unnamed.{defs_of}
 use Rattle.board_def.specs.declared.rows.DomainRow.{DomainRow}
 use Rattle.board_def.specs.declared.rows.LineRow.{LineRow}
-use Rattle.board_def.proofs.EachAfters.{each_more}
+use Rattle.domain_rules.proofs.EachAfters.{each_more}
 use Rattle.board_def.proofs.Rising.{all_below, last_number}
 use Rattle.board_words.specs.declared.statements.LineWords.{LineWords}
 use Rattle.board_words.specs.declared.statements.Statement.TheVariants as statements
@@ -27,7 +29,7 @@ same_line b c domains cpus earlier row p = record {
   number = p.number;
   rises = p.rises;
   domain = subst (λ (rows : List DomainRow). row.domain < length rows) (sym domains) p.domain;
-  unlazy = subst (λ (rows : List DomainRow). is_bad_unlazy rows row.domain row.unlazy ≡ false) (sym domains) p.unlazy;
+  unlazy = subst (λ (rows : List DomainRow). is_bad_unlazy (defs_of rows) row.domain row.unlazy ≡ false) (sym domains) p.unlazy;
   mask = subst (λ (n : ℕ). IsSome (lowest_in n row.mask)) (sym cpus) p.mask;
 }
 

@@ -8,8 +8,10 @@ use Rattle.irq_base.specs.declared.devices.DeviceDef.{DeviceDef}
 use Rattle.irq_base.specs.declared.numbers.DevNo.{DevNo}
 use Rattle.irq_model.specs.Signal.{lowest_in}
 use Rattle.board_def.specs.Find.{place_of_name, last_line, last_device, last_driver}
-use Rattle.board_def.specs.Rules.{has_name, has_line, find_device, has_driver, is_bad_parent, is_bad_unlazy, is_bad_owner}
+use Rattle.board_def.specs.Rules.{has_name, has_line, find_device, has_driver, is_bad_unlazy, is_bad_owner}
+use Rattle.domain_rules.specs.Domains.{is_bad_parent}
 use Rattle.board_def.specs.Seen.{BoardSeen}
+use Rattle.board_def.specs.Unnamed.{defs_of}
 use Rattle.board_def.specs.declared.names.Name.{Name}
 use Rattle.board_def.specs.declared.rows.DomainRow.{DomainRow}
 use Rattle.board_words.specs.declared.faults.FaultKind.{FaultKind}
@@ -95,11 +97,11 @@ is_not_there b _ = false
 -- parents, options, owners
 
 abbrev pub has_bad_parent : BoardSeen → Statement → Bool
-has_bad_parent b (statements.Domain d) = is_bad_parent b.domains d.chip (parent_place b.domains d.parent)
+has_bad_parent b (statements.Domain d) = is_bad_parent (defs_of b.domains) d.chip (parent_place b.domains d.parent)
 has_bad_parent b _ = false
 
 abbrev pub has_bad_unlazy : BoardSeen → Statement → Bool
-has_bad_unlazy b (statements.Line l) = is_bad_unlazy b.domains (place_or_first (place_of_name b.domains l.domain)) l.unlazy
+has_bad_unlazy b (statements.Line l) = is_bad_unlazy (defs_of b.domains) (place_or_first (place_of_name b.domains l.domain)) l.unlazy
 has_bad_unlazy b _ = false
 
 abbrev pub is_mask_empty : ℕ → Option ℕ → Bool

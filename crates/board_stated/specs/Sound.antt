@@ -1,7 +1,8 @@
 -- What holds of statements that have no fault.
 use Rattle.std.specs.Prelude.{◌≡◌, ◌<◌, ◌≤◌, true, None, List, [], ◌∷◌}
 use Rattle.board_def.specs.Names.{is_name, name_bytes}
-use Rattle.board_def.specs.Rules.{IsNumber, IsSize}
+use Rattle.board_def.specs.Rules.{IsNumber}
+use Rattle.domain_rules.specs.Domains.{IsSize}
 use Rattle.board_def.specs.Seen.{BoardSeen}
 use Rattle.board_words.specs.declared.statements.Statement.{Statement}
 use Rattle.board_words.specs.declared.statements.Statement.TheVariants as statements

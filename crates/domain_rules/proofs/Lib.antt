@@ -1,3 +1,5 @@
 pub mod EachAfters
+pub mod Ways
+pub mod Placed
 mod CellRows
 mod LayoutRows

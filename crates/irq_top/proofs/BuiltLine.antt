@@ -8,6 +8,7 @@ use Rattle.irq_base.specs.declared.calls.Call.TheVariants as calls
 use Rattle.irq_base.specs.declared.calls.Flags.{Flags}
 use Rattle.irq_base.specs.declared.devices.DeviceDef.{DeviceDef}
 use Rattle.irq_base.specs.declared.devices.Kind.TheVariants as kinds
+use Rattle.irq_base.specs.declared.domains.DomainDef.{DomainDef}
 use Rattle.irq_base.specs.declared.domains.LevelKind.{LevelKind}
 use Rattle.irq_base.specs.declared.domains.LevelKind.TheVariants as levels
 use Rattle.irq_base.specs.declared.domains.MapKind.TheVariants as maps
@@ -16,13 +17,15 @@ use Rattle.irq_base.specs.declared.numbers.LineNo.{LineNo}
 use Rattle.irq_model.specs.Bounds.{is_ask_call}
 use Rattle.irq_model.specs.Places.{count_of}
 use Rattle.irq_model.specs.Valid.{IsValid}
-use Rattle.board_def.specs.Layout.{layout_of, layout_after, placement_of, IsPathOf}
-use Rattle.board_def.specs.Levels.{kinds_from, root_kind, trigger_of_root, flow_of_root, keeps, recalls, retriggers}
+use Rattle.board_def.specs.Layout.{layout_of, IsPathOf}
+use Rattle.domain_rules.specs.Layout.{layout_after, placement_of}
+use Rattle.domain_rules.specs.Paths.{kinds_from}
+use Rattle.domain_rules.specs.Levels.{root_kind, trigger_of_root, flow_of_root, keeps, recalls, retriggers}
 use Rattle.board_def.specs.LineOf.{line_of_row, find_line, with_driver}
 use Rattle.board_def.specs.Seen.{BoardSeen}
-use Rattle.board_def.specs.declared.layouts.Placement.{Placement}
-use Rattle.board_def.specs.declared.layouts.Placement.TheVariants as placements
-use Rattle.board_def.specs.declared.names.Name.{Name}
+use Rattle.board_def.specs.Unnamed.{defs_of, leaves_of}
+use Rattle.domain_rules.specs.declared.layouts.Placement.{Placement}
+use Rattle.domain_rules.specs.declared.layouts.Placement.TheVariants as placements
 use Rattle.board_def.specs.declared.rows.DomainRow.{DomainRow}
 use Rattle.board_def.specs.declared.rows.LineRow.{LineRow}
 use Rattle.board_def.specs.declared.rows.ScriptCall.{ScriptCall}
@@ -30,8 +33,8 @@ use Rattle.board_stated.specs.BuiltBoard.{IsBuiltBoard}
 use Rattle.board_stated.specs.BuiltSoFar.{is_plain}
 use Rattle.line_core.specs.Built.{Built, IsPlainCall, no_flags}
 
-abbrev latch : Name → ℕ → DomainRow
-latch name size = record { name = name; def = record { map = maps.Linear size; chip = levels.Latch; parent = None } }
+abbrev only_latch : ℕ → DomainDef
+only_latch size = record { map = maps.Linear size; chip = levels.Latch; parent = None }
 
 -- ---- its row and its place
 
@@ -42,17 +45,15 @@ same_row row other lines a b = let both = sym a ∙ b in cc
 row_of : (b : BoardSeen) (k : IsBuiltBoard b) (row : LineRow) → b.lines ≡ row ∷ [] → row ≡ k.row
 row_of b k row is = same_row row k.row b.lines is k.lines
 
-at_zero : (name : Name) (size hw : ℕ) (row : LineRow) → row.domain ≡ 0 → row.hw ≡ hw → hw < size → placement_of (latch name size ∷ []) [] row ≡ placements.Mapped 1 ((0, hw) ∷ [])
-at_zero name size hw row domain number within =
+at_zero : (size hw place : ℕ) → place ≡ 0 → hw < size → placement_of (only_latch size ∷ []) [] (place, hw) ≡ placements.Mapped 1 ((0, hw) ∷ [])
+at_zero size hw place domain within =
     let past : nat_le size hw ≡ false = grind (arith, nat_tests) in
-    let moved : placement_of (latch name size ∷ []) [] row ≡ placement_of (latch name size ∷ []) [] (record row { domain = 0; hw = hw }) =
-    ap (λ (d : ℕ). placement_of (latch name size ∷ []) [] (record row { domain = d })) domain ∙ ap (λ (n : ℕ). placement_of (latch name size ∷ []) [] (record row { domain = 0; hw = n })) number in
-    moved ∙ rw past refl
+    ap (λ (d : ℕ). placement_of (only_latch size ∷ []) [] (d, hw)) domain ∙ rw past refl
 
 built_layout : (b : BoardSeen) (k : IsBuiltBoard b) → layout_of b ≡ placements.Mapped 1 ((0, k.row.hw) ∷ []) ∷ []
 built_layout b k =
-    ap (λ (ds : List DomainRow). layout_after ds [] b.lines) k.domains
-    ∙ (ap (λ (rows : List LineRow). layout_after (latch k.name k.size ∷ []) [] rows) k.lines ∙ ap (λ (p : Placement). p ∷ []) (at_zero k.name k.size k.row.hw k.row k.domain refl k.within))
+    ap (λ (ds : List DomainRow). layout_after (defs_of ds) [] (leaves_of b.lines)) k.domains
+    ∙ (ap (λ (rows : List LineRow). layout_after (only_latch k.size ∷ []) [] (leaves_of rows)) k.lines ∙ ap (λ (p : Placement). p ∷ []) (at_zero k.size k.row.hw k.row.domain k.domain k.within))
 
 pub has_line : (b : BoardSeen) → IsBuiltBoard b → slice_get b.lines 0 ≡ None → ⊥
 has_line b k none = let first = ap (λ (rows : List LineRow). slice_get rows 0) k.lines in let both = sym first ∙ none in cc
@@ -73,9 +74,9 @@ found b row lines =
 
 -- ---- its definition
 
-kinds_at : (b : BoardSeen) (k : IsBuiltBoard b) → kinds_from b.domains (Some k.row.domain) ≡ levels.Latch ∷ []
+kinds_at : (b : BoardSeen) (k : IsBuiltBoard b) → kinds_from (defs_of b.domains) (Some k.row.domain) ≡ levels.Latch ∷ []
 kinds_at b k =
-    ap (λ (ds : List DomainRow). kinds_from ds (Some k.row.domain)) k.domains ∙ ap (λ (d : ℕ). kinds_from (latch k.name k.size ∷ []) (Some d)) k.domain
+    ap (λ (ds : List DomainRow). kinds_from (defs_of ds) (Some k.row.domain)) k.domains ∙ ap (λ (d : ℕ). kinds_from (only_latch k.size ∷ []) (Some d)) k.domain
 
 few_kept : {A : Type 0} (p : A → Bool) (xs : List A) → length (filter p xs) ≤ length xs
 few_kept p [] = omega arith

@@ -3,12 +3,15 @@ use Rattle.std.proofs.Common.{◌≡◌, ℕ, zero, suc, ◌≤◌, ◌<◌, Boo
 use Rattle.std.specs.List.{list_all}
 use Rattle.std.proofs.lemmas.Bool.{ltb-true}
 use Rattle.board_def.proofs.Paths.{has_path}
-use Rattle.board_def.specs.Layout.{layout_of, layout_after, placement_of}
+use Rattle.board_def.specs.Layout.{layout_of}
+use Rattle.board_def.specs.Unnamed.{defs_of, leaf_of, leaves_of}
+use Rattle.domain_rules.proofs.Placed.{laid_all}
+use Rattle.std.proofs.lemmas.List.{length-map}
 use Rattle.board_def.specs.Names.{is_letter, is_name, is_name_byte, name_bytes}
 use Rattle.board_def.specs.Rules.{IsBoard}
 use Rattle.board_def.specs.Seen.{BoardSeen}
-use Rattle.board_def.specs.declared.layouts.Placement.{Placement}
-use Rattle.board_def.specs.declared.layouts.Placement.TheVariants as placements
+use Rattle.domain_rules.specs.declared.layouts.Placement.{Placement}
+use Rattle.domain_rules.specs.declared.layouts.Placement.TheVariants as placements
 use Rattle.board_def.specs.declared.rows.DomainRow.{DomainRow}
 use Rattle.board_def.specs.declared.rows.LineRow.{LineRow}
 use Rattle.log_text.proofs.Spacing.{joined, spaced_two}
@@ -28,14 +31,9 @@ short_name (b ∷ bs) h =
 pub name_short : (b : BoardSeen) (i : ℕ) (row : DomainRow) → IsBoard b → slice_get b.domains i ≡ Some row → length (name_bytes row.name) ≤ 16
 name_short b i row board at = short_name (name_bytes row.name) (board.domains i row at).spelled
 
-laid_all : (domains : List DomainRow) (earlier : List Placement) (rows : List LineRow) → length (layout_after domains earlier rows) ≡ length rows
-laid_all domains earlier [] = refl
-laid_all domains earlier (row ∷ rows) =
-    let rest = laid_all domains (earlier ++ placement_of domains earlier row ∷ []) rows in omega (arith, rest)
-
 -- there is a place for each line
 pub layout_length : (b : BoardSeen) (layout : List Placement) → layout ≡ layout_of b → length layout ≡ length b.lines
-layout_length b layout is = ap length is ∙ laid_all b.domains [] b.lines
+layout_length b layout is = ap length is ∙ (laid_all (defs_of b.domains) [] (leaves_of b.lines) ∙ length-map b.lines leaf_of)
 
 -- a line's path has at most eight levels
 placed_short : (b : BoardSeen) (i : ℕ) (row : LineRow) (placement : Placement) → IsBoard b → slice_get b.lines i ≡ Some row → slice_get (layout_of b) i ≡ Some placement → IsShort placement

@@ -5,10 +5,10 @@ use Rattle.irq_base.specs.declared.numbers.LineNo.{LineNo}
 use Rattle.board_def.specs.Layout.{layout_of}
 use Rattle.board_def.specs.Names.{name_bytes}
 use Rattle.board_def.specs.Seen.{BoardSeen}
-use Rattle.board_def.specs.declared.layouts.Placement.{Placement}
-use Rattle.board_def.specs.declared.layouts.Placement.TheVariants as placements
-use Rattle.board_def.specs.declared.layouts.Unmapped.{Unmapped}
-use Rattle.board_def.specs.declared.layouts.Unmapped.TheVariants as reasons
+use Rattle.domain_rules.specs.declared.layouts.Placement.{Placement}
+use Rattle.domain_rules.specs.declared.layouts.Placement.TheVariants as placements
+use Rattle.domain_rules.specs.declared.layouts.Unmapped.{Unmapped}
+use Rattle.domain_rules.specs.declared.layouts.Unmapped.TheVariants as reasons
 use Rattle.board_def.specs.declared.rows.DomainRow.{DomainRow}
 use Rattle.board_def.specs.declared.rows.LineRow.{LineRow}
 use Rattle.log_text.specs.Rows.{row_of}

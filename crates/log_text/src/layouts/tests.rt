@@ -2,7 +2,8 @@
 ghost use Rattle.std.specs.Prelude.{◌≡◌, ◌<◌, ◌≤◌, IsTrue, IfSome, true, length};
 ghost use Rattle.board_def.specs.Layout.{layout_of};
 ghost use Rattle.board_def.specs.Names.{is_name};
-ghost use Rattle.board_def.specs.Rules.{IsNumber, IsSize};
+ghost use Rattle.board_def.specs.Rules.{IsNumber};
+ghost use Rattle.domain_rules.specs.Domains.{IsSize};
 
 use crate::layout_row;
 use board_def::{Board, DomainRow, Layout, LineRow, Name};

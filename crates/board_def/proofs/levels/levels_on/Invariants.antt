@@ -1,12 +1,13 @@
-use Rattle.std.proofs.Common.{◌≡◌, ◌-◌, ◌≤◌, drop, map, length}
-use Rattle.board_def.specs.LevelWalk.{kind_at}
+use Rattle.std.proofs.Common.{◌≡◌, ◌-◌, ◌≤◌, drop, length}
+use Rattle.domain_rules.specs.Paths.{kinds_on}
+use Rattle.board_def.specs.Unnamed.{defs_of}
 use Rattle.board_def.proofs.Walks.{passed, none_passed}
 use Rattle.board_def.proofs.levels.levels_on.Given as goal
 
 abbrev pub invariant-loop-place : goal.invariant-loop-place
 invariant-loop-place l = record {
   few : l.levels.count ≤ length l.path;
-  passed : passed l.levels (map (kind_at l.board.domains) (drop l.levels.count l.path)) ≡ passed none_passed (map (kind_at l.board.domains) l.path);
+  passed : passed l.levels (kinds_on (defs_of l.board.domains) (drop l.levels.count l.path)) ≡ passed none_passed (kinds_on (defs_of l.board.domains) l.path);
 }
 
 abbrev pub decreases-loop-place : goal.decreases-loop-place

@@ -1,5 +1,5 @@
 use Rattle.std.proofs.Common.{◌≡◌, ◌+◌, length}
-use Rattle.board_def.specs.Layout.{unused_from}
+use Rattle.domain_rules.specs.Layout.{unused_from}
 use Rattle.board_def.proofs.placing.free_number.Given as goal
 
 abbrev pub invariant-loop-left : goal.invariant-loop-left

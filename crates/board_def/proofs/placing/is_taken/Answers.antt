@@ -1,6 +1,6 @@
 use Rattle.std.proofs.Common.{false, sym, ap, ◌∙◌}
 use Rattle.std.specs.Option.{option_map_or}
-use Rattle.board_def.specs.Layout.{has_number}
+use Rattle.domain_rules.specs.Layout.{has_number}
 use Rattle.board_def.proofs.PlacingSteps.{any_goes_on, any_found}
 use Rattle.board_def.proofs.placing.is_taken.Goals as goal
 

@@ -1,6 +1,6 @@
 use Rattle.std.proofs.Common.{◌≡◌, drop}
 use Rattle.std.specs.List.{list_any}
-use Rattle.board_def.specs.Layout.{has_number}
+use Rattle.domain_rules.specs.Layout.{has_number}
 use Rattle.board_def.proofs.placing.is_taken.Given as goal
 
 abbrev pub invariant-loop-i : goal.invariant-loop-i

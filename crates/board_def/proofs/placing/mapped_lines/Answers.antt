@@ -1,7 +1,7 @@
 use Rattle.std.proofs.Common.{◌≡◌, ◌+◌, true, false, drop, sym, ap, ◌∙◌, arith}
 use Rattle.std.specs.List.{slice_get}
 use Rattle.std.specs.Option.{option_map_or}
-use Rattle.board_def.specs.Layout.{is_mapped, count_of_mapped}
+use Rattle.domain_rules.specs.Layout.{is_mapped, count_of_mapped}
 use Rattle.board_def.proofs.PlacingSteps.{mapped_goes_on}
 use Rattle.board_def.proofs.placing.mapped_lines.Goals as goal
 use Rattle.board_def.proofs.placing.mapped_lines.Goals.{then-takes_part, else-takes_part}

@@ -1,5 +1,5 @@
 use Rattle.std.proofs.Common.{◌≡◌, ◌+◌, ◌≤◌, drop}
-use Rattle.board_def.specs.Layout.{count_of_mapped}
+use Rattle.domain_rules.specs.Layout.{count_of_mapped}
 use Rattle.board_def.proofs.placing.mapped_lines.Given as goal
 
 abbrev pub invariant-loop-i : goal.invariant-loop-i

@@ -1,8 +1,8 @@
 use Rattle.std.proofs.Common.{◌++◌, [], ◌∷◌, sym, subst}
 use Rattle.board_def.specs.Inside.{board_seen}
-use Rattle.board_def.specs.Rules.{IsBoard, IsDomainAfter}
+use Rattle.board_def.specs.Rules.{IsBoard, IsDomainRowAfter}
 use Rattle.board_def.specs.Seen.{BoardSeen}
-use Rattle.board_def.proofs.EachAfters.{each_last}
+use Rattle.domain_rules.proofs.EachAfters.{each_last}
 use Rattle.board_def.proofs.Tabled.{no_domain}
 use Rattle.board_def.proofs.board.Board.add_domain.Goals as goal
 
@@ -11,4 +11,4 @@ push-requires c =
     let b = board_seen c.self.inside in
     let row = c.args.row in
     let after = subst (λ (b : BoardSeen). IsBoard (record b { domains = b.domains ++ row ∷ [] })) (sym c.self.view_is) c.requires.board in
-    no_domain row.name b.domains (each_last IsDomainAfter b.domains row after.domains).new
+    no_domain row.name b.domains (each_last IsDomainRowAfter b.domains row after.domains).new

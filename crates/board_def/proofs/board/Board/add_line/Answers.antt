@@ -2,7 +2,7 @@ use Rattle.std.proofs.Common.{◌∙◌, ◌++◌, [], ◌∷◌, sym, subst}
 use Rattle.board_def.specs.Inside.{board_seen}
 use Rattle.board_def.specs.Rules.{IsBoard, IsLineAfter}
 use Rattle.board_def.specs.Seen.{BoardSeen}
-use Rattle.board_def.proofs.EachAfters.{each_last}
+use Rattle.domain_rules.proofs.EachAfters.{each_last}
 use Rattle.board_def.proofs.Rising.{no_line}
 use Rattle.board_def.proofs.Tabled.{line_found}
 use Rattle.board_def.proofs.board.Board.add_line.Goals as goal

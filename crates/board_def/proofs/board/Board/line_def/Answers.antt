@@ -2,8 +2,7 @@ use Rattle.std.proofs.Common.{◌≡◌, ◌==◌, Some, IsSome, filter, map, re
 use Rattle.irq_base.specs.declared.lines.LineDef.{LineDef}
 use Rattle.irq_base.specs.declared.numbers.LineNo.{LineNo}
 use Rattle.irq_model.specs.Valid.{IsValid}
-use Rattle.board_def.specs.Levels.{root_kind, masking_kind, is_some_kind, keeps_kind, retriggers_kind, trigger_of_root, flow_of_root}
-use Rattle.board_def.specs.LevelWalk.{stores_at_root}
+use Rattle.domain_rules.specs.Levels.{root_kind, masking_kind, is_some_kind, keeps_kind, retriggers_kind, trigger_of_root, flow_of_root, stores_at_root}
 use Rattle.board_def.specs.LineOf.{find_line, line_of_row, with_driver}
 use Rattle.board_def.proofs.Paths.{HasPath, has_path}
 use Rattle.board_def.proofs.Validity.{valid_row}
