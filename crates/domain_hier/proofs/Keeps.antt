@@ -157,7 +157,7 @@ keeps_same domains maps new paths after h same numbers at = subst (IsHierarchy d
 pub virq_free : (paths : Paths) → path_in paths (lowest_virq paths) ≡ None
 virq_free paths = ap (path_in paths) (add-one (first_free paths)) ∙ free_slot paths
 
-virq_taken : (paths : Paths) (path : List (ℕ × ℕ)) → path_in (placed paths path) (lowest_virq paths) ≡ Some path
+pub virq_taken : (paths : Paths) (path : List (ℕ × ℕ)) → path_in (placed paths path) (lowest_virq paths) ≡ Some path
 virq_taken paths path = ap (path_in (placed paths path)) (add-one (first_free paths)) ∙ placed_here paths path
 
 other_virq : (paths : Paths) (path : List (ℕ × ℕ)) (v : ℕ) → v ≢ lowest_virq paths → path_in (placed paths path) v ≡ path_in paths v
