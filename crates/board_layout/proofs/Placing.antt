@@ -1,11 +1,12 @@
 -- An allocation after those of the lines laid before is the line's placement in the layout.
-use Rattle.std.proofs.Common.{◌≡◌, ◌≢◌, ℕ, zero, suc, ◌+◌, ◌<◌, ◌≤◌, Bool, true, false, cond, ◌||◌, ◌==◌, is_some, is_none, Option, Some, None, List, [], ◌∷◌, ◌++◌, length, map, refl, sym, ap, subst, ◌∙◌, eqb-true, arith}
+use Rattle.std.proofs.Common.{◌≡◌, ◌≢◌, ℕ, zero, suc, ◌+◌, ◌<◌, ◌≤◌, Bool, true, false, cond, ◌||◌, ◌==◌, is_none, Option, Some, List, [], ◌∷◌, ◌++◌, append_assoc, drop, length, refl, sym, ap, subst, ◌∙◌, eqb-true, arith}
 use Rattle.std.specs.List.{slice_get, list_any}
 use Rattle.std.proofs.lemmas.Bool.{false≢true, eqb-false}
 use Rattle.irq_base.specs.declared.domains.DomainDef.{DomainDef}
 use Rattle.domain_maps.specs.Numbers.{is_on}
 use Rattle.domain_rules.specs.Domains.{EachAfter, IsDomainAfter}
-use Rattle.domain_rules.specs.Layout.{placement_of, path_of, is_used, has_number, lowest_unused, unused_from, is_past_path, is_mapped, count_of_mapped}
+use Rattle.domain_rules.specs.Layout.{placement_of, path_of, is_used, lowest_unused, unused_from, is_past_path, is_mapped, count_of_mapped, layout_after}
+use Rattle.domain_maps.proofs.Levels.{drop_at}
 use Rattle.domain_rules.specs.Levels.{masking_kind}
 use Rattle.domain_rules.specs.Paths.{most_levels, way, parent_in, kinds_from}
 use Rattle.domain_rules.specs.declared.layouts.Placement.{Placement}
@@ -47,6 +48,7 @@ passed_used (suc left) k d earlier all j below = by (is_used earlier d k) refl b
         at : (t : Bool) → (i == k) ≡ t → is_used earlier d i ≡ true
         at true e = ap (is_used earlier d) (eqb-true i k e) ∙ here
         at false e = let other : i ≢ k = eqb-false i k e in all i (omega (arith, lower, other))
+
     by : (b : Bool) → is_used earlier d k ≡ b → j < cond b (unused_from left (k + 1) earlier d) k
         → (((i : ℕ) → i < k + 1 → is_used earlier d i ≡ true) → j < unused_from left (k + 1) earlier d → is_used earlier d j ≡ true) → is_used earlier d j ≡ true
     by true is lower rest = rest (up_to is) lower
@@ -201,3 +203,10 @@ mapped_is h earlier leaf virq path laid falls e p =
 
 pub is_the_path : (o : Option (List (ℕ × ℕ))) (p q : List (ℕ × ℕ)) → o ≡ Some p → o ≡ Some q → p ≡ q
 is_the_path o p q a b = let both : Some p ≡ Some q = sym a ∙ b in cc
+
+pub goes_on : (domains : List DomainDef) (earlier : List Placement) (leaves : List (ℕ × ℕ)) (i : ℕ) (leaf : ℕ × ℕ) (p : Placement) → p ≡ placement_of domains earlier leaf → slice_get leaves i ≡ Some leaf
+    → (earlier ++ p ∷ []) ++ layout_after domains (earlier ++ p ∷ []) (drop (i + 1) leaves) ≡ earlier ++ layout_after domains earlier (drop i leaves)
+goes_on domains earlier leaves i leaf p is at =
+    ap (λ x. (earlier ++ x ∷ []) ++ layout_after domains (earlier ++ x ∷ []) (drop (i + 1) leaves)) is
+    ∙ (append_assoc earlier (placement_of domains earlier leaf ∷ []) (layout_after domains (earlier ++ placement_of domains earlier leaf ∷ []) (drop (i + 1) leaves))
+    ∙ ap (λ ls. earlier ++ layout_after domains earlier ls) (sym (drop_at leaves i leaf at)))

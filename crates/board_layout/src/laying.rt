@@ -75,7 +75,11 @@ fn lay_line(
 }
 
 // Where the line lies, after those laid before.
-fn place_line(domains: &mut Hierarchy, earlier: &Layout, row: LineRow) -> Result<Placement, NoMemory>
+fn place_line(
+    domains: &mut Hierarchy,
+    earlier: &Layout,
+    row: LineRow,
+) -> Result<Placement, NoMemory>
     requires there { row.domain < length domains.old.domains }
     requires few { length earlier.now ≤ 64 }
     requires laid { domains.old.paths ≡ paths_of earlier.now }

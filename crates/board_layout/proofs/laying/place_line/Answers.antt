@@ -1,4 +1,4 @@
-use Rattle.std.proofs.Common.{◌≡◌, ◌+◌, ◌<◌, ◌++◌, ◌∷◌, [], ℕ, List, Option, Some, true, is_some, length, refl, sym, subst, ap, ◌∙◌}
+use Rattle.std.proofs.Common.{◌≡◌, ◌+◌, ◌<◌, ◌++◌, ◌∷◌, [], ℕ, List, Option, Some, is_some, length, refl, sym, subst, ap, ◌∙◌}
 use Rattle.domain_rules.specs.Layout.{placement_of, path_of, count_of_mapped}
 use Rattle.domain_rules.specs.declared.layouts.Placement.TheVariants as placements
 use Rattle.domain_rules.specs.declared.layouts.Unmapped.TheVariants as reasons
