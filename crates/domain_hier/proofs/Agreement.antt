@@ -1,12 +1,11 @@
 -- What the maps have is what the paths in use say.
-use Rattle.std.proofs.Common.{◌≡◌, ℕ, zero, suc, ◌+◌, ◌<◌, Bool, true, false, cond, ◌||◌, is_some, Option, Some, None, List, [], ◌∷◌, length, map, refl, sym, ap, subst, ◌∙◌, arith}
-use Rattle.std.specs.List.{list_any}
+use Rattle.std.proofs.Common.{◌≡◌, ℕ, zero, suc, ◌+◌, Bool, true, false, ◌||◌, is_some, Option, Some, None, List, [], ◌∷◌, refl, sym, ap, subst, ◌∙◌}
 use Rattle.std.proofs.lemmas.Bool.{false≢true}
 use Rattle.irq_base.specs.declared.domains.DomainDef.{DomainDef}
 use Rattle.domain_maps.specs.Numbers.{virq_at, is_on}
 use Rattle.domain_maps.specs.declared.map.DomainMap.{DomainMap}
-use Rattle.domain_rules.specs.Layout.{has_number, is_used}
-use Rattle.domain_rules.specs.Paths.{way, most_levels}
+use Rattle.domain_rules.specs.Layout.{is_used}
+use Rattle.domain_rules.specs.Paths.{most_levels}
 use Rattle.domain_hier.specs.Hierarchies.{IsHierarchy, has_level, first_place}
 use Rattle.domain_hier.specs.PathsInUse.{slot, path_in, in_use, in_use_from}
 use Rattle.domain_hier.proofs.Counting.{OneEach}

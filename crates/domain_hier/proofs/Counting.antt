@@ -1,7 +1,7 @@
 -- As many lines use no more numbers of a domain: the lowest unused number, found by a search as long as there are
 -- lines, is the lowest one that isn't mapped.
-use Rattle.std.proofs.Common.{◌≡◌, ◌≢◌, ℕ, zero, suc, ◌+◌, ◌<◌, ◌≤◌, Bool, true, false, cond, ◌||◌, List, [], ◌∷◌, length, refl, sym, ap, ◌∙◌, arith}
-use Rattle.std.proofs.lemmas.Bool.{false≢true, cases_lt}
+use Rattle.std.proofs.Common.{◌≡◌, ◌≢◌, ℕ, zero, suc, ◌+◌, ◌<◌, ◌≤◌, Bool, true, false, cond, ◌||◌, ◌==◌, ◌⊎◌, inl, inr, List, [], ◌∷◌, length, refl, sym, ap, ◌∙◌, eqb-true, arith}
+use Rattle.std.proofs.lemmas.Bool.{false≢true, eqb-false}
 use Rattle.domain_rules.specs.Layout.{has_number, is_used, unused_from, lowest_unused}
 use Rattle.domain_rules.specs.declared.layouts.Placement.{Placement}
 
@@ -35,6 +35,7 @@ tally_one (suc c) test one = by (test c) refl (tally_one c test one)
     other : test c ≡ true → (j : ℕ) (b : Bool) → test j ≡ b → j < c → test j ≡ false
     other here j true is below = absurd (omega (arith, one j c is here, below))
     other here j false is below = is
+
     by : (b : Bool) → test c ≡ b → tally c test ≤ 1 → cond b (tally c test + 1) (tally c test) ≤ 1
     by true is rest = omega (arith, tally_none c test (λ j below. other is j (test j) refl below))
     by false is rest = rest
@@ -71,3 +72,45 @@ pub lowest_is : (n d : ℕ) (earlier : List Placement) → OneEach d earlier →
 lowest_is n d earlier one all none =
     let few : n ≤ length earlier = used_below n d earlier one all in
     found (length earlier) 0 n d earlier all none (omega arith) (omega (arith, few))
+
+-- ---- the search finds a number that isn't used
+
+-- one is found, or all up to the search's end are used, and that is what it gives
+ends : (left k d : ℕ) (earlier : List Placement) → ((j : ℕ) → j < k → is_used earlier d j ≡ true)
+    → (is_used earlier d (unused_from left k earlier d) ≡ false) ⊎ ((unused_from left k earlier d ≡ k + left) × ((j : ℕ) → j < k + left → is_used earlier d j ≡ true))
+ends zero k d earlier all = inr (omega arith, λ j below. all j (omega (arith, below)))
+ends (suc left) k d earlier all = by (is_used earlier d k) refl (λ more. ends left (k + 1) d earlier more)
+  where
+    up_to : is_used earlier d k ≡ true → (j : ℕ) → j < k + 1 → is_used earlier d j ≡ true
+    up_to here j below = at (j == k) refl
+      where
+        at : (t : Bool) → (j == k) ≡ t → is_used earlier d j ≡ true
+        at true e = ap (is_used earlier d) (eqb-true j k e) ∙ here
+        at false e = let other : j ≢ k = eqb-false j k e in all j (omega (arith, below, other))
+
+    by : (b : Bool) → is_used earlier d k ≡ b
+        → (((j : ℕ) → j < k + 1 → is_used earlier d j ≡ true) → (is_used earlier d (unused_from left (k + 1) earlier d) ≡ false) ⊎ ((unused_from left (k + 1) earlier d ≡ k + 1 + left) × ((j : ℕ) → j < k + 1 + left → is_used earlier d j ≡ true)))
+        → (is_used earlier d (cond b (unused_from left (k + 1) earlier d) k) ≡ false) ⊎ ((cond b (unused_from left (k + 1) earlier d) k ≡ k + suc left) × ((j : ℕ) → j < k + suc left → is_used earlier d j ≡ true))
+    by true is rest = on (rest (up_to is))
+      where
+        on : (is_used earlier d (unused_from left (k + 1) earlier d) ≡ false) ⊎ ((unused_from left (k + 1) earlier d ≡ k + 1 + left) × ((j : ℕ) → j < k + 1 + left → is_used earlier d j ≡ true))
+            → (is_used earlier d (unused_from left (k + 1) earlier d) ≡ false) ⊎ ((unused_from left (k + 1) earlier d ≡ k + suc left) × ((j : ℕ) → j < k + suc left → is_used earlier d j ≡ true))
+        on (inl none) = inl none
+        on (inr h) = inr (omega (arith, h.0), λ j below. h.1 j (omega (arith, below)))
+    by false is rest = inl is
+
+pub lowest_is_unused : (d : ℕ) (earlier : List Placement) → OneEach d earlier → is_used earlier d (lowest_unused earlier d) ≡ false
+lowest_is_unused d earlier one = by (ends (length earlier) 0 d earlier (λ j below. absurd (omega (arith, below)))) (is_used earlier d (lowest_unused earlier d)) refl
+  where
+    by : (is_used earlier d (lowest_unused earlier d) ≡ false) ⊎ ((lowest_unused earlier d ≡ 0 + length earlier) × ((j : ℕ) → j < 0 + length earlier → is_used earlier d j ≡ true))
+        → (b : Bool) → is_used earlier d (lowest_unused earlier d) ≡ b → is_used earlier d (lowest_unused earlier d) ≡ false
+    by (inl none) b is = none
+    by (inr h) false is = is
+    by (inr h) true is = absurd (omega (arith, used_below (length earlier + 1) d earlier one all))
+      where
+        all : (j : ℕ) → j < length earlier + 1 → is_used earlier d j ≡ true
+        all j below = at (j == lowest_unused earlier d) refl
+          where
+            at : (t : Bool) → (j == lowest_unused earlier d) ≡ t → is_used earlier d j ≡ true
+            at true e = ap (is_used earlier d) (eqb-true j (lowest_unused earlier d) e) ∙ is
+            at false e = let other : j ≢ lowest_unused earlier d = eqb-false j (lowest_unused earlier d) e in h.1 j (omega (arith, below, other, h.0))

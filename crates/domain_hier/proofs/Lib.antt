@@ -3,3 +3,4 @@ pub mod Counting
 pub mod Ways
 pub mod Agreement
 pub mod Keeps
+pub mod PathKinds

@@ -1,10 +1,9 @@
 -- The way from a domain to its root: parents stand before their children.
-use Rattle.std.proofs.Common.{◌≡◌, ◌≢◌, ℕ, zero, suc, ◌+◌, ◌<◌, ◌≤◌, Bool, true, false, cond, ◌==◌, ◌&&◌, ◌||◌, IfSome, Option, Some, None, List, [], ◌∷◌, ◌++◌, length, map, take, refl, sym, ap, subst, ◌∙◌, eqb-true, arith}
-use Rattle.std.specs.List.{slice_get, list_any}
-use Rattle.std.proofs.lemmas.Bool.{false≢true, eqb-false}
-use Rattle.std.proofs.lemmas.Option.{slice_get_within}
+use Rattle.std.proofs.Common.{◌≡◌, ℕ, zero, suc, ◌<◌, ◌≤◌, Bool, true, false, ◌==◌, ◌&&◌, ◌||◌, IfSome, Option, Some, None, List, [], ◌∷◌, length, map, take, refl, sym, ap, subst, ◌∙◌, eqb-true, arith}
+use Rattle.std.specs.List.{slice_get}
+use Rattle.std.proofs.lemmas.Bool.{false≢true}
 use Rattle.irq_base.specs.declared.domains.DomainDef.{DomainDef}
-use Rattle.domain_maps.specs.Numbers.{is_on, is_level}
+use Rattle.domain_maps.specs.Numbers.{is_on}
 use Rattle.domain_rules.specs.Domains.{EachAfter, IsDomainAfter}
 use Rattle.domain_rules.specs.Paths.{way, parent_in}
 
@@ -84,6 +83,7 @@ one_number d j k (level ∷ levels) falls a b = by (level.0 == d) refl a b (λ x
     last : AllBelow d (places levels) → (i : ℕ) (t : Bool) → (level.1 == i) ≡ t → t || is_on levels d i ≡ true → level.1 ≡ i
     last below i true is on = eqb-true level.1 i is
     last below i false is on = absurd (false≢true (sym (not_on d i levels below) ∙ on))
+
     by : (t : Bool) → (level.0 == d) ≡ t → (t && (level.1 == j)) || is_on levels d j ≡ true → (t && (level.1 == k)) || is_on levels d k ≡ true
         → (is_on levels d j ≡ true → is_on levels d k ≡ true → j ≡ k) → j ≡ k
     by true is x y rest =

@@ -1,13 +1,14 @@
 -- Hierarchies of domains: what is seen of one, and what an allocation answers and leaves. Which path a line takes, and
 -- why it is refused, are the rules of layouts, over the paths in use (`irq_domain_alloc_irqs_hierarchy`,
 -- `kernel/irq/irqdomain.c`).
-use Rattle.std.specs.Prelude.{◌≡◌, ℕ, ◌<◌, Bool, true, false, IfSome, is_some, Option, Some, None, List, [], ◌∷◌, length, map}
+use Rattle.std.specs.Prelude.{◌≡◌, ℕ, ◌-◌, ◌<◌, Bool, true, false, IfSome, is_some, Option, Some, None, List, [], ◌∷◌, length, map, slice_get}
 use Rattle.irq_base.specs.declared.domains.DomainDef.{DomainDef}
 use Rattle.domain_maps.specs.Numbers.{virq_at, sizes, size_of_kind, is_on}
 use Rattle.domain_maps.specs.declared.map.DomainMap.{DomainMap}
 use Rattle.domain_rules.specs.Domains.{EachAfter, IsDomainAfter}
 use Rattle.domain_rules.specs.Layout.{placement_of, path_of}
-use Rattle.domain_rules.specs.Levels.{masking_kind}
+use Rattle.domain_rules.specs.Levels.{masking_kind, cell_of}
+use Rattle.domain_chain.specs.Chains.{ChainSeen, fresh_chain, some_if, has_messages}
 use Rattle.domain_rules.specs.Paths.{most_levels, way, kinds_on}
 use Rattle.domain_rules.specs.declared.layouts.Placement.{Placement}
 use Rattle.domain_rules.specs.declared.layouts.Placement.TheVariants as placements
@@ -44,6 +45,21 @@ IsAnswered due told = told ≡ due
 abbrev pub after_alloc : AllocAnswer → HierarchySeen → ℕ × ℕ → HierarchySeen
 after_alloc (allocs.Ok virq) h leaf = record h { paths = placed h.paths (path_of h.domains (in_use h.paths) leaf) }
 after_alloc _ h leaf = h
+
+-- ---- the chip of a path
+
+abbrev pub number_in : Option (ℕ × ℕ) → ℕ
+number_in (Some level) = level.1
+number_in None = 0
+
+-- the number at the last level, the root's
+abbrev pub root_number : List (ℕ × ℕ) → ℕ
+root_number path = number_in (slice_get path (length path - 1))
+
+-- the chip of a path to which nothing was done: one cell, with the properties that its levels have together
+abbrev pub chain_of : List DomainDef → List (ℕ × ℕ) → ChainSeen
+chain_of domains path =
+    let kinds = kinds_on domains path in fresh_chain (cell_of kinds) (length path) (some_if (has_messages kinds) (root_number path))
 
 -- ---- what each hierarchy keeps
 

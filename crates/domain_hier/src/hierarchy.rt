@@ -5,12 +5,13 @@ ghost use Rattle.domain_maps.specs.Numbers.{virq_at, sizes, with_path, HasRoom};
 ghost use Rattle.domain_rules.specs.Domains.{IsDomainAfter};
 ghost use Rattle.domain_rules.specs.Layout.{path_of, lowest_unused};
 ghost use Rattle.domain_rules.specs.Paths.{way};
-ghost use Rattle.domain_hier.specs.Hierarchies.{HierarchySeen, IsAnswered, alloc_answer, after_alloc};
+ghost use Rattle.domain_hier.specs.Hierarchies.{HierarchySeen, IsAnswered, alloc_answer, after_alloc, chain_of};
 ghost use Rattle.domain_hier.specs.PathsInUse.{path_in, first_free, lowest_virq, placed, freed, in_use, lowest_levels};
 
 use crate::answers::AllocAnswer;
-use crate::levels::{can_mask, domain_at, is_past, parent_of};
+use crate::levels::{can_mask, chain_on, domain_at, is_past, parent_of};
 use crate::paths::PathTable;
+use domain_chain::Chain;
 use domain_maps::DomainMaps;
 use irq_base::domains::LEVELS;
 use irq_base::{DomainDef, NoMemory, Path};
@@ -74,6 +75,8 @@ impl Hierarchy {
         requires few { length (in_use self.old.paths) < 4294967295 }
         ensures answer { IsAnswered (alloc_answer self.old (domain, hw)) result }
         ensures after { self.new ≡ after_alloc result self.old (domain, hw) }
+        ensures domains { self.new.domains ≡ self.old.domains }
+        ensures count { length (in_use self.new.paths) ≤ length (in_use self.old.paths) + 1 }
     {
         if !can_mask(self.domains.as_slice(), LEVELS, Some(domain)) {
             return AllocAnswer::NoMask;
@@ -95,6 +98,7 @@ impl Hierarchy {
     pub fn free(&mut self, virq: u32) -> DisposeAnswer
         ensures answer { result ≡ (if is_some (path_in self.old.paths virq) then disposed.Ok else disposed.NotThere) }
         ensures after { self.new ≡ record self.old { paths = freed self.old.paths virq } }
+        ensures count { length (in_use self.new.paths) ≤ length (in_use self.old.paths) }
     {
         let Some(path) = self.path(virq) else {
             return DisposeAnswer::NotThere;
@@ -112,6 +116,15 @@ impl Hierarchy {
             return None;
         }
         self.paths.get(virq as usize - 1)
+    }
+
+    /// The chip of the virq's whole path, to which nothing has been done. The virq is in use.
+    pub fn chain(&self, virq: u32) -> Chain
+        requires { is_some (path_in self.now.paths virq) ≡ true }
+        ensures { IfSome (path_in self.now.paths virq) (λ path. result ≡ chain_of self.now.domains path) }
+    {
+        let path = self.path(virq).unwrap();
+        chain_on(self.domains.as_slice(), &path)
     }
 
     // The path that the line takes: its own number, and the lowest free one at each level above.

@@ -1,10 +1,14 @@
 //! Walks over the levels of a domain's way to its root, and of a path.
-ghost use Rattle.std.specs.Prelude.{◌≡◌, ◌≤◌, is_some, length, drop, map, slice_get};
+ghost use Rattle.std.specs.Prelude.{◌≡◌, ◌≤◌, is_some, length, drop, take, map, slice_get};
 ghost use Rattle.std.specs.List.{list_any};
 ghost use Rattle.domain_rules.specs.Layout.{is_past_domain, is_past_path};
 ghost use Rattle.domain_rules.specs.Levels.{masks_kind, masking_kind};
-ghost use Rattle.domain_rules.specs.Paths.{kind_in, parent_in, way};
+ghost use Rattle.domain_rules.specs.Paths.{kind_in, parent_in, way, kinds_on};
+ghost use Rattle.domain_hier.specs.Hierarchies.{IsPlaced, chain_of, root_number};
+ghost use Rattle.domain_rules.specs.Domains.{EachAfter, IsDomainAfter};
 
+use domain_chain::Chain;
+use irq_base::domains::LEVELS;
 use irq_base::{DomainDef, LevelKind, MapKind, Path};
 
 /// The domain at the place; none from their number on.
@@ -73,5 +77,40 @@ fn is_past_map(def: Option<DomainDef>, number: u32) -> bool
     match def.map {
         MapKind::Linear(size) => number >= size,
         MapKind::Tree => false,
+    }
+}
+
+/// The chip of the path.
+pub(crate) fn chain_on(domains: &[DomainDef], path: &Path) -> Chain
+    requires each { EachAfter IsDomainAfter domains.now }
+    requires placed { IsPlaced domains.now path.now }
+    ensures { result ≡ chain_of domains.now path.now }
+{
+    let kinds = kinds_of(domains, path);
+    Chain::new(&kinds[..path.len()], root_number(path))
+}
+
+// The kinds of the path's levels, leaf first, in the first places.
+fn kinds_of(domains: &[DomainDef], path: &Path) -> [LevelKind; LEVELS]
+    requires few { length path.now ≤ 8 }
+    ensures { take (length path.now) result ≡ kinds_on domains.now path.now }
+{
+    let mut kinds = [LevelKind::Remap; LEVELS];
+    let mut i = 0;
+    while let Some((place, _)) = path.get(i) {
+        kinds[i] = kind_of(domain_at(domains, place));
+        i += 1;
+    }
+    kinds
+}
+
+// The number at the path's last level, the root's.
+fn root_number(path: &Path) -> u32
+    requires { 1 ≤ length path.now }
+    ensures { result ≡ root_number path.now }
+{
+    match path.get(path.len() - 1) {
+        Some((_, number)) => number,
+        None => 0,
     }
 }

@@ -12,3 +12,6 @@ mod paths;
 
 pub use answers::AllocAnswer;
 pub use hierarchy::Hierarchy;
+
+#[cfg(test)]
+mod tests;

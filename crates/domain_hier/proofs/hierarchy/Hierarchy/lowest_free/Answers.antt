@@ -1,7 +1,5 @@
-use Rattle.std.proofs.Common.{◌≡◌, ◌<◌, ◌≤◌, ℕ, true, is_some, length, sym, subst, arith}
+use Rattle.std.proofs.Common.{◌<◌, ◌≤◌, length, sym, subst, arith}
 use Rattle.domain_hier.specs.Hierarchies.{HierarchySeen}
-use Rattle.domain_maps.specs.Numbers.{virq_at}
-use Rattle.domain_rules.specs.Layout.{lowest_unused}
 use Rattle.domain_hier.specs.PathsInUse.{in_use}
 use Rattle.domain_hier.proofs.Counting.{used_below, lowest_is}
 use Rattle.domain_hier.proofs.Agreement.{each_once, some_used, none_unused}
@@ -12,7 +10,7 @@ lowest_free-requires-clause-free c full =
     let i = c.self.inside in
     let d = c.args.domain in
     let all : 4294967296 ≤ length (in_use i.paths) = used_below 4294967296 d (in_use i.paths) (each_once i.domains.items i.maps i.paths c.self.invariant d)
-        (λ j below. some_used i.domains.items i.maps i.paths c.self.invariant d j (full j below)) in
+    (λ j below. some_used i.domains.items i.maps i.paths c.self.invariant d j (full j below)) in
     let few : length (in_use i.paths) < 4294967295 = subst (λ (h : HierarchySeen). length (in_use h.paths) < 4294967295) (sym c.self.view_is) c.requires.few in
     omega (arith, all, few)
 
@@ -23,5 +21,5 @@ returns c =
     let n = c.lowest_free.result in
     rw (← c.self.view_is)
     (sym (lowest_is n d (in_use i.paths) (each_once i.domains.items i.maps i.paths c.self.invariant d)
-        (λ j below. some_used i.domains.items i.maps i.paths c.self.invariant d j (c.lowest_free.ensures.2 j below))
-        (none_unused i.domains.items i.maps i.paths c.self.invariant d n c.lowest_free.ensures.0)))
+    (λ j below. some_used i.domains.items i.maps i.paths c.self.invariant d j (c.lowest_free.ensures.2 j below))
+    (none_unused i.domains.items i.maps i.paths c.self.invariant d n c.lowest_free.ensures.0)))

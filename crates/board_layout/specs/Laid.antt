@@ -1,0 +1,30 @@
+-- What is laid so far of a board, and the paths of the lines that have a place.
+use Rattle.std.specs.Prelude.{◌≡◌, ℕ, Option, Some, List, [], ◌∷◌, ◌++◌, length, drop}
+use Rattle.board_def.specs.Layout.{layout_of}
+use Rattle.board_def.specs.Seen.{BoardSeen}
+use Rattle.board_def.specs.Unnamed.{defs_of, leaves_of}
+use Rattle.domain_hier.specs.Hierarchies.{HierarchySeen}
+use Rattle.domain_rules.specs.Layout.{layout_after}
+use Rattle.domain_hier.proofs.Ways.{Falls, places}
+use Rattle.domain_rules.specs.declared.layouts.Placement.{Placement}
+use Rattle.domain_rules.specs.declared.layouts.Placement.TheVariants as placements
+
+-- in the layout's order: the first of them has virq 1
+abbrev pub paths_of : List Placement → List (Option (List (ℕ × ℕ)))
+paths_of [] = []
+paths_of (placements.Mapped virq path ∷ layout) = Some path ∷ paths_of layout
+paths_of (placements.Refused why ∷ layout) = paths_of layout
+
+-- each path has a domain once
+abbrev pub AllFall : List Placement → Type 0
+AllFall [] = Unit {0}
+AllFall (placements.Mapped virq path ∷ layout) = Falls (places path) × AllFall layout
+AllFall (placements.Refused why ∷ layout) = AllFall layout
+
+-- after so many of the board's lines: their placements are those of the layout, and the hierarchy has their paths
+pub record IsLaid (b : BoardSeen) (lines : ℕ) (h : HierarchySeen) (layout : List Placement) : Type 0 where
+  pub domains : h.domains ≡ defs_of b.domains
+  pub paths : h.paths ≡ paths_of layout
+  pub falls : AllFall layout
+  pub count : length layout ≡ lines
+  pub rest : layout ++ layout_after (defs_of b.domains) layout (drop lines (leaves_of b.lines)) ≡ layout_of b

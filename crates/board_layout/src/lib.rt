@@ -1,0 +1,9 @@
+//! Lays the lines of a board: one allocation for each, over a hierarchy of the board's domains.
+#![tactic(auto)]
+
+pub mod laying;
+
+pub use laying::lay;
+
+#[cfg(test)]
+mod tests;
