@@ -1,5 +1,5 @@
 -- The definition by which a line is judged.
-use Rattle.std.proofs.Common.{◌≡◌, ℕ, zero, suc, ◌<◌, ◌≤◌, Bool, true, false, cond, eqb, Option, Some, None, Result, Ok, Err, List, [], ◌∷◌, take, drop, reverse, refl, sym, ap, subst, ◌∙◌, arith}
+use Rattle.std.proofs.Common.{◌≡◌, ℕ, zero, suc, ◌<◌, true, cond, eqb, Option, Some, None, Result, Ok, Err, List, [], ◌∷◌, take, refl, ap, subst, ◌∙◌, arith}
 use Rattle.std.specs.List.{slice_get, All}
 use Rattle.std.specs.Prelude.{IfOk}
 use Rattle.irq_base.specs.declared.memory.NoMemory.{NoMemory}
@@ -14,9 +14,8 @@ use Rattle.board_def.specs.declared.rows.LineRow.{LineRow}
 use Rattle.irq_base.specs.declared.entries.Entry.{Entry}
 use Rattle.irq_base.specs.declared.lines.LineDef.{LineDef}
 use Rattle.irq_laws.specs.LogLimit.{with_log}
-use Rattle.irq_model.specs.Legal.{IsDue, IsLegal}
 use Rattle.irq_model.specs.Valid.{IsValid}
-use Rattle.log_check.specs.Judged.{Judged, IsFirstUndue}
+use Rattle.log_check.specs.Judged.{Judged}
 
 -- with another log limit
 
@@ -82,7 +81,7 @@ found_at (x ∷ xs) (suc i) row at below =
 pub row_found : (b : BoardSeen) (i : ℕ) (row : LineRow) → IsBoard b → slice_get b.lines i ≡ Some row → find_line b.lines row.line ≡ Some row
 row_found b i row board at =
     found_at b.lines i row at (λ j x before atx.
-      at_place (λ (e : LineRow). e.line.0 < row.line.0) (take i b.lines) j x (board.lines i row at).rises (get_take b.lines j i before ∙ atx))
+    at_place (λ (e : LineRow). e.line.0 < row.line.0) (take i b.lines) j x (board.lines i row at).rises (get_take b.lines j i before ∙ atx))
 
 pub judged_for : (r : Result (Option ℕ) NoMemory) (h : List Entry) (made d def : LineDef) → made ≡ with_log d most → d ≡ def
     → IfOk r (λ first. Judged made h first) → IfOk r (λ first. Judged def h first)

@@ -8,7 +8,6 @@ use Rattle.board_def.specs.declared.layouts.Placement.TheVariants as placements
 use Rattle.board_def.specs.declared.rows.LineRow.{LineRow}
 use Rattle.irq_base.specs.Seen.{HistorySeen}
 use Rattle.irq_base.specs.declared.entries.Entry.{Entry}
-use Rattle.irq_base.specs.declared.numbers.LineNo.{LineNo}
 use Rattle.log_check.specs.Judged.{Judged}
 use Rattle.log_check.specs.declared.checking.Verdict.{Verdict}
 use Rattle.log_check.specs.declared.checking.Verdict.TheVariants as verdicts

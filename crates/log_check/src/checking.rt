@@ -74,12 +74,15 @@ fn judge_at<L: IrqLine, M: MakesLine<L>>(
     requires few { All (λ h. length h.entries ≤ 100000000) logs.now }
     ensures { IfOk result (λ first. JudgedAt board.now logs.now i first) }
 {
-    let (Some(row), Some(placement), Some(history)) = (board.line(i), layout.get(i), logs.get(i)) else {
+    let (Some(row), Some(placement), Some(history)) = (board.line(i), layout.get(i), logs.get(i))
+    else {
         // there is no such line
         return Ok(None);
     };
     match placement {
-        Placement::Mapped { virq, path } => judge_mapped::<L, M>(alloc, board, row, virq, &path, history, maker),
+        Placement::Mapped { virq, path } => judge_mapped::<L, M>(
+            alloc, board, row, virq, &path, history, maker,
+        ),
         Placement::Refused(_) => Ok(if history.is_empty() { None } else { Some(1) }),
     }
 }

@@ -9,4 +9,3 @@ pub mod judging;
 
 pub use checking::{Verdict, check};
 pub use judging::judge;
-

@@ -31,6 +31,7 @@ one_zero (b ∷ bs) h some first = by (eqb b 48) (ltb 1 (length (b ∷ bs))) sam
   where
     same : eqb b 48 ≡ true
     same = grind (arith, nat_tests)
+
     by : (s t : Bool) → s ≡ true → not (s && t) ≡ true → ltb 1 (length (b ∷ bs)) ≡ t → length (b ∷ bs) ≡ 1
     by true false i j k = grind (arith, nat_tests)
     by true true i j k = absurd (false≢true j)
@@ -58,6 +59,7 @@ no_zero (suc n) small = by (decimal (suc n)) (first_decimal (suc n) (omega arith
   where
     apart : (b : ℕ) → 48 < b → eqb b 48 ≡ false
     apart b h = grind (arith, nat_tests)
+
     by : (word : List ℕ) → 48 < get_or word 0 0 → not (begins_with_zero word && ltb 1 (length word)) ≡ true
     by [] h = refl
     by (b ∷ bs) h = ap (λ t. not (t && ltb 1 (length (b ∷ bs)))) (apart b h)

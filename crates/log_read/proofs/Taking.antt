@@ -19,14 +19,17 @@ pub both : {X Y A B : Type 0} {F : X → Type 0} {G : Y → Type 0} {f : X → L
     → TakesAs F f m old mid a → TakesAs G g n mid new b → TakesAs {Y = A × B} (Both F G) (then f g) (λ p. (m p.0, n p.1)) old new (a, b)
 both {f = f} {g = g} {m = m} {n = n} {a = a} {b = b} s t = record {
   sound = λ rest h.
-    let second = t.sound rest h in
-    let first = s.sound (g second.0 ++ rest) second.3 in
-    ((first.0, second.0), (first.1, second.1), ap (λ x. (x, b)) first.2 ∙ ap (λ y. (m first.0, y)) second.2,
-    first.3 ∙ ap (λ ws. Some ws) (sym (append_assoc (f first.0) (g second.0) rest)));
+      let second = t.sound rest h in
+      let first = s.sound (g second.0 ++ rest) second.3 in (
+        (first.0, second.0),
+        (first.1, second.1),
+        ap (λ x. (x, b)) first.2 ∙ ap (λ y. (m first.0, y)) second.2,
+        first.3 ∙ ap (λ ws. Some ws) (sym (append_assoc (f first.0) (g second.0) rest)),
+      );
   complete = λ p rest fits h.
-    let first = s.complete p.0 (g p.1 ++ rest) fits.0 (h ∙ ap (λ ws. Some ws) (append_assoc (f p.0) (g p.1) rest)) in
-    let second = t.complete p.1 rest fits.1 first.1 in
-    (ap (λ x. (x, b)) first.0 ∙ ap (λ y. (m p.0, y)) second.0, second.1);
+      let first = s.complete p.0 (g p.1 ++ rest) fits.0 (h ∙ ap (λ ws. Some ws) (append_assoc (f p.0) (g p.1) rest)) in
+      let second = t.complete p.1 rest fits.1 first.1 in
+      (ap (λ x. (x, b)) first.0 ∙ ap (λ y. (m p.0, y)) second.0, second.1);
 }
 
 -- what was read of the next word
@@ -36,11 +39,11 @@ pub fitted : {X : Type 0} {F : X → Type 0} {write : X → List ℕ} {old mid n
     → TakesAs F (one write) (λ x. x) old new y
 fitted {write = write} {old = old} {mid = mid} {new = new} {word = word} {y = y} (Some x) tell took reads fit = record {
   sound = λ rest h.
-    let s = took.sound rest (sym (ap left_of fit.1) ∙ h) in
-    (x, reads.0, fit.0, s.3 ∙ ap (λ w. Some (w ∷ rest)) (sym s.2 ∙ reads.1));
+      let s = took.sound rest (sym (ap left_of fit.1) ∙ h) in
+      (x, reads.0, fit.0, s.3 ∙ ap (λ w. Some (w ∷ rest)) (sym s.2 ∙ reads.1));
   complete = λ z rest fits h.
-    let s = took.complete (write z) rest tt h in
-    (fit.0 ∙ tell x z reads.0 fits (sym reads.1 ∙ s.0), ap left_of fit.1 ∙ s.1);
+      let s = took.complete (write z) rest tt h in
+      (fit.0 ∙ tell x z reads.0 fits (sym reads.1 ∙ s.0), ap left_of fit.1 ∙ s.1);
 }
 fitted {write = write} {word = word} None tell took reads fit = record {
   sound = λ rest h. absurd (none-some rest (sym fit ∙ h));
@@ -52,9 +55,9 @@ pub under : {V X Y : Type 0} {F : X → Type 0} {verb : V} {word : V → List �
     → Takes (one word) old mid verb → TakesAs F f m mid new y → TakesAs F (λ x. word verb ∷ f x) m old new y
 under {verb = verb} {word = word} {f = f} took t = record {
   sound = λ rest h.
-    let s = t.sound rest h in
-    let v = took.sound (f s.0 ++ rest) s.3 in
-    (s.0, s.1, s.2, v.3 ∙ ap (λ w. Some (word w ∷ (f s.0 ++ rest))) (sym v.2));
+      let s = t.sound rest h in
+      let v = took.sound (f s.0 ++ rest) s.3 in
+      (s.0, s.1, s.2, v.3 ∙ ap (λ w. Some (word w ∷ (f s.0 ++ rest))) (sym v.2));
   complete = λ x rest fits h. let v = took.complete verb (f x ++ rest) tt h in t.complete x rest fits v.1;
 }
 

@@ -70,6 +70,7 @@ other_line b i place x row board atx at differ = by (order i place)
   where
     order : (m n : ℕ) → (m < n) ⊎ (n ≤ m)
     order m n = cases_lt m n
+
     by : (i < place) ⊎ (place ≤ i) → eqb row.line.0 x.line.0 ≡ false
     by (inl less) = let n = rising b i place x row board atx at less in ne_eqb row.line.0 x.line.0 (λ same. omega (arith, n, same))
     by (inr more) =
@@ -164,10 +165,12 @@ module _ (b : BoardSeen) (board : IsBoard b) where
     where
       equals : (n : ℕ) → eqb n n ≡ true
       equals n = grind (arith, nat_tests)
+
       own : (i : ℕ) (x : LineRow) → slice_get b.lines i ≡ Some x → i ≡ place → eqb s.0.0 x.line.0 ≡ true
       own i x atx same =
           let row : x ≡ at.0 = same_Some x at.0 (sym atx ∙ (ap (λ j. slice_get b.lines j) same ∙ at.1)) in
           ap (λ (l : LineNo). eqb s.0.0 l.0) (ap (λ (r : LineRow). r.line) row ∙ at.2) ∙ equals s.0.0
+
       other : (i : ℕ) (x : LineRow) → slice_get b.lines i ≡ Some x → (i ≡ place → ⊥) → eqb s.0.0 x.line.0 ≡ false
       other i x atx differ = ap (λ (l : LineNo). eqb l.0 x.line.0) (sym at.2) ∙ other_line b i place x at.0 board atx at.1 differ
 

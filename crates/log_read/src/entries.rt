@@ -8,9 +8,7 @@ ghost use Rattle.log_read.specs.declared.kinds.ThreadVerb.TheVariants as thread_
 ghost use Rattle.log_read.specs.declared.kinds.DriverVerb.TheVariants as driver_verbs;
 ghost use Rattle.log_read.specs.declared.numbers.Who.TheVariants as whos;
 
-use crate::answers::{
-    again, answer, flags, kept, note, take_answer, unlink_answer, unmask, way,
-};
+use crate::answers::{again, answer, flags, kept, note, take_answer, unlink_answer, unmask, way};
 use crate::kinds::{CpuVerb, DriverVerb, ThreadVerb, cpu_verb, driver_verb, thread_verb};
 use crate::numbers::{Who, made_by, number};
 use crate::said::{enabled, linked, moved};

@@ -128,7 +128,9 @@ fn place_of(board: &Board, line: LineNo) -> Option<usize>
     ensures { MatchOption result (has_line board.now.lines line ≡ false) (λ place. IsPlaceOf board.now.lines line place) }
 {
     for i in 0..board.lines_len() {
-        if let Some(row) = board.line(i) && row.line == line {
+        if let Some(row) = board.line(i)
+            && row.line == line
+        {
             return Some(i);
         }
     }

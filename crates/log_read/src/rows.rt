@@ -16,5 +16,9 @@ pub(crate) fn read_row(row: &[u8]) -> Option<(LineNo, Entry)>
     let mut words = Words::of_row(row);
     let line = LineNo(number(&mut words));
     let entry = entry(&mut words);
-    if words.is_done() { Some((line, entry)) } else { None }
+    if words.is_done() {
+        Some((line, entry))
+    } else {
+        None
+    }
 }

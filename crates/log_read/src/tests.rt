@@ -133,7 +133,10 @@ const TEXTS: [(&str, Result<(usize, usize), LogRefused>); 14] = [
     ("# a\n3 d1 ask 1\n", Err(LogRefused::Malformed { row: 2 })),
     ("# a\n1 d1 ask 1", Err(LogRefused::Malformed { row: 2 })),
     ("# a", Err(LogRefused::Malformed { row: 1 })),
-    ("#\n1 d1 synced\n5 a\n1 a\n", Err(LogRefused::Malformed { row: 3 })),
+    (
+        "#\n1 d1 synced\n5 a\n1 a\n",
+        Err(LogRefused::Malformed { row: 3 }),
+    ),
     ("1 d1 synced #\n", Err(LogRefused::Malformed { row: 1 })),
     (" # a\n", Err(LogRefused::Malformed { row: 1 })),
     ("1 d1 synced\n---\n", Err(LogRefused::Malformed { row: 2 })),
@@ -147,7 +150,11 @@ fn is_formed(rt: &impl Abort, text: &str) {
     let mut row = TextRow::new();
     entry_row(&mut row, line, &entry);
     let bytes = row.bytes();
-    assert_eq!(rt; bytes.strip_suffix(b"\n"), Some(text.as_bytes()), "for {text:?}");
+    assert_eq!(rt;
+        bytes.strip_suffix(b"\n"),
+        Some(text.as_bytes()),
+        "for {text:?}"
+    );
 }
 
 #[test]
@@ -227,7 +234,9 @@ fn two_lines(alloc: Global) -> Option<Board> {
         chip: LevelKind::Latch,
         parent: None,
     };
-    let made = add_domain(&mut board, b"latch", def) && add_line(&mut board, 1, 0, 0) && add_line(&mut board, 5, 0, 1);
+    let made = add_domain(&mut board, b"latch", def)
+        && add_line(&mut board, 1, 0, 0)
+        && add_line(&mut board, 5, 0, 1);
     if made { Some(board) } else { None }
 }
 
@@ -247,7 +256,10 @@ fn lengths(alloc: Global, board: &Board, text: &[u8]) -> Result<(usize, usize), 
 fn texts_are_read_or_their_first_malformed_row_told(rt: HostRuntime) -> Result<(), Fail> {
     let board = two_lines(rt.alloc()).expect(&rt, "a board");
     for (text, outcome) in TEXTS {
-        assert!(rt; lengths(rt.alloc(), &board, text.as_bytes()) == outcome, "for {text:?}");
+        assert!(rt;
+            lengths(rt.alloc(), &board, text.as_bytes()) == outcome,
+            "for {text:?}"
+        );
     }
     Ok(())
 }

@@ -17,5 +17,11 @@ pub returns : goal.returns
 returns c =
     let lines = c.args.board.now.lines in
     let at = c.in-Some-place_of.ensures in
-    inr ((c.in-Some.line, c.in-Some.entry), c.in-Some-place_of.place, record { formed = c.in-Some.ensures; declared = present lines c.in-Some.line c.in-Some-place_of.place at },
-    sym c.begins_with_hash.ensures ∙ c.if-begins_with_hash.false, at, c.in_ok-add.ensures)
+    inr (
+      (c.in-Some.line, c.in-Some.entry),
+      c.in-Some-place_of.place,
+      record { formed = c.in-Some.ensures; declared = present lines c.in-Some.line c.in-Some-place_of.place at },
+      sym c.begins_with_hash.ensures ∙ c.if-begins_with_hash.false,
+      at,
+      c.in_ok-add.ensures,
+    )

@@ -7,5 +7,5 @@ pub returns : goal.returns
 returns c =
     let lines = c.args.board.now.lines in
     absent lines c.args.line (λ j row at same.
-      let within = slice_get_within lines j row at in
-      c.loop-i.invariant j row (omega (arith, within, c.loop-i-test.false, c.lines_len-i-end.ensures)) at same)
+    let within = slice_get_within lines j row at in
+    c.loop-i.invariant j row (omega (arith, within, c.loop-i-test.false, c.lines_len-i-end.ensures)) at same)
