@@ -9,7 +9,8 @@ ghost use Rattle.log_check.specs.Judged.{Judged};
 ghost use Rattle.log_check.specs.Verdicts.{IsVerdict, JudgedAt};
 
 use crate::judging::judge;
-use board_def::{Board, Layout, LineRow, Placement};
+use board_def::{Board, LineRow};
+use domain_rules::{Layout, Placement};
 use irq_base::{History, LineNo, Logs, NoMemory, Path};
 use irq_line::{IrqLine, MakesLine};
 use std::alloc::Global;
