@@ -1,1 +1,5 @@
 pub mod OnePlay
+pub mod Members
+pub mod OfBoard
+pub mod Moves
+pub mod Parts

@@ -1,0 +1,4 @@
+use Rattle.board_play.proofs.done_is_settled.Goals as goal
+
+pub returns : goal.returns
+returns c = ?

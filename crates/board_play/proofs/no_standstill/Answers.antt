@@ -1,0 +1,4 @@
+use Rattle.board_play.proofs.no_standstill.Goals as goal
+
+pub returns : goal.returns
+returns c = ?
