@@ -3,3 +3,5 @@ pub mod Members
 pub mod OfBoard
 pub mod Moves
 pub mod Parts
+pub mod Counting
+pub mod Script
