@@ -99,6 +99,37 @@ goes_on (x ∷ cs) es e d m is = by_test (nat_lt (length es) (entries_of_call x 
         let left : due_of cs (drop (entries_of_call x es) es ++ e ∷ []) ≡ Some (d, suc m) = ap (λ (xs : List Entry). due_of cs xs) (sym p.left) ∙ (ap (due_then cs x (es ++ e ∷ [])) (sym p.complete) ∙ is) in
         ap (done_at cs x (es ++ e ∷ [])) p.complete ∙ (ap (λ (xs : List Entry). done_of cs xs + 1) p.left ∙ (ap (λ (n : ℕ). n + 1) (deeper left) ∙ ap (done_at cs x es) (sym test)))
 
+-- ---- one more entry, with which it is
+
+none_done : (cs : List Call) → done_of cs [] ≡ 0
+none_done [] = refl
+none_done (c ∷ cs) = ap (done_at cs c []) (lt-ltb 0 (entries_of_call c []) (let one = makes_one c [] in omega (arith, one)))
+
+goes_past : (cs : List Call) (es : List Entry) (e : Entry) (y : Call × ℕ) → due_of cs es ≡ Some y → ((d : Call) (m : ℕ) → due_of cs (es ++ e ∷ []) ≡ Some (d, suc m) → ⊥) → done_of cs (es ++ e ∷ []) ≡ done_of cs es + 1
+goes_past [] es e y was not = cc
+goes_past (x ∷ cs) es e y was not = by_test (nat_lt (length es) (entries_of_call x es)) refl (λ h k. goes_past cs (drop (entries_of_call x es) es) e y h k)
+  where
+    one_longer : length (es ++ e ∷ []) ≡ suc (length es)
+    one_longer = let l = length-append es (e ∷ []) in omega (arith, l)
+
+    within : (b : Bool) → nat_lt (length es) (entries_of_call x es) ≡ true → nat_lt (length (es ++ e ∷ [])) (entries_of_call x (es ++ e ∷ [])) ≡ b → done_at cs x (es ++ e ∷ []) b ≡ 1
+    within true lt test = absurd (not x (length es) (ap (due_then cs x (es ++ e ∷ [])) test ∙ ap (λ (n : ℕ). due_at x n) one_longer))
+    within false lt test =
+        let none : drop (entries_of_call x (es ++ e ∷ [])) (es ++ e ∷ []) ≡ [] = drop_of_length-le (es ++ e ∷ []) (enough x e es lt) in
+        ap (λ (xs : List Entry). done_of cs xs + 1) none ∙ ap (λ (n : ℕ). n + 1) (none_done cs)
+
+    by_test : (b : Bool) → nat_lt (length es) (entries_of_call x es) ≡ b
+        → (due_of cs (drop (entries_of_call x es) es) ≡ Some y → ((d : Call) (m : ℕ) → due_of cs (drop (entries_of_call x es) es ++ e ∷ []) ≡ Some (d, suc m) → ⊥)
+        → done_of cs (drop (entries_of_call x es) es ++ e ∷ []) ≡ done_of cs (drop (entries_of_call x es) es) + 1)
+        → done_at cs x (es ++ e ∷ []) (nat_lt (length (es ++ e ∷ [])) (entries_of_call x (es ++ e ∷ []))) ≡ done_at cs x es (nat_lt (length es) (entries_of_call x es)) + 1
+    by_test true test deeper = within (nat_lt (length (es ++ e ∷ [])) (entries_of_call x (es ++ e ∷ []))) test refl ∙ ap (λ (b : Bool). done_at cs x es b + 1) (sym test)
+    by_test false test deeper =
+        let p = passed x es e test in
+        let before : due_of cs (drop (entries_of_call x es) es) ≡ Some y = ap (due_then cs x es) (sym test) ∙ was in
+        let after : (d : Call) (m : ℕ) → due_of cs (drop (entries_of_call x es) es ++ e ∷ []) ≡ Some (d, suc m) → ⊥ =
+        λ d m h. not d m (ap (due_then cs x (es ++ e ∷ [])) p.complete ∙ (ap (λ (xs : List Entry). due_of cs xs) p.left ∙ h)) in
+        ap (done_at cs x (es ++ e ∷ [])) p.complete ∙ (ap (λ (xs : List Entry). done_of cs xs + 1) p.left ∙ (ap (λ (n : ℕ). n + 1) (deeper before after) ∙ ap (λ (b : Bool). done_at cs x es b + 1) (sym test)))
+
 -- ---- of a line
 
 -- how many calls of the driver are complete
@@ -125,3 +156,13 @@ not_completed def r e past d m mine is =
 
 pub others_complete : (def : LineDef) (r : DriverNo) (e : Entry) (past : List Entry) → is_by_driver r e ≡ false → completed def r (e ∷ past) ≡ completed def r past
 others_complete def r e past other = ap (λ (b : Bool). length (complete [] (calls_by r def.calls) (reverse (cond b (e ∷ filter (is_by_driver r) past) (filter (is_by_driver r) past))))) other
+
+pub one_completed : (def : LineDef) (r : DriverNo) (e : Entry) (past : List Entry) (x : Call × ℕ) → is_by_driver r e ≡ true → due_call def r past ≡ Some x
+    → ((d : Call) (m : ℕ) → due_call def r (e ∷ past) ≡ Some (d, suc m) → ⊥) → completed def r (e ∷ past) ≡ completed def r past + 1
+one_completed def r e past x mine was not =
+    let more = entries_more r e past mine in
+    is_done_of def r (e ∷ past) ∙ (ap (λ (es : List Entry). done_of (calls_by r def.calls) es) more
+    ∙ (goes_past (calls_by r def.calls) (entries_by r past) e x was (λ d m h. not d m (ap (λ (es : List Entry). due_of (calls_by r def.calls) es) more ∙ h)) ∙ ap (λ (n : ℕ). n + 1) (sym (is_done_of def r past))))
+
+pub none_complete : (def : LineDef) (r : DriverNo) → completed def r [] ≡ 0
+none_complete def r = is_done_of def r [] ∙ none_done (calls_by r def.calls)

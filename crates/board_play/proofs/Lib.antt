@@ -5,3 +5,5 @@ pub mod Moves
 pub mod Parts
 pub mod Counting
 pub mod Script
+pub mod Moving
+pub mod KeptAlways

@@ -1,4 +1,4 @@
--- Each line's part of a play is legal, and what isn't a line's has no entry in it.
+-- Whose entry is due, and that what isn't a line's has no entry in a play.
 use Rattle.std.proofs.Common.{◌≡◌, ℕ, zero, suc, Bool, true, false, cond, Option, Some, None, List, [], ◌∷◌, map, slice_get, refl, sym, ap, ◌∙◌, subst}
 use Rattle.irq_base.specs.Who.{actor_of}
 use Rattle.irq_base.specs.declared.entries.Actor.{Actor}
@@ -24,36 +24,8 @@ pub the_line : (lines : List BoardLine) → AreApart (map (λ (x : BoardLine). x
 the_line lines apart i j x y at_x at_y same =
     the_same x y (sym (find_there lines apart i x at_x) ∙ (ap (λ (l : LineNo). find_line lines l) same ∙ find_there lines apart j y at_y))
 
-due_of : (def : LineDef) (past : List Entry) (a : Actor) (e : Entry) → next_past def past a ≡ Some e → IsDue def e past
+pub due_of : (def : LineDef) (past : List Entry) (a : Actor) (e : Entry) → next_past def past a ≡ Some e → IsDue def e past
 due_of def past a e due = ap (λ (b : Actor). next_past def past b) (due_is_own_past def past a e due) ∙ due
-
-pub apart_at : (board : BoardSeen) → IsBoard board → (g : List Move) → AreApart (map (λ (x : BoardLine). x.def) (lines_of board g))
-apart_at board is g = subst AreApart (sym (defs_at (defs_of board) g)) (apart_defs board is)
-
-pub legal_parts : (board : BoardSeen) (picks : List Actor) → IsBoard board → (g : List Move) (left : List Actor) → IsChosen board picks g left → (i : ℕ) (d : LineDef) → slice_get (defs_of board) i ≡ Some d → IsLegalPast d (part d.line g)
-legal_parts board picks is [] left chosen i d at = tt
-legal_parts board picks is (m ∷ g) left chosen i d at = by_test (same_line d.line m.0) refl (legal_parts board picks is g chosen.0 chosen.1 i d at)
-  where
-    due : same_line d.line m.0 ≡ true → IsDue d m.1 (part d.line g)
-    due test =
-        let who = choice_is board (lines_of board g) chosen.0 m left chosen.2 in
-        let moves = moves_on board (lines_of board g) who.actor m who.moves in
-        let own : BoardLine = record { def = d; past = part d.line g } in
-        let same : moves.line ≡ own =
-        the_line (lines_of board g) (apart_at board is g) moves.place i moves.line own moves.at (line_there (defs_of board) g i d at) (sym moves.number ∙ sym (line_from_same d.line m.0 test)) in
-        due_of d (part d.line g) who.actor m.1 (subst (λ (x : BoardLine). next_past x.def x.past who.actor ≡ Some m.1) same moves.due)
-
-    by_test : (b : Bool) → same_line d.line m.0 ≡ b → IsLegalPast d (part d.line g) → IsLegalPast d (cond b (m.1 ∷ part d.line g) (part d.line g))
-    by_test true test deeper = (due test, deeper)
-    by_test false test deeper = deeper
-
-pub legal_lines : (board : BoardSeen) (picks : List Actor) (g : List Move) (left : List Actor) → IsBoard board → IsChosen board picks g left → (i : ℕ) (x : BoardLine) → slice_get (lines_of board g) i ≡ Some x → IsLegalPast x.def x.past
-legal_lines board picks g left is chosen i x at =
-    subst (λ (past : List Entry). IsLegalPast x.def past) (sym (past_at (defs_of board) g i x at))
-    (legal_parts board picks is g left chosen i x.def (subst (λ (ds : List LineDef). slice_get ds i ≡ Some x.def) (defs_at (defs_of board) g) (def_there (lines_of board g) i x at)))
-
-pub parts_are_legal : (board : BoardSeen) (picks : List Actor) (g : List Move) (end : End) → IsBoard board → Plays board picks g end → (i : ℕ) (x : BoardLine) → slice_get (lines_of board g) i ≡ Some x → IsLegalPast x.def x.past
-parts_are_legal board picks g end is plays i x at = legal_lines board picks g plays.0 is plays.1 i x at
 
 -- ---- no line, no entry
 

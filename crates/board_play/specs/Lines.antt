@@ -43,6 +43,13 @@ lines_at (def ∷ defs) g = record { def = def; past = part def.line g } ∷ lin
 abbrev pub lines_of : BoardSeen → List Move → List BoardLine
 lines_of b g = lines_at (defs_of b) g
 
+-- a line after one more move, and all lines
+abbrev pub line_after : Move → BoardLine → BoardLine
+line_after m x = record { def = x.def; past = if same_line x.def.line m.0 then (m.1 ∷ x.past) else x.past }
+
+abbrev pub lines_after : Move → List BoardLine → List BoardLine
+lines_after m lines = map (line_after m) lines
+
 -- the line of that number
 abbrev pub find_line : List BoardLine → LineNo → Option BoardLine
 find_line [] line = None

@@ -15,7 +15,7 @@ ghost use Rattle.board_def.specs.Rules.{IsBoard};
 ghost use Rattle.board_def.specs.Seen.{BoardSeen};
 ghost use Rattle.board_play.specs.Current.{current_line};
 ghost use Rattle.board_play.specs.Kept.{AreKept};
-ghost use Rattle.board_play.specs.Lines.{BoardLine, Move, find_line, lines_of, part};
+ghost use Rattle.board_play.specs.Lines.{BoardLine, Move, find_line, lines_after, lines_of, part};
 ghost use Rattle.board_play.specs.Order.{due_move, actors_of};
 ghost use Rattle.board_play.specs.Play.{End, Done, Plays};
 
@@ -30,8 +30,10 @@ pub fn parts_are_legal()
     ensures others { (board : BoardSeen) (picks : List Actor) (g : List Move) (end : End) → Plays board picks g end → (line : LineNo) → find_line (lines_of board g) line ≡ None → part line g ≡ [] }
 {}
 
-/// What every move keeps holds of every play: the drivers' calls are made in the order of their scripts.
+/// What a board's lines keep: every move of an actor keeps it, so it holds of every play. Each history is legal, and the
+/// drivers' calls are made in the order of their scripts, over all lines.
 pub fn play_keeps()
+    ensures step { (board : BoardSeen) (lines : List BoardLine) (a : Actor) (m : Move) → IsBoard board → AreKept board lines → due_move board lines a ≡ Some m → AreKept board (lines_after m lines) }
     ensures law { (board : BoardSeen) (picks : List Actor) (g : List Move) (end : End) → IsBoard board → Plays board picks g end → AreKept board (lines_of board g) }
 {}
 

@@ -1,4 +1,5 @@
-use Rattle.board_play.proofs.Parts.{parts_are_legal, others_have_none}
+use Rattle.board_play.proofs.KeptAlways.{parts_are_legal}
+use Rattle.board_play.proofs.Parts.{others_have_none}
 use Rattle.board_play.proofs.parts_are_legal.Goals as goal
 
 pub returns : goal.returns
