@@ -1,5 +1,5 @@
 -- How many of a driver's calls on a line are complete, and what that says of the call that is due.
-use Rattle.std.proofs.Common.{◌≡◌, ℕ, suc, ◌+◌, ◌<◌, ◌≤◌, Bool, true, false, cond, Option, Some, None, List, [], ◌∷◌, ◌++◌, length, drop, filter, reverse, nat_lt, refl, sym, ap, ◌∙◌, subst, arith, length-append, drop_of_length-le}
+use Rattle.std.proofs.Common.{◌≡◌, ℕ, suc, ◌+◌, ◌<◌, ◌≤◌, Bool, true, false, cond, Option, Some, None, List, [], ◌∷◌, ◌++◌, length, drop, filter, reverse, nat_lt, refl, sym, ap, ◌∙◌, arith, length-append, drop_of_length-le}
 use Rattle.std.proofs.lemmas.List.{drop-append-le}
 use Rattle.std.proofs.lemmas.Bool.{ltb-true, ltb-false, lt-ltb, le-ltb}
 use Rattle.irq_base.specs.declared.calls.Call.{Call}
@@ -9,7 +9,7 @@ use Rattle.irq_base.specs.declared.numbers.DriverNo.{DriverNo}
 use Rattle.irq_model.specs.Due.{calls_by, entries_by, entries_of_call, due_of, due_call}
 use Rattle.irq_model.specs.Kinds.{is_by_driver}
 use Rattle.irq_laws.specs.Kept.{complete, complete_by}
-use Rattle.irq_laws.proofs.Progress.{makes_one, same_count, due_at, fresh, entries_more, no_more}
+use Rattle.irq_laws.proofs.Progress.{makes_one, same_count, due_at, fresh, entries_more}
 
 -- the calls that are complete, counted
 abbrev done_of : List Call → List Entry → ℕ

@@ -1,21 +1,19 @@
 -- What every move keeps holds of every play.
-use Rattle.std.proofs.Common.{◌≡◌, ℕ, zero, suc, Bool, true, false, cond, Some, List, [], ◌∷◌, map, take, slice_get, refl, sym, ap, ◌∙◌, subst, arith}
+use Rattle.std.proofs.Common.{◌≡◌, ℕ, suc, Bool, true, false, cond, Some, List, [], ◌∷◌, map, slice_get, refl, sym, ap, ◌∙◌, subst, arith}
 use Rattle.irq_base.specs.declared.calls.Call.{Call}
 use Rattle.irq_base.specs.declared.entries.Actor.{Actor}
 use Rattle.irq_base.specs.declared.entries.Entry.{Entry}
-use Rattle.irq_base.specs.declared.lines.LineDef.{LineDef}
 use Rattle.irq_base.specs.declared.numbers.DriverNo.{DriverNo}
 use Rattle.irq_model.specs.Due.{calls_by, due_call}
 use Rattle.irq_model.specs.Kinds.{same_line}
-use Rattle.irq_model.specs.Legal.{IsDue, IsLegalPast}
+use Rattle.irq_model.specs.Legal.{IsLegalPast}
 use Rattle.irq_model.specs.Next.{next_past}
 use Rattle.irq_steps.proofs.Same.{line_from_same}
 use Rattle.irq_laws.proofs.Progress.{fresh}
 use Rattle.board_def.specs.Rules.{IsBoard}
 use Rattle.board_def.specs.Seen.{BoardSeen}
-use Rattle.board_play.specs.Current.{calls_on}
 use Rattle.board_play.specs.Kept.{IsUpTo, AreKept}
-use Rattle.board_play.specs.Lines.{BoardLine, Move, part, defs_of, lines_at, lines_of, line_after, lines_after}
+use Rattle.board_play.specs.Lines.{BoardLine, Move, defs_of, lines_at, lines_of, lines_after}
 use Rattle.board_play.specs.Order.{due_move}
 use Rattle.board_play.specs.Play.{End, IsChosen, Plays}
 use Rattle.board_play.proofs.Counting.{none_complete}

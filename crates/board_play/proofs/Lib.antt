@@ -7,3 +7,6 @@ pub mod Counting
 pub mod Script
 pub mod Moving
 pub mod KeptAlways
+pub mod Listed
+pub mod Standstill
+pub mod Rest

@@ -1,5 +1,5 @@
 -- A move keeps that the drivers' calls are made in the order of their scripts.
-use Rattle.std.proofs.Common.{◌≡◌, ℕ, zero, suc, ◌+◌, ◌<◌, ◌≤◌, ◌⊎◌, inl, inr, Bool, true, false, ◌&&◌, cond, IsSomeAnd, Option, Some, None, List, [], ◌∷◌, map, length, take, slice_get, refl, sym, ap, ◌∙◌, subst, arith, eq-eqb}
+use Rattle.std.proofs.Common.{◌≡◌, ℕ, zero, suc, ◌+◌, ◌<◌, ◌≤◌, ◌⊎◌, inl, inr, Bool, true, false, ◌&&◌, cond, IsSomeAnd, Option, Some, None, List, [], ◌∷◌, map, take, slice_get, refl, sym, ap, ◌∙◌, subst, arith, eq-eqb}
 use Rattle.irq_base.specs.Who.{actor_of}
 use Rattle.irq_base.specs.declared.calls.Call.{Call}
 use Rattle.irq_base.specs.declared.entries.Actor.{Actor}
@@ -17,12 +17,11 @@ use Rattle.irq_laws.proofs.Chosen.{the_same}
 use Rattle.irq_laws.proofs.Lists.{both_ways}
 use Rattle.irq_laws.proofs.OwnLaws.{due_is_own_past}
 use Rattle.irq_laws.proofs.Progress.{no_more, due_at, same_call}
-use Rattle.std.proofs.lemmas.Bool.{false_from_ne_true}
 use Rattle.board_def.specs.Seen.{BoardSeen}
 use Rattle.board_def.specs.declared.rows.ScriptCall.{ScriptCall}
 use Rattle.board_play.specs.Current.{calls_on, current_from}
 use Rattle.board_play.specs.Kept.{IsCallOn, IsUpTo}
-use Rattle.board_play.specs.Lines.{BoardLine, Move, part, lines_at, line_after, lines_after, find_line}
+use Rattle.board_play.specs.Lines.{BoardLine, Move, part, lines_at, line_after, lines_after}
 use Rattle.board_play.specs.Order.{line_for}
 use Rattle.board_play.proofs.Counting.{not_completed, one_completed, others_complete}
 use Rattle.board_play.proofs.Members.{AreApart, find_there, found}

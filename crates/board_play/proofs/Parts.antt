@@ -1,23 +1,19 @@
 -- Whose entry is due, and that what isn't a line's has no entry in a play.
-use Rattle.std.proofs.Common.{◌≡◌, ℕ, zero, suc, Bool, true, false, cond, Option, Some, None, List, [], ◌∷◌, map, slice_get, refl, sym, ap, ◌∙◌, subst}
-use Rattle.irq_base.specs.Who.{actor_of}
+use Rattle.std.proofs.Common.{◌≡◌, ℕ, zero, suc, Bool, true, false, cond, Some, None, List, [], ◌∷◌, map, slice_get, refl, sym, ap, ◌∙◌}
 use Rattle.irq_base.specs.declared.entries.Actor.{Actor}
 use Rattle.irq_base.specs.declared.entries.Entry.{Entry}
 use Rattle.irq_base.specs.declared.lines.LineDef.{LineDef}
 use Rattle.irq_base.specs.declared.numbers.LineNo.{LineNo}
 use Rattle.irq_model.specs.Kinds.{same_line}
-use Rattle.irq_model.specs.Legal.{IsDue, IsLegalPast}
+use Rattle.irq_model.specs.Legal.{IsDue}
 use Rattle.irq_model.specs.Next.{next_past}
-use Rattle.irq_steps.proofs.Same.{line_from_same}
 use Rattle.irq_laws.proofs.Chosen.{the_same}
 use Rattle.irq_laws.proofs.OwnLaws.{due_is_own_past}
-use Rattle.board_def.specs.Rules.{IsBoard}
 use Rattle.board_def.specs.Seen.{BoardSeen}
 use Rattle.board_play.specs.Lines.{BoardLine, Move, part, defs_of, lines_at, lines_of, find_line}
 use Rattle.board_play.specs.Play.{End, IsChosen, Plays}
-use Rattle.board_play.proofs.Members.{AreApart, def_there, find_there, defs_at, past_at, line_there}
-use Rattle.board_play.proofs.Moves.{MovesOn, moves_on, choice_is}
-use Rattle.board_play.proofs.OfBoard.{apart_defs}
+use Rattle.board_play.proofs.Members.{AreApart, find_there}
+use Rattle.board_play.proofs.Moves.{moves_on, choice_is}
 
 -- a line of some number is the one that stands there
 pub the_line : (lines : List BoardLine) → AreApart (map (λ (x : BoardLine). x.def) lines) → (i j : ℕ) (x y : BoardLine) → slice_get lines i ≡ Some x → slice_get lines j ≡ Some y → x.def.line ≡ y.def.line → x ≡ y

@@ -1,5 +1,5 @@
 -- Where a driver's current call stands in its script.
-use Rattle.std.proofs.Common.{◌≡◌, ℕ, zero, suc, ◌+◌, ◌<◌, ◌≤◌, Bool, true, false, ◌&&◌, cond, nat_le, leb-true, leb-false, le-leb, IsSome, Option, Some, None, List, [], ◌∷◌, length, take, slice_get, refl, sym, ap, ◌∙◌, subst, arith}
+use Rattle.std.proofs.Common.{◌≡◌, ℕ, zero, suc, ◌+◌, ◌<◌, ◌≤◌, Bool, true, false, ◌&&◌, cond, nat_le, leb-true, leb-false, le-leb, Option, Some, None, List, [], ◌∷◌, length, take, slice_get, refl, sym, ap, ◌∙◌, subst, arith}
 use Rattle.std.proofs.lemmas.Bool.{and_parts, false_from_ne_true}
 use Rattle.irq_base.specs.declared.numbers.DriverNo.{DriverNo}
 use Rattle.irq_base.specs.declared.numbers.LineNo.{LineNo}
@@ -7,7 +7,6 @@ use Rattle.irq_model.specs.Kinds.{same_line, same_driver}
 use Rattle.irq_steps.proofs.Same.{same_self_line, line_from_same}
 use Rattle.irq_laws.specs.Kept.{complete_by}
 use Rattle.irq_laws.proofs.Chosen.{the_same}
-use Rattle.irq_laws.proofs.Lists.{both_ways}
 use Rattle.board_def.specs.declared.rows.ScriptCall.{ScriptCall}
 use Rattle.board_play.specs.Current.{calls_on, is_open, current_from}
 use Rattle.board_play.specs.Lines.{BoardLine, find_line}

@@ -1,7 +1,7 @@
 -- What a board's lines are: those of its layout that aren't refused, each with its definition and its history so far.
 -- What has happened on a board is a list of moves, each an entry of a line. The newest comes first, of the moves and of
 -- a line's entries.
-use Rattle.std.specs.Prelude.{ℕ, Option, Some, None, List, [], ◌∷◌, map, if◌then◌else◌}
+use Rattle.std.specs.Prelude.{Option, Some, None, List, [], ◌∷◌, map, if◌then◌else◌}
 use Rattle.irq_base.specs.declared.entries.Entry.{Entry}
 use Rattle.irq_base.specs.declared.lines.LineDef.{LineDef}
 use Rattle.irq_base.specs.declared.numbers.LineNo.{LineNo}
