@@ -1,0 +1,5 @@
+pub mod First
+pub mod Numbers
+pub mod Trees
+pub mod Processors
+pub mod Keeping

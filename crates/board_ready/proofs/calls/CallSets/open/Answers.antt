@@ -1,0 +1,9 @@
+use Rattle.std.proofs.Common.{ap, ◌∙◌}
+use Rattle.board_ready.specs.Sets.{CallsSeen, may_go_on}
+use Rattle.board_ready.proofs.Numbers.{all_have}
+use Rattle.board_ready.proofs.calls.CallSets.open.Goals as goal
+
+pub returns : goal.returns
+returns c = λ r.
+    all_have c.self.inside.waiting.nothing c.unless-flow.result c.unless-threads.result c.unless-mutex.result c.unless-device.result r _ _ _ _ (c.unless-flow.ensures r) (c.unless-threads.ensures r) (c.unless-mutex.ensures r) (c.unless-device.ensures r)
+    ∙ ap (λ (s : CallsSeen). may_go_on c.args.barriers s.waiting r) c.self.view_is

@@ -1,0 +1,142 @@
+-- Who can move, by a search over the lists.
+use Rattle.std.specs.Prelude.{ℕ, ◌+◌, ◌==◌, Bool, true, false, not, ◌&&◌, if◌then◌else◌, nat_lt, is_some, unwrap_or, Option, Some, None, List, [], ◌∷◌, length, slice_get}
+use Rattle.irq_base.specs.declared.numbers.CpuNo.{CpuNo}
+use Rattle.irq_base.specs.declared.numbers.DevNo.{DevNo}
+use Rattle.board_ready.specs.First.{first_of}
+use Rattle.board_ready.specs.Seen.{ReadySeen}
+use Rattle.board_ready.specs.declared.parts.Barriers.{Barriers}
+use Rattle.board_ready.specs.declared.parts.CurrentCall.{CurrentCall}
+use Rattle.board_ready.specs.declared.parts.LinePart.{LinePart}
+use Rattle.board_ready.specs.declared.parts.Mover.{Mover}
+use Rattle.board_ready.specs.declared.parts.Mover.TheVariants as movers
+use Rattle.board_ready.specs.declared.parts.ReadyThread.{ReadyThread}
+use Rattle.board_ready.specs.declared.parts.WaitFor.{WaitFor}
+use Rattle.board_ready.specs.declared.parts.WaitFor.TheVariants as waits
+
+-- nobody waits on the line, and nothing stands in the way
+abbrev pub idle : LinePart
+idle = record { thread = None; flow = None; taker = None; barriers = record { flow = false; threads = false; mutex = false; device = false } }
+
+-- of two threads the one whose device has the lower number; of one number the first
+abbrev pub lower : ReadyThread → ReadyThread → ReadyThread
+lower a b = if nat_lt b.dev.0 a.dev.0 then b else a
+
+abbrev pub lower_of : Option ReadyThread → Option ReadyThread → Option ReadyThread
+lower_of None b = b
+lower_of (Some a) None = Some a
+lower_of (Some a) (Some b) = Some (lower a b)
+
+-- the thread of the line at place k
+abbrev pub thread_on : ℕ → Option DevNo → Option ReadyThread
+thread_on k None = None
+thread_on k (Some d) = Some (record { line = k; dev = d })
+
+-- the lowest of the lines' threads, the first of them at place k
+abbrev pub lowest_from : ℕ → List LinePart → Option ReadyThread
+lowest_from k [] = None
+lowest_from k (x ∷ xs) = lower_of (thread_on k x.thread) (lowest_from (k + 1) xs)
+
+-- the ready thread whose device has the lowest number
+abbrev pub lowest_thread : List LinePart → Option ReadyThread
+lowest_thread lines = lowest_from 0 lines
+
+-- it is this processor
+abbrev pub is_cpu : ℕ → Option CpuNo → Bool
+is_cpu c None = false
+is_cpu c (Some cpu) = cpu.0 == c
+
+-- the line has its flow on this processor; a take is due of it there
+abbrev pub has_flow : ℕ → Option LinePart → Bool
+has_flow c None = false
+has_flow c (Some x) = is_cpu c x.flow
+
+abbrev pub has_take : ℕ → Option LinePart → Bool
+has_take c None = false
+has_take c (Some x) = is_cpu c x.taker
+
+-- the first line where it has its flow, and the first where a take is due of it
+abbrev pub flow_line : List LinePart → ℕ → Option ℕ
+flow_line lines c = first_of (λ k. has_flow c (slice_get lines k)) (length lines)
+
+abbrev pub take_line : List LinePart → ℕ → Option ℕ
+take_line lines c = first_of (λ k. has_take c (slice_get lines k)) (length lines)
+
+-- flows go before takes
+abbrev pub flow_or_take : Option ℕ → Option ℕ → Option ℕ
+flow_or_take None take = take
+flow_or_take (Some k) take = Some k
+
+-- the line on which a processor moves; processors of 32 and above don't
+abbrev pub cpu_line : List LinePart → ℕ → Option ℕ
+cpu_line lines c = if nat_lt c 32 then flow_or_take (flow_line lines c) (take_line lines c) else None
+
+abbrev pub is_cpu_ready : List LinePart → ℕ → Bool
+is_cpu_ready lines c = is_some (cpu_line lines c)
+
+abbrev pub lowest_cpu : List LinePart → Option ℕ
+lowest_cpu lines = first_of (is_cpu_ready lines) 32
+
+-- what is waited for stands in the way
+abbrev pub is_barred : WaitFor → Barriers → Bool
+is_barred waits.Nothing x = false
+is_barred waits.Flow x = x.flow
+is_barred waits.Threads x = x.threads
+is_barred waits.Mutex x = x.mutex
+is_barred waits.Device x = x.device
+
+-- a call can go on at its line; where there is no such line it can't
+abbrev pub is_open : WaitFor → Option LinePart → Bool
+is_open wait None = false
+is_open wait (Some x) = not (is_barred wait x.barriers)
+
+abbrev pub can_go_on : List LinePart → Option CurrentCall → Bool
+can_go_on lines None = false
+can_go_on lines (Some call) = is_open call.wait (slice_get lines call.line)
+
+-- the current call of the driver at place r
+abbrev pub current_call : List (Option CurrentCall) → ℕ → Option CurrentCall
+current_call drivers r = unwrap_or (slice_get drivers r) None
+
+abbrev pub is_driver_ready : ReadySeen → ℕ → Bool
+is_driver_ready s r = can_go_on s.lines (current_call s.drivers r)
+
+abbrev pub lowest_driver : ReadySeen → Option ℕ
+lowest_driver s = first_of (is_driver_ready s) (length s.drivers)
+
+-- the order: threads, processors, drivers
+abbrev pub cpu_mover : Option ℕ → Option Mover
+cpu_mover None = None
+cpu_mover (Some c) = Some (movers.Cpu (record { 0 = c }))
+
+abbrev pub driver_mover : Option ℕ → Option Mover
+driver_mover None = None
+driver_mover (Some r) = Some (movers.Driver r)
+
+abbrev pub thread_or : Option ReadyThread → Option Mover → Option Mover
+thread_or None m = m
+thread_or (Some t) m = Some (movers.Thread t)
+
+abbrev pub lowest_thread_or_cpu : List LinePart → Option Mover
+lowest_thread_or_cpu lines = thread_or (lowest_thread lines) (cpu_mover (lowest_cpu lines))
+
+abbrev pub or_driver : Option Mover → Option Mover → Option Mover
+or_driver None m = m
+or_driver (Some first) m = Some first
+
+abbrev pub lowest : ReadySeen → Option Mover
+lowest s = or_driver (lowest_thread_or_cpu s.lines) (driver_mover (lowest_driver s))
+
+-- it is this device
+abbrev pub is_device : DevNo → Option DevNo → Bool
+is_device d None = false
+is_device d (Some x) = x.0 == d.0
+
+-- the line's thread is that of this device
+abbrev pub has_thread : DevNo → Option LinePart → Bool
+has_thread d None = false
+has_thread d (Some x) = is_device d x.thread
+
+abbrev pub is_ready : ReadySeen → Mover → Bool
+is_ready s (movers.Thread t) = has_thread t.dev (slice_get s.lines t.line)
+is_ready s (movers.Cpu cpu) = is_cpu_ready s.lines cpu.0
+is_ready s (movers.Driver r) = is_driver_ready s r

@@ -1,0 +1,94 @@
+//! The parts of the two lists, and who moves.
+ghost use Rattle.std.specs.Prelude.{◌≡◌};
+ghost use Rattle.board_ready.specs.Ready.{idle};
+
+use irq_base::{CpuNo, DevNo};
+
+/// What stands in the way of drivers' calls on a line.
+#[derive(Clone, Copy, PartialEq, Eq)]
+pub struct Barriers {
+    /// A flow is in progress.
+    pub flow: bool,
+    /// Some thread is woken or in a run.
+    pub threads: bool,
+    /// The request mutex is held.
+    pub mutex: bool,
+    /// The device that is being freed is woken or in a run.
+    pub device: bool,
+}
+
+/// What a driver's call waits for.
+#[derive(Clone, Copy, PartialEq, Eq)]
+pub enum WaitFor {
+    /// Nothing.
+    Nothing,
+    /// The end of the flow.
+    Flow,
+    /// The rest of all threads.
+    Threads,
+    /// The request mutex.
+    Mutex,
+    /// The rest of the device that is being freed.
+    Device,
+}
+
+/// Who waits on a line, and what stands in the way there.
+#[derive(Clone, Copy, PartialEq, Eq)]
+pub struct LinePart {
+    /// Of the devices whose threads are ready, the one of the lowest number.
+    pub thread: Option<DevNo>,
+    /// The processor of the flow in progress.
+    pub flow: Option<CpuNo>,
+    /// The processor that has a take due.
+    pub taker: Option<CpuNo>,
+    /// What stands in the way.
+    pub barriers: Barriers,
+}
+
+/// The call that a driver is at.
+#[derive(Clone, Copy, PartialEq, Eq)]
+pub struct CurrentCall {
+    /// The place of its line in the list of lines.
+    pub line: usize,
+    /// What it waits for there.
+    pub wait: WaitFor,
+}
+
+/// A thread that is ready.
+#[derive(Clone, Copy, PartialEq, Eq)]
+pub struct ReadyThread {
+    /// The place of its line in the list of lines.
+    pub line: usize,
+    /// Its device.
+    pub dev: DevNo,
+}
+
+/// An actor that can move.
+#[derive(Clone, Copy, PartialEq, Eq)]
+pub enum Mover {
+    /// The thread of a device.
+    Thread(ReadyThread),
+    /// A processor, 0 to 31.
+    Cpu(CpuNo),
+    /// A driver, by its place in the list of drivers.
+    Driver(usize),
+}
+
+impl LinePart {
+    /// The part of a line on which nobody waits and nothing stands in the way.
+    pub fn idle() -> LinePart
+        ensures { result ≡ idle }
+    {
+        LinePart {
+            thread: None,
+            flow: None,
+            taker: None,
+            barriers: Barriers {
+                flow: false,
+                threads: false,
+                mutex: false,
+                device: false,
+            },
+        }
+    }
+}
