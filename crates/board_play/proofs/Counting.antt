@@ -1,5 +1,5 @@
 -- How many of a driver's calls on a line are complete, and what that says of the call that is due.
-use Rattle.std.proofs.Common.{◌≡◌, ℕ, suc, ◌+◌, ◌<◌, ◌≤◌, Bool, true, false, cond, Option, Some, None, List, [], ◌∷◌, ◌++◌, length, drop, filter, reverse, nat_lt, refl, sym, ap, ◌∙◌, arith, length-append, drop_of_length-le}
+use Rattle.std.proofs.Common.{◌≡◌, ℕ, suc, ◌+◌, ◌<◌, ◌≤◌, Bool, true, false, cond, Option, Some, None, List, [], ◌∷◌, ◌++◌, length, drop, filter, reverse, nat_lt, slice_get, refl, sym, ap, ◌∙◌, arith, length-append, drop_of_length-le}
 use Rattle.std.proofs.lemmas.List.{drop-append-le}
 use Rattle.std.proofs.lemmas.Bool.{ltb-true, ltb-false, lt-ltb, le-ltb}
 use Rattle.irq_base.specs.declared.calls.Call.{Call}
@@ -9,6 +9,7 @@ use Rattle.irq_base.specs.declared.numbers.DriverNo.{DriverNo}
 use Rattle.irq_model.specs.Due.{calls_by, entries_by, entries_of_call, due_of, due_call}
 use Rattle.irq_model.specs.Kinds.{is_by_driver}
 use Rattle.irq_laws.specs.Kept.{complete, complete_by}
+use Rattle.irq_laws.proofs.Chosen.{the_same}
 use Rattle.irq_laws.proofs.Progress.{makes_one, same_count, due_at, fresh, entries_more}
 
 -- the calls that are complete, counted
@@ -166,3 +167,23 @@ one_completed def r e past x mine was not =
 
 pub none_complete : (def : LineDef) (r : DriverNo) → completed def r [] ≡ 0
 none_complete def r = is_done_of def r [] ∙ none_done (calls_by r def.calls)
+
+-- ---- which call is due
+
+due_is_kth : (cs : List Call) (es : List Entry) (c : Call) → slice_get cs (done_of cs es) ≡ Some c → (n : ℕ) × (due_of cs es ≡ Some (c, n))
+due_is_kth [] es c at = cc
+due_is_kth (x ∷ cs) es c at = by_test (nat_lt (length es) (entries_of_call x es)) refl (λ h. due_is_kth cs (drop (entries_of_call x es) es) c h)
+  where
+    by_test : (b : Bool) → nat_lt (length es) (entries_of_call x es) ≡ b
+        → (slice_get cs (done_of cs (drop (entries_of_call x es) es)) ≡ Some c → (n : ℕ) × (due_of cs (drop (entries_of_call x es) es) ≡ Some (c, n)))
+        → (n : ℕ) × (due_then cs x es (nat_lt (length es) (entries_of_call x es)) ≡ Some (c, n))
+    by_test true test deeper =
+        let same : x ≡ c = the_same x c (ap (λ (b : Bool). slice_get (x ∷ cs) (done_at cs x es b)) (sym test) ∙ at) in
+        (length es, ap (due_then cs x es) test ∙ ap (λ (y : Call). due_at y (length es)) same)
+    by_test false test deeper =
+        let next : done_at cs x es false ≡ suc (done_of cs (drop (entries_of_call x es) es)) = omega arith in
+        let d = deeper (ap (λ (n : ℕ). slice_get (x ∷ cs) n) (sym next) ∙ (ap (λ (b : Bool). slice_get (x ∷ cs) (done_at cs x es b)) (sym test) ∙ at)) in
+        (d.0, ap (due_then cs x es) test ∙ d.1)
+
+pub kth_is_due : (def : LineDef) (r : DriverNo) (past : List Entry) (c : Call) → slice_get (calls_by r def.calls) (completed def r past) ≡ Some c → (n : ℕ) × (due_call def r past ≡ Some (c, n))
+kth_is_due def r past c at = due_is_kth (calls_by r def.calls) (entries_by r past) c (ap (λ (n : ℕ). slice_get (calls_by r def.calls) n) (sym (is_done_of def r past)) ∙ at)

@@ -74,7 +74,7 @@ zero_suc d c n h = let k = (same_call d c zero (suc n) h).1 in omega (arith, k)
 -- ---- another's move
 
 module _ (calls : List ScriptCall) (lines : List BoardLine) (m : Move) (r : DriverNo) (p : ℕ) where
-  not_own : is_by_driver r m.1 ≡ false → IsUpTo calls lines r p → IsUpTo calls (lines_after m lines) r p
+  pub not_own : is_by_driver r m.1 ≡ false → IsUpTo calls lines r p → IsUpTo calls (lines_after m lines) r p
   not_own other u = record { complete = complete; begun = begun }
     where
       same_done : (x : BoardLine) (b : Bool) → done (record { def = x.def; past = cond b (m.1 ∷ x.past) x.past }) r ≡ done x r
@@ -176,7 +176,7 @@ module _ (calls : List ScriptCall) (lines : List BoardLine) (apart : AreApart (m
           both_ways (same_line y.def.line m.0) (ap (λ (l : LineNo). same_line y.def.line l) (sym its) ∙ same_self_line y.def.line) differs
 
   -- the call goes on
-  goes_on : is_by_driver r m.1 ≡ true → current_from lines r [] calls ≡ Some x → (d : Call) (n : ℕ) → due_call x.def r (m.1 ∷ x.past) ≡ Some (d, suc n) → IsUpTo calls (lines_after m lines) r k.place
+  pub goes_on : is_by_driver r m.1 ≡ true → current_from lines r [] calls ≡ Some x → (d : Call) (n : ℕ) → due_call x.def r (m.1 ∷ x.past) ≡ Some (d, suc n) → IsUpTo calls (lines_after m lines) r k.place
   goes_on own is d n due = record { complete = complete; begun = begun }
     where
       same_done : (y : BoardLine) (j : ℕ) → slice_get lines j ≡ Some y → (b : Bool) → same_line y.def.line m.0 ≡ b → done (record { def = y.def; past = cond b (m.1 ∷ y.past) y.past }) r ≡ done y r
@@ -203,8 +203,22 @@ module _ (calls : List ScriptCall) (lines : List BoardLine) (apart : AreApart (m
           let was = subst (λ (z : BoardLine). due_call z.def r z.past ≡ Some (c, suc o)) (sym s.is) due in
           subst (λ (z : BoardLine). IsSomeAnd (slice_get calls k.place) (IsCallOn z.def.line r)) s.is (here s.line (of_line s.line j s.at (same_line s.line.def.line m.0) refl c o was))
 
+  -- where it doesn't go on, no call has begun
+  none : ((d : Call) (n : ℕ) → due_call x.def r (m.1 ∷ x.past) ≡ Some (d, suc n) → ⊥) → current_from lines r [] calls ≡ Some x
+      → (y : BoardLine) (j : ℕ) → slice_get lines j ≡ Some y → (b : Bool) → same_line y.def.line m.0 ≡ b → (c : Call) (o : ℕ) → due_call y.def r (cond b (m.1 ∷ y.past) y.past) ≡ Some (c, suc o) → ⊥
+  none not is y j at true same c o due = not c o (subst (λ (z : BoardLine). due_call z.def r (m.1 ∷ z.past) ≡ Some (c, suc o)) (sym (is_moved_line y j at same)) due)
+  none not is y j at false differs c o due =
+      let here : x ≡ y = only_x is y j c o at due in
+      both_ways (same_line y.def.line m.0) (subst (λ (z : BoardLine). same_line z.def.line m.0 ≡ true) here moved_is_x) differs
+
+  pub none_begun : ((d : Call) (n : ℕ) → due_call x.def r (m.1 ∷ x.past) ≡ Some (d, suc n) → ⊥) → current_from lines r [] calls ≡ Some x
+      → (j : ℕ) (y : BoardLine) (c : Call) (o : ℕ) → slice_get (lines_after m lines) j ≡ Some y → due_call y.def r y.past ≡ Some (c, suc o) → ⊥
+  none_begun not is j y c o at due =
+      let s = moved_at lines m j y at in
+      none not is s.line j s.at (same_line s.line.def.line m.0) refl c o (subst (λ (z : BoardLine). due_call z.def r z.past ≡ Some (c, suc o)) (sym s.is) due)
+
   -- the call is complete
-  is_complete : is_by_driver r m.1 ≡ true → current_from lines r [] calls ≡ Some x → (z : Call × ℕ) → due_call x.def r x.past ≡ Some z → ((d : Call) (n : ℕ) → due_call x.def r (m.1 ∷ x.past) ≡ Some (d, suc n) → ⊥)
+  pub is_complete : is_by_driver r m.1 ≡ true → current_from lines r [] calls ≡ Some x → (z : Call × ℕ) → due_call x.def r x.past ≡ Some z → ((d : Call) (n : ℕ) → due_call x.def r (m.1 ∷ x.past) ≡ Some (d, suc n) → ⊥)
       → IsUpTo calls (lines_after m lines) r (suc k.place)
   is_complete own is z was not = record { complete = complete; begun = begun }
     where
@@ -223,16 +237,9 @@ module _ (calls : List ScriptCall) (lines : List BoardLine) (apart : AreApart (m
           let s = moved_at lines m j y at in
           subst (λ (z : BoardLine). done z r ≡ calls_on z.def.line r (take (suc k.place) calls)) s.is (counted s.line j s.at (same_line s.line.def.line m.0) refl)
 
-      none : (y : BoardLine) (j : ℕ) → slice_get lines j ≡ Some y → (b : Bool) → same_line y.def.line m.0 ≡ b → (c : Call) (o : ℕ) → due_call y.def r (cond b (m.1 ∷ y.past) y.past) ≡ Some (c, suc o) → ⊥
-      none y j at true same c o due = not c o (subst (λ (z : BoardLine). due_call z.def r (m.1 ∷ z.past) ≡ Some (c, suc o)) (sym (is_moved_line y j at same)) due)
-      none y j at false differs c o due =
-          let here : x ≡ y = only_x is y j c o at due in
-          both_ways (same_line y.def.line m.0) (subst (λ (z : BoardLine). same_line z.def.line m.0 ≡ true) here moved_is_x) differs
-
       begun : (j : ℕ) (y : BoardLine) (c : Call) (o : ℕ) → slice_get (lines_after m lines) j ≡ Some y → due_call y.def r y.past ≡ Some (c, suc o) → IsSomeAnd (slice_get calls (suc k.place)) (IsCallOn y.def.line r)
       begun j y c o at due =
-          let s = moved_at lines m j y at in
-          absurd (none s.line j s.at (same_line s.line.def.line m.0) refl c o (subst (λ (z : BoardLine). due_call z.def r z.past ≡ Some (c, suc o)) (sym s.is) due))
+          absurd (none_begun not is j y c o at due)
 
   own_move : is_by_driver r m.1 ≡ true → current_from lines r [] calls ≡ Some x → (z : Call × ℕ) → due_call x.def r x.past ≡ Some z → (q : ℕ) × IsUpTo calls (lines_after m lines) r q
   own_move own is z was = by_due (due_call x.def r (m.1 ∷ x.past)) refl

@@ -83,3 +83,7 @@ pub calls_fit : (b : BoardSeen) (i : ℕ) (d : LineDef) → slice_get (defs_of b
 calls_fit b i d at r =
     let o = def_of_row b i d at in
     subst (λ (d : LineDef). length (calls_by r d.calls) ≡ calls_on d.line r b.calls) o.is (calls_of_row o.row.line r b.calls)
+
+-- the definition has the calls about its line
+pub has_calls : (b : BoardSeen) (i : ℕ) (d : LineDef) → slice_get (defs_of b) i ≡ Some d → d.calls ≡ map with_driver (filter (λ c. c.line.0 == d.line.0) b.calls)
+has_calls b i d at = let o = def_of_row b i d at in subst (λ (d : LineDef). d.calls ≡ map with_driver (filter (λ c. c.line.0 == d.line.0) b.calls)) o.is refl

@@ -1,0 +1,5 @@
+//! A board of many lines.
+#![tactic(auto)]
+
+pub mod scripts;
+pub mod stepping;
