@@ -1,1 +1,5 @@
-
+pub mod CutLaws
+pub mod LastEntry
+pub mod ScriptLaws
+pub mod AtPlaces
+pub mod Searches

@@ -1,5 +1,9 @@
 //! A board of many lines.
 #![tactic(auto)]
 
+pub mod laws;
+pub mod places;
 pub mod scripts;
 pub mod stepping;
+pub mod system;
+pub mod turns;
