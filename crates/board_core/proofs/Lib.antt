@@ -3,3 +3,4 @@ pub mod LastEntry
 pub mod ScriptLaws
 pub mod AtPlaces
 pub mod Searches
+pub mod TurnLaws

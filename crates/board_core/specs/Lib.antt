@@ -5,3 +5,4 @@ pub mod Log
 pub mod Turns
 pub mod Inside
 pub mod Places
+pub mod Turned

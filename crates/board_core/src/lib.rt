@@ -6,4 +6,5 @@ pub mod places;
 pub mod scripts;
 pub mod stepping;
 pub mod system;
+pub mod turning;
 pub mod turns;

@@ -50,7 +50,7 @@ moved_at (x ∷ xs) m (suc i) y at = let s = moved_at xs m i y at in record { li
 
 -- ---- whose entry it is
 
-by_driver_is : (line : LineNo) (r : DriverNo) (e : Entry) → is_by_driver r e ≡ is_driver r (actor_of line e)
+pub by_driver_is : (line : LineNo) (r : DriverNo) (e : Entry) → is_by_driver r e ≡ is_driver r (actor_of line e)
 by_driver_is line r (entries.ThreadBegin dev) = refl
 by_driver_is line r (entries.ThreadReturn dev served) = refl
 by_driver_is line r (entries.Finish dev kept unmask) = refl
