@@ -4,3 +4,4 @@ pub mod ScriptLaws
 pub mod AtPlaces
 pub mod Searches
 pub mod TurnLaws
+pub mod InSystem

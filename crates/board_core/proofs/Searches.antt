@@ -1,5 +1,5 @@
 -- The first line that passes a test, found place by place.
-use Rattle.std.proofs.Common.{◌≡◌, ℕ, zero, suc, ◌+◌, ◌<◌, ◌≤◌, Bool, true, false, not, cond, is_some, IsTrue, ◌↔◌, Option, Some, None, List, [], ◌∷◌, map, length, reverse, get_or, drop, slice_get, refl, sym, ap, ◌∙◌, subst, arith, add-one}
+use Rattle.std.proofs.Common.{◌≡◌, ℕ, zero, suc, ◌+◌, ◌<◌, ◌≤◌, ◌==◌, ◌||◌, Bool, true, false, not, cond, is_some, IsTrue, ◌↔◌, Option, Some, None, List, [], ◌∷◌, map, length, reverse, get_or, drop, slice_get, refl, sym, ap, ◌∙◌, subst, arith, add-one}
 use Rattle.std.specs.Option.{option_map}
 use Rattle.std.proofs.lemmas.Option.{slice_get-map, slice_get_read}
 use Rattle.std.proofs.Math.ListN.{length-map}
@@ -7,6 +7,7 @@ use Rattle.irq_base.specs.declared.entries.Actor.TheVariants as actors
 use Rattle.irq_base.specs.declared.entries.Entry.{Entry}
 use Rattle.irq_base.specs.declared.lines.LineDef.{LineDef}
 use Rattle.irq_base.specs.declared.numbers.CpuNo.{CpuNo}
+use Rattle.irq_base.specs.declared.numbers.DriverNo.{DriverNo}
 use Rattle.irq_base.specs.declared.numbers.LineNo.{LineNo}
 use Rattle.irq_line.specs.Queries.{is_some_take, IsPresented}
 use Rattle.irq_line.specs.Seen.{LineSeen}
@@ -16,9 +17,12 @@ use Rattle.irq_model.specs.Rounds.{flow, is_cpu, at_work}
 use Rattle.irq_model.specs.Signal.{signals, target}
 use Rattle.irq_model.specs.Waiting.{is_soft}
 use Rattle.irq_laws.proofs.Chosen.{the_same}
+use Rattle.irq_steps.proofs.Same.{driver_from_same}
+use Rattle.board_def.specs.Rules.{has_driver}
 use Rattle.board_play.specs.Lines.{BoardLine, find_line}
 use Rattle.board_play.specs.Order.{flow_line, due_line}
 use Rattle.board_core.specs.Places.{IsPlace}
+use Rattle.board_core.specs.Scripts.{ScriptSeen}
 use Rattle.board_core.specs.Seen.{board_line, board_lines}
 
 abbrev pub first_that : (BoardLine → Bool) → List BoardLine → Option BoardLine
@@ -50,16 +54,17 @@ due_is (x ∷ xs) c = ap (λ (o : Option BoardLine). cond (is_some (next_past x.
 abbrev pub IsPassed : (BoardLine → Bool) → List BoardLine → ℕ → Type 0
 IsPassed p lines i = first_that p lines ≡ first_that p (drop i lines)
 
-dropped : (lines : List BoardLine) (i : ℕ) (x : BoardLine) → slice_get lines i ≡ Some x → drop i lines ≡ x ∷ drop (suc i) lines
-dropped [] i x at = cc
-dropped (y ∷ ys) zero x at = ap (λ (z : BoardLine). z ∷ ys) (the_same y x at)
-dropped (y ∷ ys) (suc i) x at = dropped ys i x at
+module _ {A : Type 0} where
+  dropped : (xs : List A) (i : ℕ) (x : A) → slice_get xs i ≡ Some x → drop i xs ≡ x ∷ drop (suc i) xs
+  dropped [] i x at = cc
+  dropped (y ∷ ys) zero x at = ap (λ (z : A). z ∷ ys) (the_same y x at)
+  dropped (y ∷ ys) (suc i) x at = dropped ys i x at
 
-all_dropped : (lines : List BoardLine) (i : ℕ) → length lines ≤ i → drop i lines ≡ []
-all_dropped [] zero end = refl
-all_dropped [] (suc i) end = refl
-all_dropped (y ∷ ys) zero end = absurd (omega (arith, end))
-all_dropped (y ∷ ys) (suc i) end = all_dropped ys i (omega (arith, end))
+  all_dropped : (xs : List A) (i : ℕ) → length xs ≤ i → drop i xs ≡ []
+  all_dropped [] zero end = refl
+  all_dropped [] (suc i) end = refl
+  all_dropped (y ∷ ys) zero end = absurd (omega (arith, end))
+  all_dropped (y ∷ ys) (suc i) end = all_dropped ys i (omega (arith, end))
 
 first_dropped : (p : BoardLine → Bool) (lines : List BoardLine) (i : ℕ) (x : BoardLine) → slice_get lines i ≡ Some x → IsPassed p lines i → first_that p lines ≡ cond (p x) (Some x) (first_that p (drop (suc i) lines))
 first_dropped p lines i x at passed = passed ∙ ap (λ (xs : List BoardLine). first_that p xs) (dropped lines i x at)
@@ -129,3 +134,24 @@ pub due_test : {X : Type 0} (f : X → LineSeen) (xs : List X) (c : CpuNo) (i : 
 due_test f xs c i x b within at none is =
     due_is_take (f x).def (reverse (f x).entries) c (no_flow_at (board_lines (map f xs)) c none i (board_line (f x)) (stands f xs (due_of_cpu c) i x within at))
     ∙ same_truth (is_some_take (next_past (f x).def (reverse (f x).entries) (actors.Cpu c))) b is.1 is.0
+
+-- ---- drivers
+
+module _ (scripts : List ScriptSeen) (j : ℕ) (s : ScriptSeen) (r : DriverNo) (within : j < length scripts) (at : s ≡ get_or scripts j s) where
+  driver_stands : slice_get (map (λ (s : ScriptSeen). s.driver) scripts) j ≡ Some s.driver
+  driver_stands = slice_get-map (λ (s : ScriptSeen). s.driver) scripts j ∙ ap (option_map (λ (s : ScriptSeen). s.driver)) (slice_get_read scripts (length scripts) j s refl within at)
+
+  pub driver_here : (s.driver.0 == r.0) ≡ true → slice_get (map (λ (s : ScriptSeen). s.driver) scripts) j ≡ Some r
+  driver_here same = driver_stands ∙ ap (λ (d : DriverNo). Some d) (driver_from_same s.driver r same)
+
+  pub driver_not_here : (s.driver.0 == r.0) ≡ false → has_driver (map (λ (s : ScriptSeen). s.driver) scripts) r ≡ has_driver (drop j (map (λ (s : ScriptSeen). s.driver) scripts)) r
+      → has_driver (map (λ (s : ScriptSeen). s.driver) scripts) r ≡ has_driver (drop (j + 1) (map (λ (s : ScriptSeen). s.driver) scripts)) r
+  driver_not_here differs passed =
+      let drivers : List DriverNo = map (λ (s : ScriptSeen). s.driver) scripts in
+      passed ∙ (ap (λ (rs : List DriverNo). has_driver rs r) (dropped drivers j s.driver driver_stands)
+      ∙ (ap (λ (b : Bool). b || has_driver (drop (suc j) drivers) r) differs ∙ ap (λ (n : ℕ). has_driver (drop n drivers) r) (sym (add-one j))))
+
+pub no_driver_there : (scripts : List ScriptSeen) (j : ℕ) (r : DriverNo) → length scripts ≤ j → has_driver (map (λ (s : ScriptSeen). s.driver) scripts) r ≡ has_driver (drop j (map (λ (s : ScriptSeen). s.driver) scripts)) r
+    → has_driver (map (λ (s : ScriptSeen). s.driver) scripts) r ≡ false
+no_driver_there scripts j r end passed =
+    passed ∙ ap (λ (rs : List DriverNo). has_driver rs r) (all_dropped (map (λ (s : ScriptSeen). s.driver) scripts) j (let l = length-map scripts (λ (s : ScriptSeen). s.driver) in omega (arith, l, end)))

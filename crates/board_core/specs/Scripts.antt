@@ -11,6 +11,7 @@ use Rattle.irq_base.specs.declared.numbers.DriverNo.{DriverNo}
 use Rattle.irq_base.specs.declared.numbers.LineNo.{LineNo}
 use Rattle.irq_model.specs.Due.{due_call}
 use Rattle.irq_model.specs.Kinds.{same_line, same_driver}
+use Rattle.board_def.specs.Rules.{has_driver}
 use Rattle.board_def.specs.declared.rows.ScriptCall.{ScriptCall}
 use Rattle.board_play.specs.Kept.{IsUpTo}
 use Rattle.board_play.specs.Lines.{BoardLine}
@@ -65,3 +66,12 @@ pub record IsScript (calls : List ScriptCall) (lines : List BoardLine) (s : Scri
   pub places : (i : ℕ) (x : Step) → slice_get s.steps i ≡ Some x → IsSomeAnd (slice_get lines x.place) (λ y. y.def.line ≡ x.call.line)
   pub up_to : IsUpTo (calls_of s.steps) lines s.driver s.at
   pub due : (x : Step) (y : BoardLine) → slice_get s.steps s.at ≡ Some x → slice_get lines x.place ≡ Some y → due_call y.def s.driver y.past ≡ Some (x.call.call, s.made)
+
+abbrev pub place_of : Option Step → Option ℕ
+place_of None = None
+place_of (Some step) = Some step.place
+
+-- where the driver stands among these; none where it doesn't
+abbrev pub IsPlaceOf : List DriverNo → DriverNo → Option ℕ → Type 0
+IsPlaceOf drivers r None = has_driver drivers r ≡ false
+IsPlaceOf drivers r (Some j) = slice_get drivers j ≡ Some r

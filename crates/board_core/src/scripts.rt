@@ -1,6 +1,6 @@
 //! The drivers' scripts, cut by driver.
-ghost use Rattle.std.specs.Prelude.{◌≡◌, false, ◌<◌, ◌≤◌, Some, [], ◌∷◌, ◌++◌, length, slice_get, slice_set, OnOk};
-ghost use Rattle.board_core.specs.Scripts.{advanced, completes, is_not_there};
+ghost use Rattle.std.specs.Prelude.{◌≡◌, false, ◌<◌, ◌≤◌, Some, [], ◌∷◌, ◌++◌, length, map, slice_get, slice_set, OnOk};
+ghost use Rattle.board_core.specs.Scripts.{advanced, completes, is_not_there, place_of, IsPlaceOf};
 
 use board_def::ScriptCall;
 use irq_base::{Call, DriverNo, Entry, NoMemory, UnlinkAnswer};
@@ -68,6 +68,16 @@ impl Script {
         self.steps.get(self.at).copied()
     }
 
+    /// The place of the current call's line; none where all calls are complete.
+    pub fn place(&self) -> Option<usize>
+        ensures { result ≡ place_of (slice_get self.now.steps self.now.at) }
+    {
+        match self.current() {
+            Some(step) => Some(step.place),
+            None => None,
+        }
+    }
+
     /// How many entries of the current call are there, at most two.
     pub fn made(&self) -> u32
         ensures { result ≡ self.now.made }
@@ -121,4 +131,16 @@ fn is_not_there(entry: &Entry) -> bool
         } => true,
         _ => false,
     }
+}
+
+/// The place of the driver's script; none where the driver has none.
+pub(crate) fn script_of(scripts: &[Script], driver: DriverNo) -> Option<usize>
+    ensures { IsPlaceOf (map (λ s. s.driver) scripts.now) driver result }
+{
+    for j in 0..scripts.len() {
+        if scripts[j].driver() == driver {
+            return Some(j);
+        }
+    }
+    None
 }

@@ -1,12 +1,19 @@
 //! The lines of a board, and their moves.
-ghost use Rattle.std.specs.Prelude.{◌≡◌};
+ghost use Rattle.std.specs.Prelude.{◌≡◌, None};
+ghost use Rattle.irq_base.specs.declared.entries.Actor.TheVariants as actors;
+ghost use Rattle.board_play.specs.Order.{line_for};
+ghost use Rattle.board_core.specs.Places.{IsPlace};
+ghost use Rattle.board_core.specs.Seen.{board_lines};
+ghost use Rattle.board_core.specs.Turned.{IsScriptOf};
 ghost use Rattle.board_core.specs.Turns.{Turns};
 
-use crate::scripts::Script;
+use crate::places::{place_of_flow, place_of_line, place_of_take, step_place};
+use crate::scripts::{Script, script_of};
+use crate::turning::{advance, turn_of};
 use crate::turns::Turn;
 use board_def::{Board, Layout};
 use callbacks::{Callbacks, Handler};
-use irq_base::Actor;
+use irq_base::{Actor, CpuNo, DriverNo};
 use irq_line::IrqLine;
 use std::marker::Model;
 
@@ -46,5 +53,68 @@ impl<'b, L: IrqLine> System<'b, L> {
         ensures { result.now ≡ self.now.layout }
     {
         &self.layout
+    }
+
+    /// One step of the actor on its line, if it can move. Where the entry ends a run of a handler, that handler is called.
+    pub fn turn<H: Handler>(&mut self, actor: Actor, handlers: &Callbacks<H>) -> Turn
+        ensures { Turns self.old actor result self.new }
+    {
+        match actor {
+            Actor::Thread(line, _) => {
+                let place = place_of_line(&self.lines, line);
+                self.turn_at(place, None, actor, handlers)
+            }
+            Actor::Cpu(cpu) => {
+                let place = self.place_of_cpu(cpu);
+                self.turn_at(place, None, actor, handlers)
+            }
+            Actor::Driver(driver) => self.turn_driver(driver, handlers),
+        }
+    }
+
+    /// The place of the line on which the processor may step.
+    fn place_of_cpu(&self, cpu: CpuNo) -> Option<usize>
+        ensures { IsPlace (board_lines self.now.lines) result (line_for self.now.board (board_lines self.now.lines) (actors.Cpu cpu)) }
+    {
+        let place = place_of_flow(&self.lines, cpu);
+        if place.is_some() {
+            return place;
+        }
+        place_of_take(&self.lines, cpu)
+    }
+
+    /// A step of the driver on the line of its current call.
+    fn turn_driver<H: Handler>(&mut self, driver: DriverNo, handlers: &Callbacks<H>) -> Turn
+        ensures { Turns self.old (actors.Driver driver) result self.new }
+    {
+        self.board.is_board();
+        let Some(j) = script_of(&self.scripts, driver) else {
+            return Turn::NotYet;
+        };
+        let place = self.scripts[j].place();
+        self.turn_at(place, Some(j), Actor::Driver(driver), handlers)
+    }
+
+    /// A step of the actor on the line at the place, which is its own; `script`: the place of its script, if it is a
+    /// driver.
+    fn turn_at<H: Handler>(
+        &mut self,
+        place: Option<usize>,
+        script: Option<usize>,
+        actor: Actor,
+        handlers: &Callbacks<H>,
+    ) -> Turn
+        requires place { IsPlace (board_lines self.old.lines) place (line_for self.old.board (board_lines self.old.lines) actor) }
+        requires script { IsScriptOf self.old.board.drivers actor script }
+        ensures { Turns self.old actor result self.new }
+    {
+        self.board.is_board();
+        let Some(k) = place else {
+            return Turn::NotYet;
+        };
+        let line = self.lines[k].definition().line;
+        let stepped = step_place(&mut self.lines, &mut self.order, k, actor, handlers);
+        advance(&mut self.scripts, script, &stepped);
+        turn_of(line, stepped)
     }
 }
