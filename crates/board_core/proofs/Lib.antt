@@ -5,3 +5,4 @@ pub mod AtPlaces
 pub mod Searches
 pub mod TurnLaws
 pub mod InSystem
+pub mod OfDriver

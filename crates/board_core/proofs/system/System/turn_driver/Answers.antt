@@ -1,20 +1,22 @@
-use Rattle.std.proofs.Common.{rules, ◌≡◌, None, ℕ, ◌+◌, ◌-◌, ◌*◌, ◌<◌, ◌≤◌, length, ◌/◌, ◌%◌, Bool, true, false, nat_eq, nat_lt, List, [], ◌∷◌, ◌++◌, slice_index_or, slice_set, bit_and, bit_or, Fits, w8, w32, w64, Bor, MutBor}
-use Rattle.irq_base.specs.declared.entries.Actor.TheVariants as actors
-use Rattle.board_play.specs.Order.{line_for}
-use Rattle.board_core.specs.Places.{IsPlace}
-use Rattle.board_core.specs.Seen.{board_lines}
-use Rattle.board_core.specs.Turned.{IsScriptOf}
-use Rattle.board_core.specs.Turns.{Turns}
+use Rattle.std.proofs.Common.{◌<◌, map, length, refl, sym, ap, subst, ◌∙◌}
+use Rattle.board_core.proofs.OfDriver.{undeclared_rests, within_scripts, driver_place}
 use Rattle.board_core.proofs.system.System.turn_driver.Goals as goal
 
--- src/system.rt:92:13
 pub returns-in_default : goal.returns-in_default
-returns-in_default g c = ?
+returns-in_default g c =
+    let s = c.self.inside in
+    (undeclared_rests (map g.L.IrqLine.seen s.lines.items) s.board.now c.is_board.ensures.board s.layout s.order.items s.scripts.items s.actors.items c.self.invariant c.args.self.now (sym c.self.view_is) c.args.driver
+    c.deref.result.now c.deref.ensures.value c.script_of.result c.script_of.ensures c.in_default.is, refl)
 
--- src/system.rt:94:21
 pub index-requires : goal.index-requires
-index-requires g c = ?
+index-requires g c =
+    let s = c.self.inside in
+    subst (λ n. c.in-Some.j < n) (ap length (sym c.deref.ensures.value) ∙ c.deref.ensures.len)
+    (within_scripts (map g.L.IrqLine.seen s.lines.items) s.board.now c.is_board.ensures.board s.layout s.order.items s.scripts.items s.actors.items c.self.invariant c.args.self.now (sym c.self.view_is) c.args.driver
+    c.deref.result.now c.deref.ensures.value c.script_of.result c.script_of.ensures c.in-Some.j c.in-Some.is)
 
--- src/system.rt:95:9
 pub turn_at-requires-clause-place : goal.turn_at-requires-clause-place
-turn_at-requires-clause-place g c = ?
+turn_at-requires-clause-place g c =
+    let s = c.self.inside in
+    driver_place (map g.L.IrqLine.seen s.lines.items) s.board.now c.is_board.ensures.board s.layout s.order.items s.scripts.items s.actors.items c.self.invariant c.args.self.now (sym c.self.view_is) c.args.driver
+    c.deref.result.now c.deref.ensures.value c.script_of.result c.script_of.ensures c.in-Some.j c.in-Some.is c.index.result.now c.index.ensures c.place-place.result c.place-place.ensures
