@@ -6,3 +6,4 @@ pub mod Searches
 pub mod TurnLaws
 pub mod InSystem
 pub mod OfDriver
+pub mod Underway

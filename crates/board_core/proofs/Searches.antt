@@ -55,12 +55,12 @@ abbrev pub IsPassed : (BoardLine → Bool) → List BoardLine → ℕ → Type 0
 IsPassed p lines i = first_that p lines ≡ first_that p (drop i lines)
 
 module _ {A : Type 0} where
-  dropped : (xs : List A) (i : ℕ) (x : A) → slice_get xs i ≡ Some x → drop i xs ≡ x ∷ drop (suc i) xs
+  pub dropped : (xs : List A) (i : ℕ) (x : A) → slice_get xs i ≡ Some x → drop i xs ≡ x ∷ drop (suc i) xs
   dropped [] i x at = cc
   dropped (y ∷ ys) zero x at = ap (λ (z : A). z ∷ ys) (the_same y x at)
   dropped (y ∷ ys) (suc i) x at = dropped ys i x at
 
-  all_dropped : (xs : List A) (i : ℕ) → length xs ≤ i → drop i xs ≡ []
+  pub all_dropped : (xs : List A) (i : ℕ) → length xs ≤ i → drop i xs ≡ []
   all_dropped [] zero end = refl
   all_dropped [] (suc i) end = refl
   all_dropped (y ∷ ys) zero end = absurd (omega (arith, end))

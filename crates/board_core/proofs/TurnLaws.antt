@@ -38,7 +38,7 @@ use Rattle.board_core.specs.Scripts.{ScriptSeen, completes, advanced_by, advance
 use Rattle.board_core.specs.Seen.{SystemSeen, board_line, board_lines}
 use Rattle.board_core.specs.Stepping.{Adds}
 use Rattle.board_core.specs.Turned.{IsScriptOf, script_after, scripts_after, turn_of}
-use Rattle.board_core.specs.Turns.{Moves, IsFullFor, Turns}
+use Rattle.board_core.specs.Turns.{move_of, Moves, IsFullFor, Turns}
 use Rattle.board_core.specs.declared.scripts.Step.{Step}
 use Rattle.board_core.proofs.ScriptLaws.{HaveCalls, line_of_step, script_line, other_script, own_script}
 
@@ -259,7 +259,7 @@ module _ (board : BoardSeen) (isb : IsBoard board) (layout : List Placement) (li
   sound_after y sound i z at = elim (set_cases lines k i y z at) [ inl h ↦ subst IsSound h.1 sound | inr h ↦ is.sound i z h.1 ]
 
   moved : (e : Entry) (new : List LineSeen) (longer : List ℕ) → StepsAt lines order k a e new longer → (line : LineNo) → IsSomeAnd (slice_get lines k) (λ x. line ≡ x.def.line)
-      → IsSystem board new (scripts_after script (Ok (Some e)) scripts) acts × Moves (seen_of board layout lines order) a (line, e) (seen_of board layout new longer)
+      → IsSystem board new (scripts_after script (Ok (Some e)) scripts) acts × Moves (seen_of board layout lines order) (move_of (seen_of board layout lines order) a) (line, e) (seen_of board layout new longer)
   moved e new longer s line of_line =
       let x = s.before in
       let y = s.after in
@@ -281,9 +281,9 @@ module _ (board : BoardSeen) (isb : IsBoard board) (layout : List Placement) (li
         each = λ i t at. subst (λ (ls : List BoardLine). IsScript board.calls ls t) (sym after) (each_after x e s.at s.adds.due script of i t at);
         all = is.all;
       },
-      subst (λ (n : Move). Moves (seen_of board layout lines order) a n (seen_of board layout new longer)) same
+      subst (λ (n : Move). Moves (seen_of board layout lines order) (move_of (seen_of board layout lines order) a) n (seen_of board layout new longer)) same
       (record {
-        due = due;
+        is = due;
         room = subst (λ (o : Option BoardLine). IsSomeAnd o (λ x. length x.past < board.log)) (sym (found_is x s.at)) room;
         board = refl;
         layout = refl;
@@ -322,12 +322,12 @@ module _ (board : BoardSeen) (isb : IsBoard board) (layout : List Placement) (li
       (full_for x s.0.at (next x.def x.entries a) refl s.0.is_full.due line its len told limit, same_seen new longer s.1 s.2))
     where
       full_for : (x : LineSeen) → slice_get lines k ≡ Some x → (o : Option Entry) → next x.def x.entries a ≡ o → IsSome (next x.def x.entries a) → (line : LineNo) → line ≡ x.def.line → (len : ℕ) → len ≡ length x.entries → length x.entries ≡ x.def.log
-          → IsFullFor (seen_of board layout lines order) a line len
+          → IsFullFor (seen_of board layout lines order) (move_of (seen_of board layout lines order) a) line len
       full_for x at None due some line its len told limit = absurd (not_some (next x.def x.entries a) due some)
       full_for x at (Some e) due some line its len told limit =
           record {
             move = (x.def.line, e);
-            due = move_is x at (Some e) due;
+            is = move_is x at (Some e) due;
             of_line = sym its;
             length = subst (λ (o : Option BoardLine). IsSomeAnd o (λ x. length x.past ≡ len)) (sym (ap (λ (l : LineNo). find_line (board_lines lines) l) its ∙ found_is x at)) (length-reverse x.entries ∙ sym told);
             log = told ∙ (limit ∙ log_is x at);

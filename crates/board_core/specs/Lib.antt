@@ -6,3 +6,4 @@ pub mod Turns
 pub mod Inside
 pub mod Places
 pub mod Turned
+pub mod Playing

@@ -1,16 +1,18 @@
 //! The lines of a board, and their moves.
-ghost use Rattle.std.specs.Prelude.{◌≡◌, None};
+ghost use Rattle.std.specs.Prelude.{◌≡◌, None, List, [], length, slice_get};
+ghost use Rattle.irq_base.specs.declared.entries.Actor.{Actor};
 ghost use Rattle.irq_base.specs.declared.entries.Actor.TheVariants as actors;
-ghost use Rattle.board_play.specs.Order.{line_for};
+ghost use Rattle.board_play.specs.Order.{line_for, actors_of};
 ghost use Rattle.board_core.specs.Places.{IsPlace};
+ghost use Rattle.board_core.specs.Playing.{IsFresh, IsUnderway, IsPlay, Ends};
 ghost use Rattle.board_core.specs.Seen.{board_lines};
 ghost use Rattle.board_core.specs.Turned.{IsScriptOf};
-ghost use Rattle.board_core.specs.Turns.{Turns};
+ghost use Rattle.board_core.specs.Turns.{Turns, TurnsBy, lowest_move};
 
 use crate::places::{place_of_flow, place_of_line, place_of_take, step_place};
 use crate::scripts::{Script, script_of};
 use crate::turning::{advance, turn_of};
-use crate::turns::Turn;
+use crate::turns::{PlayEnd, Turn};
 use board_def::{Board, Layout};
 use callbacks::{Callbacks, Handler};
 use irq_base::{Actor, CpuNo, DriverNo};
@@ -30,7 +32,8 @@ pub struct System<'b, L: IrqLine> {
 
 impl<'b, L: IrqLine> Model for System<'b, L> {
     ghost use Rattle.std.specs.Prelude.{map};
-    ghost use Rattle.board_core.specs.Seen.{SystemSeen};
+    ghost use Rattle.board_core.specs.Playing.{IsFresh, IsUnderway, IsPlay, Ends};
+ghost use Rattle.board_core.specs.Seen.{SystemSeen};
     ghost use Rattle.board_core.specs.Inside.{seen_of, IsSystem};
 
     ghost Value = { SystemSeen };
@@ -116,5 +119,70 @@ impl<'b, L: IrqLine> System<'b, L> {
         let stepped = step_place(&mut self.lines, &mut self.order, k, actor, handlers);
         advance(&mut self.scripts, script, &stepped);
         turn_of(line, stepped)
+    }
+
+    /// How many actors the board has.
+    fn actors_len(&self) -> usize
+        ensures { result ≡ length (actors_of self.now.board) }
+    {
+        self.actors.len()
+    }
+
+    /// The actor of that number in the order of the board's, counted from 0.
+    fn actor(&self, i: usize) -> Option<Actor>
+        ensures { result ≡ slice_get (actors_of self.now.board) i }
+    {
+        self.actors.get(i).copied()
+    }
+
+    /// A step of the lowest actor that can move.
+    fn turn_lowest<H: Handler>(&mut self, handlers: &Callbacks<H>) -> Turn
+        ensures { TurnsBy self.old (lowest_move self.old) result self.new }
+    {
+        for i in 0..self.actors_len() {
+            let Some(actor) = self.actor(i) else {
+                unreachable!();
+            };
+            match self.turn(actor, handlers) {
+                Turn::NotYet => {}
+                turn => return turn,
+            }
+        }
+        Turn::NotYet
+    }
+
+    /// Steps of the lowest actor that can move, until none can.
+    pub fn settle<H: Handler>(&mut self, handlers: &Callbacks<H>) -> PlayEnd
+        ensures board { self.new.board ≡ self.old.board }
+        ensures layout { self.new.layout ≡ self.old.layout }
+        ensures end { Ends self.new result }
+        ensures play { (picks : List Actor) → IsUnderway self.old picks [] → IsPlay self.new picks result }
+    {
+        loop {
+            match self.turn_lowest(handlers) {
+                Turn::Moved { .. } => {}
+                Turn::NotYet => return PlayEnd::Done,
+                Turn::Full { line, len } => return PlayEnd::Full { line, len },
+                Turn::NoMemory => return PlayEnd::NoMemory,
+            }
+        }
+    }
+
+    /// Plays the board from its beginning to its end: the picks in turn, where one that can't move is passed over, and
+    /// then always the lowest actor that can move.
+    pub fn play<H: Handler>(&mut self, picks: &[Actor], handlers: &Callbacks<H>) -> PlayEnd
+        requires { IsFresh self.old }
+        ensures board { self.new.board ≡ self.old.board }
+        ensures layout { self.new.layout ≡ self.old.layout }
+        ensures play { IsPlay self.new picks.now result }
+    {
+        for pick in picks {
+            match self.turn(*pick, handlers) {
+                Turn::Moved { .. } | Turn::NotYet => {}
+                Turn::Full { line, len } => return PlayEnd::Full { line, len },
+                Turn::NoMemory => return PlayEnd::NoMemory,
+            }
+        }
+        self.settle(handlers)
     }
 }

@@ -14,3 +14,15 @@ pub enum Turn {
     /// Memory was wanted and refused, and nothing changed.
     NoMemory,
 }
+
+/// How a play ended.
+#[derive(Clone, Copy, PartialEq, Eq)]
+pub enum PlayEnd {
+    /// No actor can move any more.
+    Done,
+    /// The actor whose turn it is could move, but its line's history has the log limit's length. `len`: that many
+    /// entries.
+    Full { line: LineNo, len: u32 },
+    /// Memory was wanted and refused.
+    NoMemory,
+}

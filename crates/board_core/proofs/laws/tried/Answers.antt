@@ -1,5 +1,5 @@
 use Rattle.std.proofs.Common.{refl}
-use Rattle.board_core.proofs.TurnLaws.{turned}
+use Rattle.board_core.proofs.Underway.{room_falls}
 use Rattle.board_core.proofs.laws.tried.Goals as goal
 
 pub returns : goal.returns
