@@ -238,3 +238,12 @@ room_falls old new line e turn same t =
     subst (λ (n : ℕ). n < room old.board.log (board_lines old.lines))
     (ap (λ (ls : List BoardLine). room old.board.log ls) (sym moves.lines) ∙ ap (λ (b : BoardSeen). room b.log (board_lines new.lines)) (sym moves.board))
     (room_less old.board.log (line, e) (board_lines old.lines) moves.room)
+
+pub is_lowest_of : (before s new : SystemSeen) (i : ℕ) (a : Actor) (turn : Turn) → s ≡ before → slice_get (actors_of s.board) i ≡ Some a → lowest_move before ≡ first_from before i → (turn ≡ turns.NotYet → ⊥) → Turns s a turn new → TurnsBy before (lowest_move before) turn new
+is_lowest_of before s new i a turn same at passed moved t =
+    is_lowest before new i a turn (subst (λ (x : SystemSeen). slice_get (actors_of x.board) i ≡ Some a) same at) passed moved (subst (λ (x : SystemSeen). Turns x a turn new) same t)
+
+pub not_lowest_of : (before s new : SystemSeen) (i : ℕ) (a : Actor) (turn : Turn) → s ≡ before → slice_get (actors_of s.board) i ≡ Some a → lowest_move before ≡ first_from before i → turn ≡ turns.NotYet → Turns s a turn new
+    → (new ≡ before) × (lowest_move before ≡ first_from before (i + 1))
+not_lowest_of before s new i a turn same at passed still t =
+    not_lowest before new i a turn (subst (λ (x : SystemSeen). slice_get (actors_of x.board) i ≡ Some a) same at) passed still (subst (λ (x : SystemSeen). Turns x a turn new) same t)
