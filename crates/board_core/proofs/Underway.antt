@@ -71,24 +71,24 @@ passed_over : (s : SystemSeen) (pick : Actor) (rest : List Actor) → move_of s 
 passed_over s pick rest due = ap (λ (o : Option Move). or_choice (with_picks rest o) (choice s.board (board_lines s.lines) rest)) due
 
 -- the pick of a place comes next
-at_pick : (s : SystemSeen) (picks : List Actor) (i : ℕ) (pick : Actor) → i < length picks → pick ≡ get_or picks i pick → IsUnderway s picks (drop i picks) → IsUnderway s picks (pick ∷ drop (i + 1) picks)
-at_pick s picks i pick within is u =
-    let next : drop i picks ≡ pick ∷ drop (i + 1) picks = drop-cons picks i pick within ∙ ap (λ (x : Actor). x ∷ drop (suc i) picks) (sym is) ∙ ap (λ (n : ℕ). pick ∷ drop n picks) (sym (add-one i)) in
+at_pick : (s : SystemSeen) (picks : List Actor) (i : ℕ) (d : Actor) → i < length picks → IsUnderway s picks (drop i picks) → IsUnderway s picks (get_or picks i d ∷ drop (i + 1) picks)
+at_pick s picks i d within u =
+    let next : drop i picks ≡ get_or picks i d ∷ drop (i + 1) picks = drop-cons picks i d within ∙ ap (λ (n : ℕ). get_or picks i d ∷ drop n picks) (sym (add-one i)) in
     subst (λ (rest : List Actor). IsUnderway s picks rest) next u
 
-pub pick_moved : (old new : SystemSeen) (picks : List Actor) (i : ℕ) (pick : Actor) (line : LineNo) (e : Entry) (turn : Turn) → i < length picks → pick ≡ get_or picks i pick → IsUnderway old picks (drop i picks) → turn ≡ turns.Moved line e → Turns old pick turn new
+pub pick_moved : (old new : SystemSeen) (picks : List Actor) (i : ℕ) (d : Actor) (line : LineNo) (e : Entry) (turn : Turn) → i < length picks → IsUnderway old picks (drop i picks) → turn ≡ turns.Moved line e → Turns old (get_or picks i d) turn new
     → IsUnderway new picks (drop (i + 1) picks)
-pick_moved old new picks i pick line e turn within is u same t =
-    let moves : Moves old (move_of old pick) (line, e) new = subst (λ (x : Turn). Turns old pick x new) same t in
-    more old new (move_of old pick) (line, e) picks (pick ∷ drop (i + 1) picks) (drop (i + 1) picks) (at_pick old picks i pick within is u) moves (with_move old pick (drop (i + 1) picks) (line, e) moves.is)
+pick_moved old new picks i d line e turn within u same t =
+    let moves : Moves old (move_of old (get_or picks i d)) (line, e) new = subst (λ (x : Turn). Turns old (get_or picks i d) x new) same t in
+    more old new (move_of old (get_or picks i d)) (line, e) picks (get_or picks i d ∷ drop (i + 1) picks) (drop (i + 1) picks) (at_pick old picks i d within u) moves (with_move old (get_or picks i d) (drop (i + 1) picks) (line, e) moves.is)
 
-pub pick_passed : (old new : SystemSeen) (picks : List Actor) (i : ℕ) (pick : Actor) (turn : Turn) → i < length picks → pick ≡ get_or picks i pick → IsUnderway old picks (drop i picks) → turn ≡ turns.NotYet → Turns old pick turn new
+pub pick_passed : (old new : SystemSeen) (picks : List Actor) (i : ℕ) (d : Actor) (turn : Turn) → i < length picks → IsUnderway old picks (drop i picks) → turn ≡ turns.NotYet → Turns old (get_or picks i d) turn new
     → IsUnderway new picks (drop (i + 1) picks)
-pick_passed old new picks i pick turn within is u same t =
-    let rests = subst (λ (x : Turn). Turns old pick x new) same t in
-    let v = at_pick old picks i pick within is u in
+pick_passed old new picks i d turn within u same t =
+    let rests = subst (λ (x : Turn). Turns old (get_or picks i d) x new) same t in
+    let v = at_pick old picks i d within u in
     subst (λ (s : SystemSeen). IsUnderway s picks (drop (i + 1) picks)) (sym rests.1)
-    (record { lines = v.lines; left = v.left; chosen = v.chosen; next = v.next ∙ passed_over old pick (drop (i + 1) picks) rests.0 })
+    (record { lines = v.lines; left = v.left; chosen = v.chosen; next = v.next ∙ passed_over old (get_or picks i d) (drop (i + 1) picks) rests.0 })
 
 -- a full line ends the play
 is_full : (s : SystemSeen) (picks rest after : List Actor) (due : Option Move) (line : LineNo) (len : ℕ) → IsUnderway s picks rest → IsFullFor s due line len → ((m : Move) → due ≡ Some m → choice s.board (board_lines s.lines) rest ≡ Some (m, after))
@@ -103,12 +103,12 @@ is_full s picks rest after due line len u full next =
       length = told ∙ full.log;
     }), told)
 
-pub pick_full : (old new : SystemSeen) (picks : List Actor) (i : ℕ) (pick : Actor) (line : LineNo) (len : ℕ) (turn : Turn) → i < length picks → pick ≡ get_or picks i pick → IsUnderway old picks (drop i picks) → turn ≡ turns.Full line len → Turns old pick turn new
+pub pick_full : (old new : SystemSeen) (picks : List Actor) (i : ℕ) (d : Actor) (line : LineNo) (len : ℕ) (turn : Turn) → i < length picks → IsUnderway old picks (drop i picks) → turn ≡ turns.Full line len → Turns old (get_or picks i d) turn new
     → IsPlay new picks (ends.Full line len)
-pick_full old new picks i pick line len turn within is u same t =
-    let full = subst (λ (x : Turn). Turns old pick x new) same t in
+pick_full old new picks i d line len turn within u same t =
+    let full = subst (λ (x : Turn). Turns old (get_or picks i d) x new) same t in
     subst (λ (s : SystemSeen). IsPlay s picks (ends.Full line len)) (sym full.1)
-    (is_full old picks (pick ∷ drop (i + 1) picks) (drop (i + 1) picks) (move_of old pick) line len (at_pick old picks i pick within is u) full.0 (λ m due. with_move old pick (drop (i + 1) picks) m due))
+    (is_full old picks (get_or picks i d ∷ drop (i + 1) picks) (drop (i + 1) picks) (move_of old (get_or picks i d)) line len (at_pick old picks i d within u) full.0 (λ m due. with_move old (get_or picks i d) (drop (i + 1) picks) m due))
 
 pub pick_refused : (old new : SystemSeen) (picks rest : List Actor) (pick : Actor) (turn : Turn) → IsUnderway old picks rest → turn ≡ turns.NoMemory → Turns old pick turn new → IsPlay new picks ends.NoMemory
 pick_refused old new picks rest pick turn u same t =
@@ -247,3 +247,10 @@ pub not_lowest_of : (before s new : SystemSeen) (i : ℕ) (a : Actor) (turn : Tu
     → (new ≡ before) × (lowest_move before ≡ first_from before (i + 1))
 not_lowest_of before s new i a turn same at passed still t =
     not_lowest before new i a turn (subst (λ (x : SystemSeen). slice_get (actors_of x.board) i ≡ Some a) same at) passed still (subst (λ (x : SystemSeen). Turns x a turn new) same t)
+
+pub pick_done : (old new : SystemSeen) (picks : List Actor) (i : ℕ) (d : Actor) (turn : Turn) → i < length picks → IsUnderway old picks (drop i picks)
+    → ((line : LineNo) (len : ℕ) → turn ≡ turns.Full line len → ⊥) → (turn ≡ turns.NoMemory → ⊥) → Turns old (get_or picks i d) turn new → IsUnderway new picks (drop (i + 1) picks)
+pick_done old new picks i d (turns.Moved line e) within u full refused t = pick_moved old new picks i d line e (turns.Moved line e) within u refl t
+pick_done old new picks i d turns.NotYet within u full refused t = pick_passed old new picks i d turns.NotYet within u refl t
+pick_done old new picks i d (turns.Full line len) within u full refused t = absurd (full line len refl)
+pick_done old new picks i d turns.NoMemory within u full refused t = absurd (refused refl)

@@ -178,9 +178,9 @@ impl<'b, L: IrqLine> System<'b, L> {
     {
         for pick in picks {
             match self.turn(*pick, handlers) {
-                Turn::Moved { .. } | Turn::NotYet => {}
                 Turn::Full { line, len } => return PlayEnd::Full { line, len },
                 Turn::NoMemory => return PlayEnd::NoMemory,
+                _ => {}
             }
         }
         self.settle(handlers)

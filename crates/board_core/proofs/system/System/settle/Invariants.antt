@@ -4,12 +4,12 @@ use Rattle.board_core.specs.Playing.{IsUnderway}
 use Rattle.board_core.proofs.Underway.{room_of}
 use Rattle.board_core.proofs.system.System.settle.Given as goal
 
-abbrev pub invariant-loop : goal.invariant-loop
-invariant-loop g l = record {
+abbrev pub invariant-loop-line : goal.invariant-loop-line
+invariant-loop-line g l = record {
   board : l.self.board ≡ l.fn.self.board;
   layout : l.self.layout ≡ l.fn.self.layout;
   underway : (picks : List Actor) → IsUnderway l.fn.self picks [] → IsUnderway l.self picks [];
 }
 
-abbrev pub decreases-loop : goal.decreases-loop
-decreases-loop g l = room_of l.self
+abbrev pub decreases-loop-line : goal.decreases-loop-line
+decreases-loop-line g l = room_of l.self
