@@ -7,3 +7,4 @@ pub mod TurnLaws
 pub mod InSystem
 pub mod OfDriver
 pub mod Underway
+pub mod MadeOf

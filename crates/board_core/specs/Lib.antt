@@ -7,3 +7,4 @@ pub mod Inside
 pub mod Places
 pub mod Turned
 pub mod Playing
+pub mod Making

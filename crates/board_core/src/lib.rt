@@ -2,6 +2,7 @@
 #![tactic(auto)]
 
 pub mod laws;
+pub mod making;
 pub mod places;
 pub mod scripts;
 pub mod stepping;

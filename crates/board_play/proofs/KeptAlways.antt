@@ -12,6 +12,7 @@ use Rattle.irq_steps.proofs.Same.{line_from_same}
 use Rattle.irq_laws.proofs.Progress.{fresh}
 use Rattle.board_def.specs.Rules.{IsBoard}
 use Rattle.board_def.specs.Seen.{BoardSeen}
+use Rattle.board_def.specs.declared.rows.ScriptCall.{ScriptCall}
 use Rattle.board_play.specs.Kept.{IsUpTo, AreKept}
 use Rattle.board_play.specs.Lines.{BoardLine, Move, defs_of, lines_at, lines_of, lines_after}
 use Rattle.board_play.specs.Order.{due_move}
@@ -49,8 +50,8 @@ move_keeps board lines a m is k due = kept_after board is lines k a m (moves_on 
 
 -- ---- a play
 
-nothing_yet : (board : BoardSeen) (r : DriverNo) → IsUpTo board.calls (lines_at (defs_of board) []) r 0
-nothing_yet board r =
+pub nothing_yet : (board : BoardSeen) (calls : List ScriptCall) (r : DriverNo) → IsUpTo calls (lines_at (defs_of board) []) r 0
+nothing_yet board calls r =
     record {
       complete = λ i x at. ap (λ (past : List Entry). done (record { def = x.def; past = past }) r) (past_at (defs_of board) [] i x at) ∙ none_complete x.def r;
       begun = λ i x c n at due. absurd (not_begun x c n (ap (λ (past : List Entry). due_call x.def r past) (sym (past_at (defs_of board) [] i x at)) ∙ due));
@@ -59,13 +60,17 @@ nothing_yet board r =
     not_begun : (x : BoardLine) (c : Call) (n : ℕ) → due_call x.def r [] ≡ Some (c, suc n) → ⊥
     not_begun x c n due = let zero = fresh (calls_by r x.def.calls) c (suc n) due in omega (arith, zero)
 
-pub kept_play : (board : BoardSeen) (picks : List Actor) → IsBoard board → (g : List Move) (left : List Actor) → IsChosen board picks g left → AreKept board (lines_of board g)
-kept_play board picks is [] left chosen =
+-- nothing has happened: all is kept
+pub kept_fresh : (board : BoardSeen) → AreKept board (lines_of board [])
+kept_fresh board =
     record {
       defs = defs_at (defs_of board) [];
       legal = λ i x at. subst (λ (past : List Entry). IsLegalPast x.def past) (sym (past_at (defs_of board) [] i x at)) tt;
-      in_order = λ r. (0, nothing_yet board r);
+      in_order = λ r. (0, nothing_yet board board.calls r);
     }
+
+pub kept_play : (board : BoardSeen) (picks : List Actor) → IsBoard board → (g : List Move) (left : List Actor) → IsChosen board picks g left → AreKept board (lines_of board g)
+kept_play board picks is [] left chosen = kept_fresh board
 kept_play board picks is (m ∷ g) left chosen =
     let k : AreKept board (lines_of board g) = kept_play board picks is g chosen.0 chosen.1 in
     let who = choice_is board (lines_of board g) chosen.0 m left chosen.2 in

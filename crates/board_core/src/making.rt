@@ -1,0 +1,78 @@
+//! What a system is made of.
+ghost use Rattle.std.specs.Prelude.{◌≡◌, ℕ, ◌++◌, ◌∷◌, [], IfOk, OnOk, map};
+ghost use Rattle.irq_base.specs.declared.entries.Actor.TheVariants as kinds;
+ghost use Rattle.play_laws.specs.Actors.{count_up};
+ghost use Rattle.board_play.specs.Order.{actors_of, threads_of, drivers_of};
+ghost use Rattle.board_core.specs.Making.{AreNew, IsNewScript};
+
+use crate::places::place_of_line;
+use crate::scripts::{Script, Step};
+use board_def::Board;
+use irq_base::{Actor, CpuNo, DriverNo, NoMemory};
+use irq_line::IrqLine;
+use std::alloc::Global;
+
+/// The board's actors, the lowest first.
+pub(crate) fn make_actors(alloc: Global, board: &Board) -> Result<Vec<Actor>, NoMemory>
+    ensures { IfOk result (λ actors. actors.items ≡ actors_of board.now) }
+{
+    let mut actors = Vec::new(alloc);
+    push_threads(&mut actors, board)?;
+    push_cpus(&mut actors, board.cpus())?;
+    push_drivers(&mut actors, board)?;
+    Ok(actors)
+}
+
+fn push_threads(actors: &mut Vec<Actor>, board: &Board) -> Result<(), NoMemory>
+    ensures { OnOk result (actors.new.items ≡ actors.old.items ++ threads_of board.now) }
+{
+    for i in 0..board.devices_len() {
+        let Some(device) = board.device(i) else {
+            unreachable!();
+        };
+        actors.push(Actor::Thread(device.line, device.dev))?;
+    }
+    Ok(())
+}
+
+fn push_cpus(actors: &mut Vec<Actor>, cpus: u32) -> Result<(), NoMemory>
+    ensures { OnOk result (actors.new.items ≡ actors.old.items ++ map (λ n. kinds.Cpu (record { 0 = n })) (count_up 0 cpus)) }
+{
+    for cpu in 0..cpus {
+        actors.push(Actor::Cpu(CpuNo(cpu)))?;
+    }
+    Ok(())
+}
+
+fn push_drivers(actors: &mut Vec<Actor>, board: &Board) -> Result<(), NoMemory>
+    ensures { OnOk result (actors.new.items ≡ actors.old.items ++ drivers_of board.now) }
+{
+    for i in 0..board.drivers_len() {
+        let Some(driver) = board.driver(i) else {
+            unreachable!();
+        };
+        actors.push(Actor::Driver(driver))?;
+    }
+    Ok(())
+}
+
+/// The driver's script, of which nothing is complete.
+pub(crate) fn make_script<L: IrqLine>(
+    alloc: Global,
+    board: &Board,
+    lines: &[L],
+    driver: DriverNo,
+) -> Result<Script, NoMemory>
+    requires { AreNew board.now (map L.seen lines.now) }
+    ensures { IfOk result (λ script. IsNewScript board.now (map L.seen lines.now) driver script) }
+{
+    let mut script = Script::new(alloc, driver);
+    for call in board.calls() {
+        if call.driver == driver {
+            if let Some(place) = place_of_line(lines, call.line) {
+                script.push(Step { place, call: *call })?;
+            }
+        }
+    }
+    Ok(script)
+}
