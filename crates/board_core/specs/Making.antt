@@ -1,8 +1,8 @@
 -- What a system is made of.
-use Rattle.std.specs.Prelude.{◌≡◌, ℕ, IsSomeAnd, Some, List, [], slice_get}
+use Rattle.std.specs.Prelude.{◌≡◌, ℕ, IsSomeAnd, Some, List, [], map, slice_get}
 use Rattle.irq_base.specs.declared.lines.LineDef.{LineDef}
 use Rattle.irq_base.specs.declared.numbers.DriverNo.{DriverNo}
-use Rattle.irq_line.specs.Seen.{LineSeen}
+use Rattle.irq_line.specs.Seen.{LineSeen, IsSound}
 use Rattle.board_def.specs.LineOf.{line_of_row}
 use Rattle.board_def.specs.Seen.{BoardSeen}
 use Rattle.board_def.specs.declared.layouts.Placement.{Placement}
@@ -29,3 +29,12 @@ pub record IsNewScript (board : BoardSeen) (lines : List LineSeen) (r : DriverNo
   pub made : s.made ≡ 0
   pub cut : calls_of s.steps ≡ cut (defs_of board) r board.calls
   pub places : (i : ℕ) (x : Step) → slice_get s.steps i ≡ Some x → IsSomeAnd (slice_get (board_lines lines) x.place) (λ y. y.def.line ≡ x.call.line)
+
+-- a script for each driver, of which nothing is complete
+pub record AreNewScripts (board : BoardSeen) (lines : List LineSeen) (scripts : List ScriptSeen) : Type 0 where
+  pub drivers : map (λ (s : ScriptSeen). s.driver) scripts ≡ board.drivers
+  pub each : (i : ℕ) (s : ScriptSeen) → slice_get scripts i ≡ Some s → IsNewScript board lines s.driver s
+
+-- each is sound
+abbrev pub AreSound : List LineSeen → Type 0
+AreSound lines = (i : ℕ) (x : LineSeen) → slice_get lines i ≡ Some x → IsSound x

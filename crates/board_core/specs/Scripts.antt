@@ -1,5 +1,5 @@
 -- The drivers' scripts, cut by driver: the calls on lines that take part, and how far each driver is.
-use Rattle.std.specs.Prelude.{◌≡◌, ℕ, ◌+◌, Bool, true, false, ◌&&◌, ◌==◌, nat_le, if◌then◌else◌, IsSomeAnd, Option, Some, None, List, [], ◌∷◌, map, slice_get}
+use Rattle.std.specs.Prelude.{◌≡◌, ℕ, ◌+◌, Bool, true, false, ◌&&◌, ◌==◌, nat_le, if◌then◌else◌, IsSomeAnd, Option, Some, None, List, [], ◌∷◌, ◌++◌, map, slice_get}
 use Rattle.std.specs.List.{list_any}
 use Rattle.irq_base.specs.declared.calls.Call.{Call}
 use Rattle.irq_base.specs.declared.calls.Call.TheVariants as calls
@@ -75,3 +75,13 @@ place_of (Some step) = Some step.place
 abbrev pub IsPlaceOf : List DriverNo → DriverNo → Option ℕ → Type 0
 IsPlaceOf drivers r None = has_driver drivers r ≡ false
 IsPlaceOf drivers r (Some j) = slice_get drivers j ≡ Some r
+
+-- the place is that of the call's line, if the call is the driver's and its line takes part; else there is none
+abbrev pub IsCallPlace : List BoardLine → DriverNo → ScriptCall → Option ℕ → Type 0
+IsCallPlace lines r c None = (same_driver r c.driver && takes_part (map (λ (x : BoardLine). x.def) lines) c.line) ≡ false
+IsCallPlace lines r c (Some k) = ((same_driver r c.driver && takes_part (map (λ (x : BoardLine). x.def) lines) c.line) ≡ true) × IsSomeAnd (slice_get lines k) (λ y. y.def.line ≡ c.line)
+
+-- the script with the call at its end, if its line has a place
+abbrev pub with_call : Option ℕ → ScriptCall → ScriptSeen → ScriptSeen
+with_call None c s = s
+with_call (Some k) c s = record s { steps = s.steps ++ record { place = k; call = c } ∷ [] }

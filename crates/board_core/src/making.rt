@@ -3,11 +3,13 @@ ghost use Rattle.std.specs.Prelude.{◌≡◌, ℕ, ◌++◌, ◌∷◌, [], IfO
 ghost use Rattle.irq_base.specs.declared.entries.Actor.TheVariants as kinds;
 ghost use Rattle.play_laws.specs.Actors.{count_up};
 ghost use Rattle.board_play.specs.Order.{actors_of, threads_of, drivers_of};
-ghost use Rattle.board_core.specs.Making.{AreNew, IsNewScript};
+ghost use Rattle.board_core.specs.Seen.{board_lines};
+ghost use Rattle.board_core.specs.Scripts.{IsCallPlace, with_call};
+ghost use Rattle.board_core.specs.Making.{AreNew, IsNewScript, AreNewScripts, AreSound};
 
 use crate::places::place_of_line;
 use crate::scripts::{Script, Step};
-use board_def::Board;
+use board_def::{Board, ScriptCall};
 use irq_base::{Actor, CpuNo, DriverNo, NoMemory};
 use irq_line::IrqLine;
 use std::alloc::Global;
@@ -68,11 +70,57 @@ pub(crate) fn make_script<L: IrqLine>(
 {
     let mut script = Script::new(alloc, driver);
     for call in board.calls() {
-        if call.driver == driver {
-            if let Some(place) = place_of_line(lines, call.line) {
-                script.push(Step { place, call: *call })?;
-            }
-        }
+        let place = place_of_call(lines, driver, call);
+        push_call(&mut script, place, *call)?;
     }
     Ok(script)
+}
+
+/// The place of the line that the call is about; none where it isn't the driver's, or the line takes no part.
+fn place_of_call<L: IrqLine>(lines: &[L], driver: DriverNo, call: &ScriptCall) -> Option<usize>
+    ensures { IsCallPlace (board_lines (map L.seen lines.now)) driver call.now result }
+{
+    if call.driver != driver {
+        return None;
+    }
+    place_of_line(lines, call.line)
+}
+
+/// The call goes to the end of the script, if its line has a place.
+fn push_call(script: &mut Script, place: Option<usize>, call: ScriptCall) -> Result<(), NoMemory>
+    ensures { OnOk result (script.new ≡ with_call place call script.old) }
+{
+    if let Some(place) = place {
+        script.push(Step { place, call })?;
+    }
+    Ok(())
+}
+
+/// A script for each driver, of which nothing is complete.
+pub(crate) fn make_scripts<L: IrqLine>(
+    alloc: Global,
+    board: &Board,
+    lines: &[L],
+) -> Result<Vec<Script>, NoMemory>
+    requires { AreNew board.now (map L.seen lines.now) }
+    ensures { IfOk result (λ scripts. AreNewScripts board.now (map L.seen lines.now) scripts.items) }
+{
+    let mut scripts = Vec::new(alloc);
+    for i in 0..board.drivers_len() {
+        let Some(driver) = board.driver(i) else {
+            unreachable!();
+        };
+        let script = make_script(alloc, board, lines, driver)?;
+        scripts.push(script)?;
+    }
+    Ok(scripts)
+}
+
+/// What holds of each line at every moment.
+pub(crate) fn are_sound<L: IrqLine>(lines: &[L])
+    ensures { AreSound (map L.seen lines.now) }
+{
+    for i in 0..lines.len() {
+        lines[i].is_sound();
+    }
 }

@@ -1,22 +1,27 @@
 //! The lines of a board, and their moves.
-ghost use Rattle.std.specs.Prelude.{◌≡◌, None, List, [], length, slice_get};
+ghost use Rattle.std.specs.Prelude.{◌≡◌, None, List, [], IfOk, length, map, slice_get};
 ghost use Rattle.irq_base.specs.declared.entries.Actor.{Actor};
 ghost use Rattle.irq_base.specs.declared.entries.Actor.TheVariants as actors;
+ghost use Rattle.board_def.specs.Layout.{layout_of};
+ghost use Rattle.board_play.specs.Kept.{AreKept};
 ghost use Rattle.board_play.specs.Order.{line_for, actors_of};
+ghost use Rattle.board_core.specs.Making.{AreNew};
 ghost use Rattle.board_core.specs.Places.{IsPlace};
 ghost use Rattle.board_core.specs.Playing.{IsFresh, IsUnderway, IsPlay, Ends};
 ghost use Rattle.board_core.specs.Seen.{board_lines};
 ghost use Rattle.board_core.specs.Turned.{IsScriptOf};
 ghost use Rattle.board_core.specs.Turns.{Turns, TurnsBy, lowest_move};
 
+use crate::making::{are_sound, make_actors, make_scripts};
 use crate::places::{place_of_flow, place_of_line, place_of_take, step_place};
 use crate::scripts::{Script, script_of};
 use crate::turning::{advance, turn_of};
 use crate::turns::{PlayEnd, Turn};
 use board_def::{Board, Layout};
 use callbacks::{Callbacks, Handler};
-use irq_base::{Actor, CpuNo, DriverNo};
+use irq_base::{Actor, CpuNo, DriverNo, NoMemory};
 use irq_line::IrqLine;
+use std::alloc::Global;
 use std::marker::Model;
 
 /// The lines of a board that take part, with the moves that were made on them.
@@ -44,6 +49,43 @@ ghost use Rattle.board_core.specs.Seen.{SystemSeen};
 }
 
 impl<'b, L: IrqLine> System<'b, L> {
+    /// The system of the board's lines, to which nothing has happened, and the board's layout. Refused only for want of
+    /// memory.
+    pub fn of_new_lines(
+        alloc: Global,
+        board: &'b Board,
+        layout: Layout,
+        lines: Vec<L>,
+    ) -> Result<System<'b, L>, NoMemory>
+        requires layout { layout ≡ layout_of board.now }
+        requires lines { AreNew board.now (map L.seen lines.items) }
+        ensures board { IfOk result (λ s. s.board ≡ board.now) }
+        ensures layout { IfOk result (λ s. s.layout ≡ layout) }
+        ensures lines { IfOk result (λ s. s.lines ≡ map L.seen lines.items) }
+        ensures fresh { IfOk result IsFresh }
+    {
+        board.is_board();
+        are_sound(&lines);
+        let scripts = make_scripts(alloc, board, &lines)?;
+        let actors = make_actors(alloc, board)?;
+        Ok(System {
+            board,
+            layout,
+            lines,
+            scripts,
+            order: Vec::new(alloc),
+            actors,
+        })
+    }
+
+    /// What holds of every system: its lines are the board's, each history is legal, and the drivers' calls are made in
+    /// the order of their scripts.
+    pub fn is_kept(&self)
+        ensures { AreKept self.now.board (board_lines self.now.lines) }
+    {
+        let _lines = &self.lines;
+    }
+
     /// The board.
     pub fn board(&self) -> &Board
         ensures { result.now ≡ self.now.board }
