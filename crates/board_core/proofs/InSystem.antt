@@ -1,5 +1,5 @@
 -- A turn at a place of a system's lines.
-use Rattle.std.proofs.Common.{◌≡◌, ℕ, zero, suc, ◌+◌, ◌<◌, ◌≤◌, Bool, true, false, cond, IsSome, IfSome, IsSomeAnd, Option, Some, None, Result, List, [], ◌∷◌, map, length, get_or, slice_get, refl, sym, ap, ◌∙◌, subst, arith}
+use Rattle.std.proofs.Common.{◌≡◌, ℕ, suc, ◌<◌, ◌≤◌, Bool, true, false, cond, IsSome, IfSome, IsSomeAnd, Option, Some, None, Result, List, [], ◌∷◌, map, length, get_or, slice_get, refl, sym, ap, ◌∙◌, subst, arith}
 use Rattle.std.specs.Option.{option_map}
 use Rattle.std.proofs.Math.ListN.{length-map}
 use Rattle.std.proofs.lemmas.Option.{slice_get-map, slice_get_read, slice_get_within}
@@ -8,10 +8,8 @@ use Rattle.irq_base.specs.declared.entries.Actor.TheVariants as actors
 use Rattle.irq_base.specs.declared.entries.Entry.{Entry}
 use Rattle.irq_base.specs.declared.lines.LineDef.{LineDef}
 use Rattle.irq_base.specs.declared.numbers.DriverNo.{DriverNo}
-use Rattle.irq_base.specs.declared.numbers.LineNo.{LineNo}
 use Rattle.irq_line.specs.Seen.{LineSeen}
 use Rattle.irq_line.specs.declared.answers.StepRefused.{StepRefused}
-use Rattle.irq_laws.proofs.Chosen.{the_same}
 use Rattle.board_def.specs.Layout.{layout_of, is_mapped}
 use Rattle.board_def.specs.LineOf.{line_of_row}
 use Rattle.board_def.specs.Rules.{IsBoard}
@@ -20,7 +18,7 @@ use Rattle.board_def.specs.declared.layouts.Placement.{Placement}
 use Rattle.board_def.specs.declared.rows.LineRow.{LineRow}
 use Rattle.board_play.specs.Lines.{BoardLine, mapped, defs_of}
 use Rattle.board_play.specs.Order.{line_for}
-use Rattle.board_core.specs.Inside.{seen_of, drivers_of, IsSystem}
+use Rattle.board_core.specs.Inside.{seen_of, IsSystem}
 use Rattle.board_core.specs.Places.{IsPlace, SteppedAt}
 use Rattle.board_core.specs.Scripts.{ScriptSeen}
 use Rattle.board_core.specs.Seen.{SystemSeen, board_line, board_lines}

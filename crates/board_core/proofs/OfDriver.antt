@@ -17,7 +17,7 @@ use Rattle.board_play.specs.Current.{current_line}
 use Rattle.board_play.specs.Lines.{BoardLine}
 use Rattle.board_play.specs.Order.{due_on}
 use Rattle.board_play.proofs.KeptAlways.{apart_kept}
-use Rattle.board_play.proofs.Script.{Current, current}
+use Rattle.board_play.proofs.Script.{current}
 use Rattle.board_core.specs.Inside.{seen_of, drivers_of, IsSystem}
 use Rattle.board_core.specs.Places.{IsPlace}
 use Rattle.board_core.specs.Scripts.{ScriptSeen, place_of, IsPlaceOf}

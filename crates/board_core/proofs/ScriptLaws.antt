@@ -1,7 +1,6 @@
 -- Where a script stands, and what a move makes of it.
-use Rattle.std.proofs.Common.{◌≡◌, ℕ, zero, suc, ◌+◌, ◌<◌, ◌≤◌, ◌==◌, ◌⊎◌, inl, inr, Bool, true, false, ◌&&◌, is_some, cond, IsSomeAnd, Option, Some, None, List, [], ◌∷◌, map, filter, take, slice_get, refl, sym, ap, ◌∙◌, subst, arith, add-one}
+use Rattle.std.proofs.Common.{◌≡◌, ℕ, zero, suc, ◌+◌, ◌<◌, ◌≤◌, ◌==◌, Bool, true, false, ◌&&◌, is_some, cond, IsSomeAnd, Option, Some, None, List, [], ◌∷◌, map, filter, take, slice_get, refl, sym, ap, ◌∙◌, subst, arith, add-one}
 use Rattle.irq_base.specs.declared.calls.Call.{Call}
-use Rattle.irq_base.specs.declared.entries.Entry.{Entry}
 use Rattle.irq_base.specs.declared.lines.LineDef.{LineDef}
 use Rattle.irq_base.specs.declared.numbers.DriverNo.{DriverNo}
 use Rattle.irq_base.specs.declared.numbers.LineNo.{LineNo}
@@ -14,7 +13,7 @@ use Rattle.board_def.specs.LineOf.{with_driver}
 use Rattle.board_def.specs.declared.rows.ScriptCall.{ScriptCall}
 use Rattle.board_play.specs.Current.{calls_on, current_from, current_line}
 use Rattle.board_play.specs.Kept.{IsUpTo}
-use Rattle.board_play.specs.Lines.{BoardLine, Move, find_line, line_after, lines_after}
+use Rattle.board_play.specs.Lines.{BoardLine, Move, line_after, lines_after}
 use Rattle.board_play.proofs.Counting.{kth_is_due}
 use Rattle.board_play.proofs.Members.{AreApart, find_there, found}
 use Rattle.board_play.proofs.Moving.{defs_moved, moved_at, not_own, goes_on, is_complete, none_begun}

@@ -1,5 +1,5 @@
 -- What a turn makes of a system.
-use Rattle.std.proofs.Common.{◌≡◌, ℕ, zero, suc, ◌+◌, ◌<◌, ◌≤◌, ◌⊎◌, inl, inr, Bool, true, false, cond, IsSome, IsSomeAnd, Option, Some, None, Result, Ok, Err, List, [], ◌∷◌, ◌++◌, map, length, reverse, take, slice_get, slice_set, All, refl, sym, ap, ◌∙◌, subst, arith}
+use Rattle.std.proofs.Common.{◌≡◌, ℕ, zero, suc, ◌<◌, ◌⊎◌, inl, inr, Bool, true, false, cond, IsSome, IsSomeAnd, Option, Some, None, Result, Ok, Err, List, [], ◌∷◌, ◌++◌, map, length, reverse, take, slice_get, slice_set, refl, sym, ap, ◌∙◌, subst, arith}
 use Rattle.std.proofs.lemmas.List.{map-set, reverse-append, length-reverse}
 use Rattle.irq_base.specs.declared.entries.Actor.{Actor}
 use Rattle.irq_base.specs.declared.entries.Actor.TheVariants as actors
@@ -7,24 +7,22 @@ use Rattle.irq_base.specs.declared.entries.Entry.{Entry}
 use Rattle.irq_base.specs.declared.lines.LineDef.{LineDef}
 use Rattle.irq_base.specs.declared.numbers.DriverNo.{DriverNo}
 use Rattle.irq_base.specs.declared.numbers.LineNo.{LineNo}
-use Rattle.irq_line.specs.Answers.{IsFull}
 use Rattle.irq_line.specs.Seen.{LineSeen, IsSound}
 use Rattle.irq_line.specs.declared.answers.StepRefused.{StepRefused}
 use Rattle.irq_line.specs.declared.answers.StepRefused.TheVariants as refusals
 use Rattle.irq_model.specs.Kinds.{same_line, same_driver, is_driver, is_by_driver}
-use Rattle.irq_model.specs.Next.{next, next_past}
+use Rattle.irq_model.specs.Next.{next}
 use Rattle.irq_steps.proofs.Same.{line_from_same, same_self_line, driver_from_same, same_self_driver}
 use Rattle.irq_laws.proofs.Chosen.{the_same}
 use Rattle.irq_laws.proofs.Lists.{both_ways}
 use Rattle.irq_laws.proofs.OwnLaws.{due_is_own_past}
 use Rattle.std.proofs.lemmas.Bool.{false_from_ne_true}
-use Rattle.board_def.specs.LineOf.{line_of_row}
 use Rattle.board_def.specs.Rules.{IsBoard}
 use Rattle.board_def.specs.Seen.{BoardSeen}
 use Rattle.board_def.specs.declared.layouts.Placement.{Placement}
 use Rattle.board_def.proofs.Rising.{Rises, rises_on, head_of}
 use Rattle.board_play.specs.Kept.{AreKept}
-use Rattle.board_play.specs.Lines.{BoardLine, Move, defs_of, find_line, line_after, lines_after}
+use Rattle.board_play.specs.Lines.{BoardLine, Move, find_line, lines_after}
 use Rattle.board_play.specs.Order.{line_for, move_on, due_on, due_move}
 use Rattle.board_play.proofs.KeptAlways.{apart_kept, move_keeps}
 use Rattle.board_play.proofs.Listed.{def_at}
@@ -32,15 +30,15 @@ use Rattle.board_play.proofs.Members.{AreApart, def_there, find_there}
 use Rattle.board_play.proofs.Moving.{by_driver_is}
 use Rattle.board_play.proofs.OfBoard.{def_of_row, has_calls}
 use Rattle.board_core.specs.Inside.{seen_of, drivers_of, IsSystem}
-use Rattle.board_core.specs.Log.{older, without_newest, newest_of, with_newest, merged}
+use Rattle.board_core.specs.Log.{without_newest, with_newest, merged}
 use Rattle.board_core.specs.Places.{IsPlace, StepsAt, SteppedAt}
 use Rattle.board_core.specs.Scripts.{ScriptSeen, completes, advanced_by, advanced_at, advanced, IsScript}
-use Rattle.board_core.specs.Seen.{SystemSeen, board_line, board_lines}
+use Rattle.board_core.specs.Seen.{board_line, board_lines}
 use Rattle.board_core.specs.Stepping.{Adds}
 use Rattle.board_core.specs.Turned.{IsScriptOf, script_after, scripts_after, turn_of}
 use Rattle.board_core.specs.Turns.{move_of, Moves, IsFullFor, Turns}
 use Rattle.board_core.specs.declared.scripts.Step.{Step}
-use Rattle.board_core.proofs.ScriptLaws.{HaveCalls, line_of_step, script_line, other_script, own_script}
+use Rattle.board_core.proofs.ScriptLaws.{HaveCalls, script_line, other_script, own_script}
 
 -- ---- lists
 
@@ -273,23 +271,24 @@ module _ (board : BoardSeen) (isb : IsBoard board) (layout : List Placement) (li
       let told : merged (reverse longer) (board_lines new) ≡ m ∷ merged (reverse order) (board_lines lines) =
       ap (λ (ks : List ℕ). merged ks (board_lines new)) (ap (λ (ks : List ℕ). reverse ks) s.told ∙ reverse-append order (k ∷ []))
       ∙ (ap (λ (ls : List BoardLine). merged (k ∷ reverse order) ls) set_after ∙ merged_more (board_lines lines) k (reverse order) (board_line x) e (map_there board_line lines k x s.at)) in
-      let same : (x.def.line, e) ≡ (line, e) = ap (λ (l : LineNo). (l, e)) (sym number) in
-      (record {
-        kept = subst (λ (ls : List BoardLine). AreKept board ls) (sym after) (move_keeps board (board_lines lines) a m isb is.kept due);
-        sound = subst (λ (ls : List LineSeen). (i : ℕ) (z : LineSeen) → slice_get ls i ≡ Some z → IsSound z) (sym s.rest) (sound_after y s.sound);
-        drivers = drivers_after script (Ok (Some e)) ∙ is.drivers;
-        each = λ i t at. subst (λ (ls : List BoardLine). IsScript board.calls ls t) (sym after) (each_after x e s.at s.adds.due script of i t at);
-        all = is.all;
-      },
-      subst (λ (n : Move). Moves (seen_of board layout lines order) (move_of (seen_of board layout lines order) a) n (seen_of board layout new longer)) same
-      (record {
-        is = due;
-        room = subst (λ (o : Option BoardLine). IsSomeAnd o (λ x. length x.past < board.log)) (sym (found_is x s.at)) room;
-        board = refl;
-        layout = refl;
-        lines = after;
-        log = ap (λ (g : List Move). reverse g) told ∙ reverse_more m (merged (reverse order) (board_lines lines));
-      }))
+      let same : (x.def.line, e) ≡ (line, e) = ap (λ (l : LineNo). (l, e)) (sym number) in (
+        record {
+          kept = subst (λ (ls : List BoardLine). AreKept board ls) (sym after) (move_keeps board (board_lines lines) a m isb is.kept due);
+          sound = subst (λ (ls : List LineSeen). (i : ℕ) (z : LineSeen) → slice_get ls i ≡ Some z → IsSound z) (sym s.rest) (sound_after y s.sound);
+          drivers = drivers_after script (Ok (Some e)) ∙ is.drivers;
+          each = λ i t at. subst (λ (ls : List BoardLine). IsScript board.calls ls t) (sym after) (each_after x e s.at s.adds.due script of i t at);
+          all = is.all;
+        },
+        subst (λ (n : Move). Moves (seen_of board layout lines order) (move_of (seen_of board layout lines order) a) n (seen_of board layout new longer)) same
+            (record {
+              is = due;
+              room = subst (λ (o : Option BoardLine). IsSomeAnd o (λ x. length x.past < board.log)) (sym (found_is x s.at)) room;
+              board = refl;
+              layout = refl;
+              lines = after;
+              log = ap (λ (g : List Move). reverse g) told ∙ reverse_more m (merged (reverse order) (board_lines lines));
+            }),
+      )
     where
       reverse_more : (m : Move) (g : List Move) → reverse (m ∷ g) ≡ reverse g ++ m ∷ []
       reverse_more m g = reverse-append (m ∷ []) g
@@ -317,9 +316,10 @@ module _ (board : BoardSeen) (isb : IsBoard board) (layout : List Placement) (li
       let x = s.0.line in
       let its : line ≡ x.def.line = subst (λ (o : Option LineSeen). IsSomeAnd o (λ x. line ≡ x.def.line)) s.0.at number in
       let told : len ≡ length x.entries = s.0.is_full.told in
-      let limit : length x.entries ≡ x.def.log = s.0.is_full.log in
-      (same_system new s.1 (Err (refusals.Full len)) (not_scripts script (refusals.Full len)),
-      (full_for x s.0.at (next x.def x.entries a) refl s.0.is_full.due line its len told limit, same_seen new longer s.1 s.2))
+      let limit : length x.entries ≡ x.def.log = s.0.is_full.log in (
+        same_system new s.1 (Err (refusals.Full len)) (not_scripts script (refusals.Full len)),
+        (full_for x s.0.at (next x.def x.entries a) refl s.0.is_full.due line its len told limit, same_seen new longer s.1 s.2),
+      )
     where
       full_for : (x : LineSeen) → slice_get lines k ≡ Some x → (o : Option Entry) → next x.def x.entries a ≡ o → IsSome (next x.def x.entries a) → (line : LineNo) → line ≡ x.def.line → (len : ℕ) → len ≡ length x.entries → length x.entries ≡ x.def.log
           → IsFullFor (seen_of board layout lines order) (move_of (seen_of board layout lines order) a) line len

@@ -1,5 +1,5 @@
 -- A play of a system, move by move.
-use Rattle.std.proofs.Common.{◌≡◌, ℕ, zero, suc, ◌+◌, ◌-◌, ◌<◌, ◌≤◌, Bool, true, false, cond, IsSome, IsSomeAnd, Option, Some, None, List, [], ◌∷◌, ◌++◌, length, reverse, get_or, drop, slice_get, refl, sym, ap, ◌∙◌, subst, arith, add-one}
+use Rattle.std.proofs.Common.{◌≡◌, ℕ, suc, ◌+◌, ◌-◌, ◌<◌, ◌≤◌, Bool, true, false, cond, IsSomeAnd, Option, Some, None, List, [], ◌∷◌, length, reverse, get_or, drop, slice_get, refl, sym, ap, ◌∙◌, subst, arith, add-one}
 use Rattle.std.proofs.Math.Seq.{drop-cons}
 use Rattle.std.proofs.lemmas.List.{reverse-append}
 use Rattle.irq_base.specs.declared.entries.Actor.{Actor}
@@ -8,20 +8,18 @@ use Rattle.irq_base.specs.declared.numbers.LineNo.{LineNo}
 use Rattle.irq_model.specs.Kinds.{same_line}
 use Rattle.irq_steps.proofs.Same.{line_from_same, same_self_line}
 use Rattle.irq_laws.proofs.Lists.{both_ways}
-use Rattle.irq_laws.proofs.Chosen.{the_same}
 use Rattle.board_def.specs.Seen.{BoardSeen}
-use Rattle.board_play.specs.Lines.{BoardLine, Move, part, defs_of, lines_at, lines_of, lines_after, find_line}
-use Rattle.board_play.specs.Order.{due_move, actors_of}
-use Rattle.board_play.specs.Play.{Done, Full, or_move, first_move, with_picks, or_choice, choice, IsChosen, IsFullAt, Plays}
+use Rattle.board_play.specs.Lines.{BoardLine, Move, part, defs_of, lines_of, lines_after, find_line}
+use Rattle.board_play.specs.Order.{actors_of}
+use Rattle.board_play.specs.Play.{or_move, first_move, with_picks, or_choice, choice, IsChosen}
 use Rattle.board_play.proofs.Members.{found, past_at}
 use Rattle.board_play.proofs.Moving.{lines_more}
 use Rattle.board_core.specs.Playing.{IsFresh, IsUnderway, IsPlay, Ends}
 use Rattle.board_core.specs.Seen.{SystemSeen, board_lines}
-use Rattle.board_core.specs.Turns.{move_of, HasLength, Moves, IsFullFor, TurnsBy, Turns, lowest_move}
+use Rattle.board_core.specs.Turns.{move_of, Moves, IsFullFor, TurnsBy, Turns, lowest_move}
 use Rattle.board_core.proofs.Searches.{dropped, all_dropped}
 use Rattle.board_core.specs.declared.turns.Turn.{Turn}
 use Rattle.board_core.specs.declared.turns.Turn.TheVariants as turns
-use Rattle.board_core.specs.declared.turns.PlayEnd.{PlayEnd}
 use Rattle.board_core.specs.declared.turns.PlayEnd.TheVariants as ends
 
 pub fresh : (s : SystemSeen) (picks : List Actor) → IsFresh s → IsUnderway s picks picks
@@ -94,14 +92,20 @@ pick_passed old new picks i d turn within u same t =
 is_full : (s : SystemSeen) (picks rest after : List Actor) (due : Option Move) (line : LineNo) (len : ℕ) → IsUnderway s picks rest → IsFullFor s due line len → ((m : Move) → due ≡ Some m → choice s.board (board_lines s.lines) rest ≡ Some (m, after))
     → IsPlay s picks (ends.Full line len)
 is_full s picks rest after due line len u full next =
-    let told : length (part line (reverse s.log)) ≡ len = part_in s line (λ past. length past ≡ len) u.lines full.length in
-    ((u.left, u.chosen, record {
-      move = full.move;
-      after = after;
-      next = ap (λ (ls : List BoardLine). choice s.board ls u.left) (sym u.lines) ∙ (u.next ∙ next full.move full.is);
-      of_line = full.of_line;
-      length = told ∙ full.log;
-    }), told)
+    let told : length (part line (reverse s.log)) ≡ len = part_in s line (λ past. length past ≡ len) u.lines full.length in (
+      (
+        u.left,
+        u.chosen,
+        record {
+          move = full.move;
+          after = after;
+          next = ap (λ (ls : List BoardLine). choice s.board ls u.left) (sym u.lines) ∙ (u.next ∙ next full.move full.is);
+          of_line = full.of_line;
+          length = told ∙ full.log;
+        },
+      ),
+      told,
+    )
 
 pub pick_full : (old new : SystemSeen) (picks : List Actor) (i : ℕ) (d : Actor) (line : LineNo) (len : ℕ) (turn : Turn) → i < length picks → IsUnderway old picks (drop i picks) → turn ≡ turns.Full line len → Turns old (get_or picks i d) turn new
     → IsPlay new picks (ends.Full line len)

@@ -1,5 +1,5 @@
 -- Lines by their places, and a step of the one at a place.
-use Rattle.std.specs.Prelude.{◌≡◌, ◌<◌, ℕ, IsSome, Option, Some, None, Result, Ok, Err, List, [], ◌∷◌, ◌++◌, length, slice_get, slice_set}
+use Rattle.std.specs.Prelude.{◌≡◌, ℕ, IsSome, Option, Some, None, Result, Ok, Err, List, [], ◌∷◌, ◌++◌, slice_get, slice_set}
 use Rattle.irq_base.specs.declared.entries.Actor.{Actor}
 use Rattle.irq_base.specs.declared.entries.Entry.{Entry}
 use Rattle.irq_line.specs.Answers.{IsFull}

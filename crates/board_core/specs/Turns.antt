@@ -1,7 +1,6 @@
 -- What a turn of an actor comes to.
-use Rattle.std.specs.Prelude.{◌≡◌, ◌<◌, IsSomeAnd, ℕ, Option, Some, None, List, [], ◌∷◌, ◌++◌, length, reverse}
+use Rattle.std.specs.Prelude.{◌≡◌, ◌<◌, IsSomeAnd, ℕ, Option, Some, None, [], ◌∷◌, ◌++◌, length}
 use Rattle.irq_base.specs.declared.entries.Actor.{Actor}
-use Rattle.irq_base.specs.declared.entries.Entry.{Entry}
 use Rattle.irq_base.specs.declared.numbers.LineNo.{LineNo}
 use Rattle.board_play.specs.Lines.{BoardLine, Move, find_line, lines_after}
 use Rattle.board_play.specs.Order.{due_move, actors_of}

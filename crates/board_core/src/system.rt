@@ -38,7 +38,7 @@ pub struct System<'b, L: IrqLine> {
 impl<'b, L: IrqLine> Model for System<'b, L> {
     ghost use Rattle.std.specs.Prelude.{map};
     ghost use Rattle.board_core.specs.Playing.{IsFresh, IsUnderway, IsPlay, Ends};
-ghost use Rattle.board_core.specs.Seen.{SystemSeen};
+    ghost use Rattle.board_core.specs.Seen.{SystemSeen};
     ghost use Rattle.board_core.specs.Inside.{seen_of, IsSystem};
 
     ghost Value = { SystemSeen };
@@ -98,6 +98,21 @@ impl<'b, L: IrqLine> System<'b, L> {
         ensures { result.now ≡ self.now.layout }
     {
         &self.layout
+    }
+
+    /// The lines that take part, in the board's order.
+    pub fn lines(&self) -> &[L]
+        ensures { map L.seen result.now ≡ self.now.lines }
+    {
+        self.lines.as_slice()
+    }
+
+    /// The lines, as they stand, without the system.
+    pub fn take_lines(self) -> Vec<L>
+        ensures { map L.seen result.items ≡ self.entry.lines }
+    {
+        let System { lines, .. } = self;
+        lines
     }
 
     /// One step of the actor on its line, if it can move. Where the entry ends a run of a handler, that handler is called.

@@ -1,4 +1,4 @@
-use Rattle.std.proofs.Common.{map, length, subst, ◌≤◌, refl, ap}
+use Rattle.std.proofs.Common.{map, length, subst, ◌≤◌}
 use Rattle.board_core.proofs.MadeOf.{making_next, made_all}
 use Rattle.board_core.proofs.making.make_script.Goals as goal
 

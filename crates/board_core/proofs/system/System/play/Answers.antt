@@ -1,5 +1,4 @@
 use Rattle.std.proofs.Common.{◌∙◌, refl}
-use Rattle.board_core.specs.Turns.{move_of}
 use Rattle.board_core.proofs.Underway.{fresh, pick_done, pick_full, same_board, same_layout}
 use Rattle.board_core.proofs.system.System.play.Goals as goal
 

@@ -4,9 +4,11 @@ use Rattle.board_core.proofs.system.System.turn_driver.Goals as goal
 
 pub returns-in_default : goal.returns-in_default
 returns-in_default g c =
-    let s = c.self.inside in
-    (undeclared_rests (map g.L.IrqLine.seen s.lines.items) s.board.now c.is_board.ensures.board s.layout s.order.items s.scripts.items s.actors.items c.self.invariant c.args.self.now (sym c.self.view_is) c.args.driver
-    c.deref.result.now c.deref.ensures.value c.script_of.result c.script_of.ensures c.in_default.is, refl)
+    let s = c.self.inside in (
+      undeclared_rests (map g.L.IrqLine.seen s.lines.items) s.board.now c.is_board.ensures.board s.layout s.order.items s.scripts.items s.actors.items c.self.invariant c.args.self.now (sym c.self.view_is) c.args.driver
+          c.deref.result.now c.deref.ensures.value c.script_of.result c.script_of.ensures c.in_default.is,
+      refl,
+    )
 
 pub index-requires : goal.index-requires
 index-requires g c =

@@ -1,4 +1,4 @@
-use Rattle.std.proofs.Common.{◌≡◌, ℕ, ◌-◌, length}
+use Rattle.std.proofs.Common.{◌≡◌}
 use Rattle.board_core.specs.Turns.{lowest_move}
 use Rattle.board_core.proofs.Underway.{first_from}
 use Rattle.board_core.proofs.system.System.turn_lowest.Given as goal
