@@ -1,0 +1,28 @@
+use Rattle.std.proofs.Common.{◌∙◌}
+use Rattle.board_core.specs.Turns.{lowest_move}
+use Rattle.board_core.proofs.Underway.{lowest_moved, lowest_done, lowest_full, lowest_refused, room_falls, same_board, same_layout}
+use Rattle.board_core.proofs.system.System.settle.Goals as goal
+
+pub loop-line-smaller : goal.loop-line-smaller
+loop-line-smaller g c = room_falls c.loop-line.self c.turn_lowest.new.self c.in-Moved.line c.in-Moved.entry c.turn_lowest.result c.in-Moved.is c.turn_lowest.ensures
+
+pub loop-line-preserved : goal.loop-line-preserved
+loop-line-preserved g c =
+    record {
+      board = same_board c.loop-line.self c.turn_lowest.new.self (lowest_move c.loop-line.self) c.turn_lowest.result c.turn_lowest.ensures ∙ c.loop-line.invariant.board;
+      layout = same_layout c.loop-line.self c.turn_lowest.new.self (lowest_move c.loop-line.self) c.turn_lowest.result c.turn_lowest.ensures ∙ c.loop-line.invariant.layout;
+      underway = λ picks u.
+          lowest_moved c.loop-line.self c.turn_lowest.new.self picks c.in-Moved.line c.in-Moved.entry c.turn_lowest.result (c.loop-line.invariant.underway picks u) c.in-Moved.is c.turn_lowest.ensures;
+    }
+
+pub returns-in-NotYet-clause-play : goal.returns-in-NotYet-clause-play
+returns-in-NotYet-clause-play g c = λ picks u.
+    lowest_done c.loop-line.self c.turn_lowest.new.self picks c.turn_lowest.result (c.loop-line.invariant.underway picks u) c.in-NotYet.is c.turn_lowest.ensures
+
+pub returns-in-Full-clause-play : goal.returns-in-Full-clause-play
+returns-in-Full-clause-play g c = λ picks u.
+    lowest_full c.loop-line.self c.turn_lowest.new.self picks c.in-Full.line c.in-Full.len c.turn_lowest.result (c.loop-line.invariant.underway picks u) c.in-Full.is c.turn_lowest.ensures
+
+pub returns-in-NoMemory-clause-play : goal.returns-in-NoMemory-clause-play
+returns-in-NoMemory-clause-play g c = λ picks u.
+    lowest_refused c.loop-line.self c.turn_lowest.new.self picks c.turn_lowest.result (c.loop-line.invariant.underway picks u) c.in-NoMemory.is c.turn_lowest.ensures

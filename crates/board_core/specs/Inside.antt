@@ -1,0 +1,27 @@
+-- What a system keeps.
+use Rattle.std.specs.Prelude.{◌≡◌, ℕ, Some, List, map, reverse, slice_get}
+use Rattle.irq_base.specs.declared.entries.Actor.{Actor}
+use Rattle.irq_base.specs.declared.numbers.DriverNo.{DriverNo}
+use Rattle.board_def.specs.Seen.{BoardSeen}
+use Rattle.board_def.specs.declared.layouts.Placement.{Placement}
+use Rattle.irq_line.specs.Seen.{LineSeen, IsSound}
+use Rattle.board_play.specs.Kept.{AreKept}
+use Rattle.board_play.specs.Order.{actors_of}
+use Rattle.board_core.specs.Log.{merged}
+use Rattle.board_core.specs.Scripts.{ScriptSeen, IsScript}
+use Rattle.board_core.specs.Seen.{SystemSeen, board_lines}
+
+abbrev pub seen_of : BoardSeen → List Placement → List LineSeen → List ℕ → SystemSeen
+seen_of board layout lines order = record { board = board; layout = layout; lines = lines; log = reverse (merged (reverse order) (board_lines lines)) }
+
+abbrev pub drivers_of : List ScriptSeen → List DriverNo
+drivers_of scripts = map (λ (s : ScriptSeen). s.driver) scripts
+
+pub record IsSystem (board : BoardSeen) (lines : List LineSeen) (scripts : List ScriptSeen) (actors : List Actor) : Type 0 where
+  -- the lines are the board's, each history is legal, and the drivers' calls are made in the order of their scripts
+  pub kept : AreKept board (board_lines lines)
+  pub sound : (i : ℕ) (x : LineSeen) → slice_get lines i ≡ Some x → IsSound x
+  -- each driver has its script, which is at its current call
+  pub drivers : drivers_of scripts ≡ board.drivers
+  pub each : (i : ℕ) (s : ScriptSeen) → slice_get scripts i ≡ Some s → IsScript board.calls (board_lines lines) s
+  pub all : actors ≡ actors_of board

@@ -1,0 +1,40 @@
+-- What a system is made of.
+use Rattle.std.specs.Prelude.{◌≡◌, ℕ, IsSomeAnd, Some, List, [], map, slice_get}
+use Rattle.irq_base.specs.declared.lines.LineDef.{LineDef}
+use Rattle.irq_base.specs.declared.numbers.DriverNo.{DriverNo}
+use Rattle.irq_line.specs.Seen.{LineSeen, IsSound}
+use Rattle.board_def.specs.LineOf.{line_of_row}
+use Rattle.board_def.specs.Seen.{BoardSeen}
+use Rattle.board_def.specs.declared.layouts.Placement.{Placement}
+use Rattle.board_def.specs.declared.layouts.Placement.TheVariants as placements
+use Rattle.board_def.specs.declared.rows.LineRow.{LineRow}
+use Rattle.board_play.specs.Lines.{defs_of, lines_of}
+use Rattle.board_core.specs.Scripts.{ScriptSeen, cut, calls_of}
+use Rattle.board_core.specs.Seen.{board_lines}
+use Rattle.board_core.specs.declared.scripts.Step.{Step}
+
+-- the maker makes each line that takes part, of its virq and its definition
+abbrev pub MakesAll : (ℕ → LineDef → Type 0) → BoardSeen → List Placement → Type 0
+MakesAll makes board layout =
+    (i virq : ℕ) (path : List (ℕ × ℕ)) (row : LineRow) → slice_get board.lines i ≡ Some row → slice_get layout i ≡ Some (placements.Mapped virq path) → makes virq (line_of_row board row)
+
+-- the board's lines, to which nothing has happened
+abbrev pub AreNew : BoardSeen → List LineSeen → Type 0
+AreNew board lines = board_lines lines ≡ lines_of board []
+
+-- the driver's script, of which nothing is complete
+pub record IsNewScript (board : BoardSeen) (lines : List LineSeen) (r : DriverNo) (s : ScriptSeen) : Type 0 where
+  pub driver : s.driver ≡ r
+  pub at : s.at ≡ 0
+  pub made : s.made ≡ 0
+  pub cut : calls_of s.steps ≡ cut (defs_of board) r board.calls
+  pub places : (i : ℕ) (x : Step) → slice_get s.steps i ≡ Some x → IsSomeAnd (slice_get (board_lines lines) x.place) (λ y. y.def.line ≡ x.call.line)
+
+-- a script for each driver, of which nothing is complete
+pub record AreNewScripts (board : BoardSeen) (lines : List LineSeen) (scripts : List ScriptSeen) : Type 0 where
+  pub drivers : map (λ (s : ScriptSeen). s.driver) scripts ≡ board.drivers
+  pub each : (i : ℕ) (s : ScriptSeen) → slice_get scripts i ≡ Some s → IsNewScript board lines s.driver s
+
+-- each is sound
+abbrev pub AreSound : List LineSeen → Type 0
+AreSound lines = (i : ℕ) (x : LineSeen) → slice_get lines i ≡ Some x → IsSound x

@@ -1,0 +1,52 @@
+-- Lines by their places, and a step of the one at a place.
+use Rattle.std.specs.Prelude.{◌≡◌, ℕ, IsSome, Option, Some, None, Result, Ok, Err, List, [], ◌∷◌, ◌++◌, slice_get, slice_set}
+use Rattle.irq_base.specs.declared.entries.Actor.{Actor}
+use Rattle.irq_base.specs.declared.entries.Entry.{Entry}
+use Rattle.irq_line.specs.Answers.{IsFull}
+use Rattle.irq_model.specs.Next.{next}
+use Rattle.irq_line.specs.Seen.{LineSeen, IsSound}
+use Rattle.irq_line.specs.declared.answers.StepRefused.{StepRefused}
+use Rattle.irq_line.specs.declared.answers.StepRefused.TheVariants as refusals
+use Rattle.board_play.specs.Lines.{BoardLine}
+use Rattle.board_core.specs.Stepping.{Adds}
+
+abbrev pub line_at : List BoardLine → Option ℕ → Option BoardLine
+line_at lines None = None
+line_at lines (Some k) = slice_get lines k
+
+-- the place is that of this line; where there is none, no line is wanted
+abbrev pub IsPlace : List BoardLine → Option ℕ → Option BoardLine → Type 0
+IsPlace lines None line = line ≡ None
+IsPlace lines (Some k) line = IsSome line × (slice_get lines k ≡ line)
+
+-- The line at place k, which was `before`, is `after` with one entry more, and the order tells it; all else is as it was.
+pub record StepsAt (old : List LineSeen) (order : List ℕ) (k : ℕ) (a : Actor) (e : Entry) (new : List LineSeen) (longer : List ℕ) : Type 0 where
+  pub before : LineSeen
+  pub after : LineSeen
+  pub at : slice_get old k ≡ Some before
+  pub adds : Adds before a e after
+  pub sound : IsSound after
+  pub rest : new ≡ slice_set old k after
+  pub told : longer ≡ order ++ k ∷ []
+
+pub record RestsAt (old : List LineSeen) (k : ℕ) (a : Actor) : Type 0 where
+  pub line : LineSeen
+  pub at : slice_get old k ≡ Some line
+  pub rests : next line.def line.entries a ≡ None
+
+pub record IsFullAt (old : List LineSeen) (k : ℕ) (a : Actor) (len : ℕ) : Type 0 where
+  pub line : LineSeen
+  pub at : slice_get old k ≡ Some line
+  pub is_full : IsFull line a len
+
+-- the order after the step
+abbrev pub told : Result (Option Entry) StepRefused → List ℕ → ℕ → List ℕ
+told (Ok (Some e)) order k = order ++ k ∷ []
+told (Ok None) order k = order
+told (Err refused) order k = order
+
+abbrev pub SteppedAt : List LineSeen → List ℕ → ℕ → Actor → Result (Option Entry) StepRefused → List LineSeen → List ℕ → Type 0
+SteppedAt old order k a (Ok (Some e)) new longer = StepsAt old order k a e new longer
+SteppedAt old order k a (Ok None) new longer = RestsAt old k a × (new ≡ old) × (longer ≡ order)
+SteppedAt old order k a (Err (refusals.Full len)) new longer = IsFullAt old k a len × (new ≡ old) × (longer ≡ order)
+SteppedAt old order k a (Err refusals.NoMemory) new longer = (new ≡ old) × (longer ≡ order)

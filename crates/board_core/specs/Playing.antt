@@ -1,0 +1,34 @@
+-- What a play of a system comes to.
+use Rattle.std.specs.Prelude.{◌≡◌, None, List, [], length, reverse}
+use Rattle.irq_base.specs.declared.entries.Actor.{Actor}
+use Rattle.board_play.specs.Lines.{part, lines_of}
+use Rattle.board_play.specs.Play.{Done, Full, choice, IsChosen, Plays}
+use Rattle.board_core.specs.Seen.{SystemSeen, board_lines}
+use Rattle.board_core.specs.Turns.{IsFullFor, lowest_move}
+use Rattle.board_core.specs.declared.turns.PlayEnd.{PlayEnd}
+use Rattle.board_core.specs.declared.turns.PlayEnd.TheVariants as ends
+
+-- nothing has happened: the histories and the log are empty
+pub record IsFresh (s : SystemSeen) : Type 0 where
+  pub lines : board_lines s.lines ≡ lines_of s.board []
+  pub log : s.log ≡ []
+
+-- each move so far was the next one; the picks that are left, but for some that can't move, are `rest`
+pub record IsUnderway (s : SystemSeen) (picks rest : List Actor) : Type 0 where
+  pub lines : board_lines s.lines ≡ lines_of s.board (reverse s.log)
+  pub left : List Actor
+  pub chosen : IsChosen s.board picks (reverse s.log) left
+  pub next : choice s.board (board_lines s.lines) left ≡ choice s.board (board_lines s.lines) rest
+
+-- The log is the play of the board with these picks, done or full as was answered; a full one tells the length. Where
+-- memory was refused it is the play so far.
+abbrev pub IsPlay : SystemSeen → List Actor → PlayEnd → Type 0
+IsPlay s picks ends.Done = Plays s.board picks (reverse s.log) Done
+IsPlay s picks (ends.Full line len) = Plays s.board picks (reverse s.log) (Full line) × (length (part line (reverse s.log)) ≡ len)
+IsPlay s picks ends.NoMemory = (left : List Actor) × IsChosen s.board picks (reverse s.log) left
+
+-- no actor can move; or the lowest that can has a line without room, whose length is told
+abbrev pub Ends : SystemSeen → PlayEnd → Type 0
+Ends s ends.Done = lowest_move s ≡ None
+Ends s (ends.Full line len) = IsFullFor s (lowest_move s) line len
+Ends s ends.NoMemory = Unit {0}

@@ -1,0 +1,87 @@
+-- The drivers' scripts, cut by driver: the calls on lines that take part, and how far each driver is.
+use Rattle.std.specs.Prelude.{◌≡◌, ℕ, ◌+◌, Bool, true, false, ◌&&◌, ◌==◌, nat_le, if◌then◌else◌, IsSomeAnd, Option, Some, None, List, [], ◌∷◌, ◌++◌, map, slice_get}
+use Rattle.std.specs.List.{list_any}
+use Rattle.irq_base.specs.declared.calls.Call.{Call}
+use Rattle.irq_base.specs.declared.calls.Call.TheVariants as calls
+use Rattle.irq_base.specs.declared.entries.Entry.{Entry}
+use Rattle.irq_base.specs.declared.entries.Entry.TheVariants as entries
+use Rattle.irq_base.specs.declared.entries.UnlinkAnswer.TheVariants as unlinks
+use Rattle.irq_base.specs.declared.lines.LineDef.{LineDef}
+use Rattle.irq_base.specs.declared.numbers.DriverNo.{DriverNo}
+use Rattle.irq_base.specs.declared.numbers.LineNo.{LineNo}
+use Rattle.irq_model.specs.Due.{due_call}
+use Rattle.irq_model.specs.Kinds.{same_line, same_driver}
+use Rattle.board_def.specs.Rules.{has_driver}
+use Rattle.board_def.specs.declared.rows.ScriptCall.{ScriptCall}
+use Rattle.board_play.specs.Kept.{IsUpTo}
+use Rattle.board_play.specs.Lines.{BoardLine}
+use Rattle.board_core.specs.declared.scripts.Step.{Step}
+
+-- a driver's script: its calls with the places of their lines, at which of them it is, and how many entries of that one
+-- are there
+pub record ScriptSeen : Type 0 where
+  pub driver : DriverNo
+  pub steps : List Step
+  pub at : ℕ
+  pub made : ℕ
+
+-- the line takes part
+abbrev pub takes_part : List LineDef → LineNo → Bool
+takes_part defs line = list_any (λ d. same_line line d.line) defs
+
+-- the driver's calls on lines that take part
+abbrev pub cut : List LineDef → DriverNo → List ScriptCall → List ScriptCall
+cut defs r [] = []
+cut defs r (c ∷ cs) = if same_driver r c.driver && takes_part defs c.line then (c ∷ cut defs r cs) else cut defs r cs
+
+abbrev pub is_not_there : Entry → Bool
+is_not_there (entries.Unlink driver dev unlinks.NotThere) = true
+is_not_there _ = false
+
+-- the entry is the last of its call, of which n entries stand before it
+abbrev pub completes : Call → ℕ → Entry → Bool
+completes (calls.Free dev) n e = if n == 0 then is_not_there e else nat_le 2 n
+completes calls.Disable n e = nat_le 2 n
+completes calls.Sync n e = nat_le 1 n
+completes _ n e = true
+
+-- the script after one more entry of its driver
+abbrev pub advanced_by : Bool → ScriptSeen → ScriptSeen
+advanced_by last s = if last then record s { at = s.at + 1; made = 0 } else record s { made = s.made + 1 }
+
+abbrev pub advanced_at : Option Step → Entry → ScriptSeen → ScriptSeen
+advanced_at None e s = s
+advanced_at (Some step) e s = advanced_by (completes step.call.call s.made e) s
+
+abbrev pub advanced : Entry → ScriptSeen → ScriptSeen
+advanced e s = advanced_at (slice_get s.steps s.at) e s
+
+-- the calls of a script
+abbrev pub calls_of : List Step → List ScriptCall
+calls_of steps = map (λ (x : Step). x.call) steps
+
+-- a script as it stands on a board of these calls and lines
+pub record IsScript (calls : List ScriptCall) (lines : List BoardLine) (s : ScriptSeen) : Type 0 where
+  pub cut : calls_of s.steps ≡ cut (map (λ (x : BoardLine). x.def) lines) s.driver calls
+  pub places : (i : ℕ) (x : Step) → slice_get s.steps i ≡ Some x → IsSomeAnd (slice_get lines x.place) (λ y. y.def.line ≡ x.call.line)
+  pub up_to : IsUpTo (calls_of s.steps) lines s.driver s.at
+  pub due : (x : Step) (y : BoardLine) → slice_get s.steps s.at ≡ Some x → slice_get lines x.place ≡ Some y → due_call y.def s.driver y.past ≡ Some (x.call.call, s.made)
+
+abbrev pub place_of : Option Step → Option ℕ
+place_of None = None
+place_of (Some step) = Some step.place
+
+-- where the driver stands among these; none where it doesn't
+abbrev pub IsPlaceOf : List DriverNo → DriverNo → Option ℕ → Type 0
+IsPlaceOf drivers r None = has_driver drivers r ≡ false
+IsPlaceOf drivers r (Some j) = slice_get drivers j ≡ Some r
+
+-- the place is that of the call's line, if the call is the driver's and its line takes part; else there is none
+abbrev pub IsCallPlace : List BoardLine → DriverNo → ScriptCall → Option ℕ → Type 0
+IsCallPlace lines r c None = (same_driver r c.driver && takes_part (map (λ (x : BoardLine). x.def) lines) c.line) ≡ false
+IsCallPlace lines r c (Some k) = ((same_driver r c.driver && takes_part (map (λ (x : BoardLine). x.def) lines) c.line) ≡ true) × IsSomeAnd (slice_get lines k) (λ y. y.def.line ≡ c.line)
+
+-- the script with the call at its end, if its line has a place
+abbrev pub with_call : Option ℕ → ScriptCall → ScriptSeen → ScriptSeen
+with_call None c s = s
+with_call (Some k) c s = record s { steps = s.steps ++ record { place = k; call = c } ∷ [] }

@@ -1,0 +1,22 @@
+-- What a step of a line comes to where the handlers of its devices are at hand.
+use Rattle.std.specs.Prelude.{◌≡◌, ◌<◌, Option, Some, None, Result, Ok, Err, [], ◌∷◌, ◌++◌, length}
+use Rattle.irq_base.specs.declared.entries.Actor.{Actor}
+use Rattle.irq_base.specs.declared.entries.Entry.{Entry}
+use Rattle.irq_model.specs.Next.{next}
+use Rattle.irq_line.specs.Answers.{IsFull}
+use Rattle.irq_line.specs.Seen.{LineSeen}
+use Rattle.irq_line.specs.declared.answers.StepRefused.{StepRefused}
+use Rattle.irq_line.specs.declared.answers.StepRefused.TheVariants as refusals
+
+-- the entry that is due of the actor stands at the end, and there was a place for it
+pub record Adds (old : LineSeen) (who : Actor) (entry : Entry) (new : LineSeen) : Type 0 where
+  pub due : next old.def old.entries who ≡ Some entry
+  pub below : length old.entries < old.def.log
+  pub def : new.def ≡ old.def
+  pub entries : new.entries ≡ old.entries ++ entry ∷ []
+
+abbrev pub Heard : LineSeen → Actor → Result (Option Entry) StepRefused → LineSeen → Type 0
+Heard old who (Ok (Some entry)) new = Adds old who entry new
+Heard old who (Ok None) new = (next old.def old.entries who ≡ None) × (new ≡ old)
+Heard old who (Err (refusals.Full len)) new = IsFull old who len × (new ≡ old)
+Heard old who (Err refusals.NoMemory) new = new ≡ old

@@ -1,0 +1,34 @@
+-- What a step of a line makes of a system's parts.
+use Rattle.std.specs.Prelude.{◌≡◌, ℕ, Option, Some, None, Result, Ok, Err, List, slice_get, slice_set}
+use Rattle.irq_base.specs.declared.entries.Actor.{Actor}
+use Rattle.irq_base.specs.declared.entries.Actor.TheVariants as actors
+use Rattle.irq_base.specs.declared.entries.Entry.{Entry}
+use Rattle.irq_base.specs.declared.numbers.DriverNo.{DriverNo}
+use Rattle.irq_base.specs.declared.numbers.LineNo.{LineNo}
+use Rattle.irq_line.specs.declared.answers.StepRefused.{StepRefused}
+use Rattle.irq_line.specs.declared.answers.StepRefused.TheVariants as refusals
+use Rattle.board_core.specs.Scripts.{ScriptSeen, advanced}
+use Rattle.board_core.specs.declared.turns.Turn.{Turn}
+use Rattle.board_core.specs.declared.turns.Turn.TheVariants as turns
+
+-- the place of the actor's script: a driver's own
+abbrev pub IsScriptOf : List DriverNo → Actor → Option ℕ → Type 0
+IsScriptOf drivers (actors.Driver r) None = ⊥
+IsScriptOf drivers (actors.Driver r) (Some j) = slice_get drivers j ≡ Some r
+IsScriptOf drivers _ None = Unit {0}
+IsScriptOf drivers _ (Some j) = ⊥
+
+abbrev pub script_after : Option ScriptSeen → ℕ → Entry → List ScriptSeen → List ScriptSeen
+script_after None j e scripts = scripts
+script_after (Some s) j e scripts = slice_set scripts j (advanced e s)
+
+-- the scripts after what the step added
+abbrev pub scripts_after : Option ℕ → Result (Option Entry) StepRefused → List ScriptSeen → List ScriptSeen
+scripts_after (Some j) (Ok (Some e)) scripts = script_after (slice_get scripts j) j e scripts
+scripts_after _ _ scripts = scripts
+
+abbrev pub turn_of : LineNo → Result (Option Entry) StepRefused → Turn
+turn_of line (Ok (Some entry)) = turns.Moved line entry
+turn_of line (Ok None) = turns.NotYet
+turn_of line (Err (refusals.Full len)) = turns.Full line len
+turn_of line (Err refusals.NoMemory) = turns.NoMemory

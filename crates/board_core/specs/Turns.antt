@@ -1,0 +1,49 @@
+-- What a turn of an actor comes to.
+use Rattle.std.specs.Prelude.{◌≡◌, ◌<◌, IsSomeAnd, ℕ, Option, Some, None, [], ◌∷◌, ◌++◌, length}
+use Rattle.irq_base.specs.declared.entries.Actor.{Actor}
+use Rattle.irq_base.specs.declared.numbers.LineNo.{LineNo}
+use Rattle.board_play.specs.Lines.{BoardLine, Move, find_line, lines_after}
+use Rattle.board_play.specs.Order.{due_move, actors_of}
+use Rattle.board_play.specs.Play.{first_move}
+use Rattle.board_core.specs.Seen.{SystemSeen, board_lines}
+use Rattle.board_core.specs.declared.turns.Turn.{Turn}
+use Rattle.board_core.specs.declared.turns.Turn.TheVariants as turns
+
+-- the actor's move
+abbrev pub move_of : SystemSeen → Actor → Option Move
+move_of s a = due_move s.board (board_lines s.lines) a
+
+-- the length of the history of the line of that number
+abbrev pub HasLength : Option BoardLine → ℕ → Type 0
+HasLength o len = IsSomeAnd o (λ x. length x.past ≡ len)
+
+-- it was the move that was to be made, and its line had room for it; the log tells it last
+pub record Moves (old : SystemSeen) (due : Option Move) (m : Move) (new : SystemSeen) : Type 0 where
+  pub is : due ≡ Some m
+  pub room : IsSomeAnd (find_line (board_lines old.lines) m.0) (λ x. length x.past < old.board.log)
+  pub board : new.board ≡ old.board
+  pub layout : new.layout ≡ old.layout
+  pub lines : board_lines new.lines ≡ lines_after m (board_lines old.lines)
+  pub log : new.log ≡ old.log ++ m ∷ []
+
+-- there is a move to be made, and its line has no room: the length is told
+pub record IsFullFor (s : SystemSeen) (due : Option Move) (line : LineNo) (len : ℕ) : Type 0 where
+  pub move : Move
+  pub is : due ≡ Some move
+  pub of_line : move.0 ≡ line
+  pub length : HasLength (find_line (board_lines s.lines) line) len
+  pub log : len ≡ s.board.log
+
+-- a turn in which that move was to be made, if any
+abbrev pub TurnsBy : SystemSeen → Option Move → Turn → SystemSeen → Type 0
+TurnsBy old due (turns.Moved line entry) new = Moves old due (line, entry) new
+TurnsBy old due turns.NotYet new = (due ≡ None) × (new ≡ old)
+TurnsBy old due (turns.Full line len) new = IsFullFor old due line len × (new ≡ old)
+TurnsBy old due turns.NoMemory new = new ≡ old
+
+abbrev pub Turns : SystemSeen → Actor → Turn → SystemSeen → Type 0
+Turns old a turn new = TurnsBy old (move_of old a) turn new
+
+-- the move of the lowest actor that can move
+abbrev pub lowest_move : SystemSeen → Option Move
+lowest_move s = first_move s.board (board_lines s.lines) (actors_of s.board)

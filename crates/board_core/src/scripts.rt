@@ -1,0 +1,146 @@
+//! The drivers' scripts, cut by driver.
+ghost use Rattle.std.specs.Prelude.{◌≡◌, false, ◌<◌, ◌≤◌, Some, [], ◌∷◌, ◌++◌, length, map, slice_get, slice_set, OnOk};
+ghost use Rattle.board_core.specs.Scripts.{advanced, completes, is_not_there, place_of, IsPlaceOf};
+
+use board_def::ScriptCall;
+use irq_base::{Call, DriverNo, Entry, NoMemory, UnlinkAnswer};
+use std::alloc::Global;
+use std::marker::Model;
+
+/// A call of a script.
+#[derive(Clone, Copy)]
+pub struct Step {
+    /// The place of its line among the lines that take part.
+    pub place: usize,
+    /// The call.
+    pub call: ScriptCall,
+}
+
+/// A driver's calls on the lines that take part, and how far it is with them.
+#[derive(Drop)]
+pub struct Script {
+    driver: DriverNo,
+    steps: Vec<Step>,
+    at: usize,
+    made: u32,
+}
+
+impl Model for Script {
+    ghost use Rattle.board_core.specs.Scripts.{ScriptSeen};
+
+    ghost Value = { ScriptSeen };
+
+    ghost view = { λ s. record { driver = s.driver; steps = s.steps.items; at = s.at; made = s.made } };
+}
+
+impl Script {
+    /// A driver without calls.
+    pub fn new(alloc: Global, driver: DriverNo) -> Script
+        ensures { result ≡ record { driver = driver; steps = []; at = 0; made = 0 } }
+    {
+        Script {
+            driver,
+            steps: Vec::new(alloc),
+            at: 0,
+            made: 0,
+        }
+    }
+
+    /// Adds the call at the end.
+    pub fn push(&mut self, step: Step) -> Result<(), NoMemory>
+        ensures ok { OnOk result (self.new ≡ record self.old { steps = self.old.steps ++ step ∷ [] }) }
+    {
+        self.steps.push(step)?;
+        Ok(())
+    }
+
+    /// Whose it is.
+    pub fn driver(&self) -> DriverNo
+        ensures { result ≡ self.now.driver }
+    {
+        self.driver
+    }
+
+    /// The call that the driver is at; none where all are complete.
+    pub fn current(&self) -> Option<Step>
+        ensures { result ≡ slice_get self.now.steps self.now.at }
+    {
+        self.steps.get(self.at).copied()
+    }
+
+    /// The place of the current call's line; none where all calls are complete.
+    pub fn place(&self) -> Option<usize>
+        ensures { result ≡ place_of (slice_get self.now.steps self.now.at) }
+    {
+        match self.current() {
+            Some(step) => Some(step.place),
+            None => None,
+        }
+    }
+
+    /// How many entries of the current call are there, at most two.
+    pub fn made(&self) -> u32
+        ensures { result ≡ self.now.made }
+    {
+        self.made
+    }
+
+    /// The driver made this entry.
+    pub fn advance(&mut self, entry: &Entry)
+        ensures { self.new ≡ advanced entry.now self.old }
+    {
+        let Some(step) = self.current() else {
+            return;
+        };
+        if completes(step.call.call, self.made, entry) {
+            self.at += 1;
+            self.made = 0;
+        } else {
+            self.made += 1;
+        }
+    }
+}
+
+/// Whether the entry is the last of its call, of which so many stand before it.
+fn completes(call: Call, made: u32, entry: &Entry) -> bool
+    ensures last { result ≡ completes call made entry.now }
+    ensures few { result ≡ false → made < 2 }
+{
+    match call {
+        Call::Free { .. } => {
+            if made == 0 {
+                is_not_there(entry)
+            } else {
+                made >= 2
+            }
+        }
+        Call::Disable => made >= 2,
+        Call::Sync => made >= 1,
+        _ => true,
+    }
+}
+
+/// Whether a free found nothing to free.
+fn is_not_there(entry: &Entry) -> bool
+    ensures { result ≡ is_not_there entry.now }
+{
+    match entry {
+        Entry::Unlink {
+            answer: UnlinkAnswer::NotThere,
+            ..
+        } => true,
+        _ => false,
+    }
+}
+
+/// The place of the driver's script; none where the driver has none.
+pub(crate) fn script_of(scripts: &[Script], driver: DriverNo) -> Option<usize>
+    ensures { IsPlaceOf (map (λ s. s.driver) scripts.now) driver result }
+{
+    for j in 0..scripts.len() {
+        if scripts[j].driver() == driver {
+            return Some(j);
+        }
+    }
+    None
+}

@@ -1,0 +1,36 @@
+//! What a step of a line makes of a system.
+ghost use Rattle.std.specs.Prelude.{◌≡◌, ◌<◌, IfSome, length};
+ghost use Rattle.board_core.specs.Turned.{scripts_after, turn_of};
+
+use crate::scripts::Script;
+use crate::turns::Turn;
+use irq_base::{Entry, LineNo};
+use irq_line::StepRefused;
+
+/// The script at the place goes on with what was added.
+pub(crate) fn advance(
+    scripts: &mut Vec<Script>,
+    script: Option<usize>,
+    stepped: &Result<Option<Entry>, StepRefused>,
+)
+    requires { IfSome script (λ j. j < length scripts.old.items) }
+    ensures { scripts.new.items ≡ scripts_after script stepped.now scripts.old.items }
+{
+    if let Some(j) = script {
+        if let Ok(Some(entry)) = stepped {
+            scripts[j].advance(entry);
+        }
+    }
+}
+
+/// What a step of that line comes to as a turn.
+pub(crate) fn turn_of(line: LineNo, stepped: Result<Option<Entry>, StepRefused>) -> Turn
+    ensures { result ≡ turn_of line stepped }
+{
+    match stepped {
+        Ok(Some(entry)) => Turn::Moved { line, entry },
+        Ok(None) => Turn::NotYet,
+        Err(StepRefused::Full { len }) => Turn::Full { line, len },
+        Err(StepRefused::NoMemory) => Turn::NoMemory,
+    }
+}

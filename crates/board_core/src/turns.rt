@@ -1,0 +1,28 @@
+//! What a turn answers.
+use irq_base::{Entry, LineNo};
+
+/// What a turn did.
+#[derive(Clone, Copy, PartialEq, Eq)]
+pub enum Turn {
+    /// The actor added this entry to this line.
+    Moved { line: LineNo, entry: Entry },
+    /// The actor can't move, and nothing changed.
+    NotYet,
+    /// The actor could move, but its line's history has the log limit's length. `len`: that many entries. Nothing
+    /// changed.
+    Full { line: LineNo, len: u32 },
+    /// Memory was wanted and refused, and nothing changed.
+    NoMemory,
+}
+
+/// How a play ended.
+#[derive(Clone, Copy, PartialEq, Eq)]
+pub enum PlayEnd {
+    /// No actor can move any more.
+    Done,
+    /// The actor whose turn it is could move, but its line's history has the log limit's length. `len`: that many
+    /// entries.
+    Full { line: LineNo, len: u32 },
+    /// Memory was wanted and refused.
+    NoMemory,
+}

@@ -1,0 +1,12 @@
+pub mod OnePlay
+pub mod Members
+pub mod OfBoard
+pub mod Moves
+pub mod Parts
+pub mod Counting
+pub mod Script
+pub mod Moving
+pub mod KeptAlways
+pub mod Listed
+pub mod Standstill
+pub mod Rest

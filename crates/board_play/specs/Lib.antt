@@ -1,0 +1,5 @@
+pub mod Lines
+pub mod Current
+pub mod Order
+pub mod Play
+pub mod Kept

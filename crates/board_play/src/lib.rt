@@ -1,0 +1,51 @@
+//! The play of a board of many lines by the stated order, and its laws, over the definitions alone: who moves next and
+//! where, what a play is, and what is promised of every play. Each law is the clause of a function with an empty body, so
+//! that crates above can call it or cite its lemma.
+#![tactic(auto)]
+
+ghost use Rattle.std.specs.Prelude.{◌≡◌, ℕ, None, Some, List, [], reverse, slice_get};
+ghost use Rattle.irq_base.specs.declared.entries.Actor.{Actor};
+ghost use Rattle.irq_base.specs.declared.numbers.DriverNo.{DriverNo};
+ghost use Rattle.irq_base.specs.declared.numbers.LineNo.{LineNo};
+ghost use Rattle.irq_model.specs.Legal.{IsLegalPast};
+ghost use Rattle.irq_model.specs.Owed.{IsDelivered};
+ghost use Rattle.irq_model.specs.Settled.{IsSettled};
+ghost use Rattle.play_laws.specs.Actors.{IsOneOf};
+ghost use Rattle.board_def.specs.Rules.{IsBoard};
+ghost use Rattle.board_def.specs.Seen.{BoardSeen};
+ghost use Rattle.board_play.specs.Current.{current_line};
+ghost use Rattle.board_play.specs.Kept.{AreKept, AreValid};
+ghost use Rattle.board_play.specs.Lines.{BoardLine, Move, find_line, lines_after, lines_of, part};
+ghost use Rattle.board_play.specs.Order.{due_move, actors_of};
+ghost use Rattle.board_play.specs.Play.{End, Done, Plays};
+
+/// A play is one function of the board and the picks: at most one list of moves and one end are its play.
+pub fn play_is_one()
+    ensures law { (board : BoardSeen) (picks : List Actor) (g h : List Move) (a b : End) → Plays board picks g a → Plays board picks h b → (g ≡ h) × (a ≡ b) }
+{}
+
+/// Each line's part of a play is legal, and what isn't a line's has no entry in it.
+pub fn parts_are_legal()
+    ensures law { (board : BoardSeen) (picks : List Actor) (g : List Move) (end : End) → IsBoard board → Plays board picks g end → (i : ℕ) (x : BoardLine) → slice_get (lines_of board g) i ≡ Some x → IsLegalPast x.def x.past }
+    ensures others { (board : BoardSeen) (picks : List Actor) (g : List Move) (end : End) → Plays board picks g end → (line : LineNo) → find_line (lines_of board g) line ≡ None → part line g ≡ [] }
+{}
+
+/// What a board's lines keep: every move of an actor keeps it, so it holds of every play. Each history is legal, and the
+/// drivers' calls are made in the order of their scripts, over all lines.
+pub fn play_keeps()
+    ensures step { (board : BoardSeen) (lines : List BoardLine) (a : Actor) (m : Move) → IsBoard board → AreKept board lines → due_move board lines a ≡ Some m → AreKept board (lines_after m lines) }
+    ensures law { (board : BoardSeen) (picks : List Actor) (g : List Move) (end : End) → IsBoard board → Plays board picks g end → AreKept board (lines_of board g) }
+{}
+
+/// No standstill: where none of the board's actors can move, every script is at its end, and each line is settled.
+pub fn no_standstill()
+    ensures complete { (board : BoardSeen) (lines : List BoardLine) → IsBoard board → AreValid board → AreKept board lines → ((a : Actor) → IsOneOf a (actors_of board) → due_move board lines a ≡ None) → (r : DriverNo) → current_line board.calls lines r ≡ None }
+    ensures settled { (board : BoardSeen) (lines : List BoardLine) → IsBoard board → AreValid board → AreKept board lines → ((a : Actor) → IsOneOf a (actors_of board) → due_move board lines a ≡ None) → (i : ℕ) (x : BoardLine) → slice_get lines i ≡ Some x → IsSettled x.def (reverse x.past) }
+{}
+
+/// Where a play is done every script is at its end and each line is settled, and so all is delivered.
+pub fn done_is_settled()
+    ensures complete { (board : BoardSeen) (picks : List Actor) (g : List Move) → IsBoard board → AreValid board → Plays board picks g Done → (r : DriverNo) → current_line board.calls (lines_of board g) r ≡ None }
+    ensures settled { (board : BoardSeen) (picks : List Actor) (g : List Move) → IsBoard board → AreValid board → Plays board picks g Done → (i : ℕ) (x : BoardLine) → slice_get (lines_of board g) i ≡ Some x → IsSettled x.def (reverse x.past) }
+    ensures delivered { (board : BoardSeen) (picks : List Actor) (g : List Move) → IsBoard board → AreValid board → Plays board picks g Done → (i : ℕ) (x : BoardLine) → slice_get (lines_of board g) i ≡ Some x → IsDelivered x.def (reverse x.past) }
+{}
