@@ -1,4 +1,4 @@
--- The line of a board that can be played so far is one of those that can be made, and it has a way.
+-- The line of a board that can be played so far has a way.
 use Rattle.std.proofs.Common.{◌≡◌, ℕ, ◌+◌, ◌<◌, ◌≤◌, ◌%◌, ◌==◌, Bool, true, false, not, ◌||◌, cond, nat_le, Some, None, List, [], ◌∷◌, length, filter, slice_get, refl, sym, ap, ◌∙◌, subst, arith}
 use Rattle.std.specs.List.{All}
 use Rattle.std.proofs.lemmas.Bool.Decides.{nat_tests}
@@ -31,12 +31,9 @@ use Rattle.board_def.specs.declared.rows.LineRow.{LineRow}
 use Rattle.board_def.specs.declared.rows.ScriptCall.{ScriptCall}
 use Rattle.board_stated.specs.BuiltBoard.{IsBuiltBoard}
 use Rattle.board_stated.specs.BuiltSoFar.{is_plain}
-use Rattle.line_core.specs.Built.{Built, IsPlainCall, no_flags}
 
 abbrev only_latch : ℕ → DomainDef
 only_latch size = record { map = maps.Linear size; chip = levels.Latch; parent = None }
-
--- ---- its row and its place
 
 same_row : (row other : LineRow) (lines : List LineRow) → lines ≡ row ∷ [] → lines ≡ other ∷ [] → row ≡ other
 same_row row other lines a b = let both = sym a ∙ b in cc
@@ -71,73 +68,3 @@ same_number n = grind (arith, nat_tests)
 pub found : (b : BoardSeen) (row : LineRow) → b.lines ≡ row ∷ [] → find_line b.lines row.line ≡ Some row
 found b row lines =
     ap (λ (rows : List LineRow). find_line rows row.line) lines ∙ ap (λ (t : Bool). cond t (Some row) None) (same_number row.line.0)
-
--- ---- its definition
-
-kinds_at : (b : BoardSeen) (k : IsBuiltBoard b) → kinds_from (defs_of b.domains) (Some k.row.domain) ≡ levels.Latch ∷ []
-kinds_at b k =
-    ap (λ (ds : List DomainRow). kinds_from (defs_of ds) (Some k.row.domain)) k.domains ∙ ap (λ (d : ℕ). kinds_from (only_latch k.size ∷ []) (Some d)) k.domain
-
-few_kept : {A : Type 0} (p : A → Bool) (xs : List A) → length (filter p xs) ≤ length xs
-few_kept p [] = omega arith
-few_kept p (x ∷ xs) = by_test (p x) (few_kept p xs)
-  where
-    by_test : (t : Bool) → length (filter p xs) ≤ length xs → length (cond t (x ∷ filter p xs) (filter p xs)) ≤ length (x ∷ xs)
-    by_test true h = omega (arith, h)
-    by_test false h = omega (arith, h)
-
-counted : {A : Type 0} (p : A → Bool) (xs : List A) → count_of p xs ≤ length xs
-counted p [] = omega arith
-counted p (x ∷ xs) = by_test (p x) (counted p xs)
-  where
-    by_test : (t : Bool) → count_of p xs ≤ length xs → cond t (count_of p xs + 1) (count_of p xs) ≤ length (x ∷ xs)
-    by_test true h = omega (arith, h)
-    by_test false h = omega (arith, h)
-
-all_direct : (devices : List DeviceDef) (line : LineNo) → All (λ x. (x.kind ≡ kinds.Direct) × (x.line ≡ line)) devices → All (λ x. x.kind ≡ kinds.Direct) devices
-all_direct devices line all = λ k d lt. (all k d lt).0
-
-bare : (s o n : Bool) → not (s || (o || n)) ≡ true → ◌≡◌ {A = Flags} (record { shared = s; oneshot = o; noauto = n }) no_flags
-bare false false false h = refl
-bare true o n h = cc
-bare false true n h = cc
-bare false false true h = cc
-
-plain_call : (call : Call) → is_plain call ≡ true → IsPlainCall call
-plain_call (calls.Ask dev) h = tt
-plain_call (calls.Request dev flags) h = bare flags.shared flags.oneshot flags.noauto h
-plain_call (calls.Free dev) h = tt
-plain_call _ h = cc
-
-all_plain : (script : List ScriptCall) (line : LineNo) → All (λ c. (is_plain c.call ≡ true) × (c.line ≡ line)) script → All (λ c. IsPlainCall c.call) script
-all_plain script line all = λ k d lt. plain_call _ (all k d lt).0
-
-built_line : (b : BoardSeen) (k : IsBuiltBoard b) → IsValid (line_of_row b k.row) → Built (line_of_row b k.row)
-built_line b k valid =
-    let def = line_of_row b k.row in
-    let latches = kinds_at b k in
-    let ours : ScriptCall → Bool = λ c. c.line.0 == k.row.line.0 in
-    let asks : DriverNo × Call → Bool = λ c. is_ask_call c.1 in
-    record {
-      valid = valid;
-      processor = k.cpus;
-      trigger = ap (λ (ks : List LevelKind). trigger_of_root (root_kind ks)) latches;
-      flow = ap (λ (ks : List LevelKind). flow_of_root (root_kind ks)) latches;
-      keeps = ap keeps latches;
-      recalls = ap recalls latches;
-      retriggers = ap retriggers latches;
-      unlazy = k.unlazy;
-      later = k.later;
-      mask = ap (λ (m : ℕ). m % 2) k.mask;
-      one_device = omega (arith, few_kept (λ (x : DeviceDef). x.line.0 == k.row.line.0) b.devices, k.few_devices);
-      direct = All-filter (λ (x : DeviceDef). x.line.0 == k.row.line.0) (λ x. x.kind ≡ kinds.Direct) b.devices (all_direct b.devices k.row.line k.devices);
-      calls =
-          All-map (λ (c : DriverNo × Call). IsPlainCall c.1) with_driver (filter ours b.calls)
-          (All-filter ours (λ (c : ScriptCall). IsPlainCall c.call) b.calls (all_plain b.calls k.row.line k.calls));
-      window = omega (arith, counted asks def.calls, valid.few_calls, k.window);
-    }
-
-pub built_row : (b : BoardSeen) → IsBuiltBoard b → (row : LineRow) → b.lines ≡ row ∷ [] → IsValid (line_of_row b row) → Built (line_of_row b row)
-built_row b k row lines valid =
-    let same = row_of b k row lines in
-    subst (λ (r : LineRow). Built (line_of_row b r)) (sym same) (built_line b k (subst (λ (r : LineRow). IsValid (line_of_row b r)) same valid))

@@ -13,7 +13,7 @@ use Rattle.irq_laws.proofs.ServedLaws.{served_when_idle}
 use Rattle.irq_laws.proofs.TakeLaws.{takes_are_counted}
 use Rattle.play_laws.specs.Play.{Done, Plays}
 use Rattle.play_laws.proofs.Rest.{done_is_settled}
-use Rattle.line_core.specs.Seen.{LineSeen}
+use Rattle.irq_line.specs.Seen.{LineSeen}
 use Rattle.line_play.specs.declared.plays.PlayEnd.{PlayEnd}
 use Rattle.line_play.specs.declared.plays.PlayEnd.TheVariants as ends
 use Rattle.line_play.specs.Playing.{IsPlay}
@@ -51,7 +51,7 @@ at_end : (line : LineSeen) (picks : List Actor) (end : PlayEnd) → IsValid line
 at_end line picks ends.Done valid legal play = headline line.def picks line.entries valid legal play
 at_end line picks (ends.Full len) valid legal play =
     let long = sym (length-reverse line.entries) ∙ play.0.2.1 in (record { play = play.0; legal = legal; length_is = long }, sym play.1 ∙ long)
-at_end line picks ends.NoMemory valid legal play = record { left = play.left; chosen = play.chosen; due = play.next; legal = legal; below = play.cause.0 }
+at_end line picks ends.NoMemory valid legal play = record { left = play.left; chosen = play.chosen; due = play.next; legal = legal; below = play.below }
 
 -- what the play's end says of the history that was taken out of the line
 pub ended : (def : LineDef) (line : LineSeen) (picks : List Actor) (h : List Entry) (end : PlayEnd) → line.def ≡ def → h ≡ line.entries → IsValid line.def → IsLegal line.def line.entries → IsPlay line picks end

@@ -1,5 +1,5 @@
--- The entries that come on the line have rows.
-use Rattle.std.proofs.Common.{◌≡◌, List, [], ◌∷◌, reverse, sym, subst}
+-- The entries that are due have rows.
+use Rattle.std.proofs.Common.{◌≡◌, ℕ, Bool, true, false, cond, is_some, List, [], ◌∷◌, reverse, sym, ap, ◌∙◌, subst}
 use Rattle.std.specs.List.{All}
 use Rattle.std.proofs.lemmas.List.{reverse-reverse, reverse-append}
 use Rattle.std.proofs.lemmas.List.Elements.{All-nil, All-push}
@@ -8,23 +8,42 @@ use Rattle.irq_base.specs.declared.entries.Entry.TheVariants as entries
 use Rattle.irq_base.specs.declared.entries.LinkAnswer.TheVariants as links
 use Rattle.irq_base.specs.declared.entries.AffinityAnswer.TheVariants as moves
 use Rattle.irq_base.specs.declared.lines.LineDef.{LineDef}
-use Rattle.irq_model.specs.Places.{EachEntry}
-use Rattle.line_core.specs.Due.{Comes}
+use Rattle.irq_base.specs.declared.calls.Flags.{Flags}
+use Rattle.irq_base.specs.declared.entries.AffinityAnswer.{AffinityAnswer}
+use Rattle.irq_base.specs.declared.entries.Errno.{Errno}
+use Rattle.irq_base.specs.declared.entries.Errno.TheVariants as errors
+use Rattle.irq_base.specs.declared.entries.LinkAnswer.{LinkAnswer}
+use Rattle.irq_base.specs.declared.entries.Opened.{Opened}
+use Rattle.irq_base.specs.declared.entries.Opened.TheVariants as opens
+use Rattle.irq_base.specs.declared.numbers.DevNo.{DevNo}
+use Rattle.irq_base.specs.declared.numbers.DriverNo.{DriverNo}
+use Rattle.irq_model.specs.Legal.{IsDue, IsLegal, IsLegalPast}
+use Rattle.irq_model.specs.Signal.{lowest_in}
+use Rattle.irq_laws.proofs.ImpliesDriver.{IsRequestDue, IsAffinityDue, opened_with, request_due, affinity_due}
 use Rattle.log_text.specs.EntryWords.{IsPrintable}
 
-printable : (def : LineDef) (e : Entry) → Comes def e → IsPrintable e
-printable def (entries.Request r d flags (links.Refused error) opened) h = cc
-printable def (entries.Affinity r mask (moves.Refused error)) h = absurd h
-printable def _ h = tt
+-- a request that was refused opened nothing
+opened_nothing : (def : LineDef) (r : DriverNo) (d : DevNo) (flags : Flags) (error : Errno) (opened : Opened) (past : List Entry) → IsRequestDue def r d flags (links.Refused error) opened past → opened ≡ opens.No
+opened_nothing def r d flags error opened past due = due.opened_is ∙ ap (opened_with def flags past) (sym due.answer_is)
 
-all_printable : (def : LineDef) (past : List Entry) → EachEntry (λ e before. Comes def e) past → All IsPrintable (reverse past)
+-- a mask is only refused as invalid
+refused_as : (error : Errno) (some later : Bool) → ◌≡◌ {A = AffinityAnswer} (moves.Refused error) (cond some (cond later moves.Later moves.Now) (moves.Refused errors.Inval)) → error ≡ errors.Inval
+refused_as error true true h = cc
+refused_as error true false h = cc
+refused_as error false later h = cc
+
+printable : (def : LineDef) (past : List Entry) (e : Entry) → IsDue def e past → IsPrintable e
+printable def past (entries.Request r d flags (links.Refused error) opened) due =
+    opened_nothing def r d flags error opened past (request_due def r d flags (links.Refused error) opened past due)
+printable def past (entries.Affinity r mask (moves.Refused error)) due =
+    refused_as error (is_some (lowest_in def.cpus mask)) def.later (affinity_due def r mask (moves.Refused error) past due).answer_is
+printable def past _ due = tt
+
+all_printable : (def : LineDef) (past : List Entry) → IsLegalPast def past → All IsPrintable (reverse past)
 all_printable def [] each = All-nil IsPrintable
 all_printable def (e ∷ past) each =
-    subst (All IsPrintable) (sym (reverse-append (e ∷ []) past)) (All-push IsPrintable (reverse past) e (all_printable def past each.1) (printable def e each.0))
+    subst (All IsPrintable) (sym (reverse-append (e ∷ []) past)) (All-push IsPrintable (reverse past) e (all_printable def past each.1) (printable def past e each.0))
 
--- each entry of a line's history has a row
-history_printable : (def : LineDef) (h : List Entry) → EachEntry (λ e before. Comes def e) (reverse h) → All IsPrintable h
-history_printable def h each = subst (All IsPrintable) (reverse-reverse h) (all_printable def (reverse h) each)
-
-pub history_printable_of : (def : LineDef) (entries h : List Entry) → h ≡ entries → EachEntry (λ e before. Comes def e) (reverse entries) → All IsPrintable h
-history_printable_of def entries h is each = subst (All IsPrintable) (sym is) (history_printable def entries each)
+-- each entry of a legal history has a row
+pub history_printable : (def : LineDef) (entries h : List Entry) → h ≡ entries → IsLegal def entries → All IsPrintable h
+history_printable def entries h is legal = subst (All IsPrintable) (reverse-reverse entries ∙ sym is) (all_printable def (reverse entries) legal)

@@ -8,9 +8,13 @@ ghost use Rattle.irq_top.specs.Headline.{HasEnded, PlaysLine};
 
 use board_def::{Board, Layout, LineRow};
 use irq_base::{History, LineNo, NoMemory, Path};
-use line_core::Line;
-use line_play::{PlayEnd, actors_of, play};
+use irq_line::{IrqLine, MakesLine};
+use line_core::MakesCellLine;
+use line_play::{PlayEnd, actors_of, play, scripts_of};
 use std::alloc::Global;
+
+/// The virq of the one line of a board.
+const FIRST_VIRQ: u32 = 1;
 
 /// The line of a board after its play, and where the lines lie.
 #[derive(Drop)]
@@ -72,7 +76,6 @@ fn play_line(
     row: LineRow,
     path: &Path,
 ) -> Result<(History, PlayEnd), NoMemory>
-    requires built { IsBuiltBoard board.now }
     requires row { board.now.lines ≡ row ∷ [] }
     requires path { IsPathOf board.now row.line path.now }
     ensures printable { IfOk result (λ played. All IsPrintable played.0.entries) }
@@ -81,10 +84,10 @@ fn play_line(
     board.is_board();
     let def = board.line_def(alloc, row.line, path)?;
     let actors = actors_of(alloc, &def)?;
-    let mut line = Line::new(alloc, &def)?;
-    let end = play(&mut line, board.picks(), actors.as_slice());
+    let scripts = scripts_of(alloc, &def)?;
+    let mut line = MakesCellLine.make(alloc, FIRST_VIRQ, &def)?;
+    let end = play(&mut line, board.picks(), actors.as_slice(), scripts);
     // what holds of every line, for the laws of its history
-    line.is_legal();
-    line.is_within_log();
+    line.is_sound();
     Ok((line.into_history(), end))
 }

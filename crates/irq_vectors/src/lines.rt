@@ -1,7 +1,7 @@
 //! The line that the tests take: one device, which a driver requests, frees and asks, as others may ask it too.
 ghost use Rattle.std.specs.Prelude.{◌≡◌, ◌≤◌, IfOk, IsTrue, false, length};
-ghost use Rattle.line_core.specs.Built.{Built};
-ghost use Rattle.line_core.specs.Tests.{takes_turns};
+ghost use Rattle.irq_model.specs.Valid.{IsValid};
+ghost use Rattle.line_play.specs.Tests.{takes_turns};
 
 use irq_base::{
     Call, CallList, DevNo, DeviceDef, DeviceList, DriverNo, Flags, FlowKind, Kind, LineDef, LineNo,
@@ -43,7 +43,7 @@ fn call_list(alloc: Global, items: &[(DriverNo, Call)]) -> Result<CallList, NoMe
 pub fn definition(alloc: Global, calls: &[(DriverNo, Call)]) -> Result<LineDef, NoMemory>
     requires calls { IsTrue (takes_turns false calls.now) }
     requires few { length calls.now ≤ 100 }
-    ensures built { IfOk result Built }
+    ensures valid { IfOk result IsValid }
     ensures cpus { IfOk result (λ def. def.cpus ≤ 32) }
     ensures devices { IfOk result (λ def. length def.devices ≤ 256) }
 {

@@ -4,6 +4,8 @@
 //! verdict: `lawful`, or `unlawful N`, where entry N, counted from 1, is the first that isn't due.
 #![tactic(auto)]
 
+#[cfg(test)]
+mod forms;
 mod judging;
 #[cfg(test)]
 mod lines;

@@ -1,50 +1,75 @@
-//! The line and the plain program of the due entry, side by side in every order in which the actors can move.
-ghost use Rattle.std.specs.Prelude.{◌≤◌, IsTrue, false, length};
-ghost use Rattle.line_core.specs.Tests.{takes_turns};
+//! The line and the plain line, side by side in every order in which the actors can move.
+ghost use Rattle.irq_model.specs.Valid.{IsValid};
 
 use crate::lines::{ASK, FREE, OTHER_ASK, REQUEST, definition};
-use irq_base::{Actor, Call, DriverNo, Entry};
-use line_core::{Line, Stepped};
+use callbacks::{ByKind, Callbacks};
+use irq_base::{Actor, LineDef};
+use irq_line::{IrqLine, MakesLine, StepRefused, Stepped};
+use line_core::MakesCellLine;
 use line_play::actors_of;
-use plain_next::next_slow;
+use plain_line::MakesPlainLine;
 use std::alloc::Global;
 use std::test::Fail;
 
-/// What the plain program says of an actor, and what its step does.
-#[derive(Clone, Copy)]
-struct Asked {
-    due: Option<Entry>,
-    stepped: Stepped,
-}
-
-impl Asked {
-    fn agrees(self) -> bool {
-        match self.due {
-            Some(entry) => self.stepped == Stepped::Added(entry),
-            None => self.stepped == Stepped::NotYet,
+/// One step, with the call of the handler where its answer is wanted.
+fn step<L: IrqLine>(line: &mut L, actor: Actor) -> Result<Stepped, StepRefused> {
+    match line.step(actor, None)? {
+        Stepped::Run {
+            def,
+            part,
+            unserved,
+        } => {
+            let said = Callbacks::new(ByKind).call(def, part, unserved);
+            line.step(actor, Some(said))
         }
+        other => Ok(other),
     }
 }
 
-/// Asks both after those moves on the line of the calls.
+/// Whether the same is told of both lines.
+fn tell_same<L: IrqLine, M: IrqLine>(line: &L, other: &M) -> bool {
+    line.in_flow() == other.in_flow()
+        && line.taker() == other.taker()
+        && line.lowest_thread() == other.lowest_thread()
+        && line.blocks() == other.blocks()
+}
+
+/// What a step of both did: nothing, where nothing was due; or they differ.
+#[derive(Clone, Copy, PartialEq, Eq)]
+enum Both {
+    Moved,
+    NotYet,
+    Differ,
+}
+
+fn step_both<L: IrqLine, M: IrqLine>(line: &mut L, other: &mut M, actor: Actor) -> Result<Both, Fail> {
+    let stepped = step(line, actor)?;
+    if stepped != step(other, actor)? || !tell_same(line, other) {
+        return Ok(Both::Differ);
+    }
+    match stepped {
+        Stepped::Added(_) => Ok(Both::Moved),
+        _ => Ok(Both::NotYet),
+    }
+}
+
+/// A step of both lines of the definition after those moves.
 fn ask(
     alloc: Global,
-    calls: &[(DriverNo, Call)],
+    def: &LineDef,
     moves: &[(usize, Actor)],
     actor: Actor,
-) -> Result<Asked, Fail>
-    requires calls { IsTrue (takes_turns false calls.now) }
-    requires few { length calls.now ≤ 100 }
+) -> Result<Both, Fail>
+    requires { IsValid def.now }
 {
-    let def = definition(alloc, calls)?;
-    let mut line = Line::new(alloc, &def)?;
+    let mut line = MakesCellLine.make(alloc, 1, def)?;
+    let mut plain = MakesPlainLine.make(alloc, 1, def)?;
     for (_, mover) in moves {
-        line.step(*mover)?;
+        if step_both(&mut line, &mut plain, *mover)? != Both::Moved {
+            return Ok(Both::Differ);
+        }
     }
-    line.is_within_log();
-    let due = next_slow(alloc, line.definition(), line.history(), actor)?;
-    let stepped = line.step(actor)?;
-    Ok(Asked { due, stepped })
+    step_both(&mut line, &mut plain, actor)
 }
 
 /// What comes of asking the actors in turn.
@@ -54,44 +79,39 @@ enum Turn {
     Moves(usize, Actor),
     /// None can.
     Rests,
-    /// The line and the plain program differ.
+    /// The two lines differ.
     Differs,
 }
 
 /// Asks the actors from that place on.
 fn next_turn(
     alloc: Global,
-    calls: &[(DriverNo, Call)],
+    def: &LineDef,
     moves: &[(usize, Actor)],
     from: usize,
 ) -> Result<Turn, Fail>
-    requires calls { IsTrue (takes_turns false calls.now) }
-    requires few { length calls.now ≤ 100 }
+    requires { IsValid def.now }
 {
-    let def = definition(alloc, calls)?;
-    let actors = actors_of(alloc, &def)?;
+    let actors = actors_of(alloc, def)?;
     for (place, actor) in actors.iter().enumerate().skip(from) {
-        let asked = ask(alloc, calls, moves, *actor)?;
-        if !asked.agrees() {
-            return Ok(Turn::Differs);
-        }
-        if asked.due.is_some() {
-            return Ok(Turn::Moves(place, *actor));
+        match ask(alloc, def, moves, *actor)? {
+            Both::Moved => return Ok(Turn::Moves(place, *actor)),
+            Both::NotYet => {}
+            Both::Differ => return Ok(Turn::Differs),
         }
     }
     Ok(Turn::Rests)
 }
 
-/// In how many orders the actors can move to the end; none where the line and the plain program differ on the way.
-fn count_orders(alloc: Global, calls: &[(DriverNo, Call)]) -> Result<Option<u32>, Fail>
-    requires calls { IsTrue (takes_turns false calls.now) }
-    requires few { length calls.now ≤ 100 }
+/// In how many orders the actors can move to the end; none where the two lines differ on the way.
+pub fn count_orders(alloc: Global, def: &LineDef) -> Result<Option<u32>, Fail>
+    requires { IsValid def.now }
 {
     let mut moves: Vec<(usize, Actor)> = vec![in alloc]?;
     let mut from = 0;
     let mut orders: u32 = 0;
     for _ in 0..100_000 {
-        match next_turn(alloc, calls, moves.as_slice(), from)? {
+        match next_turn(alloc, def, moves.as_slice(), from)? {
             Turn::Moves(place, actor) => {
                 moves.push((place, actor))?;
                 from = 0;
@@ -113,14 +133,21 @@ fn count_orders(alloc: Global, calls: &[(DriverNo, Call)]) -> Result<Option<u32>
 
 /// The numbers of orders are counted by hand.
 #[test]
-fn line_and_plain_program_agree_in_every_order(rt: HostRuntime) -> Result<(), Fail> {
+fn lines_agree_in_every_order(rt: HostRuntime) -> Result<(), Fail> {
     let alloc = rt.alloc();
-    assert_eq!(rt; count_orders(alloc, &[REQUEST, FREE])?, Some(1));
-    assert_eq!(rt; count_orders(alloc, &[REQUEST, ASK, FREE])?, Some(5));
-    assert_eq!(rt; count_orders(alloc, &[REQUEST, ASK, ASK])?, Some(5));
-    assert_eq!(rt; count_orders(alloc, &[REQUEST, ASK, ASK, FREE])?, Some(31));
-    assert_eq!(rt; count_orders(alloc, &[REQUEST, OTHER_ASK])?, Some(2));
-    assert_eq!(rt; count_orders(alloc, &[REQUEST, FREE, OTHER_ASK])?, Some(13));
-    assert_eq!(rt; count_orders(alloc, &[FREE, REQUEST])?, Some(1));
+    let def = definition(alloc, &[REQUEST, FREE])?;
+    assert_eq!(rt; count_orders(alloc, &def)?, Some(1));
+    let def = definition(alloc, &[REQUEST, ASK, FREE])?;
+    assert_eq!(rt; count_orders(alloc, &def)?, Some(5));
+    let def = definition(alloc, &[REQUEST, ASK, ASK])?;
+    assert_eq!(rt; count_orders(alloc, &def)?, Some(5));
+    let def = definition(alloc, &[REQUEST, ASK, ASK, FREE])?;
+    assert_eq!(rt; count_orders(alloc, &def)?, Some(31));
+    let def = definition(alloc, &[REQUEST, OTHER_ASK])?;
+    assert_eq!(rt; count_orders(alloc, &def)?, Some(2));
+    let def = definition(alloc, &[REQUEST, FREE, OTHER_ASK])?;
+    assert_eq!(rt; count_orders(alloc, &def)?, Some(13));
+    let def = definition(alloc, &[FREE, REQUEST])?;
+    assert_eq!(rt; count_orders(alloc, &def)?, Some(1));
     Ok(())
 }

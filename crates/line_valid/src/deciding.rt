@@ -1,0 +1,56 @@
+//! The whole definition.
+ghost use Rattle.std.specs.Prelude.{◌≡◌, IsTrue};
+ghost use Rattle.irq_model.specs.Valid.{IsValid};
+ghost use Rattle.line_valid.specs.Deciding.{fits, fits_numbers, fits_flow, fits_lists};
+
+use crate::calls::{all_named, has_one_owner, is_freed_between};
+use crate::devices::{all_on_line, has_distinct};
+use affinity::has_processor;
+use irq_base::{FlowKind, LineDef, Trigger};
+
+/// Whether the definition is valid. It never says so of another.
+#[tactic(auto, using(crate::proofs::FitsIsValid::fits_is_valid))]
+pub fn is_valid(def: &LineDef) -> bool
+    ensures fits { result ≡ fits def.now }
+    ensures sound { IsTrue result → IsValid def.now }
+{
+    fits_numbers(def) && fits_flow(def) && fits_lists(def)
+}
+
+fn fits_numbers(def: &LineDef) -> bool
+    ensures { result ≡ fits_numbers def.now }
+{
+    0 < def.cpus
+        && def.cpus < 33
+        && 0 < def.window
+        && def.window < 1_000_001
+        && def.limit < def.window
+        && 0 < def.log
+        && def.log < 100_000_001
+        && def.devices.len() < 257
+        && def.calls.len() < 16_385
+        && has_processor(def.cpus, def.mask)
+}
+
+fn fits_flow(def: &LineDef) -> bool
+    ensures { result ≡ fits_flow def.now }
+{
+    let edge = def.trigger == Trigger::Edge;
+    let level = def.trigger == Trigger::Level;
+    let eoi = def.flow == FlowKind::Eoi;
+    (def.flow != FlowKind::Edge || edge)
+        && (def.flow != FlowKind::Level || level)
+        && (!edge || !def.unlazy || def.keeps)
+        && (!edge || !eoi || def.keeps)
+        && (!edge || !eoi || def.retriggers)
+}
+
+fn fits_lists(def: &LineDef) -> bool
+    ensures { result ≡ fits_lists def.now }
+{
+    all_on_line(def)
+        && has_distinct(&def.devices)
+        && all_named(def)
+        && has_one_owner(&def.calls)
+        && is_freed_between(&def.calls)
+}
