@@ -10,11 +10,12 @@ use Rattle.irq_base.specs.declared.lines.LineDef.{LineDef}
 use Rattle.irq_base.specs.declared.numbers.DriverNo.{DriverNo}
 use Rattle.irq_line.specs.Seen.{LineSeen}
 use Rattle.irq_line.specs.declared.answers.StepRefused.{StepRefused}
-use Rattle.board_def.specs.Layout.{layout_of, is_mapped}
+use Rattle.board_def.specs.Layout.{layout_of}
+use Rattle.domain_rules.specs.Layout.{is_mapped}
 use Rattle.board_def.specs.LineOf.{line_of_row}
 use Rattle.board_def.specs.Rules.{IsBoard}
 use Rattle.board_def.specs.Seen.{BoardSeen}
-use Rattle.board_def.specs.declared.layouts.Placement.{Placement}
+use Rattle.domain_rules.specs.declared.layouts.Placement.{Placement}
 use Rattle.board_def.specs.declared.rows.LineRow.{LineRow}
 use Rattle.board_play.specs.Lines.{BoardLine, mapped, defs_of}
 use Rattle.board_play.specs.Order.{line_for}

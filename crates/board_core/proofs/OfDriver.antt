@@ -12,7 +12,7 @@ use Rattle.irq_laws.proofs.Chosen.{the_same}
 use Rattle.irq_laws.proofs.Lists.{both_ways}
 use Rattle.board_def.specs.Rules.{IsBoard, has_driver}
 use Rattle.board_def.specs.Seen.{BoardSeen}
-use Rattle.board_def.specs.declared.layouts.Placement.{Placement}
+use Rattle.domain_rules.specs.declared.layouts.Placement.{Placement}
 use Rattle.board_play.specs.Current.{current_line}
 use Rattle.board_play.specs.Lines.{BoardLine}
 use Rattle.board_play.specs.Order.{due_on}

@@ -19,7 +19,7 @@ use Rattle.irq_laws.proofs.OwnLaws.{due_is_own_past}
 use Rattle.std.proofs.lemmas.Bool.{false_from_ne_true}
 use Rattle.board_def.specs.Rules.{IsBoard}
 use Rattle.board_def.specs.Seen.{BoardSeen}
-use Rattle.board_def.specs.declared.layouts.Placement.{Placement}
+use Rattle.domain_rules.specs.declared.layouts.Placement.{Placement}
 use Rattle.board_def.proofs.Rising.{Rises, rises_on, head_of}
 use Rattle.board_play.specs.Kept.{AreKept}
 use Rattle.board_play.specs.Lines.{BoardLine, Move, find_line, lines_after}

@@ -3,7 +3,7 @@ use Rattle.std.specs.Prelude.{◌≡◌, ℕ, Some, List, map, reverse, slice_ge
 use Rattle.irq_base.specs.declared.entries.Actor.{Actor}
 use Rattle.irq_base.specs.declared.numbers.DriverNo.{DriverNo}
 use Rattle.board_def.specs.Seen.{BoardSeen}
-use Rattle.board_def.specs.declared.layouts.Placement.{Placement}
+use Rattle.domain_rules.specs.declared.layouts.Placement.{Placement}
 use Rattle.irq_line.specs.Seen.{LineSeen, IsSound}
 use Rattle.board_play.specs.Kept.{AreKept}
 use Rattle.board_play.specs.Order.{actors_of}

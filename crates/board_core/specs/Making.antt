@@ -5,8 +5,8 @@ use Rattle.irq_base.specs.declared.numbers.DriverNo.{DriverNo}
 use Rattle.irq_line.specs.Seen.{LineSeen, IsSound}
 use Rattle.board_def.specs.LineOf.{line_of_row}
 use Rattle.board_def.specs.Seen.{BoardSeen}
-use Rattle.board_def.specs.declared.layouts.Placement.{Placement}
-use Rattle.board_def.specs.declared.layouts.Placement.TheVariants as placements
+use Rattle.domain_rules.specs.declared.layouts.Placement.{Placement}
+use Rattle.domain_rules.specs.declared.layouts.Placement.TheVariants as placements
 use Rattle.board_def.specs.declared.rows.LineRow.{LineRow}
 use Rattle.board_play.specs.Lines.{defs_of, lines_of}
 use Rattle.board_core.specs.Scripts.{ScriptSeen, cut, calls_of}

@@ -1,7 +1,7 @@
 -- What is seen of a system.
 use Rattle.std.specs.Prelude.{List, map, reverse}
 use Rattle.board_def.specs.Seen.{BoardSeen}
-use Rattle.board_def.specs.declared.layouts.Placement.{Placement}
+use Rattle.domain_rules.specs.declared.layouts.Placement.{Placement}
 use Rattle.irq_line.specs.Seen.{LineSeen}
 use Rattle.board_play.specs.Lines.{BoardLine, Move}
 

@@ -7,11 +7,12 @@ use Rattle.irq_base.specs.declared.numbers.LineNo.{LineNo}
 use Rattle.irq_model.specs.Due.{calls_by}
 use Rattle.irq_model.specs.Kinds.{same_line, same_driver}
 use Rattle.irq_laws.proofs.Chosen.{the_same}
-use Rattle.board_def.specs.Layout.{layout_of, is_mapped}
+use Rattle.board_def.specs.Layout.{layout_of}
+use Rattle.domain_rules.specs.Layout.{is_mapped}
 use Rattle.board_def.specs.LineOf.{line_of_row, with_driver}
 use Rattle.board_def.specs.Rules.{IsBoard}
 use Rattle.board_def.specs.Seen.{BoardSeen}
-use Rattle.board_def.specs.declared.layouts.Placement.{Placement}
+use Rattle.domain_rules.specs.declared.layouts.Placement.{Placement}
 use Rattle.board_def.specs.declared.rows.LineRow.{LineRow}
 use Rattle.board_def.specs.declared.rows.ScriptCall.{ScriptCall}
 use Rattle.board_def.proofs.Rising.{Rises, rises_on, head_of, differ_back}

@@ -6,10 +6,11 @@ use Rattle.irq_base.specs.declared.entries.Entry.{Entry}
 use Rattle.irq_base.specs.declared.lines.LineDef.{LineDef}
 use Rattle.irq_base.specs.declared.numbers.LineNo.{LineNo}
 use Rattle.irq_model.specs.Kinds.{same_line}
-use Rattle.board_def.specs.Layout.{layout_of, is_mapped}
+use Rattle.board_def.specs.Layout.{layout_of}
+use Rattle.domain_rules.specs.Layout.{is_mapped}
 use Rattle.board_def.specs.LineOf.{line_of_row}
 use Rattle.board_def.specs.Seen.{BoardSeen}
-use Rattle.board_def.specs.declared.layouts.Placement.{Placement}
+use Rattle.domain_rules.specs.declared.layouts.Placement.{Placement}
 use Rattle.board_def.specs.declared.rows.LineRow.{LineRow}
 
 -- a line, and its entries so far
