@@ -8,6 +8,6 @@ mod PlacingSteps
 pub mod Rising
 mod Tabled
 pub mod Unnaming
-mod Validity
+pub mod Validity
 mod Walks
 mod LayoutRows
