@@ -14,7 +14,11 @@ use line_scripts::Scripts;
 
 /// How a play ends that can't go on for want of memory, from the line as it stands. `scripts`: the drivers' calls, of
 /// which none has begun.
-pub(crate) fn end_without_memory<L: IrqLine>(line: &L, actors: &[Actor], scripts: Scripts) -> PlayEnd
+pub(crate) fn end_without_memory<L: IrqLine>(
+    line: &L,
+    actors: &[Actor],
+    scripts: Scripts,
+) -> PlayEnd
     requires all { actors.now ≡ actors_of (L.seen line.now).def }
     requires unbegun { IsFollowing (L.seen line.now).def [] scripts }
     ensures { TellsEnd (L.seen line.now) result }

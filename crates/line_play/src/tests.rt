@@ -13,7 +13,7 @@ use irq_base::{
     Trigger, Way,
 };
 use irq_line::{IrqLine, MakesLine};
-use plain_line::MakesPlainLine;
+use line_core::MakesCellLine;
 use std::alloc::Global;
 use std::test::Fail;
 
@@ -167,7 +167,7 @@ fn plays(alloc: Global, case: &Case<'_>) -> Result<bool, Fail>
     let actors = actors_of(alloc, &def)?;
     let scripts = scripts_of(alloc, &def)?;
     // the lines that the tests take
-    let mut line = MakesPlainLine.make(alloc, 0, &def)?;
+    let mut line = MakesCellLine.make(alloc, 0, &def)?;
     let end = play(&mut line, case.picks, actors.as_slice(), scripts);
     let history = line.history();
     let same = (0..case.entries.len()).all(|i| history.get(i) == case.entries.get(i).copied());
