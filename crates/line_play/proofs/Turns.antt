@@ -17,7 +17,7 @@ use Rattle.irq_model.specs.Kinds.{same_dev, same_driver}
 use Rattle.irq_model.specs.Places.{count_of}
 use Rattle.irq_model.specs.Valid.{IsValid, requests_dev, frees_dev, names_one_of}
 use Rattle.irq_steps.proofs.Same.{dev_from_same, driver_from_same}
-use Rattle.line_play.specs.Tests.{takes_turns, has_flags, the_device, the_owner}
+use Rattle.line_play.specs.Tests.{takes_turns, has_flags, the_device, the_owner, one_device, test_line}
 
 abbrev no_flags : Flags
 no_flags = record { shared = false; oneshot = false; noauto = false }
@@ -76,9 +76,6 @@ turn_at : (b : Bool) (cs : List (DriverNo × Call)) (i : ℕ) (c : DriverNo × C
 turn_at b [] i c h at = cc
 turn_at b (x ∷ cs) zero c h at = subst IsTurn (same_item x c at) (first_turn b x cs h)
 turn_at b (x ∷ cs) (suc i) c h at = let r = behind b x cs h in turn_at r.0 cs i c r.1 at
-
-abbrev pub one_device : LineNo → List DeviceDef
-one_device line = record { dev = the_device; line = line; kind = kinds.Direct } ∷ []
 
 same_first : (dev : DevNo) → dev ≡ the_device → (same_dev dev the_device || false) ≡ true
 same_first dev h = rw h refl
@@ -153,25 +150,6 @@ freed_between b (c ∷ cs) (suc i) (suc j) x y d h lt at also is it =
 on_line : (line : LineNo) (k : ℕ) (x : DeviceDef) → k < 1 → (get_or (one_device line) k x).line ≡ line
 on_line line zero x lt = refl
 on_line line (suc k) x lt = absurd (omega arith)
-
-abbrev pub test_line : LineNo → ℕ → List (DriverNo × Call) → LineDef
-test_line line log cs = record {
-  line = line;
-  flow = flows.Edge;
-  trigger = triggers.Edge;
-  keeps = true;
-  recalls = true;
-  retriggers = true;
-  unlazy = false;
-  later = false;
-  mask = 1;
-  cpus = 1;
-  window = 100000;
-  limit = 99900;
-  log = log;
-  devices = one_device line;
-  calls = cs;
-}
 
 pub test_valid : (line : LineNo) (log : ℕ) (cs : List (DriverNo × Call)) → takes_turns false cs ≡ true → length cs ≤ 100 → 1 ≤ log → log ≤ 100000000 → IsValid (test_line line log cs)
 test_valid line log cs h few low high =

@@ -1,8 +1,7 @@
 //! Plays with picks. The expected logs are worked out by hand.
 ghost use Rattle.std.specs.Prelude.{◌≡◌, ℕ, ◌≤◌, IfOk, IsTrue, false, length, map};
 ghost use Rattle.irq_model.specs.Valid.{IsValid};
-ghost use Rattle.line_play.specs.Tests.{takes_turns};
-ghost use Rattle.line_play.proofs.Turns.{one_device, test_line};
+ghost use Rattle.line_play.specs.Tests.{takes_turns, one_device, test_line};
 
 use crate::actors::actors_of;
 use crate::following::scripts_of;

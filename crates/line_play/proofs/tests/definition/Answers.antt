@@ -3,7 +3,8 @@ use Rattle.irq_base.specs.declared.calls.Call.{Call}
 use Rattle.irq_base.specs.declared.numbers.DriverNo.{DriverNo}
 use Rattle.irq_base.specs.declared.numbers.LineNo.{LineNo}
 use Rattle.irq_model.specs.Valid.{IsValid}
-use Rattle.line_play.proofs.Turns.{test_valid, test_line}
+use Rattle.line_play.proofs.Turns.{test_valid}
+use Rattle.line_play.specs.Tests.{test_line}
 use Rattle.line_play.proofs.tests.definition.Goals as goal
 
 pub returns : goal.returns
