@@ -1,7 +1,8 @@
 //! Rows and texts of logs, by hand from their format.
 ghost use Rattle.std.specs.Prelude.{◌≡◌, ◌<◌, ◌≤◌, IsTrue, IfSome, true, length};
 ghost use Rattle.board_def.specs.Names.{is_name};
-ghost use Rattle.board_def.specs.Rules.{IsNumber, IsSize};
+ghost use Rattle.board_def.specs.Rules.{IsNumber};
+ghost use Rattle.domain_rules.specs.Domains.{IsSize};
 
 use crate::rows::read_row;
 use crate::{LogRefused, read_log};

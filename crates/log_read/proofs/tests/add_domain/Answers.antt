@@ -2,6 +2,7 @@ use Rattle.std.proofs.Common.{◌≡◌, ◌<◌, length, refl, sym, ap, ◌∙�
 use Rattle.board_def.specs.Names.{is_name, name_bytes}
 use Rattle.board_def.specs.declared.rows.DomainRow.{DomainRow}
 use Rattle.board_def.proofs.Grows.{grows_domain}
+use Rattle.board_def.proofs.Unnaming.{declared_def}
 use Rattle.board_def.proofs.NameBack.{name_back}
 use Rattle.log_read.proofs.TestBoards.{new_name}
 use Rattle.log_read.proofs.tests.add_domain.Goals as goal
@@ -16,8 +17,10 @@ add_domain-requires c =
       board = grows_domain b row c.is_board.ensures.board few (record {
         spelled = ap is_name bytes ∙ c.requires.spelled;
         new = new_name b.domains row.name c.find_domain.result c.find_domain.ensures c.if-not-is_new.ensures;
-        size = c.requires.size;
-        declared = c.if-not-is_declared.ensures.declared refl;
-        parent = sym c.if-has_bad_parent.ensures;
+        def = record {
+          size = c.requires.size;
+          declared = declared_def b.domains c.args.def.parent (c.if-not-is_declared.ensures.declared refl);
+          parent = sym c.if-has_bad_parent.ensures;
+        };
       });
     }
