@@ -33,8 +33,6 @@ const SHARED: Flags = Flags {
 
 const ASK: (DriverNo, Call) = (DRIVER, Call::Ask { dev: DEV });
 
-const ASK_SECOND: (DriverNo, Call) = (DRIVER, Call::Ask { dev: SECOND });
-
 const FREE: (DriverNo, Call) = (DRIVER, Call::Free { dev: DEV });
 
 const DISABLE: (DriverNo, Call) = (DRIVER, Call::Disable);
@@ -131,7 +129,7 @@ fn level_of_two_devices(rt: HostRuntime) -> Result<(), Fail> {
         rt.alloc(),
         Shape(FlowKind::Level, Trigger::Level, false),
         &[device(DEV, Kind::Check), device(SECOND, Kind::Direct)],
-        &[request(DEV, ONESHOT), request(SECOND, ONESHOT), ASK, ASK_SECOND],
+        &[request(DEV, ONESHOT), request(SECOND, ONESHOT), ASK],
     )?;
     assert!(rt; orders.is_some());
     Ok(())

@@ -46,6 +46,7 @@ pub fn definition(alloc: Global, calls: &[(DriverNo, Call)]) -> Result<LineDef, 
     ensures valid { IfOk result IsValid }
     ensures cpus { IfOk result (λ def. def.cpus ≤ 32) }
     ensures devices { IfOk result (λ def. length def.devices ≤ 256) }
+    ensures log { IfOk result (λ def. def.log ≡ 1000) }
 {
     let line = LineNo(7);
     let mut devices = DeviceList::new(alloc);

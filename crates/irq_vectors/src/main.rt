@@ -1,9 +1,11 @@
-//! Judges logs of single lines by the plain program of the due entry.
+//! Judges logs of single lines by the plain program of the due entry, and by a line beside it.
 //!
 //! Standard input has the name of a file a row. For each, standard output gets a row with the name and the
-//! verdict: `lawful`, or `unlawful N`, where entry N, counted from 1, is the first that isn't due.
+//! verdict: `lawful`, or `unlawful N`, where entry N, counted from 1, is the first that isn't due. Where the line
+//! tells another verdict than the plain program, or none can be made, the program says so and ends.
 #![tactic(auto)]
 
+mod by_line;
 #[cfg(test)]
 mod forms;
 mod judging;
@@ -13,17 +15,36 @@ mod lines;
 mod orders;
 mod reading;
 
-use anyhow::{Context, Result};
+use anyhow::{Context, Result, ensure};
+use by_line::judge_by_line;
 use judging::{Verdict, judge};
-use reading::read_log;
+use line_valid::is_valid;
+use reading::{LineLog, read_log};
+use std::alloc::Global;
 use std::fs;
 use std::rt::Files;
+
+/// The verdict on the log, on which the plain program and the line agree.
+fn judge_log(alloc: Global, log: &LineLog) -> Result<Verdict> {
+    ensure!(is_valid(&log.def), "no line has this definition");
+    ensure!(
+        log.entries.len() <= log.def.log as usize,
+        "more entries than the line logs"
+    );
+    let verdict = judge(alloc, &log.def, &log.entries)?;
+    let told = judge_by_line(alloc, &log.def, &log.entries)?;
+    ensure!(
+        told == verdict,
+        "the line tells {told}, the plain program {verdict}"
+    );
+    Ok(verdict)
+}
 
 /// The verdict on the log of that file.
 fn judge_file(rt: &(impl Files + AllocGlobal), name: &str) -> Result<Verdict> {
     let text = fs::read_to_string(rt, name).context(format_args!("reading {name}"))?;
     let log = read_log(rt.alloc(), text.as_str()).context(format_args!("in {name}"))?;
-    Ok(judge(rt.alloc(), &log.def, &log.entries)?)
+    judge_log(rt.alloc(), &log).context(format_args!("in {name}"))
 }
 
 fn main(rt: HostRuntime) -> Result<()> {

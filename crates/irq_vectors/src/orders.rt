@@ -42,7 +42,11 @@ enum Both {
     Differ,
 }
 
-fn step_both<L: IrqLine, M: IrqLine>(line: &mut L, other: &mut M, actor: Actor) -> Result<Both, Fail> {
+fn step_both<L: IrqLine, M: IrqLine>(
+    line: &mut L,
+    other: &mut M,
+    actor: Actor,
+) -> Result<Both, Fail> {
     let stepped = step(line, actor)?;
     if stepped != step(other, actor)? || !tell_same(line, other) {
         return Ok(Both::Differ);
@@ -54,12 +58,7 @@ fn step_both<L: IrqLine, M: IrqLine>(line: &mut L, other: &mut M, actor: Actor) 
 }
 
 /// A step of both lines of the definition after those moves.
-fn ask(
-    alloc: Global,
-    def: &LineDef,
-    moves: &[(usize, Actor)],
-    actor: Actor,
-) -> Result<Both, Fail>
+fn ask(alloc: Global, def: &LineDef, moves: &[(usize, Actor)], actor: Actor) -> Result<Both, Fail>
     requires { IsValid def.now }
 {
     let mut line = MakesCellLine.make(alloc, 1, def)?;

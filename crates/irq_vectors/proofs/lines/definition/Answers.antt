@@ -1,7 +1,8 @@
 use Rattle.std.proofs.Common.{arith, ◌≡◌, List, ◌++◌, ap, ◌∙◌}
 use Rattle.irq_base.specs.declared.devices.DeviceDef.{DeviceDef}
 use Rattle.irq_base.specs.declared.numbers.LineNo.{LineNo}
-use Rattle.line_play.proofs.Turns.{test_valid, one_device}
+use Rattle.line_play.proofs.Turns.{test_valid}
+use Rattle.line_play.specs.Tests.{one_device}
 use Rattle.irq_vectors.proofs.lines.definition.Goals as goal
 
 pub returns-clause-valid : goal.returns-clause-valid
