@@ -23,12 +23,12 @@ use Rattle.play_laws.specs.Actors.{threads_of as threads_of_line, cpus_of as cpu
 use Rattle.play_laws.proofs.Listed.{in_first, in_second, thread_device, mover_listed}
 use Rattle.board_def.specs.Rules.{IsBoard, has_driver}
 use Rattle.board_def.specs.Seen.{BoardSeen}
-use Rattle.board_play.specs.Kept.{AreValid, AreKept}
+use Rattle.board_play.specs.Kept.{AreKept}
 use Rattle.board_play.specs.Lines.{BoardLine, Move, defs_of}
 use Rattle.board_play.specs.Order.{line_for, due_move, threads_of, cpus_of, drivers_of, actors_of}
 use Rattle.board_play.proofs.Members.{def_there}
 use Rattle.board_play.proofs.Moves.{MovesOn, moves_on}
-use Rattle.board_play.proofs.OfBoard.{OfRow, def_of_row}
+use Rattle.board_play.proofs.OfBoard.{AreValid, OfRow, def_of_row}
 use Rattle.board_play.proofs.Script.{current}
 
 -- the definition of a line is the board's

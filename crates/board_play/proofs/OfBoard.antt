@@ -6,6 +6,7 @@ use Rattle.irq_base.specs.declared.numbers.DriverNo.{DriverNo}
 use Rattle.irq_base.specs.declared.numbers.LineNo.{LineNo}
 use Rattle.irq_model.specs.Due.{calls_by}
 use Rattle.irq_model.specs.Kinds.{same_line, same_driver}
+use Rattle.irq_model.specs.Valid.{IsValid}
 use Rattle.irq_laws.proofs.Chosen.{the_same}
 use Rattle.board_def.specs.Layout.{layout_of}
 use Rattle.domain_rules.specs.Layout.{is_mapped}
@@ -15,6 +16,7 @@ use Rattle.board_def.specs.Seen.{BoardSeen}
 use Rattle.domain_rules.specs.declared.layouts.Placement.{Placement}
 use Rattle.board_def.specs.declared.rows.LineRow.{LineRow}
 use Rattle.board_def.specs.declared.rows.ScriptCall.{ScriptCall}
+use Rattle.board_def.proofs.Validity.{valid_row}
 use Rattle.board_def.proofs.Rising.{Rises, rises_on, head_of, differ_back}
 use Rattle.board_play.specs.Current.{calls_on}
 use Rattle.board_play.specs.Lines.{mapped, defs_of}
@@ -42,6 +44,14 @@ of_row b (row ∷ rows) (place ∷ places) i d at = by_test (is_mapped place) i 
 
 pub def_of_row : (b : BoardSeen) (i : ℕ) (d : LineDef) → slice_get (defs_of b) i ≡ Some d → OfRow b b.lines d
 def_of_row b i d at = of_row b b.lines (layout_of b) i d at
+
+-- ---- they are valid
+
+abbrev pub AreValid : BoardSeen → Type 0
+AreValid board = (i : ℕ) (def : LineDef) → slice_get (defs_of board) i ≡ Some def → IsValid def
+
+pub valid_defs : (b : BoardSeen) → IsBoard b → AreValid b
+valid_defs b board i d at = let o = def_of_row b i d at in subst (λ (d : LineDef). IsValid d) o.is (valid_row b o.place o.row board o.at)
 
 -- ---- their numbers differ
 

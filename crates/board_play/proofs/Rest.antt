@@ -12,21 +12,22 @@ use Rattle.play_laws.specs.Actors.{IsOneOf}
 use Rattle.board_def.specs.Rules.{IsBoard}
 use Rattle.board_def.specs.Seen.{BoardSeen}
 use Rattle.board_play.specs.Current.{current_line}
-use Rattle.board_play.specs.Kept.{AreValid, AreKept}
+use Rattle.board_play.specs.Kept.{AreKept}
 use Rattle.board_play.specs.Lines.{BoardLine, Move, lines_of}
 use Rattle.board_play.specs.Order.{due_move, actors_of}
 use Rattle.board_play.specs.Play.{Done, or_move, first_move, with_picks, or_choice, choice, Plays}
 use Rattle.board_play.proofs.KeptAlways.{play_keeps}
 use Rattle.board_play.proofs.Listed.{all_rest, def_at}
+use Rattle.board_play.proofs.OfBoard.{valid_defs}
 use Rattle.board_play.proofs.Standstill.{scripts_end, lines_settle}
 
-pub scripts_are_complete : (board : BoardSeen) (lines : List BoardLine) → IsBoard board → AreValid board → AreKept board lines → ((a : Actor) → IsOneOf a (actors_of board) → due_move board lines a ≡ None) → (r : DriverNo)
+pub scripts_are_complete : (board : BoardSeen) (lines : List BoardLine) → IsBoard board → AreKept board lines → ((a : Actor) → IsOneOf a (actors_of board) → due_move board lines a ≡ None) → (r : DriverNo)
     → current_line board.calls lines r ≡ None
-scripts_are_complete board lines is valid k rest = scripts_end board is valid lines k (all_rest board is valid lines k rest)
+scripts_are_complete board lines is k rest = scripts_end board is (valid_defs board is) lines k (all_rest board is (valid_defs board is) lines k rest)
 
-pub lines_are_settled : (board : BoardSeen) (lines : List BoardLine) → IsBoard board → AreValid board → AreKept board lines → ((a : Actor) → IsOneOf a (actors_of board) → due_move board lines a ≡ None)
+pub lines_are_settled : (board : BoardSeen) (lines : List BoardLine) → IsBoard board → AreKept board lines → ((a : Actor) → IsOneOf a (actors_of board) → due_move board lines a ≡ None)
     → (i : ℕ) (x : BoardLine) → slice_get lines i ≡ Some x → IsSettled x.def (reverse x.past)
-lines_are_settled board lines is valid k rest = lines_settle board is valid lines k (all_rest board is valid lines k rest)
+lines_are_settled board lines is k rest = lines_settle board is (valid_defs board is) lines k (all_rest board is (valid_defs board is) lines k rest)
 
 -- ---- a play that is done
 
@@ -55,14 +56,14 @@ none_left board lines (pick ∷ picks) h = none_left board lines picks (none_eit
 pub done_rests : (board : BoardSeen) (picks : List Actor) (g : List Move) → Plays board picks g Done → (a : Actor) → IsOneOf a (actors_of board) → due_move board (lines_of board g) a ≡ None
 done_rests board picks g plays a at = none_listed board (lines_of board g) (actors_of board) a (none_left board (lines_of board g) plays.0 plays.2) at
 
-pub done_is_complete : (board : BoardSeen) (picks : List Actor) (g : List Move) → IsBoard board → AreValid board → Plays board picks g Done → (r : DriverNo) → current_line board.calls (lines_of board g) r ≡ None
-done_is_complete board picks g is valid plays = scripts_are_complete board (lines_of board g) is valid (play_keeps board picks g Done is plays) (done_rests board picks g plays)
+pub done_is_complete : (board : BoardSeen) (picks : List Actor) (g : List Move) → IsBoard board → Plays board picks g Done → (r : DriverNo) → current_line board.calls (lines_of board g) r ≡ None
+done_is_complete board picks g is plays = scripts_are_complete board (lines_of board g) is (play_keeps board picks g Done is plays) (done_rests board picks g plays)
 
-pub done_is_settled : (board : BoardSeen) (picks : List Actor) (g : List Move) → IsBoard board → AreValid board → Plays board picks g Done → (i : ℕ) (x : BoardLine) → slice_get (lines_of board g) i ≡ Some x → IsSettled x.def (reverse x.past)
-done_is_settled board picks g is valid plays = lines_are_settled board (lines_of board g) is valid (play_keeps board picks g Done is plays) (done_rests board picks g plays)
+pub done_is_settled : (board : BoardSeen) (picks : List Actor) (g : List Move) → IsBoard board → Plays board picks g Done → (i : ℕ) (x : BoardLine) → slice_get (lines_of board g) i ≡ Some x → IsSettled x.def (reverse x.past)
+done_is_settled board picks g is plays = lines_are_settled board (lines_of board g) is (play_keeps board picks g Done is plays) (done_rests board picks g plays)
 
-pub done_is_delivered : (board : BoardSeen) (picks : List Actor) (g : List Move) → IsBoard board → AreValid board → Plays board picks g Done → (i : ℕ) (x : BoardLine) → slice_get (lines_of board g) i ≡ Some x → IsDelivered x.def (reverse x.past)
-done_is_delivered board picks g is valid plays i x at =
+pub done_is_delivered : (board : BoardSeen) (picks : List Actor) (g : List Move) → IsBoard board → Plays board picks g Done → (i : ℕ) (x : BoardLine) → slice_get (lines_of board g) i ≡ Some x → IsDelivered x.def (reverse x.past)
+done_is_delivered board picks g is plays i x at =
     let k = play_keeps board picks g Done is plays in
-    settled_is_delivered x.def (reverse x.past) (valid i x.def (def_at board (lines_of board g) k i x at))
-    (subst (λ (p : List Entry). IsLegalPast x.def p) (sym (reverse-reverse x.past)) (k.legal i x at)) (done_is_settled board picks g is valid plays i x at)
+    settled_is_delivered x.def (reverse x.past) (valid_defs board is i x.def (def_at board (lines_of board g) k i x at))
+    (subst (λ (p : List Entry). IsLegalPast x.def p) (sym (reverse-reverse x.past)) (k.legal i x at)) (done_is_settled board picks g is plays i x at)

@@ -24,7 +24,7 @@ use Rattle.irq_laws.proofs.DriversMove.{drivers_move}
 use Rattle.board_def.specs.Rules.{IsBoard}
 use Rattle.board_def.specs.Seen.{BoardSeen}
 use Rattle.board_play.specs.Current.{calls_on, current_line}
-use Rattle.board_play.specs.Kept.{AreValid, AreKept}
+use Rattle.board_play.specs.Kept.{AreKept}
 use Rattle.board_play.specs.Lines.{BoardLine, find_line}
 use Rattle.board_play.specs.Order.{flow_line, due_line, or_line, line_for, move_on, due_on, due_move}
 use Rattle.board_play.proofs.Counting.{all_complete, not_all_complete}
@@ -33,7 +33,7 @@ use Rattle.board_play.proofs.Listed.{def_at}
 use Rattle.board_play.proofs.Members.{find_there}
 use Rattle.board_play.proofs.Moves.{line_stands}
 use Rattle.board_play.proofs.Moving.{begun_is_current}
-use Rattle.board_play.proofs.OfBoard.{calls_fit}
+use Rattle.board_play.proofs.OfBoard.{AreValid, calls_fit}
 use Rattle.board_play.proofs.Script.{is_on, in_all, done, current, no_current}
 
 none_due : (line : LineNo) (o : Option Entry) → move_on line o ≡ None → o ≡ None

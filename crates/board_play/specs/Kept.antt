@@ -1,12 +1,10 @@
 -- What every move of a board keeps, however its lines came to be as they are.
 use Rattle.std.specs.Prelude.{◌≡◌, ℕ, suc, IsSomeAnd, Some, List, length, map, take, slice_get}
 use Rattle.irq_base.specs.declared.calls.Call.{Call}
-use Rattle.irq_base.specs.declared.lines.LineDef.{LineDef}
 use Rattle.irq_base.specs.declared.numbers.DriverNo.{DriverNo}
 use Rattle.irq_base.specs.declared.numbers.LineNo.{LineNo}
 use Rattle.irq_model.specs.Due.{due_call}
 use Rattle.irq_model.specs.Legal.{IsLegalPast}
-use Rattle.irq_model.specs.Valid.{IsValid}
 use Rattle.irq_laws.specs.Kept.{complete_by}
 use Rattle.board_def.specs.Seen.{BoardSeen}
 use Rattle.board_def.specs.declared.rows.ScriptCall.{ScriptCall}
@@ -22,10 +20,6 @@ IsCallOn line r c = (c.line ≡ line) × (c.driver ≡ r)
 pub record IsUpTo (calls : List ScriptCall) (lines : List BoardLine) (r : DriverNo) (place : ℕ) : Type 0 where
   pub complete : (i : ℕ) (x : BoardLine) → slice_get lines i ≡ Some x → length (complete_by x.def r x.past) ≡ calls_on x.def.line r (take place calls)
   pub begun : (i : ℕ) (x : BoardLine) (c : Call) (n : ℕ) → slice_get lines i ≡ Some x → due_call x.def r x.past ≡ Some (c, suc n) → IsSomeAnd (slice_get calls place) (IsCallOn x.def.line r)
-
--- the definitions of the board's lines are valid
-abbrev pub AreValid : BoardSeen → Type 0
-AreValid board = (i : ℕ) (def : LineDef) → slice_get (defs_of board) i ≡ Some def → IsValid def
 
 -- the lines are the board's, each history is legal, and the drivers' calls are made in the order of their scripts
 pub record AreKept (board : BoardSeen) (lines : List BoardLine) : Type 0 where

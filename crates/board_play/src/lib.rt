@@ -14,7 +14,7 @@ ghost use Rattle.play_laws.specs.Actors.{IsOneOf};
 ghost use Rattle.board_def.specs.Rules.{IsBoard};
 ghost use Rattle.board_def.specs.Seen.{BoardSeen};
 ghost use Rattle.board_play.specs.Current.{current_line};
-ghost use Rattle.board_play.specs.Kept.{AreKept, AreValid};
+ghost use Rattle.board_play.specs.Kept.{AreKept};
 ghost use Rattle.board_play.specs.Lines.{BoardLine, Move, find_line, lines_after, lines_of, part};
 ghost use Rattle.board_play.specs.Order.{due_move, actors_of};
 ghost use Rattle.board_play.specs.Play.{End, Done, Plays};
@@ -39,13 +39,13 @@ pub fn play_keeps()
 
 /// No standstill: where none of the board's actors can move, every script is at its end, and each line is settled.
 pub fn no_standstill()
-    ensures complete { (board : BoardSeen) (lines : List BoardLine) → IsBoard board → AreValid board → AreKept board lines → ((a : Actor) → IsOneOf a (actors_of board) → due_move board lines a ≡ None) → (r : DriverNo) → current_line board.calls lines r ≡ None }
-    ensures settled { (board : BoardSeen) (lines : List BoardLine) → IsBoard board → AreValid board → AreKept board lines → ((a : Actor) → IsOneOf a (actors_of board) → due_move board lines a ≡ None) → (i : ℕ) (x : BoardLine) → slice_get lines i ≡ Some x → IsSettled x.def (reverse x.past) }
+    ensures complete { (board : BoardSeen) (lines : List BoardLine) → IsBoard board → AreKept board lines → ((a : Actor) → IsOneOf a (actors_of board) → due_move board lines a ≡ None) → (r : DriverNo) → current_line board.calls lines r ≡ None }
+    ensures settled { (board : BoardSeen) (lines : List BoardLine) → IsBoard board → AreKept board lines → ((a : Actor) → IsOneOf a (actors_of board) → due_move board lines a ≡ None) → (i : ℕ) (x : BoardLine) → slice_get lines i ≡ Some x → IsSettled x.def (reverse x.past) }
 {}
 
 /// Where a play is done every script is at its end and each line is settled, and so all is delivered.
 pub fn done_is_settled()
-    ensures complete { (board : BoardSeen) (picks : List Actor) (g : List Move) → IsBoard board → AreValid board → Plays board picks g Done → (r : DriverNo) → current_line board.calls (lines_of board g) r ≡ None }
-    ensures settled { (board : BoardSeen) (picks : List Actor) (g : List Move) → IsBoard board → AreValid board → Plays board picks g Done → (i : ℕ) (x : BoardLine) → slice_get (lines_of board g) i ≡ Some x → IsSettled x.def (reverse x.past) }
-    ensures delivered { (board : BoardSeen) (picks : List Actor) (g : List Move) → IsBoard board → AreValid board → Plays board picks g Done → (i : ℕ) (x : BoardLine) → slice_get (lines_of board g) i ≡ Some x → IsDelivered x.def (reverse x.past) }
+    ensures complete { (board : BoardSeen) (picks : List Actor) (g : List Move) → IsBoard board → Plays board picks g Done → (r : DriverNo) → current_line board.calls (lines_of board g) r ≡ None }
+    ensures settled { (board : BoardSeen) (picks : List Actor) (g : List Move) → IsBoard board → Plays board picks g Done → (i : ℕ) (x : BoardLine) → slice_get (lines_of board g) i ≡ Some x → IsSettled x.def (reverse x.past) }
+    ensures delivered { (board : BoardSeen) (picks : List Actor) (g : List Move) → IsBoard board → Plays board picks g Done → (i : ℕ) (x : BoardLine) → slice_get (lines_of board g) i ≡ Some x → IsDelivered x.def (reverse x.past) }
 {}
