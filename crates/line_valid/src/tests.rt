@@ -62,7 +62,12 @@ fn definition(
 #[test]
 fn valid_and_not(rt: HostRuntime) -> Result<(), Fail> {
     let alloc = rt.alloc();
-    let fine = [(OWNER, REQUEST), (OTHER, ASK), (OWNER, FREE), (OWNER, REQUEST)];
+    let fine = [
+        (OWNER, REQUEST),
+        (OTHER, ASK),
+        (OWNER, FREE),
+        (OWNER, REQUEST),
+    ];
     assert!(rt; is_valid(&definition(alloc, FlowKind::Edge, &fine)?));
     assert!(rt; is_valid(&definition(alloc, FlowKind::Eoi, &fine)?));
     assert!(rt; !is_valid(&definition(alloc, FlowKind::Level, &fine)?));
