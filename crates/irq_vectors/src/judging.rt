@@ -57,32 +57,3 @@ pub fn judge(alloc: Global, def: &LineDef, entries: &[Entry]) -> Result<Verdict,
     }
     Ok(Verdict::Lawful)
 }
-
-#[cfg(test)]
-mod tests {
-    use super::*;
-    use crate::lines::{ASK, DEV, OWNER, REQUEST, definition};
-    use irq_base::{Flags, LinkAnswer, Opened, Resend};
-    use std::test::Fail;
-
-    #[test]
-    fn an_ask_is_due_after_its_request(rt: HostRuntime) -> Result<(), Fail> {
-        let def = definition(rt.alloc(), &[REQUEST, ASK])?;
-        let request = Entry::Request {
-            driver: OWNER,
-            dev: DEV,
-            flags: Flags::NONE,
-            answer: LinkAnswer::Linked,
-            opened: Opened::Started { resend: Resend::No },
-        };
-        let ask = Entry::Ask {
-            driver: OWNER,
-            dev: DEV,
-        };
-        let lawful = judge(rt.alloc(), &def, &[request, ask])?;
-        let twice = judge(rt.alloc(), &def, &[request, request])?;
-        assert!(rt; lawful == Verdict::Lawful);
-        assert!(rt; twice == Verdict::Unlawful { entry: 2 });
-        Ok(())
-    }
-}

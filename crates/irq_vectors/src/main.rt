@@ -6,13 +6,7 @@
 #![tactic(auto)]
 
 mod by_line;
-#[cfg(test)]
-mod forms;
 mod judging;
-#[cfg(test)]
-mod lines;
-#[cfg(test)]
-mod orders;
 mod reading;
 
 use anyhow::{Context, Result, ensure};
