@@ -50,6 +50,7 @@ abbrev pub is_being_freed_at : List Entry → List Entry → Bool
 is_being_freed_at after (entries.Unlink driver dev (unlinks.Unlinked last) ∷ past) = not (list_any (is_freed_by driver) after)
 is_being_freed_at after _ = false
 
--- the request mutex is held, from an unlink to its driver's end of the free
+-- the request mutex is held, from an unlink to its driver's end of the free: until then the device's thread may run, and
+-- a request must not find its thread bit given away
 abbrev pub holds_mutex : List Entry → Bool
 holds_mutex past = some_place is_being_freed_at past

@@ -58,7 +58,9 @@ abbrev pub finish_unmasks : LineDef → DevNo → List Entry → Bool
 finish_unmasks def d past =
     not (is_woken past d) && (not (is_disabled past) && (is_masked def past && not (is_other_unfinished def past d)))
 
--- after the thread's handler returned: on a one-shot line it gives its bit up, once no flow is in progress
+-- after the thread's handler returned: on a one-shot line it gives its bit up, once no flow is in progress.
+-- Why it waits: a thread may be done before the flow that woke it has come to its end. Would it open the line then, the
+-- flow could mask it behind the thread's back, or leave it masked for a thread that is gone, and nobody would open it.
 abbrev pub finish_or_done : LineDef → DevNo → List Entry → Option Entry
 finish_or_done def d past =
     if is_oneshot past && not (list_any (is_finish d) (since (is_thread_return d) past))
@@ -97,7 +99,9 @@ end_level def c past note may_open = entries.End c false (may_open && (is_masked
 
 -- the flow's end: the edge flow goes on with what is pending; the level flow opens the line unless a thread
 -- still holds it; the fast-EOI flow does so on a one-shot level line, and on an edge line sends what is
--- pending again
+-- pending again.
+-- Why an edge line sends it again: this flow has no loop, and the controller has forgotten an edge that was taken while
+-- the flow was in progress.
 abbrev pub end_by_flow : LineDef → FlowKind → CpuNo → List Entry → Note → Entry
 end_by_flow def flows.Edge c past note = end_edge def c past note (is_pending def past && not (is_off_now past note))
 end_by_flow def flows.Level c past note = end_level def c past note (not (is_off_now past note))
@@ -119,6 +123,8 @@ next_in_flow def c past None = begin_or_end def c past (first_left def past (lin
 
 -- ---- processors: taking an interrupt (the flow handlers' beginnings)
 
+-- Why Busy: one processor at a time walks the actions. What another takes meanwhile is left pending, and on the edge flow
+-- the line is masked, so that the same source can't come again and again until the first one goes on with it.
 abbrev pub take_answer : LineDef → List Entry → TakeAnswer
 take_answer def past = if has_flow def past then takes.Busy else (if is_disabled past || is_none_linked past then takes.Off else takes.Handle)
 
@@ -213,7 +219,8 @@ abbrev pub next_of_disable : LineDef → DriverNo → ℕ → List Entry → Opt
 next_of_disable def r n past =
     if n == 0 then Some (entries.Disable r) else (if n == 1 then hard_clear_of def r past else synced_of def r past)
 
--- `free_irq`
+-- `free_irq`. The hard clear stands before the thread's end, since a handler that is still at work may wake the thread
+-- once more.
 abbrev pub next_of_free : LineDef → DriverNo → DevNo → ℕ → List Entry → Option Entry
 next_of_free def r d n past =
     if n == 0 then (if holds_mutex past then None else Some (entries.Unlink r d (unlink_answer d past)))

@@ -50,7 +50,8 @@ unhandled now c = record c { irqs_unhandled = (if nat_lt 100 (now - c.last_unhan
 abbrev pub judged : ℕ → ℕ → ℕ → Bool → Counts → Noted
 judged window limit now handled c = counted window limit (if handled then c else unhandled now c)
 
--- an end whose round woke threads alone: judged at the next by whether a thread has served since
+-- An end whose round woke threads alone: judged at the next by whether a thread has served since. Why deferred: at the end
+-- nobody knows yet whether the thread will find the device in need.
 abbrev pub judged_by_threads : ℕ → ℕ → ℕ → Counts → Noted
 judged_by_threads window limit now c =
     if c.threads_handled == c.last then judged window limit now false c
