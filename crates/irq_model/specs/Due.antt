@@ -51,6 +51,6 @@ is_being_freed_at after (entries.Unlink driver dev (unlinks.Unlinked last) ∷ p
 is_being_freed_at after _ = false
 
 -- the request mutex is held, from an unlink to its driver's end of the free: until then the device's thread may run, and
--- a request must not find its thread bit given away
+-- no request may be given its thread bit
 abbrev pub holds_mutex : List Entry → Bool
 holds_mutex past = some_place is_being_freed_at past
