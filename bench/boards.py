@@ -1,24 +1,62 @@
 #!/usr/bin/env python3
-"""Writes boards at the limits of the format into a folder: texts of picks, of calls, of comments, of one word."""
+"""Writes boards at the limits of the format into a folder: long histories, many lines, and texts of picks, of calls, of
+comments, of one word. Boards for `run` stand among them where their lines end in the same states whatever the order."""
 import os
 import sys
 
-HEAD = "board 1\nlog 1000000\ndomain intc linear 4 latch\nline 1 intc 2\ndevice 1 1 direct\ndriver 1\nrequest 1\n"
 LONGEST = 1048576
+LATCH = "board 1\nlog 1000000\ndomain intc linear 4 latch\nline 1 intc 2\ndevice 1 1 direct\ndriver 1\nrequest 1\n"
+
+
+def storms(lines, rounds):
+    """Level lines, each with a device that nobody recognises, killed after so many rounds of four entries each."""
+    rows = ["board 1", f"spurious {rounds} {rounds - 1}", "log 1000000", "domain wire linear 64 level"]
+    rows += [f"line {i} wire {i}" for i in range(1, lines + 1)]
+    rows += [f"device {i} {i} stuck" for i in range(1, lines + 1)]
+    for i in range(1, lines + 1):
+        rows += [f"driver {i}", f"request {i}", f"ask {i}"]
+    return rows
+
+
+def crowd(rounds):
+    """64 lines, 256 devices, 32 processors and 64 drivers: on each line three devices share it with one that nobody
+    recognises, until it is killed after so many rounds of ten entries each."""
+    rows = ["board 1", "cpus 32", f"spurious {rounds} {rounds - 1}", "log 62500", "domain wire linear 64 level"]
+    rows += [f"line {i} wire {i - 1} mask {1 << (i - 1) % 32}" for i in range(1, 65)]
+    rows += [f"device {d} {(d - 1) // 4 + 1} {'stuck' if d % 4 == 1 else 'direct'}" for d in range(1, 257)]
+    for i in range(1, 65):
+        rows += [f"driver {i}", *(f"request {d} shared" for d in range(4 * i - 3, 4 * i + 1)), f"ask {4 * i - 3}"]
+    return rows
+
+
+def calls():
+    """64 lines of messages whose devices have threads, and all the calls that a board may have."""
+    rows = ["board 1", "cpus 32", "log 62500", "domain vector linear 64 vector", "domain msi tree msi parent vector"]
+    rows += [f"line {i} msi {i} mask {1 << (i - 1) % 32}" for i in range(1, 65)]
+    rows += [f"device {d} {(d - 1) // 4 + 1} check" for d in range(1, 257)]
+    for i in range(1, 65):
+        devices = range(4 * i - 3, 4 * i + 1)
+        rows += [f"driver {i}", *(f"request {d} shared oneshot" for d in devices)]
+        rows += [f"ask {4 * i - 3 + k % 4}" for k in range(252)]
+    return rows
 
 
 def main(folder):
     os.makedirs(folder, exist_ok=True)
     texts = {
-        "picks.board": HEAD + "ask 1\n" + "picks" + " d1" * 65536 + "\n",
-        "calls.board": HEAD + "ask 1\n" * 16382 + "free 1\n",
-        "comments.board": HEAD + "ask 1\n" + "# " * ((LONGEST - len(HEAD) - 8) // 2) + "\n",
-        "lines.board": HEAD + "ask 1\n" + "\n" * (LONGEST - len(HEAD) - 6),
-        "word.board": HEAD + "ask 1\n" + "x" * (LONGEST - len(HEAD) - 7) + "\n",
-        "many.board": HEAD + "ask 1\n" + "picks" + " x1" * 349000 + "\n",
+        "storms.board": "\n".join(storms(4, 249990)) + "\n",
+        "three_storms.board": "\n".join(storms(3, 232000)) + "\n",
+        "crowd.board": "\n".join(crowd(6200)) + "\n",
+        "threads.board": "\n".join(calls()) + "\n",
+        "picks.board": LATCH + "ask 1\n" + "picks" + " d1" * 65536 + "\n",
+        "calls.board": LATCH + "ask 1\n" * 16382 + "free 1\n",
+        "comments.board": LATCH + "ask 1\n" + "# " * ((LONGEST - len(LATCH) - 8) // 2) + "\n",
+        "empty_lines.board": LATCH + "ask 1\n" + "\n" * (LONGEST - len(LATCH) - 6),
+        "word.board": LATCH + "ask 1\n" + "x" * (LONGEST - len(LATCH) - 7) + "\n",
+        "misspelt_picks.board": LATCH + "ask 1\n" + "picks" + " x1" * 349000 + "\n",
     }
     for name, text in texts.items():
-        with open(os.path.join(folder, name), "w") as out:
+        with open(os.path.join(folder, name), "w", encoding="ascii") as out:
             out.write(text)
 
 
