@@ -20,6 +20,3 @@ pub mod state;
 pub mod thread_due;
 
 pub use state::LineState;
-
-#[cfg(test)]
-mod tests;
