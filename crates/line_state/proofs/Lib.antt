@@ -4,4 +4,3 @@ pub mod Targets
 pub mod Unlinking
 pub mod Expecting
 pub mod Keeping
-pub mod TestLines
