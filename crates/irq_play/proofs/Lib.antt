@@ -1,0 +1,6 @@
+mod Writing
+mod Printable
+mod Turned
+mod OfRows
+mod Ended
+

@@ -1,0 +1,32 @@
+//! Prints a play: the rows of the layout, then those of the moves, each row by itself.
+ghost use Rattle.std.specs.Prelude.{◌≡◌, ℕ, ◌++◌, All, length};
+ghost use Rattle.board_def.specs.Layout.{layout_of};
+ghost use Rattle.irq_io.specs.Faults.{Counts};
+ghost use Rattle.irq_io.specs.Whole.{WritesAll, writing_failed};
+ghost use Rattle.log_text.specs.LayoutRows.{layout_rows};
+
+use board_def::{Board, Layout};
+use irq_io::{Sink, WriteEnd, write_all};
+use log_text::layout_row;
+use text_row::TextRow;
+
+/// Prints where each line lies, in the board's order, by way of the row.
+pub fn print_layout<O: Sink>(
+    out: &mut O,
+    row: &mut TextRow,
+    board: &Board,
+    layout: &Layout,
+) -> WriteEnd
+    requires { layout.now ≡ layout_of board.now }
+    ensures content { WritesAll (O.written out.old) (O.written out.new) (layout_rows board.now) result }
+    ensures cause { Counts (O.faults out.old) (O.faults out.new) (writing_failed result) }
+{
+    for i in 0..board.lines_len() {
+        layout_row(row, layout, board, i);
+        match write_all(out, row.bytes()) {
+            WriteEnd::Done => {}
+            WriteEnd::Failed => return WriteEnd::Failed,
+        }
+    }
+    WriteEnd::Done
+}
