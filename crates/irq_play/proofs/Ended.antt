@@ -1,5 +1,5 @@
 -- The headline, from the laws of plays and of legal histories.
-use Rattle.std.proofs.Common.{◌≡◌, ℕ, true, Some, None, List, [], ◌∷◌, ◌++◌, length, reverse, slice_get, refl, sym, ap, ◌∙◌, subst}
+use Rattle.std.proofs.Common.{◌≡◌, ℕ, true, false, Some, None, List, [], ◌∷◌, ◌++◌, length, reverse, slice_get, refl, sym, ap, ◌∙◌, subst}
 use Rattle.std.proofs.lemmas.List.{reverse-append, reverse-reverse}
 use Rattle.irq_base.specs.declared.entries.Actor.{Actor}
 use Rattle.irq_base.specs.declared.entries.Entry.{Entry}
@@ -75,29 +75,38 @@ record IsLine (b : BoardSeen) (g : List Move) (row : LineRow) : Type 0 where
   place : ℕ
   at : slice_get (lines_of b (reverse g)) place ≡ Some (record { def = line_of_row b row; past = part row.line (reverse g) })
 
-is_line : (b : BoardSeen) (g : List Move) (i virq : ℕ) (path : List (ℕ × ℕ)) (row : LineRow) → slice_get b.lines i ≡ Some row → slice_get (layout_of b) i ≡ Some (placements.Mapped virq path) → IsLine b g row
-is_line b g i virq path row at laid =
-    let s = takes_part b i row at (ap is_mapped_at laid) in
-    record { place = s.place; at = line_there (defs_of b) (reverse g) s.place (line_of_row b row) s.at }
+is_line : (b : BoardSeen) (g : List Move) (i : ℕ) (row : LineRow) → slice_get b.lines i ≡ Some row → is_mapped_at (slice_get (layout_of b) i) ≡ true → IsLine b g row
+is_line b g i row at laid = let s = takes_part b i row at laid in record { place = s.place; at = line_there (defs_of b) (reverse g) s.place (line_of_row b row) s.at }
 
 legal_line : (b : BoardSeen) → IsBoard b → (picks : List Actor) (g : List Move) (end : End) → Plays b picks (reverse g) end → (row : LineRow) → IsLine b g row → IsLegal (line_of_row b row) (part row.line g)
 legal_line b board picks g end plays row line =
     subst (λ (past : List Entry). IsLegalPast (line_of_row b row) past) (part_turned row.line g)
     ((play_keeps b picks (reverse g) end board plays).legal line.place (record { def = line_of_row b row; past = part row.line (reverse g) }) line.at)
 
+-- the history of a line that takes part is legal, and one that takes none has no entry
+pub legal_row : (b : BoardSeen) → IsBoard b → (picks : List Actor) (g : List Move) (end : End) → Plays b picks (reverse g) end → (i : ℕ) (row : LineRow) → slice_get b.lines i ≡ Some row → is_mapped_at (slice_get (layout_of b) i) ≡ true
+    → IsLegal (line_of_row b row) (part row.line g)
+legal_row b board picks g end plays i row at laid = legal_line b board picks g end plays row (is_line b g i row at laid)
+
+pub none_of_refused : (b : BoardSeen) → IsBoard b → (picks : List Actor) (g : List Move) (end : End) → Plays b picks (reverse g) end → (i : ℕ) (row : LineRow) → slice_get b.lines i ≡ Some row → is_mapped_at (slice_get (layout_of b) i) ≡ false
+    → part row.line g ≡ []
+none_of_refused b board picks g end plays i row at laid =
+    sym (turned_back row.line g)
+    ∙ ap (λ (past : List Entry). reverse past)
+    (others_have_none b picks (reverse g) end plays row.line (takes_no_part b board (lines_of b (reverse g)) (defs_at (defs_of b) (reverse g)) i row at laid))
+
+-- ---- the headline's parts
+
 pub all_keep_laws : (b : BoardSeen) → IsBoard b → (picks : List Actor) (g : List Move) (end : End) → Plays b picks (reverse g) end → EachMapped b (λ row. KeepsLaws (line_of_row b row) (part row.line g))
 all_keep_laws b board picks g end plays i row virq path at laid =
-    keeps_laws (line_of_row b row) (part row.line g) (valid_row b i row board at) (legal_line b board picks g end plays row (is_line b g i virq path row at laid))
+    keeps_laws (line_of_row b row) (part row.line g) (valid_row b i row board at) (legal_row b board picks g end plays i row at (ap is_mapped_at laid))
 
 pub all_end_well : (b : BoardSeen) → IsBoard b → (picks : List Actor) (g : List Move) → Plays b picks (reverse g) Done → EachMapped b (λ row. LineHeadline (line_of_row b row) (part row.line g))
 all_end_well b board picks g plays i row virq path at laid =
-    let line = is_line b g i virq path row at laid in
+    let line = is_line b g i row at (ap is_mapped_at laid) in
     line_headline (line_of_row b row) (part row.line g) (valid_row b i row board at) (legal_line b board picks g Done plays row line)
     (subst (λ (h : List Entry). IsSettled (line_of_row b row) h) (turned_back row.line g)
     (done_is_settled b picks (reverse g) board plays line.place (record { def = line_of_row b row; past = part row.line (reverse g) }) line.at))
 
 pub refused_have_none : (b : BoardSeen) → IsBoard b → (picks : List Actor) (g : List Move) (end : End) → Plays b picks (reverse g) end → EachRefused b (λ row. part row.line g ≡ [])
-refused_have_none b board picks g end plays i row why at laid =
-    sym (turned_back row.line g)
-    ∙ ap (λ (past : List Entry). reverse past)
-    (others_have_none b picks (reverse g) end plays row.line (takes_no_part b board (lines_of b (reverse g)) (defs_at (defs_of b) (reverse g)) i row at (ap is_mapped_at laid)))
+refused_have_none b board picks g end plays i row why at laid = none_of_refused b board picks g end plays i row at (ap is_mapped_at laid)

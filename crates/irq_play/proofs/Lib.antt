@@ -3,4 +3,8 @@ mod Printable
 mod Turned
 mod OfRows
 mod Ended
-
+mod Filling
+mod HandedOut
+mod Finished
+mod Summing
+mod MoveRows

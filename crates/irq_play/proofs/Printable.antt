@@ -18,6 +18,7 @@ use Rattle.irq_base.specs.declared.entries.Opened.TheVariants as opens
 use Rattle.irq_base.specs.declared.numbers.DevNo.{DevNo}
 use Rattle.irq_base.specs.declared.numbers.DriverNo.{DriverNo}
 use Rattle.irq_base.specs.declared.entries.Actor.{Actor}
+use Rattle.irq_play.specs.Printing.{HasRow}
 use Rattle.irq_base.specs.declared.numbers.LineNo.{LineNo}
 use Rattle.irq_model.specs.Kinds.{same_line}
 use Rattle.irq_model.specs.Legal.{IsDue}
@@ -47,9 +48,6 @@ printable def past (entries.Request r d flags (links.Refused error) opened) due 
 printable def past (entries.Affinity r mask (moves.Refused error)) due =
     refused_as error (is_some (lowest_in def.cpus mask)) def.later (affinity_due def r mask (moves.Refused error) past due).answer_is
 printable def past _ due = tt
-
-abbrev pub HasRow : Move → Type 0
-HasRow m = IsPrintable m.1
 
 chosen_printable : (b : BoardSeen) (picks : List Actor) (g : List Move) (left : List Actor) → IsChosen b picks g left → All HasRow g
 chosen_printable b picks [] left chosen = All-nil HasRow

@@ -73,3 +73,8 @@ number_at n i within =
 -- all of the numbers
 pub numbers_all : (n i : ℕ) → n ≤ i → take i (range_with_len 0 n) ≡ range_with_len 0 n
 numbers_all n i many = take_all i (range_with_len 0 n) (omega (arith, length-range_with_len 0 n, many))
+
+-- what was written, and then handed on, or not
+pub then_handed_on : (a b c : Option (List ℕ)) (xs : List ℕ) (end : WriteEnd) → WritesAll a b xs ends.Done → Stays b c → WritesAll a c xs end
+then_handed_on a b c xs ends.Done h k = then_stays a b c xs ends.Done h k
+then_handed_on a b c xs ends.Failed h k = then_stays a b c xs ends.Failed (failed_after a b xs h) k

@@ -4,4 +4,9 @@
 //! What is promised of a play is `specs/Headline.antt`, read top down; what is printed of it `specs/Report.antt`.
 #![tactic(auto)]
 
+pub mod ending;
+pub mod finishing;
+pub mod playing;
 pub mod printing;
+pub mod reporting;
+pub mod summaries;
