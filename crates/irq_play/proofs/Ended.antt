@@ -1,6 +1,6 @@
 -- The headline, from the laws of plays and of legal histories.
-use Rattle.std.proofs.Common.{◌≡◌, ℕ, true, false, Some, None, List, [], ◌∷◌, ◌++◌, length, reverse, slice_get, refl, sym, ap, ◌∙◌, subst}
-use Rattle.std.proofs.lemmas.List.{reverse-append, reverse-reverse}
+use Rattle.std.proofs.Common.{◌≡◌, ℕ, true, false, Some, List, [], ◌∷◌, ◌++◌, reverse, slice_get, sym, ap, ◌∙◌, subst}
+use Rattle.std.proofs.lemmas.List.{reverse-append}
 use Rattle.irq_base.specs.declared.entries.Actor.{Actor}
 use Rattle.irq_base.specs.declared.entries.Entry.{Entry}
 use Rattle.irq_base.specs.declared.lines.LineDef.{LineDef}
@@ -14,15 +14,14 @@ use Rattle.irq_laws.proofs.ScriptLaws.{follows_scripts}
 use Rattle.irq_laws.proofs.RestLaws.{settled_is_delivered, settled_is_quiet}
 use Rattle.irq_laws.proofs.ServedLaws.{served_when_idle}
 use Rattle.irq_laws.proofs.TakeLaws.{takes_are_counted}
-use Rattle.domain_rules.specs.declared.layouts.Placement.TheVariants as placements
 use Rattle.board_def.specs.Layout.{layout_of}
 use Rattle.board_def.specs.LineOf.{line_of_row}
 use Rattle.board_def.specs.Rules.{IsBoard}
 use Rattle.board_def.specs.Seen.{BoardSeen}
 use Rattle.board_def.specs.declared.rows.LineRow.{LineRow}
 use Rattle.board_def.proofs.Validity.{valid_row}
-use Rattle.board_play.specs.Lines.{BoardLine, Move, part, defs_of, lines_of}
-use Rattle.board_play.specs.Play.{End, Done, Full, Plays}
+use Rattle.board_play.specs.Lines.{Move, part, defs_of, lines_of}
+use Rattle.board_play.specs.Play.{End, Done, Plays}
 use Rattle.board_play.proofs.KeptAlways.{play_keeps}
 use Rattle.board_play.proofs.Members.{defs_at, line_there}
 use Rattle.board_play.proofs.Parts.{others_have_none}

@@ -1,8 +1,7 @@
 -- One report after another.
-use Rattle.std.proofs.Common.{◌≡◌, ℕ, zero, suc, ◌+◌, ◌-◌, ◌<◌, ◌≤◌, Bool, true, false, cond, Option, Some, None, OnOk, Result, Ok, Err, List, [], ◌∷◌, ◌++◌, length, map, reverse, get_or, take, drop, slice_get, refl, sym, ap, ◌∙◌, subst, arith, add-one}
-use Rattle.std.specs.Option.{option_to_list}
+use Rattle.std.proofs.Common.{◌≡◌, ℕ, zero, suc, ◌+◌, ◌<◌, ◌≤◌, Bool, true, false, cond, Option, Some, None, OnOk, Result, Ok, Err, List, [], ◌∷◌, ◌++◌, length, map, reverse, get_or, take, drop, slice_get, refl, sym, ap, ◌∙◌, subst, arith, add-one}
 use Rattle.std.proofs.lemmas.List.{map-append, reverse-append, reverse-reverse, take_more, take_all}
-use Rattle.std.proofs.lemmas.Option.{slice_get_within, get_or_from_slice_get, slice_get-get_or}
+use Rattle.std.proofs.lemmas.Option.{slice_get_within, get_or_from_slice_get}
 use Rattle.irq_base.specs.declared.entries.Entry.{Entry}
 use Rattle.irq_base.specs.declared.lines.LineDef.{LineDef}
 use Rattle.irq_base.specs.declared.numbers.LineNo.{LineNo}
@@ -18,8 +17,8 @@ use Rattle.board_def.specs.LineOf.{line_of_row}
 use Rattle.board_def.specs.Rules.{IsBoard}
 use Rattle.board_def.specs.Seen.{BoardSeen}
 use Rattle.board_def.specs.declared.rows.LineRow.{LineRow}
-use Rattle.board_core.specs.Seen.{board_line, board_lines}
-use Rattle.board_play.specs.Lines.{BoardLine, mapped, defs_of, find_line}
+use Rattle.board_core.specs.Seen.{board_lines}
+use Rattle.board_play.specs.Lines.{BoardLine, mapped, find_line}
 use Rattle.board_play.proofs.Members.{AreApart, find_there}
 use Rattle.board_play.proofs.OfBoard.{apart_defs}
 use Rattle.irq_play.specs.Headline.{LineHistory, told_by}

@@ -1,5 +1,5 @@
 -- A system whose play has ended, and what its reports hand out.
-use Rattle.std.proofs.Common.{◌≡◌, ℕ, ◌≤◌, All, List, length, map, reverse, sym, ap, ◌∙◌, subst}
+use Rattle.std.proofs.Common.{◌≡◌, ℕ, ◌≤◌, All, List, length, map, reverse, ap, ◌∙◌, subst}
 use Rattle.irq_base.specs.declared.numbers.LineNo.{LineNo}
 use Rattle.irq_base.specs.declared.reporting.LineReport.{LineReport}
 use Rattle.irq_line.specs.Seen.{LineSeen}
@@ -8,7 +8,7 @@ use Rattle.board_core.specs.declared.turns.PlayEnd.{PlayEnd}
 use Rattle.board_core.specs.declared.turns.PlayEnd.TheVariants as plays
 use Rattle.board_def.specs.Rules.{IsBoard}
 use Rattle.board_def.specs.Seen.{BoardSeen}
-use Rattle.board_play.specs.Lines.{BoardLine, defs_of, lines_of, part}
+use Rattle.board_play.specs.Lines.{BoardLine, defs_of, lines_of}
 use Rattle.board_play.specs.Play.{Done, Full, Plays}
 use Rattle.board_play.proofs.Members.{defs_at}
 use Rattle.irq_play.specs.Headline.{Headline, FullLog, histories_of, told_by}

@@ -7,7 +7,6 @@ use Rattle.irq_base.specs.declared.entries.Actor.{Actor}
 use Rattle.irq_base.specs.declared.entries.Entry.{Entry}
 use Rattle.irq_base.specs.declared.numbers.LineNo.{LineNo}
 use Rattle.irq_base.specs.declared.reporting.LineReport.{LineReport}
-use Rattle.irq_laws.proofs.Chosen.{the_same}
 use Rattle.log_summary.specs.Lasts.{TellsLasts}
 use Rattle.log_summary.proofs.LastLaws.{legal_tells}
 use Rattle.board_def.specs.Layout.{layout_of}

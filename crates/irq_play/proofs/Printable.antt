@@ -1,5 +1,5 @@
 -- The moves of a play have rows.
-use Rattle.std.proofs.Common.{◌≡◌, ℕ, ◌+◌, ◌<◌, ◌≤◌, Bool, true, false, cond, is_some, List, [], ◌∷◌, length, reverse, refl, sym, ap, ◌∙◌, subst, arith}
+use Rattle.std.proofs.Common.{◌≡◌, ◌<◌, ◌≤◌, Bool, true, false, cond, is_some, List, [], ◌∷◌, length, reverse, refl, sym, ap, ◌∙◌, subst, arith}
 use Rattle.std.specs.List.{All}
 use Rattle.std.proofs.lemmas.List.{reverse-append, reverse-reverse}
 use Rattle.std.proofs.lemmas.List.Elements.{All-nil, All-cons, All-push, All-head, All-tail}
@@ -12,7 +12,6 @@ use Rattle.irq_base.specs.declared.calls.Flags.{Flags}
 use Rattle.irq_base.specs.declared.entries.AffinityAnswer.{AffinityAnswer}
 use Rattle.irq_base.specs.declared.entries.Errno.{Errno}
 use Rattle.irq_base.specs.declared.entries.Errno.TheVariants as errors
-use Rattle.irq_base.specs.declared.entries.LinkAnswer.{LinkAnswer}
 use Rattle.irq_base.specs.declared.entries.Opened.{Opened}
 use Rattle.irq_base.specs.declared.entries.Opened.TheVariants as opens
 use Rattle.irq_base.specs.declared.numbers.DevNo.{DevNo}
@@ -23,7 +22,7 @@ use Rattle.irq_base.specs.declared.numbers.LineNo.{LineNo}
 use Rattle.irq_model.specs.Kinds.{same_line}
 use Rattle.irq_model.specs.Legal.{IsDue}
 use Rattle.irq_model.specs.Signal.{lowest_in}
-use Rattle.irq_laws.proofs.ImpliesDriver.{IsRequestDue, IsAffinityDue, opened_with, request_due, affinity_due}
+use Rattle.irq_laws.proofs.ImpliesDriver.{IsRequestDue, opened_with, request_due, affinity_due}
 use Rattle.irq_steps.proofs.Same.{line_from_same}
 use Rattle.log_text.specs.EntryWords.{IsPrintable}
 use Rattle.board_def.specs.Seen.{BoardSeen}

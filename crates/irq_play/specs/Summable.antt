@@ -1,5 +1,5 @@
 -- Which reports can be summed up.
-use Rattle.std.specs.Prelude.{ℕ, ◌≤◌, length}
+use Rattle.std.specs.Prelude.{◌≤◌, length}
 use Rattle.irq_base.specs.declared.reporting.LineReport.{LineReport}
 use Rattle.log_summary.specs.Lasts.{TellsLasts}
 

@@ -1,12 +1,16 @@
-//! A board is played and printed: the lines are laid over their domains and made, the stated order is played to its end,
-//! the play or a summary of it is printed row by row, and each line's history is handed out in a report.
+//! A board is played and printed: its lines are laid over their domains and made, they are played by the stated order, the
+//! play or a summary of it is printed row by row, and each line's history is handed out in a report.
 //!
-//! What is promised of a play is `specs/Headline.antt`, read top down; what is printed of it `specs/Report.antt`.
+//! What is promised of a play stands in `specs/Headline.antt`, to be read top down; what is printed of it in
+//! `specs/Report.antt`; how both come together in `specs/Played.antt`.
 #![tactic(auto)]
 
-pub mod ending;
-pub mod finishing;
-pub mod playing;
-pub mod printing;
-pub mod reporting;
-pub mod summaries;
+mod ending;
+mod finishing;
+mod playing;
+mod printing;
+mod reporting;
+mod summaries;
+
+pub use ending::PlayedEnd;
+pub use playing::{PlayedBoard, play_and_print};

@@ -13,10 +13,14 @@ use crate::finishing::{print_play, print_summary};
 use crate::reporting::ReportRoom;
 use board_core::{PlayEnd, System};
 use board_def::{Board, Layout};
+use board_layout::lay;
+use board_lines::MakesChainLine;
 use callbacks::{Callbacks, Handler};
+use domain_chain::Chain;
 use irq_base::{LineNo, NoMemory, Reports};
 use irq_io::Sink;
 use irq_line::{IrqLine, MakesLine};
+use line_core::Line;
 use std::alloc::Global;
 
 /// What came of a board's play: how it ended, and the histories that were taken out of the lines.
@@ -26,6 +30,35 @@ pub struct PlayedBoard {
     pub end: PlayedEnd,
     /// One report a line of the board, in its order; none where memory was refused.
     pub reports: Reports,
+}
+
+/// Lays the board's lines over its domains, plays them by the stated order with the board's picks, and prints the play,
+/// or with `summary` a summary of it. Handlers are called as they are due. All memory is taken before the first row is
+/// printed.
+pub fn play_and_print<O: Sink, H: Handler>(
+    alloc: Global,
+    board: &Board,
+    summary: bool,
+    handlers: &Callbacks<H>,
+    out: &mut O,
+) -> PlayedBoard
+    ensures plays { PlaysBoard board.now summary result.reports.reports (O.written out.old) (O.written out.new) result.end }
+    ensures handed_on { result.end ≡ PlayedEnd.Done → O.handed_on out.new ≡ O.written out.new }
+    ensures emptied { result.end ≡ PlayedEnd.Done → O.kept out.new ≡ [] }
+    ensures write_fault { Counts (O.faults out.old) (O.faults out.new) (is_write_fault result.end) }
+    ensures silent { is_printing result.end ≡ false → out.new ≡ out.old }
+{
+    let Ok((domains, layout)) = lay(alloc, board) else {
+        return unplayed(alloc);
+    };
+    let maker = MakesChainLine::of_board(&domains, board);
+    let played = play_lines::<Line<Chain>, MakesChainLine<'_>, H>(
+        alloc, board, layout, &maker, handlers,
+    );
+    match played {
+        Ok((system, end)) => report_play(alloc, board, summary, system, end, out),
+        Err(NoMemory) => unplayed(alloc),
+    }
 }
 
 /// Plays the board with lines of that maker. Refused only for want of memory for the lines and the order of play.

@@ -1,4 +1,3 @@
-use Rattle.board_core.specs.Seen.{SystemSeen}
 use Rattle.std.proofs.Common.{map}
 use Rattle.irq_play.proofs.Finished.{headline_done, of_board, rows_done}
 use Rattle.board_core.specs.declared.turns.PlayEnd.TheVariants as plays

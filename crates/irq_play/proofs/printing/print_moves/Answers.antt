@@ -1,4 +1,4 @@
-use Rattle.std.proofs.Common.{[], sym, ◌∙◌, subst, All}
+use Rattle.std.proofs.Common.{sym, ◌∙◌, subst, All}
 use Rattle.std.proofs.lemmas.List.Elements.{All-drop}
 use Rattle.irq_play.specs.Printing.{HasRow}
 use Rattle.irq_play.proofs.MoveRows.{row_printed, row_failed}

@@ -1,6 +1,5 @@
-use Rattle.std.proofs.Common.{◌+◌, ◌*◌, ◌≤◌, sym, ap, ◌∙◌, length, map, take, arith}
-use Rattle.std.specs.List.{sum_by}
-use Rattle.irq_play.proofs.Summing.{entries_in, entries_of_reports, one_more, summable_at}
+use Rattle.std.proofs.Common.{sym, arith}
+use Rattle.irq_play.proofs.Summing.{one_more, summable_at}
 use Rattle.irq_play.proofs.summaries.count_entries.Goals as goal
 
 pub loop-i-preserved : goal.loop-i-preserved

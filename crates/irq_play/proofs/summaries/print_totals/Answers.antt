@@ -1,9 +1,9 @@
-use Rattle.std.proofs.Common.{sym, ap, ◌∙◌, subst, ℕ, List, map}
+use Rattle.std.proofs.Common.{ap, ◌∙◌, subst, ℕ, List, map}
 use Rattle.irq_io.specs.Whole.{WritesAll}
 use Rattle.log_summary.specs.Texts.{total_text}
 use Rattle.irq_play.specs.Headline.{told_by}
 use Rattle.irq_play.specs.Report.{count_of_entries, summaries_text}
-use Rattle.irq_play.proofs.Writing.{and_then, failed_within}
+use Rattle.irq_play.proofs.Writing.{and_then}
 use Rattle.irq_play.proofs.summaries.print_totals.Goals as goal
 
 pub returns-clause-content : goal.returns-clause-content

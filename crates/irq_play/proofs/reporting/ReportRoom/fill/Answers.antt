@@ -1,4 +1,4 @@
-use Rattle.std.proofs.Common.{◌+◌, ◌≤◌, ◌<◌, Some, map, refl, sym, ◌∙◌, arith}
+use Rattle.std.proofs.Common.{Some, map, refl, sym, ◌∙◌, arith}
 use Rattle.std.proofs.lemmas.List.Elements.{All-pop}
 use Rattle.board_core.specs.Seen.{board_lines}
 use Rattle.irq_play.specs.Reporting.{IsEmptyHistory, from_last}
