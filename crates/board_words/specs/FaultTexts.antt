@@ -5,6 +5,7 @@ use Rattle.board_words.specs.declared.faults.FaultKind.TheVariants as faults
 
 abbrev pub fault_text : FaultKind → List ℕ
 fault_text faults.TooLong = codes "too long"
+fault_text faults.NoLog = codes "no log"
 fault_text faults.BadByte = codes "bad byte"
 fault_text faults.NoHeader = codes "no header"
 fault_text faults.UnknownWord = codes "unknown word"

@@ -6,22 +6,23 @@ use Rattle.board_words.specs.declared.faults.FaultKind.TheVariants as faults
 -- the place of a kind in the order
 abbrev pub rank : FaultKind → ℕ
 rank faults.TooLong = 0
-rank faults.BadByte = 1
-rank faults.NoHeader = 2
-rank faults.UnknownWord = 3
-rank faults.WrongCount = 4
-rank faults.BadNumber = 5
-rank faults.BadName = 6
-rank faults.OutOfOrder = 7
-rank faults.Twice = 8
-rank faults.NotThere = 9
-rank faults.BadParent = 10
-rank faults.BadUnlazy = 11
-rank faults.BadMask = 12
-rank faults.BadOwner = 13
-rank faults.TooMany = 14
-rank faults.LogTooLarge = 15
-rank faults.NotBuilt = 16
+rank faults.NoLog = 1
+rank faults.BadByte = 2
+rank faults.NoHeader = 3
+rank faults.UnknownWord = 4
+rank faults.WrongCount = 5
+rank faults.BadNumber = 6
+rank faults.BadName = 7
+rank faults.OutOfOrder = 8
+rank faults.Twice = 9
+rank faults.NotThere = 10
+rank faults.BadParent = 11
+rank faults.BadUnlazy = 12
+rank faults.BadMask = 13
+rank faults.BadOwner = 14
+rank faults.TooMany = 15
+rank faults.LogTooLarge = 16
+rank faults.NotBuilt = 17
 
 abbrev pub earlier : FaultKind → Option FaultKind → Option FaultKind
 earlier kind None = Some kind

@@ -10,6 +10,8 @@ use thiserror::Error;
 pub enum FaultKind {
     /// More bytes came than a text may have.
     TooLong,
+    /// No text line that is `---` sets a log off. A board's text alone never has this fault.
+    NoLog,
     /// A byte is neither printable ASCII nor a tab, a carriage return or a line feed.
     BadByte,
     /// The first statement isn't `board`, or there is none.
@@ -52,6 +54,7 @@ impl FaultKind {
     {
         match self {
             FaultKind::TooLong => "too long",
+            FaultKind::NoLog => "no log",
             FaultKind::BadByte => "bad byte",
             FaultKind::NoHeader => "no header",
             FaultKind::UnknownWord => "unknown word",

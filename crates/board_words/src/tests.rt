@@ -460,8 +460,9 @@ fn bad_bytes(rt: HostRuntime) {
     }
 }
 
-const TEXTS: [(FaultKind, &str); 17] = [
+const TEXTS: [(FaultKind, &str); 18] = [
     (FaultKind::TooLong, "too long"),
+    (FaultKind::NoLog, "no log"),
     (FaultKind::BadByte, "bad byte"),
     (FaultKind::NoHeader, "no header"),
     (FaultKind::UnknownWord, "unknown word"),

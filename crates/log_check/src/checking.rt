@@ -10,6 +10,7 @@ ghost use Rattle.log_check.specs.Verdicts.{IsVerdict, JudgedAt};
 
 use crate::judging::judge;
 use board_def::{Board, LineRow};
+use board_layout::lay;
 use domain_rules::{Layout, Placement};
 use irq_base::{History, LineNo, Logs, NoMemory, Path};
 use irq_line::{IrqLine, MakesLine};
@@ -46,7 +47,7 @@ pub fn check<L: IrqLine, M: MakesLine<L>>(
     requires few { All (λ h. length h.entries ≤ 100000000) logs.now }
     ensures { IfOk result (λ verdict. IsVerdict board.now logs.now verdict) }
 {
-    let layout = board.layout(alloc)?;
+    let (_, layout) = lay(alloc, board)?;
     for i in 0..board.lines_len() {
         let Some(row) = board.line(i) else {
             unreachable!();

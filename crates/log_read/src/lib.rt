@@ -14,7 +14,8 @@ mod rows;
 mod said;
 mod words;
 
-pub use reading::{LogRefused, read_log};
+pub use numbers::number_of;
+pub use reading::{LogRefused, cut_row, read_log};
 
 #[cfg(test)]
 mod tests;

@@ -26,8 +26,9 @@ pub(crate) fn number(words: &mut Words<'_>) -> u32
     words.fit(number_of(word), 0)
 }
 
+/// The number of 32 bits that the word is written for, in decimal digits without a leading zero.
 #[tactic(auto, using(crate::proofs::Digits::number_read))]
-fn number_of(word: &[u8]) -> Option<u32>
+pub fn number_of(word: &[u8]) -> Option<u32>
     ensures { Reads IsSmall decimal word.now result }
 {
     board_words::number(word, 0, u32::MAX)

@@ -76,8 +76,9 @@ fn empty_logs(alloc: Global, board: &Board) -> Result<Logs, NoMemory>
     Ok(logs)
 }
 
-/// The first row of a text that isn't empty, without its line feed, and what follows it; nothing where it has none.
-fn cut_row(text: &[u8]) -> Option<(&[u8], &[u8])>
+/// The first row of a text that isn't empty, without its line feed, and what follows it; nothing where the text has no
+/// line feed.
+pub fn cut_row(text: &[u8]) -> Option<(&[u8], &[u8])>
     requires { 1 ≤ length text.now }
     ensures rows { MatchOption result ((rows_of text.now ≡ text.now ∷ []) × (is_whole text.now ≡ false)) (λ x. rows_of text.now ≡ (x.0.now ++ codes "\n") ∷ rows_of x.1.now) }
     ensures shorter { MatchOption result (Unit {0}) (λ x. length x.1.now + 1 ≤ length text.now) }

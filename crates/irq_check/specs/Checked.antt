@@ -1,0 +1,58 @@
+-- What is said of an input.
+use Rattle.std.specs.Prelude.{◌≡◌, ℕ, nat_lt, if◌then◌else◌, Option, Some, None, Result, Ok, Err, List, length}
+use Rattle.board_def.specs.Seen.{BoardSeen}
+use Rattle.board_stated.specs.TextOf.{board_of_text, whole}
+use Rattle.board_words.specs.declared.faults.BoardFault.{BoardFault}
+use Rattle.board_words.specs.declared.faults.FaultKind.TheVariants as faults
+use Rattle.irq_base.specs.Seen.{HistorySeen}
+use Rattle.log_check.specs.Verdicts.{IsVerdict}
+use Rattle.log_check.specs.declared.checking.Verdict.{Verdict}
+use Rattle.log_check.specs.declared.checking.Verdict.TheVariants as verdicts
+use Rattle.log_read.specs.LogOf.{IsLogOf}
+use Rattle.log_read.specs.declared.reading.LogRefused.TheVariants as refusals
+use Rattle.irq_check.specs.declared.answers.Answer.{Answer}
+use Rattle.irq_check.specs.declared.answers.Answer.TheVariants as answers
+use Rattle.irq_check.specs.declared.checking.CheckRefused.{CheckRefused}
+use Rattle.irq_check.specs.declared.checking.CheckRefused.TheVariants as checks
+use Rattle.irq_check.specs.Parts.{parts_of}
+
+-- the most bytes of an input
+abbrev pub longest_input : ℕ
+longest_input = 67108864
+
+abbrev pub with_log : List ℕ → Result BoardSeen BoardFault → Result (BoardSeen × List ℕ) BoardFault
+with_log log (Ok b) = Ok (b, log)
+with_log log (Err fault) = Err fault
+
+-- the board of an input's first part, beside the log; or the first fault: there is no log, or the board's text has one
+abbrev pub board_and_log : Option (List ℕ × List ℕ) → Result (BoardSeen × List ℕ) BoardFault
+board_and_log None = Err (whole faults.NoLog)
+board_and_log (Some (text, log)) = with_log log (board_of_text text)
+
+-- the board and the text of the log that an input states, or its first fault
+abbrev pub checked : List ℕ → Result (BoardSeen × List ℕ) BoardFault
+checked input = if nat_lt longest_input (length input) then Err (whole faults.TooLong) else board_and_log (parts_of input)
+
+-- the text of the log says these histories, and this is the verdict on them
+abbrev pub HasVerdict : BoardSeen → List ℕ → Verdict → Type 0
+HasVerdict b log verdict = (logs : List HistorySeen) × IsLogOf b.lines log (Ok logs) × IsVerdict b logs verdict
+
+-- what is said of the text of a log: that row of it is the first malformed one; or it has none, and its histories are
+-- judged
+abbrev pub ChecksLog : BoardSeen → List ℕ → Answer → Type 0
+ChecksLog b log answers.Lawful = HasVerdict b log verdicts.Lawful
+ChecksLog b log (answers.Unlawful line entry) = HasVerdict b log (verdicts.Unlawful line entry)
+ChecksLog b log (answers.Malformed row) = IsLogOf b.lines log (Err (refusals.Malformed row))
+
+-- the input states a board and a log of it, of which that is said
+pub record IsChecked (input : List ℕ) (answer : Answer) : Type 0 where
+  pub board : BoardSeen
+  pub log : List ℕ
+  pub states : checked input ≡ Ok (board, log)
+  pub judged : ChecksLog board log answer
+
+-- what an input comes to; want of memory is free
+abbrev pub Checks : List ℕ → Result Answer CheckRefused → Type 0
+Checks input (Ok answer) = IsChecked input answer
+Checks input (Err (checks.Fault fault)) = checked input ≡ Err fault
+Checks input (Err checks.NoMemory) = Unit {0}

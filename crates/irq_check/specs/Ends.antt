@@ -1,0 +1,80 @@
+-- How a check ends: what was read, and what the output gained.
+use Rattle.std.specs.Prelude.{◌≡◌, ℕ, ◌+◌, Bool, true, false, Option, Some, None, List, [], drop, Result, Ok, Err}
+use Rattle.irq_io.specs.Whole.{WritesAll}
+use Rattle.irq_io.specs.declared.whole.WriteEnd.{WriteEnd}
+use Rattle.irq_io.specs.declared.whole.WriteEnd.TheVariants as writes
+use Rattle.irq_check.specs.declared.answers.Answer.{Answer}
+use Rattle.irq_check.specs.declared.inputs.InputRefused.{InputRefused}
+use Rattle.irq_check.specs.declared.inputs.InputRefused.TheVariants as refusals
+use Rattle.irq_check.specs.declared.printing.CheckEnd.{CheckEnd}
+use Rattle.irq_check.specs.declared.printing.CheckEnd.TheVariants as ends
+use Rattle.irq_check.specs.AnswerText.{answer_text}
+use Rattle.irq_check.specs.Checked.{IsChecked, checked, longest_input}
+
+-- what is left of a source of which at most one byte more was read than an input may have
+abbrev pub left_after : List ℕ → List ℕ
+left_after bytes = drop (longest_input + 1) bytes
+
+-- the text is what the source told, where it told
+abbrev pub IsTold : Option (List ℕ) → List ℕ → Type 0
+IsTold None text = Unit {0}
+IsTold (Some bytes) text = bytes ≡ text
+
+-- the answer is said of an input, which is what the source told
+pub record IsSaid (told : Option (List ℕ)) (answer : Answer) : Type 0 where
+  pub input : List ℕ
+  pub as_told : IsTold told input
+  pub checked : IsChecked input answer
+
+-- whether reading an input met a read fault
+abbrev pub is_read_fault : Result Answer InputRefused → Bool
+is_read_fault (Err refusals.ReadFault) = true
+is_read_fault _ = false
+
+-- where the source tells what is left: what came is judged, and was read to its end; or it has that fault, and was read
+-- to its end or one byte past the longest input
+abbrev pub ReadsInput : Option (List ℕ) → Option (List ℕ) → Result Answer InputRefused → Type 0
+ReadsInput (Some bytes) now (Ok answer) = IsChecked bytes answer × (now ≡ Some [])
+ReadsInput (Some bytes) now (Err (refusals.Fault fault)) = (checked bytes ≡ Err fault) × (now ≡ Some (left_after bytes))
+ReadsInput _ _ _ = Unit {0}
+
+-- the same of the whole call
+abbrev pub Reads : Option (List ℕ) → Option (List ℕ) → CheckEnd → Type 0
+Reads (Some bytes) now (ends.Answered answer) = IsChecked bytes answer × (now ≡ Some [])
+Reads (Some bytes) now ends.WriteFault = ((answer : Answer) × IsChecked bytes answer) × (now ≡ Some [])
+Reads (Some bytes) now (ends.Fault fault) = (checked bytes ≡ Err fault) × (now ≡ Some (left_after bytes))
+Reads _ _ _ = Unit {0}
+
+-- the output gained the whole row of what is said of the input; after a fault of the output a beginning of it
+abbrev pub SaysOrNot : Option (List ℕ) → Option (List ℕ) → Option (List ℕ) → CheckEnd → Type 0
+SaysOrNot told before now (ends.Answered answer) = IsSaid told answer × WritesAll before now (answer_text answer) writes.Done
+SaysOrNot told before now ends.WriteFault = (answer : Answer) × IsSaid told answer × WritesAll before now (answer_text answer) writes.Failed
+SaysOrNot told before now _ = Unit {0}
+
+abbrev pub is_answered : CheckEnd → Bool
+is_answered (ends.Answered answer) = true
+is_answered _ = false
+
+abbrev pub is_read_fault_end : CheckEnd → Bool
+is_read_fault_end ends.ReadFault = true
+is_read_fault_end _ = false
+
+abbrev pub is_write_fault_end : CheckEnd → Bool
+is_write_fault_end ends.WriteFault = true
+is_write_fault_end _ = false
+
+-- the ending at which something may have been printed
+abbrev pub is_printing : CheckEnd → Bool
+is_printing (ends.Answered answer) = true
+is_printing ends.WriteFault = true
+is_printing _ = false
+
+-- where the printing is done, all that was written has been handed on
+abbrev pub HandsOn : Option (List ℕ) → Option (List ℕ) → WriteEnd → Type 0
+HandsOn handed_on written writes.Done = handed_on ≡ written
+HandsOn handed_on written writes.Failed = Unit {0}
+
+-- where the printing is done, the sink keeps nothing back
+abbrev pub KeepsNone : List ℕ → WriteEnd → Type 0
+KeepsNone kept writes.Done = kept ≡ []
+KeepsNone kept writes.Failed = Unit {0}

@@ -1,0 +1,4 @@
+pub mod Parts
+pub mod Checked
+pub mod AnswerText
+pub mod Ends

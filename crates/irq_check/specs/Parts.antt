@@ -1,0 +1,22 @@
+-- The two parts of an input: the text of a board, and a log.
+use Rattle.std.specs.Prelude.{ℕ, Bool, ◌||◌, if◌then◌else◌, Option, Some, None, List, [], ◌∷◌, ◌++◌, codes}
+use Rattle.std.specs.List.{concat}
+use Rattle.std.specs.Str.{bytes_eq}
+use Rattle.log_read.specs.LogOf.{rows_of}
+
+-- the row is `---`, with its line feed or, at the end of the input, without it
+abbrev pub is_dashes : List ℕ → Bool
+is_dashes row = bytes_eq row (codes "---\n") || bytes_eq row (codes "---")
+
+-- the row stands before the first of the parts
+abbrev pub onto_board : List ℕ → Option (List ℕ × List ℕ) → Option (List ℕ × List ℕ)
+onto_board row None = None
+onto_board row (Some (board, log)) = Some (row ++ board, log)
+
+-- what stands before the first row that is `---`, and what follows that row
+abbrev pub split_at_dashes : List (List ℕ) → Option (List ℕ × List ℕ)
+split_at_dashes [] = None
+split_at_dashes (row ∷ rows) = if is_dashes row then Some ([], concat rows) else onto_board row (split_at_dashes rows)
+
+abbrev pub parts_of : List ℕ → Option (List ℕ × List ℕ)
+parts_of input = split_at_dashes (rows_of input)

@@ -1,0 +1,79 @@
+//! An input is judged.
+ghost use Rattle.std.specs.Prelude.{◌≡◌, ◌≤◌, length, IfOk};
+ghost use Rattle.board_stated.specs.TextOf.{whole};
+ghost use Rattle.irq_check.specs.Checked.{Checks, ChecksLog};
+
+use crate::answers::Answer;
+use crate::parts::cut_input;
+use board_def::Board;
+use board_text::{BoardFault, BoardRefused, FaultKind, read_board};
+use irq_base::NoMemory;
+use line_cell::Cell;
+use line_core::{Line, MakesCellLine};
+use log_check::{Verdict, check};
+use log_read::{LogRefused, read_log};
+use std::alloc::Global;
+use thiserror::Error;
+
+/// The most bytes of an input.
+pub const LONGEST_INPUT: usize = 67_108_864;
+
+/// Why an input isn't judged.
+#[derive(Clone, Copy, Debug, PartialEq, Eq, Error)]
+pub enum CheckRefused {
+    /// It is too long, has no log, or has a board's text with this as its first fault; the first of these counts.
+    #[error("{0}")]
+    Fault(BoardFault),
+    /// Memory was wanted and refused.
+    #[error("out of memory")]
+    NoMemory,
+}
+
+/// Judges an input: the text of a board, a row `---` and a log of the board.
+///
+/// # Errors
+///
+/// `Fault` with the first of: the input has more than `LONGEST_INPUT` bytes; it has no row `---`; the faults of the
+/// text of the board. `NoMemory` where memory was refused.
+pub fn check_bytes(alloc: Global, bytes: &[u8]) -> Result<Answer, CheckRefused>
+    ensures exact { Checks bytes.now result }
+{
+    if bytes.len() > LONGEST_INPUT {
+        return Err(whole(FaultKind::TooLong));
+    }
+    let Some((text, log)) = cut_input(bytes) else {
+        return Err(whole(FaultKind::NoLog));
+    };
+    let board = match read_board(alloc, text) {
+        Ok(board) => board,
+        Err(BoardRefused::Fault(fault)) => return Err(CheckRefused::Fault(fault)),
+        Err(BoardRefused::NoMemory) => return Err(CheckRefused::NoMemory),
+    };
+    match check_log(alloc, &board, log) {
+        Ok(answer) => Ok(answer),
+        Err(NoMemory) => Err(CheckRefused::NoMemory),
+    }
+}
+
+/// A fault of the whole input.
+fn whole(kind: FaultKind) -> CheckRefused
+    ensures { result ≡ CheckRefused.Fault (whole kind) }
+{
+    CheckRefused::Fault(BoardFault { at: 0, kind })
+}
+
+/// Judges the text of a log of the board. Refused only for want of memory.
+fn check_log(alloc: Global, board: &Board, log: &[u8]) -> Result<Answer, NoMemory>
+    requires { length log.now ≤ 67108864 }
+    ensures { IfOk result (λ answer. ChecksLog board.now log.now answer) }
+{
+    let logs = match read_log(alloc, board, log) {
+        Ok(logs) => logs,
+        Err(LogRefused::Malformed { row }) => return Ok(Answer::Malformed { row }),
+        Err(LogRefused::NoMemory) => return Err(NoMemory),
+    };
+    match check::<Line<Cell>, MakesCellLine>(alloc, board, &logs, &MakesCellLine)? {
+        Verdict::Lawful => Ok(Answer::Lawful),
+        Verdict::Unlawful { line, entry } => Ok(Answer::Unlawful { line, entry }),
+    }
+}

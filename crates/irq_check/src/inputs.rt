@@ -1,0 +1,43 @@
+//! An input is read and judged.
+ghost use Rattle.std.specs.Prelude.{IfOk};
+ghost use Rattle.irq_io.specs.Faults.{Counts};
+ghost use Rattle.irq_check.specs.Ends.{IsSaid, ReadsInput, is_read_fault};
+
+use crate::answers::Answer;
+use crate::checking::{CheckRefused, LONGEST_INPUT, check_bytes};
+use board_text::BoardFault;
+use irq_io::{ReadRefused, Source, read_up_to};
+use std::alloc::Global;
+use thiserror::Error;
+
+/// Why a source gave nothing to judge.
+#[derive(Clone, Copy, Debug, PartialEq, Eq, Error)]
+pub enum InputRefused {
+    /// What came has this as its first fault.
+    #[error("board: {0}")]
+    Fault(BoardFault),
+    /// A read failed.
+    #[error("read fault")]
+    ReadFault,
+    /// Memory was wanted and refused.
+    #[error("out of memory")]
+    NoMemory,
+}
+
+/// Reads the source to its end, or one byte past the longest input, and judges what came.
+pub fn check_input<S: Source>(alloc: Global, src: &mut S) -> Result<Answer, InputRefused>
+    ensures content { ReadsInput (S.left src.old) (S.left src.new) result }
+    ensures said { IfOk result (λ answer. IsSaid (S.left src.old) answer) }
+    ensures cause { Counts (S.faults src.old) (S.faults src.new) (is_read_fault result) }
+{
+    let bytes = match read_up_to(alloc, src, LONGEST_INPUT + 1) {
+        Ok(bytes) => bytes,
+        Err(ReadRefused::Fault) => return Err(InputRefused::ReadFault),
+        Err(ReadRefused::NoMemory) => return Err(InputRefused::NoMemory),
+    };
+    match check_bytes(alloc, bytes.as_slice()) {
+        Ok(answer) => Ok(answer),
+        Err(CheckRefused::Fault(fault)) => Err(InputRefused::Fault(fault)),
+        Err(CheckRefused::NoMemory) => Err(InputRefused::NoMemory),
+    }
+}

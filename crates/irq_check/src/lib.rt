@@ -1,0 +1,22 @@
+//! What `genirq check` does: it reads an input, which is the text of a board, a row `---` and a log of that board, and
+//! says whether the log is lawful.
+//!
+//! The board's text ends before the first text line that is exactly `---`, and all that follows that line is the log.
+//! A log whose rows are not all rows of entries is malformed; one that can be read is lawful where the history of each
+//! line is legal. Boards are judged that nobody could play: what a board has is no fault of its log.
+#![tactic(auto)]
+
+pub mod answers;
+pub mod checking;
+pub mod inputs;
+pub mod parts;
+pub mod printing;
+
+pub use answers::{Answer, answer_row};
+pub use checking::{CheckRefused, LONGEST_INPUT, check_bytes};
+pub use inputs::InputRefused;
+pub use parts::cut_input;
+pub use printing::{CheckEnd, check_and_print};
+
+#[cfg(test)]
+mod tests;

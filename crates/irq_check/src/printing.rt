@@ -1,0 +1,68 @@
+//! An input is read and judged, and what is said of it printed.
+ghost use Rattle.std.specs.Prelude.{◌≡◌, [], false, true};
+ghost use Rattle.irq_io.specs.Faults.{Counts};
+ghost use Rattle.irq_io.specs.Whole.{WritesAll, writing_failed};
+ghost use Rattle.irq_check.specs.AnswerText.{answer_text};
+ghost use Rattle.irq_check.specs.Ends.{HandsOn, KeepsNone, Reads, SaysOrNot, is_answered, is_printing, is_read_fault_end, is_write_fault_end};
+
+use crate::answers::{Answer, answer_row};
+use crate::inputs::{InputRefused, check_input};
+use board_text::BoardFault;
+use irq_io::{FlushAnswer, Sink, Source, WriteEnd, write_all};
+use std::alloc::Global;
+use text_row::TextRow;
+
+/// How a check ended.
+#[derive(Clone, Copy, PartialEq, Eq)]
+pub enum CheckEnd {
+    /// The input was judged, and all of the answer's row is printed.
+    Answered(Answer),
+    /// The input has this as its first fault.
+    Fault(BoardFault),
+    /// A read failed.
+    ReadFault,
+    /// The input was judged, and a write or a flush of the output failed.
+    WriteFault,
+    /// Memory was wanted and refused.
+    NoMemory,
+}
+
+/// Reads an input from `src`, judges it, and prints what is said of it to `out`, in one row.
+pub fn check_and_print<S: Source, O: Sink>(alloc: Global, src: &mut S, out: &mut O) -> CheckEnd
+    ensures reads { Reads (S.left src.old) (S.left src.new) result }
+    ensures read_fault { Counts (S.faults src.old) (S.faults src.new) (is_read_fault_end result) }
+    ensures says { SaysOrNot (S.left src.old) (O.written out.old) (O.written out.new) result }
+    ensures handed_on { is_answered result ≡ true → O.handed_on out.new ≡ O.written out.new }
+    ensures emptied { is_answered result ≡ true → O.kept out.new ≡ [] }
+    ensures write_fault { Counts (O.faults out.old) (O.faults out.new) (is_write_fault_end result) }
+    ensures silent { is_printing result ≡ false → out.new ≡ out.old }
+{
+    match check_input(alloc, src) {
+        Ok(answer) => match print_answer(out, answer) {
+            WriteEnd::Done => CheckEnd::Answered(answer),
+            WriteEnd::Failed => CheckEnd::WriteFault,
+        },
+        Err(InputRefused::Fault(fault)) => CheckEnd::Fault(fault),
+        Err(InputRefused::ReadFault) => CheckEnd::ReadFault,
+        Err(InputRefused::NoMemory) => CheckEnd::NoMemory,
+    }
+}
+
+/// Prints the answer's row, and hands it on.
+fn print_answer<O: Sink>(out: &mut O, answer: Answer) -> WriteEnd
+    ensures content { WritesAll (O.written out.old) (O.written out.new) (answer_text answer) result }
+    ensures handed { HandsOn (O.handed_on out.new) (O.written out.new) result }
+    ensures emptied { KeepsNone (O.kept out.new) result }
+    ensures cause { Counts (O.faults out.old) (O.faults out.new) (writing_failed result) }
+{
+    let mut row = TextRow::new();
+    answer_row(&mut row, answer);
+    match write_all(out, row.bytes()) {
+        WriteEnd::Done => {}
+        WriteEnd::Failed => return WriteEnd::Failed,
+    }
+    match out.flush() {
+        FlushAnswer::Done => WriteEnd::Done,
+        FlushAnswer::Failed => WriteEnd::Failed,
+    }
+}

@@ -1,0 +1,73 @@
+//! The words of the command line, and what they ask for.
+//!
+//! Each command has one list of words, which `words_of` of `specs/` defines; `read_command` says whose the words are.
+#![tactic(auto)]
+
+ghost use Rattle.std.specs.Prelude.{◌∷◌, [], codes, MatchOption, map};
+ghost use Rattle.irq_words.specs.Words.{Asks, AsksNothing};
+
+use log_read::number_of;
+
+/// What the program can be asked for.
+#[derive(Clone, Copy, PartialEq, Eq)]
+pub enum Command {
+    /// Read a board and play it. `summary`: print a row a line in place of the entries.
+    Play { summary: bool },
+    /// Read a board and a log of it, and judge the log.
+    Check,
+    /// Make the board of the number and play it, and print the summary. Nothing is read.
+    Gen { n: u32 },
+}
+
+/// The command whose words these are, which follow the program's name; nothing where they are no command's.
+pub fn read_command(words: &[&str]) -> Option<Command>
+    ensures { MatchOption result (AsksNothing (map (λ w. w.now) words.now)) (Asks (map (λ w. w.now) words.now)) }
+{
+    match words {
+        [word] => read_word(word),
+        [word, option] => read_words(word, option),
+        _ => None,
+    }
+}
+
+/// The command of one word.
+fn read_word(word: &str) -> Option<Command>
+    ensures { MatchOption result (AsksNothing (word.now ∷ [])) (Asks (word.now ∷ [])) }
+{
+    match word {
+        "play" => Some(Command::Play { summary: false }),
+        "check" => Some(Command::Check),
+        _ => None,
+    }
+}
+
+/// The command of two words.
+fn read_words(word: &str, option: &str) -> Option<Command>
+    ensures { MatchOption result (AsksNothing (word.now ∷ option.now ∷ [])) (Asks (word.now ∷ option.now ∷ [])) }
+{
+    match word {
+        "play" => summarised(option),
+        "gen" => generated(option),
+        _ => None,
+    }
+}
+
+fn summarised(option: &str) -> Option<Command>
+    ensures { MatchOption result (AsksNothing (codes "play" ∷ option.now ∷ [])) (Asks (codes "play" ∷ option.now ∷ [])) }
+{
+    if option == "--summary" {
+        Some(Command::Play { summary: true })
+    } else {
+        None
+    }
+}
+
+fn generated(number: &str) -> Option<Command>
+    ensures { MatchOption result (AsksNothing (codes "gen" ∷ number.now ∷ [])) (Asks (codes "gen" ∷ number.now ∷ [])) }
+{
+    let n = number_of(number.as_bytes())?;
+    Some(Command::Gen { n })
+}
+
+#[cfg(test)]
+mod tests;
