@@ -1,9 +1,10 @@
 //! The lines of a board, and their moves.
-ghost use Rattle.std.specs.Prelude.{◌≡◌, List, [], IfOk, length, map};
+ghost use Rattle.std.specs.Prelude.{◌≡◌, List, [], IfOk, length, map, reverse};
 ghost use Rattle.irq_base.specs.declared.entries.Actor.{Actor};
 ghost use Rattle.irq_base.specs.declared.entries.Actor.TheVariants as actors;
 ghost use Rattle.board_def.specs.Layout.{layout_of};
 ghost use Rattle.board_play.specs.Kept.{AreKept};
+ghost use Rattle.board_play.specs.Lines.{lines_of};
 ghost use Rattle.board_core.specs.Making.{AreNew, MakesAll};
 ghost use Rattle.board_core.specs.Playing.{IsFresh, IsUnderway, IsPlay, Ends};
 ghost use Rattle.board_core.specs.ReadyFor.{has_thread_up_to};
@@ -309,6 +310,7 @@ impl<'b, L: IrqLine> System<'b, L> {
         ensures layout { self.new.layout ≡ self.old.layout }
         ensures end { Ends self.new result }
         ensures play { (picks : List Actor) → IsUnderway self.old picks [] → IsPlay self.new picks result }
+        ensures lines { (picks : List Actor) → IsUnderway self.old picks [] → board_lines self.new.lines ≡ lines_of self.new.board (reverse self.new.log) }
     {
         loop {
             match self.turn_lowest(handlers) {
@@ -327,6 +329,7 @@ impl<'b, L: IrqLine> System<'b, L> {
         ensures board { self.new.board ≡ self.old.board }
         ensures layout { self.new.layout ≡ self.old.layout }
         ensures play { IsPlay self.new picks.now result }
+        ensures lines { board_lines self.new.lines ≡ lines_of self.new.board (reverse self.new.log) }
     {
         for pick in picks {
             match self.turn(*pick, handlers) {

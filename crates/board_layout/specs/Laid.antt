@@ -1,9 +1,10 @@
 -- What is laid so far of a board, and the paths of the lines that have a place.
-use Rattle.std.specs.Prelude.{◌≡◌, ℕ, Option, Some, List, [], ◌∷◌, ◌++◌, length, drop}
+use Rattle.std.specs.Prelude.{◌≡◌, ℕ, Option, Some, List, [], ◌∷◌, ◌++◌, length, drop, slice_get}
 use Rattle.board_def.specs.Layout.{layout_of}
 use Rattle.board_def.specs.Seen.{BoardSeen}
 use Rattle.board_def.specs.Unnamed.{defs_of, leaves_of}
 use Rattle.domain_hier.specs.Hierarchies.{HierarchySeen}
+use Rattle.domain_hier.specs.PathsInUse.{path_in}
 use Rattle.domain_rules.specs.Layout.{layout_after}
 use Rattle.domain_hier.proofs.Ways.{Falls, places}
 use Rattle.domain_rules.specs.declared.layouts.Placement.{Placement}
@@ -14,6 +15,10 @@ abbrev pub paths_of : List Placement → List (Option (List (ℕ × ℕ)))
 paths_of [] = []
 paths_of (placements.Mapped virq path ∷ layout) = Some path ∷ paths_of layout
 paths_of (placements.Refused why ∷ layout) = paths_of layout
+
+-- a line that has a place has its path by its virq
+abbrev pub HavePaths : List (Option (List (ℕ × ℕ))) → List Placement → Type 0
+HavePaths paths layout = (i virq : ℕ) (path : List (ℕ × ℕ)) → slice_get layout i ≡ Some (placements.Mapped virq path) → path_in paths virq ≡ Some path
 
 -- each path has a domain once
 abbrev pub AllFall : List Placement → Type 0

@@ -2,7 +2,7 @@
 ghost use Rattle.std.specs.Prelude.{◌≡◌, ◌≤◌, ◌<◌, ◌+◌, ◌++◌, [], ◌∷◌, IfOk, OnOk, length, take};
 ghost use Rattle.board_def.specs.Layout.{layout_of};
 ghost use Rattle.board_def.specs.Unnamed.{defs_of, leaf_of};
-ghost use Rattle.board_layout.specs.Laid.{paths_of, AllFall, IsLaid};
+ghost use Rattle.board_layout.specs.Laid.{paths_of, AllFall, HavePaths, IsLaid};
 ghost use Rattle.domain_rules.specs.Layout.{placement_of};
 
 use board_def::{Board, LineRow};
@@ -18,6 +18,7 @@ pub fn lay(alloc: Global, board: &Board) -> Result<(Hierarchy, Layout), NoMemory
     ensures layout { IfOk result (λ laid. laid.1 ≡ layout_of board.now) }
     ensures domains { IfOk result (λ laid. laid.0.domains ≡ defs_of board.now.domains) }
     ensures paths { IfOk result (λ laid. laid.0.paths ≡ paths_of (layout_of board.now)) }
+    ensures virqs { IfOk result (λ laid. HavePaths laid.0.paths laid.1) }
 {
     let mut domains = domains_of(alloc, board)?;
     let mut layout = Layout::new(alloc);

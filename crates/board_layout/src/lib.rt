@@ -4,3 +4,6 @@
 pub mod laying;
 
 pub use laying::lay;
+
+#[cfg(test)]
+mod tests;

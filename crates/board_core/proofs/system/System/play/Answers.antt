@@ -1,4 +1,7 @@
-use Rattle.std.proofs.Common.{◌∙◌, refl}
+use Rattle.std.proofs.Common.{◌∙◌, refl, List, subst, arith}
+use Rattle.irq_base.specs.declared.entries.Actor.{Actor}
+use Rattle.board_core.specs.Playing.{IsUnderway}
+use Rattle.board_core.proofs.Searches.{all_dropped}
 use Rattle.board_core.proofs.Underway.{fresh, pick_done, pick_full, pick_refused, turn_same_board, turn_same_layout}
 use Rattle.board_core.proofs.system.System.play.Goals as goal
 
@@ -22,3 +25,9 @@ loop-pick-preserved g c =
 pub returns-in-NoMemory-clause-play : goal.returns-in-NoMemory-clause-play
 returns-in-NoMemory-clause-play g c =
     pick_refused c.loop-pick.self c.turn.new.self c.args.picks.now _ _ c.turn.result c.loop-pick.invariant.underway c.in-NoMemory.is c.turn.ensures
+
+pub returns-clause-lines : goal.returns-clause-lines
+returns-clause-lines g c =
+    let picks = c.args.picks.now in
+    c.settle.ensures.lines picks
+    (subst (λ (rest : List Actor). IsUnderway c.loop-pick.self picks rest) (all_dropped picks c.loop-pick.pick-index (omega (arith, c.loop-pick-test.false))) c.loop-pick.invariant.underway)
