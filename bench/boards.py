@@ -41,6 +41,16 @@ def calls():
     return rows
 
 
+def deep():
+    """64 lines over paths of eight levels: messages over six remappings and the vectors."""
+    rows, parent = ["board 1", "domain vector linear 64 vector"], "vector"
+    for level in range(1, 7):
+        rows.append(f"domain remap{level} linear 64 remap parent {parent}")
+        parent = f"remap{level}"
+    rows.append(f"domain msi tree msi parent {parent}")
+    return rows + [f"line {i} msi {i}" for i in range(1, 65)]
+
+
 def main(folder):
     os.makedirs(folder, exist_ok=True)
     texts = {
@@ -48,6 +58,7 @@ def main(folder):
         "three_storms.board": "\n".join(storms(3, 232000)) + "\n",
         "crowd.board": "\n".join(crowd(6200)) + "\n",
         "threads.board": "\n".join(calls()) + "\n",
+        "deep.board": "\n".join(deep()) + "\n",
         "picks.board": LATCH + "ask 1\n" + "picks" + " d1" * 65536 + "\n",
         "calls.board": LATCH + "ask 1\n" * 16382 + "free 1\n",
         "comments.board": LATCH + "ask 1\n" + "# " * ((LONGEST - len(LATCH) - 8) // 2) + "\n",

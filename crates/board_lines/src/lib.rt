@@ -7,3 +7,6 @@
 pub mod making;
 
 pub use making::MakesChainLine;
+
+#[cfg(test)]
+mod tests;
