@@ -8,3 +8,5 @@ pub mod InSystem
 pub mod OfDriver
 pub mod Underway
 pub mod MadeOf
+pub mod NewLines
+pub mod Walking

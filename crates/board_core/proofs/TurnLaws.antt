@@ -48,6 +48,13 @@ module _ {A : Type 0} where
   set_there (z ∷ xs) zero x y at = refl
   set_there (z ∷ xs) (suc k) x y at = set_there xs k x y at
 
+  pub set_other : (xs : List A) (k i : ℕ) (y : A) → ((i ≡ k) → ⊥) → slice_get (slice_set xs k y) i ≡ slice_get xs i
+  set_other [] k i y other = refl
+  set_other (z ∷ xs) zero zero y other = absurd (other refl)
+  set_other (z ∷ xs) zero (suc i) y other = refl
+  set_other (z ∷ xs) (suc k) zero y other = refl
+  set_other (z ∷ xs) (suc k) (suc i) y other = set_other xs k i y (λ same. other (ap (λ (n : ℕ). suc n) same))
+
   set_twice : (xs : List A) (k : ℕ) (x y z : A) → slice_get xs k ≡ Some x → slice_set (slice_set xs k y) k z ≡ slice_set xs k z
   set_twice [] k x y z at = cc
   set_twice (w ∷ xs) zero x y z at = refl
@@ -66,7 +73,7 @@ module _ {A : Type 0} where
   set_cases (w ∷ xs) (suc k) zero y z at = inr ((λ h. omega (arith, h)), at)
   set_cases (w ∷ xs) (suc k) (suc i) y z at = elim (set_cases xs k i y z at) [ inl h ↦ inl (ap (λ (n : ℕ). suc n) h.0, h.1) | inr h ↦ inr ((λ same. h.0 (omega (arith, same))), h.1) ]
 
-map_there : {A B : Type 0} (f : A → B) (xs : List A) (k : ℕ) (x : A) → slice_get xs k ≡ Some x → slice_get (map f xs) k ≡ Some (f x)
+pub map_there : {A B : Type 0} (f : A → B) (xs : List A) (k : ℕ) (x : A) → slice_get xs k ≡ Some x → slice_get (map f xs) k ≡ Some (f x)
 map_there f [] k x at = cc
 map_there f (y ∷ ys) zero x at = ap (λ (z : _). Some (f z)) (the_same y x at)
 map_there f (y ∷ ys) (suc k) x at = map_there f ys k x at

@@ -32,6 +32,10 @@ fresh s picks f =
       next = refl;
     }
 
+-- where nothing has changed the lines are still as the moves left them
+pub as_left : (old new : SystemSeen) (picks rest : List Actor) → new ≡ old → IsUnderway old picks rest → board_lines new.lines ≡ lines_of new.board (reverse new.log)
+as_left old new picks rest same u = subst (λ (s : SystemSeen). board_lines s.lines ≡ lines_of s.board (reverse s.log)) (sym same) u.lines
+
 -- what a line has is its part of the moves
 part_of : (board : BoardSeen) (g : List Move) (line : LineNo) (P : List Entry → Type 0) (o : Option BoardLine) → find_line (lines_of board g) line ≡ o → IsSomeAnd o (λ x. P x.past) → P (part line g)
 part_of board g line P None is h = absurd h

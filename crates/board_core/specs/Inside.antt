@@ -1,5 +1,5 @@
 -- What a system keeps.
-use Rattle.std.specs.Prelude.{◌≡◌, ℕ, Some, List, map, reverse, slice_get}
+use Rattle.std.specs.Prelude.{◌≡◌, ℕ, Some, List, map, slice_get}
 use Rattle.irq_base.specs.declared.entries.Actor.{Actor}
 use Rattle.irq_base.specs.declared.numbers.DriverNo.{DriverNo}
 use Rattle.board_def.specs.Seen.{BoardSeen}
@@ -7,12 +7,12 @@ use Rattle.domain_rules.specs.declared.layouts.Placement.{Placement}
 use Rattle.irq_line.specs.Seen.{LineSeen, IsSound}
 use Rattle.board_play.specs.Kept.{AreKept}
 use Rattle.board_play.specs.Order.{actors_of}
-use Rattle.board_core.specs.Log.{merged}
+use Rattle.board_core.specs.Log.{IsWalk, moves_of}
 use Rattle.board_core.specs.Scripts.{ScriptSeen, IsScript}
 use Rattle.board_core.specs.Seen.{SystemSeen, board_lines}
 
 abbrev pub seen_of : BoardSeen → List Placement → List LineSeen → List ℕ → SystemSeen
-seen_of board layout lines order = record { board = board; layout = layout; lines = lines; log = reverse (merged (reverse order) (board_lines lines)) }
+seen_of board layout lines order = record { board = board; layout = layout; lines = lines; log = moves_of order lines }
 
 abbrev pub drivers_of : List ScriptSeen → List DriverNo
 drivers_of scripts = map (λ (s : ScriptSeen). s.driver) scripts
@@ -25,3 +25,8 @@ pub record IsSystem (board : BoardSeen) (lines : List LineSeen) (scripts : List 
   pub drivers : drivers_of scripts ≡ board.drivers
   pub each : (i : ℕ) (s : ScriptSeen) → slice_get scripts i ≡ Some s → IsScript board.calls (board_lines lines) s
   pub all : actors ≡ actors_of board
+
+pub record IsKept (board : BoardSeen) (lines : List LineSeen) (scripts : List ScriptSeen) (begun order : List ℕ) (actors : List Actor) : Type 0 where
+  pub system : IsSystem board lines scripts actors
+  -- the order tells what came after the entries that the lines had at first
+  pub told : IsWalk begun order lines

@@ -1,9 +1,12 @@
 -- The log of a system, kept as the order of its lines alone: an entry stands once, in its line's history. The newest
 -- move comes first here.
-use Rattle.std.specs.Prelude.{ℕ, Option, Some, None, List, [], ◌∷◌, slice_get, slice_set}
+use Rattle.std.specs.Prelude.{◌≡◌, ◌==◌, ◌+◌, ◌<◌, ◌≤◌, ℕ, Option, Some, None, List, [], ◌∷◌, All, length, if◌then◌else◌, reverse, slice_get, slice_index, slice_set}
 use Rattle.irq_base.specs.declared.entries.Entry.{Entry}
 use Rattle.irq_base.specs.declared.numbers.LineNo.{LineNo}
+use Rattle.irq_line.specs.Seen.{LineSeen}
+use Rattle.board_core.specs.Seen.{board_lines}
 use Rattle.board_play.specs.Lines.{BoardLine, Move}
+use Rattle.board_play.specs.Order.{move_on}
 
 abbrev pub older : List Entry → List Entry
 older [] = []
@@ -27,3 +30,24 @@ with_newest (Some x) g = newest_of x.def.line x.past g
 abbrev pub merged : List ℕ → List BoardLine → List Move
 merged [] lines = []
 merged (k ∷ ks) lines = with_newest (slice_get lines k) (merged ks (without_newest (slice_get lines k) k lines))
+
+-- the moves that the order tells, the oldest first; the order has the oldest first too
+abbrev pub moves_of : List ℕ → List LineSeen → List Move
+moves_of order lines = reverse (merged (reverse order) (board_lines lines))
+
+-- how often the order has the place
+abbrev pub times : ℕ → List ℕ → ℕ
+times k [] = 0
+times k (j ∷ order) = (if j == k then 1 else 0) + times k order
+
+-- the order tells of each line the entries from its cursor on, and of nothing else
+pub record IsWalk (cursors order : List ℕ) (lines : List LineSeen) : Type 0 where
+  pub few : length lines ≤ 64
+  pub all : length cursors ≡ 64
+  pub places : All (λ k. k < length lines) order
+  pub from : (k : ℕ) (x : LineSeen) → slice_get lines k ≡ Some x → slice_index cursors k + times k order ≡ length x.entries
+
+-- the move that the entry of the line at the place n was, counted from 0
+abbrev pub move_at : Option LineSeen → ℕ → Option Move
+move_at None n = None
+move_at (Some x) n = move_on x.def.line (slice_get x.entries n)

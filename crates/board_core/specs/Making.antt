@@ -1,5 +1,5 @@
 -- What a system is made of.
-use Rattle.std.specs.Prelude.{◌≡◌, ℕ, IsSomeAnd, Some, List, [], map, slice_get}
+use Rattle.std.specs.Prelude.{◌≡◌, ℕ, IsSomeAnd, Option, Some, None, List, [], map, slice_get}
 use Rattle.irq_base.specs.declared.lines.LineDef.{LineDef}
 use Rattle.irq_base.specs.declared.numbers.DriverNo.{DriverNo}
 use Rattle.irq_line.specs.Seen.{LineSeen, IsSound}
@@ -10,13 +10,18 @@ use Rattle.domain_rules.specs.declared.layouts.Placement.TheVariants as placemen
 use Rattle.board_def.specs.declared.rows.LineRow.{LineRow}
 use Rattle.board_play.specs.Lines.{defs_of, lines_of}
 use Rattle.board_core.specs.Scripts.{ScriptSeen, cut, calls_of}
-use Rattle.board_core.specs.Seen.{board_lines}
+use Rattle.board_core.specs.Seen.{board_line, board_lines}
 use Rattle.board_core.specs.declared.scripts.Step.{Step}
 
 -- the maker makes each line that takes part, of its virq and its definition
 abbrev pub MakesAll : (ℕ → LineDef → Type 0) → BoardSeen → List Placement → Type 0
 MakesAll makes board layout =
     (i virq : ℕ) (path : List (ℕ × ℕ)) (row : LineRow) → slice_get board.lines i ≡ Some row → slice_get layout i ≡ Some (placements.Mapped virq path) → makes virq (line_of_row board row)
+
+-- the line of a row and its placement, to which nothing has happened; none where it takes no part
+abbrev pub IsNewLine : BoardSeen → Option LineRow → Option Placement → Option LineSeen → Type 0
+IsNewLine board (Some row) (Some (placements.Mapped virq path)) made = IsSomeAnd made (λ x. board_line x ≡ record { def = line_of_row board row; past = [] })
+IsNewLine board _ _ made = made ≡ None
 
 -- the board's lines, to which nothing has happened
 abbrev pub AreNew : BoardSeen → List LineSeen → Type 0

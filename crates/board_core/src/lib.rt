@@ -7,6 +7,7 @@
 #![tactic(auto)]
 
 pub mod making;
+pub mod moves;
 pub mod places;
 pub mod scripts;
 pub mod stepping;
@@ -14,5 +15,6 @@ pub mod system;
 pub mod turning;
 pub mod turns;
 
+pub use moves::Moves;
 pub use system::System;
 pub use turns::{PlayEnd, Turn};

@@ -1,18 +1,86 @@
 //! What a system is made of.
-ghost use Rattle.std.specs.Prelude.{◌≡◌, ℕ, ◌++◌, ◌∷◌, [], IfOk, OnOk, map};
+ghost use Rattle.std.specs.Prelude.{◌≡◌, ℕ, Some, ◌++◌, ◌∷◌, [], IfOk, OnOk, map, slice_get};
+ghost use Rattle.std.specs.Option.{option_map};
 ghost use Rattle.irq_base.specs.declared.entries.Actor.TheVariants as kinds;
 ghost use Rattle.play_laws.specs.Actors.{count_up};
 ghost use Rattle.board_play.specs.Order.{actors_of, threads_of, drivers_of};
 ghost use Rattle.board_core.specs.Seen.{board_lines};
 ghost use Rattle.board_core.specs.Scripts.{IsCallPlace, with_call};
-ghost use Rattle.board_core.specs.Making.{AreNew, IsNewScript, AreNewScripts, AreSound};
+ghost use Rattle.board_core.specs.Making.{MakesAll, IsNewLine, AreNew, IsNewScript, AreNewScripts, AreSound};
+ghost use Rattle.board_def.specs.Layout.{layout_of, IsPathOf};
+ghost use Rattle.board_def.specs.LineOf.{line_of_row};
 
 use crate::places::place_of_line;
 use crate::scripts::{Script, Step};
-use board_def::{Board, ScriptCall};
-use irq_base::{Actor, CpuNo, DriverNo, NoMemory};
-use irq_line::IrqLine;
+use board_def::{Board, Layout, LineRow, Placement, ScriptCall};
+use irq_base::{Actor, CpuNo, DriverNo, NoMemory, Path};
+use irq_line::{IrqLine, MakesLine};
 use std::alloc::Global;
+
+/// The lines that take part, in the board's order, each as the maker makes it.
+pub(crate) fn make_lines<L: IrqLine, M: MakesLine<L>>(
+    alloc: Global,
+    board: &Board,
+    layout: &Layout,
+    maker: &M,
+) -> Result<Vec<L>, NoMemory>
+    requires layout { layout.now ≡ layout_of board.now }
+    requires makes { MakesAll (M.makes maker.now) board.now (layout_of board.now) }
+    ensures { IfOk result (λ lines. AreNew board.now (map L.seen lines.items)) }
+{
+    let mut lines = Vec::new(alloc);
+    for i in 0..board.lines_len() {
+        if let Some(line) = make_line_at::<L, M>(alloc, board, layout, maker, i)? {
+            lines.push(line)?;
+        }
+    }
+    Ok(lines)
+}
+
+/// The line at that place of the board; none where it takes no part.
+fn make_line_at<L: IrqLine, M: MakesLine<L>>(
+    alloc: Global,
+    board: &Board,
+    layout: &Layout,
+    maker: &M,
+    i: usize,
+) -> Result<Option<L>, NoMemory>
+    requires layout { layout.now ≡ layout_of board.now }
+    requires makes { MakesAll (M.makes maker.now) board.now (layout_of board.now) }
+    ensures { IfOk result (λ made. IsNewLine board.now (slice_get board.now.lines i) (slice_get (layout_of board.now) i) (option_map L.seen made)) }
+{
+    let (Some(row), Some(placement)) = (board.line(i), layout.get(i)) else {
+        return Ok(None);
+    };
+    match placement {
+        Placement::Mapped { virq, path } => {
+            let line = make_line::<L, M>(alloc, board, row, virq, &path, maker)?;
+            Ok(Some(line))
+        }
+        Placement::Refused(_) => Ok(None),
+    }
+}
+
+/// The line of the row, by the maker.
+fn make_line<L: IrqLine, M: MakesLine<L>>(
+    alloc: Global,
+    board: &Board,
+    row: LineRow,
+    virq: u32,
+    path: &Path,
+    maker: &M,
+) -> Result<L, NoMemory>
+    requires row { (i : ℕ) × (slice_get board.now.lines i ≡ Some row) }
+    requires path { IsPathOf board.now row.line path.now }
+    requires makes { M.makes maker.now virq (line_of_row board.now row) }
+    ensures def { IfOk result (λ line. (L.seen line).def ≡ line_of_row board.now row) }
+    ensures empty { IfOk result (λ line. (L.seen line).entries ≡ []) }
+{
+    board.is_board();
+    let def = board.line_def(alloc, row.line, path)?;
+    let line = maker.make(alloc, virq, &def)?;
+    Ok(line)
+}
 
 /// The board's actors, the lowest first.
 pub(crate) fn make_actors(alloc: Global, board: &Board) -> Result<Vec<Actor>, NoMemory>

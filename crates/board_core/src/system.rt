@@ -1,18 +1,20 @@
 //! The lines of a board, and their moves.
-ghost use Rattle.std.specs.Prelude.{◌≡◌, None, List, [], IfOk, length, map, slice_get};
+ghost use Rattle.std.specs.Prelude.{◌≡◌, None, List, [], IfOk, length, map, reverse, slice_get};
 ghost use Rattle.irq_base.specs.declared.entries.Actor.{Actor};
 ghost use Rattle.irq_base.specs.declared.entries.Actor.TheVariants as actors;
 ghost use Rattle.board_def.specs.Layout.{layout_of};
 ghost use Rattle.board_play.specs.Kept.{AreKept};
+ghost use Rattle.board_play.specs.Lines.{lines_of};
 ghost use Rattle.board_play.specs.Order.{line_for, actors_of};
-ghost use Rattle.board_core.specs.Making.{AreNew};
+ghost use Rattle.board_core.specs.Making.{AreNew, MakesAll};
 ghost use Rattle.board_core.specs.Places.{IsPlace};
 ghost use Rattle.board_core.specs.Playing.{IsFresh, IsUnderway, IsPlay, Ends};
 ghost use Rattle.board_core.specs.Seen.{board_lines};
 ghost use Rattle.board_core.specs.Turned.{IsScriptOf};
 ghost use Rattle.board_core.specs.Turns.{Turns, TurnsBy, lowest_move};
 
-use crate::making::{are_sound, make_actors, make_scripts};
+use crate::making::{are_sound, make_actors, make_lines, make_scripts};
+use crate::moves::{LINES, Moves};
 use crate::places::{place_of_flow, place_of_line, place_of_take, step_place};
 use crate::scripts::{Script, script_of};
 use crate::turning::{advance, turn_of};
@@ -20,7 +22,7 @@ use crate::turns::{PlayEnd, Turn};
 use board_def::{Board, Layout};
 use callbacks::{Callbacks, Handler};
 use irq_base::{Actor, CpuNo, DriverNo, NoMemory};
-use irq_line::IrqLine;
+use irq_line::{IrqLine, MakesLine};
 use std::alloc::Global;
 use std::marker::Model;
 
@@ -32,6 +34,7 @@ pub struct System<'b, L: IrqLine> {
     lines: Vec<L>,
     scripts: Vec<Script>,
     order: Vec<u16>,
+    begun: [u32; LINES],
     actors: Vec<Actor>,
 }
 
@@ -39,16 +42,35 @@ impl<'b, L: IrqLine> Model for System<'b, L> {
     ghost use Rattle.std.specs.Prelude.{map};
     ghost use Rattle.board_core.specs.Playing.{IsFresh, IsUnderway, IsPlay, Ends};
     ghost use Rattle.board_core.specs.Seen.{SystemSeen};
-    ghost use Rattle.board_core.specs.Inside.{seen_of, IsSystem};
+    ghost use Rattle.board_core.specs.Inside.{seen_of, IsKept};
 
     ghost Value = { SystemSeen };
 
     ghost view = { λ s. seen_of s.board.now s.layout (map L.seen s.lines.items) s.order.items };
 
-    ghost invariant = { λ s. IsSystem s.board.now (map L.seen s.lines.items) s.scripts.items s.actors.items };
+    ghost invariant = { λ s. IsKept s.board.now (map L.seen s.lines.items) s.scripts.items s.begun s.order.items s.actors.items };
 }
 
 impl<'b, L: IrqLine> System<'b, L> {
+    /// The system of the board, to which nothing has happened: the maker makes each line that takes part. Refused only
+    /// for want of memory.
+    pub fn new<M: MakesLine<L>>(
+        alloc: Global,
+        board: &'b Board,
+        layout: Layout,
+        maker: &M,
+    ) -> Result<System<'b, L>, NoMemory>
+        requires layout { layout ≡ layout_of board.now }
+        requires makes { MakesAll (M.makes maker.now) board.now (layout_of board.now) }
+        ensures board { IfOk result (λ s. s.board ≡ board.now) }
+        ensures layout { IfOk result (λ s. s.layout ≡ layout) }
+        ensures fresh { IfOk result IsFresh }
+    {
+        let lines = make_lines::<L, M>(alloc, board, &layout, maker)?;
+        let system = System::of_new_lines(alloc, board, layout, lines)?;
+        Ok(system)
+    }
+
     /// The system of the board's lines, to which nothing has happened, and the board's layout. Refused only for want of
     /// memory.
     pub fn of_new_lines(
@@ -74,6 +96,7 @@ impl<'b, L: IrqLine> System<'b, L> {
             lines,
             scripts,
             order: Vec::new(alloc),
+            begun: [0; LINES],
             actors,
         })
     }
@@ -105,6 +128,20 @@ impl<'b, L: IrqLine> System<'b, L> {
         ensures { map L.seen result.now ≡ self.now.lines }
     {
         self.lines.as_slice()
+    }
+
+    /// The log, from its first move on. It takes no memory, and the same time however long the log is.
+    pub fn moves(&self) -> Moves<'_, L>
+        ensures { result ≡ self.now.log }
+    {
+        Moves::new(self.lines.as_slice(), self.order.as_slice(), self.begun)
+    }
+
+    /// How many moves the log has.
+    pub fn log_len(&self) -> usize
+        ensures { result ≡ length self.now.log }
+    {
+        self.order.len()
     }
 
     /// The lines, as they stand, without the system.
@@ -214,6 +251,7 @@ impl<'b, L: IrqLine> System<'b, L> {
         ensures layout { self.new.layout ≡ self.old.layout }
         ensures end { Ends self.new result }
         ensures play { (picks : List Actor) → IsUnderway self.old picks [] → IsPlay self.new picks result }
+        ensures lines { (picks : List Actor) → IsUnderway self.old picks [] → board_lines self.new.lines ≡ lines_of self.new.board (reverse self.new.log) }
     {
         loop {
             match self.turn_lowest(handlers) {
@@ -232,6 +270,7 @@ impl<'b, L: IrqLine> System<'b, L> {
         ensures board { self.new.board ≡ self.old.board }
         ensures layout { self.new.layout ≡ self.old.layout }
         ensures play { IsPlay self.new picks.now result }
+        ensures lines { board_lines self.new.lines ≡ lines_of self.new.board (reverse self.new.log) }
     {
         for pick in picks {
             match self.turn(*pick, handlers) {

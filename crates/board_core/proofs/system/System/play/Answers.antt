@@ -1,4 +1,7 @@
-use Rattle.std.proofs.Common.{◌∙◌, refl}
+use Rattle.std.proofs.Common.{◌∙◌, refl, List, subst, arith}
+use Rattle.irq_base.specs.declared.entries.Actor.{Actor}
+use Rattle.board_core.specs.Playing.{IsUnderway}
+use Rattle.board_core.proofs.Searches.{all_dropped}
 use Rattle.board_core.proofs.Underway.{fresh, pick_done, pick_full, same_board, same_layout}
 use Rattle.board_core.proofs.system.System.play.Goals as goal
 
@@ -18,3 +21,9 @@ loop-pick-preserved g c =
           pick_done c.loop-pick.self c.turn.new.self c.args.picks.now c.loop-pick.pick-index _ c.turn.result c.loop-pick-test.true c.loop-pick.invariant.underway c.in_default.not-Full c.in_default.not-NoMemory
           c.turn.ensures;
     }
+
+pub returns-clause-lines : goal.returns-clause-lines
+returns-clause-lines g c =
+    let picks = c.args.picks.now in
+    c.settle.ensures.lines picks
+    (subst (λ (rest : List Actor). IsUnderway c.loop-pick.self picks rest) (all_dropped picks c.loop-pick.pick-index (omega (arith, c.loop-pick-test.false))) c.loop-pick.invariant.underway)

@@ -1,0 +1,85 @@
+//! A walk over the log of a system.
+ghost use Rattle.std.specs.Prelude.{◌≡◌, ◌<◌, ◌^◌, IfSome, drop, length, map, slice_get};
+ghost use Rattle.board_core.specs.Log.{IsWalk, move_at, moves_of};
+
+use irq_base::{Entry, LineNo};
+use irq_line::IrqLine;
+use std::marker::Model;
+
+/// How many lines a board has at most.
+pub(crate) const LINES: usize = 64;
+
+/// The moves of a log, the oldest first. Contracts see the list of those that are left. It lends values alone, and takes
+/// no memory.
+#[derive(Drop)]
+pub struct Moves<'s, L: IrqLine> {
+    lines: &'s [L],
+    order: &'s [u16],
+    at: usize,
+    cursors: [u32; LINES],
+}
+
+impl<'s, L: IrqLine> Model for Moves<'s, L> {
+    ghost use Rattle.std.specs.Prelude.{List, drop, map};
+    ghost use Rattle.board_play.specs.Lines.{Move};
+    ghost use Rattle.board_core.specs.Log.{IsWalk, moves_of};
+
+    ghost Value = { List Move };
+
+    ghost view = { λ w. moves_of (drop w.at w.order.now) (map L.seen w.lines.now) };
+
+    ghost invariant = { λ w. IsWalk w.cursors (drop w.at w.order.now) (map L.seen w.lines.now) };
+}
+
+impl<'s, L: IrqLine> Moves<'s, L> {
+    /// The walk over the lines in that order, from the entries at the cursors on.
+    pub(crate) fn new(lines: &'s [L], order: &'s [u16], cursors: [u32; LINES]) -> Moves<'s, L>
+        requires { IsWalk cursors order.now (map L.seen lines.now) }
+        ensures { result ≡ moves_of order.now (map L.seen lines.now) }
+    {
+        Moves {
+            lines,
+            order,
+            at: 0,
+            cursors,
+        }
+    }
+
+    /// The next move, if one is left: its line and its entry. It takes the same time however many there are.
+    pub fn next(&mut self) -> Option<(LineNo, Entry)>
+        ensures first { result ≡ slice_get self.old 0 }
+        ensures rest { self.new ≡ drop 1 self.old }
+    {
+        let Some(k) = place_at(self.order, self.at) else {
+            return None;
+        };
+        let cursor = self.cursors[k];
+        let next = move_at(self.lines, k, cursor);
+        self.at += 1;
+        self.cursors[k] = cursor + 1;
+        next
+    }
+}
+
+/// The place that the order has there.
+fn place_at(order: &[u16], at: usize) -> Option<usize>
+    ensures place { result ≡ slice_get order.now at }
+    ensures small { IfSome result (λ k. (k < 65536) × (at < 2 ^ 63)) }
+{
+    match order.get(at) {
+        Some(place) => Some(*place as usize),
+        None => None,
+    }
+}
+
+/// The entry at the cursor of the line at the place.
+fn move_at<L: IrqLine>(lines: &[L], k: usize, cursor: u32) -> Option<(LineNo, Entry)>
+    requires { k < length lines.now }
+    ensures entry { result ≡ move_at (slice_get (map L.seen lines.now) k) cursor }
+    ensures short { IfSome result (λ m. cursor < 100000000) }
+{
+    let line = &lines[k];
+    line.is_sound();
+    let entry = line.history().get(cursor as usize)?;
+    Some((line.definition().line, entry))
+}

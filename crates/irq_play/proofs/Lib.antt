@@ -1,0 +1,10 @@
+mod Writing
+mod Printable
+mod Turned
+mod OfRows
+mod Ended
+mod Filling
+mod HandedOut
+mod Finished
+mod Summing
+mod MoveRows

@@ -1,0 +1,14 @@
+use Rattle.std.proofs.Common.{◌≡◌, All, length}
+use Rattle.irq_play.specs.Printing.{HasRow}
+use Rattle.irq_play.proofs.MoveRows.{IsPrinting}
+use Rattle.irq_play.proofs.printing.print_moves.Given as goal
+
+abbrev pub invariant-loop-line : goal.invariant-loop-line
+invariant-loop-line g l = record {
+  printing : IsPrinting (g.O.Sink.written l.fn.out) (g.O.Sink.written l.out) l.fn.moves l.moves;
+  rows : All HasRow l.moves;
+  faults : g.O.Sink.faults l.out ≡ g.O.Sink.faults l.fn.out;
+}
+
+abbrev pub decreases-loop-line : goal.decreases-loop-line
+decreases-loop-line g l = length l.moves

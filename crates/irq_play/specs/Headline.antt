@@ -1,0 +1,113 @@
+-- The headline: what holds of the histories of a board's lines when its play has come to its end, and of the reports that
+-- hand them out. The moves of a play stand in the order in which they were made, the oldest first, and so do the entries of
+-- a history; `Plays` has the newest move first.
+use Rattle.std.specs.Prelude.{◌≡◌, ℕ, Some, List, [], ◌++◌, length, map, reverse, slice_get}
+use Rattle.irq_base.specs.declared.entries.Entry.{Entry}
+use Rattle.irq_base.specs.declared.lines.LineDef.{LineDef}
+use Rattle.irq_base.specs.declared.numbers.LineNo.{LineNo}
+use Rattle.irq_base.specs.declared.reporting.LineReport.{LineReport}
+use Rattle.irq_model.specs.Laws.{NoOverlap, IsSilentAfterFree, KeepsOneshot, TakesAreCounted, IsSynchronised, IsServedWhenIdle}
+use Rattle.irq_model.specs.Legal.{IsLegal}
+use Rattle.irq_model.specs.Owed.{IsCovered, IsDelivered}
+use Rattle.irq_model.specs.Reason.{HasReason}
+use Rattle.irq_model.specs.Scripts.{FollowsScripts}
+use Rattle.irq_model.specs.Settled.{IsSettled}
+use Rattle.irq_laws.specs.Quiet.{IsQuiet}
+use Rattle.domain_rules.specs.declared.layouts.Placement.TheVariants as placements
+use Rattle.domain_rules.specs.declared.layouts.Unmapped.{Unmapped}
+use Rattle.board_def.specs.Layout.{layout_of}
+use Rattle.board_def.specs.LineOf.{line_of_row}
+use Rattle.board_def.specs.Seen.{BoardSeen}
+use Rattle.board_def.specs.declared.rows.LineRow.{LineRow}
+use Rattle.board_play.specs.Lines.{Move, part}
+use Rattle.board_play.specs.Play.{Done, Full, Plays}
+
+-- ---- one line
+
+-- the line at a moment, after these entries
+pub record HoldsAt (def : LineDef) (h : List Entry) : Type 0 where
+  -- each owed edge is somewhere: presented, kept, pending, in a software resend, or its device is still ahead in the round
+  pub covered : IsCovered def h
+  -- a started line with linked devices is masked only where it is disabled, or a flow is in progress, or on a level line a
+  -- thread isn't finished
+  pub has_reason : HasReason def h
+  -- where the line is enabled and no flow is in progress, what is owed or high is handled next
+  pub served_when_idle : IsServedWhenIdle def h
+
+-- a line's history, at its end or not
+pub record KeepsLaws (def : LineDef) (h : List Entry) : Type 0 where
+  -- each entry was the due one of its actor
+  pub legal : IsLegal def h
+  -- a device's handler is called, and its thread's run begins, only where it isn't at work
+  pub no_overlap : NoOverlap def h
+  -- no run of a device comes after its free
+  pub silent_after_free : IsSilentAfterFree def h
+  -- no end and no finish opened a level line over an unfinished thread
+  pub keeps_oneshot : KeepsOneshot def h
+  -- an edge line took no more interrupts than came
+  pub takes_are_counted : TakesAreCounted def h
+  -- what waited for handlers and threads did
+  pub synchronised : IsSynchronised def h
+  -- each driver's entries are those of its calls, in the order of its script, each once
+  pub scripts : FollowsScripts def h
+  -- at each moment
+  pub always : (before after : List Entry) → h ≡ before ++ after → HoldsAt def before
+
+-- the history of a line whose board's play came to its end
+pub record LineHeadline (def : LineDef) (h : List Entry) : Type 0 where
+  pub laws : KeepsLaws def h
+  -- nothing is due any more, and the drivers' calls are complete
+  pub settled : IsSettled def h
+  -- where the line isn't left disabled, no edge is owed to a linked device, and on a level line all asks are served
+  pub delivered : IsDelivered def h
+  -- nothing is at work: each handler that was called has returned
+  pub quiet : IsQuiet def h
+
+-- ---- all lines of a board
+
+-- the fact holds of each line of the board that has a place in its layout
+abbrev pub EachMapped : BoardSeen → (LineRow → Type 0) → Type 0
+EachMapped b P =
+    (i : ℕ) (row : LineRow) (virq : ℕ) (path : List (ℕ × ℕ)) → slice_get b.lines i ≡ Some row → slice_get (layout_of b) i ≡ Some (placements.Mapped virq path) → P row
+
+-- and this of each line that the layout refuses
+abbrev pub EachRefused : BoardSeen → (LineRow → Type 0) → Type 0
+EachRefused b P =
+    (i : ℕ) (row : LineRow) (why : Unmapped) → slice_get b.lines i ≡ Some row → slice_get (layout_of b) i ≡ Some (placements.Refused why) → P row
+
+-- a line's number and its entries
+abbrev pub LineHistory : Type 0
+LineHistory = LineNo × List Entry
+
+-- the line of the row, with its entries among the moves
+abbrev pub history_of : List Move → LineRow → LineHistory
+history_of g row = (row.line, part row.line g)
+
+-- one history a line of the board, in the board's order
+abbrev pub histories_of : BoardSeen → List Move → List LineHistory
+histories_of b g = map (history_of g) b.lines
+
+-- what a report hands out
+abbrev pub told_by : LineReport → LineHistory
+told_by report = (report.line, report.history.entries)
+
+-- ---- the play
+
+-- the board was played to its end, with these moves
+pub record Headline (b : BoardSeen) (g : List Move) (reports : List LineReport) : Type 0 where
+  -- the moves are the play of the board by the stated order with its picks, and no others are
+  pub play : Plays b b.picks (reverse g) Done
+  -- one report a line of the board, with the line's entries among the moves
+  pub handed_out : map told_by reports ≡ histories_of b g
+  pub mapped : EachMapped b (λ row. LineHeadline (line_of_row b row) (part row.line g))
+  -- a refused line has no entry
+  pub refused : EachRefused b (λ row. part row.line g ≡ [])
+
+-- the board was played until an entry was due on a line whose history has the greatest length, `len`
+pub record FullLog (b : BoardSeen) (g : List Move) (reports : List LineReport) (line : LineNo) (len : ℕ) : Type 0 where
+  pub play : Plays b b.picks (reverse g) (Full line)
+  pub handed_out : map told_by reports ≡ histories_of b g
+  pub mapped : EachMapped b (λ row. KeepsLaws (line_of_row b row) (part row.line g))
+  pub refused : EachRefused b (λ row. part row.line g ≡ [])
+  pub length_is : length (part line g) ≡ len
+  pub limit_is : len ≡ b.log

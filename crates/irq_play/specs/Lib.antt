@@ -1,0 +1,7 @@
+pub mod Headline
+pub mod Report
+pub mod Summable
+pub mod Printing
+pub mod Reporting
+pub mod Ends
+pub mod Played

@@ -1,0 +1,38 @@
+-- What comes of a board's play, and of what is printed of it.
+use Rattle.std.specs.Prelude.{◌≡◌, ℕ, Bool, Option, List, [], reverse}
+use Rattle.irq_base.specs.declared.reporting.LineReport.{LineReport}
+use Rattle.irq_io.specs.Whole.{WritesAll}
+use Rattle.irq_io.specs.declared.whole.WriteEnd.{WriteEnd}
+use Rattle.irq_io.specs.declared.whole.WriteEnd.TheVariants as writes
+use Rattle.board_def.specs.Layout.{layout_of}
+use Rattle.board_def.specs.Seen.{BoardSeen}
+use Rattle.board_core.specs.Playing.{IsPlay}
+use Rattle.board_core.specs.Seen.{SystemSeen, board_lines}
+use Rattle.board_core.specs.declared.turns.PlayEnd.{PlayEnd}
+use Rattle.board_play.specs.Lines.{Move, lines_of}
+use Rattle.irq_play.specs.Headline.{Headline, FullLog}
+use Rattle.irq_play.specs.Report.{report_text}
+use Rattle.irq_play.specs.declared.ending.PlayedEnd.{PlayedEnd}
+use Rattle.irq_play.specs.declared.ending.PlayedEnd.TheVariants as ends
+
+-- The board was played to its end, the reports hand that play out, and it is what was printed: all of its report, or
+-- after a fault a beginning of it.
+pub record IsPrinted (b : BoardSeen) (summary : Bool) (reports : List LineReport) (before now : Option (List ℕ)) (end : WriteEnd) : Type 0 where
+  pub moves : List Move
+  pub headline : Headline b moves reports
+  pub prints : WritesAll before now (report_text b summary moves) end
+
+-- the same by how the play ended; nothing is said to be printed of one that didn't come to its end
+abbrev pub PlaysBoard : BoardSeen → Bool → List LineReport → Option (List ℕ) → Option (List ℕ) → PlayedEnd → Type 0
+PlaysBoard b summary reports before now ends.Done = IsPrinted b summary reports before now writes.Done
+PlaysBoard b summary reports before now ends.WriteFault = IsPrinted b summary reports before now writes.Failed
+PlaysBoard b summary reports before now (ends.LogFull line len) = (moves : List Move) × FullLog b moves reports line len
+PlaysBoard b summary reports before now ends.NoMemory = reports ≡ []
+
+-- A system in which the board was played, and so its play ended. Where memory was refused it is as the play so far left
+-- it.
+pub record IsPlayed (b : BoardSeen) (s : SystemSeen) (end : PlayEnd) : Type 0 where
+  pub board : s.board ≡ b
+  pub layout : s.layout ≡ layout_of b
+  pub lines : board_lines s.lines ≡ lines_of b (reverse s.log)
+  pub play : IsPlay s b.picks end

@@ -1,0 +1,50 @@
+-- Reports of lines as they stand, the newest entry of a line first.
+use Rattle.std.specs.Prelude.{◌≡◌, ℕ, ◌≤◌, Bool, true, false, Option, Some, None, List, [], ◌∷◌, length, map, reverse, drop, slice_get, All}
+use Rattle.irq_base.specs.Seen.{HistorySeen}
+use Rattle.irq_base.specs.declared.entries.Entry.{Entry}
+use Rattle.irq_base.specs.declared.numbers.LineNo.{LineNo}
+use Rattle.irq_line.specs.Seen.{LineSeen}
+use Rattle.irq_model.specs.Kinds.{same_line}
+use Rattle.board_def.specs.Seen.{BoardSeen}
+use Rattle.board_def.specs.declared.rows.LineRow.{LineRow}
+use Rattle.board_core.specs.Seen.{board_lines}
+use Rattle.board_play.specs.Lines.{BoardLine, defs_of, find_line}
+use Rattle.irq_play.specs.Headline.{LineHistory}
+use Rattle.irq_play.specs.declared.reporting.ReportRoom.{ReportRoom}
+
+-- the entries of a line, the oldest first; none where there is no line
+abbrev pub entries_of : Option BoardLine → List Entry
+entries_of None = []
+entries_of (Some x) = reverse x.past
+
+-- the line of the row, with its entries if it is among these
+abbrev pub history_among : List BoardLine → LineRow → LineHistory
+history_among lines row = (row.line, entries_of (find_line lines row.line))
+
+-- they are the lines of the board that take part, in its order
+abbrev pub AreOfBoard : BoardSeen → List BoardLine → Type 0
+AreOfBoard b lines = map (λ (x : BoardLine). x.def) lines ≡ defs_of b
+
+-- the lines from the last one on
+abbrev pub from_last : List LineSeen → List BoardLine
+from_last lines = board_lines (reverse lines)
+
+-- the first of the lines is that of the number
+abbrev pub is_first : LineNo → List BoardLine → Bool
+is_first number [] = false
+is_first number (x ∷ xs) = same_line number x.def.line
+
+-- the entries of the first line were taken, and the line with them; or none, where it is of another number
+abbrev pub TakesFirst : Bool → List BoardLine → List BoardLine → List Entry → Type 0
+TakesFirst true old new entries = (entries ≡ entries_of (slice_get old 0)) × (new ≡ drop 1 old)
+TakesFirst false old new entries = (entries ≡ []) × (new ≡ old)
+
+abbrev pub IsEmptyHistory : HistorySeen → Type 0
+IsEmptyHistory h = h.entries ≡ []
+
+-- there is room for so many reports, and an empty history for each
+pub record HasRoom (n : ℕ) (room : ReportRoom) : Type 0 where
+  pub none_yet : room.reports.reports ≡ []
+  pub spare : n ≤ room.reports.spare
+  pub histories : length room.empty.items ≡ n
+  pub empty : All IsEmptyHistory room.empty.items

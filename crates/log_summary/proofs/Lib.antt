@@ -1,0 +1,4 @@
+pub mod Digits
+pub mod LastLaws
+pub mod Passing
+pub mod RowWords
