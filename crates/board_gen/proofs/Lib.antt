@@ -1,0 +1,5 @@
+pub mod Counting
+pub mod Growing
+pub mod NextLine
+pub mod Owning
+pub mod Planning

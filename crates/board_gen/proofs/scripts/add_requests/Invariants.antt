@@ -1,0 +1,14 @@
+use Rattle.std.proofs.Common.{◌≡◌, ◌+◌, ◌++◌, length}
+use Rattle.board_gen.specs.Generated.{requests}
+use Rattle.board_gen.specs.Keeping.{IsScripted, NamesNone}
+use Rattle.board_gen.proofs.scripts.add_requests.Given as goal
+
+-- the calls about the devices so far are there
+abbrev pub invariant-loop-i : goal.invariant-loop-i
+invariant-loop-i l =
+    record {
+      calls : l.board ≡ record l.fn.board { calls = l.fn.board.calls ++ requests (record l.script { devices = l.i }) };
+      count : length l.board.calls ≡ length l.fn.board.calls + l.i;
+      scripted : IsScripted l.script l.board;
+      unnamed : NamesNone (l.script.first + l.i) l.board;
+    }

@@ -1,0 +1,23 @@
+//! Draws of numbers.
+ghost use Rattle.std.specs.Prelude.{◌≡◌, ◌<◌};
+ghost use Rattle.board_gen.specs.Drawing.{drawn, next_x};
+
+/// A linear congruential generator: what is drawn follows from x, at first.
+#[derive(Drop)]
+pub(crate) struct Draws {
+    pub(crate) x: u32,
+}
+
+impl Draws {
+    /// A number below `m`.
+    pub(crate) fn draw(&mut self, m: u32) -> u32
+        requires { 0 < m }
+        ensures x { self.new.x ≡ next_x self.old.x }
+        ensures drawn { result ≡ drawn m self.new.x }
+        ensures below { result < m }
+    {
+        let next = (1_664_525 * u64::from(self.x) + 1_013_904_223) % 4_294_967_296;
+        self.x = next as u32;
+        self.x / 65_536 % m
+    }
+}
