@@ -1,3 +1,4 @@
 pub mod Seen
 pub mod Tries
 pub mod Fit
+pub mod Forks

@@ -1,8 +1,9 @@
 //! The lines that the threads share.
-ghost use Rattle.std.specs.Prelude.{◌≡◌};
-ghost use Rattle.workers.specs.Fit.{IsPlaceOf};
+ghost use Rattle.std.specs.Prelude.{◌≡◌, ◌+◌, ◌<◌, ◌^◌, IfSome};
+ghost use Rattle.workers.specs.Fit.{IsPlaceOf, has_worker};
+ghost use Rattle.workers.specs.Forks.{IsThere, IsSpan};
 
-use irq_base::LineNo;
+use irq_base::{Actor, DeviceDef, LineNo};
 use irq_line::IrqLine;
 use line_shared::SharedLine;
 use std::marker::Model;
@@ -29,7 +30,8 @@ impl<L: IrqLine> Model for SharedLines<L> {
 impl<L: IrqLine> SharedLines<L> {
     /// The place of the line of that number; none where it takes no part.
     pub(crate) fn place_of(&self, number: LineNo) -> Option<usize>
-        ensures { IsPlaceOf self.now number result }
+        ensures place { IsPlaceOf self.now number result }
+        ensures few { IfSome result (λ k. k + 1 < 2 ^ 64) }
     {
         for place in 0..self.numbers.len() {
             if self.numbers[place] == number {
@@ -37,5 +39,29 @@ impl<L: IrqLine> SharedLines<L> {
             }
         }
         None
+    }
+
+    /// Whether the device has a thread, and its line takes part.
+    #[tactic(auto, using(crate::proofs::Manning::place_says))]
+    pub(crate) fn has_worker(&self, device: DeviceDef) -> bool
+        ensures { result ≡ has_worker self.now device }
+    {
+        device.kind.has_thread() && self.place_of(device.line).is_some()
+    }
+
+    /// The places from which and up to which the actor has passes: a thread of its device's line, the others of each.
+    pub(crate) fn span_of(&self, actor: Actor) -> (usize, usize)
+        requires { IsThere self.now actor }
+        ensures { IsSpan self.now actor result.0 result.1 }
+    {
+        match actor {
+            Actor::Thread(line, _) => {
+                let Some(place) = self.place_of(line) else {
+                    unreachable!();
+                };
+                (place, place + 1)
+            }
+            _ => (0, self.lines.len()),
+        }
     }
 }
