@@ -39,6 +39,22 @@ nothing_made calls lines r none =
     nothing_taken [] = refl
     nothing_taken (c ∷ cs) = refl
 
+pub actors_more_on : (k : ℕ) (jobs : List JobSeen) (j : JobSeen) → actors_on k (jobs ++ j ∷ []) ≡ cond (works_on k j) (actors_on k jobs ++ j.actor ∷ []) (actors_on k jobs)
+actors_more_on k [] j = by_test (works_on k j)
+  where
+    by_test : (b : Bool) → map (λ (x : JobSeen). x.actor) (cond b (j ∷ []) []) ≡ cond b ([] ++ j.actor ∷ []) []
+    by_test true = refl
+    by_test false = refl
+actors_more_on k (x ∷ xs) j = by_test (works_on k x) (works_on k j) (actors_more_on k xs j)
+  where
+    by_test : (b d : Bool) → actors_on k (xs ++ j ∷ []) ≡ cond d (actors_on k xs ++ j.actor ∷ []) (actors_on k xs)
+        → map (λ (x : JobSeen). x.actor) (cond b (x ∷ filter (works_on k) (xs ++ j ∷ [])) (filter (works_on k) (xs ++ j ∷ [])))
+        ≡ cond d (map (λ (x : JobSeen). x.actor) (cond b (x ∷ filter (works_on k) xs) (filter (works_on k) xs)) ++ j.actor ∷ []) (map (λ (x : JobSeen). x.actor) (cond b (x ∷ filter (works_on k) xs) (filter (works_on k) xs)))
+    by_test true true deeper = ap (λ (ws : List Actor). x.actor ∷ ws) deeper
+    by_test true false deeper = ap (λ (ws : List Actor). x.actor ∷ ws) deeper
+    by_test false true deeper = deeper
+    by_test false false deeper = deeper
+
 module _ (board : BoardSeen) (lines : List LockSeen) (who : Actor) (first end : ℕ) (old new : List PassSeen) (seats : List SeatSeen) (f : Forks lines first end who old new seats) where
   seated : (j : JobSeen) → j.actor ≡ who → j.first ≡ first → j.seats ≡ seats → AreSeated lines j
   seated j actor from are i s at =
@@ -79,22 +95,6 @@ module _ (board : BoardSeen) (lines : List LockSeen) (who : Actor) (first end : 
 
   -- ---- the first passes
 
-  actors_more : (k : ℕ) (jobs : List JobSeen) (j : JobSeen) → actors_on k (jobs ++ j ∷ []) ≡ cond (works_on k j) (actors_on k jobs ++ j.actor ∷ []) (actors_on k jobs)
-  actors_more k [] j = by_test (works_on k j)
-    where
-      by_test : (b : Bool) → map (λ (x : JobSeen). x.actor) (cond b (j ∷ []) []) ≡ cond b ([] ++ j.actor ∷ []) []
-      by_test true = refl
-      by_test false = refl
-  actors_more k (x ∷ xs) j = by_test (works_on k x) (works_on k j) (actors_more k xs j)
-    where
-      by_test : (b d : Bool) → actors_on k (xs ++ j ∷ []) ≡ cond d (actors_on k xs ++ j.actor ∷ []) (actors_on k xs)
-          → map (λ (x : JobSeen). x.actor) (cond b (x ∷ filter (works_on k) (xs ++ j ∷ [])) (filter (works_on k) (xs ++ j ∷ [])))
-          ≡ cond d (map (λ (x : JobSeen). x.actor) (cond b (x ∷ filter (works_on k) xs) (filter (works_on k) xs)) ++ j.actor ∷ []) (map (λ (x : JobSeen). x.actor) (cond b (x ∷ filter (works_on k) xs) (filter (works_on k) xs)))
-      by_test true true deeper = ap (λ (ws : List Actor). x.actor ∷ ws) deeper
-      by_test true false deeper = ap (λ (ws : List Actor). x.actor ∷ ws) deeper
-      by_test false true deeper = deeper
-      by_test false false deeper = deeper
-
   pub new_firsts : (jobs : List JobSeen) (j : JobSeen) → j.actor ≡ who → j.first ≡ first → j.seats ≡ seats → AreFirsts lines jobs old → AreFirsts lines (jobs ++ j ∷ []) new
   new_firsts jobs j actor from are firsts = record { as_many = f.as_many ∙ firsts.as_many; each = each }
     where
@@ -115,7 +115,7 @@ module _ (board : BoardSeen) (lines : List LockSeen) (who : Actor) (first end : 
       later k false l q p whom same is = subst (λ (ws : List Actor). IsFirst l ws p) (sym whom) (subst (λ (x : PassSeen). IsFirst l (actors_on k jobs) x) (sym same) is)
 
       whom : (k : ℕ) → actors_on k (jobs ++ j ∷ []) ≡ cond (is_within first end k) (actors_on k jobs ++ who ∷ []) (actors_on k jobs)
-      whom k = actors_more k jobs j ∙ (ap (λ (b : Bool). cond b (actors_on k jobs ++ j.actor ∷ []) (actors_on k jobs)) (works k) ∙ ap (λ (a : Actor). cond (is_within first end k) (actors_on k jobs ++ a ∷ []) (actors_on k jobs)) actor)
+      whom k = actors_more_on k jobs j ∙ (ap (λ (b : Bool). cond b (actors_on k jobs ++ j.actor ∷ []) (actors_on k jobs)) (works k) ∙ ap (λ (a : Actor). cond (is_within first end k) (actors_on k jobs ++ a ∷ []) (actors_on k jobs)) actor)
 
       some_later : (k : ℕ) (q p : PassSeen) (o : Option LockSeen) → IsLeft (is_within first end k) who q p → IsSomeAnd o (λ l. IsFirst l (actors_on k jobs) q) → IsSomeAnd o (λ l. IsFirst l (actors_on k (jobs ++ j ∷ [])) p)
       some_later k q p None left is = absurd is

@@ -5,3 +5,7 @@ pub mod Forking
 pub mod Manning
 pub mod Hiring
 pub mod Sharing
+pub mod Meeting
+pub mod Own
+pub mod Gathering
+pub mod Finishing

@@ -45,6 +45,10 @@ module _ {A : Type 0} where
   length_snoc [] y = refl
   length_snoc (z ∷ zs) y = let l = length_snoc zs y in omega (arith, l)
 
+  pub none_left : (xs : List A) → length xs ≡ 0 → xs ≡ []
+  none_left [] e = refl
+  none_left (z ∷ zs) e = absurd (omega (arith, e))
+
 pub at_map : {A B : Type 0} (f : A → B) (xs : List A) (k : ℕ) (x : A) → slice_get xs k ≡ Some x → slice_get (map f xs) k ≡ Some (f x)
 at_map f [] k x at = cc
 at_map f (z ∷ zs) zero x at = ap (λ (y : _). Some (f y)) (the_same z x at)

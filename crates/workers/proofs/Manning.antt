@@ -223,7 +223,7 @@ module _ {A : Type 0} where
   all_taken (y ∷ ys) zero end = absurd (omega (arith, end))
   all_taken (y ∷ ys) (suc i) end = ap (λ (zs : List A). y ∷ zs) (all_taken ys i (omega (arith, end)))
 
-  filter_more : (p : A → Bool) (xs : List A) (x : A) → filter p (xs ++ x ∷ []) ≡ filter p xs ++ cond (p x) (x ∷ []) []
+  pub filter_more : (p : A → Bool) (xs : List A) (x : A) → filter p (xs ++ x ∷ []) ≡ filter p xs ++ cond (p x) (x ∷ []) []
   filter_more p [] x = refl
   filter_more p (y ∷ ys) x = by_test (p y) (filter_more p ys x)
     where

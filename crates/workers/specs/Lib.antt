@@ -2,3 +2,4 @@ pub mod Seen
 pub mod Tries
 pub mod Fit
 pub mod Forks
+pub mod Gathers
