@@ -1,0 +1,11 @@
+pub mod Trying
+pub mod Searching
+pub mod Lists
+pub mod Forking
+pub mod Manning
+pub mod Hiring
+pub mod Sharing
+pub mod Meeting
+pub mod Own
+pub mod Gathering
+pub mod Finishing

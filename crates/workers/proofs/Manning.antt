@@ -1,0 +1,291 @@
+-- Who has a worker: each actor once.
+use Rattle.std.proofs.Common.{◌≡◌, ℕ, zero, suc, ◌+◌, ◌<◌, ◌≤◌, ◌||◌, inl, inr, Bool, true, false, cond, is_some, IsSomeAnd, Option, Some, None, List, [], ◌∷◌, ◌++◌, map, filter, take, length, slice_get, refl, sym, ap, ◌∙◌, subst, arith, add-one, append_assoc, append-nil}
+use Rattle.std.specs.List.{list_any}
+use Rattle.std.proofs.lemmas.Bool.{or_cases, and_parts, false_from_ne_true}
+use Rattle.irq_base.specs.Handlers.{has_thread}
+use Rattle.irq_base.specs.declared.devices.DeviceDef.{DeviceDef}
+use Rattle.irq_base.specs.declared.entries.Actor.{Actor}
+use Rattle.irq_base.specs.declared.entries.Actor.TheVariants as actors
+use Rattle.irq_base.specs.declared.numbers.DevNo.{DevNo}
+use Rattle.irq_base.specs.declared.numbers.DriverNo.{DriverNo}
+use Rattle.irq_base.specs.declared.numbers.LineNo.{LineNo}
+use Rattle.irq_model.specs.Kinds.{same_line}
+use Rattle.irq_steps.proofs.Same.{line_from_same}
+use Rattle.irq_laws.proofs.Chosen.{the_same}
+use Rattle.irq_laws.proofs.Lists.{both_ways}
+use Rattle.play_laws.specs.Actors.{count_up}
+use Rattle.board_def.proofs.Rising.{Rises, rises_on, head_of}
+use Rattle.board_def.specs.Rules.{IsBoard}
+use Rattle.board_def.specs.Seen.{BoardSeen}
+use Rattle.board_play.specs.Order.{cpus_of, drivers_of}
+use Rattle.line_lock.proofs.Actors.{actor_from_same}
+use Rattle.line_lock.specs.Knows.{is_among}
+use Rattle.line_lock.specs.Passes.{LockSeen}
+use Rattle.line_lock.specs.Placed.{same_actor}
+use Rattle.workers.specs.Fit.{IsPlaceOf, has_worker, workers_of}
+use Rattle.workers.specs.Forks.{IsThere}
+
+-- ---- an order
+
+abbrev rank : Actor → ℕ
+rank (actors.Thread line dev) = dev.0
+rank (actors.Cpu cpu) = 70000 + cpu.0
+rank (actors.Driver driver) = 80000 + driver.0
+
+abbrev AreFrom : ℕ → List Actor → Type 0
+AreFrom n [] = Unit {0}
+AreFrom n (x ∷ xs) = (n ≤ rank x) × AreFrom n xs
+
+abbrev AreUnder : ℕ → List Actor → Type 0
+AreUnder n [] = Unit {0}
+AreUnder n (x ∷ xs) = (rank x < n) × AreUnder n xs
+
+abbrev AreRising : List Actor → Type 0
+AreRising [] = Unit {0}
+AreRising (x ∷ xs) = AreFrom (suc (rank x)) xs × AreRising xs
+
+from_less : (m n : ℕ) (xs : List Actor) → m ≤ n → AreFrom n xs → AreFrom m xs
+from_less m n [] le h = tt
+from_less m n (x ∷ xs) le h = (omega (arith, le, h.0), from_less m n xs le h.1)
+
+from_both : (n : ℕ) (xs ys : List Actor) → AreFrom n xs → AreFrom n ys → AreFrom n (xs ++ ys)
+from_both n [] ys a b = b
+from_both n (x ∷ xs) ys a b = (a.0, from_both n xs ys a.1 b)
+
+rising_both : (n : ℕ) (xs ys : List Actor) → AreUnder n xs → AreFrom n ys → AreRising xs → AreRising ys → AreRising (xs ++ ys)
+rising_both n [] ys under from a b = b
+rising_both n (x ∷ xs) ys under from a b = (from_both (suc (rank x)) xs ys a.0 (from_less (suc (rank x)) n ys (omega (arith, under.0)) from), rising_both n xs ys under.1 from a.1 b)
+
+above : (n : ℕ) (xs : List Actor) (i : ℕ) (a : Actor) → AreFrom n xs → slice_get xs i ≡ Some a → n ≤ rank a
+above n [] i a from at = cc
+above n (x ∷ xs) zero a from at = subst (λ (y : Actor). n ≤ rank y) (the_same x a at) from.0
+above n (x ∷ xs) (suc i) a from at = above n xs i a from.1 at
+
+higher_differs : (a x : Actor) → rank x < rank a → same_actor a x ≡ false
+higher_differs a x less = false_from_ne_true (same_actor a x) (λ same. let e = ap rank (actor_from_same a x same) in omega (arith, e, less))
+
+not_before : (ws : List Actor) (i : ℕ) (a : Actor) → AreRising ws → slice_get ws i ≡ Some a → is_among a (take i ws) ≡ false
+not_before [] i a rising at = cc
+not_before (x ∷ xs) zero a rising at = refl
+not_before (x ∷ xs) (suc i) a rising at =
+    let less : suc (rank x) ≤ rank a = above (suc (rank x)) xs i a rising.0 at in
+    ap (λ (t : Bool). cond t true (is_among a (take i xs))) (higher_differs a x (omega (arith, less))) ∙ not_before xs i a rising.1 at
+
+-- ---- threads
+
+abbrev thread_of : DeviceDef → Actor
+thread_of x = actors.Thread x.line x.dev
+
+abbrev threads_on : List LockSeen → List DeviceDef → List Actor
+threads_on lines xs = map thread_of (filter (has_worker lines) xs)
+
+threads_from : (lines : List LockSeen) (n : ℕ) (xs : List DeviceDef) → ((i : ℕ) (y : DeviceDef) → slice_get xs i ≡ Some y → n ≤ y.dev.0) → AreFrom n (threads_on lines xs)
+threads_from lines n [] all = tt
+threads_from lines n (x ∷ xs) all = by_test (has_worker lines x) (threads_from lines n xs (λ i y at. all (suc i) y at))
+  where
+    by_test : (b : Bool) → AreFrom n (threads_on lines xs) → AreFrom n (map thread_of (cond b (x ∷ filter (has_worker lines) xs) (filter (has_worker lines) xs)))
+    by_test true deeper = (all 0 x refl, deeper)
+    by_test false deeper = deeper
+
+threads_rise : (lines : List LockSeen) (xs : List DeviceDef) → Rises (λ (x : DeviceDef). x.dev.0) xs → AreRising (threads_on lines xs)
+threads_rise lines [] rises = tt
+threads_rise lines (x ∷ xs) rises = by_test (has_worker lines x) (threads_rise lines xs (rises_on (λ (x : DeviceDef). x.dev.0) x xs rises))
+  where
+    higher : (i : ℕ) (y : DeviceDef) → slice_get xs i ≡ Some y → suc x.dev.0 ≤ y.dev.0
+    higher i y at = let less : x.dev.0 < y.dev.0 = head_of (λ (e : DeviceDef). e.dev.0 < y.dev.0) x (take i xs) (rises (suc i) y at) in omega (arith, less)
+
+    by_test : (b : Bool) → AreRising (threads_on lines xs) → AreRising (map thread_of (cond b (x ∷ filter (has_worker lines) xs) (filter (has_worker lines) xs)))
+    by_test true deeper = (threads_from lines (suc x.dev.0) xs higher, deeper)
+    by_test false deeper = deeper
+
+threads_under : (lines : List LockSeen) (n : ℕ) (xs : List DeviceDef) → ((i : ℕ) (y : DeviceDef) → slice_get xs i ≡ Some y → y.dev.0 < n) → AreUnder n (threads_on lines xs)
+threads_under lines n [] all = tt
+threads_under lines n (x ∷ xs) all = by_test (has_worker lines x) (threads_under lines n xs (λ i y at. all (suc i) y at))
+  where
+    by_test : (b : Bool) → AreUnder n (threads_on lines xs) → AreUnder n (map thread_of (cond b (x ∷ filter (has_worker lines) xs) (filter (has_worker lines) xs)))
+    by_test true deeper = (all 0 x refl, deeper)
+    by_test false deeper = deeper
+
+-- ---- processors
+
+abbrev cpu_of : ℕ → Actor
+cpu_of n = actors.Cpu (record { 0 = n })
+
+cpus_from : (c n : ℕ) → AreFrom (70000 + c) (map cpu_of (count_up c n))
+cpus_from c zero = tt
+cpus_from c (suc n) = (omega arith, from_less (70000 + c) (70000 + (c + 1)) (map cpu_of (count_up (c + 1) n)) (omega arith) (cpus_from (c + 1) n))
+
+cpus_rise : (c n : ℕ) → AreRising (map cpu_of (count_up c n))
+cpus_rise c zero = tt
+cpus_rise c (suc n) = (subst (λ (m : ℕ). AreFrom m (map cpu_of (count_up (c + 1) n))) (let e : 70000 + (c + 1) ≡ suc (70000 + c) = omega arith in e) (cpus_from (c + 1) n), cpus_rise (c + 1) n)
+
+cpus_under : (c n m : ℕ) → 70000 + (c + n) ≤ m → AreUnder m (map cpu_of (count_up c n))
+cpus_under c zero m le = tt
+cpus_under c (suc n) m le = (omega (arith, le), cpus_under (c + 1) n m (omega (arith, le)))
+
+-- ---- drivers
+
+abbrev driver_of : DriverNo → Actor
+driver_of r = actors.Driver r
+
+drivers_from : (n : ℕ) (rs : List DriverNo) → ((i : ℕ) (s : DriverNo) → slice_get rs i ≡ Some s → n ≤ s.0) → AreFrom (80000 + n) (map driver_of rs)
+drivers_from n [] all = tt
+drivers_from n (r ∷ rs) all = (let h = all 0 r refl in omega (arith, h), drivers_from n rs (λ i s at. all (suc i) s at))
+
+drivers_rise : (rs : List DriverNo) → Rises (λ (r : DriverNo). r.0) rs → AreRising (map driver_of rs)
+drivers_rise [] rises = tt
+drivers_rise (r ∷ rs) rises = (
+  subst (λ (m : ℕ). AreFrom m (map driver_of rs)) (let e : 80000 + suc r.0 ≡ suc (80000 + r.0) = omega arith in e) (drivers_from (suc r.0) rs higher),
+  drivers_rise rs (rises_on (λ (r : DriverNo). r.0) r rs rises),
+)
+  where
+    higher : (i : ℕ) (s : DriverNo) → slice_get rs i ≡ Some s → suc r.0 ≤ s.0
+    higher i s at = let less : r.0 < s.0 = head_of (λ (e : DriverNo). e.0 < s.0) r (take i rs) (rises (suc i) s at) in omega (arith, less)
+
+-- ---- all of them
+
+crew_rises : (board : BoardSeen) (lines : List LockSeen) → IsBoard board → AreRising (workers_of board lines)
+crew_rises board lines is =
+    rising_both 70000 (threads_on lines board.devices) (cpus_of board ++ drivers_of board)
+    (threads_under lines 70000 board.devices (λ i y at. let n = (is.devices i y at).number.1 in omega (arith, n)))
+    (from_both 70000 (cpus_of board) (drivers_of board) cpus_high drivers_high)
+    (threads_rise lines board.devices (λ i y at. (is.devices i y at).rises))
+    (rising_both 80000 (cpus_of board) (drivers_of board) (cpus_under 0 board.cpus 80000 (let f = is.few_cpus in omega (arith, f))) drivers_higher (cpus_rise 0 board.cpus) (drivers_rise board.drivers (λ i r at. (is.drivers i r at).rises)))
+  where
+    cpus_high : AreFrom 70000 (cpus_of board)
+    cpus_high = from_less 70000 (70000 + 0) (cpus_of board) (omega arith) (cpus_from 0 board.cpus)
+
+    drivers_higher : AreFrom 80000 (drivers_of board)
+    drivers_higher = from_less 80000 (80000 + 0) (drivers_of board) (omega arith) (drivers_from 0 board.drivers (λ i s at. omega arith))
+
+    drivers_high : AreFrom 70000 (drivers_of board)
+    drivers_high = from_less 70000 80000 (drivers_of board) (omega arith) drivers_higher
+
+-- an actor of the crew is none of those before it
+pub is_new : (board : BoardSeen) (lines : List LockSeen) → IsBoard board → (i : ℕ) (a : Actor) → slice_get (workers_of board lines) i ≡ Some a → is_among a (take i (workers_of board lines)) ≡ false
+is_new board lines is i a at = not_before (workers_of board lines) i a (crew_rises board lines is) at
+
+-- ---- their lines are there
+
+line_there : (lines : List LockSeen) (number : LineNo) → list_any (λ (l : LockSeen). same_line number l.def.line) lines ≡ true → (k : ℕ) × IsPlaceOf lines number (Some k)
+line_there [] number any = cc
+line_there (l ∷ ls) number any = elim (or_cases (same_line number l.def.line) (list_any (λ (l : LockSeen). same_line number l.def.line) ls) any) [
+  | inl here ↦ (0, sym (line_from_same number l.def.line here))
+  | inr later ↦ let d = line_there ls number later in (suc d.0, d.1)
+]
+
+abbrev EachThere : List LockSeen → List Actor → Type 0
+EachThere lines xs = (i : ℕ) (a : Actor) → slice_get xs i ≡ Some a → IsThere lines a
+
+first_there : (lines : List LockSeen) (x : Actor) (xs : List Actor) → IsThere lines x → EachThere lines xs → EachThere lines (x ∷ xs)
+first_there lines x xs first rest zero a at = subst (λ (b : Actor). IsThere lines b) (the_same x a at) first
+first_there lines x xs first rest (suc i) a at = rest i a at
+
+both_there : (lines : List LockSeen) (xs ys : List Actor) → EachThere lines xs → EachThere lines ys → EachThere lines (xs ++ ys)
+both_there lines [] ys a b = b
+both_there lines (x ∷ xs) ys a b = first_there lines x (xs ++ ys) (a 0 x refl) (both_there lines xs ys (λ i y at. a (suc i) y at) b)
+
+threads_there : (lines : List LockSeen) (xs : List DeviceDef) → EachThere lines (threads_on lines xs)
+threads_there lines [] = λ i a at. cc
+threads_there lines (x ∷ xs) = by_test (has_worker lines x) refl (threads_there lines xs)
+  where
+    by_test : (b : Bool) → has_worker lines x ≡ b → EachThere lines (threads_on lines xs) → EachThere lines (map thread_of (cond b (x ∷ filter (has_worker lines) xs) (filter (has_worker lines) xs)))
+    by_test true is deeper = first_there lines (thread_of x) (threads_on lines xs) (line_there lines x.line (and_parts (has_thread x.kind) _ is).1) deeper
+    by_test false is deeper = deeper
+
+cpus_there : (lines : List LockSeen) (ns : List ℕ) → EachThere lines (map cpu_of ns)
+cpus_there lines [] = λ i a at. cc
+cpus_there lines (n ∷ ns) = first_there lines (cpu_of n) (map cpu_of ns) tt (cpus_there lines ns)
+
+drivers_there : (lines : List LockSeen) (rs : List DriverNo) → EachThere lines (map driver_of rs)
+drivers_there lines [] = λ i a at. cc
+drivers_there lines (r ∷ rs) = first_there lines (driver_of r) (map driver_of rs) tt (drivers_there lines rs)
+
+pub is_there : (board : BoardSeen) (lines : List LockSeen) → EachThere lines (workers_of board lines)
+is_there board lines =
+    both_there lines (threads_on lines board.devices) (cpus_of board ++ drivers_of board) (threads_there lines board.devices)
+    (both_there lines (cpus_of board) (drivers_of board) (cpus_there lines (count_up 0 board.cpus)) (drivers_there lines board.drivers))
+
+-- ---- how the crew is made
+
+module _ {A : Type 0} where
+  pub taken : (xs : List A) (i : ℕ) (x : A) → slice_get xs i ≡ Some x → take (i + 1) xs ≡ take i xs ++ x ∷ []
+  taken xs i x at = ap (λ (n : ℕ). take n xs) (add-one i) ∙ go xs i x at
+    where
+      go : (xs : List A) (i : ℕ) (x : A) → slice_get xs i ≡ Some x → take (suc i) xs ≡ take i xs ++ x ∷ []
+      go [] i x at = cc
+      go (y ∷ ys) zero x at = ap (λ (z : A). z ∷ []) (the_same y x at)
+      go (y ∷ ys) (suc i) x at = ap (λ (zs : List A). y ∷ zs) (go ys i x at)
+
+  pub all_taken : (xs : List A) (i : ℕ) → length xs ≤ i → take i xs ≡ xs
+  all_taken [] zero end = refl
+  all_taken [] (suc i) end = refl
+  all_taken (y ∷ ys) zero end = absurd (omega (arith, end))
+  all_taken (y ∷ ys) (suc i) end = ap (λ (zs : List A). y ∷ zs) (all_taken ys i (omega (arith, end)))
+
+  pub filter_more : (p : A → Bool) (xs : List A) (x : A) → filter p (xs ++ x ∷ []) ≡ filter p xs ++ cond (p x) (x ∷ []) []
+  filter_more p [] x = refl
+  filter_more p (y ∷ ys) x = by_test (p y) (filter_more p ys x)
+    where
+      by_test : (b : Bool) → filter p (ys ++ x ∷ []) ≡ filter p ys ++ cond (p x) (x ∷ []) [] → cond b (y ∷ filter p (ys ++ x ∷ [])) (filter p (ys ++ x ∷ [])) ≡ cond b (y ∷ filter p ys) (filter p ys) ++ cond (p x) (x ∷ []) []
+      by_test true deeper = ap (λ (zs : List A). y ∷ zs) deeper
+      by_test false deeper = deeper
+
+pub map_more : {A B : Type 0} (f : A → B) (xs : List A) (x : A) → map f (xs ++ x ∷ []) ≡ map f xs ++ f x ∷ []
+map_more f [] x = refl
+map_more f (y ∷ ys) x = ap (λ (zs : List _). f y ∷ zs) (map_more f ys x)
+
+-- one more actor behind those that were there
+pub pushed : {A : Type 0} (f : A → Actor) (old now after : List Actor) (xs : List A) (i : ℕ) (x : A) → now ≡ old ++ map f (take i xs) → slice_get xs i ≡ Some x → after ≡ now ++ f x ∷ [] → after ≡ old ++ map f (take (i + 1) xs)
+pushed f old now after xs i x is at push =
+    push ∙ (ap (λ (ps : List Actor). ps ++ f x ∷ []) is ∙ (append_assoc old (map f (take i xs)) (f x ∷ []) ∙ ap (λ (ps : List Actor). old ++ ps) (sym (ap (map f) (taken xs i x at) ∙ map_more f (take i xs) x))))
+
+counted : (c n : ℕ) → count_up c (suc n) ≡ count_up c n ++ (c + n) ∷ []
+counted c zero = ap (λ (m : ℕ). m ∷ []) (let e : c ≡ c + 0 = omega arith in e)
+counted c (suc n) = ap (λ (ms : List ℕ). c ∷ ms) (counted (c + 1) n ∙ ap (λ (m : ℕ). count_up (c + 1) n ++ m ∷ []) (let e : (c + 1) + n ≡ c + suc n = omega arith in e))
+
+pub cpu_pushed : (old now after : List Actor) (c : ℕ) → now ≡ old ++ map (λ n. actors.Cpu (record { 0 = n })) (count_up 0 c) → after ≡ now ++ actors.Cpu (record { 0 = c }) ∷ [] → after ≡ old ++ map (λ n. actors.Cpu (record { 0 = n })) (count_up 0 (c + 1))
+cpu_pushed old now after c is push =
+    let more : map cpu_of (count_up 0 (c + 1)) ≡ map cpu_of (count_up 0 c) ++ cpu_of c ∷ [] =
+    ap (λ (n : ℕ). map cpu_of (count_up 0 n)) (add-one c) ∙ (ap (map cpu_of) (counted 0 c ∙ ap (λ (m : ℕ). count_up 0 c ++ m ∷ []) (let e : 0 + c ≡ c = omega arith in e)) ∙ map_more cpu_of (count_up 0 c) c) in
+    push ∙ (ap (λ (ps : List Actor). ps ++ cpu_of c ∷ []) is ∙ (append_assoc old (map cpu_of (count_up 0 c)) (cpu_of c ∷ []) ∙ ap (λ (ps : List Actor). old ++ ps) (sym more)))
+
+-- a device whose thread has a worker, and one that has none
+threads_more : (lines : List LockSeen) (xs : List DeviceDef) (i : ℕ) (x : DeviceDef) → slice_get xs i ≡ Some x → (b : Bool) → has_worker lines x ≡ b → threads_on lines (take (i + 1) xs) ≡ threads_on lines (take i xs) ++ cond b (thread_of x ∷ []) []
+threads_more lines xs i x at b is =
+    ap (threads_on lines) (taken xs i x at)
+    ∙ (ap (map thread_of) (filter_more (has_worker lines) (take i xs) x ∙ ap (λ (b : Bool). filter (has_worker lines) (take i xs) ++ cond b (x ∷ []) []) is) ∙ by_test b)
+  where
+    by_test : (b : Bool) → map thread_of (filter (has_worker lines) (take i xs) ++ cond b (x ∷ []) []) ≡ threads_on lines (take i xs) ++ cond b (thread_of x ∷ []) []
+    by_test true = map_more thread_of (filter (has_worker lines) (take i xs)) x
+    by_test false = ap (map thread_of) (append-nil (filter (has_worker lines) (take i xs))) ∙ sym (append-nil (threads_on lines (take i xs)))
+
+pub thread_pushed : (lines : List LockSeen) (old now after : List Actor) (xs : List DeviceDef) (i : ℕ) (x : DeviceDef) → now ≡ old ++ threads_on lines (take i xs) → slice_get xs i ≡ Some x → has_worker lines x ≡ true → after ≡ now ++ thread_of x ∷ [] → after ≡ old ++ threads_on lines (take (i + 1) xs)
+thread_pushed lines old now after xs i x is at has push =
+    push ∙ (ap (λ (ps : List Actor). ps ++ thread_of x ∷ []) is ∙ (append_assoc old (threads_on lines (take i xs)) (thread_of x ∷ []) ∙ ap (λ (ps : List Actor). old ++ ps) (sym (threads_more lines xs i x at true has))))
+
+pub thread_passed : (lines : List LockSeen) (old now : List Actor) (xs : List DeviceDef) (i : ℕ) (x : DeviceDef) → now ≡ old ++ threads_on lines (take i xs) → slice_get xs i ≡ Some x → has_worker lines x ≡ false → now ≡ old ++ threads_on lines (take (i + 1) xs)
+thread_passed lines old now xs i x is at has = is ∙ ap (λ (ps : List Actor). old ++ ps) (sym (threads_more lines xs i x at false has ∙ append-nil (threads_on lines (take i xs))))
+
+pub threads_all : (lines : List LockSeen) (old now : List Actor) (xs : List DeviceDef) (i : ℕ) → now ≡ old ++ threads_on lines (take i xs) → length xs ≤ i → now ≡ old ++ threads_on lines xs
+threads_all lines old now xs i is end = is ∙ ap (λ (ys : List DeviceDef). old ++ threads_on lines ys) (all_taken xs i end)
+
+-- what was found of a device's line says whether its thread has a worker
+pub place_says : (lines : List LockSeen) (number : LineNo) (o : Option ℕ) → IsPlaceOf lines number o → list_any (λ (l : LockSeen). same_line number l.def.line) lines ≡ is_some o
+place_says lines number None is = is
+place_says lines number (Some k) is = any lines k is
+  where
+    any : (ls : List LockSeen) (k : ℕ) → IsSomeAnd (slice_get ls k) (λ l. l.def.line ≡ number) → list_any (λ (l : LockSeen). same_line number l.def.line) ls ≡ true
+    any [] k is = absurd is
+    any (l ∷ ls) zero is = ap (λ (b : Bool). b || list_any (λ (l : LockSeen). same_line number l.def.line) ls) (same_number number l.def.line is)
+      where
+        same_number : (a b : LineNo) → b ≡ a → same_line a b ≡ true
+        same_number a b h = subst (λ (c : LineNo). same_line c b ≡ true) h (grind arith)
+    any (l ∷ ls) (suc k) is = or_later (same_line number l.def.line) (list_any (λ (l : LockSeen). same_line number l.def.line) ls) (any ls k is)
+      where
+        or_later : (a b : Bool) → b ≡ true → (a || b) ≡ true
+        or_later true b h = refl
+        or_later false b h = h
+
+pub not_there : (lines : List LockSeen) (number : LineNo) (dev : DevNo) → IsThere lines (actors.Thread number dev) → IsPlaceOf lines number None → ⊥
+not_there lines number dev is none = both_ways (list_any (λ (l : LockSeen). same_line number l.def.line) lines) (place_says lines number (Some is.0) is.1) none

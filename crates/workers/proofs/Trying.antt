@@ -1,0 +1,95 @@
+-- One try of a worker: steps of the shared line until none of them wants an answer first.
+use Rattle.std.proofs.Common.{◌≡◌, ◌<◌, false, IsSome, Option, Some, None, Ok, Err, List, [], ◌∷◌, ◌++◌, length, refl, sym, ap, subst, ◌∙◌, append_assoc}
+use Rattle.irq_base.specs.declared.entries.Actor.{Actor}
+use Rattle.irq_base.specs.declared.entries.Entry.{Entry}
+use Rattle.irq_base.specs.declared.lines.LineDef.{LineDef}
+use Rattle.irq_model.specs.Next.{next}
+use Rattle.callbacks.specs.Seen.{SaidSeen}
+use Rattle.irq_line.specs.declared.answers.StepRefused.{StepRefused}
+use Rattle.irq_line.specs.declared.answers.StepRefused.TheVariants as refusals
+use Rattle.irq_line.specs.declared.answers.Stepped.TheVariants as stepped
+use Rattle.line_lock.specs.Knows.{BeginsWith}
+use Rattle.line_lock.specs.Passes.{LockSeen, PassSeen, IsPassOf}
+use Rattle.line_lock.specs.declared.view.Known.{Known}
+use Rattle.line_lock.proofs.Placing.{begins_self, begins_more}
+use Rattle.line_shared.specs.Stepping.{Steps}
+use Rattle.workers.specs.Tries.{Tries}
+
+-- what stays while answers are asked for
+pub record Waits (line : LockSeen) (old now : PassSeen) : Type 0 where
+  pub of_line : IsPassOf line now
+  pub idle : now.turn ≡ false
+  pub actor : now.knows.actor ≡ old.knows.actor
+  pub mine : now.knows.mine ≡ old.knows.mine
+  pub begins : BeginsWith now.knows.seen old.knows.seen
+
+pub waits_first : (line : LockSeen) (old : PassSeen) → IsPassOf line old → old.turn ≡ false → Waits line old old
+waits_first line old of_line idle = record { of_line = of_line; idle = idle; actor = refl; mine = refl; begins = begins_self old.knows.seen }
+
+-- a step that left the history as it was
+module _ (def : LineDef) (who : Actor) (old mid new : Known) (begins : BeginsWith mid.seen old.seen) (entries : List Entry) (sees : BeginsWith entries mid.seen) where
+  pub same_begins : new.seen ≡ entries → BeginsWith new.seen old.seen
+  same_begins is = subst (λ (h : List Entry). BeginsWith h old.seen) (sym is) (begins_more entries mid.seen old.seen sees begins)
+
+  more_begins : (e : Entry) → new.seen ≡ entries ++ e ∷ [] → BeginsWith new.seen old.seen
+  more_begins e is =
+      let b = begins_more entries mid.seen old.seen sees begins in
+      subst (λ (h : List Entry). BeginsWith h old.seen) (sym is) (b.0 ++ e ∷ [], ap (λ (h : List Entry). h ++ e ∷ []) b.1 ∙ append_assoc old.seen b.0 (e ∷ []))
+
+module _ (line : LockSeen) (who : Actor) (old mid new : PassSeen) (said : Option SaidSeen) (w : Waits line old mid) where
+  pub tries_added : (e : Entry) → Steps line.def who mid.knows said (Ok (stepped.Added e)) new.knows → Tries line.def who old.knows (Ok (Some e)) new.knows
+  tries_added e s =
+      record {
+        begins = more_begins line.def who old.knows mid.knows new.knows w.begins s.line.entries s.begins e s.gains.0;
+        came = record {
+          history = s.line.entries;
+          own = sym w.mine ∙ s.mine;
+          due = subst (λ (d : LineDef). next d s.line.entries who ≡ Some e) s.def s.answer.due;
+          below = subst (λ (d : LineDef). length s.line.entries < d.log) s.def s.answer.below;
+          seen = s.gains.0;
+          mine = s.gains.1 ∙ ap (λ ps. ps ++ record { place = length s.line.entries; entry = e } ∷ []) w.mine;
+        };
+      }
+
+  pub tries_not_yet : Steps line.def who mid.knows said (Ok stepped.NotYet) new.knows → Tries line.def who old.knows (Ok None) new.knows
+  tries_not_yet s =
+      record {
+        begins = same_begins line.def who old.knows mid.knows new.knows w.begins s.line.entries s.begins s.gains.0;
+        came = (ap (λ (h : List Entry). next line.def h who) s.gains.0 ∙ subst (λ (d : LineDef). next d s.line.entries who ≡ None) s.def s.answer.0, s.gains.1 ∙ w.mine);
+      }
+
+  pub tries_refused : (refused : StepRefused) → Steps line.def who mid.knows said (Err refused) new.knows → Tries line.def who old.knows (Err refused) new.knows
+  tries_refused (refusals.Full len) s =
+      record {
+        begins = same_begins line.def who old.knows mid.knows new.knows w.begins s.line.entries s.begins s.gains.0;
+        came = (
+          record {
+            due = subst (λ (h : List Entry). IsSome (next line.def h who)) (sym s.gains.0) (subst (λ (d : LineDef). IsSome (next d s.line.entries who)) s.def s.answer.0.due);
+            length = ap length s.gains.0 ∙ full;
+          },
+          s.answer.0.told ∙ full,
+          s.gains.1 ∙ w.mine,
+        );
+      }
+    where
+      full : length s.line.entries ≡ line.def.log
+      full = s.answer.0.log ∙ ap (λ (d : LineDef). d.log) s.def
+  tries_refused refusals.NoMemory s =
+      record {
+        begins = same_begins line.def who old.knows mid.knows new.knows w.begins s.line.entries s.begins s.gains.0;
+        came = s.gains.1 ∙ w.mine;
+      }
+
+  pub waits_on : (def : _) (part : _) (n : _) → Steps line.def who mid.knows said (Ok (stepped.Run def part n)) new.knows → IsPassOf line new → new.turn ≡ false → new.knows.actor ≡ mid.knows.actor → Waits line old new
+  waits_on def part n s of_line idle actor =
+      record {
+        of_line = of_line;
+        idle = idle;
+        actor = actor ∙ w.actor;
+        mine = s.gains.1 ∙ w.mine;
+        begins = same_begins line.def who old.knows mid.knows new.knows w.begins s.line.entries s.begins s.gains.0;
+      }
+
+pub its_actor : (o : Option Actor) → IsSome o → (who : Actor) × (o ≡ Some who)
+its_actor None is = cc
+its_actor (Some who) is = (who, refl)

@@ -1,0 +1,18 @@
+use Rattle.std.proofs.Common.{List, ◌∷◌, [], ap, subst, ◌∙◌, slice_get}
+use Rattle.workers.specs.Gathers.{Gathers}
+use Rattle.workers.specs.Seen.{JobSeen}
+use Rattle.workers.proofs.Gathering.{gathers_on}
+use Rattle.workers.proofs.Lists.{at_old}
+use Rattle.workers.proofs.gathers.meet_all.Goals as goal
+
+pub loop-job-preserved : goal.loop-job-preserved
+loop-job-preserved g c =
+    let popped = c.in-Some.ensures.items in
+    let old = c.loop-job.invariant in
+    record {
+      home = c.meet_job.ensures.home;
+      seated = λ i j at. old.seated i j (ap (λ (js : List JobSeen). slice_get js i) popped ∙ at_old c.pop.new.self.items (c.in-Some.job ∷ []) i j at);
+      gathers = λ board g0.
+          gathers_on board c.args.lines.now c.pop.new.self.items c.in-Some.job c.loop-job.firsts.items c.meet_job.new.firsts.items c.meet_job.ensures old.home
+          (subst (λ (js : List JobSeen). Gathers board c.args.lines.now js c.loop-job.firsts.items) popped (old.gathers board g0));
+    }

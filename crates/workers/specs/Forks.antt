@@ -1,0 +1,67 @@
+-- What becomes of first passes when an actor gets its passes.
+use Rattle.std.specs.Prelude.{◌≡◌, ℕ, ◌+◌, Bool, true, false, ◌&&◌, nat_le, nat_lt, Some, None, List, [], ◌∷◌, ◌++◌, map, length, slice_get}
+use Rattle.irq_base.specs.declared.entries.Actor.{Actor}
+use Rattle.irq_base.specs.declared.entries.Actor.TheVariants as actors
+use Rattle.board_def.specs.Seen.{BoardSeen}
+use Rattle.board_play.specs.Lines.{defs_of}
+use Rattle.line_lock.specs.Knows.{is_among, forked, newcomer}
+use Rattle.line_lock.specs.Passes.{LockSeen, PassSeen, IsPassOf}
+use Rattle.workers.specs.Fit.{IsPlaceOf, IsJob, AreFirsts}
+use Rattle.workers.specs.Seen.{SeatSeen, JobSeen, JobsSeen}
+
+-- the first pass of the line can give a pass to the actor
+pub record CanFork (line : LockSeen) (who : Actor) (p : PassSeen) : Type 0 where
+  pub of_line : IsPassOf line p
+  pub idle : p.turn ≡ false
+  pub first : p.knows.actor ≡ None
+  pub fresh : is_among who p.knows.given ≡ false
+
+-- the seat has the pass that the first pass gave to the actor
+pub record IsForkOf (line : LockSeen) (who : Actor) (first : PassSeen) (s : SeatSeen) : Type 0 where
+  pub of_line : IsPassOf line s.pass
+  pub idle : s.pass.turn ≡ false
+  pub knows : s.pass.knows ≡ newcomer first.knows who
+  pub rests : s.rests ≡ false
+
+-- the first pass afterwards, where it gave one and where it didn't
+pub record Gave (who : Actor) (old new : PassSeen) : Type 0 where
+  pub table : new.table ≡ old.table
+  pub def : new.def ≡ old.def
+  pub idle : new.turn ≡ false
+  pub knows : new.knows ≡ forked old.knows who
+
+abbrev pub IsLeft : Bool → Actor → PassSeen → PassSeen → Type 0
+IsLeft true who old new = Gave who old new
+IsLeft false who old new = new ≡ old
+
+abbrev pub is_within : ℕ → ℕ → ℕ → Bool
+is_within first end k = nat_le first k && nat_lt k end
+
+-- a seat of each line from the place `first` up to the place `end`
+pub record Forks (lines : List LockSeen) (first end : ℕ) (who : Actor) (old new : List PassSeen) (seats : List SeatSeen) : Type 0 where
+  pub as_many : length new ≡ length old
+  pub count : first + length seats ≡ end
+  pub each : (i : ℕ) (s : SeatSeen) → slice_get seats i ≡ Some s → (l : LockSeen) × (p : PassSeen) × (slice_get lines (first + i) ≡ Some l) × (slice_get old (first + i) ≡ Some p) × IsForkOf l who p s
+  pub left : (k : ℕ) (p : PassSeen) → slice_get new k ≡ Some p → (q : PassSeen) × (slice_get old k ≡ Some q) × IsLeft (is_within first end k) who q p
+
+-- the lines are the board's
+abbrev pub AreBoards : BoardSeen → List LockSeen → Type 0
+AreBoards board lines = map (λ (l : LockSeen). l.def) lines ≡ defs_of board
+
+-- a thread's line is among the lines
+abbrev pub IsThere : List LockSeen → Actor → Type 0
+IsThere lines (actors.Thread line dev) = (k : ℕ) × IsPlaceOf lines line (Some k)
+IsThere lines _ = Unit {0}
+
+-- an actor has passes of the lines from one place up to another
+abbrev pub IsSpan : List LockSeen → Actor → ℕ → ℕ → Type 0
+IsSpan lines (actors.Thread line dev) first end = IsPlaceOf lines line (Some first) × (end ≡ first + 1)
+IsSpan lines _ first end = (first ≡ 0) × (end ≡ length lines)
+
+-- there is one job more, of the actor, and it is as it should be
+pub record Hires (lines : List LockSeen) (who : Actor) (old new : JobsSeen) : Type 0 where
+  pub job : JobSeen
+  pub jobs : new.jobs ≡ old.jobs ++ job ∷ []
+  pub actor : job.actor ≡ who
+  pub is : IsJob old.board lines job
+  pub firsts : AreFirsts lines new.jobs new.firsts

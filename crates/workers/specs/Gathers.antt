@@ -1,0 +1,88 @@
+-- What becomes of the first passes when the jobs' passes come back.
+use Rattle.std.specs.Prelude.{◌≡◌, ℕ, ◌+◌, ◌<◌, ◌⊎◌, false, true, IsSomeAnd, Some, None, List, [], map, length, slice_get, reverse}
+use Rattle.irq_base.specs.declared.entries.Actor.{Actor}
+use Rattle.irq_base.specs.declared.entries.Actor.TheVariants as actors
+use Rattle.irq_base.specs.declared.numbers.DriverNo.{DriverNo}
+use Rattle.irq_line.specs.Seen.{LineSeen, IsSound}
+use Rattle.board_def.specs.Rules.{has_driver}
+use Rattle.board_def.specs.Seen.{BoardSeen}
+use Rattle.board_play.specs.Kept.{IsUpTo}
+use Rattle.board_play.specs.Lines.{BoardLine}
+use Rattle.line_lock.specs.Knows.{is_among, Meets}
+use Rattle.line_lock.specs.Passes.{LockSeen, PassSeen, IsPassOf}
+use Rattle.workers.specs.Fit.{IsJob, actors_on}
+use Rattle.workers.specs.Seen.{SeatSeen, JobSeen}
+
+-- a line as a board sees it
+abbrev pub board_line : LineSeen → BoardLine
+board_line x = record { def = x.def; past = reverse x.entries }
+
+abbrev pub board_lines : List LineSeen → List BoardLine
+board_lines lines = map board_line lines
+
+-- a first pass of the line that may meet others
+pub record IsHome (line : LockSeen) (p : PassSeen) : Type 0 where
+  pub of_line : IsPassOf line p
+  pub idle : p.turn ≡ false
+  pub first : p.knows.actor ≡ None
+
+pub record AreHome (lines : List LockSeen) (firsts : List PassSeen) : Type 0 where
+  pub as_many : length firsts ≡ length lines
+  pub each : (k : ℕ) (p : PassSeen) → slice_get firsts k ≡ Some p → IsSomeAnd (slice_get lines k) (λ l. IsHome l p)
+
+-- the first pass met the job's pass of its line
+pub record HasMetOne (lines : List LockSeen) (j : JobSeen) (k : ℕ) (old new : PassSeen) : Type 0 where
+  pub line : LockSeen
+  pub place : ℕ
+  pub seat : SeatSeen
+  pub at_line : slice_get lines k ≡ Some line
+  pub at_seat : slice_get j.seats place ≡ Some seat
+  pub is : k ≡ j.first + place
+  pub met : Meets line.def.line old.knows seat.pass.knows new.knows
+
+-- the job has no pass of the line, and the first pass is as it was
+abbrev pub HasMetNone : JobSeen → ℕ → PassSeen → PassSeen → Type 0
+HasMetNone j k old new = ((place : ℕ) → place < length j.seats → k ≡ j.first + place → ⊥) × (new ≡ old)
+
+-- the first passes met all passes of the job
+pub record IsMet (lines : List LockSeen) (j : JobSeen) (old new : List PassSeen) : Type 0 where
+  pub home : AreHome lines new
+  pub each : (k : ℕ) (p : PassSeen) → slice_get new k ≡ Some p → (q : PassSeen) × (slice_get old k ≡ Some q) × (HasMetOne lines j k q p ⊎ HasMetNone j k q p)
+
+-- ---- all of them
+
+-- a line as its first pass has seen it
+abbrev pub seen_line : PassSeen → BoardLine
+seen_line p = record { def = p.def; past = reverse p.knows.seen }
+
+abbrev pub seen_lines : List PassSeen → List BoardLine
+seen_lines firsts = map seen_line firsts
+
+-- the driver has no pass any more
+abbrev pub IsBack : List PassSeen → DriverNo → Type 0
+IsBack firsts r = (k : ℕ) (p : PassSeen) → slice_get firsts k ≡ Some p → (is_among (actors.Driver r) p.knows.given ≡ true) × (is_among (actors.Driver r) p.knows.out ≡ false)
+
+-- who is out on a line has one of these jobs, and was given a pass
+pub record AreOut (jobs : List JobSeen) (k : ℕ) (p : PassSeen) : Type 0 where
+  pub given : (who : Actor) → is_among who p.knows.out ≡ true → is_among who p.knows.given ≡ true
+  pub out : (who : Actor) → is_among who p.knows.out ≡ true → is_among who (actors_on k jobs) ≡ true
+
+-- While these jobs are left: each is as it should be; whoever is out has one of them; and each driver that has none is
+-- back, and its entries in what the first passes have seen are those of its script up to some place.
+pub record Gathers (board : BoardSeen) (lines : List LockSeen) (jobs : List JobSeen) (firsts : List PassSeen) : Type 0 where
+  pub each : (i : ℕ) (j : JobSeen) → slice_get jobs i ≡ Some j → IsJob board lines j
+  pub out : (k : ℕ) (p : PassSeen) → slice_get firsts k ≡ Some p → AreOut jobs k p
+  pub drivers : (r : DriverNo) → has_driver board.drivers r ≡ true
+      → (is_among (actors.Driver r) (map (λ (j : JobSeen). j.actor) jobs) ≡ true) ⊎ (IsBack firsts r × ((place : ℕ) × IsUpTo board.calls (seen_lines firsts) r place))
+
+-- nobody is out, so the lines can be taken out of their locks
+pub record IsFinal (line : LockSeen) (p : PassSeen) : Type 0 where
+  pub home : IsHome line p
+  pub nobody : p.knows.out ≡ []
+
+pub record AreFinal (lines : List LockSeen) (firsts : List PassSeen) : Type 0 where
+  pub as_many : length firsts ≡ length lines
+  pub each : (k : ℕ) (p : PassSeen) → slice_get firsts k ≡ Some p → IsSomeAnd (slice_get lines k) (λ l. IsFinal l p)
+
+abbrev pub AreSound : List LineSeen → Type 0
+AreSound lines = (i : ℕ) (x : LineSeen) → slice_get lines i ≡ Some x → IsSound x

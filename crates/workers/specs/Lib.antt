@@ -1,0 +1,5 @@
+pub mod Seen
+pub mod Tries
+pub mod Fit
+pub mod Forks
+pub mod Gathers

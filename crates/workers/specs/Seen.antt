@@ -1,0 +1,27 @@
+-- What is seen of workers' jobs.
+use Rattle.std.specs.Prelude.{ℕ, Bool, Option, List}
+use Rattle.irq_base.specs.declared.entries.Actor.{Actor}
+use Rattle.board_def.specs.Seen.{BoardSeen}
+use Rattle.line_lock.specs.Passes.{PassSeen}
+use Rattle.workers.specs.declared.job.Left.{Left}
+
+-- a pass, and whether its actor is known to have nothing due on what the pass has seen
+pub record SeatSeen : Type 0 where
+  pub pass : PassSeen
+  pub rests : Bool
+
+-- The job of an actor: its passes, of the line at the place `first` and of those behind it; at which of them a processor
+-- has a flow in progress; how many of the board's calls a driver is past; and how the last round left it.
+pub record JobSeen : Type 0 where
+  pub actor : Actor
+  pub first : ℕ
+  pub seats : List SeatSeen
+  pub flow : Option ℕ
+  pub at : ℕ
+  pub left : Left
+
+-- the board that is run, the jobs, and the first pass of each line
+pub record JobsSeen : Type 0 where
+  pub board : BoardSeen
+  pub jobs : List JobSeen
+  pub firsts : List PassSeen

@@ -1,0 +1,45 @@
+-- What a try of a worker on one line comes to.
+use Rattle.std.specs.Prelude.{◌≡◌, ◌<◌, Bool, true, false, IsSome, Option, Some, None, Result, Ok, Err, List, [], ◌∷◌, ◌++◌, length}
+use Rattle.irq_base.specs.declared.entries.Actor.{Actor}
+use Rattle.irq_base.specs.declared.entries.Entry.{Entry}
+use Rattle.irq_base.specs.declared.lines.LineDef.{LineDef}
+use Rattle.irq_model.specs.Next.{next}
+use Rattle.irq_line.specs.declared.answers.StepRefused.{StepRefused}
+use Rattle.irq_line.specs.declared.answers.StepRefused.TheVariants as refusals
+use Rattle.line_lock.specs.Knows.{BeginsWith}
+use Rattle.line_lock.specs.Placed.{placed}
+use Rattle.line_lock.specs.declared.view.Known.{Known}
+
+-- The entry was due of the actor after some history, in which the pass's own entries were those that it knew. It stands
+-- at the end of what is seen, and is the pass's own there.
+pub record Gains (def : LineDef) (who : Actor) (old : Known) (e : Entry) (new : Known) : Type 0 where
+  pub history : List Entry
+  pub own : old.mine ≡ placed def.line who history
+  pub due : next def history who ≡ Some e
+  pub below : length history < def.log
+  pub seen : new.seen ≡ history ++ e ∷ []
+  pub mine : new.mine ≡ old.mine ++ record { place = length history; entry = e } ∷ []
+
+-- nothing is due of the actor on what is seen
+abbrev pub IsIdle : LineDef → Actor → Known → Type 0
+IsIdle def who k = next def k.seen who ≡ None
+
+-- an entry is due of the actor on what is seen, which has the greatest length that the definition allows
+pub record IsFull (def : LineDef) (who : Actor) (k : Known) : Type 0 where
+  pub due : IsSome (next def k.seen who)
+  pub length : length k.seen ≡ def.log
+
+abbrev pub CameTo : LineDef → Actor → Known → Result (Option Entry) StepRefused → Known → Type 0
+CameTo def who old (Ok (Some e)) new = Gains def who old e new
+CameTo def who old (Ok None) new = IsIdle def who new × (new.mine ≡ old.mine)
+CameTo def who old (Err (refusals.Full len)) new = IsFull def who new × (len ≡ def.log) × (new.mine ≡ old.mine)
+CameTo def who old (Err refusals.NoMemory) new = new.mine ≡ old.mine
+
+-- what is seen afterwards begins with what was seen, and it came to that
+pub record Tries (def : LineDef) (who : Actor) (old : Known) (result : Result (Option Entry) StepRefused) (new : Known) : Type 0 where
+  pub begins : BeginsWith new.seen old.seen
+  pub came : CameTo def who old result new
+
+abbrev pub rests_after : Result (Option Entry) StepRefused → Bool
+rests_after (Ok None) = true
+rests_after _ = false

@@ -1,0 +1,112 @@
+//! The jobs of all workers.
+ghost use Rattle.std.specs.Prelude.{◌≡◌, ℕ, false, ◌++◌, ◌∷◌, [], Some, None, IfOk, OnOk, length, map, slice_get};
+ghost use Rattle.irq_base.specs.declared.entries.Actor.{Actor};
+ghost use Rattle.irq_line.specs.Seen.{LineSeen};
+ghost use Rattle.board_play.specs.Lines.{defs_of};
+ghost use Rattle.line_lock.specs.Knows.{is_among};
+ghost use Rattle.line_lock.specs.Passes.{LockSeen};
+ghost use Rattle.workers.specs.Fit.{AreFirsts, Fit, IsJob, workers_of, actors_on};
+ghost use Rattle.workers.specs.Forks.{Hires, AreBoards, IsThere};
+
+use crate::crew::make_crew;
+use crate::forks::fork_all;
+use crate::job::{Job, Left};
+use crate::lines::SharedLines;
+use board_def::Board;
+use irq_base::{Actor, LineNo, NoMemory};
+use irq_line::IrqLine;
+use line_shared::{Pass, SharedLine};
+use std::alloc::Global;
+use std::marker::Model;
+
+/// The jobs of all workers of a board, and the first pass of each line, which comes back to its line at the end.
+#[derive(Drop)]
+pub struct Jobs<'b, L: IrqLine> {
+    pub(crate) board: &'b Board,
+    pub(crate) jobs: Vec<Job<L>>,
+    pub(crate) firsts: Vec<Pass<L>>,
+}
+
+impl<'b, L: IrqLine> Model for Jobs<'b, L> {
+    ghost use Rattle.workers.specs.Seen.{JobsSeen};
+
+    ghost Value = { JobsSeen };
+
+    ghost view = { λ s. record { board = s.board.now; jobs = s.jobs.items; firsts = s.firsts.items } };
+}
+
+/// Shares each line, and gives a pass of it to the thread of each of its devices that has one, to each processor and to
+/// each driver. The lines are those of the board that take part, in its order, and nothing has happened to them. Refused
+/// only for want of memory: the lines are gone then.
+pub fn share<'b, L: IrqLine>(
+    alloc: Global,
+    board: &'b Board,
+    lines: Vec<L>,
+) -> Result<(SharedLines<L>, Jobs<'b, L>), NoMemory>
+    requires defs { map (λ (x : LineSeen). x.def) (map L.seen lines.items) ≡ defs_of board.now }
+    requires empty { (i : ℕ) (x : LineSeen) → slice_get (map L.seen lines.items) i ≡ Some x → x.entries ≡ [] }
+    ensures board { IfOk result (λ r. r.1.board ≡ board.now) }
+    ensures fit { IfOk result (λ r. Fit r.0 r.1) }
+{
+    board.is_board();
+    let (lines, firsts) = share_lines(alloc, lines)?;
+    let crew = make_crew(alloc, board, &lines)?;
+    let mut jobs = Jobs {
+        board,
+        jobs: Vec::new(alloc),
+        firsts,
+    };
+    for i in 0..crew.len() {
+        jobs.hire(alloc, &lines, crew[i])?;
+    }
+    Ok((lines, jobs))
+}
+
+/// Shares each line, with its first pass.
+fn share_lines<L: IrqLine>(
+    alloc: Global,
+    all: Vec<L>,
+) -> Result<(SharedLines<L>, Vec<Pass<L>>), NoMemory>
+    requires empty { (i : ℕ) (x : LineSeen) → slice_get (map L.seen all.items) i ≡ Some x → x.entries ≡ [] }
+    ensures defs { IfOk result (λ r. map (λ (l : LockSeen). l.def) r.0 ≡ map (λ (x : LineSeen). x.def) (map L.seen all.items)) }
+    ensures firsts { IfOk result (λ r. AreFirsts r.0 [] r.1.items) }
+{
+    let mut lines = Vec::new(alloc);
+    let mut numbers = Vec::new(alloc);
+    let mut firsts = Vec::new(alloc);
+    for line in all {
+        let number: LineNo = line.definition().line;
+        let Ok((line, first)) = SharedLine::new(alloc, line) else {
+            return Err(NoMemory);
+        };
+        numbers.push(number)?;
+        lines.push(line)?;
+        firsts.push(first)?;
+    }
+    Ok((SharedLines { lines, numbers }, firsts))
+}
+
+impl<'b, L: IrqLine> Jobs<'b, L> {
+    /// Adds the job of an actor that has none, with new passes of its lines.
+    fn hire(&mut self, alloc: Global, lines: &SharedLines<L>, actor: Actor) -> Result<(), NoMemory>
+        requires defs { AreBoards self.old.board lines.now }
+        requires firsts { AreFirsts lines.now self.old.jobs self.old.firsts }
+        requires fresh { (k : ℕ) → is_among actor (actors_on k self.old.jobs) ≡ false }
+        requires there { IsThere lines.now actor }
+        ensures board { OnOk result (self.new.board ≡ self.old.board) }
+        ensures hires { OnOk result (Hires lines.now actor self.old self.new) }
+    {
+        let (first, end) = lines.span_of(actor);
+        let seats = fork_all(alloc, &lines.lines, &mut self.firsts, first, end, actor)?;
+        self.jobs.push(Job {
+            actor,
+            first,
+            seats,
+            flow: None,
+            at: 0,
+            turns: 0,
+            left: Left::Idle,
+        })?;
+        Ok(())
+    }
+}

@@ -1,0 +1,67 @@
+//! The lines that the threads share.
+ghost use Rattle.std.specs.Prelude.{◌≡◌, ◌+◌, ◌<◌, ◌^◌, IfSome};
+ghost use Rattle.workers.specs.Fit.{IsPlaceOf, has_worker};
+ghost use Rattle.workers.specs.Forks.{IsThere, IsSpan};
+
+use irq_base::{Actor, DeviceDef, LineNo};
+use irq_line::IrqLine;
+use line_shared::SharedLine;
+use std::marker::Model;
+
+/// The lines of a board that take part, each behind its lock. Contracts see the list of them.
+#[derive(Drop)]
+pub struct SharedLines<L: IrqLine> {
+    pub(crate) lines: Vec<SharedLine<L>>,
+    pub(crate) numbers: Vec<LineNo>,
+}
+
+impl<L: IrqLine> Model for SharedLines<L> {
+    ghost use Rattle.std.specs.Prelude.{◌≡◌, List};
+    ghost use Rattle.line_lock.specs.Passes.{LockSeen};
+    ghost use Rattle.workers.specs.Fit.{numbers_of};
+
+    ghost Value = { List LockSeen };
+
+    ghost view = { λ s. s.lines.items };
+
+    ghost invariant = { λ s. s.numbers.items ≡ numbers_of s.lines.items };
+}
+
+impl<L: IrqLine> SharedLines<L> {
+    /// The place of the line of that number; none where it takes no part.
+    pub(crate) fn place_of(&self, number: LineNo) -> Option<usize>
+        ensures place { IsPlaceOf self.now number result }
+        ensures few { IfSome result (λ k. k + 1 < 2 ^ 64) }
+    {
+        for place in 0..self.numbers.len() {
+            if self.numbers[place] == number {
+                return Some(place);
+            }
+        }
+        None
+    }
+
+    /// Whether the device has a thread, and its line takes part.
+    #[tactic(auto, using(crate::proofs::Manning::place_says))]
+    pub(crate) fn has_worker(&self, device: DeviceDef) -> bool
+        ensures { result ≡ has_worker self.now device }
+    {
+        device.kind.has_thread() && self.place_of(device.line).is_some()
+    }
+
+    /// The places from which and up to which the actor has passes: a thread of its device's line, the others of each.
+    pub(crate) fn span_of(&self, actor: Actor) -> (usize, usize)
+        requires { IsThere self.now actor }
+        ensures { IsSpan self.now actor result.0 result.1 }
+    {
+        match actor {
+            Actor::Thread(line, _) => {
+                let Some(place) = self.place_of(line) else {
+                    unreachable!();
+                };
+                (place, place + 1)
+            }
+            _ => (0, self.lines.len()),
+        }
+    }
+}
