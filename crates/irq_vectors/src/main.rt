@@ -1,19 +1,23 @@
-//! Judges logs of single lines by the plain program of the due entry, and by a line beside it.
+//! Judges logs of single lines by the plain program of the due entry, and by a line beside it; and compares the line
+//! with the plain line in every order of a script.
 //!
 //! Standard input has the name of a file a row. For each, standard output gets a row with the name and the
 //! verdict: `lawful`, or `unlawful N`, where entry N, counted from 1, is the first that isn't due. Where the line
-//! tells another verdict than the plain program, or none can be made, the program says so and ends.
+//! tells another verdict than the plain program, or none can be made, the program says so and ends. For a row
+//! `orders` and a name, it gets the name and whether the two lines are the same in every order.
 #![tactic(auto)]
 
 mod by_line;
 mod judging;
 mod reading;
+mod side_by_side;
 
 use anyhow::{Context, Result, ensure};
 use by_line::judge_by_line;
 use judging::{Verdict, judge};
 use line_valid::is_valid;
 use reading::{LineLog, read_log};
+use side_by_side::orders_of;
 use std::alloc::Global;
 use std::fs;
 use std::rt::Files;
@@ -34,18 +38,27 @@ fn judge_log(alloc: Global, log: &LineLog) -> Result<Verdict> {
     Ok(verdict)
 }
 
-/// The verdict on the log of that file.
-fn judge_file(rt: &(impl Files + AllocGlobal), name: &str) -> Result<Verdict> {
+/// The log of that file.
+fn read_file(rt: &(impl Files + AllocGlobal), name: &str) -> Result<LineLog> {
     let text = fs::read_to_string(rt, name).context(format_args!("reading {name}"))?;
-    let log = read_log(rt.alloc(), text.as_str()).context(format_args!("in {name}"))?;
-    judge_log(rt.alloc(), &log).context(format_args!("in {name}"))
+    read_log(rt.alloc(), text.as_str()).context(format_args!("in {name}"))
 }
 
 fn main(rt: HostRuntime) -> Result<()> {
-    for name in rt.lines(rt.alloc()) {
-        let name = name?;
-        let verdict = judge_file(&rt, name.as_str())?;
-        println!(rt; "{name} {verdict}")?;
+    for row in rt.lines(rt.alloc()) {
+        let row = row?;
+        match row.strip_prefix("orders ") {
+            Some(name) => {
+                let log = read_file(&rt, name)?;
+                let orders = orders_of(rt.alloc(), &log.def).context(format_args!("in {name}"))?;
+                println!(rt; "{name} {orders}")?;
+            }
+            None => {
+                let log = read_file(&rt, row.as_str())?;
+                let verdict = judge_log(rt.alloc(), &log).context(format_args!("in {row}"))?;
+                println!(rt; "{row} {verdict}")?;
+            }
+        }
     }
     Ok(())
 }
