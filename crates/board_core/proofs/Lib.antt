@@ -15,4 +15,5 @@ pub mod InSystem
 pub mod Movers
 pub mod LowestMover
 pub mod Standing
+pub mod FirstLaws
 pub mod Underway

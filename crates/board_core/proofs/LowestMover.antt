@@ -1,5 +1,5 @@
 -- The lowest actor that can move, by what the ready actors are.
-use Rattle.std.proofs.Common.{◌≡◌, ℕ, zero, suc, ◌+◌, ◌<◌, ◌==◌, inl, inr, Bool, true, false, cond, is_some, unwrap_or, Option, Some, None, List, [], ◌∷◌, ◌++◌, map, length, filter, take, slice_get, refl, sym, ap, ◌∙◌, subst, arith}
+use Rattle.std.proofs.Common.{◌≡◌, ℕ, zero, suc, ◌+◌, ◌<◌, ◌==◌, ◌⊎◌, inl, inr, Bool, true, false, cond, is_some, unwrap_or, Option, Some, None, List, [], ◌∷◌, ◌++◌, map, length, filter, take, slice_get, refl, sym, ap, ◌∙◌, subst, arith}
 use Rattle.std.specs.List.{list_any}
 use Rattle.std.proofs.Math.ListN.{length-map}
 use Rattle.std.proofs.lemmas.Bool.{or_cases}
@@ -37,6 +37,23 @@ use Rattle.board_core.specs.Scripts.{ScriptSeen}
 use Rattle.board_core.specs.Seen.{board_lines}
 use Rattle.board_core.proofs.Movers.{some_of, none_of, not_both, first_append, first_there, none_there, thread_ready, thread_device_of, few_cpus, cpu_stands, driver_can}
 use Rattle.board_core.proofs.TurnLaws.{map_there, map_back}
+
+-- ---- places in two lists
+
+module _ {A : Type 0} where
+  pub at_first : (xs ys : List A) (i : ℕ) (x : A) → slice_get xs i ≡ Some x → slice_get (xs ++ ys) i ≡ Some x
+  at_first [] ys i x at = cc
+  at_first (z ∷ zs) ys zero x at = at
+  at_first (z ∷ zs) ys (suc i) x at = at_first zs ys i x at
+
+  pub at_second : (xs ys : List A) (i : ℕ) (x : A) → slice_get ys i ≡ Some x → slice_get (xs ++ ys) (length xs + i) ≡ Some x
+  at_second [] ys i x at = ap (λ (n : ℕ). slice_get ys n) (let e : 0 + i ≡ i = omega arith in e) ∙ at
+  at_second (z ∷ zs) ys i x at = ap (λ (n : ℕ). slice_get (z ∷ (zs ++ ys)) n) (let e : suc (length zs) + i ≡ suc (length zs + i) = omega arith in e) ∙ at_second zs ys i x at
+
+  pub either_at : (xs ys : List A) (j : ℕ) (x : A) → slice_get (xs ++ ys) j ≡ Some x → (slice_get xs j ≡ Some x) ⊎ ((i : ℕ) × (j ≡ length xs + i) × (slice_get ys i ≡ Some x))
+  either_at [] ys j x at = inr (j, omega arith, at)
+  either_at (z ∷ zs) ys zero x at = inl at
+  either_at (z ∷ zs) ys (suc j) x at = elim (either_at zs ys j x at) [ inl first ↦ inl first | inr second ↦ inr (second.0, (let e = second.1 in omega (arith, e)), second.2) ]
 
 -- ---- which it is
 
@@ -127,25 +144,38 @@ module _ (board : BoardSeen) (isb : IsBoard board) (lines : List LineSeen) (scri
       first_append board (board_lines lines) (threads_of board) (cpus_of board ++ drivers_of board)
       ∙ ap (λ (o : Option Move). or_move (first (threads_of board)) o) (first_append board (board_lines lines) (cpus_of board) (drivers_of board))
 
+  -- the first of a list that can move
+  pub record At (all : List Actor) (a : Actor) : Type 0 where
+    pub place : ℕ
+    pub at : slice_get all place ≡ Some a
+    pub move : Move
+    pub due_is : due a ≡ Some move
+    pub before : (j : ℕ) (b : Actor) → j < place → slice_get all j ≡ Some b → due b ≡ None
+
+  abbrev None_of : List Actor → Type 0
+  None_of all = (j : ℕ) (b : Actor) → slice_get all j ≡ Some b → due b ≡ None
+
+  its_move : (all : List Actor) (a : Actor) (h : At all a) → first all ≡ Some h.move
+  its_move all a h = first_there board (board_lines lines) all h.place a h.move h.at h.due_is h.before
+
   -- ---- threads
 
-  no_thread : lowest_thread ready.lines ≡ None → first (threads_of board) ≡ None
-  no_thread none = none_there board (board_lines lines) (threads_of board) (λ j a at. of_device j a (map_back (λ (x : DeviceDef). actors.Thread x.line x.dev) board.devices j a at))
+  pub no_thread : lowest_thread ready.lines ≡ None → None_of (threads_of board)
+  no_thread none j a at = of_device (map_back (λ (x : DeviceDef). actors.Thread x.line x.dev) board.devices j a at)
     where
-      of_device : (j : ℕ) (a : Actor) → ((x : DeviceDef) × (slice_get board.devices j ≡ Some x) × (actors.Thread x.line x.dev ≡ a)) → due a ≡ None
-      of_device j a h = subst (λ (b : Actor). due b ≡ None) h.2 (rests (actors.Thread h.0.line h.0.dev) (λ m is_due.
+      of_device : ((x : DeviceDef) × (slice_get board.devices j ≡ Some x) × (actors.Thread x.line x.dev ≡ a)) → due a ≡ None
+      of_device h = subst (λ (b : Actor). due b ≡ None) h.2 (rests (actors.Thread h.0.line h.0.dev) (λ m is_due.
           (let t = thread_ready board isb lines scripts is ready r h.0.line h.0.dev m is_due in
           not_both (thread_of (slice_get ready.lines t.0)) t.3 (thread_none ready.lines t.0 none) (ap (λ (o : Option LinePart). thread_of o) t.6 ∙ t.7))))
 
-  pub lowest_is_thread : (t : ReadyThread) (x : LineSeen) → lowest_thread ready.lines ≡ Some t → slice_get lines t.line ≡ Some x → (m : Move) × (due (actors.Thread x.def.line t.dev) ≡ Some m) × (first (actors_of board) ≡ Some m)
-  lowest_is_thread t x low at =
+  pub thread_first : (t : ReadyThread) (x : LineSeen) → lowest_thread ready.lines ≡ Some t → slice_get lines t.line ≡ Some x → At (threads_of board) (actors.Thread x.def.line t.dev)
+  thread_first t x low at =
       let its = thread_some ready.lines t low in
       let v = thread_device_of board isb lines scripts is ready r t.line x t.dev at its in
       let p = device_place board.devices x.def.line t.dev v.1 in
       let actor : slice_get (threads_of board) p.place ≡ Some (actors.Thread x.def.line t.dev) =
       map_there (λ (y : DeviceDef). actors.Thread y.line y.dev) board.devices p.place p.device p.at ∙ (ap (λ (l : LineNo). Some (actors.Thread l p.device.dev)) p.line_is ∙ ap (λ (d : DevNo). Some (actors.Thread x.def.line d)) p.dev_is) in
-      let here = first_there board (board_lines lines) (threads_of board) p.place (actors.Thread x.def.line t.dev) v.0.0 actor v.0.1 (λ j a less at_a. before p j a less (map_back (λ (y : DeviceDef). actors.Thread y.line y.dev) board.devices j a at_a)) in
-      (v.0.0, v.0.1, in_turn ∙ ap (λ (o : Option Move). or_move o (or_move (first (cpus_of board)) (first (drivers_of board)))) here)
+      record { place = p.place; at = actor; move = v.0.0; due_is = v.0.1; before = λ j a less at_a. before p j a less (map_back (λ (y : DeviceDef). actors.Thread y.line y.dev) board.devices j a at_a) }
     where
       rises : Rises (λ (y : DeviceDef). y.dev.0) board.devices
       rises i y at = (isb.devices i y at).rises
@@ -159,34 +189,51 @@ module _ (board : BoardSeen) (isb : IsBoard board) (lines : List LineSeen) (scri
           let le = u.8 in
           omega (arith, below, same, least, le))))
 
+  pub lowest_is_thread : (t : ReadyThread) (x : LineSeen) → lowest_thread ready.lines ≡ Some t → slice_get lines t.line ≡ Some x → (m : Move) × (due (actors.Thread x.def.line t.dev) ≡ Some m) × (first (actors_of board) ≡ Some m)
+  lowest_is_thread t x low at =
+      let h = thread_first t x low at in
+      (h.move, h.due_is, in_turn ∙ ap (λ (o : Option Move). or_move o (or_move (first (cpus_of board)) (first (drivers_of board)))) (its_move (threads_of board) (actors.Thread x.def.line t.dev) h))
+
   -- ---- processors
 
   not_ready : (c : ℕ) → is_cpu_ready ready.lines c ≡ false → due (actors.Cpu (record { 0 = c })) ≡ None
   not_ready c none = cpu_stands board isb lines scripts is ready r (record { 0 = c }) None (sym (none_of (cpu_line ready.lines c) none))
 
-  no_cpu : lowest_cpu ready.lines ≡ None → first (cpus_of board) ≡ None
+  pub no_cpu : lowest_cpu ready.lines ≡ None → None_of (cpus_of board)
   unfolding lowest_cpu
-  no_cpu none = none_there board (board_lines lines) (cpus_of board) (λ j a at.
-      (let b = count_back 0 board.cpus j a at in
+  no_cpu none j a at =
+      let b = count_back 0 board.cpus j a at in
       let less = b.0 in
       let few = isb.few_cpus in
-      subst (λ (x : Actor). due x ≡ None) b.1 (not_ready (0 + j) (first_none (is_cpu_ready ready.lines) 32 (0 + j) none (omega (arith, less, few))))))
+      subst (λ (x : Actor). due x ≡ None) b.1 (not_ready (0 + j) (first_none (is_cpu_ready ready.lines) 32 (0 + j) none (omega (arith, less, few))))
 
-  pub lowest_is_cpu : (c : CpuNo) → lowest_thread ready.lines ≡ None → lowest_cpu ready.lines ≡ Some c.0 → (m : Move) × (k : ℕ) × (cpu_line ready.lines c.0 ≡ Some k) × (due (actors.Cpu c) ≡ Some m) × (first (actors_of board) ≡ Some m)
+  pub cpu_first : (c : CpuNo) → lowest_cpu ready.lines ≡ Some c.0 → At (cpus_of board) (actors.Cpu c) × ((k : ℕ) × (cpu_line ready.lines c.0 ≡ Some k))
   unfolding lowest_cpu
-  lowest_is_cpu c no_threads low =
+  cpu_first c low =
       let f = first_some (is_cpu_ready ready.lines) 32 c.0 low in
       let k = some_of (cpu_line ready.lines c.0) f.1 in
       let h = cpu_stands board isb lines scripts is ready r c (Some k.0) (sym k.1) in
       let few = few_cpus board isb lines scripts is ready r c h.1.0 h.1.1 in
-      let at : slice_get (cpus_of board) c.0 ≡ Some (actors.Cpu c) = count_at 0 board.cpus c.0 few ∙ ap (λ (n : ℕ). Some (actors.Cpu (record { 0 = n }))) (let e : 0 + c.0 ≡ c.0 = omega arith in e) in
-      let here = first_there board (board_lines lines) (cpus_of board) c.0 (actors.Cpu c) h.1.0 at h.1.1 (λ j a less at_a. (let b = count_back 0 board.cpus j a at_a in
-      subst (λ (x : Actor). due x ≡ None) b.1 (not_ready (0 + j) (f.2 (0 + j) (omega (arith, less)))))) in (
+      let at : slice_get (cpus_of board) c.0 ≡ Some (actors.Cpu c) = count_at 0 board.cpus c.0 few ∙ ap (λ (n : ℕ). Some (actors.Cpu (record { 0 = n }))) (let e : 0 + c.0 ≡ c.0 = omega arith in e) in (
+        record {
+          place = c.0;
+          at = at;
+          move = h.1.0;
+          due_is = h.1.1;
+          before = λ j a less at_a. (let b = count_back 0 board.cpus j a at_a in subst (λ (x : Actor). due x ≡ None) b.1 (not_ready (0 + j) (f.2 (0 + j) (omega (arith, less)))));
+        },
+        k,
+      )
+
+  pub lowest_is_cpu : (c : CpuNo) → lowest_thread ready.lines ≡ None → lowest_cpu ready.lines ≡ Some c.0 → (m : Move) × (k : ℕ) × (cpu_line ready.lines c.0 ≡ Some k) × (due (actors.Cpu c) ≡ Some m) × (first (actors_of board) ≡ Some m)
+  lowest_is_cpu c no_threads low =
+      let h = cpu_first c low in (
+        h.0.move,
         h.1.0,
-        k.0,
-        k.1,
         h.1.1,
-        in_turn ∙ (ap (λ (o : Option Move). or_move o (or_move (first (cpus_of board)) (first (drivers_of board)))) (no_thread no_threads) ∙ ap (λ (o : Option Move). or_move o (first (drivers_of board))) here),
+        h.0.due_is,
+        in_turn ∙ (ap (λ (o : Option Move). or_move o (or_move (first (cpus_of board)) (first (drivers_of board)))) (none_there board (board_lines lines) (threads_of board) (no_thread no_threads))
+            ∙ ap (λ (o : Option Move). or_move o (first (drivers_of board))) (its_move (cpus_of board) (actors.Cpu c) h.0)),
       )
 
   -- ---- drivers
@@ -208,30 +255,37 @@ module _ (board : BoardSeen) (isb : IsBoard board) (lines : List LineSeen) (scri
   many_drivers : length board.drivers ≡ length ready.drivers
   many_drivers = let a = ap (λ (ds : List DriverNo). length ds) is.drivers in let b = length-map scripts (λ (s : ScriptSeen). s.driver) in let c = r.all_drivers in omega (arith, a, b, c)
 
-  no_driver : lowest_driver ready ≡ None → first (drivers_of board) ≡ None
-  no_driver none = none_there board (board_lines lines) (drivers_of board) (λ j a at.
-      (let d = map_back (λ (x : DriverNo). actors.Driver x) board.drivers j a at in
+  pub no_driver : lowest_driver ready ≡ None → None_of (drivers_of board)
+  no_driver none j a at =
+      let d = map_back (λ (x : DriverNo). actors.Driver x) board.drivers j a at in
       let less = slice_get_within board.drivers j d.0 d.1 in
       let many = many_drivers in
-      subst (λ (x : Actor). due x ≡ None) d.2 (driver_rests j d.0 d.1 (first_none (is_driver_ready ready) (length ready.drivers) j none (omega (arith, less, many))))))
+      subst (λ (x : Actor). due x ≡ None) d.2 (driver_rests j d.0 d.1 (first_none (is_driver_ready ready) (length ready.drivers) j none (omega (arith, less, many))))
 
-  pub lowest_is_driver : (j : ℕ) (d : DriverNo) → lowest_thread ready.lines ≡ None → lowest_cpu ready.lines ≡ None → lowest_driver ready ≡ Some j → slice_get board.drivers j ≡ Some d
-      → (m : Move) × (is_driver_ready ready j ≡ true) × (due (actors.Driver d) ≡ Some m) × (first (actors_of board) ≡ Some m)
-  lowest_is_driver j d no_threads no_cpus low at =
+  pub driver_first : (j : ℕ) (d : DriverNo) → lowest_driver ready ≡ Some j → slice_get board.drivers j ≡ Some d → At (drivers_of board) (actors.Driver d)
+  driver_first j d low at =
       let f = first_some (is_driver_ready ready) (length ready.drivers) j low in
       let s = script_of j d at in
       let m = some_of (due (actors.Driver s.0.driver)) (sym (driver_ready_is j s.0 s.1) ∙ f.1) in
-      let its : due (actors.Driver d) ≡ Some m.0 = ap (λ (x : DriverNo). due (actors.Driver x)) (sym s.2) ∙ m.1 in
-      let here = first_there board (board_lines lines) (drivers_of board) j (actors.Driver d) m.0 (map_there (λ (x : DriverNo). actors.Driver x) board.drivers j d at) its (λ i a less at_a.
-      (let e = map_back (λ (x : DriverNo). actors.Driver x) board.drivers i a at_a in subst (λ (x : Actor). due x ≡ None) e.2 (driver_rests i e.0 e.1 (f.2 i less)))) in (
-        m.0,
-        f.1,
-        its,
-        in_turn ∙ (ap (λ (o : Option Move). or_move o (or_move (first (cpus_of board)) (first (drivers_of board)))) (no_thread no_threads)
-            ∙ (ap (λ (o : Option Move). or_move o (first (drivers_of board))) (no_cpu no_cpus) ∙ here)),
+      record {
+        place = j;
+        at = map_there (λ (x : DriverNo). actors.Driver x) board.drivers j d at;
+        move = m.0;
+        due_is = ap (λ (x : DriverNo). due (actors.Driver x)) (sym s.2) ∙ m.1;
+        before = λ i a less at_a. (let e = map_back (λ (x : DriverNo). actors.Driver x) board.drivers i a at_a in subst (λ (x : Actor). due x ≡ None) e.2 (driver_rests i e.0 e.1 (f.2 i less)));
+      }
+
+  pub lowest_is_driver : (j : ℕ) (d : DriverNo) → lowest_thread ready.lines ≡ None → lowest_cpu ready.lines ≡ None → lowest_driver ready ≡ Some j → slice_get board.drivers j ≡ Some d
+      → (m : Move) × (due (actors.Driver d) ≡ Some m) × (first (actors_of board) ≡ Some m)
+  lowest_is_driver j d no_threads no_cpus low at =
+      let h = driver_first j d low at in (
+        h.move,
+        h.due_is,
+        in_turn ∙ (ap (λ (o : Option Move). or_move o (or_move (first (cpus_of board)) (first (drivers_of board)))) (none_there board (board_lines lines) (threads_of board) (no_thread no_threads))
+            ∙ (ap (λ (o : Option Move). or_move o (first (drivers_of board))) (none_there board (board_lines lines) (cpus_of board) (no_cpu no_cpus)) ∙ its_move (drivers_of board) (actors.Driver d) h)),
       )
 
   pub nobody : lowest_thread ready.lines ≡ None → lowest_cpu ready.lines ≡ None → lowest_driver ready ≡ None → first (actors_of board) ≡ None
   nobody no_threads no_cpus no_drivers =
-      in_turn ∙ (ap (λ (o : Option Move). or_move o (or_move (first (cpus_of board)) (first (drivers_of board)))) (no_thread no_threads)
-      ∙ (ap (λ (o : Option Move). or_move o (first (drivers_of board))) (no_cpu no_cpus) ∙ no_driver no_drivers))
+      in_turn ∙ (ap (λ (o : Option Move). or_move o (or_move (first (cpus_of board)) (first (drivers_of board)))) (none_there board (board_lines lines) (threads_of board) (no_thread no_threads))
+      ∙ (ap (λ (o : Option Move). or_move o (first (drivers_of board))) (none_there board (board_lines lines) (cpus_of board) (no_cpu no_cpus)) ∙ none_there board (board_lines lines) (drivers_of board) (no_driver no_drivers)))

@@ -25,7 +25,7 @@ use Rattle.board_play.proofs.KeptAlways.{apart_kept}
 use Rattle.board_play.proofs.Members.{AreApart, find_there}
 use Rattle.board_play.proofs.Script.{current}
 use Rattle.board_ready.specs.Kept.{thread_of}
-use Rattle.board_ready.specs.Ready.{cpu_line, can_go_on, current_call, is_driver_ready, lowest}
+use Rattle.board_ready.specs.Ready.{cpu_line, can_go_on, current_call, is_driver_ready, lowest_thread, lowest_driver, lowest}
 use Rattle.board_ready.specs.declared.parts.CurrentCall.{CurrentCall}
 use Rattle.board_ready.specs.declared.parts.LinePart.{LinePart}
 use Rattle.board_ready.specs.declared.parts.Mover.TheVariants as movers
@@ -65,7 +65,7 @@ module _ (board : BoardSeen) (isb : IsBoard board) (layout : List Placement) (li
   apart = apart_kept board isb (board_lines lines) is.system.kept
 
   -- the line that stands where its number does
-  line_at : (k : ℕ) (line : LineNo) → slice_get parts.line_numbers k ≡ Some line.0 → (x : LineSeen) × (slice_get lines k ≡ Some x) × (x.def.line ≡ line)
+  pub line_at : (k : ℕ) (line : LineNo) → slice_get parts.line_numbers k ≡ Some line.0 → (x : LineSeen) × (slice_get lines k ≡ Some x) × (x.def.line ≡ line)
   line_at k line at =
       let x = map_back (λ (x : LineSeen). x.def.line.0) lines k line.0 (ap (λ (ns : List ℕ). slice_get ns k) (sym is.line_numbers) ∙ at) in
       (x.0, x.1, line_from_same x.0.def.line line (eq-eqb x.0.def.line.0 line.0 x.2))
@@ -122,7 +122,7 @@ module _ (board : BoardSeen) (isb : IsBoard board) (layout : List Placement) (li
 
   -- ---- drivers
 
-  driver_at : (j : ℕ) (d : DriverNo) → slice_get parts.driver_numbers j ≡ Some d.0 → slice_get board.drivers j ≡ Some d
+  pub driver_at : (j : ℕ) (d : DriverNo) → slice_get parts.driver_numbers j ≡ Some d.0 → slice_get board.drivers j ≡ Some d
   driver_at j d at =
       let x = map_back (λ (x : DriverNo). x.0) board.drivers j d.0 (ap (λ (ns : List ℕ). slice_get ns j) (sym is.driver_numbers) ∙ at) in
       x.1 ∙ ap (λ (y : DriverNo). Some y) (driver_from_same x.0 d (eq-eqb x.0.0 d.0 x.2))
@@ -156,8 +156,9 @@ module _ (board : BoardSeen) (isb : IsBoard board) (layout : List Placement) (li
   pub driver_ends : (d : DriverNo) (j : ℕ) → slice_get parts.driver_numbers j ≡ Some d.0 → None ≡ current_call parts.ready.drivers j → IsStand view (actors.Driver d) None
   driver_ends d j at none = driver_waits d j at (ap (λ (o : Option CurrentCall). can_go_on parts.ready.lines o) (sym none))
 
-  pub driver_nowhere : (d : DriverNo) → ((j : ℕ) → slice_get parts.driver_numbers j ≡ Some d.0 → ⊥) → IsStand view (actors.Driver d) None
-  driver_nowhere d none = subst (λ (w : SystemSeen). IsStand w (actors.Driver d) None) v (by_line (current_line board.calls (board_lines lines) d) refl)
+  -- a driver that isn't the board's has no call
+  pub no_call : (d : DriverNo) → ((j : ℕ) → slice_get parts.driver_numbers j ≡ Some d.0 → ⊥) → current_line board.calls (board_lines lines) d ≡ None
+  no_call d none = by_line (current_line board.calls (board_lines lines) d) refl
     where
       place_of_driver : (rs : List DriverNo) → has_driver rs d ≡ true → (j : ℕ) × (slice_get (numbers_of_drivers rs) j ≡ Some d.0)
       place_of_driver [] h = cc
@@ -166,13 +167,16 @@ module _ (board : BoardSeen) (isb : IsBoard board) (layout : List Placement) (li
         | inr there ↦ (let p = place_of_driver rs there in (suc p.0, p.1))
       ]
 
-      by_line : (o : Option BoardLine) → current_line board.calls (board_lines lines) d ≡ o → due_on (current_line board.calls (board_lines lines) d) (actors.Driver d) ≡ None
-      by_line None its = ap (λ (o : Option BoardLine). due_on o (actors.Driver d)) its
+      by_line : (o : Option BoardLine) → current_line board.calls (board_lines lines) d ≡ o → current_line board.calls (board_lines lines) d ≡ None
+      by_line None its = its
       by_line (Some x) its =
           let k = current (board_lines lines) d [] board.calls x its in
           let declared : has_driver board.drivers d ≡ true = ap (λ (r : DriverNo). has_driver board.drivers r) (driver_from_same d k.call.driver k.mine) ∙ (isb.calls k.place k.call k.at).driver in
           let p = place_of_driver board.drivers declared in
           absurd (none p.0 (ap (λ (ns : List ℕ). slice_get ns p.0) is.driver_numbers ∙ p.1))
+
+  pub driver_nowhere : (d : DriverNo) → ((j : ℕ) → slice_get parts.driver_numbers j ≡ Some d.0 → ⊥) → IsStand view (actors.Driver d) None
+  driver_nowhere d none = subst (λ (w : SystemSeen). IsStand w (actors.Driver d) None) v (ap (λ (o : Option BoardLine). due_on o (actors.Driver d)) (no_call d none))
 
   -- ---- the lowest
 
@@ -208,7 +212,7 @@ module _ (board : BoardSeen) (isb : IsBoard board) (layout : List Placement) (li
       let h = lowest_is_driver board isb lines scripts is.system parts.ready is.ready j d low.0 low.1 low.2 (driver_at j d at) in
       let s = script_of board isb lines scripts is.system parts.ready is.ready j d (driver_at j d at) in
       let stands : IsLowestStand seen (Some (actors.Driver d, record { line = call.line; script = Some j })) =
-      (subst (λ (x : DriverNo). IsAt seen (actors.Driver x) (record { line = call.line; script = Some j })) s.2 (at_script j s.0 call h.0 s.1 (sym called) (ap (λ (x : DriverNo). due_move board (board_lines lines) (actors.Driver x)) s.2 ∙ h.2)).0, h.3 ∙ sym h.2, ap (λ (o : Option Move). is_some o) h.2) in
+      (subst (λ (x : DriverNo). IsAt seen (actors.Driver x) (record { line = call.line; script = Some j })) s.2 (at_script j s.0 call h.0 s.1 (sym called) (ap (λ (x : DriverNo). due_move board (board_lines lines) (actors.Driver x)) s.2 ∙ h.1)).0, h.2 ∙ sym h.1, ap (λ (o : Option Move). is_some o) h.1) in
       subst (λ (w : SystemSeen). IsLowestStand w (Some (actors.Driver d, stand))) v (subst (λ (u : Stand). IsLowestStand seen (Some (actors.Driver d, u))) (sym same) stands)
 
   pub lowest_driver_there : (j : ℕ) → Some (movers.Driver j) ≡ lowest parts.ready → None ≡ current_call parts.ready.drivers j → IsLowestStand view None
@@ -222,9 +226,8 @@ module _ (board : BoardSeen) (isb : IsBoard board) (layout : List Placement) (li
       let low = lowest_says parts.ready None is_lowest in subst (λ (w : SystemSeen). IsLowestStand w None) v (nobody board isb lines scripts is.system parts.ready is.ready low.0 low.1 low.2)
 
   -- the bounds of the places
-  pub line_number_there : (t : ReadyThread) → Some (movers.Thread t) ≡ lowest parts.ready → t.line < length parts.line_numbers
-  line_number_there t is_lowest =
-      let low = lowest_says parts.ready (Some (movers.Thread t)) is_lowest in
+  pub line_number_within : (t : ReadyThread) → lowest_thread parts.ready.lines ≡ Some t → t.line < length parts.line_numbers
+  line_number_within t low =
       let within = part_within (slice_get parts.ready.lines t.line) (thread_some parts.ready.lines t low) refl in
       let a = is.ready.all_lines in
       let b = ap (λ (ns : List ℕ). length ns) is.line_numbers in
@@ -235,16 +238,21 @@ module _ (board : BoardSeen) (isb : IsBoard board) (layout : List Placement) (li
       part_within None h at = cc
       part_within (Some p) h at = slice_get_within parts.ready.lines t.line p at
 
-  pub driver_number_there : (j : ℕ) → Some (movers.Driver j) ≡ lowest parts.ready → j < length parts.driver_numbers
-  driver_number_there j is_lowest =
-      let low = lowest_says parts.ready (Some (movers.Driver j)) is_lowest in
-      let f = (first_some (is_driver_ready parts.ready) (length parts.ready.drivers) j low.2).0 in
+  pub line_number_there : (t : ReadyThread) → Some (movers.Thread t) ≡ lowest parts.ready → t.line < length parts.line_numbers
+  line_number_there t is_lowest = line_number_within t (lowest_says parts.ready (Some (movers.Thread t)) is_lowest)
+
+  pub driver_number_within : (j : ℕ) → lowest_driver parts.ready ≡ Some j → j < length parts.driver_numbers
+  driver_number_within j low =
+      let f = (first_some (is_driver_ready parts.ready) (length parts.ready.drivers) j low).0 in
       let a = is.ready.all_drivers in
       let b = ap (λ (ns : List ℕ). length ns) is.driver_numbers in
       let c = length-map board.drivers (λ (x : DriverNo). x.0) in
       let d = ap (λ (rs : List DriverNo). length rs) is.system.drivers in
       let e = length-map scripts (λ (s : ScriptSeen). s.driver) in
       omega (arith, f, a, b, c, d, e)
+
+  pub driver_number_there : (j : ℕ) → Some (movers.Driver j) ≡ lowest parts.ready → j < length parts.driver_numbers
+  driver_number_there j is_lowest = driver_number_within j (lowest_says parts.ready (Some (movers.Driver j)) is_lowest).2
 
 -- what a search by number answers
 pub number_there : (numbers items : List ℕ) (n k : ℕ) (o : Option ℕ) → numbers ≡ items → IsPlaceOfNumber numbers n o → o ≡ Some k → slice_get items k ≡ Some n

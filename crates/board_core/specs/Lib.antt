@@ -10,5 +10,6 @@ pub mod Inside
 pub mod Places
 pub mod Turned
 pub mod Stands
+pub mod Firsts
 pub mod Playing
 pub mod Making

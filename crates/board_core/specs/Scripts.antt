@@ -15,6 +15,7 @@ use Rattle.board_def.specs.declared.rows.ScriptCall.{ScriptCall}
 use Rattle.board_play.specs.Kept.{IsUpTo}
 use Rattle.board_play.specs.Lines.{BoardLine}
 use Rattle.board_core.specs.declared.scripts.Step.{Step}
+use Rattle.board_core.specs.declared.turns.DueCall.{DueCall}
 
 -- a driver's script: its calls with the places of their lines, at which of them it is, and how many entries of that one
 -- are there
@@ -66,6 +67,7 @@ pub record IsScript (calls : List ScriptCall) (lines : List BoardLine) (s : Scri
   pub up_to : IsUpTo (calls_of s.steps) lines s.driver s.at
   pub due : (x : Step) (y : BoardLine) → slice_get s.steps s.at ≡ Some x → slice_get lines x.place ≡ Some y → due_call y.def s.driver y.past ≡ Some (x.call.call, s.made)
 
-abbrev pub place_of : Option Step → Option ℕ
-place_of None = None
-place_of (Some step) = Some step.place
+-- the call that a driver is at, of which so many entries are there
+abbrev pub due_at : Option Step → ℕ → Option DueCall
+due_at None made = None
+due_at (Some step) made = Some (record { line = step.call.line; call = step.call.call; made = made })

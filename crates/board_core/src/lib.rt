@@ -20,4 +20,4 @@ pub mod turns;
 
 pub use moves::Moves;
 pub use system::System;
-pub use turns::{PlayEnd, Turn};
+pub use turns::{DueCall, PlayEnd, Turn};

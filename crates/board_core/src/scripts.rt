@@ -1,9 +1,10 @@
 //! The drivers' scripts, cut by driver.
 ghost use Rattle.std.specs.Prelude.{◌≡◌, false, ◌<◌, ◌≤◌, Some, [], ◌∷◌, ◌++◌, slice_get, OnOk};
-ghost use Rattle.board_core.specs.Scripts.{advanced, completes, is_not_there};
+ghost use Rattle.board_core.specs.Scripts.{advanced, completes, due_at, is_not_there};
 ghost use Rattle.board_core.specs.ReadyFor.{call_of, wait_for};
 ghost use Rattle.irq_laws.specs.Blocks.{block_of};
 
+use crate::turns::DueCall;
 use board_def::ScriptCall;
 use board_ready::{CurrentCall, WaitFor};
 use irq_base::{Call, DriverNo, Entry, NoMemory, UnlinkAnswer};
@@ -79,6 +80,20 @@ impl Script {
             Some(step) => Some(CurrentCall {
                 line: step.place,
                 wait: wait_of(step.call.call, self.made),
+            }),
+            None => None,
+        }
+    }
+
+    /// The current call, with how many of its entries are there; none where all calls are complete.
+    pub fn due(&self) -> Option<DueCall>
+        ensures { result ≡ due_at (slice_get self.now.steps self.now.at) self.now.made }
+    {
+        match self.current() {
+            Some(step) => Some(DueCall {
+                line: step.call.line,
+                call: step.call.call,
+                made: self.made,
             }),
             None => None,
         }

@@ -1,10 +1,14 @@
 //! The lines of a board, and their moves.
-ghost use Rattle.std.specs.Prelude.{◌≡◌, List, [], IfOk, length, map, reverse};
+ghost use Rattle.std.specs.Prelude.{◌≡◌, ◌++◌, List, [], IfOk, length, map, reverse};
+ghost use Rattle.std.specs.Option.{option_map};
 ghost use Rattle.irq_base.specs.declared.entries.Actor.{Actor};
 ghost use Rattle.irq_base.specs.declared.entries.Actor.TheVariants as actors;
 ghost use Rattle.board_def.specs.Layout.{layout_of};
 ghost use Rattle.board_play.specs.Kept.{AreKept};
 ghost use Rattle.board_play.specs.Lines.{lines_of};
+ghost use Rattle.board_play.specs.Current.{current_line};
+ghost use Rattle.board_play.specs.Order.{cpus_of, drivers_of, threads_of};
+ghost use Rattle.board_core.specs.Firsts.{IsFirstOf, call_on};
 ghost use Rattle.board_core.specs.Making.{AreNew, MakesAll};
 ghost use Rattle.board_core.specs.Playing.{IsFresh, IsUnderway, IsPlay, Ends};
 ghost use Rattle.board_core.specs.ReadyFor.{has_thread_up_to};
@@ -21,7 +25,7 @@ use crate::refreshing::{make_ready, numbers_of_drivers, numbers_of_lines, refres
 use crate::scripts::Script;
 use crate::stands::Stand;
 use crate::turning::{advance, turn_of};
-use crate::turns::{PlayEnd, Turn};
+use crate::turns::{DueCall, PlayEnd, Turn};
 use board_def::{Board, Layout};
 use board_ready::{LinePart, Mover, ReadyActors};
 use callbacks::{Callbacks, Handler};
@@ -160,6 +164,46 @@ impl<'b, L: IrqLine> System<'b, L> {
     {
         let System { lines, .. } = self;
         lines
+    }
+
+    /// The first thread or processor that can move, in the order of turns: threads by the numbers of their devices, then
+    /// processors. It takes the same time however many wait.
+    pub fn lowest_thread_or_cpu(&self) -> Option<Actor>
+        ensures { IsFirstOf self.now (threads_of self.now.board ++ cpus_of self.now.board) result }
+    {
+        self.board.is_board();
+        match self.ready.lowest_thread_or_cpu() {
+            Some(Mover::Thread(thread)) => {
+                let line = LineNo(self.line_numbers[thread.line]);
+                Some(Actor::Thread(line, thread.dev))
+            }
+            Some(Mover::Cpu(cpu)) => Some(Actor::Cpu(cpu)),
+            Some(Mover::Driver(_)) => unreachable!(),
+            None => None,
+        }
+    }
+
+    /// The first driver that can move. It takes the same time however many wait.
+    pub fn lowest_driver(&self) -> Option<DriverNo>
+        ensures { IsFirstOf self.now (drivers_of self.now.board) (option_map actors.Driver result) }
+    {
+        self.board.is_board();
+        match self.ready.lowest_driver() {
+            Some(j) => Some(DriverNo(self.driver_numbers[j])),
+            None => None,
+        }
+    }
+
+    /// The call that the driver is at, the first of its script that isn't complete: where calls on lines that take no
+    /// part are passed over. None where all are complete, or the driver isn't the board's.
+    pub fn due_call(&self, driver: DriverNo) -> Option<DueCall>
+        ensures { result ≡ call_on (current_line self.now.board.calls (board_lines self.now.lines) driver) driver }
+    {
+        self.board.is_board();
+        let Some(j) = place_of(&self.driver_numbers, driver.0) else {
+            return None;
+        };
+        self.scripts[j].due()
     }
 
     /// One step of the actor on its line, if it can move. Where the entry ends a run of a handler, that handler is called.
