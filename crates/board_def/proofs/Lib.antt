@@ -4,7 +4,6 @@ mod Kept
 pub mod NameBack
 mod Owners
 pub mod Paths
-mod PlacingSteps
 pub mod Rising
 mod Tabled
 pub mod Unnaming

@@ -8,7 +8,6 @@ pub mod board;
 pub mod definitions;
 pub mod levels;
 pub mod names;
-pub mod placing;
 pub mod rows;
 pub mod tables;
 
