@@ -1,3 +1,4 @@
+mod Defining
 pub mod Finds
 pub mod Grows
 mod Kept

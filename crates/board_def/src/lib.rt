@@ -7,6 +7,7 @@
 pub mod board;
 pub mod definitions;
 pub mod levels;
+pub mod line_defs;
 pub mod names;
 pub mod rows;
 pub mod tables;
