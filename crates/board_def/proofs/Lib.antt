@@ -1,10 +1,10 @@
+mod Defining
 pub mod Finds
 pub mod Grows
 mod Kept
 pub mod NameBack
 mod Owners
 pub mod Paths
-mod PlacingSteps
 pub mod Rising
 mod Tabled
 pub mod Unnaming

@@ -1,5 +1,5 @@
 -- Where a board's rows stand.
-use Rattle.std.specs.Prelude.{ℕ, Option, Some, None, List, [], ◌∷◌, position}
+use Rattle.std.specs.Prelude.{ℕ, ◌==◌, Option, Some, None, List, [], ◌∷◌, position}
 use Rattle.std.specs.Option.{option_map}
 use Rattle.irq_base.specs.declared.devices.DeviceDef.{DeviceDef}
 use Rattle.irq_base.specs.declared.numbers.DevNo.{DevNo}
@@ -13,6 +13,10 @@ use Rattle.board_def.specs.declared.rows.LineRow.{LineRow}
 -- the place of the first domain of that name
 abbrev pub place_of_name : List DomainRow → Name → Option ℕ
 place_of_name domains name = position (is_domain_named name) domains
+
+-- the place of the first line of that number
+abbrev pub place_of_line : List LineRow → LineNo → Option ℕ
+place_of_line lines line = position (λ row. line.0 == row.line.0) lines
 
 abbrev pub last_from : {A : Type 0} → A → List A → A
 last_from x [] = x

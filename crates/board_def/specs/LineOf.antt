@@ -1,5 +1,6 @@
 -- The definition of a board's line.
 use Rattle.std.specs.Prelude.{◌==◌, Option, Some, None, List, [], ◌∷◌, map, filter, if◌then◌else◌}
+use Rattle.irq_base.specs.declared.devices.DeviceDef.{DeviceDef}
 use Rattle.irq_base.specs.declared.lines.LineDef.{LineDef}
 use Rattle.irq_base.specs.declared.numbers.LineNo.{LineNo}
 use Rattle.irq_base.specs.declared.calls.Call.{Call}
@@ -40,3 +41,11 @@ line_of_row b row =
       devices = filter (λ x. x.line.0 == row.line.0) b.devices;
       calls = map with_driver (filter (λ c. c.line.0 == row.line.0) b.calls);
     }
+
+-- the definitions of all its lines, in the board's order
+abbrev pub line_defs_of : BoardSeen → List LineDef
+line_defs_of b = map (line_of_row b) b.lines
+
+-- the board with these devices and calls in place of its own
+abbrev pub with_parts : BoardSeen → List DeviceDef → List ScriptCall → BoardSeen
+with_parts b devices calls = record b { devices = devices; calls = calls }

@@ -1,6 +1,6 @@
 //! A board: what is declared of a machine and its drivers.
 ghost use Rattle.std.specs.Prelude.{◌≡◌, ◌<◌, ◌≤◌, [], ◌∷◌, ◌++◌, length, slice_get, OnOk, OnErr};
-ghost use Rattle.board_def.specs.Find.{place_of_name, last_line, last_device, last_driver};
+ghost use Rattle.board_def.specs.Find.{place_of_name, place_of_line, last_line, last_device, last_driver};
 ghost use Rattle.board_def.specs.LineOf.{find_line};
 ghost use Rattle.board_def.specs.Rules.{IsBoard, find_device, has_driver};
 
@@ -283,6 +283,13 @@ impl Board {
         ensures { result ≡ find_line self.now.lines line }
     {
         self.lines.find(&line)
+    }
+
+    /// The place of the line of that number, counted from 0; none where there is none.
+    pub fn place_of_line(&self, line: LineNo) -> Option<usize>
+        ensures { result ≡ place_of_line self.now.lines line }
+    {
+        self.lines.place_of(&line)
     }
 
     /// The device of that number; none where there is none.

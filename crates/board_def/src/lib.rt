@@ -7,8 +7,8 @@
 pub mod board;
 pub mod definitions;
 pub mod levels;
+pub mod line_defs;
 pub mod names;
-pub mod placing;
 pub mod rows;
 pub mod tables;
 

@@ -167,6 +167,7 @@ fn rows_of_a_line_at_a_root_and_of_refusals(rt: HostRuntime) -> Result<(), NoMem
     assert!(rt; add_line(&mut board, 65_535, 0, 3));
     let (domains, layout) = lay(rt.alloc(), &board)?;
     assert!(rt; uses(&domains, 2));
+    assert!(rt; board.line_defs(rt.alloc())?.len() == 3);
     expect(
         &rt,
         &board,

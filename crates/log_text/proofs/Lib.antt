@@ -3,4 +3,3 @@ pub mod Back
 pub mod Splitting
 pub mod RowLaws
 mod Levels
-mod TestBoards

@@ -86,6 +86,3 @@ fn push_level(row: &mut TextRow, board: &Board, level: (usize, u32))
         None => push_named(row, b"", number),
     }
 }
-
-#[cfg(test)]
-mod tests;

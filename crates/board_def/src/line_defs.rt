@@ -1,0 +1,141 @@
+//! The definitions of all lines of a board at once.
+ghost use Rattle.std.specs.Prelude.{◌≡◌, ◌+◌, ◌∷◌, ◌++◌, [], Some, All, IfOk, OnOk, slice_get, take};
+ghost use Rattle.irq_model.specs.Valid.{IsValid};
+ghost use Rattle.board_def.specs.LineOf.{line_of_row, line_defs_of, with_driver, with_parts};
+
+use crate::board::Board;
+use crate::levels::{flow_of, levels_from, retriggers, trigger_of};
+use crate::rows::{LineRow, ScriptCall};
+use irq_base::{CallList, DeviceDef, DeviceList, LineDef, NoMemory};
+use std::alloc::Global;
+
+impl Board {
+    /// The definitions of all lines, in the board's order, also of those that have no place. It goes over the devices and
+    /// the calls once, and finds the line of each in constant time. Refused only for want of memory.
+    pub fn line_defs(&self, alloc: Global) -> Result<Vec<LineDef>, NoMemory>
+        ensures defs { IfOk result (λ defs. defs.items ≡ line_defs_of self.now) }
+        ensures valid { IfOk result (λ defs. All IsValid defs.items) }
+    {
+        self.is_board();
+        let mut defs = bare_defs(alloc, self)?;
+        add_devices(&mut defs, self)?;
+        add_calls(&mut defs, self)?;
+        Ok(defs)
+    }
+}
+
+// The definitions of the lines without their devices and calls.
+fn bare_defs(alloc: Global, board: &Board) -> Result<Vec<LineDef>, NoMemory>
+    ensures { IfOk result (λ defs. defs.items ≡ line_defs_of (with_parts board.now [] [])) }
+{
+    let mut defs = Vec::new(alloc);
+    for i in 0..board.lines_len() {
+        let Some(row) = board.line(i) else {
+            unreachable!();
+        };
+        defs.push(bare_def(alloc, board, row))?;
+    }
+    Ok(defs)
+}
+
+// The definition of the line without its devices and calls.
+fn bare_def(alloc: Global, board: &Board, row: LineRow) -> LineDef
+    ensures { result ≡ line_of_row (with_parts board.now [] []) row }
+{
+    let levels = levels_from(board, Some(row.domain));
+    LineDef {
+        line: row.line,
+        flow: flow_of(levels.root),
+        trigger: trigger_of(levels.root),
+        keeps: levels.keeps(),
+        recalls: levels.recalls(),
+        retriggers: retriggers(levels.root),
+        unlazy: row.unlazy,
+        later: row.later,
+        mask: row.mask,
+        cpus: board.cpus(),
+        window: board.window(),
+        limit: board.limit(),
+        log: board.log(),
+        devices: DeviceList::new(alloc),
+        calls: CallList::new(alloc),
+    }
+}
+
+// Gives each device to its line.
+fn add_devices(defs: &mut Vec<LineDef>, board: &Board) -> Result<(), NoMemory>
+    requires { defs.old.items ≡ line_defs_of (with_parts board.now [] []) }
+    ensures { OnOk result (defs.new.items ≡ line_defs_of (with_parts board.now board.now.devices [])) }
+{
+    for i in 0..board.devices_len() {
+        let Some(device) = board.device(i) else {
+            unreachable!();
+        };
+        place_device(defs, board, i, device)?;
+    }
+    Ok(())
+}
+
+// Gives each call to the line that it is about.
+fn add_calls(defs: &mut Vec<LineDef>, board: &Board) -> Result<(), NoMemory>
+    requires { defs.old.items ≡ line_defs_of (with_parts board.now board.now.devices []) }
+    ensures { OnOk result (defs.new.items ≡ line_defs_of board.now) }
+{
+    for i in 0..board.calls_len() {
+        let Some(call) = board.call(i) else {
+            unreachable!();
+        };
+        place_call(defs, board, i, call)?;
+    }
+    Ok(())
+}
+
+// Gives the device, which stands at that place among the board's, to its line.
+fn place_device(
+    defs: &mut Vec<LineDef>,
+    board: &Board,
+    i: usize,
+    device: DeviceDef,
+) -> Result<(), NoMemory>
+    requires there { slice_get board.now.devices i ≡ Some device }
+    requires before { defs.old.items ≡ line_defs_of (with_parts board.now (take i board.now.devices) []) }
+    ensures { OnOk result (defs.new.items ≡ line_defs_of (with_parts board.now (take (i + 1) board.now.devices) [])) }
+{
+    board.is_board();
+    if let Some(place) = board.place_of_line(device.line) {
+        add_device(&mut defs[place], device)?;
+    }
+    Ok(())
+}
+
+// Gives the call, which stands at that place in the scripts, to the line that it is about.
+fn place_call(
+    defs: &mut Vec<LineDef>,
+    board: &Board,
+    i: usize,
+    call: ScriptCall,
+) -> Result<(), NoMemory>
+    requires there { slice_get board.now.calls i ≡ Some call }
+    requires before { defs.old.items ≡ line_defs_of (with_parts board.now board.now.devices (take i board.now.calls)) }
+    ensures { OnOk result (defs.new.items ≡ line_defs_of (with_parts board.now board.now.devices (take (i + 1) board.now.calls))) }
+{
+    board.is_board();
+    if let Some(place) = board.place_of_line(call.line) {
+        add_call(&mut defs[place], call)?;
+    }
+    Ok(())
+}
+
+// The device is the definition's last one from now on.
+fn add_device(def: &mut LineDef, device: DeviceDef) -> Result<(), NoMemory>
+    ensures { OnOk result (def.new ≡ record def.old { devices = def.old.devices ++ device ∷ [] }) }
+{
+    def.devices.push(device)
+}
+
+// The call is the definition's last one from now on.
+fn add_call(def: &mut LineDef, call: ScriptCall) -> Result<(), NoMemory>
+    ensures { OnOk result (def.new ≡ record def.old { calls = def.old.calls ++ with_driver call ∷ [] }) }
+{
+    def.calls.push((call.driver, call.call))
+}
