@@ -10,7 +10,6 @@ use Rattle.board_def.specs.Seen.{BoardSeen}
 use Rattle.board_words.specs.declared.faults.FaultKind.{FaultKind}
 use Rattle.board_words.specs.declared.faults.FaultKind.TheVariants as faults
 use Rattle.board_stated.specs.TextOf.{board_of_text}
-use Rattle.board_stated.specs.ToPlay.{board_to_play}
 use Rattle.board_words.specs.declared.faults.BoardFault.{BoardFault}
 
 -- text lines, each with its end
@@ -177,19 +176,8 @@ picks_count_their_times = refl
 refused_lines_count : board_of_text (text (codes "board 1" ∷ codes "log 1000000" ∷ codes "domain a linear 1 latch" ∷ codes "line 1 a 0" ∷ codes "line 2 a 0" ∷ codes "line 3 a 0" ∷ codes "line 4 a 0" ∷ codes "line 5 a 0" ∷ [])) ≡ fault 0 faults.LogTooLarge
 refused_lines_count = refl
 
-spurious_written : board_to_play (text (codes "board 1" ∷ codes "spurious 100000 99900" ∷ codes "domain a linear 4 latch" ∷ codes "line 1 a 0" ∷ [])) ≡ fault 0 faults.NotBuilt
-spurious_written = refl
+-- ---- texts without a fault
 
-mask_written : board_to_play (text (codes "board 1" ∷ codes "domain a linear 4 latch" ∷ codes "line 1 a 0 mask 1" ∷ [])) ≡ fault 0 faults.NotBuilt
-mask_written = refl
-
-cpus_written : is_board (board_to_play (text (codes "board 1" ∷ codes "cpus 1" ∷ codes "domain a linear 4 latch" ∷ codes "line 1 a 0" ∷ []))) ≡ true
-cpus_written = refl
-
-header_alone : board_to_play (codes "board 1") ≡ fault 0 faults.NotBuilt
-header_alone = refl
-
--- no fault of the text
 header_is_a_text : is_board (board_of_text (codes "board 1")) ≡ true
 header_is_a_text = refl
 
@@ -245,6 +233,3 @@ version_again = refl
 
 lpi_has_no_parent : board_of_text (text (codes "board 1" ∷ codes "domain a tree latch" ∷ codes "domain b tree lpi parent a" ∷ [])) ≡ fault 3 faults.BadParent
 lpi_has_no_parent = refl
-
-moments_to_play : board_to_play (on_lpi (codes "moment 1 0" ∷ [])) ≡ fault 0 faults.NotBuilt
-moments_to_play = refl

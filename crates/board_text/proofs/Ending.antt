@@ -5,7 +5,6 @@ use Rattle.board_def.specs.Rules.{IsBoard}
 use Rattle.board_def.specs.Seen.{BoardSeen}
 use Rattle.board_stated.specs.Stated.{board_of}
 use Rattle.board_stated.specs.TextOf.{board_unless, whole, fault_of_lines, longest_text, statements_of, board_of_text}
-use Rattle.board_stated.specs.ToPlay.{only_built}
 use Rattle.board_words.specs.Lines.{text_lines}
 use Rattle.board_words.specs.declared.faults.BoardFault.{BoardFault}
 use Rattle.board_stated.proofs.Kept.{draft_is_board}
@@ -59,17 +58,3 @@ unless_is fault past e = ap (λ f. board_unless f past) e
 pub text_ended : (bytes : List ℕ) → nat_lt longest_text (length bytes) ≡ false → fault_of_lines (text_lines bytes) ≡ None → board_of_text bytes ≡ board_unless None (statements_of bytes)
 text_ended bytes short none =
     ap (λ b. cond b (Err (whole faults.TooLong)) (board_unless (fault_of_lines (text_lines bytes)) (statements_of bytes))) short ∙ unless_is (fault_of_lines (text_lines bytes)) (statements_of bytes) none
-
-pub played : (test : BoardSeen → Bool) (told : Result BoardSeen BoardFault) (b : BoardSeen) → told ≡ Ok b → test b ≡ true → only_built test told ≡ Ok b
-played test told b e can = ap (only_built test) e ∙ ap (λ t. cond t (Ok b) (Err (whole faults.NotBuilt))) can
-
-pub unplayed : (test : BoardSeen → Bool) (told : Result BoardSeen BoardFault) (b : BoardSeen) → told ≡ Ok b → test b ≡ false → only_built test told ≡ Err (whole faults.NotBuilt)
-unplayed test told b e cannot = ap (only_built test) e ∙ ap (λ t. cond t (Ok b) (Err (whole faults.NotBuilt))) cannot
-
--- the board that the end gives is that of the statements
-same_board : (t : Bool) (a b : BoardSeen) (x : BoardFault) → cond t (Err x) (Ok a) ≡ Ok b → a ≡ b
-same_board true a b x h = absurd cc
-same_board false a b x h = cc
-
-pub ended_board : (past : List Statement) (b : BoardSeen) → board_unless None past ≡ Ok b → board_of past ≡ b
-ended_board past b h = same_board (nat_lt 4000000 ((board_of past).log * length (board_of past).lines)) (board_of past) b (whole faults.LogTooLarge) h

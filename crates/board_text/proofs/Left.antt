@@ -1,6 +1,6 @@
 -- What a list has left from a place on.
 use Rattle.std.proofs.Common.{◌≡◌, ℕ, zero, suc, ◌+◌, ◌<◌, Bool, true, false, Some, None, List, [], ◌∷◌, drop, length, add-one, arith}
-use Rattle.std.specs.List.{slice_get, list_any, list_all}
+use Rattle.std.specs.List.{slice_get, list_any}
 
 pub left_at : {A : Type 0} (xs : List A) (i : ℕ) (x : A) → slice_get xs i ≡ Some x → drop i xs ≡ x ∷ drop (i + 1) xs
 left_at [] i x at = cc
@@ -16,7 +16,3 @@ item_there (y ∷ ys) (suc i) none within = item_there ys i none (omega arith)
 -- past an item that fails the test
 pub any_left : {A : Type 0} (p : A → Bool) (xs : List A) (i : ℕ) (x : A) → slice_get xs i ≡ Some x → p x ≡ false → list_any p (drop i xs) ≡ list_any p (drop (i + 1) xs)
 any_left p xs i x at fails = rw (left_at xs i x at) (grind arith)
-
--- past an item that passes it
-pub all_left : {A : Type 0} (p : A → Bool) (xs : List A) (i : ℕ) (x : A) → slice_get xs i ≡ Some x → p x ≡ true → list_all p (drop i xs) ≡ list_all p (drop (i + 1) xs)
-all_left p xs i x at passes = rw (left_at xs i x at) (grind arith)

@@ -4,7 +4,6 @@ pub mod Room
 pub mod Owning
 pub mod Picking
 pub mod Drafts
-pub mod BuiltBy
 pub mod OneMore
 pub mod Ending
 pub mod ReadLines

@@ -4,7 +4,6 @@ use Rattle.std.specs.List.{list_any}
 use Rattle.board_def.specs.Seen.{BoardSeen}
 use Rattle.board_words.specs.declared.statements.Statement.{Statement}
 use Rattle.board_words.specs.declared.statements.Statement.TheVariants as statements
-use Rattle.board_stated.specs.BuiltSoFar.{has_options}
 use Rattle.board_stated.specs.FaultsAfter.{is_empty}
 use Rattle.board_stated.specs.Sections.{section_reached, has_moments, is_header, is_cpus, is_spurious, is_log}
 use Rattle.board_stated.specs.Sound.{IsSound, draft_of}
@@ -34,7 +33,6 @@ stood_after past = record {
   cpus = list_any is_cpus past;
   spurious = list_any is_spurious past;
   log = list_any is_log past;
-  options = list_any has_options past;
 }
 
 -- a header or a setting that stood before

@@ -1,5 +1,4 @@
-//! Reading a board's text: the board that it states, or the text's first fault; and whether that board can be played
-//! yet, which only a play asks.
+//! Reading a board's text: the board that it states, or the text's first fault.
 //!
 //! A text is read once, line by line, in time linear in its bytes; a first look at it only finds whether it has a
 //! statement at all. Each statement is judged against the board that the statements before it state, and then added
@@ -7,7 +6,6 @@
 #![tactic(auto)]
 
 pub mod adding;
-pub mod built;
 pub mod faults;
 pub mod masks;
 pub mod owners;
@@ -17,7 +15,7 @@ pub mod sections;
 pub mod stood;
 
 pub use board_words::{BoardFault, FaultKind};
-pub use reading::{BoardRefused, LONGEST_TEXT, read_board, read_board_to_play};
+pub use reading::{BoardRefused, LONGEST_TEXT, read_board};
 
 #[cfg(test)]
 mod tests;

@@ -1,6 +1,5 @@
 //! The reader: the board that the statements so far state, and what it keeps of them to judge the next one.
 ghost use Rattle.std.specs.Prelude.{◌≡◌, List, [], ◌∷◌, ◌&&◌, not, OnOk};
-ghost use Rattle.board_stated.specs.BuiltSoFar.{is_built};
 ghost use Rattle.board_stated.specs.FaultsAfter.{is_empty, is_out_of_order, is_twice, has_bad_owner, has_flag_twice, fault_after};
 ghost use Rattle.board_stated.specs.Stated.{board_of, with_statement};
 ghost use Rattle.board_stated.specs.TextOf.{begins_with_board};
@@ -11,7 +10,6 @@ ghost use Rattle.board_text.specs.Owned.{Owns};
 ghost use Rattle.board_words.specs.declared.statements.Statement.{Statement};
 
 use crate::adding::{add_statement, call_of_words, script_call};
-use crate::built::is_built;
 use crate::faults::{
     driver_writing, has_bad_mask, has_bad_parent, has_bad_unlazy, has_name, is_misplaced,
     is_not_there, is_one_too_many,
@@ -170,13 +168,6 @@ impl Reader {
         self.section = Section::of(statement);
         self.stood = self.stood.with(statement);
         Ok(())
-    }
-
-    /// Whether the board of the statements so far can be played yet.
-    pub fn can_be_played(&self) -> bool
-        ensures { (past : List Statement) → Agrees past self.now → result ≡ is_built past (board_of past) }
-    {
-        is_built(&self.board, self.stood)
     }
 
     /// The board of the whole text, where no statement had a fault.

@@ -3,7 +3,6 @@ ghost use Rattle.std.specs.Prelude.{◌≡◌, ◌≤◌, length};
 ghost use Rattle.std.specs.List.{list_any};
 ghost use Rattle.board_words.specs.Lines.{text_lines};
 ghost use Rattle.board_stated.specs.TextOf.{board_of_text, has_words, fault_without_statement, whole};
-ghost use Rattle.board_stated.specs.ToPlay.{board_to_play};
 ghost use Rattle.board_text.specs.Given.{Gives, ReadsLines, ReadsText};
 
 use crate::reader::Reader;
@@ -35,23 +34,6 @@ pub fn read_board(alloc: Global, bytes: &[u8]) -> Result<Board, BoardRefused>
     match reader.end() {
         Ok(board) => Ok(board),
         Err(kind) => Err(whole(kind)),
-    }
-}
-
-/// Reads the text as `read_board` does, for a play: a board that can't be played yet is refused, as not built.
-pub fn read_board_to_play(alloc: Global, bytes: &[u8]) -> Result<Board, BoardRefused>
-    ensures exact { Gives (board_to_play bytes.now) result }
-{
-    let reader = read_text(alloc, bytes)?;
-    let can_be_played = reader.can_be_played();
-    let board = match reader.end() {
-        Ok(board) => board,
-        Err(kind) => return Err(whole(kind)),
-    };
-    if can_be_played {
-        Ok(board)
-    } else {
-        Err(whole(FaultKind::NotBuilt))
     }
 }
 

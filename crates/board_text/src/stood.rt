@@ -1,9 +1,9 @@
 //! Which statements have stood.
-ghost use Rattle.std.specs.Prelude.{◌≡◌, ◌||◌, List, [], ◌∷◌, is_some};
+ghost use Rattle.std.specs.Prelude.{◌≡◌, List, [], ◌∷◌};
 ghost use Rattle.board_text.specs.Kept.{stood_after, is_setting_again};
 ghost use Rattle.board_words.specs.declared.statements.Statement.{Statement};
 
-use board_words::{LineWords, Statement};
+use board_words::Statement;
 
 /// Which statements have stood so far.
 #[derive(Clone, Copy, PartialEq, Eq)]
@@ -20,8 +20,6 @@ pub struct Stood {
     pub spurious: bool,
     /// `log`.
     pub log: bool,
-    /// A `line` with an option.
-    pub options: bool,
 }
 
 impl Stood {
@@ -36,7 +34,6 @@ impl Stood {
             cpus: false,
             spurious: false,
             log: false,
-            options: false,
         }
     }
 
@@ -53,7 +50,6 @@ impl Stood {
             Statement::Cpus(_) => self.cpus = true,
             Statement::Spurious { .. } => self.spurious = true,
             Statement::Log(_) => self.log = true,
-            Statement::Line(line) => self.options = has_options(line) || self.options,
             _ => {}
         }
         self
@@ -71,11 +67,4 @@ impl Stood {
             _ => false,
         }
     }
-}
-
-/// Whether an option is written on the line.
-fn has_options(line: &LineWords) -> bool
-    ensures { result ≡ (line.now.unlazy || (line.now.later || is_some line.now.mask)) }
-{
-    line.unlazy || line.later || line.mask.is_some()
 }

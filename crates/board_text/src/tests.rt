@@ -2,7 +2,7 @@
 //!
 //! A table has a row for each text: what is told of it, `=` and the text, in which `|` stands for a line feed and `^`
 //! for a byte beyond ASCII. Rows that begin with `#` are headings.
-use crate::{BoardRefused, LONGEST_TEXT, read_board, read_board_to_play};
+use crate::{BoardRefused, LONGEST_TEXT, read_board};
 use board_def::{Board, ScriptCall};
 use irq_base::{Actor, Call, CpuNo, DevNo, DeviceDef, DriverNo, Kind, LevelKind, LineNo, MapKind};
 use std::alloc::Global;
@@ -25,7 +25,7 @@ line 2: bad byte=|#^|board 1
 line 1: bad byte=board 1 \x7f
 line 1: bad byte=board 1 # \x1f
 line 2: bad byte=board 1|cpus 0 #\x0b
-line 0: not built yet=board 1 # ~~ |\tlog\r 1\r|
+no fault=board 1 # ~~ |\tlog\r 1\r|
 # one statement in itself
 line 2: unknown word=board 1|domai
 line 2: unknown word=board 1|moment 1
@@ -35,14 +35,14 @@ line 1: wrong count=board
 line 2: wrong count=board 1|domain a linear latch
 line 2: wrong count=board 1|line 1 a 0 mask 1 mask
 line 1: bad number=board 3
-line 0: not built yet=board 2
+no fault=board 2
 line 2: bad number=board 1|cpus 33
 line 2: bad number=board 1|spurious 1 1
 line 2: bad number=board 1|ask 0
 line 2: bad number=board 1|line 1 a 0 mask unlazy
 line 2: bad name=board 1|domain A tree latch
 line 2: bad name=board 1|domain abcdefghijklmnopq tree latch
-line 0: not built yet=board 1|domain abcdefghijklmnop tree latch
+no fault=board 1|domain abcdefghijklmnop tree latch
 line 2: bad name=board 1|picks c1 x1
 # the order of sections
 line 3: out of order=board 1|cpus 1|board 1
@@ -51,7 +51,7 @@ line 3: out of order=board 1|picks c0|driver 2
 line 2: out of order=board 1|ask 1
 line 2: out of order=board 2|moment 1 5
 line 3: out of order=board 1|driver 2|driver 2
-line 0: not built yet=board 1|log 1|spurious 2 1|cpus 2
+no fault=board 1|log 1|spurious 2 1|cpus 2
 # settings, names and options that stand again
 line 2: twice=board 1|board 1
 line 2: twice=board 1|board 2|moment 1 5
@@ -69,10 +69,10 @@ line 2: not there=board 1|domain a tree latch parent b
 line 3: bad parent=board 1|domain a tree latch|domain b tree plain parent a
 line 2: bad parent=board 1|domain a tree remap
 line 3: bad parent=board 1|domain a tree latch|domain b tree lpi parent a
-line 0: not built yet=board 1|domain a tree lpi|domain b tree msi parent a|line 1 b 0 unlazy
+no fault=board 1|domain a tree lpi|domain b tree msi parent a|line 1 b 0 unlazy
 line 3: bad parent=board 1|domain a tree level|domain b tree msi parent a
 line 4: bad parent=board 1|domain a tree eoi|domain b tree remap parent a|domain c tree msi parent b
-line 0: not built yet=board 1|domain a tree vector|domain b tree remap parent a|domain c tree msi parent b
+no fault=board 1|domain a tree vector|domain b tree remap parent a|domain c tree msi parent b
 # lines and devices
 line 2: not there=board 1|line 1 a 0
 line 2: not there=board 1|device 1 1 direct
@@ -80,22 +80,22 @@ line 4: out of order=board 1|domain a tree latch|line 2 a 0|line 2 a 1
 line 5: not there=board 1|domain a tree latch|line 2 a 0|line 3 a 0|device 2 4 direct
 line 3: bad unlazy=board 1|domain a tree plain|line 1 a 0 unlazy mask 0
 line 4: bad unlazy=board 1|domain a tree vector|domain b tree remap parent a|line 1 b 0 unlazy
-line 0: not built yet=board 1|domain a tree level|line 1 a 0 unlazy
-line 0: not built yet=board 1|domain a tree lpi|line 1 a 0 unlazy
-line 0: not built yet=board 1|domain a tree plain|domain b tree msi parent a|line 1 b 0 unlazy
+no fault=board 1|domain a tree level|line 1 a 0 unlazy
+no fault=board 1|domain a tree lpi|line 1 a 0 unlazy
+no fault=board 1|domain a tree plain|domain b tree msi parent a|line 1 b 0 unlazy
 line 3: bad mask=board 1|domain a tree latch|line 1 a 0 mask 0
 line 3: bad mask=board 1|domain a tree latch|line 1 a 0 mask 4294967294
 line 4: bad mask=board 1|cpus 31|domain a tree latch|line 1 a 0 mask 2147483648
-line 0: not built yet=board 1|cpus 32|domain a tree latch|line 1 a 0 mask 2147483648
+no fault=board 1|cpus 32|domain a tree latch|line 1 a 0 mask 2147483648
 # the log limit of all lines
-line 0: not built yet=board 1|log 1000000|domain a tree latch|line 1 a 1|line 2 a 1|line 3 a 1|line 4 a 1
+no fault=board 1|log 1000000|domain a tree latch|line 1 a 1|line 2 a 1|line 3 a 1|line 4 a 1
 line 0: log too large=board 1|log 1000000|domain a tree latch|line 1 a 1|line 2 a 1|line 3 a 1|line 4 a 1|line 5 a 1
 line 9: not there=board 1|log 1000000|domain a tree latch|line 1 a 1|line 2 a 1|line 3 a 1|line 4 a 1|line 5 a 1|line 6 b 1
-# boards that can't be played yet
-line 0: not built yet=board 1
-line 0: not built yet=board 1|spurious 100000 99900|domain a linear 4 latch|line 1 a 3
-line 0: not built yet=board 1|domain a linear 4 latch|line 1 a 3 mask 1
-line 0: not built yet=board 1|domain a linear 4 latch|line 1 a 4
+# boards with little on them
+no fault=board 1
+no fault=board 1|spurious 100000 99900|domain a linear 4 latch|line 1 a 3
+no fault=board 1|domain a linear 4 latch|line 1 a 3 mask 1
+no fault=board 1|domain a linear 4 latch|line 1 a 4
 ";
 
 /// Two domains, a line, two devices and a driver.
@@ -121,7 +121,7 @@ line 8: not there=sync 3
 line 8: not there=affinity 3 0
 line 8: unknown word=moment 2 5
 line 8: unknown word=moment
-line 0: not built yet=affinity 2 0|enable 2|sync 2
+no fault=affinity 2 0|enable 2|sync 2
 line 8: not there=picks t3
 line 8: not there=picks t4
 line 8: not there=picks t5 c1
@@ -130,16 +130,16 @@ line 8: bad name=picks t9 x1
 line 9: not there=picks t5 c0 d7*65534|picks d8
 line 9: bad owner=request 3|request 3
 line 11: bad owner=free 3|request 3|ask 3|request 3
-line 0: not built yet=request 3|free 3|free 3|request 3
+no fault=request 3|free 3|free 3|request 3
 line 11: bad owner=request 3|driver 9|request 5|free 3
 line 10: bad owner=free 3|driver 9|request 3
 line 11: bad owner=request 3|free 3|driver 9|request 3
-line 0: not built yet=request 3|driver 9|ask 3|disable 2|request 5
+no fault=request 3|driver 9|ask 3|disable 2|request 5
 line 9: twice=request 3|request 3 shared shared
 line 9: bad owner=request 3|request 3|ask 4
 line 8: not there=ask 4|request 3|request 3
 line 9: bad byte=request 3|request 3 #\x00
-line 0: not built yet=picks c0*65535 c0
+no fault=picks c0*65535 c0
 line 8: too many=picks c0*65535 c0*2
 line 11: too many=picks c0*65535|picks c0||picks d7
 line 8: not there=picks t4 c0*65535 c0*2
@@ -150,7 +150,7 @@ const SECOND: &str =
     "board 2|domain a tree lpi|domain b tree msi parent a|line 2 a 0|line 3 b 0 unlazy|device 3 2 direct|driver 7|";
 
 /// What follows it, which has seven text lines.
-const MOMENTS: &str = "line 0: not built yet=moment 2 0|moment 3 4294967295|ask 3|moment 2 0
+const MOMENTS: &str = "no fault=moment 2 0|moment 3 4294967295|ask 3|moment 2 0
 line 8: wrong count=moment 2
 line 8: bad number=moment 2 4294967296
 line 8: bad number=moment 0 5
@@ -218,9 +218,9 @@ fn bytes_of(alloc: Global, head: &str, text: &str) -> Result<Vec<u8>, Fail> {
     Ok(bytes)
 }
 
-/// What a play is told of the text: its first fault, or that its board isn't built yet.
+/// What is told of the text: its first fault, or that it has none.
 fn told(alloc: Global, text: &[u8]) -> Result<String, Fail> {
-    match read_board_to_play(alloc, text) {
+    match read_board(alloc, text) {
         Ok(_) => Ok(String::from_str(alloc, "no fault")?),
         Err(BoardRefused::Fault(fault)) => Ok(format!(in alloc; "{fault}")?),
         Err(refused) => Err(refused.into()),
@@ -233,9 +233,6 @@ fn read_table(rt: &impl Abort, alloc: Global, head: &str, table: &str) -> Result
         let (want, text) = row.split_once('=').ok_or("a row without a text")?;
         let bytes = bytes_of(alloc, head, text)?;
         assert_eq!(rt; told(alloc, &bytes)?.as_str(), want, "{row}");
-        // not to be built yet is no fault of a text
-        let is_text = want == "line 0: not built yet";
-        assert!(rt; read_board(alloc, &bytes).is_ok() == is_text, "{row}");
     }
     Ok(())
 }
@@ -274,7 +271,7 @@ fn one_too_many(rt: HostRuntime) -> Result<(), Fail> {
         let full = told(alloc, &bytes_of(alloc, &text, "")?)?;
         let last = format!(in alloc; "{word}{}{rest}", most.saturating_add(1))?;
         let over = told(alloc, &bytes_of(alloc, &text, &last)?)?;
-        assert_eq!(rt; full.as_str(), "line 0: not built yet", "{word}");
+        assert_eq!(rt; full.as_str(), "no fault", "{word}");
         assert_eq!(rt; over.as_str(), more);
     }
     Ok(())

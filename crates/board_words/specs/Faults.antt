@@ -22,7 +22,6 @@ rank faults.BadMask = 13
 rank faults.BadOwner = 14
 rank faults.TooMany = 15
 rank faults.LogTooLarge = 16
-rank faults.NotBuilt = 17
 
 abbrev pub earlier : FaultKind → Option FaultKind → Option FaultKind
 earlier kind None = Some kind

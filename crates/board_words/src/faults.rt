@@ -42,8 +42,6 @@ pub enum FaultKind {
     TooMany,
     /// The log limit times the number of lines is above 4,000,000.
     LogTooLarge,
-    /// The board is in order, but no such board can be played yet.
-    NotBuilt,
 }
 
 impl FaultKind {
@@ -70,7 +68,6 @@ impl FaultKind {
             FaultKind::BadOwner => "bad owner",
             FaultKind::TooMany => "too many",
             FaultKind::LogTooLarge => "log too large",
-            FaultKind::NotBuilt => "not built yet",
         }
     }
 }

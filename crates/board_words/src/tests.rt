@@ -460,7 +460,7 @@ fn bad_bytes(rt: HostRuntime) {
     }
 }
 
-const TEXTS: [(FaultKind, &str); 18] = [
+const TEXTS: [(FaultKind, &str); 17] = [
     (FaultKind::TooLong, "too long"),
     (FaultKind::NoLog, "no log"),
     (FaultKind::BadByte, "bad byte"),
@@ -478,7 +478,6 @@ const TEXTS: [(FaultKind, &str); 18] = [
     (FaultKind::BadOwner, "bad owner"),
     (FaultKind::TooMany, "too many"),
     (FaultKind::LogTooLarge, "log too large"),
-    (FaultKind::NotBuilt, "not built yet"),
 ];
 
 #[test]

@@ -1,7 +1,7 @@
 -- How a check ends: what was read, and what the output gained.
 use Rattle.std.specs.Prelude.{◌≡◌, ℕ, ◌+◌, Bool, true, false, Option, Some, None, List, [], drop, Result, Ok, Err}
+use Rattle.irq_io.specs.Told.{IsTold}
 use Rattle.irq_io.specs.Whole.{WritesAll}
-use Rattle.irq_io.specs.declared.whole.WriteEnd.{WriteEnd}
 use Rattle.irq_io.specs.declared.whole.WriteEnd.TheVariants as writes
 use Rattle.irq_check.specs.declared.answers.Answer.{Answer}
 use Rattle.irq_check.specs.declared.inputs.InputRefused.{InputRefused}
@@ -14,11 +14,6 @@ use Rattle.irq_check.specs.Checked.{IsChecked, checked, longest_input}
 -- what is left of a source of which at most one byte more was read than an input may have
 abbrev pub left_after : List ℕ → List ℕ
 left_after bytes = drop (longest_input + 1) bytes
-
--- the text is what the source told, where it told
-abbrev pub IsTold : Option (List ℕ) → List ℕ → Type 0
-IsTold None text = Unit {0}
-IsTold (Some bytes) text = bytes ≡ text
 
 -- the answer is said of an input, which is what the source told
 pub record IsSaid (told : Option (List ℕ)) (answer : Answer) : Type 0 where
@@ -68,13 +63,3 @@ abbrev pub is_printing : CheckEnd → Bool
 is_printing (ends.Answered answer) = true
 is_printing ends.WriteFault = true
 is_printing _ = false
-
--- where the printing is done, all that was written has been handed on
-abbrev pub HandsOn : Option (List ℕ) → Option (List ℕ) → WriteEnd → Type 0
-HandsOn handed_on written writes.Done = handed_on ≡ written
-HandsOn handed_on written writes.Failed = Unit {0}
-
--- where the printing is done, the sink keeps nothing back
-abbrev pub KeepsNone : List ℕ → WriteEnd → Type 0
-KeepsNone kept writes.Done = kept ≡ []
-KeepsNone kept writes.Failed = Unit {0}

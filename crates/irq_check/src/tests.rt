@@ -62,7 +62,7 @@ fn unfolded(alloc: Global, text: &str) -> Result<Vec<u8>, Fail> {
 
 /// What is said of an input: what was printed, or its fault.
 fn said(alloc: Global, input: &[u8], piece: usize) -> Result<String, Fail> {
-    let mut src = MemSource::new(alloc, input, piece, &[])?;
+    let mut src = MemSource::new(alloc, input, piece.max(1), &[])?;
     let mut out = MemSink::new(alloc, &[], 100)?;
     match check_and_print(alloc, &mut src, &mut out) {
         CheckEnd::Answered(_) => {

@@ -7,6 +7,8 @@ use Rattle.std.specs.declared.string.String.{String}
 use Rattle.std.specs.declared.vec.IntoIter.{IntoIter}
 use Rattle.std.specs.declared.io.Error.{Error}
 use Rattle.std.specs.declared.io.ErrorKind.TheVariants as kinds
+use Rattle.irq_words.specs.Words.{Asks}
+use Rattle.irq_words.specs.declared.Command.{Command}
 use Rattle.irq_top.specs.declared.ending.Ending.{Ending}
 use Rattle.irq_top.specs.declared.ending.Ending.TheVariants as endings
 
@@ -28,14 +30,14 @@ abbrev pub IsNotText : Arguments → Type 0
 IsNotText (Ok args) = ⊥
 IsNotText (Err error) = error_kind error ≡ kinds.InvalidData
 
--- the words are the one form that is built so far
-abbrev pub IsPlayWords : List (List ℕ) → Type 0
-IsPlayWords words = words ≡ codes "play" ∷ []
+-- the arguments are the program's name and the words of the command
+abbrev pub IsForm : Arguments → Command → Type 0
+IsForm (Ok args) command = Asks (map string_bytes (after_name (into_iter_items args))) command
+IsForm (Err error) command = ⊥
 
--- the arguments are the program's name and the one form
-abbrev pub IsPlayForm : Arguments → Type 0
-IsPlayForm (Ok args) = IsPlayWords (map string_bytes (after_name (into_iter_items args)))
-IsPlayForm (Err error) = ⊥
+-- the arguments are those of no command
+abbrev pub IsNoForm : Arguments → Type 0
+IsNoForm args = (command : Command) → IsForm args command → ⊥
 
 -- how the program ends for arguments that give no words: they aren't text, or memory was wanted
 abbrev pub IsRefusal : Arguments → Ending → Type 0

@@ -1,10 +1,12 @@
 //! The body of `main`.
-ghost use Rattle.std.specs.Prelude.{◌≡◌, ◌⊎◌, [], None, IsSome, IfSome, false};
+ghost use Rattle.std.specs.Prelude.{◌≡◌, ◌⊎◌, ℕ, Bool, [], None, IsSome, IfSome, false, true};
 ghost use Rattle.std.specs.Io.Buffered.{writer_buffer, writer_contents, writer_inner};
 ghost use Rattle.irq_io.specs.Faults.{Counts};
-ghost use Rattle.irq_top.specs.Ending.{Reads, Tells, error_text, is_printing, is_read_fault_end, is_write_fault_end, status_of};
-ghost use Rattle.irq_top.specs.Played.{PlaysOrNot};
-ghost use Rattle.irq_command.specs.Arguments.{IsNotText, IsPlayForm};
+ghost use Rattle.irq_words.specs.declared.Command.{Command};
+ghost use Rattle.irq_words.specs.declared.Command.TheVariants as commands;
+ghost use Rattle.irq_top.specs.Commands.{Checks, Generates, Plays};
+ghost use Rattle.irq_top.specs.Ending.{Tells, error_text, is_printed, is_printing, is_read_fault_end, is_write_fault_end, status_of};
+ghost use Rattle.irq_command.specs.Arguments.{IsForm, IsNoForm, IsNotText};
 
 use crate::commands::command;
 use irq_io::{StdSink, StdSource};
@@ -32,7 +34,7 @@ pub struct Ended<R: Read + Drop, O: Write + Drop, E: Write + Drop> {
 }
 
 /// Runs the program over its arguments as they come, its input, its output, before which a buffer is put, and its
-/// error stream. All of the output is handed to the writer where the status is 0.
+/// error stream. All of the output is handed to the writer where the status is 0 or 1.
 pub fn run<R: Read + Drop, O: Write + Drop, E: Write + Drop>(
     alloc: Global,
     args: io::Result<Args>,
@@ -42,19 +44,26 @@ pub fn run<R: Read + Drop, O: Write + Drop, E: Write + Drop>(
 ) -> Ended<R, O, E>
     ensures status { result.status ≡ status_of result.outcome.ending }
     ensures buffer { result.output ≡ None → result.outcome.ending ≡ Ending.NoMemory }
-    ensures form { IsPlayForm args → result.outcome.ending ≡ Ending.Usage → ⊥ }
-    ensures usage { (IsPlayForm args → ⊥) → (result.outcome.ending ≡ Ending.Usage) ⊎ (result.outcome.ending ≡ Ending.NoMemory) }
+    ensures form { (asked : Command) → IsForm args asked → result.outcome.ending ≡ Ending.Usage → ⊥ }
+    ensures usage { IsNoForm args → (result.outcome.ending ≡ Ending.Usage) ⊎ (result.outcome.ending ≡ Ending.NoMemory) }
     ensures not_text { IsNotText args → IsSome result.output → result.outcome.ending ≡ Ending.Usage }
-    ensures reads { IsPlayForm args → Reads (R.remaining input) (R.remaining result.input.reader) result.outcome.ending }
+    ensures unread { IsNoForm args → result.input.reader ≡ input }
+    ensures unasked { IsNoForm args → result.outcome.reports.reports ≡ [] }
+
+    ensures plays { (summary : Bool) → IsForm args (commands.Play summary)
+        → IfSome result.output (λ out. Plays summary (R.remaining input) (R.remaining result.input.reader) result.outcome.reports.reports (O.contents output) (writer_contents O.contents out.writer) result.outcome.ending) }
+    ensures checks { IsForm args commands.Check
+        → IfSome result.output (λ out. Checks (R.remaining input) (R.remaining result.input.reader) result.outcome.reports.reports (O.contents output) (writer_contents O.contents out.writer) result.outcome.ending) }
+    ensures generates { (n : ℕ) → IsForm args (commands.Gen n)
+        → IfSome result.output (λ out. Generates n result.outcome.reports.reports (O.contents output) (writer_contents O.contents out.writer) result.outcome.ending) × (result.input.reader ≡ input) }
     ensures read_fault { Counts 0 result.input.faults (is_read_fault_end result.outcome.ending) }
 
-    ensures plays { IfSome result.output (λ out. PlaysOrNot (R.remaining input) result.outcome.reports.reports (O.contents output) (writer_contents O.contents out.writer) result.outcome.ending) }
-    ensures emptied { result.outcome.ending ≡ Ending.Done → IfSome result.output (λ out. writer_buffer out.writer ≡ []) }
+    ensures emptied { is_printed result.outcome.ending ≡ true → IfSome result.output (λ out. writer_buffer out.writer ≡ []) }
     ensures write_fault { IfSome result.output (λ out. Counts 0 out.faults (is_write_fault_end result.outcome.ending)) }
     ensures silent { is_printing result.outcome.ending ≡ false → IfSome result.output (λ out. (writer_inner out.writer ≡ output) × (writer_buffer out.writer ≡ [])) }
 
-    ensures tells { (result.outcome.ending ≡ Ending.Done → ⊥) → Tells (error_text result.outcome.ending) (E.contents error) (writer_contents E.contents result.error.writer) (writer_contents E.contents result.error.writer) (writer_buffer result.error.writer) 0 result.error.faults }
-    ensures quiet { result.outcome.ending ≡ Ending.Done → (writer_inner result.error.writer ≡ error) × (writer_buffer result.error.writer ≡ []) }
+    ensures tells { is_printed result.outcome.ending ≡ false → Tells (error_text result.outcome.ending) (E.contents error) (writer_contents E.contents result.error.writer) (writer_contents E.contents result.error.writer) (writer_buffer result.error.writer) 0 result.error.faults }
+    ensures quiet { is_printed result.outcome.ending ≡ true → (writer_inner result.error.writer ≡ error) × (writer_buffer result.error.writer ≡ []) }
 {
     let mut input = StdSource::new(input);
     let mut error = StdSink::new(without_buffer(alloc, error));

@@ -26,6 +26,17 @@ request 1
 ask 1
 ";
 
+/// The board, and a log that begins with an ask: the driver's first call is the request.
+const UNLAWFUL: &str = "board 1
+domain intc linear 4 latch
+line 1 intc 2
+device 1 1 direct
+driver 1
+request 1
+---
+1 d1 ask 1
+";
+
 const LOG: &str = "# irq 1 virq 1 intc:2
 1 d1 request 1 - linked started no
 ";
@@ -91,6 +102,13 @@ fn each_status_has_its_row(rt: HostRuntime) -> Result<(), Fail> {
         misused(&[]),
         misused(&["player"]),
         misused(&["play", ""]),
+        Case {
+            words: &["check"],
+            text: UNLAWFUL,
+            status: 1,
+            out: "unlawful 1 1\n",
+            ..PLAYED
+        },
         Case {
             text: "board 1\ncat\n",
             status: 3,

@@ -1,5 +1,5 @@
 -- What a reading and a writing of many pieces come to.
-use Rattle.std.specs.Prelude.{◌≡◌, ℕ, Bool, true, false, Option, Some, None, List, ◌++◌, ◌≤◌, length, take, drop, Result, Ok, Err}
+use Rattle.std.specs.Prelude.{◌≡◌, ℕ, Bool, true, false, Option, Some, None, List, [], ◌++◌, ◌≤◌, length, take, drop, Result, Ok, Err}
 use Rattle.irq_io.specs.Told.{IsBeginning}
 use Rattle.irq_io.specs.declared.whole.ReadRefused.{ReadRefused}
 use Rattle.irq_io.specs.declared.whole.ReadRefused.TheVariants as refusals
@@ -16,6 +16,16 @@ met_fault (Err refusals.NoMemory) = false
 abbrev pub writing_failed : WriteEnd → Bool
 writing_failed ends.Done = false
 writing_failed ends.Failed = true
+
+-- where a writing is done, and a flush after it, all that was written has been handed on
+abbrev pub HandsOn : Option (List ℕ) → Option (List ℕ) → WriteEnd → Type 0
+HandsOn handed_on written ends.Done = handed_on ≡ written
+HandsOn handed_on written ends.Failed = Unit {0}
+
+-- and the sink keeps nothing back
+abbrev pub KeepsNone : List ℕ → WriteEnd → Type 0
+KeepsNone kept ends.Done = kept ≡ []
+KeepsNone kept ends.Failed = Unit {0}
 
 -- where the source tells what is left: the bytes are the first `most` of it, or all, and exactly they were taken
 abbrev pub TakesUpTo : ℕ → Option (List ℕ) → Option (List ℕ) → List ℕ → Type 0

@@ -41,7 +41,7 @@ pub enum WriteEnd {
 }
 
 /// The size of the pieces in which a source is read, in bytes.
-const PIECE: usize = 4096;
+const PIECE: usize = 64 * 1024;
 
 /// What is left of the source, at most `most` bytes (at least 1), and it takes no more. Fewer
 /// than `most` bytes come only from a source that answered `End`. After a fault or want of memory the bytes that came are lost.

@@ -1,7 +1,3 @@
 mod Stated
-mod Writing
-mod Printable
-mod BuiltLine
-mod OneWord
-mod Ended
+mod OneNumber
 mod Outcomes

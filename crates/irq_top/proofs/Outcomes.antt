@@ -1,36 +1,46 @@
--- What a whole call comes to.
-use Rattle.std.proofs.Common.{◌≡◌, ℕ, true, false, Option, Some, None, Ok, List, ◌⊎◌, inl, inr}
+-- What a whole command comes to.
+use Rattle.std.proofs.Common.{◌≡◌, ℕ, Bool, true, false, Option, Some, None, Ok, Err, List, [], refl}
 use Rattle.irq_base.specs.declared.reporting.LineReport.{LineReport}
 use Rattle.board_def.specs.Rules.{IsBoard}
 use Rattle.board_def.specs.Seen.{BoardSeen}
+use Rattle.irq_check.specs.Ends.{Reads, SaysOrNot, is_answered}
+use Rattle.irq_check.specs.Ends as check_ends
+use Rattle.irq_check.specs.declared.answers.Answer.TheVariants as answers
+use Rattle.irq_check.specs.declared.printing.CheckEnd.{CheckEnd}
+use Rattle.irq_check.specs.declared.printing.CheckEnd.TheVariants as checks
+use Rattle.irq_io.specs.Faults.{Counts}
+use Rattle.irq_play.specs.Ends as play_ends
+use Rattle.irq_play.specs.Played.{PlaysBoard}
+use Rattle.irq_play.specs.declared.ending.PlayedEnd.{PlayedEnd}
+use Rattle.irq_play.specs.declared.ending.PlayedEnd.TheVariants as plays
 use Rattle.irq_top.specs.declared.ending.Ending.{Ending}
 use Rattle.irq_top.specs.declared.ending.Ending.TheVariants as endings
-use Rattle.irq_top.specs.Ending.{Reads, Prints, is_played, is_read_fault_end}
-use Rattle.irq_io.specs.Faults.{Counts}
-use Rattle.irq_top.specs.Played.{HasReports, PlaysOrNot}
+use Rattle.irq_top.specs.declared.inputs.InputRefused.{InputRefused}
+use Rattle.irq_top.specs.declared.inputs.InputRefused.TheVariants as refusals
+use Rattle.irq_top.specs.Commands.{Checks, IsReadToEnd, Plays, PlaysAs}
+use Rattle.irq_top.specs.Ending.{ending_of_check, ending_of_play, ending_of_refusal, is_printed, is_printing, is_read_fault_end, is_write_fault_end}
 use Rattle.irq_top.specs.Reading.{IsStated, ReadsBoard}
-use Rattle.irq_top.specs.Report.{report_text}
 
--- the board and what was played of it
-pub plays : (told before now : Option (List ℕ)) (reports : List LineReport) (ending : Ending) (board : BoardSeen) → IsStated told board → IsBoard board → HasReports board reports ending
-    → Prints before now (report_text board reports) ending → PlaysOrNot told reports before now ending
-plays told before now reports endings.Done board stated keeps played prints = record { board = board; stated = stated; keeps_rules = keeps; played = played; prints = prints }
-plays told before now reports endings.WriteFault board stated keeps played prints = record { board = board; stated = stated; keeps_rules = keeps; played = played; prints = prints }
-plays told before now reports (endings.LogFull line len) board stated keeps played prints = record { board = board; stated = stated; keeps_rules = keeps; played = played; prints = prints }
-plays told before now reports _ board stated keeps played prints = played
+-- `play`
 
--- what was read where a board came of it
-pub reads : (told now : Option (List ℕ)) (ending : Ending) (board : BoardSeen) → ReadsBoard told now (Ok board) → (is_played ending ≡ true) ⊎ (ending ≡ endings.NoMemory) → Reads told now ending
-reads None now ending board read played = tt
-reads (Some bytes) now endings.Done board read played = ((board, read.0), read.1)
-reads (Some bytes) now endings.WriteFault board read played = ((board, read.0), read.1)
-reads (Some bytes) now (endings.LogFull line len) board read played = ((board, read.0), read.1)
-reads (Some bytes) now (endings.Board fault) board read played = elim played [ inl h ↦ cc | inr h ↦ cc ]
-reads (Some bytes) now endings.ReadFault board read played = tt
-reads (Some bytes) now endings.NoMemory board read played = tt
-reads (Some bytes) now endings.Usage board read played = elim played [ inl h ↦ cc | inr h ↦ cc ]
+read_to_end : (told left : Option (List ℕ)) (b : BoardSeen) → ReadsBoard told left (Ok b) → IsReadToEnd told left
+read_to_end None left b read = tt
+read_to_end (Some bytes) left b read = read.1
+
+module _ (summary : Bool) (told left before now : Option (List ℕ)) (reports : List LineReport) where
+  -- the board was played
+  pub plays_input : (ending : Ending) (b : BoardSeen) → ReadsBoard told left (Ok b) → IsStated told b → IsBoard b → PlaysAs b summary reports before now ending → Plays summary told left reports before now ending
+  plays_input endings.Done b read stated keeps played = record { board = b; stated = stated; read = read_to_end told left b read; keeps_rules = keeps; played = played }
+  plays_input endings.WriteFault b read stated keeps played = record { board = b; stated = stated; read = read_to_end told left b read; keeps_rules = keeps; played = played }
+  plays_input (endings.LogFull line len) b read stated keeps played = record { board = b; stated = stated; read = read_to_end told left b read; keeps_rules = keeps; played = played }
+  plays_input (endings.Unlawful line entry) b read stated keeps played = played
+  plays_input (endings.Malformed row) b read stated keeps played = played
+  plays_input endings.Usage b read stated keeps played = played
+  plays_input (endings.Board fault) b read stated keeps played = absurd played
+  plays_input endings.ReadFault b read stated keeps played = absurd played
+  plays_input endings.NoMemory b read stated keeps played = played
 
 -- a board that was played came without a read fault
-pub no_read_fault : (before now : ℕ) (ending : Ending) → Counts before now false → (is_played ending ≡ true) ⊎ (ending ≡ endings.NoMemory) → Counts before now (is_read_fault_end ending)
-no_read_fault before now endings.ReadFault counts played = elim played [ inl h ↦ cc | inr h ↦ cc ]
-no_read_fault before now _ counts played = counts
+pub played_unread : (b : BoardSeen) (summary : Bool) (reports : List LineReport) (before now : Option (List ℕ)) (ending : Ending) → PlaysAs b summary reports before now ending → is_read_fault_end ending ≡ false
+played_unread b summary reports before now endings.ReadFault played = absurd played
+played_unread b summary reports before now _ played = refl

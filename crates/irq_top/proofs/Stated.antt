@@ -9,7 +9,6 @@ use Rattle.board_def.specs.Seen.{BoardSeen}
 use Rattle.board_words.specs.declared.faults.FaultKind.TheVariants as faults
 use Rattle.board_words.specs.Lines.{text_lines}
 use Rattle.board_stated.specs.TextOf.{board_of_text, board_unless, fault_of_lines, with_lines, whole, longest_text}
-use Rattle.board_stated.specs.ToPlay.{board_to_play, only_built, can_be_played}
 use Rattle.board_words.specs.declared.faults.BoardFault.{BoardFault}
 use Rattle.irq_top.specs.declared.inputs.InputRefused.TheVariants as refusals
 use Rattle.irq_top.specs.Reading.{IsStated, ReadsBoard}
@@ -25,9 +24,6 @@ too_long : (bytes : List ℕ) → longest_text < length bytes → board_of_text 
 too_long bytes h =
     first_of (nat_lt longest_text (length bytes)) (Err (whole faults.TooLong)) (board_unless (fault_of_lines (text_lines bytes)) (with_lines [] (text_lines bytes))) (is_longer bytes h)
 
-cut_short : (bytes : List ℕ) → longest_text < length bytes → board_to_play bytes ≡ Err (whole faults.TooLong)
-cut_short bytes h = ap (only_built (can_be_played bytes)) (too_long bytes h)
-
 at_most : (m n : ℕ) → nat_lt n m ≡ false → m ≤ n
 at_most m n h = grind (arith, nat_tests)
 
@@ -42,34 +38,34 @@ differ : (b : BoardSeen) (fault : BoardFault) → ◌≡◌ {A = Result BoardSee
 differ b fault h = cc
 
 -- the text of a board isn't too long
-short : (bytes : List ℕ) (b : BoardSeen) → board_to_play bytes ≡ Ok b → length bytes ≤ longest_text
+short : (bytes : List ℕ) (b : BoardSeen) → board_of_text bytes ≡ Ok b → length bytes ≤ longest_text
 short bytes b states = by_size (within_or_not (length bytes) longest_text)
   where
     by_size : (length bytes ≤ longest_text) ⊎ (longest_text < length bytes) → length bytes ≤ longest_text
     by_size (inl few) = few
-    by_size (inr many) = absurd (differ b (whole faults.TooLong) (sym states ∙ cut_short bytes many))
+    by_size (inr many) = absurd (differ b (whole faults.TooLong) (sym states ∙ too_long bytes many))
 
 -- what was cut one byte past the longest text states the same as the whole
-pub cut_states : (bytes : List ℕ) → board_to_play (take (longest_text + 1) bytes) ≡ board_to_play bytes
+pub cut_states : (bytes : List ℕ) → board_of_text (take (longest_text + 1) bytes) ≡ board_of_text bytes
 cut_states bytes = by_size (within_or_not (length bytes) (longest_text + 1))
   where
-    by_size : (length bytes ≤ longest_text + 1) ⊎ (longest_text + 1 < length bytes) → board_to_play (take (longest_text + 1) bytes) ≡ board_to_play bytes
-    by_size (inl few) = ap board_to_play (take_all (longest_text + 1) bytes few)
+    by_size : (length bytes ≤ longest_text + 1) ⊎ (longest_text + 1 < length bytes) → board_of_text (take (longest_text + 1) bytes) ≡ board_of_text bytes
+    by_size (inl few) = ap board_of_text (take_all (longest_text + 1) bytes few)
     by_size (inr many) =
         let cut : longest_text < length (take (longest_text + 1) bytes) = omega (arith, length-take (longest_text + 1) bytes, many) in
         let all : longest_text < length bytes = omega (arith, many) in
-        cut_short (take (longest_text + 1) bytes) cut ∙ sym (cut_short bytes all)
+        too_long (take (longest_text + 1) bytes) cut ∙ sym (too_long bytes all)
 
-pub content : (before now : Option (List ℕ)) (text : List ℕ) (b : BoardSeen) → TakesUpTo (longest_text + 1) before now text → board_to_play text ≡ Ok b → ReadsBoard before now (Ok b)
+pub content : (before now : Option (List ℕ)) (text : List ℕ) (b : BoardSeen) → TakesUpTo (longest_text + 1) before now text → board_of_text text ≡ Ok b → ReadsBoard before now (Ok b)
 content None now text b read states = tt
 content (Some bytes) now text b read states =
-    let of_all : board_to_play bytes ≡ Ok b = sym (cut_states bytes) ∙ (ap board_to_play (sym read.0) ∙ states) in
+    let of_all : board_of_text bytes ≡ Ok b = sym (cut_states bytes) ∙ (ap board_of_text (sym read.0) ∙ states) in
     (of_all, read.1 ∙ ap Some (drop_all (longest_text + 1) bytes (omega (arith, short bytes b of_all))))
 
-pub refused : (before now : Option (List ℕ)) (text : List ℕ) (fault : BoardFault) → TakesUpTo (longest_text + 1) before now text → board_to_play text ≡ Err fault → ReadsBoard before now (Err (refusals.Fault fault))
+pub refused : (before now : Option (List ℕ)) (text : List ℕ) (fault : BoardFault) → TakesUpTo (longest_text + 1) before now text → board_of_text text ≡ Err fault → ReadsBoard before now (Err (refusals.Fault fault))
 refused None now text fault read states = tt
-refused (Some bytes) now text fault read states = (sym (cut_states bytes) ∙ (ap board_to_play (sym read.0) ∙ states), read.1)
+refused (Some bytes) now text fault read states = (sym (cut_states bytes) ∙ (ap board_of_text (sym read.0) ∙ states), read.1)
 
-pub stated : (before now : Option (List ℕ)) (text : List ℕ) (b : BoardSeen) → TakesUpTo (longest_text + 1) before now text → board_to_play text ≡ Ok b → IsStated before b
+pub stated : (before now : Option (List ℕ)) (text : List ℕ) (b : BoardSeen) → TakesUpTo (longest_text + 1) before now text → board_of_text text ≡ Ok b → IsStated before b
 stated None now text b read states = record { text = text; as_told = tt; states = states }
-stated (Some bytes) now text b read states = record { text = bytes; as_told = refl; states = sym (cut_states bytes) ∙ (ap board_to_play (sym read.0) ∙ states) }
+stated (Some bytes) now text b read states = record { text = bytes; as_told = refl; states = sym (cut_states bytes) ∙ (ap board_of_text (sym read.0) ∙ states) }

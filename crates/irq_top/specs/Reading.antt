@@ -1,8 +1,8 @@
 -- What reading a board comes to.
 use Rattle.std.specs.Prelude.{◌≡◌, ℕ, ◌+◌, Bool, true, false, Option, Some, None, List, [], drop, Result, Ok, Err}
 use Rattle.board_def.specs.Seen.{BoardSeen}
-use Rattle.board_stated.specs.TextOf.{longest_text}
-use Rattle.board_stated.specs.ToPlay.{board_to_play}
+use Rattle.irq_io.specs.Told.{IsTold}
+use Rattle.board_stated.specs.TextOf.{board_of_text, longest_text}
 use Rattle.irq_top.specs.declared.inputs.InputRefused.{InputRefused}
 use Rattle.irq_top.specs.declared.inputs.InputRefused.TheVariants as refusals
 
@@ -16,19 +16,14 @@ is_read_fault (Err refusals.ReadFault) = true
 is_read_fault _ = false
 
 -- where the source tells what is left: a board comes of the bytes that state it, which were read to their end; the
--- bytes are refused for the fault that they have
+-- bytes are refused for the fault that they have, and were read to their end or one byte past the longest text
 abbrev pub ReadsBoard : Option (List ℕ) → Option (List ℕ) → Result BoardSeen InputRefused → Type 0
-ReadsBoard (Some bytes) now (Ok board) = (board_to_play bytes ≡ Ok board) × (now ≡ Some [])
-ReadsBoard (Some bytes) now (Err (refusals.Fault fault)) = (board_to_play bytes ≡ Err fault) × (now ≡ Some (left_after bytes))
+ReadsBoard (Some bytes) now (Ok board) = (board_of_text bytes ≡ Ok board) × (now ≡ Some [])
+ReadsBoard (Some bytes) now (Err (refusals.Fault fault)) = (board_of_text bytes ≡ Err fault) × (now ≡ Some (left_after bytes))
 ReadsBoard _ _ _ = Unit {0}
-
--- the text is what the source told, where it told
-abbrev pub IsTold : Option (List ℕ) → List ℕ → Type 0
-IsTold None text = Unit {0}
-IsTold (Some bytes) text = bytes ≡ text
 
 -- the board is stated by a text, which is what the source told
 pub record IsStated (told : Option (List ℕ)) (board : BoardSeen) : Type 0 where
   pub text : List ℕ
   pub as_told : IsTold told text
-  pub states : board_to_play text ≡ Ok board
+  pub states : board_of_text text ≡ Ok board

@@ -5,15 +5,21 @@ ghost use Rattle.irq_top.specs.Ending.{status_of};
 use crate::inputs::InputRefused;
 use board_text::BoardFault;
 use irq_base::LineNo;
+use irq_check::{Answer, CheckEnd};
+use irq_play::PlayedEnd;
 
 /// How the work ended.
 #[derive(Clone, Copy, PartialEq, Eq)]
 pub enum Ending {
-    /// The work was done, and all of it is printed.
+    /// The work was done, and all of it is printed; a log that was checked is lawful.
     Done,
+    /// The log that was checked isn't lawful: this entry of this line, counted from 1, is the first that wasn't due.
+    Unlawful { line: LineNo, entry: u32 },
+    /// The log that was checked can't be read: this row, counted from 1, is the first malformed one.
+    Malformed { row: u32 },
     /// The words of the command line are none of the forms.
     Usage,
-    /// The input isn't the text of a board: its first fault.
+    /// The input is refused: its first fault.
     Board(BoardFault),
     /// A read failed.
     ReadFault,
@@ -26,12 +32,13 @@ pub enum Ending {
 }
 
 impl Ending {
-    /// The exit status: 0, or 2 to 7.
+    /// The exit status: 0 to 7.
     pub fn status(self) -> u8
         ensures { result ≡ status_of self }
     {
         match self {
             Ending::Done => 0,
+            Ending::Unlawful { .. } | Ending::Malformed { .. } => 1,
             Ending::Usage => 2,
             Ending::Board(_) => 3,
             Ending::ReadFault => 4,
@@ -53,6 +60,44 @@ impl From<InputRefused> for Ending {
             InputRefused::Fault(fault) => Ending::Board(fault),
             InputRefused::ReadFault => Ending::ReadFault,
             InputRefused::NoMemory => Ending::NoMemory,
+        }
+    }
+}
+
+impl From<PlayedEnd> for Ending {
+    ghost use Rattle.std.specs.Prelude.{◌≡◌};
+    ghost use Rattle.irq_top.specs.Ending.{ending_of_play};
+
+    ghost from_gives = { λ end ending. ending ≡ ending_of_play end };
+
+    fn from(end: PlayedEnd) -> Ending {
+        match end {
+            PlayedEnd::Done => Ending::Done,
+            PlayedEnd::WriteFault => Ending::WriteFault,
+            PlayedEnd::LogFull { line, len } => Ending::LogFull { line, len },
+            PlayedEnd::NoMemory => Ending::NoMemory,
+        }
+    }
+}
+
+impl From<CheckEnd> for Ending {
+    ghost use Rattle.std.specs.Prelude.{◌≡◌};
+    ghost use Rattle.irq_top.specs.Ending.{ending_of_check};
+
+    ghost from_gives = { λ end ending. ending ≡ ending_of_check end };
+
+    fn from(end: CheckEnd) -> Ending {
+        match end {
+            CheckEnd::Answered(Answer::Lawful) => Ending::Done,
+            CheckEnd::Answered(Answer::Unlawful { line, entry }) => Ending::Unlawful {
+                line,
+                entry,
+            },
+            CheckEnd::Answered(Answer::Malformed { row }) => Ending::Malformed { row },
+            CheckEnd::Fault(fault) => Ending::Board(fault),
+            CheckEnd::ReadFault => Ending::ReadFault,
+            CheckEnd::WriteFault => Ending::WriteFault,
+            CheckEnd::NoMemory => Ending::NoMemory,
         }
     }
 }

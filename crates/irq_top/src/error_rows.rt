@@ -7,13 +7,13 @@ use board_text::BoardFault;
 use irq_base::LineNo;
 use text_row::TextRow;
 
-/// Writes the row that says how the call ended, empty where the work was done. What the row held before is gone.
+/// Writes the row that says how the call ended, empty where the work was done or a log refused. What the row held before is gone.
 pub fn error_row(row: &mut TextRow, ending: Ending)
     ensures { row.new ≡ error_text ending }
 {
     row.clear();
     match ending {
-        Ending::Done => {}
+        Ending::Done | Ending::Unlawful { .. } | Ending::Malformed { .. } => {}
         Ending::Usage => {
             row.push_bytes(b"usage: genirq run [--summary] | play [--summary] | check | gen N\n");
         }

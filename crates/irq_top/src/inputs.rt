@@ -1,11 +1,10 @@
 //! Reading a board from a source.
 ghost use Rattle.std.specs.Prelude.{IfOk};
 ghost use Rattle.irq_io.specs.Faults.{Counts};
-ghost use Rattle.board_stated.specs.BuiltBoard.{IsBuiltBoard};
 ghost use Rattle.irq_top.specs.Reading.{IsStated, ReadsBoard, is_read_fault};
 
 use board_def::Board;
-use board_text::{BoardFault, BoardRefused, LONGEST_TEXT, read_board_to_play};
+use board_text::{BoardFault, BoardRefused, LONGEST_TEXT, read_board};
 use irq_io::{ReadRefused, Source, read_up_to};
 use std::alloc::Global;
 use thiserror::Error;
@@ -24,12 +23,10 @@ pub enum InputRefused {
     NoMemory,
 }
 
-/// Reads the source to its end, or one byte past the longest text, and gives the board that the bytes state, if it can
-/// be played yet.
+/// Reads the source to its end, or one byte past the longest text, and gives the board that the bytes state.
 pub fn read_input<S: Source>(alloc: Global, src: &mut S) -> Result<Board, InputRefused>
     ensures content { ReadsBoard (S.left src.old) (S.left src.new) result }
     ensures stated { IfOk result (λ board. IsStated (S.left src.old) board) }
-    ensures built { IfOk result IsBuiltBoard }
     ensures cause { Counts (S.faults src.old) (S.faults src.new) (is_read_fault result) }
 {
     let bytes = match read_up_to(alloc, src, LONGEST_TEXT + 1) {
@@ -37,7 +34,7 @@ pub fn read_input<S: Source>(alloc: Global, src: &mut S) -> Result<Board, InputR
         Err(ReadRefused::Fault) => return Err(InputRefused::ReadFault),
         Err(ReadRefused::NoMemory) => return Err(InputRefused::NoMemory),
     };
-    match read_board_to_play(alloc, bytes.as_slice()) {
+    match read_board(alloc, bytes.as_slice()) {
         Ok(board) => Ok(board),
         Err(BoardRefused::Fault(fault)) => Err(InputRefused::Fault(fault)),
         Err(BoardRefused::NoMemory) => Err(InputRefused::NoMemory),

@@ -1,19 +1,23 @@
 //! The top call: from the words of the command line and the bytes of a source to the rows of a sink.
 //!
-//! So far it plays boards of one line: an edge line over a latch, of one processor, with at most one direct device,
-//! which drivers request, free and ask of. A board of another kind is refused as not built yet.
+//! `irq_main` does what the words ask for: it plays a board, checks a log, or plays a board that is made from a number.
+//! What each command comes to, ending by ending, is `specs/Commands.antt`; what is promised of a play is
+//! `irq_play/specs/Headline.antt`, and of a check `irq_check/specs/Checked.antt`.
 #![tactic(auto)]
 
+mod commands;
 pub mod ending;
 pub mod error_rows;
 pub mod inputs;
-pub mod playing;
-pub mod printing;
+pub mod outcome;
 pub mod top;
 
 pub use ending::Ending;
 pub use inputs::InputRefused;
-pub use top::{Outcome, end_early, irq_main};
+pub use outcome::Outcome;
+pub use top::{end_early, irq_main};
 
+#[cfg(test)]
+mod calls;
 #[cfg(test)]
 mod tests;

@@ -1,6 +1,8 @@
 //! The top call over ends in memory. The texts and rows are written by hand.
+use crate::calls::{CALLS, MACHINE, OF_TWO_LINES};
 use crate::top::irq_main;
-use irq_base::NoMemory;
+use callbacks::{ByKind, Callbacks};
+use irq_base::{NoMemory, Reports};
 use irq_io::{MemSink, MemSource};
 use std::alloc::Global;
 use std::test::Fail;
@@ -46,7 +48,7 @@ struct Ends {
 
 const SOUND: Ends = Ends {
     piece: 10,
-    room: 1_000,
+    room: 10_000,
     read: 0,
     write: 0,
     flush: 0,
@@ -57,7 +59,7 @@ const SOUND: Ends = Ends {
 #[derive(Drop)]
 struct Seen {
     status: u8,
-    /// How many entries its first report has, where it has one.
+    /// How many entries its reports have together, where it has some.
     entries: Option<usize>,
     out: Vec<u8>,
     err: Vec<u8>,
@@ -70,14 +72,29 @@ impl Seen {
     }
 }
 
+/// How many entries the reports have together.
+fn entries_of(reports: &Reports) -> Option<usize> {
+    if reports.is_empty() {
+        return None;
+    }
+    let mut entries: usize = 0;
+    for i in 0..reports.len() {
+        if let Some(report) = reports.get(i) {
+            entries = entries.saturating_add(report.history.len());
+        }
+    }
+    Some(entries)
+}
+
 fn call(alloc: Global, words: &[&str], text: &[u8], ends: Ends) -> Result<Seen, NoMemory> {
     let mut src = MemSource::new(alloc, text, ends.piece.max(1), &[ends.read])?;
     let mut out = MemSink::with_failing_flushes(alloc, &[ends.write], &[ends.flush], ends.room)?;
     let mut err = MemSink::new(alloc, &[ends.error], 100)?;
-    let outcome = irq_main(alloc, words, &mut src, &mut out, &mut err);
+    let handlers = Callbacks::new(ByKind);
+    let outcome = irq_main(alloc, words, &mut src, &mut out, &mut err, &handlers);
     Ok(Seen {
         status: outcome.ending.status(),
-        entries: outcome.reports.get(0).map(|report| report.history.len()),
+        entries: entries_of(&outcome.reports),
         out: Vec::from_slice(alloc, out.written())?,
         err: Vec::from_slice(alloc, err.written())?,
     })
@@ -87,153 +104,61 @@ fn play(alloc: Global, text: &[u8], ends: Ends) -> Result<Seen, NoMemory> {
     call(alloc, &["play"], text, ends)
 }
 
-/// Boards and what playing them prints, each from a row `play` on: the rows of the board are set off by `> `, that on
-/// the error sink by `! `, and the last says the status and how many entries the report has, with a dash for none.
-const PLAYS: &str = "\
-play: nothing is declared on the line
-> board 1
-> log 10
-> domain intc linear 4 latch
-> line 1 intc 2
-# irq 1 virq 1 intc:2
-status 0 0
-play: two edges become one interrupt
-> board 1
-> log 10
-> domain intc linear 4 latch
-> line 1 intc 2
-> device 1 1 direct
-> driver 1
-> request 1
-> ask 1
-> ask 1
-> picks d1*3
-# irq 1 virq 1 intc:2
-1 d1 request 1 - linked started no
-1 d1 ask 1
-1 d1 ask 1
-1 c0 take line handle
-1 c0 begin 1
-1 c0 return 1 handled 2
-1 c0 end leave asis quiet
-status 0 7
-play: a second driver asks before the request, and the edge is stored
-> board 1
-> log 10
-> domain intc linear 4 latch
-> line 1 intc 2
-> device 1 1 direct
-> driver 1
-> request 1
-> driver 2
-> ask 1
-> ask 1
-> picks d2*2
-# irq 1 virq 1 intc:2
-1 d2 ask 1
-1 d2 ask 1
-1 d1 request 1 - linked started no
-1 c0 take line handle
-1 c0 begin 1
-1 c0 return 1 handled 2
-1 c0 end leave asis quiet
-status 0 7
-play: the device is requested again, after an edge that came while it wasn't linked
-> board 1
-> log 10
-> domain intc linear 4 latch
-> line 1 intc 2
-> device 1 1 direct
-> driver 1
-> request 1
-> free 1
-> request 1
-> driver 2
-> ask 1
-> picks d1*4 c0 d2
-# irq 1 virq 1 intc:2
-1 d1 request 1 - linked started no
-1 d1 unlink 1 last
-1 d1 hardclear
-1 d1 freed 1
-1 d2 ask 1
-1 d1 request 1 - linked started no
-1 c0 take line handle
-1 c0 begin 1
-1 c0 return 1 handled 1
-1 c0 end leave asis quiet
-status 0 10
-play: a free finds nothing
-> board 1
-> log 10
-> domain intc linear 4 latch
-> line 7 intc 0
-> device 9 7 direct
-> driver 4
-> free 9
-> request 9
-> ask 9
-# irq 7 virq 1 intc:0
-7 d4 unlink 9 notthere
-7 d4 request 9 - linked started no
-7 d4 ask 9
-7 c0 take line handle
-7 c0 begin 9
-7 c0 return 9 handled 1
-7 c0 end leave asis quiet
-status 0 7
-play: a full log is told, and nothing is printed
-> board 1
-> log 5
-> domain intc linear 4 latch
-> line 7 intc 2
-> device 1 7 direct
-> driver 1
-> request 1
-> ask 1
-> free 1
-! log full: line 7 at 5 entries
-status 6 5
-play: the last number isn't one of the domain's
-> board 1
-> log 10
-> domain intc linear 4 latch
-> line 1 intc 4
-! board: line 0: not built yet
-status 3 -
-play: a fault of a text line
-> board 1
-> log 10
-> domain intc linear 4 latch
-> line 1 intc 2
-> device 1 2 direct
-! board: line 5: not there
-status 3 -
-play: two processors
-> board 1
-> cpus 2
-> domain intc linear 4 latch
-> line 1 intc 2
-> device 1 1 direct
-> driver 1
-> request 1
-> ask 1
-> ask 1
-> picks d1*3
-! board: line 0: not built yet
-status 3 -
-play: an empty text
-! board: line 1: no header
-status 3 -
-";
-
 fn add_row(rows: &mut String, row: &str) -> Result<(), Fail> {
     rows.push_str(row)?;
     rows.push('\n')?;
     Ok(())
 }
 
-/// The status and the number of entries, as the last row of a play says them.
+/// A call of the table.
+#[derive(Drop)]
+struct Case {
+    words: String,
+    text: String,
+    out: String,
+    err: String,
+}
+
+impl Case {
+    /// The call of the words before the colon.
+    fn new(alloc: Global, head: &str) -> Result<Case, Fail> {
+        let (words, _) = head.split_once(':').ok_or("a call without words")?;
+        Ok(Case {
+            words: String::from_str(alloc, words)?,
+            text: String::new(alloc),
+            out: String::new(alloc),
+            err: String::new(alloc),
+        })
+    }
+
+    /// Takes a row of the input, of the error sink or of the output.
+    fn add(&mut self, row: &str) -> Result<(), Fail> {
+        if let Some(row) = row.strip_prefix("> ") {
+            add_row(&mut self.text, row)
+        } else if let Some(row) = row.strip_prefix("! ") {
+            add_row(&mut self.err, row)
+        } else {
+            add_row(&mut self.out, row)
+        }
+    }
+
+    /// Whether the call comes to what is written, and ends so; and where a play is printed, whether its log is lawful.
+    fn is_met(&self, alloc: Global, end: &str) -> Result<bool, Fail> {
+        let words: Vec<&str> = self.words.as_str().split(' ').collect(alloc)?;
+        let seen = call(alloc, &words, self.text.as_bytes(), SOUND)?;
+        let is_told = seen.out.as_slice() == self.out.as_bytes()
+            && seen.err.as_slice() == self.err.as_bytes();
+        let is_ended = ended(alloc, &seen)?.as_str() == end;
+        let is_log = self.words.as_str() == "play" && seen.status == 0;
+        Ok(
+            is_told
+                && is_ended
+                && (!is_log || is_lawful(alloc, self.text.as_bytes(), self.out.as_bytes())?),
+        )
+    }
+}
+
+/// The status and the number of entries, as the last row of a call says them.
 fn ended(alloc: Global, seen: &Seen) -> Result<String, Fail> {
     let status = seen.status;
     match seen.entries {
@@ -242,30 +167,77 @@ fn ended(alloc: Global, seen: &Seen) -> Result<String, Fail> {
     }
 }
 
+/// Whether the log of the board is lawful.
+fn is_lawful(alloc: Global, board: &[u8], log: &[u8]) -> Result<bool, Fail> {
+    let mut input = Vec::from_slice(alloc, board)?;
+    input.extend_from_slice(b"---\n")?;
+    input.extend_from_slice(log)?;
+    let seen = call(alloc, &["check"], &input, SOUND)?;
+    Ok(seen.is(0, None, b"lawful\n", b""))
+}
+
 #[test]
-fn boards_by_hand(rt: HostRuntime) -> Result<(), Fail> {
+fn calls_by_hand(rt: HostRuntime) -> Result<(), Fail> {
     let alloc = rt.alloc();
-    let mut text = String::new(alloc);
-    let mut out = String::new(alloc);
-    let mut err = String::new(alloc);
-    for row in PLAYS.lines() {
-        if row.starts_with("play") {
-            text = String::new(alloc);
-            out = String::new(alloc);
-            err = String::new(alloc);
+    let mut case = Case::new(alloc, "play: nothing yet")?;
+    for row in CALLS.lines() {
+        if let Some(head) = row.strip_prefix("$ ") {
+            case = Case::new(alloc, head)?;
         } else if let Some(end) = row.strip_prefix("status ") {
-            let seen = play(alloc, text.as_bytes(), SOUND)?;
-            let is_told = seen.out.as_slice() == out.as_bytes()
-                && seen.err.as_slice() == err.as_bytes();
-            let is_ended = ended(alloc, &seen)?.as_str() == end;
-            assert!(rt; is_told && is_ended, "{}", text.as_str());
-        } else if let Some(line) = row.strip_prefix("> ") {
-            add_row(&mut text, line)?;
-        } else if let Some(fault) = row.strip_prefix("! ") {
-            add_row(&mut err, fault)?;
+            assert!(rt; case.is_met(alloc, end)?, "{}", case.text.as_str());
         } else {
-            add_row(&mut out, row)?;
+            case.add(row)?;
         }
+    }
+    Ok(())
+}
+
+/// The rows of the lines 2 and 6.
+fn of_two_lines(alloc: Global, log: &[u8]) -> Result<Vec<u8>, Fail> {
+    let mut rows = Vec::new(alloc);
+    for line in [b"2 ", b"6 "] {
+        for row in log.split(|b| *b == b'\n') {
+            if row.starts_with(line.as_slice()) {
+                rows.extend_from_slice(row)?;
+                rows.push(b'\n')?;
+            }
+        }
+    }
+    Ok(rows)
+}
+
+#[test]
+fn a_machine(rt: HostRuntime) -> Result<(), Fail> {
+    let alloc = rt.alloc();
+    let seen = play(alloc, MACHINE.as_bytes(), SOUND)?;
+    assert!(rt; seen.status == 0 && seen.entries == Some(151));
+    assert!(rt; of_two_lines(alloc, &seen.out)?.as_slice() == OF_TWO_LINES.as_bytes());
+    assert!(rt; is_lawful(alloc, MACHINE.as_bytes(), &seen.out)?);
+    Ok(())
+}
+
+/// The rows of the first two lines of the board that 0 generates.
+const OF_ZERO: [&str; 4] = [
+    "# irq 1 virq 1 latch:0",
+    "# irq 2 virq 2 level:1",
+    "line 1 entries 1988 asks 220 takes 220 runs 220 threads 220 served 220 stopped",
+    "line 2 entries 1151 asks 127 takes 127 runs 127 threads 127 served 127 stopped",
+];
+
+#[test]
+fn a_generated_board(rt: HostRuntime) -> Result<(), Fail> {
+    let alloc = rt.alloc();
+    let first = call(alloc, &["gen", "0"], b"", SOUND)?;
+    let again = call(alloc, &["gen", "0"], b"not a board", SOUND)?;
+    assert!(rt; first.is(0, again.entries, &again.out, b""));
+    for row in OF_ZERO {
+        assert!(rt;
+            first
+                .out
+                .split(|b| *b == b'\n')
+                .any(|other| other == row.as_bytes()),
+            "{row}"
+        );
     }
     Ok(())
 }
@@ -273,7 +245,7 @@ fn boards_by_hand(rt: HostRuntime) -> Result<(), Fail> {
 #[test]
 fn words(rt: HostRuntime) -> Result<(), Fail> {
     let alloc = rt.alloc();
-    for form in ["play now", "", "run", "plays"] {
+    for form in ["play now", "", "run", "plays", "gen 07", "check --summary"] {
         let words: Vec<&str> = form.split_whitespace().collect(alloc)?;
         let seen = call(alloc, &words, BOARD.as_bytes(), SOUND)?;
         assert!(rt; seen.is(2, None, b"", USAGE.as_bytes()), "{form}");
@@ -321,6 +293,35 @@ fn many_asks(rt: HostRuntime) -> Result<(), Fail> {
     Ok(())
 }
 
+/// A line has at most 64 one-shot actions.
+#[test]
+fn many_devices(rt: HostRuntime) -> Result<(), Fail> {
+    let alloc = rt.alloc();
+    let mut text = String::from_str(
+        alloc,
+        "board 1\ndomain intc linear 4 latch\nline 1 intc 2\n",
+    )?;
+    for dev in 1..=65 {
+        add_row(
+            &mut text,
+            format!(in alloc; "device {dev} 1 direct")?.as_str(),
+        )?;
+    }
+    add_row(&mut text, "driver 1")?;
+    for dev in 1..=65 {
+        add_row(
+            &mut text,
+            format!(in alloc; "request {dev} shared oneshot")?.as_str(),
+        )?;
+    }
+    let seen = play(alloc, text.as_bytes(), SOUND)?;
+    assert!(rt; seen.status == 0 && seen.entries == Some(65));
+    assert!(rt;
+        seen.out.ends_with(b"1 d1 request 64 so linked no\n1 d1 request 65 so refused 16\n")
+    );
+    Ok(())
+}
+
 #[test]
 fn pieces_and_failing_reads(rt: HostRuntime) -> Result<(), Fail> {
     let alloc = rt.alloc();
@@ -330,8 +331,14 @@ fn pieces_and_failing_reads(rt: HostRuntime) -> Result<(), Fail> {
         assert!(rt; seen.is(0, Some(9), LOG.as_bytes(), b""), "piece {piece}");
     }
     for read in 1..=11 {
-        let seen = play(alloc, BOARD.as_bytes(), Ends { read, ..SOUND })?;
-        assert!(rt; seen.is(4, None, b"", b"read fault\n"), "read {read}");
+        let ends = Ends { read, ..SOUND };
+        for word in ["play", "check"] {
+            let seen = call(alloc, &[word], BOARD.as_bytes(), ends)?;
+            assert!(rt;
+                seen.is(4, None, b"", b"read fault\n"),
+                "{word}, read {read}"
+            );
+        }
     }
     Ok(())
 }
@@ -356,5 +363,12 @@ fn failing_writes(rt: HostRuntime) -> Result<(), Fail> {
     let full = play(alloc, BOARD.as_bytes(), Ends { room: 30, ..SOUND })?;
     let out = LOG.as_bytes().get(..30).ok_or("a short log")?;
     assert!(rt; full.is(5, Some(9), out, b"write fault\n"));
+    let checked = call(
+        alloc,
+        &["check"],
+        b"board 1\n---\n",
+        Ends { room: 3, ..SOUND },
+    )?;
+    assert!(rt; checked.is(5, None, b"law", b"write fault\n"));
     Ok(())
 }

@@ -1,0 +1,76 @@
+-- What each command comes to, ending by ending. `told` is what the source told of its bytes, `left` what it has left of
+-- them; `before` and `now` are what the output has; `reports` are the histories that are handed out.
+use Rattle.std.specs.Prelude.{◌≡◌, ℕ, Bool, true, Option, Some, None, Err, List, []}
+use Rattle.irq_base.specs.declared.reporting.LineReport.{LineReport}
+use Rattle.board_def.specs.Rules.{IsBoard}
+use Rattle.board_def.specs.Seen.{BoardSeen}
+use Rattle.board_gen.specs.Generated.{generated}
+use Rattle.irq_check.specs.Ends.{Reads, SaysOrNot}
+use Rattle.irq_check.specs.declared.answers.Answer.TheVariants as answers
+use Rattle.irq_check.specs.declared.printing.CheckEnd.{CheckEnd}
+use Rattle.irq_check.specs.declared.printing.CheckEnd.TheVariants as checks
+use Rattle.irq_play.specs.Played.{PlaysBoard}
+use Rattle.irq_play.specs.declared.ending.PlayedEnd.TheVariants as plays
+use Rattle.irq_top.specs.Reading.{IsStated, ReadsBoard}
+use Rattle.irq_top.specs.declared.inputs.InputRefused.{InputRefused}
+use Rattle.irq_top.specs.declared.inputs.InputRefused.TheVariants as refusals
+use Rattle.irq_top.specs.declared.ending.Ending.{Ending}
+use Rattle.irq_top.specs.declared.ending.Ending.TheVariants as endings
+
+-- a board was played: as the headline says where all is printed and after a fault of the output, and else until a log
+-- was full
+abbrev pub PlaysAs : BoardSeen → Bool → List LineReport → Option (List ℕ) → Option (List ℕ) → Ending → Type 0
+PlaysAs b summary reports before now endings.Done = PlaysBoard b summary reports before now plays.Done
+PlaysAs b summary reports before now endings.WriteFault = PlaysBoard b summary reports before now plays.WriteFault
+PlaysAs b summary reports before now (endings.LogFull line len) = PlaysBoard b summary reports before now (plays.LogFull line len)
+PlaysAs b summary reports before now endings.NoMemory = reports ≡ []
+PlaysAs b summary reports before now _ = ⊥
+
+-- where the source told its bytes, all of them were read
+abbrev pub IsReadToEnd : Option (List ℕ) → Option (List ℕ) → Type 0
+IsReadToEnd None left = Unit {0}
+IsReadToEnd (Some bytes) left = left ≡ Some []
+
+-- the board that the source told was played
+pub record PlaysInput (summary : Bool) (told left : Option (List ℕ)) (reports : List LineReport) (before now : Option (List ℕ)) (ending : Ending) : Type 0 where
+  pub board : BoardSeen
+  pub stated : IsStated told board
+  pub read : IsReadToEnd told left
+  pub keeps_rules : IsBoard board
+  pub played : PlaysAs board summary reports before now ending
+
+-- the source gave no board
+pub record RefusesInput (told left : Option (List ℕ)) (reports : List LineReport) (refused : InputRefused) : Type 0 where
+  pub read : ReadsBoard told left (Err refused)
+  pub reports_are : reports ≡ []
+
+-- `play`: the board is played; or the source gave none; want of memory is free
+abbrev pub Plays : Bool → Option (List ℕ) → Option (List ℕ) → List LineReport → Option (List ℕ) → Option (List ℕ) → Ending → Type 0
+Plays summary told left reports before now endings.Done = PlaysInput summary told left reports before now endings.Done
+Plays summary told left reports before now endings.WriteFault = PlaysInput summary told left reports before now endings.WriteFault
+Plays summary told left reports before now (endings.LogFull line len) = PlaysInput summary told left reports before now (endings.LogFull line len)
+Plays summary told left reports before now (endings.Board fault) = RefusesInput told left reports (refusals.Fault fault)
+Plays summary told left reports before now endings.ReadFault = RefusesInput told left reports refusals.ReadFault
+Plays summary told left reports before now endings.NoMemory = reports ≡ []
+Plays summary told left reports before now _ = ⊥
+
+-- the input was checked, with that end, and no history is handed out
+pub record ChecksInput (told left : Option (List ℕ)) (reports : List LineReport) (before now : Option (List ℕ)) (end : CheckEnd) : Type 0 where
+  pub reads : Reads told left end
+  pub says : SaysOrNot told before now end
+  pub reports_are : reports ≡ []
+
+-- `check`: the log of the input is lawful; or unlawful, or malformed, as told; or the input is refused
+abbrev pub Checks : Option (List ℕ) → Option (List ℕ) → List LineReport → Option (List ℕ) → Option (List ℕ) → Ending → Type 0
+Checks told left reports before now endings.Done = ChecksInput told left reports before now (checks.Answered answers.Lawful)
+Checks told left reports before now (endings.Unlawful line entry) = ChecksInput told left reports before now (checks.Answered (answers.Unlawful line entry))
+Checks told left reports before now (endings.Malformed row) = ChecksInput told left reports before now (checks.Answered (answers.Malformed row))
+Checks told left reports before now endings.WriteFault = ChecksInput told left reports before now checks.WriteFault
+Checks told left reports before now (endings.Board fault) = ChecksInput told left reports before now (checks.Fault fault)
+Checks told left reports before now endings.ReadFault = ChecksInput told left reports before now checks.ReadFault
+Checks told left reports before now endings.NoMemory = reports ≡ []
+Checks told left reports before now _ = ⊥
+
+-- `gen N`: the board of that number is played, and summed up
+abbrev pub Generates : ℕ → List LineReport → Option (List ℕ) → Option (List ℕ) → Ending → Type 0
+Generates n reports before now ending = PlaysAs (generated n) true reports before now ending

@@ -1,0 +1,93 @@
+//! What each command does, but for the row on the error sink.
+ghost use Rattle.std.specs.Prelude.{◌≡◌, [], false, true};
+ghost use Rattle.irq_io.specs.Faults.{Counts};
+ghost use Rattle.irq_top.specs.Commands.{Checks, Generates, Plays, PlaysAs};
+ghost use Rattle.irq_top.specs.Ending.{is_printed, is_printing, is_read_fault_end, is_write_fault_end};
+
+use crate::ending::Ending;
+use crate::inputs::read_input;
+use crate::outcome::Outcome;
+use board_def::Board;
+use board_gen::generate;
+use callbacks::{Callbacks, Handler};
+use irq_base::NoMemory;
+use irq_check::check_and_print;
+use irq_io::{Sink, Source};
+use irq_play::play_and_print;
+use std::alloc::Global;
+
+/// `play`: reads a board, plays it, and prints its log, or a summary.
+pub(crate) fn play<S: Source, O: Sink, H: Handler>(
+    alloc: Global,
+    summary: bool,
+    src: &mut S,
+    out: &mut O,
+    handlers: &Callbacks<H>,
+) -> Outcome
+    ensures plays { Plays summary (S.left src.old) (S.left src.new) result.reports.reports (O.written out.old) (O.written out.new) result.ending }
+    ensures read_fault { Counts (S.faults src.old) (S.faults src.new) (is_read_fault_end result.ending) }
+    ensures handed_on { is_printed result.ending ≡ true → O.handed_on out.new ≡ O.written out.new }
+    ensures emptied { is_printed result.ending ≡ true → O.kept out.new ≡ [] }
+    ensures write_fault { Counts (O.faults out.old) (O.faults out.new) (is_write_fault_end result.ending) }
+    ensures silent { is_printing result.ending ≡ false → out.new ≡ out.old }
+{
+    match read_input(alloc, src) {
+        Ok(board) => {
+            board.is_board();
+            play_board(alloc, &board, summary, out, handlers)
+        }
+        Err(refused) => Outcome::without_reports(alloc, Ending::from(refused)),
+    }
+}
+
+/// `gen N`: makes the board of the number, plays it, and prints its summary.
+pub(crate) fn play_generated<O: Sink, H: Handler>(
+    alloc: Global,
+    n: u32,
+    out: &mut O,
+    handlers: &Callbacks<H>,
+) -> Outcome
+    ensures generates { Generates n result.reports.reports (O.written out.old) (O.written out.new) result.ending }
+    ensures handed_on { is_printed result.ending ≡ true → O.handed_on out.new ≡ O.written out.new }
+    ensures emptied { is_printed result.ending ≡ true → O.kept out.new ≡ [] }
+    ensures write_fault { Counts (O.faults out.old) (O.faults out.new) (is_write_fault_end result.ending) }
+    ensures silent { is_printing result.ending ≡ false → out.new ≡ out.old }
+{
+    match generate(alloc, n) {
+        Ok(board) => play_board(alloc, &board, true, out, handlers),
+        Err(NoMemory) => Outcome::without_reports(alloc, Ending::NoMemory),
+    }
+}
+
+/// Plays the board, and prints its log, or a summary.
+fn play_board<O: Sink, H: Handler>(
+    alloc: Global,
+    board: &Board,
+    summary: bool,
+    out: &mut O,
+    handlers: &Callbacks<H>,
+) -> Outcome
+    ensures plays { PlaysAs board.now summary result.reports.reports (O.written out.old) (O.written out.new) result.ending }
+    ensures handed_on { is_printed result.ending ≡ true → O.handed_on out.new ≡ O.written out.new }
+    ensures emptied { is_printed result.ending ≡ true → O.kept out.new ≡ [] }
+    ensures write_fault { Counts (O.faults out.old) (O.faults out.new) (is_write_fault_end result.ending) }
+    ensures silent { is_printing result.ending ≡ false → out.new ≡ out.old }
+{
+    let played = play_and_print(alloc, board, summary, handlers, out);
+    Outcome {
+        ending: Ending::from(played.end),
+        reports: played.reports,
+    }
+}
+
+/// `check`: reads a board and a log of it, judges the log, and prints what is said of it.
+pub(crate) fn check<S: Source, O: Sink>(alloc: Global, src: &mut S, out: &mut O) -> Outcome
+    ensures checks { Checks (S.left src.old) (S.left src.new) result.reports.reports (O.written out.old) (O.written out.new) result.ending }
+    ensures read_fault { Counts (S.faults src.old) (S.faults src.new) (is_read_fault_end result.ending) }
+    ensures handed_on { is_printed result.ending ≡ true → O.handed_on out.new ≡ O.written out.new }
+    ensures emptied { is_printed result.ending ≡ true → O.kept out.new ≡ [] }
+    ensures write_fault { Counts (O.faults out.old) (O.faults out.new) (is_write_fault_end result.ending) }
+    ensures silent { is_printing result.ending ≡ false → out.new ≡ out.old }
+{
+    Outcome::without_reports(alloc, Ending::from(check_and_print(alloc, src, out)))
+}

@@ -1,6 +1,0 @@
-use Rattle.std.proofs.Common.{◌≡◌, ◌++◌, take}
-use Rattle.line_play.specs.ActorLists.{numbered_threads}
-use Rattle.line_play.proofs.actors.push_threads.Given as goal
-
-abbrev pub invariant-loop-number : goal.invariant-loop-number
-invariant-loop-number l = l.actors.items ≡ l.fn.actors.items ++ numbered_threads l.line (take l.number-index l.devices)

@@ -1,7 +1,0 @@
-pub mod Numbers
-pub mod ActorLists
-pub mod Turning
-pub mod Playing
-pub mod Following
-pub mod Resting
-pub mod Tests
