@@ -15,12 +15,12 @@ use Rattle.board_def.specs.Rules.{IsBoard}
 use Rattle.board_def.specs.Seen.{BoardSeen}
 use Rattle.domain_rules.specs.declared.layouts.Placement.{Placement}
 use Rattle.board_play.specs.Lines.{BoardLine, defs_of}
-use Rattle.board_play.specs.Order.{line_for}
+use Rattle.board_play.specs.Order.{due_on}
 use Rattle.board_ready.specs.Seen.{ReadySeen}
 use Rattle.board_core.specs.Inside.{Parts, seen_of, IsSystem, IsKept}
 use Rattle.board_core.specs.Numbers.{numbers_of_defs, numbers_of_lines}
 use Rattle.board_core.specs.Refreshed.{IsRefreshed}
-use Rattle.board_core.specs.Stands.{IsAt}
+use Rattle.board_core.specs.Stands.{CanStepAt}
 use Rattle.board_core.specs.declared.stands.Stand.{Stand}
 use Rattle.board_core.specs.Places.{SteppedAt}
 use Rattle.board_core.specs.Scripts.{ScriptSeen, advanced}
@@ -84,13 +84,13 @@ as_many_scripts scripts (Some j) (Ok (Some e)) = by_script (slice_get scripts j)
 -- ---- a step at a stand
 
 module _ {X : Type 0} (f : X → LineSeen) (xs : List X) (board : BoardSeen) (isb : IsBoard board) (layout : List Placement) (order : List ℕ) (scripts : List ScriptSeen) (parts : Parts)
-    (is : IsKept board (map f xs) scripts order parts) (view : SystemSeen) (v : view ≡ seen_of board layout (map f xs) order) (a : Actor) (stand : Stand) (p : IsAt view a stand) where
-  its : IsAt (seen_of board layout (map f xs) order) a stand
-  its = subst (λ (s : SystemSeen). IsAt s a stand) v p
+    (is : IsKept board (map f xs) scripts order parts) (view : SystemSeen) (v : view ≡ seen_of board layout (map f xs) order) (a : Actor) (stand : Stand) (p : CanStepAt view a stand) where
+  its : CanStepAt (seen_of board layout (map f xs) order) a stand
+  its = subst (λ (s : SystemSeen). CanStepAt s a stand) v p
 
   pub within : stand.line < length xs
   within =
-      let l = some_there (board_lines (map f xs)) stand.line (line_for board (board_lines (map f xs)) a) its.line.1 its.line.0 in
+      let l = some_there (board_lines (map f xs)) stand.line (slice_get (board_lines (map f xs)) stand.line) refl its.line in
       let m = length-map (map f xs) board_line in
       let n = length-map xs f in
       omega (arith, l, m, n)
@@ -123,8 +123,8 @@ module _ {X : Type 0} (f : X → LineSeen) (xs : List X) (board : BoardSeen) (is
         subst (λ (o : Option LineSeen). IsSomeAnd o (λ y. d.line ≡ y.def.line)) (sym (slice_get-map f xs stand.line ∙ ap (option_map f) (slice_get_read xs (length xs) stand.line x refl within is_x)))
         (ap (λ (e : LineDef). e.line) is_d)
 
-    all : IsSystem board new (scripts_after stand.script r scripts) × StepsBy (seen_of board layout (map f xs) order) (move_of (seen_of board layout (map f xs) order) a) (turn_of d.line r) (seen_of board layout new longer)
-    all = turned board isb layout (map f xs) order scripts is.system a stand.line stand.script its.line its.script r new longer stepped d.line number
+    all : IsSystem board new (scripts_after stand.script r scripts) × StepsBy (seen_of board layout (map f xs) order) (due_on (slice_get (board_lines (map f xs)) stand.line) a) (turn_of d.line r) (seen_of board layout new longer)
+    all = turned board isb layout (map f xs) order scripts is.system a stand.line stand.script its.current its.script r new longer stepped d.line number
 
     -- the bounds of what is asked again
     pub line_within : stand.line < length new
@@ -164,7 +164,7 @@ module _ {X : Type 0} (f : X → LineSeen) (xs : List X) (board : BoardSeen) (is
             driver_numbers = is.driver_numbers;
           }
 
-    pub steps_so : (turn : Turn) → turn ≡ turn_of d.line r → StepsBy view (move_of view a) turn (seen_of board layout new longer)
+    pub steps_so : (turn : Turn) → turn ≡ turn_of d.line r → StepsBy view (due_on (slice_get (board_lines view.lines) stand.line) a) turn (seen_of board layout new longer)
     steps_so turn same =
-        subst (λ (t : Turn). StepsBy view (move_of view a) t (seen_of board layout new longer)) (sym same)
-        (subst (λ (s : SystemSeen). StepsBy s (move_of s a) (turn_of d.line r) (seen_of board layout new longer)) (sym v) all.1)
+        subst (λ (t : Turn). StepsBy view (due_on (slice_get (board_lines view.lines) stand.line) a) t (seen_of board layout new longer)) (sym same)
+        (subst (λ (s : SystemSeen). StepsBy s (due_on (slice_get (board_lines s.lines) stand.line) a) (turn_of d.line r) (seen_of board layout new longer)) (sym v) all.1)

@@ -3,6 +3,7 @@ use Rattle.std.proofs.Common.{◌≡◌, ℕ, suc, ◌<◌, ◌==◌, inl, inr, 
 use Rattle.std.proofs.Math.ListN.{length-map}
 use Rattle.std.proofs.lemmas.Bool.{leb-true, le-leb, or_cases}
 use Rattle.std.proofs.lemmas.Option.{slice_get_within, slice_get-get_or}
+use Rattle.irq_base.specs.declared.entries.Actor.{Actor}
 use Rattle.irq_base.specs.declared.entries.Actor.TheVariants as actors
 use Rattle.irq_base.specs.declared.numbers.CpuNo.{CpuNo}
 use Rattle.irq_base.specs.declared.entries.Entry.{Entry}
@@ -20,9 +21,10 @@ use Rattle.domain_rules.specs.declared.layouts.Placement.{Placement}
 use Rattle.board_def.specs.Rules.{has_driver}
 use Rattle.board_play.specs.Current.{current_line}
 use Rattle.board_play.specs.Lines.{BoardLine, Move, find_line}
-use Rattle.board_play.specs.Order.{move_on, due_on, due_move}
+use Rattle.board_play.specs.Order.{line_for, move_on, due_on, due_move}
 use Rattle.board_play.proofs.KeptAlways.{apart_kept}
-use Rattle.board_play.proofs.Members.{AreApart, find_there}
+use Rattle.board_play.proofs.Members.{AreApart, find_there, found}
+use Rattle.board_play.proofs.Moves.{line_stands}
 use Rattle.board_play.proofs.Script.{current}
 use Rattle.board_ready.specs.Kept.{thread_of}
 use Rattle.board_ready.specs.Ready.{cpu_line, can_go_on, current_call, is_driver_ready, lowest_thread, lowest_driver, lowest}
@@ -37,7 +39,10 @@ use Rattle.board_core.specs.Numbers.{IsPlaceOfNumber, numbers_of_drivers}
 use Rattle.board_core.specs.Places.{IsPlace}
 use Rattle.board_core.specs.ReadyFor.{IsPartOf, is_up_to, has_thread_up_to}
 use Rattle.board_core.specs.Seen.{SystemSeen, board_line, board_lines}
-use Rattle.board_core.specs.Stands.{IsAt, IsStand, IsLowestStand}
+use Rattle.board_core.specs.Stands.{IsCurrentAt, CanStepAt, IsCurrentOn, IsAt, IsStand, IsLowestStand, IsScriptPlace, IsStandOn}
+use Rattle.board_core.specs.Turned.{IsScriptOf, StepsBy}
+use Rattle.board_core.specs.Turns.{move_of}
+use Rattle.board_core.specs.declared.turns.Turn.{Turn}
 use Rattle.board_core.specs.declared.stands.Stand.{Stand}
 use Rattle.board_core.proofs.LowestMover.{lowest_says, lowest_is_thread, lowest_is_cpu, lowest_is_driver, nobody, script_of, current_is, driver_ready_is}
 use Rattle.board_core.proofs.Movers.{some_of, none_of, some_with, not_both, cpu_stands, somebody, thread_moves, thread_ready, script_place}
@@ -254,6 +259,52 @@ module _ (board : BoardSeen) (isb : IsBoard board) (layout : List Placement) (li
   pub driver_number_there : (j : ℕ) → Some (movers.Driver j) ≡ lowest parts.ready → j < length parts.driver_numbers
   driver_number_there j is_lowest = driver_number_within j (lowest_says parts.ready (Some (movers.Driver j)) is_lowest).2
 
+  -- ---- a line by its number
+
+  pub script_there : (d : DriverNo) (numbers : List ℕ) (o : Option ℕ) → numbers ≡ parts.driver_numbers → IsPlaceOfNumber numbers d.0 o → IsScriptPlace view (actors.Driver d) o
+  script_there d numbers o same place = subst (λ (s : SystemSeen). IsScriptPlace s (actors.Driver d) o) v (by_place o (subst (λ (ns : List ℕ). IsPlaceOfNumber ns d.0 o) same place))
+    where
+      by_place : (o : Option ℕ) → IsPlaceOfNumber parts.driver_numbers d.0 o → IsScriptPlace seen (actors.Driver d) o
+      by_place None none = no_call d none
+      by_place (Some j) at = driver_at j d at
+
+  pub line_nowhere : (line : LineNo) → ((k : ℕ) → slice_get parts.line_numbers k ≡ Some line.0 → ⊥) → find_line (board_lines view.lines) line ≡ None
+  line_nowhere line none = subst (λ (s : SystemSeen). find_line (board_lines s.lines) line ≡ None) v (by_line (find_line (board_lines lines) line) refl)
+    where
+      by_line : (o : Option BoardLine) → find_line (board_lines lines) line ≡ o → find_line (board_lines lines) line ≡ None
+      by_line None is_none = is_none
+      by_line (Some y) there =
+          let f = found (board_lines lines) line y there in
+          let x = map_back board_line lines f.place y f.at in
+          let number : x.0.def.line ≡ line = ap (λ (z : BoardLine). z.def.line) x.2 ∙ sym f.number in
+          absurd (none f.place (ap (λ (ns : List ℕ). slice_get ns f.place) is.line_numbers ∙ (map_there (λ (x : LineSeen). x.def.line.0) lines f.place x.0 x.1 ∙ ap (λ (l : LineNo). Some l.0) number)))
+
+  pub line_there : (line : LineNo) (a : Actor) (k : ℕ) (o : Option ℕ) (stand : Stand) → slice_get parts.line_numbers k ≡ Some line.0 → IsCurrentOn view line a → IsScriptPlace view a o → stand ≡ record { line = k; script = o } → IsStandOn view line a (Some stand)
+  line_there line a k o stand at cur script same =
+      let x = line_at k line at in
+      let place = subst (λ (l : LineNo). IsPlace (board_lines lines) (Some k) (find_line (board_lines lines) l)) x.2 (place_is k x.0 x.1) in
+      let here : slice_get (board_lines lines) k ≡ Some (board_line x.0) = map_there board_line lines k x.0 x.1 in
+      let w : seen ≡ view = v in
+      let current_now = subst (λ (s : SystemSeen). IsCurrentOn s line a) (sym w) cur in
+      let its = subst (λ (s : SystemSeen). IsScriptPlace s a o) (sym w) script in
+      subst (λ (s : SystemSeen). IsStandOn s line a (Some stand)) v
+      (subst (λ (t : Stand). IsStandOn seen line a (Some t)) (sym same)
+      (record { line = ap (λ (o : Option BoardLine). is_some o) here; current = is_current a current_now place.1; script = is_script a o current_now its }, place.1))
+    where
+      is_current : (a : Actor) → IsCurrentOn seen line a → slice_get (board_lines lines) k ≡ find_line (board_lines lines) line → IsCurrentAt seen a k
+      is_current (actors.Cpu c) cur place = tt
+      is_current (actors.Thread l d) cur place = tt
+      is_current (actors.Driver r) cur place =
+          let y = some_with (λ z. z.def.line ≡ line) (current_line board.calls (board_lines lines) r) cur in
+          let s = line_stands board (board_lines lines) (actors.Driver r) y.0 y.1 in
+          y.1 ∙ (sym (find_there (board_lines lines) apart s.place y.0 s.at) ∙ (ap (λ (l : LineNo). find_line (board_lines lines) l) y.2 ∙ sym place))
+
+      is_script : (a : Actor) (o : Option ℕ) → IsCurrentOn seen line a → IsScriptPlace seen a o → IsScriptOf board.drivers a o
+      is_script (actors.Driver r) None cur none = let y = some_with (λ z. z.def.line ≡ line) (current_line board.calls (board_lines lines) r) cur in absurd (not_both (current_line board.calls (board_lines lines) r) y.0 none y.1)
+      is_script (actors.Driver r) (Some j) cur at = at
+      is_script (actors.Cpu c) o cur its = its
+      is_script (actors.Thread l d) o cur its = its
+
 -- what a search by number answers
 pub number_there : (numbers items : List ℕ) (n k : ℕ) (o : Option ℕ) → numbers ≡ items → IsPlaceOfNumber numbers n o → o ≡ Some k → slice_get items k ≡ Some n
 number_there numbers items n k o same place some = subst (λ (ns : List ℕ). IsPlaceOfNumber ns n (Some k)) same (subst (λ (p : Option ℕ). IsPlaceOfNumber numbers n p) some place)
@@ -264,3 +315,16 @@ number_nowhere numbers items n o same place none = subst (λ (ns : List ℕ). Is
 -- the number that is read at a place
 pub number_read : (numbers : List ℕ) (k n : ℕ) → k < length numbers → n ≡ get_or numbers k 0 → slice_get numbers k ≡ Some n
 number_read numbers k n within is = slice_get-get_or numbers k 0 within ∙ ap (λ (m : ℕ). Some m) (sym is)
+
+-- ---- a step at a stand
+
+pub can_step : (s : SystemSeen) (a : Actor) (stand : Stand) → IsAt s a stand → CanStepAt s a stand
+can_step s a stand at = record { line = ap (λ (o : Option BoardLine). is_some o) at.line.1 ∙ at.line.0; current = by_actor a at.line; script = at.script }
+  where
+    by_actor : (a : Actor) → IsPlace (board_lines s.lines) (Some stand.line) (line_for s.board (board_lines s.lines) a) → IsCurrentAt s a stand.line
+    by_actor (actors.Driver r) place = sym place.1
+    by_actor (actors.Cpu c) place = tt
+    by_actor (actors.Thread line d) place = tt
+
+pub steps_by_move : (old new : SystemSeen) (a : Actor) (stand : Stand) (turn : Turn) → IsAt old a stand → StepsBy old (due_on (slice_get (board_lines old.lines) stand.line) a) turn new → StepsBy old (move_of old a) turn new
+steps_by_move old new a stand turn at s = subst (λ (o : Option BoardLine). StepsBy old (due_on o a) turn new) at.line.1 s

@@ -11,7 +11,7 @@ use Rattle.irq_line.specs.Seen.{LineSeen, IsSound}
 use Rattle.irq_line.specs.declared.answers.StepRefused.{StepRefused}
 use Rattle.irq_line.specs.declared.answers.StepRefused.TheVariants as refusals
 use Rattle.irq_model.specs.Kinds.{same_line, same_driver, is_driver, is_by_driver}
-use Rattle.irq_model.specs.Next.{next}
+use Rattle.irq_model.specs.Next.{next, next_past}
 use Rattle.irq_steps.proofs.Same.{line_from_same, same_self_line, driver_from_same, same_self_driver}
 use Rattle.irq_laws.proofs.Chosen.{the_same}
 use Rattle.irq_laws.proofs.Lists.{both_ways}
@@ -27,7 +27,10 @@ use Rattle.board_play.specs.Order.{line_for, move_on, due_on, due_move}
 use Rattle.board_play.proofs.KeptAlways.{apart_kept, move_keeps}
 use Rattle.board_play.proofs.Listed.{def_at}
 use Rattle.board_play.proofs.Members.{AreApart, def_there, find_there}
-use Rattle.board_play.proofs.Moving.{by_driver_is}
+use Rattle.board_play.proofs.Moving.{by_driver_is, defs_moved, moved_at, not_own}
+use Rattle.board_play.proofs.Parts.{the_line, due_of}
+use Rattle.irq_model.specs.Legal.{IsLegalPast}
+use Rattle.board_core.specs.Stands.{IsCurrentAt}
 use Rattle.board_play.proofs.OfBoard.{def_of_row, has_calls}
 use Rattle.board_core.specs.Inside.{seen_of, drivers_of, IsSystem}
 use Rattle.board_core.specs.Log.{without_newest, with_newest, merged}
@@ -134,6 +137,35 @@ one_place rs rises i j r s at_i at_j same = elim (three i j) [
   ]
 ]
 
+-- ---- a step keeps what the lines keep
+
+-- a driver's current call is on the line
+abbrev IsCurrentOf : BoardSeen → List BoardLine → Actor → BoardLine → Type 0
+IsCurrentOf board lines (actors.Driver r) x = line_for board lines (actors.Driver r) ≡ Some x
+IsCurrentOf board lines _ x = Unit {0}
+
+module _ (board : BoardSeen) (isb : IsBoard board) (lines : List BoardLine) (k : AreKept board lines) where
+  -- of one who is no driver, on whatever line
+  other_keeps : (a : Actor) (i : ℕ) (x : BoardLine) (e : Entry) → slice_get lines i ≡ Some x → next_past x.def x.past a ≡ Some e → ((r : DriverNo) → is_driver r a ≡ false) → AreKept board (lines_after (x.def.line, e) lines)
+  other_keeps a i x e at due other =
+      record {
+        defs = defs_moved lines (x.def.line, e) ∙ k.defs;
+        legal = λ j y at_y. (let s = moved_at lines (x.def.line, e) j y at_y in subst (λ (z : BoardLine). IsLegalPast z.def z.past) s.is (legal_after s.line j s.at (same_line s.line.def.line x.def.line) refl));
+        in_order = λ r. (let o = k.in_order r in (o.0, not_own board.calls lines (x.def.line, e) r o.0 (by_driver_is x.def.line r e ∙ (ap (is_driver r) (due_is_own_past x.def x.past a e due) ∙ other r)) o.1));
+      }
+    where
+      legal_after : (y : BoardLine) (j : ℕ) → slice_get lines j ≡ Some y → (b : Bool) → same_line y.def.line x.def.line ≡ b → IsLegalPast y.def (cond b (e ∷ y.past) y.past)
+      legal_after y j at_y false differs = k.legal j y at_y
+      legal_after y j at_y true same =
+          let here : x ≡ y = the_line lines (apart_kept board isb lines k) i j x y at at_y (sym (line_from_same y.def.line x.def.line same)) in
+          (due_of y.def y.past a e (subst (λ (z : BoardLine). next_past z.def z.past a ≡ Some e) here due), k.legal j y at_y)
+
+  step_keeps : (a : Actor) (i : ℕ) (x : BoardLine) (e : Entry) → slice_get lines i ≡ Some x → next_past x.def x.past a ≡ Some e → IsCurrentOf board lines a x → AreKept board (lines_after (x.def.line, e) lines)
+  step_keeps (actors.Driver r) i x e at due cur =
+      move_keeps board lines (actors.Driver r) (x.def.line, e) isb k (ap (λ (o : Option BoardLine). due_on o (actors.Driver r)) cur ∙ ap (λ (o : Option Entry). move_on x.def.line o) due)
+  step_keeps (actors.Cpu c) i x e at due cur = other_keeps (actors.Cpu c) i x e at due (λ r. refl)
+  step_keeps (actors.Thread line d) i x e at due cur = other_keeps (actors.Thread line d) i x e at due (λ r. refl)
+
 -- ---- a turn
 
 not_some : {A : Type 0} (o : Option A) → o ≡ None → IsSome o → ⊥
@@ -141,12 +173,22 @@ not_some None none some = cc
 not_some (Some x) none some = cc
 
 module _ (board : BoardSeen) (isb : IsBoard board) (layout : List Placement) (lines : List LineSeen) (order : List ℕ) (scripts : List ScriptSeen)
-    (is : IsSystem board lines scripts) (a : Actor) (k : ℕ) (script : Option ℕ) (place : IsPlace (board_lines lines) (Some k) (line_for board (board_lines lines) a)) (of : IsScriptOf board.drivers a script) where
-  line_is : (x : LineSeen) → slice_get lines k ≡ Some x → line_for board (board_lines lines) a ≡ Some (board_line x)
-  line_is x at = sym place.1 ∙ map_there board_line lines k x at
+    (is : IsSystem board lines scripts) (a : Actor) (k : ℕ) (script : Option ℕ) (cur : IsCurrentAt (seen_of board layout lines order) a k) (of : IsScriptOf board.drivers a script) where
+  line_is : (x : LineSeen) → slice_get lines k ≡ Some x → slice_get (board_lines lines) k ≡ Some (board_line x)
+  line_is x at = map_there board_line lines k x at
 
-  move_is : (x : LineSeen) → slice_get lines k ≡ Some x → (o : Option Entry) → next x.def x.entries a ≡ o → due_move board (board_lines lines) a ≡ move_on x.def.line o
+  -- what is due of the actor at the place
+  abbrev due_here : Option Move
+  due_here = due_on (slice_get (board_lines lines) k) a
+
+  move_is : (x : LineSeen) → slice_get lines k ≡ Some x → (o : Option Entry) → next x.def x.entries a ≡ o → due_here ≡ move_on x.def.line o
   move_is x at o due = ap (λ (l : Option BoardLine). due_on l a) (line_is x at) ∙ ap (λ (o : Option Entry). move_on x.def.line o) due
+
+  -- a driver is on its line
+  current_as : (b : Actor) {x : BoardLine} → slice_get (board_lines lines) k ≡ Some x → IsCurrentAt (seen_of board layout lines order) b k → IsCurrentOf board (board_lines lines) b x
+  current_as (actors.Driver r) at cur = cur ∙ at
+  current_as (actors.Cpu c) at cur = tt
+  current_as (actors.Thread line d) at cur = tt
 
   log_is : (x : LineSeen) → slice_get lines k ≡ Some x → x.def.log ≡ board.log
   log_is x at =
@@ -190,7 +232,7 @@ module _ (board : BoardSeen) (isb : IsBoard board) (layout : List Placement) (li
       own = whose x e due s.driver ∙ (ap (is_driver s.driver) me ∙ same_self_driver s.driver)
 
       current : line_for board (board_lines lines) (actors.Driver s.driver) ≡ Some (board_line x)
-      current = ap (λ (b : Actor). line_for board (board_lines lines) b) (sym me) ∙ line_is x at
+      current = subst (λ (b : Actor). IsCurrentAt (seen_of board layout lines order) b k) me cur ∙ line_is x at
 
       by_step : (o : Option Step) → slice_get s.steps s.at ≡ o → IsScript board.calls (lines_after (x.def.line, e) (board_lines lines)) (advanced e s)
       by_step None end =
@@ -264,13 +306,13 @@ module _ (board : BoardSeen) (isb : IsBoard board) (layout : List Placement) (li
   sound_after y sound i z at = elim (set_cases lines k i y z at) [ inl h ↦ subst IsSound h.1 sound | inr h ↦ is.sound i z h.1 ]
 
   moved : (e : Entry) (new : List LineSeen) (longer : List ℕ) → StepsAt lines order k a e new longer → (line : LineNo) → IsSomeAnd (slice_get lines k) (λ x. line ≡ x.def.line)
-      → IsSystem board new (scripts_after script (Ok (Some e)) scripts) × Moves (seen_of board layout lines order) (move_of (seen_of board layout lines order) a) (line, e) (seen_of board layout new longer)
+      → IsSystem board new (scripts_after script (Ok (Some e)) scripts) × Moves (seen_of board layout lines order) due_here (line, e) (seen_of board layout new longer)
   moved e new longer s line of_line =
       let x = s.before in
       let y = s.after in
       let number : line ≡ x.def.line = subst (λ (o : Option LineSeen). IsSomeAnd o (λ x. line ≡ x.def.line)) s.at of_line in
       let m : Move = (x.def.line, e) in
-      let due : due_move board (board_lines lines) a ≡ Some m = move_is x s.at (Some e) s.adds.due in
+      let due : due_here ≡ Some m = move_is x s.at (Some e) s.adds.due in
       let after : board_lines new ≡ lines_after m (board_lines lines) = ap (λ (ls : List LineSeen). board_lines ls) s.rest ∙ lines_are x y e s.at s.adds in
       let room : length (reverse x.entries) < board.log = subst (λ (n : ℕ). length (reverse x.entries) < n) (log_is x s.at) (let l = length-reverse x.entries in let b = s.adds.below in omega (arith, l, b)) in
       let set_after : board_lines new ≡ slice_set (board_lines lines) k (record { def = x.def; past = e ∷ reverse x.entries }) =
@@ -280,12 +322,12 @@ module _ (board : BoardSeen) (isb : IsBoard board) (layout : List Placement) (li
       ∙ (ap (λ (ls : List BoardLine). merged (k ∷ reverse order) ls) set_after ∙ merged_more (board_lines lines) k (reverse order) (board_line x) e (map_there board_line lines k x s.at)) in
       let same : (x.def.line, e) ≡ (line, e) = ap (λ (l : LineNo). (l, e)) (sym number) in (
         record {
-          kept = subst (λ (ls : List BoardLine). AreKept board ls) (sym after) (move_keeps board (board_lines lines) a m isb is.kept due);
+          kept = subst (λ (ls : List BoardLine). AreKept board ls) (sym after) (step_keeps board isb (board_lines lines) is.kept a k (board_line x) e (map_there board_line lines k x s.at) s.adds.due (current_as a (line_is x s.at) cur));
           sound = subst (λ (ls : List LineSeen). (i : ℕ) (z : LineSeen) → slice_get ls i ≡ Some z → IsSound z) (sym s.rest) (sound_after y s.sound);
           drivers = drivers_after script (Ok (Some e)) ∙ is.drivers;
           each = λ i t at. subst (λ (ls : List BoardLine). IsScript board.calls ls t) (sym after) (each_after x e s.at s.adds.due script of i t at);
         },
-        subst (λ (n : Move). Moves (seen_of board layout lines order) (move_of (seen_of board layout lines order) a) n (seen_of board layout new longer)) same
+        subst (λ (n : Move). Moves (seen_of board layout lines order) due_here n (seen_of board layout new longer)) same
             (record {
               is = due;
               room = subst (λ (o : Option BoardLine). IsSomeAnd o (λ x. length x.past < board.log)) (sym (found_is x s.at)) room;
@@ -314,7 +356,7 @@ module _ (board : BoardSeen) (isb : IsBoard board) (layout : List Placement) (li
   not_scripts (Some j) refused = refl
 
   pub turned : (r : Result (Option Entry) StepRefused) (new : List LineSeen) (longer : List ℕ) → SteppedAt lines order k a r new longer → (line : LineNo) → IsSomeAnd (slice_get lines k) (λ x. line ≡ x.def.line)
-      → IsSystem board new (scripts_after script r scripts) × StepsBy (seen_of board layout lines order) (move_of (seen_of board layout lines order) a) (turn_of line r) (seen_of board layout new longer)
+      → IsSystem board new (scripts_after script r scripts) × StepsBy (seen_of board layout lines order) due_here (turn_of line r) (seen_of board layout new longer)
   turned (Ok (Some e)) new longer s line number = moved e new longer s line number
   turned (Ok None) new longer s line number =
       (same_system new s.1 (Ok None) (no_scripts script), (move_is s.0.line s.0.at None s.0.rests, same_seen new longer s.1 s.2))
@@ -328,7 +370,7 @@ module _ (board : BoardSeen) (isb : IsBoard board) (layout : List Placement) (li
       )
     where
       full_for : (x : LineSeen) → slice_get lines k ≡ Some x → (o : Option Entry) → next x.def x.entries a ≡ o → IsSome (next x.def x.entries a) → (line : LineNo) → line ≡ x.def.line → (len : ℕ) → len ≡ length x.entries → length x.entries ≡ x.def.log
-          → IsFullFor (seen_of board layout lines order) (move_of (seen_of board layout lines order) a) line len
+          → IsFullFor (seen_of board layout lines order) due_here line len
       full_for x at None due some line its len told limit = absurd (not_some (next x.def x.entries a) due some)
       full_for x at (Some e) due some line its len told limit =
           record {

@@ -1,6 +1,10 @@
 -- Where an actor steps, if it can.
-use Rattle.std.specs.Prelude.{◌≡◌, IsSome, Option, Some, None}
+use Rattle.std.specs.Prelude.{◌≡◌, ℕ, IsSome, IsSomeAnd, Option, Some, None, slice_get}
 use Rattle.irq_base.specs.declared.entries.Actor.{Actor}
+use Rattle.irq_base.specs.declared.entries.Actor.TheVariants as actors
+use Rattle.irq_base.specs.declared.numbers.LineNo.{LineNo}
+use Rattle.board_play.specs.Current.{current_line}
+use Rattle.board_play.specs.Lines.{find_line}
 use Rattle.board_play.specs.Order.{line_for}
 use Rattle.board_core.specs.Places.{IsPlace}
 use Rattle.board_core.specs.Seen.{SystemSeen, board_lines}
@@ -13,6 +17,22 @@ pub record IsAt (s : SystemSeen) (a : Actor) (stand : Stand) : Type 0 where
   pub line : IsPlace (board_lines s.lines) (Some stand.line) (line_for s.board (board_lines s.lines) a)
   pub script : IsScriptOf s.board.drivers a stand.script
 
+-- a driver's current call is on the line at the place; a thread and a processor may step anywhere
+abbrev pub IsCurrentAt : SystemSeen → Actor → ℕ → Type 0
+IsCurrentAt s (actors.Driver r) k = current_line s.board.calls (board_lines s.lines) r ≡ slice_get (board_lines s.lines) k
+IsCurrentAt s _ k = Unit {0}
+
+-- a line stands at the place, where the actor may step, and the script is its own
+pub record CanStepAt (s : SystemSeen) (a : Actor) (stand : Stand) : Type 0 where
+  pub line : IsSome (slice_get (board_lines s.lines) stand.line)
+  pub current : IsCurrentAt s a stand.line
+  pub script : IsScriptOf s.board.drivers a stand.script
+
+-- the same of a line's number
+abbrev pub IsCurrentOn : SystemSeen → LineNo → Actor → Type 0
+IsCurrentOn s line (actors.Driver r) = IsSomeAnd (current_line s.board.calls (board_lines s.lines) r) (λ x. x.def.line ≡ line)
+IsCurrentOn s line _ = Unit {0}
+
 -- there, where the actor may move; none where it can't
 abbrev pub IsStand : SystemSeen → Actor → Option Stand → Type 0
 IsStand s a None = move_of s a ≡ None
@@ -22,3 +42,13 @@ IsStand s a (Some stand) = IsAt s a stand × MayWant s a
 abbrev pub IsLowestStand : SystemSeen → Option (Actor × Stand) → Type 0
 IsLowestStand s None = lowest_move s ≡ None
 IsLowestStand s (Some (a, stand)) = IsAt s a stand × (lowest_move s ≡ move_of s a) × IsSome (move_of s a)
+
+-- the actor's script; a driver that isn't the board's has no call
+abbrev pub IsScriptPlace : SystemSeen → Actor → Option ℕ → Type 0
+IsScriptPlace s (actors.Driver r) None = current_line s.board.calls (board_lines s.lines) r ≡ None
+IsScriptPlace s a o = IsScriptOf s.board.drivers a o
+
+-- the places of that line and of the actor's script; none where the line takes no part
+abbrev pub IsStandOn : SystemSeen → LineNo → Actor → Option Stand → Type 0
+IsStandOn s line a None = find_line (board_lines s.lines) line ≡ None
+IsStandOn s line a (Some stand) = CanStepAt s a stand × (slice_get (board_lines s.lines) stand.line ≡ find_line (board_lines s.lines) line)

@@ -1,19 +1,19 @@
 //! The lines of a board, and their moves.
-ghost use Rattle.std.specs.Prelude.{◌≡◌, ◌++◌, List, [], IfOk, length, map, reverse};
+ghost use Rattle.std.specs.Prelude.{◌≡◌, ◌++◌, List, [], IfOk, length, map, reverse, slice_get};
 ghost use Rattle.std.specs.Option.{option_map};
 ghost use Rattle.irq_base.specs.declared.entries.Actor.{Actor};
 ghost use Rattle.irq_base.specs.declared.entries.Actor.TheVariants as actors;
 ghost use Rattle.board_def.specs.Layout.{layout_of};
 ghost use Rattle.board_play.specs.Kept.{AreKept};
-ghost use Rattle.board_play.specs.Lines.{lines_of};
 ghost use Rattle.board_play.specs.Current.{current_line};
-ghost use Rattle.board_play.specs.Order.{cpus_of, drivers_of, threads_of};
+ghost use Rattle.board_play.specs.Lines.{find_line, lines_of};
+ghost use Rattle.board_play.specs.Order.{cpus_of, drivers_of, due_on, threads_of};
 ghost use Rattle.board_core.specs.Firsts.{IsFirstOf, call_on};
 ghost use Rattle.board_core.specs.Making.{AreNew, MakesAll};
 ghost use Rattle.board_core.specs.Playing.{IsFresh, IsUnderway, IsPlay, Ends};
 ghost use Rattle.board_core.specs.ReadyFor.{has_thread_up_to};
 ghost use Rattle.board_core.specs.Seen.{board_lines};
-ghost use Rattle.board_core.specs.Stands.{IsAt, IsStand, IsLowestStand};
+ghost use Rattle.board_core.specs.Stands.{CanStepAt, IsAt, IsCurrentOn, IsStand, IsLowestStand, IsScriptPlace, IsStandOn};
 ghost use Rattle.board_core.specs.Turned.{StepsBy};
 ghost use Rattle.board_core.specs.Turns.{Turns, TurnsBy, move_of, lowest_move};
 
@@ -324,10 +324,65 @@ impl<'b, L: IrqLine> System<'b, L> {
         }
     }
 
+    /// One step of the actor on this line, whichever line it would step on in a turn; a driver's current call is on it.
+    /// `NotYet` where the line takes no part. So the plays of other scenarios are made, which choose lines by a rule of
+    /// their own.
+    pub fn step_on<H: Handler>(
+        &mut self,
+        line: LineNo,
+        actor: Actor,
+        handlers: &Callbacks<H>,
+    ) -> Turn
+        requires { IsCurrentOn self.old line actor }
+        ensures { StepsBy self.old (due_on (find_line (board_lines self.old.lines) line) actor) result self.new }
+    {
+        let Some(stand) = self.stand_on(line, actor) else {
+            return Turn::NotYet;
+        };
+        self.step_stand(stand, actor, handlers)
+    }
+
+    /// The places of the line and of the actor's script; none where the line takes no part.
+    fn stand_on(&self, line: LineNo, actor: Actor) -> Option<Stand>
+        requires { IsCurrentOn self.now line actor }
+        ensures { IsStandOn self.now line actor result }
+    {
+        self.board.is_board();
+        let Some(k) = place_of(&self.line_numbers, line.0) else {
+            return None;
+        };
+        let script = self.script_place(actor);
+        Some(Stand { line: k, script })
+    }
+
+    /// The place of the actor's script; none for a thread, a processor, or a driver that isn't the board's.
+    fn script_place(&self, actor: Actor) -> Option<usize>
+        ensures { IsScriptPlace self.now actor result }
+    {
+        self.board.is_board();
+        match actor {
+            Actor::Driver(driver) => place_of(&self.driver_numbers, driver.0),
+            _ => None,
+        }
+    }
+
     /// A step of the actor at its place.
     fn step_at<H: Handler>(&mut self, stand: Stand, actor: Actor, handlers: &Callbacks<H>) -> Turn
         requires { IsAt self.old actor stand }
         ensures { StepsBy self.old (move_of self.old actor) result self.new }
+    {
+        self.step_stand(stand, actor, handlers)
+    }
+
+    /// A step of the actor at that place.
+    fn step_stand<H: Handler>(
+        &mut self,
+        stand: Stand,
+        actor: Actor,
+        handlers: &Callbacks<H>,
+    ) -> Turn
+        requires { CanStepAt self.old actor stand }
+        ensures { StepsBy self.old (due_on (slice_get (board_lines self.old.lines) stand.line) actor) result self.new }
     {
         self.board.is_board();
         let k = stand.line;
