@@ -1,5 +1,5 @@
 -- The lines of a board, made one after another.
-use Rattle.std.proofs.Common.{◌≡◌, ℕ, zero, suc, ◌+◌, ◌<◌, ◌≤◌, Bool, true, false, cond, Option, Some, None, List, [], ◌∷◌, ◌++◌, map, length, take, slice_get, refl, sym, ap, ◌∙◌, subst, add-one, append-nil, arith}
+use Rattle.std.proofs.Common.{◌≡◌, ℕ, zero, suc, ◌+◌, ◌<◌, ◌≤◌, Bool, true, false, cond, Option, Some, None, List, [], ◌∷◌, ◌++◌, map, length, take, slice_get, refl, sym, ap, ◌∙◌, subst, add-one, append-nil}
 use Rattle.std.proofs.lemmas.List.{map-append}
 use Rattle.irq_base.specs.declared.lines.LineDef.{LineDef}
 use Rattle.irq_line.specs.Seen.{LineSeen}
@@ -17,11 +17,7 @@ use Rattle.board_play.specs.Lines.{BoardLine, mapped, lines_at}
 use Rattle.board_core.specs.Making.{IsNewLine, AreNew}
 use Rattle.board_core.specs.Seen.{board_line, board_lines}
 use Rattle.board_core.proofs.MadeOf.{all_taken, map_more}
-
-there : {A : Type 0} (xs : List A) (k : ℕ) → k < length xs → (x : A) × (slice_get xs k ≡ Some x)
-there [] k h = absurd (omega (arith, h))
-there (x ∷ xs) zero h = (x, refl)
-there (x ∷ xs) (suc k) h = there xs k (omega (arith, h))
+use Rattle.board_core.proofs.Searches.{there}
 
 -- the row, if its line takes part
 abbrev row_if : LineRow → Option Placement → List LineRow

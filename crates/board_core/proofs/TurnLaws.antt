@@ -35,8 +35,8 @@ use Rattle.board_core.specs.Places.{IsPlace, StepsAt, SteppedAt}
 use Rattle.board_core.specs.Scripts.{ScriptSeen, completes, advanced_by, advanced_at, advanced, IsScript}
 use Rattle.board_core.specs.Seen.{board_line, board_lines}
 use Rattle.board_core.specs.Stepping.{Adds}
-use Rattle.board_core.specs.Turned.{IsScriptOf, script_after, scripts_after, turn_of}
-use Rattle.board_core.specs.Turns.{move_of, Moves, IsFullFor, Turns}
+use Rattle.board_core.specs.Turned.{IsScriptOf, StepsBy, script_after, scripts_after, turn_of}
+use Rattle.board_core.specs.Turns.{move_of, Moves, IsFullFor}
 use Rattle.board_core.specs.declared.scripts.Step.{Step}
 use Rattle.board_core.proofs.ScriptLaws.{HaveCalls, script_line, other_script, own_script}
 
@@ -60,7 +60,7 @@ module _ {A : Type 0} where
   set_twice (w ∷ xs) zero x y z at = refl
   set_twice (w ∷ xs) (suc k) x y z at = ap (λ (ys : List A). w ∷ ys) (set_twice xs k x y z at)
 
-  set_same : (xs : List A) (k : ℕ) (x : A) → slice_get xs k ≡ Some x → slice_set xs k x ≡ xs
+  pub set_same : (xs : List A) (k : ℕ) (x : A) → slice_get xs k ≡ Some x → slice_set xs k x ≡ xs
   set_same [] k x at = cc
   set_same (w ∷ xs) zero x at = ap (λ (y : A). y ∷ xs) (sym (the_same w x at))
   set_same (w ∷ xs) (suc k) x at = ap (λ (ys : List A). w ∷ ys) (set_same xs k x at)
@@ -78,7 +78,7 @@ map_there f [] k x at = cc
 map_there f (y ∷ ys) zero x at = ap (λ (z : _). Some (f z)) (the_same y x at)
 map_there f (y ∷ ys) (suc k) x at = map_there f ys k x at
 
-map_back : {A B : Type 0} (f : A → B) (xs : List A) (k : ℕ) (y : B) → slice_get (map f xs) k ≡ Some y → (x : A) × (slice_get xs k ≡ Some x) × (f x ≡ y)
+pub map_back : {A B : Type 0} (f : A → B) (xs : List A) (k : ℕ) (y : B) → slice_get (map f xs) k ≡ Some y → (x : A) × (slice_get xs k ≡ Some x) × (f x ≡ y)
 map_back f [] k y at = cc
 map_back f (x ∷ xs) zero y at = (x, refl, the_same (f x) y at)
 map_back f (x ∷ xs) (suc k) y at = map_back f xs k y at
@@ -115,7 +115,7 @@ merged_more lines k ks x e at =
 
 -- ---- drivers differ
 
-rising_below : (rs : List DriverNo) → Rises (λ (r : DriverNo). r.0) rs → (i j : ℕ) (r s : DriverNo) → slice_get rs i ≡ Some r → slice_get rs j ≡ Some s → i < j → r.0 < s.0
+pub rising_below : (rs : List DriverNo) → Rises (λ (r : DriverNo). r.0) rs → (i j : ℕ) (r s : DriverNo) → slice_get rs i ≡ Some r → slice_get rs j ≡ Some s → i < j → r.0 < s.0
 rising_below [] rises i j r s at_i at_j less = cc
 rising_below (x ∷ xs) rises i zero r s at_i at_j less = absurd (omega (arith, less))
 rising_below (x ∷ xs) rises zero (suc j) r s at_i at_j less =
@@ -125,7 +125,7 @@ rising_below (x ∷ xs) rises (suc i) (suc j) r s at_i at_j less = rising_below 
 three : (m n : ℕ) → (m < n) ⊎ ((n < m) ⊎ (m ≡ n))
 three m n = grind arith
 
-one_place : (rs : List DriverNo) → Rises (λ (r : DriverNo). r.0) rs → (i j : ℕ) (r s : DriverNo) → slice_get rs i ≡ Some r → slice_get rs j ≡ Some s → r ≡ s → i ≡ j
+pub one_place : (rs : List DriverNo) → Rises (λ (r : DriverNo). r.0) rs → (i j : ℕ) (r s : DriverNo) → slice_get rs i ≡ Some r → slice_get rs j ≡ Some s → r ≡ s → i ≡ j
 one_place rs rises i j r s at_i at_j same = elim (three i j) [
   | inl less ↦ absurd (let l = rising_below rs rises i j r s at_i at_j less in let e = ap (λ (d : DriverNo). d.0) same in omega (arith, l, e))
   | inr rest ↦ elim rest [
@@ -140,8 +140,8 @@ not_some : {A : Type 0} (o : Option A) → o ≡ None → IsSome o → ⊥
 not_some None none some = cc
 not_some (Some x) none some = cc
 
-module _ (board : BoardSeen) (isb : IsBoard board) (layout : List Placement) (lines : List LineSeen) (order : List ℕ) (scripts : List ScriptSeen) (acts : List Actor)
-    (is : IsSystem board lines scripts acts) (a : Actor) (k : ℕ) (script : Option ℕ) (place : IsPlace (board_lines lines) (Some k) (line_for board (board_lines lines) a)) (of : IsScriptOf board.drivers a script) where
+module _ (board : BoardSeen) (isb : IsBoard board) (layout : List Placement) (lines : List LineSeen) (order : List ℕ) (scripts : List ScriptSeen)
+    (is : IsSystem board lines scripts) (a : Actor) (k : ℕ) (script : Option ℕ) (place : IsPlace (board_lines lines) (Some k) (line_for board (board_lines lines) a)) (of : IsScriptOf board.drivers a script) where
   line_is : (x : LineSeen) → slice_get lines k ≡ Some x → line_for board (board_lines lines) a ≡ Some (board_line x)
   line_is x at = sym place.1 ∙ map_there board_line lines k x at
 
@@ -264,7 +264,7 @@ module _ (board : BoardSeen) (isb : IsBoard board) (layout : List Placement) (li
   sound_after y sound i z at = elim (set_cases lines k i y z at) [ inl h ↦ subst IsSound h.1 sound | inr h ↦ is.sound i z h.1 ]
 
   moved : (e : Entry) (new : List LineSeen) (longer : List ℕ) → StepsAt lines order k a e new longer → (line : LineNo) → IsSomeAnd (slice_get lines k) (λ x. line ≡ x.def.line)
-      → IsSystem board new (scripts_after script (Ok (Some e)) scripts) acts × Moves (seen_of board layout lines order) (move_of (seen_of board layout lines order) a) (line, e) (seen_of board layout new longer)
+      → IsSystem board new (scripts_after script (Ok (Some e)) scripts) × Moves (seen_of board layout lines order) (move_of (seen_of board layout lines order) a) (line, e) (seen_of board layout new longer)
   moved e new longer s line of_line =
       let x = s.before in
       let y = s.after in
@@ -284,7 +284,6 @@ module _ (board : BoardSeen) (isb : IsBoard board) (layout : List Placement) (li
           sound = subst (λ (ls : List LineSeen). (i : ℕ) (z : LineSeen) → slice_get ls i ≡ Some z → IsSound z) (sym s.rest) (sound_after y s.sound);
           drivers = drivers_after script (Ok (Some e)) ∙ is.drivers;
           each = λ i t at. subst (λ (ls : List BoardLine). IsScript board.calls ls t) (sym after) (each_after x e s.at s.adds.due script of i t at);
-          all = is.all;
         },
         subst (λ (n : Move). Moves (seen_of board layout lines order) (move_of (seen_of board layout lines order) a) n (seen_of board layout new longer)) same
             (record {
@@ -303,8 +302,8 @@ module _ (board : BoardSeen) (isb : IsBoard board) (layout : List Placement) (li
   same_seen : (new : List LineSeen) (longer : List ℕ) → new ≡ lines → longer ≡ order → seen_of board layout new longer ≡ seen_of board layout lines order
   same_seen new longer ls os = ap (λ (x : List LineSeen). seen_of board layout x longer) ls ∙ ap (λ (x : List ℕ). seen_of board layout lines x) os
 
-  same_system : (new : List LineSeen) → new ≡ lines → (r : Result (Option Entry) StepRefused) → scripts_after script r scripts ≡ scripts → IsSystem board new (scripts_after script r scripts) acts
-  same_system new ls r ss = subst (λ (x : List LineSeen). IsSystem board x (scripts_after script r scripts) acts) (sym ls) (subst (λ (x : List ScriptSeen). IsSystem board lines x acts) (sym ss) is)
+  same_system : (new : List LineSeen) → new ≡ lines → (r : Result (Option Entry) StepRefused) → scripts_after script r scripts ≡ scripts → IsSystem board new (scripts_after script r scripts)
+  same_system new ls r ss = subst (λ (x : List LineSeen). IsSystem board x (scripts_after script r scripts)) (sym ls) (subst (λ (x : List ScriptSeen). IsSystem board lines x) (sym ss) is)
 
   no_scripts : (o : Option ℕ) → scripts_after o (Ok None) scripts ≡ scripts
   no_scripts None = refl
@@ -315,7 +314,7 @@ module _ (board : BoardSeen) (isb : IsBoard board) (layout : List Placement) (li
   not_scripts (Some j) refused = refl
 
   pub turned : (r : Result (Option Entry) StepRefused) (new : List LineSeen) (longer : List ℕ) → SteppedAt lines order k a r new longer → (line : LineNo) → IsSomeAnd (slice_get lines k) (λ x. line ≡ x.def.line)
-      → IsSystem board new (scripts_after script r scripts) acts × Turns (seen_of board layout lines order) a (turn_of line r) (seen_of board layout new longer)
+      → IsSystem board new (scripts_after script r scripts) × StepsBy (seen_of board layout lines order) (move_of (seen_of board layout lines order) a) (turn_of line r) (seen_of board layout new longer)
   turned (Ok (Some e)) new longer s line number = moved e new longer s line number
   turned (Ok None) new longer s line number =
       (same_system new s.1 (Ok None) (no_scripts script), (move_is s.0.line s.0.at None s.0.rests, same_seen new longer s.1 s.2))

@@ -1,5 +1,5 @@
 -- A play of a system, move by move.
-use Rattle.std.proofs.Common.{◌≡◌, ℕ, suc, ◌+◌, ◌-◌, ◌<◌, ◌≤◌, Bool, true, false, cond, IsSomeAnd, Option, Some, None, List, [], ◌∷◌, length, reverse, get_or, drop, slice_get, refl, sym, ap, ◌∙◌, subst, arith, add-one}
+use Rattle.std.proofs.Common.{◌≡◌, ℕ, ◌+◌, ◌-◌, ◌<◌, ◌≤◌, Bool, true, false, cond, is_some, IsSome, IsSomeAnd, Option, Some, None, List, [], ◌∷◌, length, reverse, get_or, drop, refl, sym, ap, ◌∙◌, subst, arith, add-one}
 use Rattle.std.proofs.Math.Seq.{drop-cons}
 use Rattle.std.proofs.lemmas.List.{reverse-append}
 use Rattle.irq_base.specs.declared.entries.Actor.{Actor}
@@ -10,14 +10,13 @@ use Rattle.irq_steps.proofs.Same.{line_from_same, same_self_line}
 use Rattle.irq_laws.proofs.Lists.{both_ways}
 use Rattle.board_def.specs.Seen.{BoardSeen}
 use Rattle.board_play.specs.Lines.{BoardLine, Move, part, defs_of, lines_of, lines_after, find_line}
-use Rattle.board_play.specs.Order.{actors_of}
-use Rattle.board_play.specs.Play.{or_move, first_move, with_picks, or_choice, choice, IsChosen}
+use Rattle.board_play.specs.Play.{with_picks, or_choice, choice, IsChosen}
 use Rattle.board_play.proofs.Members.{found, past_at}
 use Rattle.board_play.proofs.Moving.{lines_more}
 use Rattle.board_core.specs.Playing.{IsFresh, IsUnderway, IsPlay, Ends}
 use Rattle.board_core.specs.Seen.{SystemSeen, board_lines}
-use Rattle.board_core.specs.Turns.{move_of, Moves, IsFullFor, TurnsBy, Turns, lowest_move}
-use Rattle.board_core.proofs.Searches.{dropped, all_dropped}
+use Rattle.board_core.specs.Turned.{StepsBy}
+use Rattle.board_core.specs.Turns.{move_of, Moves, IsFullFor, TurnsBy, MayWant, Turns, lowest_move}
 use Rattle.board_core.specs.declared.turns.Turn.{Turn}
 use Rattle.board_core.specs.declared.turns.Turn.TheVariants as turns
 use Rattle.board_core.specs.declared.turns.PlayEnd.TheVariants as ends
@@ -118,10 +117,32 @@ pick_full old new picks i d line len turn within u same t =
     subst (λ (s : SystemSeen). IsPlay s picks (ends.Full line len)) (sym full.1)
     (is_full old picks (get_or picks i d ∷ drop (i + 1) picks) (drop (i + 1) picks) (move_of old (get_or picks i d)) line len (at_pick old picks i d within u) full.0 (λ m due. with_move old (get_or picks i d) (drop (i + 1) picks) m due))
 
+-- where somebody can move there is a next move, whatever picks are left
+some_choice : (s : SystemSeen) (picks : List Actor) → IsSome (lowest_move s) → IsSome (choice s.board (board_lines s.lines) picks)
+some_choice s [] some = by_move (lowest_move s) some
+  where
+    by_move : (o : Option Move) → IsSome o → IsSome (with_picks [] o)
+    by_move None some = some_none some
+      where
+        some_none : IsSome {T = Move} None → IsSome (with_picks [] None)
+        some_none h = cc
+    by_move (Some m) some = refl
+some_choice s (pick ∷ picks) some = by_pick (move_of s pick) (some_choice s picks some)
+  where
+    by_pick : (o : Option Move) → IsSome (choice s.board (board_lines s.lines) picks) → IsSome (or_choice (with_picks picks o) (choice s.board (board_lines s.lines) picks))
+    by_pick None deeper = deeper
+    by_pick (Some m) deeper = refl
+
+-- memory was refused where there was a next move
+refused : (s : SystemSeen) (picks rest : List Actor) → IsUnderway s picks rest → IsSome (lowest_move s) → IsPlay s picks ends.NoMemory
+refused s picks rest u some =
+    let next : IsSome (choice s.board (board_lines s.lines) u.left) = ap (λ (o : Option (Move × List Actor)). is_some o) u.next ∙ some_choice s rest some in
+    (u.left, u.chosen, subst (λ (ls : List BoardLine). IsSome (choice s.board ls u.left)) u.lines next)
+
 pub pick_refused : (old new : SystemSeen) (picks rest : List Actor) (pick : Actor) (turn : Turn) → IsUnderway old picks rest → turn ≡ turns.NoMemory → Turns old pick turn new → IsPlay new picks ends.NoMemory
 pick_refused old new picks rest pick turn u same t =
-    let refused : new ≡ old = subst (λ (x : Turn). Turns old pick x new) same t in
-    subst (λ (s : SystemSeen). IsPlay s picks ends.NoMemory) (sym refused) (u.left, u.chosen)
+    let wanted = subst (λ (x : Turn). Turns old pick x new) same t in
+    subst (λ (s : SystemSeen). IsPlay s picks ends.NoMemory) (sym wanted.1) (refused old picks rest u wanted.0.somebody)
 
 -- ---- the lowest
 
@@ -146,8 +167,12 @@ lowest_full old new picks line len turn u same t =
 
 pub lowest_refused : (old new : SystemSeen) (picks : List Actor) (turn : Turn) → IsUnderway old picks [] → turn ≡ turns.NoMemory → TurnsBy old (lowest_move old) turn new → IsPlay new picks ends.NoMemory
 lowest_refused old new picks turn u same t =
-    let refused : new ≡ old = subst (λ (x : Turn). TurnsBy old (lowest_move old) x new) same t in
-    subst (λ (s : SystemSeen). IsPlay s picks ends.NoMemory) (sym refused) (u.left, u.chosen)
+    let wanted = subst (λ (x : Turn). TurnsBy old (lowest_move old) x new) same t in
+    subst (λ (s : SystemSeen). IsPlay s picks ends.NoMemory) (sym wanted.1) (refused old picks [] u wanted.0)
+
+pub ends_refused : (old new : SystemSeen) (turn : Turn) → turn ≡ turns.NoMemory → TurnsBy old (lowest_move old) turn new → Ends new ends.NoMemory
+ends_refused old new turn same t =
+    let wanted = subst (λ (x : Turn). TurnsBy old (lowest_move old) x new) same t in subst (λ (s : SystemSeen). Ends s ends.NoMemory) (sym wanted.1) wanted.0
 
 pub ends_done : (old new : SystemSeen) (turn : Turn) → turn ≡ turns.NotYet → TurnsBy old (lowest_move old) turn new → Ends new ends.Done
 ends_done old new turn same t =
@@ -163,40 +188,42 @@ pub same_board : (old new : SystemSeen) (due : Option Move) (turn : Turn) → Tu
 same_board old new due (turns.Moved line e) t = t.board
 same_board old new due turns.NotYet t = ap (λ (s : SystemSeen). s.board) t.1
 same_board old new due (turns.Full line len) t = ap (λ (s : SystemSeen). s.board) t.1
-same_board old new due turns.NoMemory t = ap (λ (s : SystemSeen). s.board) t
+same_board old new due turns.NoMemory t = ap (λ (s : SystemSeen). s.board) t.1
+
+pub turn_same_board : (old new : SystemSeen) (a : Actor) (turn : Turn) → Turns old a turn new → new.board ≡ old.board
+turn_same_board old new a (turns.Moved line e) t = t.board
+turn_same_board old new a turns.NotYet t = ap (λ (s : SystemSeen). s.board) t.1
+turn_same_board old new a (turns.Full line len) t = ap (λ (s : SystemSeen). s.board) t.1
+turn_same_board old new a turns.NoMemory t = ap (λ (s : SystemSeen). s.board) t.1
 
 pub same_layout : (old new : SystemSeen) (due : Option Move) (turn : Turn) → TurnsBy old due turn new → new.layout ≡ old.layout
 same_layout old new due (turns.Moved line e) t = t.layout
 same_layout old new due turns.NotYet t = ap (λ (s : SystemSeen). s.layout) t.1
 same_layout old new due (turns.Full line len) t = ap (λ (s : SystemSeen). s.layout) t.1
-same_layout old new due turns.NoMemory t = ap (λ (s : SystemSeen). s.layout) t
+same_layout old new due turns.NoMemory t = ap (λ (s : SystemSeen). s.layout) t.1
 
--- ---- the lowest of the actors, one after another
+pub turn_same_layout : (old new : SystemSeen) (a : Actor) (turn : Turn) → Turns old a turn new → new.layout ≡ old.layout
+turn_same_layout old new a (turns.Moved line e) t = t.layout
+turn_same_layout old new a turns.NotYet t = ap (λ (s : SystemSeen). s.layout) t.1
+turn_same_layout old new a (turns.Full line len) t = ap (λ (s : SystemSeen). s.layout) t.1
+turn_same_layout old new a turns.NoMemory t = ap (λ (s : SystemSeen). s.layout) t.1
 
-abbrev pub first_from : SystemSeen → ℕ → Option Move
-first_from s i = first_move s.board (board_lines s.lines) (drop i (actors_of s.board))
+-- ---- a step as a turn
 
-at_actor : (s : SystemSeen) (i : ℕ) (a : Actor) → slice_get (actors_of s.board) i ≡ Some a → first_from s i ≡ or_move (move_of s a) (first_from s (suc i))
-at_actor s i a at = ap (λ (all : List Actor). first_move s.board (board_lines s.lines) all) (dropped (actors_of s.board) i a at)
+pub turns_with : (old new : SystemSeen) (a : Actor) (turn : Turn) → MayWant old a → StepsBy old (move_of old a) turn new → Turns old a turn new
+turns_with old new a (turns.Moved line e) may s = s
+turns_with old new a turns.NotYet may s = s
+turns_with old new a (turns.Full line len) may s = s
+turns_with old new a turns.NoMemory may s = (may, s)
 
--- the first that can move is the lowest
-pub is_lowest : (s new : SystemSeen) (i : ℕ) (a : Actor) (turn : Turn) → slice_get (actors_of s.board) i ≡ Some a → lowest_move s ≡ first_from s i → (turn ≡ turns.NotYet → ⊥) → Turns s a turn new → TurnsBy s (lowest_move s) turn new
-is_lowest s new i a (turns.Moved line e) at passed moved t =
-    let lowest : lowest_move s ≡ Some (line, e) = passed ∙ (at_actor s i a at ∙ ap (λ (o : Option Move). or_move o (first_from s (suc i))) t.is) in
-    record { is = lowest; room = t.room; board = t.board; layout = t.layout; lines = t.lines; log = t.log }
-is_lowest s new i a turns.NotYet at passed moved t = absurd (moved refl)
-is_lowest s new i a (turns.Full line len) at passed moved t =
-    let lowest : lowest_move s ≡ Some t.0.move = passed ∙ (at_actor s i a at ∙ ap (λ (o : Option Move). or_move o (first_from s (suc i))) t.0.is) in
-    (record { move = t.0.move; is = lowest; of_line = t.0.of_line; length = t.0.length; log = t.0.log }, t.1)
-is_lowest s new i a turns.NoMemory at passed moved t = t
-
-pub not_lowest : (s new : SystemSeen) (i : ℕ) (a : Actor) (turn : Turn) → slice_get (actors_of s.board) i ≡ Some a → lowest_move s ≡ first_from s i → turn ≡ turns.NotYet → Turns s a turn new → (new ≡ s) × (lowest_move s ≡ first_from s (i + 1))
-not_lowest s new i a turn at passed same t =
-    let rests = subst (λ (x : Turn). Turns s a x new) same t in
-    (rests.1, passed ∙ (at_actor s i a at ∙ (ap (λ (o : Option Move). or_move o (first_from s (suc i))) rests.0 ∙ ap (λ (n : ℕ). first_from s n) (sym (add-one i)))))
-
-pub none_lowest : (s : SystemSeen) (i : ℕ) → length (actors_of s.board) ≤ i → lowest_move s ≡ first_from s i → lowest_move s ≡ None
-none_lowest s i end passed = passed ∙ ap (λ (all : List Actor). first_move s.board (board_lines s.lines) all) (all_dropped (actors_of s.board) i end)
+pub lowest_with : (old new : SystemSeen) (due : Option Move) (a : Actor) (turn : Turn) → due ≡ move_of old a → IsSome (move_of old a) → StepsBy old (move_of old a) turn new → TurnsBy old due turn new
+lowest_with old new due a turn same some s = subst (λ (o : Option Move). TurnsBy old o turn new) (sym same) (by_turn turn s)
+  where
+    by_turn : (turn : Turn) → StepsBy old (move_of old a) turn new → TurnsBy old (move_of old a) turn new
+    by_turn (turns.Moved line e) s = s
+    by_turn turns.NotYet s = s
+    by_turn (turns.Full line len) s = s
+    by_turn turns.NoMemory s = (some, s)
 
 -- ---- it ends
 
@@ -246,15 +273,6 @@ room_falls old new line e turn same t =
     subst (λ (n : ℕ). n < room old.board.log (board_lines old.lines))
     (ap (λ (ls : List BoardLine). room old.board.log ls) (sym moves.lines) ∙ ap (λ (b : BoardSeen). room b.log (board_lines new.lines)) (sym moves.board))
     (room_less old.board.log (line, e) (board_lines old.lines) moves.room)
-
-pub is_lowest_of : (before s new : SystemSeen) (i : ℕ) (a : Actor) (turn : Turn) → s ≡ before → slice_get (actors_of s.board) i ≡ Some a → lowest_move before ≡ first_from before i → (turn ≡ turns.NotYet → ⊥) → Turns s a turn new → TurnsBy before (lowest_move before) turn new
-is_lowest_of before s new i a turn same at passed moved t =
-    is_lowest before new i a turn (subst (λ (x : SystemSeen). slice_get (actors_of x.board) i ≡ Some a) same at) passed moved (subst (λ (x : SystemSeen). Turns x a turn new) same t)
-
-pub not_lowest_of : (before s new : SystemSeen) (i : ℕ) (a : Actor) (turn : Turn) → s ≡ before → slice_get (actors_of s.board) i ≡ Some a → lowest_move before ≡ first_from before i → turn ≡ turns.NotYet → Turns s a turn new
-    → (new ≡ before) × (lowest_move before ≡ first_from before (i + 1))
-not_lowest_of before s new i a turn same at passed still t =
-    not_lowest before new i a turn (subst (λ (x : SystemSeen). slice_get (actors_of x.board) i ≡ Some a) same at) passed still (subst (λ (x : SystemSeen). Turns x a turn new) same t)
 
 pub pick_done : (old new : SystemSeen) (picks : List Actor) (i : ℕ) (d : Actor) (turn : Turn) → i < length picks → IsUnderway old picks (drop i picks)
     → ((line : LineNo) (len : ℕ) → turn ≡ turns.Full line len → ⊥) → (turn ≡ turns.NoMemory → ⊥) → Turns old (get_or picks i d) turn new → IsUnderway new picks (drop (i + 1) picks)

@@ -19,11 +19,11 @@ use Rattle.board_def.specs.Seen.{BoardSeen}
 use Rattle.board_play.specs.Lines.{BoardLine, Move, defs_of}
 use Rattle.board_play.proofs.Members.{defs_at, past_at}
 use Rattle.board_core.specs.Making.{AreNew}
-use Rattle.board_core.proofs.InSystem.{few_lines}
+use Rattle.board_core.proofs.Few.{few_lines}
 use Rattle.board_play.specs.Order.{move_on}
 use Rattle.board_core.specs.Log.{older, without_newest, with_newest, merged, moves_of, times, move_at, IsWalk}
 use Rattle.board_core.specs.Seen.{board_line, board_lines}
-use Rattle.board_core.proofs.Searches.{dropped}
+use Rattle.board_core.proofs.Searches.{there, dropped}
 use Rattle.board_core.proofs.TurnLaws.{set_there, set_other, set_cases, map_there}
 
 -- ---- the oldest of the moves
@@ -93,11 +93,6 @@ module _ (k : ℕ) (m : Move) where
 -- ---- the next move
 
 module _ {A : Type 0} where
-  there : (xs : List A) (k : ℕ) → k < length xs → (x : A) × (slice_get xs k ≡ Some x)
-  there [] k h = absurd (omega (arith, h))
-  there (x ∷ xs) zero h = (x, refl)
-  there (x ∷ xs) (suc k) h = there xs k (omega (arith, h))
-
   from_the_end : (xs : List A) (c n : ℕ) (x : A) → slice_get xs c ≡ Some x → c + (1 + n) ≡ length xs → slice_get (reverse xs) n ≡ Some x
   from_the_end xs c n x at is =
       let len = length-reverse xs in

@@ -1,10 +1,15 @@
 pub mod Stepping
+pub mod Numbers
 pub mod Scripts
+pub mod ReadyFor
+pub mod Refreshed
 pub mod Seen
 pub mod Log
 pub mod Turns
 pub mod Inside
 pub mod Places
 pub mod Turned
+pub mod Stands
+pub mod Firsts
 pub mod Playing
 pub mod Making

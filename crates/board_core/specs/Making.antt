@@ -1,7 +1,7 @@
 -- What a system is made of.
-use Rattle.std.specs.Prelude.{◌≡◌, ℕ, IsSomeAnd, Option, Some, None, List, [], map, slice_get}
+use Rattle.std.specs.Prelude.{◌≡◌, ℕ, IsSomeAnd, Option, Some, None, List, [], ◌∷◌, ◌++◌, length, map, take, slice_get, slice_set}
 use Rattle.irq_base.specs.declared.lines.LineDef.{LineDef}
-use Rattle.irq_base.specs.declared.numbers.DriverNo.{DriverNo}
+use Rattle.board_def.specs.declared.rows.ScriptCall.{ScriptCall}
 use Rattle.irq_line.specs.Seen.{LineSeen, IsSound}
 use Rattle.board_def.specs.LineOf.{line_of_row}
 use Rattle.board_def.specs.Seen.{BoardSeen}
@@ -9,6 +9,7 @@ use Rattle.domain_rules.specs.declared.layouts.Placement.{Placement}
 use Rattle.domain_rules.specs.declared.layouts.Placement.TheVariants as placements
 use Rattle.board_def.specs.declared.rows.LineRow.{LineRow}
 use Rattle.board_play.specs.Lines.{defs_of, lines_of}
+use Rattle.board_core.specs.Numbers.{numbers_of_defs}
 use Rattle.board_core.specs.Scripts.{ScriptSeen, cut, calls_of}
 use Rattle.board_core.specs.Seen.{board_line, board_lines}
 use Rattle.board_core.specs.declared.scripts.Step.{Step}
@@ -27,18 +28,30 @@ IsNewLine board _ _ made = made ≡ None
 abbrev pub AreNew : BoardSeen → List LineSeen → Type 0
 AreNew board lines = board_lines lines ≡ lines_of board []
 
--- the driver's script, of which nothing is complete
-pub record IsNewScript (board : BoardSeen) (lines : List LineSeen) (r : DriverNo) (s : ScriptSeen) : Type 0 where
-  pub driver : s.driver ≡ r
+-- the driver's script over the first n calls, of which nothing is complete
+pub record IsCut (board : BoardSeen) (n : ℕ) (s : ScriptSeen) : Type 0 where
   pub at : s.at ≡ 0
   pub made : s.made ≡ 0
-  pub cut : calls_of s.steps ≡ cut (defs_of board) r board.calls
-  pub places : (i : ℕ) (x : Step) → slice_get s.steps i ≡ Some x → IsSomeAnd (slice_get (board_lines lines) x.place) (λ y. y.def.line ≡ x.call.line)
+  pub cut : calls_of s.steps ≡ cut (defs_of board) s.driver (take n board.calls)
+  pub places : (i : ℕ) (x : Step) → slice_get s.steps i ≡ Some x → slice_get (numbers_of_defs (defs_of board)) x.place ≡ Some x.call.line.0
 
--- a script for each driver, of which nothing is complete
-pub record AreNewScripts (board : BoardSeen) (lines : List LineSeen) (scripts : List ScriptSeen) : Type 0 where
+-- such a script for each driver
+pub record AreCut (board : BoardSeen) (n : ℕ) (scripts : List ScriptSeen) : Type 0 where
   pub drivers : map (λ (s : ScriptSeen). s.driver) scripts ≡ board.drivers
-  pub each : (i : ℕ) (s : ScriptSeen) → slice_get scripts i ≡ Some s → IsNewScript board lines s.driver s
+  pub each : (j : ℕ) (s : ScriptSeen) → slice_get scripts j ≡ Some s → IsCut board n s
+
+-- over all calls
+abbrev pub AreNewScripts : BoardSeen → List ScriptSeen → Type 0
+AreNewScripts board scripts = AreCut board (length board.calls) scripts
+
+-- the scripts with the call at the end of the one at place j, if there are both places
+abbrev pub call_put : Option ScriptSeen → ℕ → ℕ → ScriptCall → List ScriptSeen → List ScriptSeen
+call_put None j k c scripts = scripts
+call_put (Some s) j k c scripts = slice_set scripts j (record s { steps = s.steps ++ record { place = k; call = c } ∷ [] })
+
+abbrev pub with_call : Option ℕ → Option ℕ → ScriptCall → List ScriptSeen → List ScriptSeen
+with_call (Some j) (Some k) c scripts = call_put (slice_get scripts j) j k c scripts
+with_call _ _ c scripts = scripts
 
 -- each is sound
 abbrev pub AreSound : List LineSeen → Type 0

@@ -1,5 +1,5 @@
 -- What a play of a system comes to.
-use Rattle.std.specs.Prelude.{◌≡◌, None, List, [], length, reverse}
+use Rattle.std.specs.Prelude.{◌≡◌, IsSome, None, List, [], length, reverse}
 use Rattle.irq_base.specs.declared.entries.Actor.{Actor}
 use Rattle.board_play.specs.Lines.{part, lines_of}
 use Rattle.board_play.specs.Play.{Done, Full, choice, IsChosen, Plays}
@@ -21,14 +21,14 @@ pub record IsUnderway (s : SystemSeen) (picks rest : List Actor) : Type 0 where
   pub next : choice s.board (board_lines s.lines) left ≡ choice s.board (board_lines s.lines) rest
 
 -- The log is the play of the board with these picks, done or full as was answered; a full one tells the length. Where
--- memory was refused it is the play so far.
+-- memory was refused it is the play so far, and there is a next move.
 abbrev pub IsPlay : SystemSeen → List Actor → PlayEnd → Type 0
 IsPlay s picks ends.Done = Plays s.board picks (reverse s.log) Done
 IsPlay s picks (ends.Full line len) = Plays s.board picks (reverse s.log) (Full line) × (length (part line (reverse s.log)) ≡ len)
-IsPlay s picks ends.NoMemory = (left : List Actor) × IsChosen s.board picks (reverse s.log) left
+IsPlay s picks ends.NoMemory = (left : List Actor) × IsChosen s.board picks (reverse s.log) left × IsSome (choice s.board (lines_of s.board (reverse s.log)) left)
 
--- no actor can move; or the lowest that can has a line without room, whose length is told
+-- no actor can move; or the lowest that can has a line without room, whose length is told; or it wanted memory
 abbrev pub Ends : SystemSeen → PlayEnd → Type 0
 Ends s ends.Done = lowest_move s ≡ None
 Ends s (ends.Full line len) = IsFullFor s (lowest_move s) line len
-Ends s ends.NoMemory = Unit {0}
+Ends s ends.NoMemory = IsSome (lowest_move s)

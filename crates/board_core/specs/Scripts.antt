@@ -1,5 +1,5 @@
 -- The drivers' scripts, cut by driver: the calls on lines that take part, and how far each driver is.
-use Rattle.std.specs.Prelude.{◌≡◌, ℕ, ◌+◌, Bool, true, false, ◌&&◌, ◌==◌, nat_le, if◌then◌else◌, IsSomeAnd, Option, Some, None, List, [], ◌∷◌, ◌++◌, map, slice_get}
+use Rattle.std.specs.Prelude.{◌≡◌, ℕ, ◌+◌, Bool, true, false, ◌&&◌, ◌==◌, nat_le, if◌then◌else◌, IsSomeAnd, Option, Some, None, List, [], ◌∷◌, map, slice_get}
 use Rattle.std.specs.List.{list_any}
 use Rattle.irq_base.specs.declared.calls.Call.{Call}
 use Rattle.irq_base.specs.declared.calls.Call.TheVariants as calls
@@ -11,11 +11,11 @@ use Rattle.irq_base.specs.declared.numbers.DriverNo.{DriverNo}
 use Rattle.irq_base.specs.declared.numbers.LineNo.{LineNo}
 use Rattle.irq_model.specs.Due.{due_call}
 use Rattle.irq_model.specs.Kinds.{same_line, same_driver}
-use Rattle.board_def.specs.Rules.{has_driver}
 use Rattle.board_def.specs.declared.rows.ScriptCall.{ScriptCall}
 use Rattle.board_play.specs.Kept.{IsUpTo}
 use Rattle.board_play.specs.Lines.{BoardLine}
 use Rattle.board_core.specs.declared.scripts.Step.{Step}
+use Rattle.board_core.specs.declared.turns.DueCall.{DueCall}
 
 -- a driver's script: its calls with the places of their lines, at which of them it is, and how many entries of that one
 -- are there
@@ -67,21 +67,7 @@ pub record IsScript (calls : List ScriptCall) (lines : List BoardLine) (s : Scri
   pub up_to : IsUpTo (calls_of s.steps) lines s.driver s.at
   pub due : (x : Step) (y : BoardLine) → slice_get s.steps s.at ≡ Some x → slice_get lines x.place ≡ Some y → due_call y.def s.driver y.past ≡ Some (x.call.call, s.made)
 
-abbrev pub place_of : Option Step → Option ℕ
-place_of None = None
-place_of (Some step) = Some step.place
-
--- where the driver stands among these; none where it doesn't
-abbrev pub IsPlaceOf : List DriverNo → DriverNo → Option ℕ → Type 0
-IsPlaceOf drivers r None = has_driver drivers r ≡ false
-IsPlaceOf drivers r (Some j) = slice_get drivers j ≡ Some r
-
--- the place is that of the call's line, if the call is the driver's and its line takes part; else there is none
-abbrev pub IsCallPlace : List BoardLine → DriverNo → ScriptCall → Option ℕ → Type 0
-IsCallPlace lines r c None = (same_driver r c.driver && takes_part (map (λ (x : BoardLine). x.def) lines) c.line) ≡ false
-IsCallPlace lines r c (Some k) = ((same_driver r c.driver && takes_part (map (λ (x : BoardLine). x.def) lines) c.line) ≡ true) × IsSomeAnd (slice_get lines k) (λ y. y.def.line ≡ c.line)
-
--- the script with the call at its end, if its line has a place
-abbrev pub with_call : Option ℕ → ScriptCall → ScriptSeen → ScriptSeen
-with_call None c s = s
-with_call (Some k) c s = record s { steps = s.steps ++ record { place = k; call = c } ∷ [] }
+-- the call that a driver is at, of which so many entries are there
+abbrev pub due_at : Option Step → ℕ → Option DueCall
+due_at None made = None
+due_at (Some step) made = Some (record { line = step.call.line; call = step.call.call; made = made })

@@ -8,8 +8,16 @@ use Rattle.irq_base.specs.declared.numbers.LineNo.{LineNo}
 use Rattle.irq_line.specs.declared.answers.StepRefused.{StepRefused}
 use Rattle.irq_line.specs.declared.answers.StepRefused.TheVariants as refusals
 use Rattle.board_core.specs.Scripts.{ScriptSeen, advanced}
+use Rattle.board_play.specs.Lines.{Move}
+use Rattle.board_core.specs.Seen.{SystemSeen}
+use Rattle.board_core.specs.Turns.{TurnsBy}
 use Rattle.board_core.specs.declared.turns.Turn.{Turn}
 use Rattle.board_core.specs.declared.turns.Turn.TheVariants as turns
+
+-- a step in which that move was to be made, if any; memory is wanted wherever it pleases
+abbrev pub StepsBy : SystemSeen → Option Move → Turn → SystemSeen → Type 0
+StepsBy old due turns.NoMemory new = new ≡ old
+StepsBy old due turn new = TurnsBy old due turn new
 
 -- the place of the actor's script: a driver's own
 abbrev pub IsScriptOf : List DriverNo → Actor → Option ℕ → Type 0

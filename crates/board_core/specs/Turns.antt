@@ -1,6 +1,8 @@
 -- What a turn of an actor comes to.
-use Rattle.std.specs.Prelude.{◌≡◌, ◌<◌, IsSomeAnd, ℕ, Option, Some, None, [], ◌∷◌, ◌++◌, length}
+use Rattle.std.specs.Prelude.{◌≡◌, ◌<◌, ◌≤◌, IsSome, IsSomeAnd, ℕ, Option, Some, None, [], ◌∷◌, ◌++◌, length}
 use Rattle.irq_base.specs.declared.entries.Actor.{Actor}
+use Rattle.irq_base.specs.declared.entries.Actor.TheVariants as actors
+use Rattle.irq_base.specs.declared.numbers.DevNo.{DevNo}
 use Rattle.irq_base.specs.declared.numbers.LineNo.{LineNo}
 use Rattle.board_play.specs.Lines.{BoardLine, Move, find_line, lines_after}
 use Rattle.board_play.specs.Order.{due_move, actors_of}
@@ -34,16 +36,28 @@ pub record IsFullFor (s : SystemSeen) (due : Option Move) (line : LineNo) (len :
   pub length : HasLength (find_line (board_lines s.lines) line) len
   pub log : len ≡ s.board.log
 
--- a turn in which that move was to be made, if any
+-- a turn in which that move was to be made, if any; memory is wanted only where one was
 abbrev pub TurnsBy : SystemSeen → Option Move → Turn → SystemSeen → Type 0
 TurnsBy old due (turns.Moved line entry) new = Moves old due (line, entry) new
 TurnsBy old due turns.NotYet new = (due ≡ None) × (new ≡ old)
 TurnsBy old due (turns.Full line len) new = IsFullFor old due line len × (new ≡ old)
-TurnsBy old due turns.NoMemory new = new ≡ old
+TurnsBy old due turns.NoMemory new = IsSome due × (new ≡ old)
 
-abbrev pub Turns : SystemSeen → Actor → Turn → SystemSeen → Type 0
-Turns old a turn new = TurnsBy old (move_of old a) turn new
+-- The actor has a move. Of a thread no more is known than that some thread of its line has one, of a device of no higher
+-- number: a line tells the lowest of its threads alone.
+abbrev pub MayMove : SystemSeen → Actor → Type 0
+MayMove s (actors.Thread line d) = (lowest : DevNo) × (lowest.0 ≤ d.0) × IsSome (move_of s (actors.Thread line lowest))
+MayMove s a = IsSome (move_of s a)
 
 -- the move of the lowest actor that can move
 abbrev pub lowest_move : SystemSeen → Option Move
 lowest_move s = first_move s.board (board_lines s.lines) (actors_of s.board)
+
+-- a step of the actor may want memory: it may move, and somebody can
+pub record MayWant (s : SystemSeen) (a : Actor) : Type 0 where
+  pub actor : MayMove s a
+  pub somebody : IsSome (lowest_move s)
+
+abbrev pub Turns : SystemSeen → Actor → Turn → SystemSeen → Type 0
+Turns old a turns.NoMemory new = MayWant old a × (new ≡ old)
+Turns old a turn new = TurnsBy old (move_of old a) turn new

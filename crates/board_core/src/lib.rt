@@ -2,14 +2,17 @@
 //!
 //! A `System` holds the lines of a board that take part, whatever kind of line they are, and plays them by the stated
 //! order (`board_play`). Its log is kept as the order of the lines alone, two bytes a step: an entry stands once, in its
-//! line's history. A turn finds its line by a search over the board's lines, and the lowest actor by trying the board's
-//! actors in order.
+//! line's history. Who can move is kept beside the lines (`board_ready`), and asked again of a line after each step on
+//! it, so that a turn takes the same time whether one actor waits or three hundred.
 #![tactic(auto)]
 
 pub mod making;
 pub mod moves;
+pub mod numbers;
 pub mod places;
+pub mod refreshing;
 pub mod scripts;
+pub mod stands;
 pub mod stepping;
 pub mod system;
 pub mod turning;
@@ -17,4 +20,4 @@ pub mod turns;
 
 pub use moves::Moves;
 pub use system::System;
-pub use turns::{PlayEnd, Turn};
+pub use turns::{DueCall, PlayEnd, Turn};

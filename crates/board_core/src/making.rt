@@ -1,19 +1,16 @@
 //! What a system is made of.
-ghost use Rattle.std.specs.Prelude.{◌≡◌, ℕ, Some, ◌++◌, ◌∷◌, [], IfOk, OnOk, map, slice_get};
+ghost use Rattle.std.specs.Prelude.{◌≡◌, ◌<◌, ℕ, Some, [], IfOk, IfSome, OnOk, length, map, slice_get};
 ghost use Rattle.std.specs.Option.{option_map};
-ghost use Rattle.irq_base.specs.declared.entries.Actor.TheVariants as kinds;
-ghost use Rattle.play_laws.specs.Actors.{count_up};
-ghost use Rattle.board_play.specs.Order.{actors_of, threads_of, drivers_of};
-ghost use Rattle.board_core.specs.Seen.{board_lines};
-ghost use Rattle.board_core.specs.Scripts.{IsCallPlace, with_call};
-ghost use Rattle.board_core.specs.Making.{MakesAll, IsNewLine, AreNew, IsNewScript, AreNewScripts, AreSound};
 ghost use Rattle.board_def.specs.Layout.{layout_of, IsPathOf};
 ghost use Rattle.board_def.specs.LineOf.{line_of_row};
+ghost use Rattle.board_play.specs.Lines.{defs_of};
+ghost use Rattle.board_core.specs.Making.{MakesAll, IsNewLine, AreNew, AreCut, AreNewScripts, AreSound, with_call};
+ghost use Rattle.board_core.specs.Numbers.{numbers_of_defs, numbers_of_drivers};
 
-use crate::places::place_of_line;
+use crate::numbers::place_of;
 use crate::scripts::{Script, Step};
 use board_def::{Board, Layout, LineRow, Placement, ScriptCall};
-use irq_base::{Actor, CpuNo, DriverNo, NoMemory, Path};
+use irq_base::{NoMemory, Path};
 use irq_line::{IrqLine, MakesLine};
 use std::alloc::Global;
 
@@ -82,106 +79,55 @@ fn make_line<L: IrqLine, M: MakesLine<L>>(
     Ok(line)
 }
 
-/// The board's actors, the lowest first.
-pub(crate) fn make_actors(alloc: Global, board: &Board) -> Result<Vec<Actor>, NoMemory>
-    ensures { IfOk result (λ actors. actors.items ≡ actors_of board.now) }
-{
-    let mut actors = Vec::new(alloc);
-    push_threads(&mut actors, board)?;
-    push_cpus(&mut actors, board.cpus())?;
-    push_drivers(&mut actors, board)?;
-    Ok(actors)
-}
-
-fn push_threads(actors: &mut Vec<Actor>, board: &Board) -> Result<(), NoMemory>
-    ensures { OnOk result (actors.new.items ≡ actors.old.items ++ threads_of board.now) }
-{
-    for i in 0..board.devices_len() {
-        let Some(device) = board.device(i) else {
-            unreachable!();
-        };
-        actors.push(Actor::Thread(device.line, device.dev))?;
-    }
-    Ok(())
-}
-
-fn push_cpus(actors: &mut Vec<Actor>, cpus: u32) -> Result<(), NoMemory>
-    ensures { OnOk result (actors.new.items ≡ actors.old.items ++ map (λ n. kinds.Cpu (record { 0 = n })) (count_up 0 cpus)) }
-{
-    for cpu in 0..cpus {
-        actors.push(Actor::Cpu(CpuNo(cpu)))?;
-    }
-    Ok(())
-}
-
-fn push_drivers(actors: &mut Vec<Actor>, board: &Board) -> Result<(), NoMemory>
-    ensures { OnOk result (actors.new.items ≡ actors.old.items ++ drivers_of board.now) }
-{
-    for i in 0..board.drivers_len() {
-        let Some(driver) = board.driver(i) else {
-            unreachable!();
-        };
-        actors.push(Actor::Driver(driver))?;
-    }
-    Ok(())
-}
-
-/// The driver's script, of which nothing is complete.
-pub(crate) fn make_script<L: IrqLine>(
+/// A script for each driver, of which nothing is complete: one pass over the calls of all.
+pub(crate) fn make_scripts(
     alloc: Global,
     board: &Board,
-    lines: &[L],
-    driver: DriverNo,
-) -> Result<Script, NoMemory>
-    requires { AreNew board.now (map L.seen lines.now) }
-    ensures { IfOk result (λ script. IsNewScript board.now (map L.seen lines.now) driver script) }
-{
-    let mut script = Script::new(alloc, driver);
-    for call in board.calls() {
-        let place = place_of_call(lines, driver, call);
-        push_call(&mut script, place, *call)?;
-    }
-    Ok(script)
-}
-
-/// The place of the line that the call is about; none where it isn't the driver's, or the line takes no part.
-fn place_of_call<L: IrqLine>(lines: &[L], driver: DriverNo, call: &ScriptCall) -> Option<usize>
-    ensures { IsCallPlace (board_lines (map L.seen lines.now)) driver call.now result }
-{
-    if call.driver != driver {
-        return None;
-    }
-    place_of_line(lines, call.line)
-}
-
-/// The call goes to the end of the script, if its line has a place.
-fn push_call(script: &mut Script, place: Option<usize>, call: ScriptCall) -> Result<(), NoMemory>
-    ensures { OnOk result (script.new ≡ with_call place call script.old) }
-{
-    if let Some(place) = place {
-        script.push(Step { place, call })?;
-    }
-    Ok(())
-}
-
-/// A script for each driver, of which nothing is complete.
-pub(crate) fn make_scripts<L: IrqLine>(
-    alloc: Global,
-    board: &Board,
-    lines: &[L],
+    line_numbers: &[u32],
+    driver_numbers: &[u32],
 ) -> Result<Vec<Script>, NoMemory>
-    requires { AreNew board.now (map L.seen lines.now) }
-    ensures { IfOk result (λ scripts. AreNewScripts board.now (map L.seen lines.now) scripts.items) }
+    requires lines { line_numbers.now ≡ numbers_of_defs (defs_of board.now) }
+    requires drivers { driver_numbers.now ≡ numbers_of_drivers board.now.drivers }
+    ensures { IfOk result (λ scripts. AreNewScripts board.now scripts.items) }
+{
+    board.is_board();
+    let mut scripts = empty_scripts(alloc, board)?;
+    for call in board.calls() {
+        let script = place_of(driver_numbers, call.driver.0);
+        let place = place_of(line_numbers, call.line.0);
+        push_call(&mut scripts, script, place, *call)?;
+    }
+    Ok(scripts)
+}
+
+/// A script without calls for each driver.
+fn empty_scripts(alloc: Global, board: &Board) -> Result<Vec<Script>, NoMemory>
+    ensures { IfOk result (λ scripts. AreCut board.now 0 scripts.items) }
 {
     let mut scripts = Vec::new(alloc);
     for i in 0..board.drivers_len() {
         let Some(driver) = board.driver(i) else {
             unreachable!();
         };
-        let script = make_script(alloc, board, lines, driver)?;
-        scripts.push(script)?;
+        scripts.push(Script::new(alloc, driver))?;
     }
     Ok(scripts)
+}
+
+/// The call goes to the end of that script, if it has one and its line has a place.
+fn push_call(
+    scripts: &mut Vec<Script>,
+    script: Option<usize>,
+    place: Option<usize>,
+    call: ScriptCall,
+) -> Result<(), NoMemory>
+    requires { IfSome script (λ j. j < length scripts.old.items) }
+    ensures { OnOk result (scripts.new.items ≡ with_call script place call scripts.old.items) }
+{
+    if let (Some(j), Some(place)) = (script, place) {
+        scripts[j].push(Step { place, call })?;
+    }
+    Ok(())
 }
 
 /// What holds of each line at every moment.

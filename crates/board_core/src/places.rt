@@ -1,65 +1,11 @@
-//! Lines by their places.
-ghost use Rattle.std.specs.Prelude.{◌≡◌, ◌<◌, ◌≤◌, ◌+◌, None, map, length, vec_len, vec_capacity};
-ghost use Rattle.irq_model.specs.Rounds.{is_cpu};
-ghost use Rattle.board_play.specs.Lines.{find_line};
-ghost use Rattle.board_play.specs.Order.{flow_line, due_line};
-ghost use Rattle.board_core.specs.Places.{IsPlace, SteppedAt, told};
-ghost use Rattle.board_core.specs.Seen.{board_line, board_lines};
+//! A step of the line at a place.
+ghost use Rattle.std.specs.Prelude.{◌≡◌, ◌<◌, ◌≤◌, ◌+◌, map, length, vec_len, vec_capacity};
+ghost use Rattle.board_core.specs.Places.{SteppedAt, told};
 
 use crate::stepping::step_heard;
 use callbacks::{Callbacks, Handler};
-use irq_base::{Actor, CpuNo, Entry, LineNo};
+use irq_base::{Actor, Entry};
 use irq_line::{IrqLine, StepRefused};
-
-/// The place of the line of that number.
-pub(crate) fn place_of_line<L: IrqLine>(lines: &[L], line: LineNo) -> Option<usize>
-    ensures { IsPlace (board_lines (map L.seen lines.now)) result (find_line (board_lines (map L.seen lines.now)) line) }
-{
-    for i in 0..lines.len() {
-        let x = &lines[i];
-        if line == x.definition().line {
-            return Some(i);
-        }
-    }
-    None
-}
-
-/// The first place where the processor has a flow in progress.
-pub(crate) fn place_of_flow<L: IrqLine>(lines: &[L], cpu: CpuNo) -> Option<usize>
-    ensures { IsPlace (board_lines (map L.seen lines.now)) result (flow_line (board_lines (map L.seen lines.now)) cpu) }
-{
-    for i in 0..lines.len() {
-        let x = &lines[i];
-        if is_that(x.in_flow(), cpu) {
-            return Some(i);
-        }
-    }
-    None
-}
-
-/// The first place where an entry of the processor is due, which has no flow in progress on any line.
-pub(crate) fn place_of_take<L: IrqLine>(lines: &[L], cpu: CpuNo) -> Option<usize>
-    requires { flow_line (board_lines (map L.seen lines.now)) cpu ≡ None }
-    ensures { IsPlace (board_lines (map L.seen lines.now)) result (due_line (board_lines (map L.seen lines.now)) cpu) }
-{
-    for i in 0..lines.len() {
-        let x = &lines[i];
-        if x.present(cpu) {
-            return Some(i);
-        }
-    }
-    None
-}
-
-/// Whether it is that processor.
-fn is_that(cpu: Option<CpuNo>, that: CpuNo) -> bool
-    ensures { result ≡ is_cpu that cpu }
-{
-    match cpu {
-        Some(cpu) => that == cpu,
-        None => false,
-    }
-}
 
 /// A step of the line at the place: what it adds, the order tells. It takes room in the order first, so that nothing is
 /// refused after the step.

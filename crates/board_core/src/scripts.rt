@@ -1,8 +1,12 @@
 //! The drivers' scripts, cut by driver.
-ghost use Rattle.std.specs.Prelude.{◌≡◌, false, ◌<◌, ◌≤◌, Some, [], ◌∷◌, ◌++◌, length, map, slice_get, slice_set, OnOk};
-ghost use Rattle.board_core.specs.Scripts.{advanced, completes, is_not_there, place_of, IsPlaceOf};
+ghost use Rattle.std.specs.Prelude.{◌≡◌, false, ◌<◌, ◌≤◌, Some, [], ◌∷◌, ◌++◌, slice_get, OnOk};
+ghost use Rattle.board_core.specs.Scripts.{advanced, completes, due_at, is_not_there};
+ghost use Rattle.board_core.specs.ReadyFor.{call_of, wait_for};
+ghost use Rattle.irq_laws.specs.Blocks.{block_of};
 
+use crate::turns::DueCall;
 use board_def::ScriptCall;
+use board_ready::{CurrentCall, WaitFor};
 use irq_base::{Call, DriverNo, Entry, NoMemory, UnlinkAnswer};
 use std::alloc::Global;
 use std::marker::Model;
@@ -68,21 +72,31 @@ impl Script {
         self.steps.get(self.at).copied()
     }
 
-    /// The place of the current call's line; none where all calls are complete.
-    pub fn place(&self) -> Option<usize>
-        ensures { result ≡ place_of (slice_get self.now.steps self.now.at) }
+    /// The current call, by its line and by what it waits for; none where all calls are complete.
+    pub fn call(&self) -> Option<CurrentCall>
+        ensures { result ≡ call_of self.now }
     {
         match self.current() {
-            Some(step) => Some(step.place),
+            Some(step) => Some(CurrentCall {
+                line: step.place,
+                wait: wait_of(step.call.call, self.made),
+            }),
             None => None,
         }
     }
 
-    /// How many entries of the current call are there, at most two.
-    pub fn made(&self) -> u32
-        ensures { result ≡ self.now.made }
+    /// The current call, with how many of its entries are there; none where all calls are complete.
+    pub fn due(&self) -> Option<DueCall>
+        ensures { result ≡ due_at (slice_get self.now.steps self.now.at) self.now.made }
     {
-        self.made
+        match self.current() {
+            Some(step) => Some(DueCall {
+                line: step.call.line,
+                call: step.call.call,
+                made: self.made,
+            }),
+            None => None,
+        }
     }
 
     /// The driver made this entry.
@@ -133,14 +147,19 @@ fn is_not_there(entry: &Entry) -> bool
     }
 }
 
-/// The place of the driver's script; none where the driver has none.
-pub(crate) fn script_of(scripts: &[Script], driver: DriverNo) -> Option<usize>
-    ensures { IsPlaceOf (map (λ s. s.driver) scripts.now) driver result }
+/// What the call waits for, of which so many entries are there.
+fn wait_of(call: Call, made: u32) -> WaitFor
+    ensures { result ≡ wait_for (block_of call made) }
 {
-    for j in 0..scripts.len() {
-        if scripts[j].driver() == driver {
-            return Some(j);
-        }
+    match (call, made) {
+        (Call::Request { .. }, _) => WaitFor::Mutex,
+        (Call::Free { .. }, 0) => WaitFor::Mutex,
+        (Call::Free { .. }, 1) => WaitFor::Flow,
+        (Call::Free { .. }, _) => WaitFor::Device,
+        (Call::Disable, 1) => WaitFor::Flow,
+        (Call::Disable, 2..) => WaitFor::Threads,
+        (Call::Sync, 0) => WaitFor::Flow,
+        (Call::Sync, _) => WaitFor::Threads,
+        _ => WaitFor::Nothing,
     }
-    None
 }

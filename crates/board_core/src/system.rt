@@ -1,27 +1,35 @@
 //! The lines of a board, and their moves.
-ghost use Rattle.std.specs.Prelude.{◌≡◌, None, List, [], IfOk, length, map, reverse, slice_get};
+ghost use Rattle.std.specs.Prelude.{◌≡◌, ◌++◌, List, [], IfOk, length, map, reverse};
+ghost use Rattle.std.specs.Option.{option_map};
 ghost use Rattle.irq_base.specs.declared.entries.Actor.{Actor};
 ghost use Rattle.irq_base.specs.declared.entries.Actor.TheVariants as actors;
 ghost use Rattle.board_def.specs.Layout.{layout_of};
 ghost use Rattle.board_play.specs.Kept.{AreKept};
+ghost use Rattle.board_play.specs.Current.{current_line};
 ghost use Rattle.board_play.specs.Lines.{lines_of};
-ghost use Rattle.board_play.specs.Order.{line_for, actors_of};
+ghost use Rattle.board_play.specs.Order.{cpus_of, drivers_of, threads_of};
+ghost use Rattle.board_core.specs.Firsts.{IsFirstOf, call_on};
 ghost use Rattle.board_core.specs.Making.{AreNew, MakesAll};
-ghost use Rattle.board_core.specs.Places.{IsPlace};
 ghost use Rattle.board_core.specs.Playing.{IsFresh, IsUnderway, IsPlay, Ends};
+ghost use Rattle.board_core.specs.ReadyFor.{has_thread_up_to};
 ghost use Rattle.board_core.specs.Seen.{board_lines};
-ghost use Rattle.board_core.specs.Turned.{IsScriptOf};
-ghost use Rattle.board_core.specs.Turns.{Turns, TurnsBy, lowest_move};
+ghost use Rattle.board_core.specs.Stands.{IsAt, IsStand, IsLowestStand};
+ghost use Rattle.board_core.specs.Turned.{StepsBy};
+ghost use Rattle.board_core.specs.Turns.{Turns, TurnsBy, move_of, lowest_move};
 
-use crate::making::{are_sound, make_actors, make_lines, make_scripts};
+use crate::making::{are_sound, make_lines, make_scripts};
 use crate::moves::{LINES, Moves};
-use crate::places::{place_of_flow, place_of_line, place_of_take, step_place};
-use crate::scripts::{Script, script_of};
+use crate::numbers::place_of;
+use crate::places::step_place;
+use crate::refreshing::{make_ready, numbers_of_drivers, numbers_of_lines, refresh};
+use crate::scripts::Script;
+use crate::stands::Stand;
 use crate::turning::{advance, turn_of};
-use crate::turns::{PlayEnd, Turn};
+use crate::turns::{DueCall, PlayEnd, Turn};
 use board_def::{Board, Layout};
+use board_ready::{LinePart, Mover, ReadyActors};
 use callbacks::{Callbacks, Handler};
-use irq_base::{Actor, CpuNo, DriverNo, NoMemory};
+use irq_base::{Actor, CpuNo, DevNo, DriverNo, LineNo, NoMemory};
 use irq_line::{IrqLine, MakesLine};
 use std::alloc::Global;
 use std::marker::Model;
@@ -32,10 +40,12 @@ pub struct System<'b, L: IrqLine> {
     board: &'b Board,
     layout: Layout,
     lines: Vec<L>,
+    line_numbers: Vec<u32>,
+    driver_numbers: Vec<u32>,
     scripts: Vec<Script>,
+    ready: ReadyActors,
     order: Vec<u16>,
     begun: [u32; LINES],
-    actors: Vec<Actor>,
 }
 
 impl<'b, L: IrqLine> Model for System<'b, L> {
@@ -48,7 +58,7 @@ impl<'b, L: IrqLine> Model for System<'b, L> {
 
     ghost view = { λ s. seen_of s.board.now s.layout (map L.seen s.lines.items) s.order.items };
 
-    ghost invariant = { λ s. IsKept s.board.now (map L.seen s.lines.items) s.scripts.items s.begun s.order.items s.actors.items };
+    ghost invariant = { λ s. IsKept s.board.now (map L.seen s.lines.items) s.scripts.items s.order.items (record { ready = s.ready; begun = s.begun; line_numbers = s.line_numbers.items; driver_numbers = s.driver_numbers.items }) };
 }
 
 impl<'b, L: IrqLine> System<'b, L> {
@@ -88,16 +98,20 @@ impl<'b, L: IrqLine> System<'b, L> {
     {
         board.is_board();
         are_sound(&lines);
-        let scripts = make_scripts(alloc, board, &lines)?;
-        let actors = make_actors(alloc, board)?;
+        let line_numbers = numbers_of_lines(alloc, &lines)?;
+        let driver_numbers = numbers_of_drivers(alloc, board)?;
+        let scripts = make_scripts(alloc, board, &line_numbers, &driver_numbers)?;
+        let ready = make_ready(alloc, &lines, &scripts)?;
         Ok(System {
             board,
             layout,
             lines,
+            line_numbers,
+            driver_numbers,
             scripts,
+            ready,
             order: Vec::new(alloc),
             begun: [0; LINES],
-            actors,
         })
     }
 
@@ -152,97 +166,186 @@ impl<'b, L: IrqLine> System<'b, L> {
         lines
     }
 
+    /// The first thread or processor that can move, in the order of turns: threads by the numbers of their devices, then
+    /// processors. It takes the same time however many wait.
+    pub fn lowest_thread_or_cpu(&self) -> Option<Actor>
+        ensures { IsFirstOf self.now (threads_of self.now.board ++ cpus_of self.now.board) result }
+    {
+        self.board.is_board();
+        match self.ready.lowest_thread_or_cpu() {
+            Some(Mover::Thread(thread)) => {
+                let line = LineNo(self.line_numbers[thread.line]);
+                Some(Actor::Thread(line, thread.dev))
+            }
+            Some(Mover::Cpu(cpu)) => Some(Actor::Cpu(cpu)),
+            Some(Mover::Driver(_)) => unreachable!(),
+            None => None,
+        }
+    }
+
+    /// The first driver that can move. It takes the same time however many wait.
+    pub fn lowest_driver(&self) -> Option<DriverNo>
+        ensures { IsFirstOf self.now (drivers_of self.now.board) (option_map actors.Driver result) }
+    {
+        self.board.is_board();
+        match self.ready.lowest_driver() {
+            Some(j) => Some(DriverNo(self.driver_numbers[j])),
+            None => None,
+        }
+    }
+
+    /// The call that the driver is at, the first of its script that isn't complete: where calls on lines that take no
+    /// part are passed over. None where all are complete, or the driver isn't the board's.
+    pub fn due_call(&self, driver: DriverNo) -> Option<DueCall>
+        ensures { result ≡ call_on (current_line self.now.board.calls (board_lines self.now.lines) driver) driver }
+    {
+        self.board.is_board();
+        let Some(j) = place_of(&self.driver_numbers, driver.0) else {
+            return None;
+        };
+        self.scripts[j].due()
+    }
+
     /// One step of the actor on its line, if it can move. Where the entry ends a run of a handler, that handler is called.
+    /// It takes the same time however many actors and entries there are, and no memory but the log's and the histories'.
     pub fn turn<H: Handler>(&mut self, actor: Actor, handlers: &Callbacks<H>) -> Turn
         ensures { Turns self.old actor result self.new }
     {
+        match self.stand(actor) {
+            Some(stand) => self.step_at(stand, actor, handlers),
+            None => Turn::NotYet,
+        }
+    }
+
+    /// Where the actor steps, if it can.
+    fn stand(&self, actor: Actor) -> Option<Stand>
+        ensures { IsStand self.now actor result }
+    {
         match actor {
-            Actor::Thread(line, _) => {
-                let place = place_of_line(&self.lines, line);
-                self.turn_at(place, None, actor, handlers)
-            }
-            Actor::Cpu(cpu) => {
-                let place = self.place_of_cpu(cpu);
-                self.turn_at(place, None, actor, handlers)
-            }
-            Actor::Driver(driver) => self.turn_driver(driver, handlers),
+            Actor::Thread(line, dev) => self.thread_stand(line, dev),
+            Actor::Cpu(cpu) => self.cpu_stand(cpu),
+            Actor::Driver(driver) => self.driver_stand(driver),
         }
     }
 
-    /// The place of the line on which the processor may step.
-    fn place_of_cpu(&self, cpu: CpuNo) -> Option<usize>
-        ensures { IsPlace (board_lines self.now.lines) result (line_for self.now.board (board_lines self.now.lines) (actors.Cpu cpu)) }
+    /// Where the thread of the device steps. Of a line's threads only the lowest ready one is known: one above it may
+    /// have nothing to do.
+    fn thread_stand(&self, line: LineNo, dev: DevNo) -> Option<Stand>
+        ensures { IsStand self.now (actors.Thread line dev) result }
     {
-        let place = place_of_flow(&self.lines, cpu);
-        if place.is_some() {
-            return place;
+        self.board.is_board();
+        let Some(k) = place_of(&self.line_numbers, line.0) else {
+            return None;
+        };
+        if has_thread_up_to(self.ready.line(k), dev) {
+            Some(Stand {
+                line: k,
+                script: None,
+            })
+        } else {
+            None
         }
-        place_of_take(&self.lines, cpu)
     }
 
-    /// A step of the driver on the line of its current call.
-    fn turn_driver<H: Handler>(&mut self, driver: DriverNo, handlers: &Callbacks<H>) -> Turn
-        ensures { Turns self.old (actors.Driver driver) result self.new }
+    /// Where the processor steps.
+    fn cpu_stand(&self, cpu: CpuNo) -> Option<Stand>
+        ensures { IsStand self.now (actors.Cpu cpu) result }
     {
         self.board.is_board();
-        let Some(j) = script_of(&self.scripts, driver) else {
-            return Turn::NotYet;
-        };
-        let place = self.scripts[j].place();
-        self.turn_at(place, Some(j), Actor::Driver(driver), handlers)
+        match self.ready.cpu_line(cpu) {
+            Some(k) => Some(Stand {
+                line: k,
+                script: None,
+            }),
+            None => None,
+        }
     }
 
-    /// A step of the actor on the line at the place, which is its own; `script`: the place of its script, if it is a
-    /// driver.
-    fn turn_at<H: Handler>(
-        &mut self,
-        place: Option<usize>,
-        script: Option<usize>,
-        actor: Actor,
-        handlers: &Callbacks<H>,
-    ) -> Turn
-        requires place { IsPlace (board_lines self.old.lines) place (line_for self.old.board (board_lines self.old.lines) actor) }
-        requires script { IsScriptOf self.old.board.drivers actor script }
-        ensures { Turns self.old actor result self.new }
+    /// Where the driver steps.
+    fn driver_stand(&self, driver: DriverNo) -> Option<Stand>
+        ensures { IsStand self.now (actors.Driver driver) result }
     {
         self.board.is_board();
-        let Some(k) = place else {
-            return Turn::NotYet;
+        let Some(j) = place_of(&self.driver_numbers, driver.0) else {
+            return None;
         };
+        if !self.ready.is_ready(Mover::Driver(j)) {
+            return None;
+        }
+        match self.ready.call(j) {
+            Some(call) => Some(Stand {
+                line: call.line,
+                script: Some(j),
+            }),
+            None => None,
+        }
+    }
+
+    /// The lowest actor that can move, and where it steps.
+    fn lowest_stand(&self) -> Option<(Actor, Stand)>
+        ensures { IsLowestStand self.now result }
+    {
+        self.board.is_board();
+        match self.ready.lowest() {
+            Some(Mover::Thread(thread)) => {
+                let line = LineNo(self.line_numbers[thread.line]);
+                Some((
+                    Actor::Thread(line, thread.dev),
+                    Stand {
+                        line: thread.line,
+                        script: None,
+                    },
+                ))
+            }
+            Some(Mover::Cpu(cpu)) => match self.ready.cpu_line(cpu) {
+                Some(k) => Some((
+                    Actor::Cpu(cpu),
+                    Stand {
+                        line: k,
+                        script: None,
+                    },
+                )),
+                None => None,
+            },
+            Some(Mover::Driver(j)) => match self.ready.call(j) {
+                Some(call) => {
+                    let driver = DriverNo(self.driver_numbers[j]);
+                    Some((
+                        Actor::Driver(driver),
+                        Stand {
+                            line: call.line,
+                            script: Some(j),
+                        },
+                    ))
+                }
+                None => None,
+            },
+            None => None,
+        }
+    }
+
+    /// A step of the actor at its place.
+    fn step_at<H: Handler>(&mut self, stand: Stand, actor: Actor, handlers: &Callbacks<H>) -> Turn
+        requires { IsAt self.old actor stand }
+        ensures { StepsBy self.old (move_of self.old actor) result self.new }
+    {
+        self.board.is_board();
+        let k = stand.line;
         let line = self.lines[k].definition().line;
         let stepped = step_place(&mut self.lines, &mut self.order, k, actor, handlers);
-        advance(&mut self.scripts, script, &stepped);
+        advance(&mut self.scripts, stand.script, &stepped);
+        refresh(&mut self.ready, &self.lines, &self.scripts, k, stand.script);
         turn_of(line, stepped)
-    }
-
-    /// How many actors the board has.
-    fn actors_len(&self) -> usize
-        ensures { result ≡ length (actors_of self.now.board) }
-    {
-        self.actors.len()
-    }
-
-    /// The actor of that number in the order of the board's, counted from 0.
-    fn actor(&self, i: usize) -> Option<Actor>
-        ensures { result ≡ slice_get (actors_of self.now.board) i }
-    {
-        self.actors.get(i).copied()
     }
 
     /// A step of the lowest actor that can move.
     fn turn_lowest<H: Handler>(&mut self, handlers: &Callbacks<H>) -> Turn
         ensures { TurnsBy self.old (lowest_move self.old) result self.new }
     {
-        for i in 0..self.actors_len() {
-            let Some(actor) = self.actor(i) else {
-                unreachable!();
-            };
-            match self.turn(actor, handlers) {
-                Turn::NotYet => {}
-                turn => return turn,
-            }
+        match self.lowest_stand() {
+            Some((actor, stand)) => self.step_at(stand, actor, handlers),
+            None => Turn::NotYet,
         }
-        Turn::NotYet
     }
 
     /// Steps of the lowest actor that can move, until none can.
@@ -280,5 +383,18 @@ impl<'b, L: IrqLine> System<'b, L> {
             }
         }
         self.settle(handlers)
+    }
+}
+
+/// Whether the line's lowest ready thread is that of the device, or of one below it.
+fn has_thread_up_to(part: Option<LinePart>, dev: DevNo) -> bool
+    ensures { result ≡ has_thread_up_to part dev }
+{
+    match part {
+        Some(part) => match part.thread {
+            Some(lowest) => lowest.0 <= dev.0,
+            None => false,
+        },
+        None => false,
     }
 }

@@ -1,5 +1,5 @@
 //! What a turn answers.
-use irq_base::{Entry, LineNo};
+use irq_base::{Call, Entry, LineNo};
 
 /// What a turn did.
 #[derive(Clone, Copy, PartialEq, Eq)]
@@ -25,4 +25,15 @@ pub enum PlayEnd {
     Full { line: LineNo, len: u32 },
     /// Memory was wanted and refused.
     NoMemory,
+}
+
+/// The call that a driver is at.
+#[derive(Clone, Copy, PartialEq, Eq)]
+pub struct DueCall {
+    /// The line that it is about.
+    pub line: LineNo,
+    /// The call.
+    pub call: Call,
+    /// How many of its entries are there.
+    pub made: u32,
 }

@@ -1,6 +1,6 @@
 //! The two lists, and the answers to a search over them.
 ghost use Rattle.std.specs.Prelude.{◌≡◌, ◌<◌, ◌≤◌, length, replicate, slice_get, slice_set, None, IfOk, IfSome};
-ghost use Rattle.board_ready.specs.Ready.{idle, lowest, lowest_thread_or_cpu, lowest_cpu, lowest_driver, cpu_line, can_go_on, is_ready, is_driver_ready, has_thread, is_barred};
+ghost use Rattle.board_ready.specs.Ready.{idle, lowest, lowest_thread_or_cpu, lowest_cpu, lowest_driver, cpu_line, can_go_on, is_ready, is_driver_ready, has_thread, is_barred, current_call};
 
 use crate::bits::{chosen, first_bit, with_bit};
 use crate::calls::CallSets;
@@ -89,6 +89,23 @@ impl ReadyActors {
         self.calls.put(driver, call, true);
         self.ready = with_bit(self.ready, driver, can_go_on(&self.lines, call));
         self.drivers[driver] = call;
+    }
+
+    /// The part of the line at that place; none where there is no such line.
+    pub fn line(&self, line: usize) -> Option<LinePart>
+        ensures { result ≡ slice_get self.now.lines line }
+    {
+        self.lines.get(line).copied()
+    }
+
+    /// The current call of the driver at that place; none where its script is at its end, or there is no such driver.
+    pub fn call(&self, driver: usize) -> Option<CurrentCall>
+        ensures { result ≡ current_call self.now.drivers driver }
+    {
+        match self.drivers.get(driver) {
+            Some(call) => *call,
+            None => None,
+        }
     }
 
     /// The first that can move: threads by the numbers of their devices, then processors, then drivers.

@@ -1,16 +1,20 @@
-use Rattle.std.proofs.Common.{map, sym, ap, subst, ◌∙◌, ◌≡◌, List, ℕ, Some, slice_get}
-use Rattle.board_core.specs.Making.{IsNewScript}
-use Rattle.board_core.specs.Scripts.{ScriptSeen}
-use Rattle.board_core.proofs.MadeOf.{scripts_more, drivers_more}
+use Rattle.board_core.proofs.RisingNumbers.{rising_lines, rising_drivers}
+use Rattle.board_core.proofs.Cutting.{next_cut, all_cut, script_there}
 use Rattle.board_core.proofs.making.make_scripts.Goals as goal
 
-pub loop-i-preserved : goal.loop-i-preserved
-loop-i-preserved g c =
-    let lines = map g.L.IrqLine.seen c.args.lines.now in
-    let at = sym c.driver.ensures ∙ c.in-Some.is in
-    record {
-      drivers = ap (map (λ (s : ScriptSeen). s.driver)) c.in_ok-push.ensures.items
-          ∙ (drivers_more c.loop-i.scripts.items c.in_ok-script.script c.args.board.now.drivers c.loop-i.i c.in-Some.driver c.loop-i.invariant.drivers at c.in_ok-script.ensures.driver);
-      each = subst (λ (ss : List ScriptSeen). (i : ℕ) (s : ScriptSeen) → slice_get ss i ≡ Some s → IsNewScript c.args.board.now lines s.driver s) (sym c.in_ok-push.ensures.items)
-          (scripts_more c.args.board.now lines c.loop-i.scripts.items c.in_ok-script.script c.in-Some.driver c.in_ok-script.ensures c.loop-i.invariant.each);
-    }
+pub place_of-script-requires : goal.place_of-script-requires
+place_of-script-requires c = rising_drivers c.args.board.now c.is_board.ensures.board c.args.driver_numbers.now c.requires.drivers
+
+pub place_of-place-requires : goal.place_of-place-requires
+place_of-place-requires c = rising_lines c.args.board.now c.is_board.ensures.board c.args.line_numbers.now c.requires.lines
+
+pub push_call-requires : goal.push_call-requires
+push_call-requires c = script_there c.args.board.now c.loop-call.scripts.items c.args.driver_numbers.now _ c.place_of-script.result c.loop-call.invariant.drivers c.requires.drivers c.place_of-script.ensures
+
+pub loop-call-preserved : goal.loop-call-preserved
+loop-call-preserved c =
+    next_cut c.args.board.now c.is_board.ensures.board c.loop-call.call-index c.calls-call-items.result.now _ c.loop-call.scripts.items c.push_call.new.scripts.items c.args.line_numbers.now c.args.driver_numbers.now
+    c.place_of-script.result c.place_of-place.result c.calls-call-items.ensures c.loop-call-test.true c.loop-call.invariant c.requires.lines c.requires.drivers c.place_of-script.ensures c.place_of-place.ensures c.in_ok-push_call.ensures
+
+pub returns : goal.returns
+returns c = all_cut c.args.board.now c.loop-call.call-index c.calls-call-items.result.now c.loop-call.scripts.items c.calls-call-items.ensures c.loop-call-test.false c.loop-call.auto.call-index-end c.loop-call.invariant

@@ -2,7 +2,7 @@ use Rattle.std.proofs.Common.{◌∙◌, refl, List, subst, arith}
 use Rattle.irq_base.specs.declared.entries.Actor.{Actor}
 use Rattle.board_core.specs.Playing.{IsUnderway}
 use Rattle.board_core.proofs.Searches.{all_dropped}
-use Rattle.board_core.proofs.Underway.{fresh, pick_done, pick_full, same_board, same_layout}
+use Rattle.board_core.proofs.Underway.{fresh, pick_done, pick_full, pick_refused, turn_same_board, turn_same_layout}
 use Rattle.board_core.proofs.system.System.play.Goals as goal
 
 pub loop-pick-init : goal.loop-pick-init
@@ -15,12 +15,16 @@ returns-in-Full-clause-play g c =
 pub loop-pick-preserved : goal.loop-pick-preserved
 loop-pick-preserved g c =
     record {
-      board = same_board c.loop-pick.self c.turn.new.self _ c.turn.result c.turn.ensures ∙ c.loop-pick.invariant.board;
-      layout = same_layout c.loop-pick.self c.turn.new.self _ c.turn.result c.turn.ensures ∙ c.loop-pick.invariant.layout;
+      board = turn_same_board c.loop-pick.self c.turn.new.self _ c.turn.result c.turn.ensures ∙ c.loop-pick.invariant.board;
+      layout = turn_same_layout c.loop-pick.self c.turn.new.self _ c.turn.result c.turn.ensures ∙ c.loop-pick.invariant.layout;
       underway =
           pick_done c.loop-pick.self c.turn.new.self c.args.picks.now c.loop-pick.pick-index _ c.turn.result c.loop-pick-test.true c.loop-pick.invariant.underway c.in_default.not-Full c.in_default.not-NoMemory
           c.turn.ensures;
     }
+
+pub returns-in-NoMemory-clause-play : goal.returns-in-NoMemory-clause-play
+returns-in-NoMemory-clause-play g c =
+    pick_refused c.loop-pick.self c.turn.new.self c.args.picks.now _ _ c.turn.result c.loop-pick.invariant.underway c.in-NoMemory.is c.turn.ensures
 
 pub returns-clause-lines : goal.returns-clause-lines
 returns-clause-lines g c =

@@ -1,6 +1,6 @@
 use Rattle.std.proofs.Common.{◌∙◌, []}
 use Rattle.board_core.specs.Turns.{lowest_move}
-use Rattle.board_core.proofs.Underway.{lowest_moved, lowest_done, lowest_full, lowest_refused, room_falls, same_board, same_layout, as_left}
+use Rattle.board_core.proofs.Underway.{lowest_moved, lowest_done, lowest_full, lowest_refused, ends_refused, room_falls, same_board, same_layout, as_left}
 use Rattle.board_core.proofs.system.System.settle.Goals as goal
 
 pub loop-line-smaller : goal.loop-line-smaller
@@ -27,6 +27,9 @@ pub returns-in-NoMemory-clause-play : goal.returns-in-NoMemory-clause-play
 returns-in-NoMemory-clause-play g c = λ picks u.
     lowest_refused c.loop-line.self c.turn_lowest.new.self picks c.turn_lowest.result (c.loop-line.invariant.underway picks u) c.in-NoMemory.is c.turn_lowest.ensures
 
+pub returns-in-NoMemory-clause-end : goal.returns-in-NoMemory-clause-end
+returns-in-NoMemory-clause-end g c = ends_refused c.loop-line.self c.turn_lowest.new.self c.turn_lowest.result c.in-NoMemory.is c.turn_lowest.ensures
+
 pub returns-in-NotYet-clause-lines : goal.returns-in-NotYet-clause-lines
 returns-in-NotYet-clause-lines g c = λ picks u. as_left c.loop-line.self c.turn_lowest.new.self picks [] c.in-NotYet.ensures.1 (c.loop-line.invariant.underway picks u)
 
@@ -34,4 +37,4 @@ pub returns-in-Full-clause-lines : goal.returns-in-Full-clause-lines
 returns-in-Full-clause-lines g c = λ picks u. as_left c.loop-line.self c.turn_lowest.new.self picks [] c.in-Full.ensures.1 (c.loop-line.invariant.underway picks u)
 
 pub returns-in-NoMemory-clause-lines : goal.returns-in-NoMemory-clause-lines
-returns-in-NoMemory-clause-lines g c = λ picks u. as_left c.loop-line.self c.turn_lowest.new.self picks [] c.in-NoMemory.ensures (c.loop-line.invariant.underway picks u)
+returns-in-NoMemory-clause-lines g c = λ picks u. as_left c.loop-line.self c.turn_lowest.new.self picks [] c.in-NoMemory.ensures.1 (c.loop-line.invariant.underway picks u)

@@ -1,0 +1,266 @@
+-- Where an actor steps, as a system answers it.
+use Rattle.std.proofs.Common.{◌≡◌, ℕ, suc, ◌<◌, ◌==◌, inl, inr, true, false, is_some, Option, Some, None, List, [], ◌∷◌, map, length, get_or, slice_get, refl, sym, ap, ◌∙◌, subst, arith, eq-eqb}
+use Rattle.std.proofs.Math.ListN.{length-map}
+use Rattle.std.proofs.lemmas.Bool.{leb-true, le-leb, or_cases}
+use Rattle.std.proofs.lemmas.Option.{slice_get_within, slice_get-get_or}
+use Rattle.irq_base.specs.declared.entries.Actor.TheVariants as actors
+use Rattle.irq_base.specs.declared.numbers.CpuNo.{CpuNo}
+use Rattle.irq_base.specs.declared.entries.Entry.{Entry}
+use Rattle.irq_base.specs.declared.numbers.DevNo.{DevNo}
+use Rattle.irq_base.specs.declared.numbers.DriverNo.{DriverNo}
+use Rattle.irq_base.specs.declared.numbers.LineNo.{LineNo}
+use Rattle.irq_model.specs.Next.{next}
+use Rattle.irq_steps.proofs.Same.{line_from_same, driver_from_same}
+use Rattle.irq_laws.proofs.Lists.{both_ways}
+use Rattle.irq_line.specs.Queries.{IsLowestThread}
+use Rattle.irq_line.specs.Seen.{LineSeen}
+use Rattle.board_def.specs.Rules.{IsBoard}
+use Rattle.board_def.specs.Seen.{BoardSeen}
+use Rattle.domain_rules.specs.declared.layouts.Placement.{Placement}
+use Rattle.board_def.specs.Rules.{has_driver}
+use Rattle.board_play.specs.Current.{current_line}
+use Rattle.board_play.specs.Lines.{BoardLine, Move, find_line}
+use Rattle.board_play.specs.Order.{move_on, due_on, due_move}
+use Rattle.board_play.proofs.KeptAlways.{apart_kept}
+use Rattle.board_play.proofs.Members.{AreApart, find_there}
+use Rattle.board_play.proofs.Script.{current}
+use Rattle.board_ready.specs.Kept.{thread_of}
+use Rattle.board_ready.specs.Ready.{cpu_line, can_go_on, current_call, is_driver_ready, lowest_thread, lowest_driver, lowest}
+use Rattle.board_ready.specs.declared.parts.CurrentCall.{CurrentCall}
+use Rattle.board_ready.specs.declared.parts.LinePart.{LinePart}
+use Rattle.board_ready.specs.declared.parts.Mover.TheVariants as movers
+use Rattle.board_ready.specs.declared.parts.ReadyThread.{ReadyThread}
+use Rattle.board_ready.proofs.Lowest.{first_some, thread_some}
+use Rattle.board_core.specs.Inside.{Parts, seen_of, IsKept}
+use Rattle.board_core.specs.Scripts.{ScriptSeen}
+use Rattle.board_core.specs.Numbers.{IsPlaceOfNumber, numbers_of_drivers}
+use Rattle.board_core.specs.Places.{IsPlace}
+use Rattle.board_core.specs.ReadyFor.{IsPartOf, is_up_to, has_thread_up_to}
+use Rattle.board_core.specs.Seen.{SystemSeen, board_line, board_lines}
+use Rattle.board_core.specs.Stands.{IsAt, IsStand, IsLowestStand}
+use Rattle.board_core.specs.declared.stands.Stand.{Stand}
+use Rattle.board_core.proofs.LowestMover.{lowest_says, lowest_is_thread, lowest_is_cpu, lowest_is_driver, nobody, script_of, current_is, driver_ready_is}
+use Rattle.board_core.proofs.Movers.{some_of, none_of, some_with, not_both, cpu_stands, somebody, thread_moves, thread_ready, script_place}
+use Rattle.board_core.proofs.TurnLaws.{map_there, map_back}
+
+module _ (board : BoardSeen) (isb : IsBoard board) (layout : List Placement) (lines : List LineSeen) (scripts : List ScriptSeen) (order : List ℕ) (parts : Parts) (is : IsKept board lines scripts order parts) (view : SystemSeen) (v : seen_of board layout lines order ≡ view) where
+  abbrev seen : SystemSeen
+  seen = seen_of board layout lines order
+
+  -- ---- processors
+
+  pub cpu_there : (c : CpuNo) (k : ℕ) (stand : Stand) → Some k ≡ cpu_line parts.ready.lines c.0 → stand ≡ record { line = k; script = None } → IsStand view (actors.Cpu c) (Some stand)
+  cpu_there c k stand at same =
+      let h = cpu_stands board isb lines scripts is.system parts.ready is.ready c (Some k) at in
+      let some = ap (λ (o : Option _). is_some o) h.1.1 in
+      subst (λ (s : SystemSeen). IsStand s (actors.Cpu c) (Some stand)) v
+      (subst (λ (t : Stand). IsStand seen (actors.Cpu c) (Some t)) (sym same) (record { line = h.0; script = tt }, record { actor = some; somebody = somebody board isb lines scripts is.system parts.ready is.ready (actors.Cpu c) h.1.0 h.1.1 }))
+
+  pub cpu_nowhere : (c : CpuNo) → None ≡ cpu_line parts.ready.lines c.0 → IsStand view (actors.Cpu c) None
+  cpu_nowhere c at = subst (λ (s : SystemSeen). IsStand s (actors.Cpu c) None) v (cpu_stands board isb lines scripts is.system parts.ready is.ready c None at)
+
+  -- ---- threads
+
+  apart : AreApart (map (λ (x : BoardLine). x.def) (board_lines lines))
+  apart = apart_kept board isb (board_lines lines) is.system.kept
+
+  -- the line that stands where its number does
+  pub line_at : (k : ℕ) (line : LineNo) → slice_get parts.line_numbers k ≡ Some line.0 → (x : LineSeen) × (slice_get lines k ≡ Some x) × (x.def.line ≡ line)
+  line_at k line at =
+      let x = map_back (λ (x : LineSeen). x.def.line.0) lines k line.0 (ap (λ (ns : List ℕ). slice_get ns k) (sym is.line_numbers) ∙ at) in
+      (x.0, x.1, line_from_same x.0.def.line line (eq-eqb x.0.def.line.0 line.0 x.2))
+
+  place_is : (k : ℕ) (x : LineSeen) → slice_get lines k ≡ Some x → IsPlace (board_lines lines) (Some k) (find_line (board_lines lines) x.def.line)
+  place_is k x at =
+      let f = find_there (board_lines lines) apart k (board_line x) (map_there board_line lines k x at) in
+      (ap (λ (o : Option BoardLine). is_some o) f, map_there board_line lines k x at ∙ sym f)
+
+  part_there : (k : ℕ) (x : LineSeen) → slice_get lines k ≡ Some x → (p : LinePart) × (slice_get parts.ready.lines k ≡ Some p) × IsPartOf x p
+  part_there k x at = some_with (IsPartOf x) (slice_get parts.ready.lines k) (is.ready.each_line k x at)
+
+  pub thread_there : (line : LineNo) (d : DevNo) (k : ℕ) (stand : Stand) → slice_get parts.line_numbers k ≡ Some line.0 → has_thread_up_to (slice_get parts.ready.lines k) d ≡ true → stand ≡ record { line = k; script = None } → IsStand view (actors.Thread line d) (Some stand)
+  thread_there line d k stand at up_to same =
+      let x = line_at k line at in
+      let p = part_there k x.0 x.1 in
+      let h = by_thread x.0 x.1 p.0.thread p.2.thread (ap (λ (o : Option LinePart). has_thread_up_to o d) (sym p.1) ∙ up_to) in
+      subst (λ (s : SystemSeen). IsStand s (actors.Thread line d) (Some stand)) v
+      (subst (λ (t : Stand). IsStand seen (actors.Thread line d) (Some t)) (sym same) (subst (λ (l : LineNo). IsStand seen (actors.Thread l d) (Some (record { line = k; script = None }))) x.2 h))
+    where
+      by_thread : (x : LineSeen) → slice_get lines k ≡ Some x → (o : Option DevNo) → IsLowestThread x o → is_up_to d o ≡ true → IsStand seen (actors.Thread x.def.line d) (Some (record { line = k; script = None }))
+      by_thread x at None low up_to = cc
+      by_thread x at (Some lowest) low up_to =
+          let m = thread_moves board isb lines scripts is.system parts.ready is.ready k x lowest at low.0 in (
+            record { line = place_is k x at; script = tt },
+            record {
+              actor = (lowest, leb-true lowest.0 d.0 up_to, ap (λ (o : Option Move). is_some o) m.1);
+              somebody = somebody board isb lines scripts is.system parts.ready is.ready (actors.Thread x.def.line lowest) m.0 m.1;
+            },
+          )
+
+  -- a thread of a line that it isn't up to, and one of no line
+  pub thread_below : (line : LineNo) (d : DevNo) (k : ℕ) → slice_get parts.line_numbers k ≡ Some line.0 → has_thread_up_to (slice_get parts.ready.lines k) d ≡ false → IsStand view (actors.Thread line d) None
+  thread_below line d k at above =
+      let x = line_at k line at in
+      let p = part_there k x.0 x.1 in
+      subst (λ (s : SystemSeen). IsStand s (actors.Thread line d) None) v
+      (subst (λ (l : LineNo). IsStand seen (actors.Thread l d) None) x.2 (by_thread x.0 x.1 p.0.thread p.2.thread (ap (λ (o : Option LinePart). has_thread_up_to o d) (sym p.1) ∙ above) (next x.0.def x.0.entries (actors.Thread x.0.def.line d)) refl))
+    where
+      by_thread : (x : LineSeen) → slice_get lines k ≡ Some x → (o : Option DevNo) → IsLowestThread x o → is_up_to d o ≡ false → (e : Option Entry) → next x.def x.entries (actors.Thread x.def.line d) ≡ e → IsStand seen (actors.Thread x.def.line d) None
+      by_thread x at o low above None due =
+          ap (λ (y : Option BoardLine). due_on y (actors.Thread x.def.line d)) (find_there (board_lines lines) apart k (board_line x) (map_there board_line lines k x at)) ∙ ap (λ (y : Option Entry). move_on x.def.line y) due
+      by_thread x at None low above (Some e) due = absurd (low d (ap (λ (y : Option Entry). is_some y) due))
+      by_thread x at (Some lowest) low above (Some e) due = absurd (both_ways (is_up_to d (Some lowest)) (le-leb lowest.0 d.0 (low.1 d (ap (λ (y : Option Entry). is_some y) due))) above)
+
+  pub thread_nowhere : (line : LineNo) (d : DevNo) → ((k : ℕ) → slice_get parts.line_numbers k ≡ Some line.0 → ⊥) → IsStand view (actors.Thread line d) None
+  thread_nowhere line d none = subst (λ (s : SystemSeen). IsStand s (actors.Thread line d) None) v (by_move (due_move board (board_lines lines) (actors.Thread line d)) refl)
+    where
+      by_move : (o : Option Move) → due_move board (board_lines lines) (actors.Thread line d) ≡ o → due_move board (board_lines lines) (actors.Thread line d) ≡ None
+      by_move None due = due
+      by_move (Some m) due =
+          let t = thread_ready board isb lines scripts is.system parts.ready is.ready line d m due in
+          absurd (none t.0 (ap (λ (ns : List ℕ). slice_get ns t.0) is.line_numbers ∙ (map_there (λ (x : LineSeen). x.def.line.0) lines t.0 t.1 t.4 ∙ ap (λ (l : LineNo). Some l.0) (sym t.5))))
+
+  -- ---- drivers
+
+  pub driver_at : (j : ℕ) (d : DriverNo) → slice_get parts.driver_numbers j ≡ Some d.0 → slice_get board.drivers j ≡ Some d
+  driver_at j d at =
+      let x = map_back (λ (x : DriverNo). x.0) board.drivers j d.0 (ap (λ (ns : List ℕ). slice_get ns j) (sym is.driver_numbers) ∙ at) in
+      x.1 ∙ ap (λ (y : DriverNo). Some y) (driver_from_same x.0 d (eq-eqb x.0.0 d.0 x.2))
+
+  at_script : (j : ℕ) (s : ScriptSeen) (call : CurrentCall) (m : Move) → slice_get scripts j ≡ Some s → current_call parts.ready.drivers j ≡ Some call → due_move board (board_lines lines) (actors.Driver s.driver) ≡ Some m
+      → IsStand seen (actors.Driver s.driver) (Some (record { line = call.line; script = Some j }))
+  at_script j s call m at called due = (
+    record {
+      line = script_place board isb lines scripts is.system parts.ready is.ready j s call at (sym (current_is board isb lines scripts is.system parts.ready is.ready j s at) ∙ called);
+      script = ap (λ (ds : List DriverNo). slice_get ds j) (sym is.system.drivers) ∙ map_there (λ (x : ScriptSeen). x.driver) scripts j s at;
+    },
+    record { actor = ap (λ (o : Option Move). is_some o) due; somebody = somebody board isb lines scripts is.system parts.ready is.ready (actors.Driver s.driver) m due },
+  )
+
+  pub driver_there : (d : DriverNo) (j : ℕ) (call : CurrentCall) (stand : Stand) → slice_get parts.driver_numbers j ≡ Some d.0 → is_driver_ready parts.ready j ≡ true → Some call ≡ current_call parts.ready.drivers j → stand ≡ record { line = call.line; script = Some j }
+      → IsStand view (actors.Driver d) (Some stand)
+  driver_there d j call stand at can called same =
+      let s = script_of board isb lines scripts is.system parts.ready is.ready j d (driver_at j d at) in
+      let m = some_of (due_move board (board_lines lines) (actors.Driver s.0.driver)) (sym (driver_ready_is board isb lines scripts is.system parts.ready is.ready j s.0 s.1) ∙ can) in
+      subst (λ (w : SystemSeen). IsStand w (actors.Driver d) (Some stand)) v
+      (subst (λ (t : Stand). IsStand seen (actors.Driver d) (Some t)) (sym same)
+      (subst (λ (x : DriverNo). IsStand seen (actors.Driver x) (Some (record { line = call.line; script = Some j }))) s.2 (at_script j s.0 call m.0 s.1 (sym called) m.1)))
+
+  pub driver_waits : (d : DriverNo) (j : ℕ) → slice_get parts.driver_numbers j ≡ Some d.0 → is_driver_ready parts.ready j ≡ false → IsStand view (actors.Driver d) None
+  driver_waits d j at waits =
+      let s = script_of board isb lines scripts is.system parts.ready is.ready j d (driver_at j d at) in
+      subst (λ (w : SystemSeen). IsStand w (actors.Driver d) None) v
+      (subst (λ (x : DriverNo). IsStand seen (actors.Driver x) None) s.2 (none_of (due_move board (board_lines lines) (actors.Driver s.0.driver)) (sym (driver_ready_is board isb lines scripts is.system parts.ready is.ready j s.0 s.1) ∙ waits)))
+
+  -- without a current call it isn't ready
+  pub driver_ends : (d : DriverNo) (j : ℕ) → slice_get parts.driver_numbers j ≡ Some d.0 → None ≡ current_call parts.ready.drivers j → IsStand view (actors.Driver d) None
+  driver_ends d j at none = driver_waits d j at (ap (λ (o : Option CurrentCall). can_go_on parts.ready.lines o) (sym none))
+
+  -- a driver that isn't the board's has no call
+  pub no_call : (d : DriverNo) → ((j : ℕ) → slice_get parts.driver_numbers j ≡ Some d.0 → ⊥) → current_line board.calls (board_lines lines) d ≡ None
+  no_call d none = by_line (current_line board.calls (board_lines lines) d) refl
+    where
+      place_of_driver : (rs : List DriverNo) → has_driver rs d ≡ true → (j : ℕ) × (slice_get (numbers_of_drivers rs) j ≡ Some d.0)
+      place_of_driver [] h = cc
+      place_of_driver (r ∷ rs) h = elim (or_cases (r.0 == d.0) (has_driver rs d) h) [
+        | inl here ↦ (0, ap (λ (x : DriverNo). Some x.0) (driver_from_same r d here))
+        | inr there ↦ (let p = place_of_driver rs there in (suc p.0, p.1))
+      ]
+
+      by_line : (o : Option BoardLine) → current_line board.calls (board_lines lines) d ≡ o → current_line board.calls (board_lines lines) d ≡ None
+      by_line None its = its
+      by_line (Some x) its =
+          let k = current (board_lines lines) d [] board.calls x its in
+          let declared : has_driver board.drivers d ≡ true = ap (λ (r : DriverNo). has_driver board.drivers r) (driver_from_same d k.call.driver k.mine) ∙ (isb.calls k.place k.call k.at).driver in
+          let p = place_of_driver board.drivers declared in
+          absurd (none p.0 (ap (λ (ns : List ℕ). slice_get ns p.0) is.driver_numbers ∙ p.1))
+
+  pub driver_nowhere : (d : DriverNo) → ((j : ℕ) → slice_get parts.driver_numbers j ≡ Some d.0 → ⊥) → IsStand view (actors.Driver d) None
+  driver_nowhere d none = subst (λ (w : SystemSeen). IsStand w (actors.Driver d) None) v (ap (λ (o : Option BoardLine). due_on o (actors.Driver d)) (no_call d none))
+
+  -- ---- the lowest
+
+  pub lowest_thread_stands : (t : ReadyThread) (line : LineNo) (stand : Stand) → Some (movers.Thread t) ≡ lowest parts.ready → slice_get parts.line_numbers t.line ≡ Some line.0 → stand ≡ record { line = t.line; script = None }
+      → IsLowestStand view (Some (actors.Thread line t.dev, stand))
+  lowest_thread_stands t line stand is_lowest at same =
+      let low = lowest_says parts.ready (Some (movers.Thread t)) is_lowest in
+      let x = line_at t.line line at in
+      let h = lowest_is_thread board isb lines scripts is.system parts.ready is.ready t x.0 low x.1 in
+      let stands : IsLowestStand seen (Some (actors.Thread x.0.def.line t.dev, record { line = t.line; script = None })) =
+      (record { line = place_is t.line x.0 x.1; script = tt }, h.2 ∙ sym h.1, ap (λ (o : Option Move). is_some o) h.1) in
+      subst (λ (w : SystemSeen). IsLowestStand w (Some (actors.Thread line t.dev, stand))) v
+      (subst (λ (u : Stand). IsLowestStand seen (Some (actors.Thread line t.dev, u))) (sym same) (subst (λ (l : LineNo). IsLowestStand seen (Some (actors.Thread l t.dev, record { line = t.line; script = None }))) x.2 stands))
+
+  pub lowest_cpu_stands : (c : CpuNo) (k : ℕ) (stand : Stand) → Some (movers.Cpu c) ≡ lowest parts.ready → Some k ≡ cpu_line parts.ready.lines c.0 → stand ≡ record { line = k; script = None } → IsLowestStand view (Some (actors.Cpu c, stand))
+  lowest_cpu_stands c k stand is_lowest at same =
+      let low = lowest_says parts.ready (Some (movers.Cpu c)) is_lowest in
+      let h = lowest_is_cpu board isb lines scripts is.system parts.ready is.ready c low.0 low.1 in
+      let p = cpu_stands board isb lines scripts is.system parts.ready is.ready c (Some k) at in
+      let stands : IsLowestStand seen (Some (actors.Cpu c, record { line = k; script = None })) = (record { line = p.0; script = tt }, h.4 ∙ sym h.3, ap (λ (o : Option Move). is_some o) h.3) in
+      subst (λ (w : SystemSeen). IsLowestStand w (Some (actors.Cpu c, stand))) v (subst (λ (u : Stand). IsLowestStand seen (Some (actors.Cpu c, u))) (sym same) stands)
+
+  pub lowest_cpu_there : (c : CpuNo) → Some (movers.Cpu c) ≡ lowest parts.ready → None ≡ cpu_line parts.ready.lines c.0 → IsLowestStand view None
+  lowest_cpu_there c is_lowest none =
+      let low = lowest_says parts.ready (Some (movers.Cpu c)) is_lowest in
+      let h = lowest_is_cpu board isb lines scripts is.system parts.ready is.ready c low.0 low.1 in
+      absurd (not_both (cpu_line parts.ready.lines c.0) h.1 (sym none) h.2)
+
+  pub lowest_driver_stands : (j : ℕ) (d : DriverNo) (call : CurrentCall) (stand : Stand) → Some (movers.Driver j) ≡ lowest parts.ready → slice_get parts.driver_numbers j ≡ Some d.0 → Some call ≡ current_call parts.ready.drivers j
+      → stand ≡ record { line = call.line; script = Some j } → IsLowestStand view (Some (actors.Driver d, stand))
+  lowest_driver_stands j d call stand is_lowest at called same =
+      let low = lowest_says parts.ready (Some (movers.Driver j)) is_lowest in
+      let h = lowest_is_driver board isb lines scripts is.system parts.ready is.ready j d low.0 low.1 low.2 (driver_at j d at) in
+      let s = script_of board isb lines scripts is.system parts.ready is.ready j d (driver_at j d at) in
+      let stands : IsLowestStand seen (Some (actors.Driver d, record { line = call.line; script = Some j })) =
+      (subst (λ (x : DriverNo). IsAt seen (actors.Driver x) (record { line = call.line; script = Some j })) s.2 (at_script j s.0 call h.0 s.1 (sym called) (ap (λ (x : DriverNo). due_move board (board_lines lines) (actors.Driver x)) s.2 ∙ h.1)).0, h.2 ∙ sym h.1, ap (λ (o : Option Move). is_some o) h.1) in
+      subst (λ (w : SystemSeen). IsLowestStand w (Some (actors.Driver d, stand))) v (subst (λ (u : Stand). IsLowestStand seen (Some (actors.Driver d, u))) (sym same) stands)
+
+  pub lowest_driver_there : (j : ℕ) → Some (movers.Driver j) ≡ lowest parts.ready → None ≡ current_call parts.ready.drivers j → IsLowestStand view None
+  lowest_driver_there j is_lowest none =
+      let low = lowest_says parts.ready (Some (movers.Driver j)) is_lowest in
+      let f = first_some (is_driver_ready parts.ready) (length parts.ready.drivers) j low.2 in
+      absurd (both_ways (is_driver_ready parts.ready j) f.1 (ap (λ (o : Option CurrentCall). can_go_on parts.ready.lines o) (sym none)))
+
+  pub nobody_stands : None ≡ lowest parts.ready → IsLowestStand view None
+  nobody_stands is_lowest =
+      let low = lowest_says parts.ready None is_lowest in subst (λ (w : SystemSeen). IsLowestStand w None) v (nobody board isb lines scripts is.system parts.ready is.ready low.0 low.1 low.2)
+
+  -- the bounds of the places
+  pub line_number_within : (t : ReadyThread) → lowest_thread parts.ready.lines ≡ Some t → t.line < length parts.line_numbers
+  line_number_within t low =
+      let within = part_within (slice_get parts.ready.lines t.line) (thread_some parts.ready.lines t low) refl in
+      let a = is.ready.all_lines in
+      let b = ap (λ (ns : List ℕ). length ns) is.line_numbers in
+      let c = length-map lines (λ (x : LineSeen). x.def.line.0) in
+      omega (arith, within, a, b, c)
+    where
+      part_within : (o : Option LinePart) → thread_of o ≡ Some t.dev → slice_get parts.ready.lines t.line ≡ o → t.line < length parts.ready.lines
+      part_within None h at = cc
+      part_within (Some p) h at = slice_get_within parts.ready.lines t.line p at
+
+  pub line_number_there : (t : ReadyThread) → Some (movers.Thread t) ≡ lowest parts.ready → t.line < length parts.line_numbers
+  line_number_there t is_lowest = line_number_within t (lowest_says parts.ready (Some (movers.Thread t)) is_lowest)
+
+  pub driver_number_within : (j : ℕ) → lowest_driver parts.ready ≡ Some j → j < length parts.driver_numbers
+  driver_number_within j low =
+      let f = (first_some (is_driver_ready parts.ready) (length parts.ready.drivers) j low).0 in
+      let a = is.ready.all_drivers in
+      let b = ap (λ (ns : List ℕ). length ns) is.driver_numbers in
+      let c = length-map board.drivers (λ (x : DriverNo). x.0) in
+      let d = ap (λ (rs : List DriverNo). length rs) is.system.drivers in
+      let e = length-map scripts (λ (s : ScriptSeen). s.driver) in
+      omega (arith, f, a, b, c, d, e)
+
+  pub driver_number_there : (j : ℕ) → Some (movers.Driver j) ≡ lowest parts.ready → j < length parts.driver_numbers
+  driver_number_there j is_lowest = driver_number_within j (lowest_says parts.ready (Some (movers.Driver j)) is_lowest).2
+
+-- what a search by number answers
+pub number_there : (numbers items : List ℕ) (n k : ℕ) (o : Option ℕ) → numbers ≡ items → IsPlaceOfNumber numbers n o → o ≡ Some k → slice_get items k ≡ Some n
+number_there numbers items n k o same place some = subst (λ (ns : List ℕ). IsPlaceOfNumber ns n (Some k)) same (subst (λ (p : Option ℕ). IsPlaceOfNumber numbers n p) some place)
+
+pub number_nowhere : (numbers items : List ℕ) (n : ℕ) (o : Option ℕ) → numbers ≡ items → IsPlaceOfNumber numbers n o → o ≡ None → (k : ℕ) → slice_get items k ≡ Some n → ⊥
+number_nowhere numbers items n o same place none = subst (λ (ns : List ℕ). IsPlaceOfNumber ns n None) same (subst (λ (p : Option ℕ). IsPlaceOfNumber numbers n p) none place)
+
+-- the number that is read at a place
+pub number_read : (numbers : List ℕ) (k n : ℕ) → k < length numbers → n ≡ get_or numbers k 0 → slice_get numbers k ≡ Some n
+number_read numbers k n within is = slice_get-get_or numbers k 0 within ∙ ap (λ (m : ℕ). Some m) (sym is)

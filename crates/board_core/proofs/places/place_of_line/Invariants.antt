@@ -1,7 +1,0 @@
-use Rattle.std.proofs.Common.{map}
-use Rattle.board_core.specs.Seen.{board_lines}
-use Rattle.board_core.proofs.Searches.{of_number, IsPassed}
-use Rattle.board_core.proofs.places.place_of_line.Given as goal
-
-abbrev pub invariant-loop-i : goal.invariant-loop-i
-invariant-loop-i g l = IsPassed (of_number l.line) (board_lines (map g.L.IrqLine.seen l.lines)) l.i

@@ -1,7 +1,0 @@
-use Rattle.std.proofs.Common.{map}
-use Rattle.board_core.specs.Seen.{board_lines}
-use Rattle.board_core.proofs.Searches.{due_of_cpu, IsPassed}
-use Rattle.board_core.proofs.places.place_of_take.Given as goal
-
-abbrev pub invariant-loop-i : goal.invariant-loop-i
-invariant-loop-i g l = IsPassed (due_of_cpu l.cpu) (board_lines (map g.L.IrqLine.seen l.lines)) l.i
