@@ -5,16 +5,18 @@ use Rattle.std.proofs.lemmas.List.Elements.{All-cons, All-nil}
 use Rattle.std.specs.Prelude.{All}
 use Rattle.irq_base.specs.declared.calls.Call.{Call}
 use Rattle.irq_base.specs.declared.devices.DeviceDef.{DeviceDef}
+use Rattle.irq_base.specs.declared.numbers.CpuNo.{CpuNo}
 use Rattle.irq_base.specs.declared.numbers.DriverNo.{DriverNo}
 use Rattle.irq_model.specs.Valid.{IsValid, names_one_of}
 use Rattle.irq_base.specs.declared.entries.Entry.{Entry}
 use Rattle.irq_base.specs.declared.lines.LineDef.{LineDef}
 use Rattle.line_marks.specs.State.{StateSeen, state_after}
+use Rattle.line_marks.specs.CpuDue.{cpu_due}
 use Rattle.line_marks.specs.DriversDue.{driver_due}
-use Rattle.line_marks.specs.Expected.{IsExpected}
+use Rattle.line_marks.specs.Expected.{IsExpected, HasRounds, HasDepth, IsOpen}
 use Rattle.line_state.specs.Seen.{HasCallRoom}
 use Rattle.line_state.specs.Tests.{the_line, two_devices, tried_line, TriedSeen, IsTried}
-use Rattle.line_state.proofs.Expecting.{expected_of_call}
+use Rattle.line_state.proofs.Expecting.{expected_of_call, expected_of_cpu}
 use Rattle.line_state.proofs.Keeping.{is_of_kept, aim_of_kept}
 
 on_line : (a b : Kind) → All (λ (x : DeviceDef). x.line ≡ the_line) (two_devices a b)
@@ -72,6 +74,10 @@ tried_is_valid false unlazy later a b = record {
 pub tried_kept : (def : LineDef) (e : Entry) (s roomy last : StateSeen) → IsTried (record { def = def; state = s }) → roomy ≡ s → last ≡ state_after def e roomy → IsTried (record { def = def; state = last })
 tried_kept def e s roomy last tried as_before is =
     rw (is, as_before) (record { valid = tried.valid; is_of = is_of_kept def e s tried.is_of; aim = aim_of_kept def e s tried.aim })
+
+pub cpu_tried : (l m : TriedSeen) → l ≡ m → (cpu : CpuNo) (e : Entry) → Some e ≡ cpu_due l.def l.state cpu → HasRounds m.state → HasDepth m.state → IsOpen m.def m.state → IsExpected m.def e m.state
+cpu_tried l m same cpu e due rounds depth opened =
+    expected_of_cpu m.def m.state cpu e (ap (λ (k : TriedSeen). cpu_due k.def k.state cpu) (sym same) ∙ sym due) rounds depth opened
 
 pub call_tried : (l m : TriedSeen) → l ≡ m → (r : DriverNo) (call : Call) (n : ℕ) (e : Entry) → Some e ≡ driver_due l.def l.state r (Some (call, n)) → HasCallRoom call m.state → IsExpected m.def e m.state
 call_tried l m same r call n e due room =

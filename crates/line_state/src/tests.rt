@@ -150,7 +150,6 @@ impl Tried {
         Ok(Some(entry))
     }
 
-    #[tactic(auto, using(crate::proofs::Expecting::expected_of_cpu))]
     fn step_cpu(&mut self, cpu: CpuNo) -> Result<Option<Entry>, NoMemory> {
         let Some(entry) = self.state.due_of_cpu(&self.def, cpu) else {
             return Ok(None);
