@@ -122,8 +122,11 @@ const MALFORMED: [&str; 58] = [
     "0 c0 enter 1",
 ];
 
-/// Texts of a board of the lines 1 and 5: how many entries each line has, or the first malformed row.
-const TEXTS: [(&str, Result<(usize, usize), LogRefused>); 14] = [
+/// A text, and how many entries each of the two lines has, or the first malformed row.
+type Read = (&'static str, Result<(usize, usize), LogRefused>);
+
+/// Texts of a board of the lines 1 and 5.
+const TEXTS: [Read; 14] = [
     ("", Ok((0, 0))),
     ("#\n", Ok((0, 0))),
     ("# a\n#\n", Ok((0, 0))),
@@ -158,18 +161,26 @@ fn is_formed(rt: &impl Abort, text: &str) {
     );
 }
 
+fn expect_formed(rt: &impl Abort, texts: &[&str]) {
+    for text in texts {
+        is_formed(rt, text);
+    }
+}
+
 #[test]
 fn rows_of_entries_are_read(rt: HostRuntime) {
-    for text in FORMED {
-        is_formed(&rt, text);
+    expect_formed(&rt, &FORMED);
+}
+
+fn expect_malformed(rt: &impl Abort, texts: &[&str]) {
+    for text in texts {
+        assert!(rt; read_row(text.as_bytes()).is_none(), "{text:?} is read");
     }
 }
 
 #[test]
 fn other_rows_are_not_read(rt: HostRuntime) {
-    for text in MALFORMED {
-        assert!(rt; read_row(text.as_bytes()).is_none(), "{text:?} is read");
-    }
+    expect_malformed(&rt, &MALFORMED);
 }
 
 fn is_declared(board: &Board, parent: Option<usize>) -> bool
@@ -253,16 +264,20 @@ fn lengths(alloc: Global, board: &Board, text: &[u8]) -> Result<(usize, usize), 
     Ok((len_at(&logs, 0), len_at(&logs, 1)))
 }
 
-#[test]
-fn texts_are_read_or_their_first_malformed_row_told(rt: HostRuntime) -> Result<(), Fail> {
-    let board = two_lines(rt.alloc()).expect(&rt, "a board");
-    for (text, outcome) in TEXTS {
+/// Reads each text of that board.
+fn expect_outcomes(rt: &impl Abort, alloc: Global, board: &Board, texts: &[Read]) {
+    for (text, outcome) in texts {
         assert!(rt;
-            lengths(rt.alloc(), &board, text.as_bytes()) == outcome,
+            lengths(alloc, board, text.as_bytes()) == *outcome,
             "for {text:?}"
         );
     }
-    Ok(())
+}
+
+#[test]
+fn texts_are_read_or_their_first_malformed_row_told(rt: HostRuntime) {
+    let board = two_lines(rt.alloc()).expect(&rt, "a board");
+    expect_outcomes(&rt, rt.alloc(), &board, &TEXTS);
 }
 
 #[test]
