@@ -88,6 +88,7 @@ module _ (board : BoardSeen) (lines : List LockSeen) (who : Actor) (first end : 
     from ∙ span.0,
     (let n = f.count in let z = span.0 in let e = span.1 in let l = ap (λ (ss : List SeatSeen). length ss) are in omega (arith, n, z, e, l)),
     subst (λ (n : ℕ). IsUpTo board.calls (own_lines j.seats) r n) (sym at) (subst (λ (ss : List SeatSeen). IsUpTo board.calls (own_lines ss) r 0) (sym are) (up_to r)),
+    omega (arith, at),
   )
 
   pub new_job : (j : JobSeen) → j.actor ≡ who → j.first ≡ first → j.seats ≡ seats → j.at ≡ 0 → IsSpan lines who first end → IsJob board lines j

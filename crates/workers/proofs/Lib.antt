@@ -9,3 +9,9 @@ pub mod Meeting
 pub mod Own
 pub mod Gathering
 pub mod Finishing
+pub mod Turning
+pub mod Flowing
+pub mod LastEntry
+pub mod Driving
+pub mod Driven
+pub mod Rounding

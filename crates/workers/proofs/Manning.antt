@@ -1,5 +1,5 @@
 -- Who has a worker: each actor once.
-use Rattle.std.proofs.Common.{◌≡◌, ℕ, zero, suc, ◌+◌, ◌<◌, ◌≤◌, ◌||◌, inl, inr, Bool, true, false, cond, is_some, IsSomeAnd, Option, Some, None, List, [], ◌∷◌, ◌++◌, map, filter, take, length, slice_get, refl, sym, ap, ◌∙◌, subst, arith, add-one, append_assoc, append-nil}
+use Rattle.std.proofs.Common.{◌≡◌, ℕ, zero, suc, ◌+◌, ◌<◌, ◌≤◌, ◌||◌, inl, inr, Bool, true, false, cond, is_some, IsSomeAnd, Option, Some, None, List, [], ◌∷◌, ◌++◌, map, filter, take, length, get_or, slice_get, refl, sym, ap, ◌∙◌, subst, arith, add-one, append_assoc, append-nil}
 use Rattle.std.specs.List.{list_any}
 use Rattle.std.proofs.lemmas.Bool.{or_cases, and_parts, false_from_ne_true}
 use Rattle.irq_base.specs.Handlers.{has_thread}
@@ -17,6 +17,7 @@ use Rattle.play_laws.specs.Actors.{count_up}
 use Rattle.board_def.proofs.Rising.{Rises, rises_on, head_of}
 use Rattle.board_def.specs.Rules.{IsBoard}
 use Rattle.board_def.specs.Seen.{BoardSeen}
+use Rattle.board_def.specs.declared.rows.ScriptCall.{ScriptCall}
 use Rattle.board_play.specs.Order.{cpus_of, drivers_of}
 use Rattle.line_lock.proofs.Actors.{actor_from_same}
 use Rattle.line_lock.specs.Knows.{is_among}
@@ -24,6 +25,7 @@ use Rattle.line_lock.specs.Passes.{LockSeen}
 use Rattle.line_lock.specs.Placed.{same_actor}
 use Rattle.workers.specs.Fit.{IsPlaceOf, has_worker, workers_of}
 use Rattle.workers.specs.Forks.{IsThere}
+use Rattle.workers.proofs.Lists.{there_or}
 
 -- ---- an order
 
@@ -289,3 +291,16 @@ place_says lines number (Some k) is = any lines k is
 
 pub not_there : (lines : List LockSeen) (number : LineNo) (dev : DevNo) → IsThere lines (actors.Thread number dev) → IsPlaceOf lines number None → ⊥
 not_there lines number dev is none = both_ways (list_any (λ (l : LockSeen). same_line number l.def.line) lines) (place_says lines number (Some is.0) is.1) none
+
+-- a line that is there isn't nowhere
+pub not_placed : (lines : List LockSeen) (number : LineNo) (k : ℕ) (l : LockSeen) → slice_get lines k ≡ Some l → l.def.line ≡ number → IsPlaceOf lines number None → ⊥
+not_placed lines number k l at is none =
+    both_ways (list_any (λ (l : LockSeen). same_line number l.def.line) lines) (place_says lines number (Some k) (subst (λ (o : Option LockSeen). IsSomeAnd o (λ l. l.def.line ≡ number)) (sym at) is)) none
+
+-- what is known of a call that was read
+pub read_here : (calls : List ScriptCall) (k at : ℕ) (default d : ScriptCall) (P : ScriptCall → Type 0) → P (get_or calls at default) → at < length calls → k ≡ at → slice_get calls k ≡ Some d → P d
+read_here calls k at default d P here less same is =
+    subst P (the_same (get_or calls at default) d (sym (there_or calls at default less) ∙ (ap (λ (n : ℕ). slice_get calls n) (sym same) ∙ is))) here
+
+pub not_nowhere : (lines : List LockSeen) (number : LineNo) (k : ℕ) → IsPlaceOf lines number (Some k) → IsPlaceOf lines number None → ⊥
+not_nowhere lines number k is none = both_ways (list_any (λ (l : LockSeen). same_line number l.def.line) lines) (place_says lines number (Some k) is) none

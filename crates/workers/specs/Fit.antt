@@ -1,8 +1,9 @@
 -- What it means that jobs fit their lines. Each part is a fact of single jobs.
-use Rattle.std.specs.Prelude.{◌≡◌, ℕ, ◌+◌, Bool, true, false, ◌&&◌, nat_le, nat_lt, IsSomeAnd, Option, Some, None, List, ◌++◌, map, filter, reverse, length, slice_get}
+use Rattle.std.specs.Prelude.{◌≡◌, ℕ, ◌+◌, Bool, true, false, ◌≤◌, ◌&&◌, nat_le, nat_lt, IsSomeAnd, Option, Some, None, List, ◌++◌, map, filter, reverse, length, slice_get}
 use Rattle.std.specs.List.{list_any}
 use Rattle.irq_base.specs.Handlers.{has_thread}
 use Rattle.irq_base.specs.declared.devices.DeviceDef.{DeviceDef}
+use Rattle.irq_base.specs.declared.lines.FlowKind.{FlowKind}
 use Rattle.irq_base.specs.declared.entries.Actor.{Actor}
 use Rattle.irq_base.specs.declared.entries.Actor.TheVariants as actors
 use Rattle.irq_base.specs.declared.entries.Entry.{Entry}
@@ -22,6 +23,9 @@ use Rattle.workers.specs.Tries.{IsIdle}
 
 abbrev pub numbers_of : List LockSeen → List LineNo
 numbers_of lines = map (λ (l : LockSeen). l.def.line) lines
+
+abbrev pub flows_of : List LockSeen → List FlowKind
+flows_of lines = map (λ (l : LockSeen). l.def.flow) lines
 
 -- the line of that number stands at the place; none where there is none
 abbrev pub IsPlaceOf : List LockSeen → LineNo → Option ℕ → Type 0
@@ -60,7 +64,7 @@ HasOneFlow j = (i : ℕ) (s : SeatSeen) → slice_get j.seats i ≡ Some s → (
 abbrev pub IsManned : BoardSeen → List LockSeen → JobSeen → Actor → Type 0
 IsManned board lines j (actors.Thread line dev) = (length j.seats ≡ 1) × IsPlaceOf lines line (Some j.first)
 IsManned board lines j (actors.Cpu c) = (j.first ≡ 0) × (length j.seats ≡ length lines) × HasOneFlow j
-IsManned board lines j (actors.Driver r) = (j.first ≡ 0) × (length j.seats ≡ length lines) × IsUpTo board.calls (own_lines j.seats) r j.at
+IsManned board lines j (actors.Driver r) = (j.first ≡ 0) × (length j.seats ≡ length lines) × IsUpTo board.calls (own_lines j.seats) r j.at × (j.at ≤ length board.calls)
 
 pub record IsJob (board : BoardSeen) (lines : List LockSeen) (j : JobSeen) : Type 0 where
   pub seated : AreSeated lines j

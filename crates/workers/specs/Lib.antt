@@ -3,3 +3,5 @@ pub mod Tries
 pub mod Fit
 pub mod Forks
 pub mod Gathers
+pub mod Turns
+pub mod Rounds

@@ -13,7 +13,7 @@ use crate::forks::fork_all;
 use crate::job::{Job, Left};
 use crate::lines::SharedLines;
 use board_def::Board;
-use irq_base::{Actor, LineNo, NoMemory};
+use irq_base::{Actor, NoMemory};
 use irq_line::IrqLine;
 use line_shared::{Pass, SharedLine};
 use std::alloc::Global;
@@ -73,17 +73,26 @@ fn share_lines<L: IrqLine>(
 {
     let mut lines = Vec::new(alloc);
     let mut numbers = Vec::new(alloc);
+    let mut flows = Vec::new(alloc);
     let mut firsts = Vec::new(alloc);
     for line in all {
-        let number: LineNo = line.definition().line;
+        let (number, flow) = (line.definition().line, line.definition().flow);
         let Ok((line, first)) = SharedLine::new(alloc, line) else {
             return Err(NoMemory);
         };
         numbers.push(number)?;
+        flows.push(flow)?;
         lines.push(line)?;
         firsts.push(first)?;
     }
-    Ok((SharedLines { lines, numbers }, firsts))
+    Ok((
+        SharedLines {
+            lines,
+            numbers,
+            flows,
+        },
+        firsts,
+    ))
 }
 
 impl<'b, L: IrqLine> Jobs<'b, L> {

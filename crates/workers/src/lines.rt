@@ -1,9 +1,10 @@
 //! The lines that the threads share.
-ghost use Rattle.std.specs.Prelude.{◌≡◌, ◌+◌, ◌<◌, ◌^◌, IfSome};
+ghost use Rattle.std.specs.Prelude.{◌≡◌, ◌+◌, ◌<◌, ◌^◌, IfSome, Some, length, slice_get};
+ghost use Rattle.line_lock.specs.Passes.{LockSeen};
 ghost use Rattle.workers.specs.Fit.{IsPlaceOf, has_worker};
 ghost use Rattle.workers.specs.Forks.{IsThere, IsSpan};
 
-use irq_base::{Actor, DeviceDef, LineNo};
+use irq_base::{Actor, DeviceDef, FlowKind, LineNo};
 use irq_line::IrqLine;
 use line_shared::SharedLine;
 use std::marker::Model;
@@ -13,18 +14,19 @@ use std::marker::Model;
 pub struct SharedLines<L: IrqLine> {
     pub(crate) lines: Vec<SharedLine<L>>,
     pub(crate) numbers: Vec<LineNo>,
+    pub(crate) flows: Vec<FlowKind>,
 }
 
 impl<L: IrqLine> Model for SharedLines<L> {
     ghost use Rattle.std.specs.Prelude.{◌≡◌, List};
     ghost use Rattle.line_lock.specs.Passes.{LockSeen};
-    ghost use Rattle.workers.specs.Fit.{numbers_of};
+    ghost use Rattle.workers.specs.Fit.{numbers_of, flows_of};
 
     ghost Value = { List LockSeen };
 
     ghost view = { λ s. s.lines.items };
 
-    ghost invariant = { λ s. s.numbers.items ≡ numbers_of s.lines.items };
+    ghost invariant = { λ s. (s.numbers.items ≡ numbers_of s.lines.items) × (s.flows.items ≡ flows_of s.lines.items) };
 }
 
 impl<L: IrqLine> SharedLines<L> {
@@ -39,6 +41,15 @@ impl<L: IrqLine> SharedLines<L> {
             }
         }
         None
+    }
+
+    /// The flow handler of the line that stands so many places behind the first one.
+    pub(crate) fn flow_at(&self, first: usize, behind: usize) -> FlowKind
+        requires { first + behind < length self.now }
+        ensures { (l : LockSeen) → slice_get self.now (first + behind) ≡ Some l → result ≡ l.def.flow }
+    {
+        let flows = self.flows.as_slice();
+        flows[first + behind]
     }
 
     /// Whether the device has a thread, and its line takes part.

@@ -1,0 +1,211 @@
+-- What a driver's try makes of its job.
+use Rattle.std.proofs.Common.{◌≡◌, ℕ, zero, suc, ◌+◌, ◌-◌, ◌<◌, ◌≤◌, ◌⊎◌, inl, inr, Bool, true, false, cond, IsSomeAnd, Option, Some, None, Result, List, [], ◌∷◌, length, map, reverse, set, slice_get, refl, sym, ap, ◌∙◌, subst, arith}
+use Rattle.irq_base.specs.declared.entries.Actor.{Actor}
+use Rattle.irq_base.specs.declared.entries.Actor.TheVariants as actors
+use Rattle.irq_base.specs.declared.entries.Entry.{Entry}
+use Rattle.irq_base.specs.declared.lines.LineDef.{LineDef}
+use Rattle.irq_base.specs.declared.numbers.DriverNo.{DriverNo}
+use Rattle.irq_line.specs.declared.answers.StepRefused.{StepRefused}
+use Rattle.irq_model.specs.Due.{entries_by}
+use Rattle.irq_model.specs.Next.{next}
+use Rattle.board_def.specs.Rules.{IsBoard}
+use Rattle.board_def.specs.Seen.{BoardSeen}
+use Rattle.board_def.specs.declared.rows.ScriptCall.{ScriptCall}
+use Rattle.board_play.specs.Kept.{IsUpTo}
+use Rattle.board_play.specs.Lines.{BoardLine, lines_after, defs_of}
+use Rattle.board_play.proofs.OfBoard.{apart_defs}
+use Rattle.board_play.proofs.Members.{AreApart}
+use Rattle.line_lock.specs.Passes.{LockSeen}
+use Rattle.line_lock.specs.Placed.{placed}
+use Rattle.line_lock.specs.declared.view.Placed.{Placed}
+use Rattle.workers.specs.Fit.{Sits, IsPlaceOf, own_past, own_line, own_lines}
+use Rattle.workers.specs.Forks.{AreBoards}
+use Rattle.workers.specs.Seen.{SeatSeen, JobSeen}
+use Rattle.workers.specs.Tries.{Gains, Tries, rests_after, IsIdle}
+use Rattle.workers.specs.Turns.{StepsSeat, KeepsSeats, IsDriven, WaitsAt, TurnsDriver, is_last}
+use Rattle.workers.specs.declared.turns.Turn.{Turn}
+use Rattle.workers.specs.declared.turns.Turn.TheVariants as turns
+use Rattle.workers.proofs.Driving.{AreAmong, passed_all, up_after, alike_after}
+use Rattle.workers.proofs.Flowing.{own_more, keeps_seats, seat_now, full_is_so, moved_is, not_yet_is, nothing_gained, keeps_on}
+use Rattle.workers.proofs.Lists.{at_map, of_map, within}
+use Rattle.workers.proofs.Own.{own_are_seen, AreAlike, same_script}
+
+same_defs : (seats : List SeatSeen) (lines : List LockSeen) → length seats ≡ length lines → ((i : ℕ) (s : SeatSeen) → slice_get seats i ≡ Some s → IsSomeAnd (slice_get lines i) (λ l. s.pass.def ≡ l.def))
+    → map (λ (x : BoardLine). x.def) (own_lines seats) ≡ map (λ (l : LockSeen). l.def) lines
+same_defs [] [] long each = refl
+same_defs [] (l ∷ ls) long each = absurd (omega (arith, long))
+same_defs (s ∷ ss) [] long each = absurd (omega (arith, long))
+same_defs (s ∷ ss) (l ∷ ls) long each =
+    ap (λ (d : LineDef). d ∷ map (λ (x : BoardLine). x.def) (own_lines ss)) (each 0 s refl)
+    ∙ ap (λ (ds : List LineDef). l.def ∷ ds) (same_defs ss ls (omega (arith, long)) (λ i t at. each (suc i) t at))
+
+module _ (board : BoardSeen) (lines : List LockSeen) (boards : AreBoards board lines) (r : DriverNo) (j : JobSeen) (d : IsDriven board lines r j) where
+  k_is : (i : ℕ) → j.first + i ≡ i
+  k_is i = let z = d.first in omega (arith, z)
+
+  line_at : (i : ℕ) (s : SeatSeen) → slice_get j.seats i ≡ Some s → IsSomeAnd (slice_get lines i) (λ l. Sits l j.actor s)
+  line_at i s at = subst (λ (n : ℕ). IsSomeAnd (slice_get lines n) (λ l. Sits l j.actor s)) (k_is i) (d.seated i s at)
+
+  own_defs : map (λ (x : BoardLine). x.def) (own_lines j.seats) ≡ defs_of board
+  own_defs = same_defs j.seats lines d.as_many each ∙ boards
+    where
+      each : (i : ℕ) (s : SeatSeen) → slice_get j.seats i ≡ Some s → IsSomeAnd (slice_get lines i) (λ l. s.pass.def ≡ l.def)
+      each i s at = by_line (slice_get lines i) (line_at i s at)
+        where
+          by_line : (o : Option LockSeen) → IsSomeAnd o (λ l. Sits l j.actor s) → IsSomeAnd o (λ l. s.pass.def ≡ l.def)
+          by_line None is = absurd is
+          by_line (Some l) is = is.of_line.1
+
+  among : AreAmong lines (own_lines j.seats)
+  among i x at = let s = of_map own_line j.seats i x at in by_line s.0 s.2 (slice_get lines i) refl (line_at i s.0 s.1)
+    where
+      by_line : (s : SeatSeen) → own_line s ≡ x → (o : Option LockSeen) → slice_get lines i ≡ o → IsSomeAnd o (λ l. Sits l j.actor s) → (l : LockSeen) × (slice_get lines i ≡ Some l) × (x.def ≡ l.def)
+      by_line s is None at_line sits = absurd sits
+      by_line s is (Some l) at_line sits = (l, at_line, ap (λ (y : BoardLine). y.def) (sym is) ∙ sits.of_line.1)
+
+  -- the driver goes to its next call
+  pub next_driven : (q : ℕ) (now : JobSeen) → now ≡ record j { at = q } → j.at ≤ q → q ≤ length board.calls
+      → ((k : ℕ) (c : ScriptCall) → j.at ≤ k → k < q → slice_get board.calls k ≡ Some c → c.driver ≡ r → IsPlaceOf lines c.line None) → IsDriven board lines r now
+  next_driven q now is from few passed =
+      subst (λ (x : JobSeen). IsDriven board lines r x) (sym is)
+      (record {
+        actor = d.actor;
+        seated = d.seated;
+        first = d.first;
+        as_many = d.as_many;
+        up_to = passed_all board.calls lines (own_lines j.seats) among r (q - j.at) j.at q (omega (arith, from)) few passed d.up_to;
+        within = few;
+      })
+
+  -- ---- a try at the current call
+
+  module _ (isb : IsBoard board) (c : ScriptCall) (at_p : slice_get board.calls j.at ≡ Some c) (mine : c.driver ≡ r) (place : ℕ) (place_is : IsPlaceOf lines c.line (Some place)) (turn : Turn) (mid : JobSeen) (s : StepsSeat lines place turn j mid) where
+    line_is : s.line.def.line ≡ c.line
+    line_is = subst (λ (o : Option LockSeen). IsSomeAnd o (λ l. l.def.line ≡ c.line)) (ap (λ (n : ℕ). slice_get lines n) (sym (k_is place)) ∙ s.at_line) place_is
+
+    seat_def : s.seat.pass.def ≡ s.line.def
+    seat_def = (subst (λ (o : Option LockSeen). IsSomeAnd o (λ l. Sits l j.actor s.seat)) (ap (λ (n : ℕ). slice_get lines n) (sym (k_is place)) ∙ s.at_line) (line_at place s.seat s.at_seat)).of_line.1
+
+    seats_are : mid.seats ≡ set j.seats place s.after
+    seats_are = ap (λ (x : JobSeen). x.seats) s.is
+
+    at_is : mid.at ≡ j.at
+    at_is = ap (λ (x : JobSeen). x.at) s.is
+
+    after_def : s.after.pass.def ≡ s.seat.pass.def
+    after_def = s.sits.of_line.1 ∙ sym seat_def
+
+    at_y : slice_get (own_lines j.seats) place ≡ Some (own_line s.seat)
+    at_y = at_map own_line j.seats place s.seat s.at_seat
+
+    y_line : c.line ≡ (own_line s.seat).def.line
+    y_line = sym line_is ∙ ap (λ (x : LineDef). x.line) (sym seat_def)
+
+    pub driver_rests : ((e : Entry) → turn ≡ turns.Moved e → ⊥) → TurnsDriver board lines r turn j mid
+    driver_rests not =
+        record {
+          keeps = keeps_seats lines place turn j mid d.seated s;
+          up_to = subst (λ (n : ℕ). IsUpTo board.calls (own_lines mid.seats) r n) (sym at_is) (same_script board.calls (own_lines mid.seats) (own_lines j.seats) r j.at alike d.up_to);
+          within = let w = d.within in omega (arith, w, at_is);
+          rests = λ is. inr (waits is);
+          full = full_is_so lines place turn j mid s;
+        }
+      where
+        same_mine : s.after.pass.knows.mine ≡ s.seat.pass.knows.mine
+        same_mine = nothing_gained s.line.def j.actor s.line.def.line s.seat.pass.knows s.after.pass.knows s.tried turn s.told not s.tries
+
+        alike : AreAlike r (own_lines mid.seats) (own_lines j.seats)
+        alike k x at =
+            let t = of_map own_line mid.seats k x at in
+            subst (λ (y : BoardLine). (z : BoardLine) × (slice_get (own_lines j.seats) k ≡ Some z) × (y.def ≡ z.def) × (entries_by r y.past ≡ entries_by r z.past)) t.2
+            (by_place t.0 (seat_now lines place turn j mid s k t.0 t.1))
+          where
+            by_place : (t : SeatSeen) → ((k ≡ place) × (t ≡ s.after)) ⊎ ((k ≡ place → ⊥) × (slice_get j.seats k ≡ Some t)) → (z : BoardLine) × (slice_get (own_lines j.seats) k ≡ Some z) × (t.pass.def ≡ z.def) × (entries_by r (own_past t.pass.knows.mine) ≡ entries_by r z.past)
+            by_place t (inl here) = (
+              own_line s.seat,
+              ap (λ (n : ℕ). slice_get (own_lines j.seats) n) here.0 ∙ at_y,
+              ap (λ (x : SeatSeen). x.pass.def) here.1 ∙ after_def,
+              ap (λ (x : SeatSeen). entries_by r (own_past x.pass.knows.mine)) here.1 ∙ ap (λ (ps : List Placed). entries_by r (own_past ps)) same_mine,
+            )
+            by_place t (inr other) = (own_line t, at_map own_line j.seats k t other.1, refl, refl)
+
+        waits : turn ≡ turns.NotYet → WaitsAt board mid r
+        waits is =
+            let idle = s.sits.rests (s.rests ∙ ap rests_after (not_yet_is s.line.def.line s.tried (sym is ∙ s.told))) in
+            record {
+              call = c;
+              place = place;
+              seat = s.after;
+              at_call = ap (λ (n : ℕ). slice_get board.calls n) at_is ∙ at_p;
+              own = mine;
+              at_seat = ap (λ (ss : List SeatSeen). slice_get ss place) seats_are ∙ set_there j.seats place s.after s.seat s.at_seat;
+              line = ap (λ (x : LineDef). x.line) s.sits.of_line.1 ∙ line_is;
+              rests = subst (λ (x : LineDef). IsIdle x (actors.Driver r) s.after.pass.knows) (sym s.sits.of_line.1) (subst (λ (a : Actor). IsIdle s.line.def a s.after.pass.knows) d.actor idle);
+            }
+          where
+            set_there : (xs : List SeatSeen) (k : ℕ) (y x : SeatSeen) → slice_get xs k ≡ Some x → slice_get (set xs k y) k ≡ Some y
+            set_there [] k y x at = cc
+            set_there (z ∷ zs) zero y x at = refl
+            set_there (z ∷ zs) (suc k) y x at = set_there zs k y x at
+
+    pub driver_moved : (e : Entry) → turn ≡ turns.Moved e → (last : Bool) → is_last c.call e ≡ last → (new : JobSeen) → new ≡ record mid { at = cond last (mid.at + 1) mid.at } → TurnsDriver board lines r (turns.Moved e) j new
+    driver_moved e is last is_l new now =
+        record {
+          keeps = subst (λ (x : JobSeen). KeepsSeats lines j x) (sym now) (same_seats (keeps_seats lines place turn j mid d.seated s));
+          up_to = subst (λ (x : JobSeen). IsUpTo board.calls (own_lines x.seats) r x.at) (sym now)
+              (subst (λ (n : ℕ). IsUpTo board.calls (own_lines mid.seats) r (cond last (n + 1) n)) (sym at_is)
+              (subst (λ (ss : List SeatSeen). IsUpTo board.calls (own_lines ss) r (cond last (j.at + 1) j.at)) (sym seats_are) after));
+          within = let w = within board.calls j.at c at_p in let n = ap (λ (x : JobSeen). x.at) now in fits last n w;
+          rests = λ h. cc;
+          full = tt;
+        }
+      where
+        same_seats : KeepsSeats lines j mid → KeepsSeats lines j (record mid { at = cond last (mid.at + 1) mid.at })
+        same_seats k = record { actor = k.actor; first = k.first; as_many = k.as_many; seated = k.seated }
+
+        fits : (last : Bool) → new.at ≡ cond last (mid.at + 1) mid.at → j.at < length board.calls → new.at ≤ length board.calls
+        fits true n w = omega (arith, n, w, at_is)
+        fits false n w = omega (arith, n, w, at_is)
+
+        gains : Gains s.line.def j.actor s.seat.pass.knows e s.after.pass.knows
+        gains = (subst (λ (t : Result (Option Entry) StepRefused). Tries s.line.def j.actor s.seat.pass.knows t s.after.pass.knows) (moved_is s.line.def.line e s.tried (sym is ∙ s.told)) s.tries).came
+
+        due : next s.seat.pass.def gains.history (actors.Driver r) ≡ Some e
+        due = ap (λ (x : LineDef). next x gains.history (actors.Driver r)) seat_def ∙ (ap (λ (a : Actor). next s.line.def gains.history a) (sym d.actor) ∙ gains.due)
+
+        own : entries_by r (own_past s.seat.pass.knows.mine) ≡ entries_by r (reverse gains.history)
+        own = own_are_seen s.line.def.line r gains.history s.seat.pass.knows.mine (gains.own ∙ ap (λ (a : Actor). placed s.line.def.line a gains.history) d.actor)
+
+        up : IsUpTo board.calls (lines_after (s.seat.pass.def.line, e) (own_lines j.seats)) r (cond last (j.at + 1) j.at)
+        up = up_after board isb (own_lines j.seats) own_defs r j.at d.up_to c at_p mine place (own_line s.seat) at_y y_line gains.history e due own last is_l
+
+        after : IsUpTo board.calls (own_lines (set j.seats place s.after)) r (cond last (j.at + 1) j.at)
+        after =
+            same_script board.calls (own_lines (set j.seats place s.after)) (lines_after (s.seat.pass.def.line, e) (own_lines j.seats)) r (cond last (j.at + 1) j.at)
+            (alike_after j.seats (subst AreApart (sym own_defs) (apart_defs board isb)) place s.seat s.after s.at_seat after_def e (own_more s.seat.pass.knows.mine s.after.pass.knows.mine (length gains.history) e gains.mine) r) up
+
+-- ---- a whole turn
+
+module _ (board : BoardSeen) (lines : List LockSeen) (boards : AreBoards board lines) (r : DriverNo) (j now : JobSeen) (d : IsDriven board lines r j) (q : ℕ) (is : now ≡ record j { at = q }) where
+  same_seats : KeepsSeats lines j now
+  same_seats = subst (λ (x : JobSeen). KeepsSeats lines j x) (sym is) (record { actor = refl; first = refl; as_many = refl; seated = d.seated })
+
+  pub driver_done : IsDriven board lines r now → slice_get board.calls q ≡ None → TurnsDriver board lines r turns.NotYet j now
+  driver_done e none =
+      record {
+        keeps = same_seats;
+        up_to = e.up_to;
+        within = e.within;
+        rests = λ h. inl (let n = nothing_there board.calls q none in let a = ap (λ (x : JobSeen). x.at) is in omega (arith, n, a));
+        full = tt;
+      }
+    where
+      nothing_there : (cs : List ScriptCall) (k : ℕ) → slice_get cs k ≡ None → length cs ≤ k
+      nothing_there [] k at = omega arith
+      nothing_there (c ∷ cs) zero at = cc
+      nothing_there (c ∷ cs) (suc k) at = let n = nothing_there cs k at in omega (arith, n)
+
+  pub driver_turned : (turn : Turn) (new : JobSeen) (s : DriverNo) → s ≡ r → TurnsDriver board lines s turn now new → TurnsDriver board lines r turn j new
+  driver_turned turn new s same t =
+      subst (λ (x : DriverNo). TurnsDriver board lines x turn j new) same
+      (record { keeps = keeps_on lines j now new same_seats t.keeps; up_to = t.up_to; within = t.within; rests = t.rests; full = t.full })

@@ -1,0 +1,228 @@
+-- A processor's tries keep that it has a flow in progress on one line at most.
+use Rattle.std.proofs.Common.{◌≡◌, ℕ, zero, suc, ◌+◌, ◌<◌, ◌⊎◌, inl, inr, Bool, true, false, ◌&&◌, ◌||◌, cond, IsSomeAnd, Option, Some, None, is_some, Result, Ok, Err, List, [], ◌∷◌, ◌++◌, length, map, reverse, set, slice_get, refl, sym, ap, ◌∙◌, subst, arith}
+use Rattle.std.proofs.Math.ListN.{length-set}
+use Rattle.std.proofs.lemmas.List.{reverse-append}
+use Rattle.irq_base.specs.declared.entries.Actor.{Actor}
+use Rattle.irq_base.specs.declared.entries.Entry.{Entry}
+use Rattle.irq_base.specs.declared.entries.Entry.TheVariants as entries
+use Rattle.irq_base.specs.declared.lines.FlowKind.{FlowKind}
+use Rattle.irq_base.specs.declared.lines.LineDef.{LineDef}
+use Rattle.irq_base.specs.declared.numbers.LineNo.{LineNo}
+use Rattle.irq_line.specs.declared.answers.StepRefused.{StepRefused}
+use Rattle.irq_line.specs.declared.answers.StepRefused.TheVariants as refusals
+use Rattle.irq_model.specs.Kinds.{is_handle}
+use Rattle.irq_model.specs.Lines.{is_eoi_flow}
+use Rattle.irq_model.specs.Places.{last_of}
+use Rattle.irq_model.specs.Rounds.{closes, cpu_of_handle, has_flow}
+use Rattle.line_lock.specs.Passes.{LockSeen}
+use Rattle.line_lock.specs.declared.view.Known.{Known}
+use Rattle.line_lock.specs.declared.view.Placed.{Placed}
+use Rattle.workers.specs.Fit.{Sits, AreSeated, own_past, HasOneFlow}
+use Rattle.workers.specs.Seen.{SeatSeen, JobSeen}
+use Rattle.workers.specs.Tries.{Gains, IsFull, Tries, rests_after}
+use Rattle.workers.specs.Turns.{turn_of, is_not_yet, StepsSeat, flow_after, KeepsSeats, FullIsSo, StepsCpu}
+use Rattle.workers.specs.declared.turns.Turn.{Turn}
+use Rattle.workers.specs.declared.turns.Turn.TheVariants as turns
+use Rattle.workers.proofs.Lists.{at_set, two}
+use Rattle.workers.proofs.Manning.{map_more}
+use Rattle.workers.proofs.Turning.{still_seated}
+
+-- one more entry of one's own
+pub own_more : (old new : List Placed) (n : ℕ) (e : Entry) → new ≡ old ++ record { place = n; entry = e } ∷ [] → own_past new ≡ e ∷ own_past old
+own_more old new n e is =
+    ap own_past is ∙ (ap reverse (map_more (λ (x : Placed). x.entry) old (record { place = n; entry = e })) ∙ reverse-append (map (λ (x : Placed). x.entry) old) (e ∷ []))
+
+pub keeps_seats : (lines : List LockSeen) (place : ℕ) (turn : Turn) (old new : JobSeen) → AreSeated lines old → StepsSeat lines place turn old new → KeepsSeats lines old new
+keeps_seats lines place turn old new seated s =
+    record {
+      actor = ap (λ (j : JobSeen). j.actor) s.is;
+      first = ap (λ (j : JobSeen). j.first) s.is;
+      as_many = ap (λ (j : JobSeen). length j.seats) s.is ∙ length-set old.seats place s.after;
+      seated = still_seated lines place turn old new seated s;
+    }
+
+-- the pass that was tried, and the others
+pub seat_now : (lines : List LockSeen) (place : ℕ) (turn : Turn) (old new : JobSeen) (s : StepsSeat lines place turn old new) (i : ℕ) (t : SeatSeen) → slice_get new.seats i ≡ Some t → ((i ≡ place) × (t ≡ s.after)) ⊎ ((i ≡ place → ⊥) × (slice_get old.seats i ≡ Some t))
+seat_now lines place turn old new s i t at = at_set old.seats place s.after i t (ap (λ (j : JobSeen). slice_get j.seats i) (sym s.is) ∙ at)
+
+pub full_is_so : (lines : List LockSeen) (place : ℕ) (turn : Turn) (old new : JobSeen) → StepsSeat lines place turn old new → FullIsSo new turn
+full_is_so lines place turn old new s = subst (λ (t : Turn). FullIsSo new t) (sym s.told) (by_tried s.tried s.tries)
+  where
+    by_tried : (tried : Result (Option Entry) StepRefused) → Tries s.line.def old.actor s.seat.pass.knows tried s.after.pass.knows → FullIsSo new (turn_of s.line.def.line tried)
+    by_tried (Ok (Some e)) t = tt
+    by_tried (Ok None) t = tt
+    by_tried (Err (refusals.Full len)) t =
+        let def : s.after.pass.def ≡ s.line.def = s.sits.of_line.1 in
+        record {
+          place = place;
+          seat = s.after;
+          at = ap (λ (j : JobSeen). slice_get j.seats place) s.is ∙ at_place_set old.seats place s.after s.seat s.at_seat;
+          number = ap (λ (d : LineDef). d.line) def;
+          is = subst (λ (d : LineDef). IsFull d new.actor s.after.pass.knows) (sym def) (subst (λ (a : Actor). IsFull s.line.def a s.after.pass.knows) (sym (ap (λ (j : JobSeen). j.actor) s.is)) t.came.0);
+          log = t.came.1 ∙ ap (λ (d : LineDef). d.log) (sym def);
+        }
+      where
+        at_place_set : (xs : List SeatSeen) (k : ℕ) (y x : SeatSeen) → slice_get xs k ≡ Some x → slice_get (set xs k y) k ≡ Some y
+        at_place_set [] k y x at = cc
+        at_place_set (z ∷ zs) zero y x at = refl
+        at_place_set (z ∷ zs) (suc k) y x at = at_place_set zs k y x at
+    by_tried (Err refusals.NoMemory) t = tt
+
+-- ---- what was tried
+
+pub moved_is : (n : LineNo) (e : Entry) (tried : Result (Option Entry) StepRefused) → turns.Moved e ≡ turn_of n tried → tried ≡ Ok (Some e)
+moved_is n e (Ok (Some f)) is = let same : e ≡ f = cc in ap (λ (x : Entry). Ok (Some x)) (sym same)
+moved_is n e (Ok None) is = cc
+moved_is n e (Err (refusals.Full len)) is = cc
+moved_is n e (Err refusals.NoMemory) is = cc
+
+pub not_yet_is : (n : LineNo) (tried : Result (Option Entry) StepRefused) → turns.NotYet ≡ turn_of n tried → tried ≡ Ok None
+not_yet_is n (Ok (Some f)) is = cc
+not_yet_is n (Ok None) is = refl
+not_yet_is n (Err (refusals.Full len)) is = cc
+not_yet_is n (Err refusals.NoMemory) is = cc
+
+-- without an entry the pass's own stay
+pub nothing_gained : (def : LineDef) (who : Actor) (n : LineNo) (old new : Known) (tried : Result (Option Entry) StepRefused) (turn : Turn) → turn ≡ turn_of n tried → ((e : Entry) → turn ≡ turns.Moved e → ⊥) → Tries def who old tried new → new.mine ≡ old.mine
+nothing_gained def who n old new (Ok (Some e)) turn told not t = absurd (not e told)
+nothing_gained def who n old new (Ok None) turn told not t = t.came.1
+nothing_gained def who n old new (Err (refusals.Full len)) turn told not t = t.came.2
+nothing_gained def who n old new (Err refusals.NoMemory) turn told not t = t.came
+
+-- ---- flows
+
+and_false : (b : Bool) → (b && false) ≡ false
+and_false true = refl
+and_false false = refl
+
+closing : (def : LineDef) (e : Entry) → closes def e ≡ true → cpu_of_handle (Some e) ≡ None
+closing def (entries.End cpu again unmask note) is = refl
+closing def (entries.Take cpu way answer) is = absurd (let h : false ≡ true = sym (and_false (is_eoi_flow def.flow)) ∙ is in not_both h)
+  where
+    not_both : false ≡ true → ⊥
+    not_both h = cc
+closing def e is = refl
+
+-- the flow after an entry that neither begins nor ends one
+flow_on : (def : LineDef) (e : Entry) (past : List Entry) (h c : Bool) → is_handle e ≡ h → closes def e ≡ c → h ≡ false → (c ≡ true → has_flow def (e ∷ past) ≡ false) × (c ≡ false → has_flow def (e ∷ past) ≡ has_flow def past)
+flow_on def e past h c is_h is_c none = (
+  (λ yes. ap (λ (b : Bool). is_some (cpu_of_handle (cond b (Some e) (last_before past)))) (ap (λ (b : Bool). b || closes def e) (is_h ∙ none) ∙ (is_c ∙ yes)) ∙ ap (λ (o : Option _). is_some o) (closing def e (is_c ∙ yes))),
+  (λ no. ap (λ (b : Bool). is_some (cpu_of_handle (cond b (Some e) (last_before past)))) (ap (λ (b : Bool). b || closes def e) (is_h ∙ none) ∙ (is_c ∙ no))),
+)
+  where
+    last_before : List Entry → Option Entry
+    last_before es = last_of (λ f. is_handle f || closes def f) es
+
+module _ (lines : List LockSeen) (place : ℕ) (old mid : JobSeen) (seated : AreSeated lines old) (one : HasOneFlow old) (free : (i : ℕ) → old.flow ≡ Some i → i ≡ place) where
+  others_flow : (i : ℕ) (t : SeatSeen) → (i ≡ place → ⊥) → slice_get old.seats i ≡ Some t → has_flow t.pass.def (own_past t.pass.knows.mine) ≡ false
+  others_flow i t other at = one i t at (λ is. other (free i is))
+
+  module _ (turn : Turn) (s : StepsSeat lines place turn old mid) where
+    seat_def : s.seat.pass.def ≡ s.line.def
+    seat_def = (subst (λ (o : Option LockSeen). IsSomeAnd o (λ l. Sits l old.actor s.seat)) s.at_line (seated place s.seat s.at_seat)).of_line.1
+
+    -- where no entry was added
+    pub cpu_rests : ((e : Entry) → turn ≡ turns.Moved e → ⊥) → StepsCpu lines place turn old mid
+    cpu_rests not =
+        record {
+          keeps = keeps_seats lines place turn old mid seated s;
+          flow = one_flow;
+          rests = rests;
+          still = λ is. ap (λ (j : JobSeen). j.flow) s.is;
+          others = others;
+          full = full_is_so lines place turn old mid s;
+        }
+      where
+        one_flow : HasOneFlow mid
+        one_flow i t at none = elim (seat_now lines place turn old mid s i t at) [
+          | inl here ↦
+              let mine = nothing_gained s.line.def old.actor s.line.def.line s.seat.pass.knows s.after.pass.knows s.tried turn s.told not s.tries in
+              ap (λ (x : SeatSeen). has_flow x.pass.def (own_past x.pass.knows.mine)) here.1
+              ∙ (ap (λ (d : LineDef). has_flow d (own_past s.after.pass.knows.mine)) (s.sits.of_line.1 ∙ sym seat_def) ∙ (ap (λ (ps : List Placed). has_flow s.seat.pass.def (own_past ps)) mine
+              ∙ one place s.seat s.at_seat (λ is. none (ap (λ (j : JobSeen). j.flow) s.is ∙ (is ∙ ap (λ (k : ℕ). Some k) (sym here.0))))))
+          | inr other ↦ others_flow i t other.0 other.1
+        ]
+
+        rests : turn ≡ turns.NotYet → (t : SeatSeen) → slice_get mid.seats place ≡ Some t → t.rests ≡ true
+        rests is t at = elim (seat_now lines place turn old mid s place t at) [
+          | inl here ↦ ap (λ (x : SeatSeen). x.rests) here.1 ∙ (s.rests ∙ ap rests_after (not_yet_is s.line.def.line s.tried (sym is ∙ s.told)))
+          | inr other ↦ absurd (other.0 refl)
+        ]
+
+        others : (i : ℕ) (t : SeatSeen) → (i ≡ place → ⊥) → slice_get mid.seats i ≡ Some t → slice_get old.seats i ≡ Some t
+        others i t apart at = elim (seat_now lines place turn old mid s i t at) [ inl here ↦ absurd (apart here.0) | inr other ↦ other.1 ]
+
+  -- where one was
+  pub cpu_moved : (e : Entry) (s : StepsSeat lines place (turns.Moved e) old mid) (w : FlowKind) (new : JobSeen) → w ≡ s.line.def.flow → new ≡ record mid { flow = flow_after w e place mid.flow } → StepsCpu lines place (turns.Moved e) old new
+  cpu_moved e s w new way is =
+      let k = keeps_seats lines place (turns.Moved e) old mid seated s in
+      record {
+        keeps = record {
+          actor = ap (λ (j : JobSeen). j.actor) is ∙ k.actor;
+          first = ap (λ (j : JobSeen). j.first) is ∙ k.first;
+          as_many = ap (λ (j : JobSeen). length j.seats) is ∙ k.as_many;
+          seated = subst (λ (j : JobSeen). AreSeated lines j) (sym is) k.seated;
+        };
+        flow = one_flow;
+        rests = λ h. cc;
+        still = λ h. cc;
+        others = others;
+        full = tt;
+      }
+    where
+      seat_at : (i : ℕ) (t : SeatSeen) → slice_get new.seats i ≡ Some t → ((i ≡ place) × (t ≡ s.after)) ⊎ ((i ≡ place → ⊥) × (slice_get old.seats i ≡ Some t))
+      seat_at i t at = seat_now lines place (turns.Moved e) old mid s i t (ap (λ (j : JobSeen). slice_get j.seats i) (sym is) ∙ at)
+
+      others : (i : ℕ) (t : SeatSeen) → (i ≡ place → ⊥) → slice_get new.seats i ≡ Some t → slice_get old.seats i ≡ Some t
+      others i t apart at = elim (seat_at i t at) [ inl here ↦ absurd (apart here.0) | inr other ↦ other.1 ]
+
+      gains : Gains s.line.def old.actor s.seat.pass.knows e s.after.pass.knows
+      gains = (subst (λ (r : Result (Option Entry) StepRefused). Tries s.line.def old.actor s.seat.pass.knows r s.after.pass.knows) (moved_is s.line.def.line e s.tried s.told) s.tries).came
+
+      def_is : s.after.pass.def ≡ s.seat.pass.def
+      def_is = s.sits.of_line.1 ∙ sym (seat_def (turns.Moved e) s)
+
+      flow_is : (h c : Bool) → is_handle e ≡ h → closes s.seat.pass.def e ≡ c → new.flow ≡ cond h (Some place) (cond c None old.flow)
+      flow_is h c is_h is_c =
+          ap (λ (j : JobSeen). j.flow) is
+          ∙ (ap (λ (v : FlowKind). flow_after v e place mid.flow) (way ∙ ap (λ (d : LineDef). d.flow) (sym (seat_def (turns.Moved e) s)))
+          ∙ (ap (λ (b : Bool). cond b (Some place) (cond (closes s.seat.pass.def e) None mid.flow)) is_h ∙ (ap (λ (b : Bool). cond h (Some place) (cond b None mid.flow)) is_c ∙ ap (λ (j : JobSeen). cond h (Some place) (cond c None j.flow)) s.is)))
+
+      past_is : own_past s.after.pass.knows.mine ≡ e ∷ own_past s.seat.pass.knows.mine
+      past_is = own_more s.seat.pass.knows.mine s.after.pass.knows.mine (length gains.history) e gains.mine
+
+      here_flow : (h c : Bool) → is_handle e ≡ h → closes s.seat.pass.def e ≡ c → (new.flow ≡ Some place → ⊥) → has_flow s.seat.pass.def (e ∷ own_past s.seat.pass.knows.mine) ≡ false
+      here_flow true c is_h is_c none = absurd (none (flow_is true c is_h is_c))
+      here_flow false true is_h is_c none = (flow_on s.seat.pass.def e (own_past s.seat.pass.knows.mine) false true is_h is_c refl).0 refl
+      here_flow false false is_h is_c none = (flow_on s.seat.pass.def e (own_past s.seat.pass.knows.mine) false false is_h is_c refl).1 refl ∙ one place s.seat s.at_seat (λ was. none (flow_is false false is_h is_c ∙ was))
+
+      one_flow : HasOneFlow new
+      one_flow i t at none = elim (seat_at i t at) [
+        | inl here ↦
+            ap (λ (x : SeatSeen). has_flow x.pass.def (own_past x.pass.knows.mine)) here.1
+            ∙ (ap (λ (d : LineDef). has_flow d (own_past s.after.pass.knows.mine)) def_is ∙ (ap (λ (es : List Entry). has_flow s.seat.pass.def es) past_is
+            ∙ here_flow (is_handle e) (closes s.seat.pass.def e) refl refl (λ its. none (its ∙ ap (λ (k : ℕ). Some k) (sym here.0)))))
+        | inr other ↦ others_flow i t other.0 other.1
+      ]
+
+-- ---- all passes in turn
+
+pub keeps_first : (lines : List LockSeen) (j : JobSeen) → AreSeated lines j → KeepsSeats lines j j
+keeps_first lines j seated = record { actor = refl; first = refl; as_many = refl; seated = seated }
+
+pub keeps_on : (lines : List LockSeen) (a b c : JobSeen) → KeepsSeats lines a b → KeepsSeats lines b c → KeepsSeats lines a c
+keeps_on lines a b c k l = record { actor = l.actor ∙ k.actor; first = l.first ∙ k.first; as_many = l.as_many ∙ k.as_many; seated = l.seated }
+
+pub not_yet_from : (turn : Turn) → is_not_yet turn ≡ true → turn ≡ turns.NotYet
+not_yet_from (turns.Moved e) is = cc
+not_yet_from turns.NotYet is = refl
+not_yet_from turns.Undecided is = cc
+not_yet_from (turns.Full line len) is = cc
+not_yet_from turns.NoMemory is = cc
+
+pub rests_more : (lines : List LockSeen) (place : ℕ) (turn : Turn) (old new : JobSeen) → turn ≡ turns.NotYet → StepsCpu lines place turn old new → ((i : ℕ) (s : SeatSeen) → i < place → slice_get old.seats i ≡ Some s → s.rests ≡ true)
+    → (i : ℕ) (s : SeatSeen) → i < place + 1 → slice_get new.seats i ≡ Some s → s.rests ≡ true
+rests_more lines place turn old new not s rest i t less at = elim (two i place less) [
+  | inl before ↦ rest i t before (s.others i t (λ same. omega (arith, same, before)) at)
+  | inr here ↦ s.rests not t (ap (λ (k : ℕ). slice_get new.seats k) (sym here) ∙ at)
+]

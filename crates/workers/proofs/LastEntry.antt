@@ -1,0 +1,166 @@
+-- Whether an entry is the last of its call.
+use Rattle.std.proofs.Common.{◌≡◌, ◌⊎◌, inl, inr, ℕ, zero, suc, ◌+◌, ◌==◌, Bool, true, false, not, cond, if◌then◌else◌, Some, None, List, [], ◌∷◌, ◌++◌, length, drop, nat_lt, nat_le, refl, sym, ap, subst, ◌∙◌, arith, length-append}
+use Rattle.std.proofs.lemmas.Bool.{ltb-true, le-ltb}
+use Rattle.std.proofs.lemmas.Bool.Decides.{nat_tests}
+use Rattle.irq_base.specs.declared.calls.Call.{Call}
+use Rattle.irq_base.specs.declared.calls.Call.TheVariants as calls
+use Rattle.irq_base.specs.declared.entries.Entry.{Entry}
+use Rattle.irq_base.specs.declared.entries.Entry.TheVariants as entries
+use Rattle.irq_base.specs.declared.entries.UnlinkAnswer.{UnlinkAnswer}
+use Rattle.irq_base.specs.declared.entries.UnlinkAnswer.TheVariants as unlinks
+use Rattle.irq_base.specs.declared.lines.LineDef.{LineDef}
+use Rattle.irq_base.specs.declared.numbers.DevNo.{DevNo}
+use Rattle.irq_base.specs.declared.numbers.DriverNo.{DriverNo}
+use Rattle.irq_model.specs.Due.{calls_by, entries_by, begins_not_there, entries_of_call, due_of, due_call, holds_mutex}
+use Rattle.irq_model.specs.Kinds.{is_by_driver}
+use Rattle.irq_model.specs.Next.{next_of_call, unlink_answer, hard_clear_of, synced_of, freed_of, next_of_free, next_of_disable, next_of_sync}
+use Rattle.irq_laws.proofs.Chosen.{the_same, from_else, from_then}
+use Rattle.irq_laws.proofs.Lists.{both_ways}
+use Rattle.irq_laws.proofs.Progress.{Standing, standing, same_count, due_at, entries_more, goes_on}
+use Rattle.workers.specs.Turns.{is_last}
+
+abbrev is_not_there : Entry → Bool
+is_not_there (entries.Unlink driver dev unlinks.NotThere) = true
+is_not_there _ = false
+
+-- the entry is the last of its call, of which n entries stand before it
+abbrev pub completes : Call → ℕ → Entry → Bool
+completes (calls.Free dev) n e = if n == 0 then is_not_there e else nat_le 2 n
+completes calls.Disable n e = nat_le 2 n
+completes calls.Sync n e = nat_le 1 n
+completes _ n e = true
+
+-- ---- what the entry itself tells
+
+of_unlink : (r : DriverNo) (d dev : DevNo) (a : UnlinkAnswer) → is_last (calls.Free dev) (entries.Unlink r d a) ≡ is_not_there (entries.Unlink r d a)
+of_unlink r d dev unlinks.NotThere = refl
+of_unlink r d dev (unlinks.Unlinked last) = refl
+
+hard : (def : LineDef) (r : DriverNo) (past : List Entry) (e : Entry) → hard_clear_of def r past ≡ Some e → entries.HardClear r ≡ e
+hard def r past e is = (from_else _ (entries.HardClear r) e is).1
+
+synced : (def : LineDef) (r : DriverNo) (past : List Entry) (e : Entry) → synced_of def r past ≡ Some e → entries.Synced r ≡ e
+synced def r past e is = (from_then _ (entries.Synced r) e is).1
+
+-- of the entries that a free makes after the first, the second isn't the last and the third is
+free_next : (def : LineDef) (r : DriverNo) (dev : DevNo) (n : ℕ) (past : List Entry) (e : Entry) → next_of_free def r dev n past ≡ Some e → is_last (calls.Free dev) e ≡ completes (calls.Free dev) n e
+free_next def r dev zero past e is =
+    let u : entries.Unlink r dev (unlink_answer dev past) ≡ e = (from_else (holds_mutex past) (entries.Unlink r dev (unlink_answer dev past)) e is).1 in
+    subst (λ (f : Entry). is_last (calls.Free dev) f ≡ is_not_there f) u (of_unlink r dev dev (unlink_answer dev past))
+free_next def r dev (suc zero) past e is = subst (λ (f : Entry). is_last (calls.Free dev) f ≡ false) (hard def r past e is) refl
+free_next def r dev (suc (suc n)) past e is = later (suc (suc n) == 0) (suc (suc n) == 1) (grind (arith, nat_tests)) (grind (arith, nat_tests)) is
+  where
+    later : (a b : Bool) → a ≡ false → b ≡ false → cond a (cond (holds_mutex past) None (Some (entries.Unlink r dev (unlink_answer dev past)))) (cond b (hard_clear_of def r past) (freed_of r dev past)) ≡ Some e
+        → is_last (calls.Free dev) e ≡ completes (calls.Free dev) (suc (suc n)) e
+    later false false x y is =
+        let f : entries.Freed r dev ≡ e = (from_else _ (entries.Freed r dev) e is).1 in
+        subst (λ (f : Entry). is_last (calls.Free dev) f ≡ true) f refl ∙ sym (third (suc (suc n) == 0) (grind (arith, nat_tests)) (nat_le 2 (suc (suc n))) (grind (arith, nat_tests)))
+      where
+        third : (a : Bool) → a ≡ false → (b : Bool) → b ≡ true → cond a (is_not_there e) b ≡ true
+        third true x b y = cc
+        third false x b y = y
+    later true b x y is = cc
+    later false true x y is = cc
+
+disable_next : (def : LineDef) (r : DriverNo) (n : ℕ) (past : List Entry) (e : Entry) → next_of_disable def r n past ≡ Some e → is_last calls.Disable e ≡ completes calls.Disable n e
+disable_next def r zero past e is = subst (λ (f : Entry). is_last calls.Disable f ≡ false) (the_same (entries.Disable r) e is) refl
+disable_next def r (suc zero) past e is = subst (λ (f : Entry). is_last calls.Disable f ≡ false) (hard def r past e is) refl
+disable_next def r (suc (suc n)) past e is = later (suc (suc n) == 0) (suc (suc n) == 1) (grind (arith, nat_tests)) (grind (arith, nat_tests)) is
+  where
+    later : (a b : Bool) → a ≡ false → b ≡ false → cond a (Some (entries.Disable r)) (cond b (hard_clear_of def r past) (synced_of def r past)) ≡ Some e → is_last calls.Disable e ≡ nat_le 2 (suc (suc n))
+    later false false x y is =
+        subst (λ (f : Entry). is_last calls.Disable f ≡ true) (synced def r past e is) refl ∙ sym (let t : nat_le 2 (suc (suc n)) ≡ true = grind (arith, nat_tests) in t)
+    later true b x y is = cc
+    later false true x y is = cc
+
+sync_next : (def : LineDef) (r : DriverNo) (n : ℕ) (past : List Entry) (e : Entry) → next_of_sync def r n past ≡ Some e → is_last calls.Sync e ≡ completes calls.Sync n e
+sync_next def r zero past e is = subst (λ (f : Entry). is_last calls.Sync f ≡ false) (hard def r past e is) refl
+sync_next def r (suc n) past e is = later (suc n == 0) (grind (arith, nat_tests)) is
+  where
+    later : (a : Bool) → a ≡ false → cond a (hard_clear_of def r past) (synced_of def r past) ≡ Some e → is_last calls.Sync e ≡ nat_le 1 (suc n)
+    later false x is = subst (λ (f : Entry). is_last calls.Sync f ≡ true) (synced def r past e is) refl ∙ sym (let t : nat_le 1 (suc n) ≡ true = grind (arith, nat_tests) in t)
+    later true x is = cc
+
+-- whether the entry that is due is the last one
+pub last_is : (def : LineDef) (r : DriverNo) (past : List Entry) (c : Call) (n : ℕ) (e : Entry) → next_of_call def r past (Some (c, n)) ≡ Some e → is_last c e ≡ completes c n e
+last_is def r past (calls.Ask dev) n e is = refl
+last_is def r past (calls.Request dev flags) n e is = refl
+last_is def r past (calls.Free dev) n e is = free_next def r dev n past e is
+last_is def r past calls.Disable n e is = disable_next def r n past e is
+last_is def r past calls.DisableNosync n e is = refl
+last_is def r past calls.Enable n e is = refl
+last_is def r past calls.Sync n e is = sync_next def r n past e is
+last_is def r past (calls.Affinity mask) n e is = refl
+last_is def r past (calls.Moment at) n e is = refl
+
+-- ---- what is due behind it
+
+begins_is : (e : Entry) → begins_not_there (e ∷ []) ≡ is_not_there e
+begins_is (entries.Unlink driver dev unlinks.NotThere) = refl
+begins_is (entries.Unlink driver dev (unlinks.Unlinked last)) = refl
+begins_is e = refl
+
+-- a call of so many entries
+of_one : (n : ℕ) → nat_lt (n + 1) 1 ≡ false
+of_one n = le-ltb (n + 1) 1 (omega arith)
+
+of_two : (n : ℕ) → nat_lt (n + 1) 2 ≡ not (nat_le 1 n)
+of_two n = grind (arith, nat_tests)
+
+of_three : (n : ℕ) → nat_lt (n + 1) 3 ≡ not (nat_le 2 n)
+of_three n = grind (arith, nat_tests)
+
+free_first : (b : Bool) → nat_lt 1 (cond b 1 3) ≡ not b
+free_first true = refl
+free_first false = refl
+
+not_first : (n : ℕ) → (suc n == 0) ≡ false
+not_first n = grind (arith, nat_tests)
+
+free_later : (b : Bool) (n : ℕ) (last : Bool) → nat_lt (suc n) (cond b 1 3) ≡ true → nat_lt (suc n + 1) (cond b 1 3) ≡ not (cond (suc n == 0) last (nat_le 2 (suc n)))
+free_later true n last some = absurd (let below = ltb-true (suc n) 1 some in omega (arith, below))
+free_later false n last some = of_three (suc n) ∙ ap (λ (b : Bool). not (cond b last (nat_le 2 (suc n)))) (sym (not_first n))
+
+-- with the entry the call isn't complete, unless it is its last
+last_test : (c : Call) (own : List Entry) (e : Entry) → nat_lt (length own) (entries_of_call c own) ≡ true → nat_lt (length own + 1) (entries_of_call c (own ++ e ∷ [])) ≡ not (completes c (length own) e)
+last_test (calls.Ask dev) own e some = of_one (length own)
+last_test (calls.Request dev flags) own e some = of_one (length own)
+last_test (calls.Free dev) [] e some = ap (λ (b : Bool). nat_lt 1 (cond b 1 3)) (begins_is e) ∙ free_first (is_not_there e)
+last_test (calls.Free dev) (y ∷ ys) e some =
+    ap (λ (m : ℕ). nat_lt (length (y ∷ ys) + 1) m) (same_count (calls.Free dev) y (ys ++ e ∷ []) ys) ∙ free_later (begins_not_there (y ∷ ys)) (length ys) (is_not_there e) some
+last_test calls.Disable own e some = of_three (length own)
+last_test calls.DisableNosync own e some = of_one (length own)
+last_test calls.Enable own e some = of_one (length own)
+last_test calls.Sync own e some = of_two (length own)
+last_test (calls.Affinity mask) own e some = of_one (length own)
+last_test (calls.Moment at) own e some = of_one (length own)
+
+module _ (def : LineDef) (r : DriverNo) (e : Entry) (past : List Entry) (c : Call) (n : ℕ) (mine : is_by_driver r e ≡ true) (was : due_call def r past ≡ Some (c, n)) where
+  -- what is due behind it
+  after : (s : Standing (calls_by r def.calls) (entries_by r past) c n) → due_call def r (e ∷ past) ≡ due_of (c ∷ s.rest) (s.own ++ e ∷ [])
+  after s = ap (λ (es : List Entry). due_of (calls_by r def.calls) es) (entries_more r e past mine) ∙ s.more e
+
+  tested : (s : Standing (calls_by r def.calls) (entries_by r past) c n) → nat_lt (length (s.own ++ e ∷ [])) (entries_of_call c (s.own ++ e ∷ [])) ≡ not (completes c n e)
+  tested s =
+      ap (λ (m : ℕ). nat_lt m (entries_of_call c (s.own ++ e ∷ []))) (length-append s.own (e ∷ []))
+      ∙ (last_test c s.own e s.incomplete ∙ ap (λ (m : ℕ). not (completes c m e)) (sym s.counts))
+
+  pub goes : completes c n e ≡ false → due_call def r (e ∷ past) ≡ Some (c, suc n)
+  goes last =
+      let s = standing (calls_by r def.calls) (entries_by r past) c n was in
+      let more : length (s.own ++ e ∷ []) ≡ suc n = (let l = length-append s.own (e ∷ []) in let k = s.counts in omega (arith, l, k)) in
+      after s
+      ∙ (ap (λ (b : Bool). cond b (due_at c (length (s.own ++ e ∷ []))) (due_of s.rest (drop (entries_of_call c (s.own ++ e ∷ [])) (s.own ++ e ∷ [])))) (tested s ∙ ap not last)
+      ∙ ap (λ (m : ℕ). due_at c m) more)
+
+  pub ends : completes c n e ≡ true → (d : Call) (m : ℕ) → due_call def r (e ∷ past) ≡ Some (d, suc m) → ⊥
+  ends last d m is = by_case (goes_on c s.rest s.own e d (suc m) s.incomplete (sym (after s) ∙ is))
+    where
+      s : Standing (calls_by r def.calls) (entries_by r past) c n
+      s = standing (calls_by r def.calls) (entries_by r past) c n was
+
+      by_case : ((d ≡ c) × (suc m ≡ length s.own + 1) × (nat_lt (suc m) (entries_of_call c (s.own ++ e ∷ [])) ≡ true)) ⊎ (suc m ≡ 0) → ⊥
+      by_case (inl h) =
+          both_ways (nat_lt (length (s.own ++ e ∷ [])) (entries_of_call c (s.own ++ e ∷ [])))
+          (ap (λ (k : ℕ). nat_lt k (entries_of_call c (s.own ++ e ∷ []))) (length-append s.own (e ∷ []) ∙ sym h.1) ∙ h.2) (tested s ∙ ap not last)
+      by_case (inr h) = omega (arith, h)

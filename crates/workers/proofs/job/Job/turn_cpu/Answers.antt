@@ -1,0 +1,15 @@
+use Rattle.std.proofs.Common.{sym, ◌∙◌}
+use Rattle.workers.proofs.Flowing.{keeps_on, not_yet_from, rests_more}
+use Rattle.workers.proofs.job.Job.turn_cpu.Goals as goal
+
+pub loop-place-preserved : goal.loop-place-preserved
+loop-place-preserved g c =
+    let s = c.step_cpu-turn.ensures in
+    let not = not_yet_from c.step_cpu-turn.result (sym c.is_not_yet.ensures ∙ c.if-not-is_not_yet.false) in
+    let old = c.loop-place.invariant in
+    record {
+      keeps = keeps_on c.args.lines.now c.args.self.now c.loop-place.self c.step_cpu-turn.new.self old.keeps s.keeps;
+      flow = s.flow;
+      none = s.still not ∙ old.none;
+      rests = rests_more c.args.lines.now c.loop-place.place c.step_cpu-turn.result c.loop-place.self c.step_cpu-turn.new.self not s old.rests;
+    }

@@ -1,0 +1,9 @@
+use Rattle.std.proofs.Common.{◌≡◌}
+use Rattle.workers.specs.Fit.{Fit}
+use Rattle.workers.proofs.rounds.run_rounds.Given as goal
+
+abbrev pub invariant-loop : goal.invariant-loop
+invariant-loop g l = record {
+  fit : Fit l.lines l.jobs;
+  same : l.jobs.board ≡ l.fn.jobs.board;
+}

@@ -1,0 +1,98 @@
+-- What turns, workers and rounds leave of jobs.
+use Rattle.std.specs.Prelude.{◌≡◌, ℕ, ◌<◌, ◌≤◌, ◌⊎◌, Some, List, length, slice_get, slice_index_or, nat_lt, if◌then◌else◌}
+use Rattle.irq_base.specs.declared.entries.Actor.{Actor}
+use Rattle.irq_base.specs.declared.entries.Actor.TheVariants as actors
+use Rattle.irq_base.specs.declared.numbers.LineNo.{LineNo}
+use Rattle.board_def.specs.Seen.{BoardSeen}
+use Rattle.line_lock.specs.Passes.{LockSeen}
+use Rattle.workers.specs.Fit.{IsJob}
+use Rattle.workers.specs.Seen.{SeatSeen, JobSeen, JobsSeen}
+use Rattle.workers.specs.Tries.{IsIdle}
+use Rattle.workers.specs.Turns.{WaitsAt, IsFullOn}
+use Rattle.workers.specs.declared.job.Left.{Left}
+use Rattle.workers.specs.declared.job.Left.TheVariants as lefts
+use Rattle.workers.specs.declared.rounds.RoundsEnd.{RoundsEnd}
+use Rattle.workers.specs.declared.rounds.RoundsEnd.TheVariants as ends
+use Rattle.workers.specs.declared.turns.Turn.{Turn}
+use Rattle.workers.specs.declared.turns.Turn.TheVariants as turns
+
+-- Nothing is due of the actor: of a thread or a processor on what each of its passes has seen; a driver is past all calls,
+-- or nothing is due of it on what its pass of its current call's line has seen.
+abbrev pub IsAtRest : BoardSeen → JobSeen → Actor → Type 0
+IsAtRest board j (actors.Driver r) = (length board.calls ≤ j.at) ⊎ WaitsAt board j r
+IsAtRest board j who = (i : ℕ) (s : SeatSeen) → slice_get j.seats i ≡ Some s → IsIdle s.pass.def who s.pass.knows
+
+-- the job is as it should be, of the same actor, with passes of the same lines
+pub record WorksOn (board : BoardSeen) (lines : List LockSeen) (old new : JobSeen) : Type 0 where
+  pub actor : new.actor ≡ old.actor
+  pub first : new.first ≡ old.first
+  pub as_many : length new.seats ≡ length old.seats
+  pub job : IsJob board lines new
+
+abbrev pub ComesTo : BoardSeen → JobSeen → Turn → Type 0
+ComesTo board j turns.NotYet = IsAtRest board j j.actor
+ComesTo board j (turns.Full line len) = IsFullOn j line len
+ComesTo board j _ = Unit {0}
+
+pub record TurnsJob (board : BoardSeen) (lines : List LockSeen) (turn : Turn) (old new : JobSeen) : Type 0 where
+  pub works : WorksOn board lines old new
+  pub came : ComesTo board new turn
+
+-- how a worker left its job
+abbrev pub LeftIsSo : BoardSeen → JobSeen → Left → Type 0
+LeftIsSo board j lefts.Idle = IsAtRest board j j.actor
+LeftIsSo board j (lefts.Full line len) = IsFullOn j line len
+LeftIsSo board j _ = Unit {0}
+
+pub record WorksJob (board : BoardSeen) (lines : List LockSeen) (old new : JobSeen) : Type 0 where
+  pub works : WorksOn board lines old new
+  pub left : LeftIsSo board new new.left
+
+-- each job after a round
+abbrev pub KeepsJobs : BoardSeen → List LockSeen → List JobSeen → List JobSeen → Type 0
+KeepsJobs board lines old new = (k : ℕ) (d : JobSeen) → k < length old → WorksJob board lines (slice_index_or old k d) (slice_index_or new k d)
+
+abbrev pub EachLeftSo : JobsSeen → Type 0
+EachLeftSo s = (i : ℕ) (j : JobSeen) → slice_get s.jobs i ≡ Some j → LeftIsSo s.board j j.left
+
+-- ---- how rounds end
+
+-- of two workers' parts the one that tells more: the lower full line, then want of memory, then that a step was made
+abbrev pub worse : Left → Left → Left
+worse (lefts.Full a m) (lefts.Full b n) = if nat_lt b.0 a.0 then lefts.Full b n else lefts.Full a m
+worse (lefts.Full a m) _ = lefts.Full a m
+worse _ (lefts.Full b n) = lefts.Full b n
+worse lefts.NoMemory _ = lefts.NoMemory
+worse _ lefts.NoMemory = lefts.NoMemory
+worse lefts.Busy _ = lefts.Busy
+worse _ lefts.Busy = lefts.Busy
+worse lefts.Idle lefts.Idle = lefts.Idle
+
+-- one of the first jobs was left so, and none of them for a lower line
+pub record IsLowestFull (jobs : List JobSeen) (n : ℕ) (line : LineNo) (len : ℕ) : Type 0 where
+  pub place : ℕ
+  pub job : JobSeen
+  pub at : slice_get jobs place ≡ Some job
+  pub left : job.left ≡ lefts.Full line len
+  pub lowest : (k : ℕ) (j : JobSeen) (other : LineNo) (m : ℕ) → k < n → slice_get jobs k ≡ Some j → j.left ≡ lefts.Full other m → line.0 ≤ other.0
+
+-- what is told of the first jobs: all are idle, or that is the lowest full line, or none found a full line
+abbrev pub SumsUp : List JobSeen → ℕ → Left → Type 0
+SumsUp jobs n lefts.Idle = (k : ℕ) (j : JobSeen) → k < n → slice_get jobs k ≡ Some j → j.left ≡ lefts.Idle
+SumsUp jobs n (lefts.Full line len) = IsLowestFull jobs n line len
+SumsUp jobs n _ = (k : ℕ) (j : JobSeen) (other : LineNo) (m : ℕ) → k < n → slice_get jobs k ≡ Some j → j.left ≡ lefts.Full other m → ⊥
+
+-- a step is due on the line with one of the jobs' passes, and the line has the greatest length
+pub record IsFullFor (s : JobsSeen) (line : LineNo) (len : ℕ) : Type 0 where
+  pub place : ℕ
+  pub job : JobSeen
+  pub at : slice_get s.jobs place ≡ Some job
+  pub is : IsFullOn job line len
+  -- and no worker stopped at a full line with a lower number
+  pub lowest : (k : ℕ) (j : JobSeen) (other : LineNo) (m : ℕ) → slice_get s.jobs k ≡ Some j → j.left ≡ lefts.Full other m → line.0 ≤ other.0
+
+-- Quiet: nothing is due of any actor. Full: the lowest line at which a worker stopped, on which a step is due
+abbrev pub Ends : JobsSeen → RoundsEnd → Type 0
+Ends s ends.Quiet = (i : ℕ) (j : JobSeen) → slice_get s.jobs i ≡ Some j → IsAtRest s.board j j.actor
+Ends s (ends.Full line len) = IsFullFor s line len
+Ends s ends.NoMemory = Unit {0}

@@ -1,0 +1,135 @@
+-- What a worker's turn comes to.
+use Rattle.std.specs.Prelude.{◌≡◌, ℕ, ◌+◌, ◌≤◌, ◌⊎◌, Bool, true, false, ◌&&◌, ◌||◌, Option, Some, None, Result, Ok, Err, List, length, slice_get, slice_set, if◌then◌else◌}
+use Rattle.irq_base.specs.declared.entries.Actor.TheVariants as actors
+use Rattle.irq_base.specs.declared.calls.Call.{Call}
+use Rattle.irq_base.specs.declared.calls.Call.TheVariants as calls
+use Rattle.irq_base.specs.declared.entries.Entry.{Entry}
+use Rattle.irq_base.specs.declared.entries.Entry.TheVariants as entries
+use Rattle.irq_base.specs.declared.entries.UnlinkAnswer.TheVariants as unlinks
+use Rattle.irq_base.specs.declared.lines.FlowKind.{FlowKind}
+use Rattle.irq_base.specs.declared.numbers.DriverNo.{DriverNo}
+use Rattle.irq_base.specs.declared.numbers.LineNo.{LineNo}
+use Rattle.irq_line.specs.declared.answers.StepRefused.{StepRefused}
+use Rattle.irq_line.specs.declared.answers.StepRefused.TheVariants as refusals
+use Rattle.irq_model.specs.Kinds.{is_handle, is_leave, is_again}
+use Rattle.irq_model.specs.Lines.{is_eoi_flow}
+use Rattle.board_def.specs.Seen.{BoardSeen}
+use Rattle.board_def.specs.declared.rows.ScriptCall.{ScriptCall}
+use Rattle.line_lock.specs.Passes.{LockSeen}
+use Rattle.board_play.specs.Kept.{IsUpTo}
+use Rattle.workers.specs.Fit.{Sits, AreSeated, HasOneFlow, own_lines}
+use Rattle.workers.specs.Seen.{SeatSeen, JobSeen}
+use Rattle.workers.specs.Tries.{IsIdle, IsFull, Tries, rests_after}
+use Rattle.workers.specs.declared.turns.Turn.{Turn}
+use Rattle.workers.specs.declared.turns.Turn.TheVariants as turns
+
+abbrev pub turn_of : LineNo → Result (Option Entry) StepRefused → Turn
+turn_of line (Ok (Some e)) = turns.Moved e
+turn_of line (Ok None) = turns.NotYet
+turn_of line (Err (refusals.Full len)) = turns.Full line len
+turn_of line (Err refusals.NoMemory) = turns.NoMemory
+
+-- a try with the pass at the place: the pass afterwards is as it should be, and all else is as it was
+pub record StepsSeat (lines : List LockSeen) (place : ℕ) (turn : Turn) (old new : JobSeen) : Type 0 where
+  pub line : LockSeen
+  pub seat : SeatSeen
+  pub after : SeatSeen
+  pub tried : Result (Option Entry) StepRefused
+  pub at_line : slice_get lines (old.first + place) ≡ Some line
+  pub at_seat : slice_get old.seats place ≡ Some seat
+  pub told : turn ≡ turn_of line.def.line tried
+  pub is : new ≡ record old { seats = slice_set old.seats place after }
+  pub sits : Sits line old.actor after
+  pub tries : Tries line.def old.actor seat.pass.knows tried after.pass.knows
+  pub rests : after.rests ≡ rests_after tried
+
+-- at which pass a processor has a flow in progress, after it added the entry with the pass at the place
+abbrev pub flow_after : FlowKind → Entry → ℕ → Option ℕ → Option ℕ
+flow_after flow e place before = if is_handle e then Some place else (if is_leave e || (is_eoi_flow flow && is_again e) then None else before)
+
+abbrev pub within_flow : Turn → Turn
+within_flow turns.NotYet = turns.Undecided
+within_flow turn = turn
+
+abbrev pub is_not_yet : Turn → Bool
+is_not_yet turns.NotYet = true
+is_not_yet _ = false
+
+-- the job is of the same actor, with as many passes of the same lines, each as it should be
+pub record KeepsSeats (lines : List LockSeen) (old new : JobSeen) : Type 0 where
+  pub actor : new.actor ≡ old.actor
+  pub first : new.first ≡ old.first
+  pub as_many : length new.seats ≡ length old.seats
+  pub seated : AreSeated lines new
+
+-- a step is due with one of the passes on that line, which has the greatest length
+pub record IsFullOn (j : JobSeen) (line : LineNo) (len : ℕ) : Type 0 where
+  pub place : ℕ
+  pub seat : SeatSeen
+  pub at : slice_get j.seats place ≡ Some seat
+  pub number : seat.pass.def.line ≡ line
+  pub is : IsFull seat.pass.def j.actor seat.pass.knows
+  pub log : len ≡ seat.pass.def.log
+
+abbrev pub FullIsSo : JobSeen → Turn → Type 0
+FullIsSo j (turns.Full line len) = IsFullOn j line len
+FullIsSo j _ = Unit {0}
+
+-- a processor's try: its flow is on one line at most; where nothing was due, that is known, and the flow is as it was; the
+-- other passes are as they were
+pub record StepsCpu (lines : List LockSeen) (place : ℕ) (turn : Turn) (old new : JobSeen) : Type 0 where
+  pub keeps : KeepsSeats lines old new
+  pub flow : HasOneFlow new
+  pub rests : turn ≡ turns.NotYet → (s : SeatSeen) → slice_get new.seats place ≡ Some s → s.rests ≡ true
+  pub still : turn ≡ turns.NotYet → new.flow ≡ old.flow
+  pub others : (i : ℕ) (s : SeatSeen) → (i ≡ place → ⊥) → slice_get new.seats i ≡ Some s → slice_get old.seats i ≡ Some s
+  pub full : FullIsSo new turn
+
+-- a processor's turn: where nothing was due, that is known of all its passes
+pub record TurnsCpu (lines : List LockSeen) (turn : Turn) (old new : JobSeen) : Type 0 where
+  pub keeps : KeepsSeats lines old new
+  pub flow : HasOneFlow new
+  pub rests : turn ≡ turns.NotYet → (i : ℕ) (s : SeatSeen) → slice_get new.seats i ≡ Some s → s.rests ≡ true
+  pub full : FullIsSo new turn
+
+-- ---- drivers
+
+-- the entry is the last one of its call
+abbrev pub is_last : Call → Entry → Bool
+is_last (calls.Free dev) (entries.Unlink driver d unlinks.NotThere) = true
+is_last (calls.Free dev) (entries.Freed driver d) = true
+is_last (calls.Free dev) _ = false
+is_last calls.Disable (entries.Synced driver) = true
+is_last calls.Disable _ = false
+is_last calls.Sync (entries.Synced driver) = true
+is_last calls.Sync _ = false
+is_last _ _ = true
+
+-- the job is the driver's, and its entries are those of its script up to its place
+pub record IsDriven (board : BoardSeen) (lines : List LockSeen) (r : DriverNo) (j : JobSeen) : Type 0 where
+  pub actor : j.actor ≡ actors.Driver r
+  pub seated : AreSeated lines j
+  pub first : j.first ≡ 0
+  pub as_many : length j.seats ≡ length lines
+  pub up_to : IsUpTo board.calls (own_lines j.seats) r j.at
+  pub within : j.at ≤ length board.calls
+
+-- the driver waits at its current call: nothing is due on what its pass of the call's line has seen
+pub record WaitsAt (board : BoardSeen) (j : JobSeen) (r : DriverNo) : Type 0 where
+  pub call : ScriptCall
+  pub place : ℕ
+  pub seat : SeatSeen
+  pub at_call : slice_get board.calls j.at ≡ Some call
+  pub own : call.driver ≡ r
+  pub at_seat : slice_get j.seats place ≡ Some seat
+  pub line : seat.pass.def.line ≡ call.line
+  pub rests : IsIdle seat.pass.def (actors.Driver r) seat.pass.knows
+
+-- a driver's turn: its entries are those of its script up to its place; where nothing was due it is past all calls, or
+-- waits at one
+pub record TurnsDriver (board : BoardSeen) (lines : List LockSeen) (r : DriverNo) (turn : Turn) (old new : JobSeen) : Type 0 where
+  pub keeps : KeepsSeats lines old new
+  pub up_to : IsUpTo board.calls (own_lines new.seats) r new.at
+  pub within : new.at ≤ length board.calls
+  pub rests : turn ≡ turns.NotYet → (length board.calls ≤ new.at) ⊎ WaitsAt board new r
+  pub full : FullIsSo new turn

@@ -1,0 +1,116 @@
+//! A driver's turns.
+ghost use Rattle.std.specs.Prelude.{◌≡◌, ℕ, ◌<◌, ◌≤◌, true, false, Some, None, length, slice_get};
+ghost use Rattle.board_def.specs.declared.rows.ScriptCall.{ScriptCall};
+ghost use Rattle.workers.specs.Fit.{IsPlaceOf};
+ghost use Rattle.workers.specs.Forks.{AreBoards};
+ghost use Rattle.workers.specs.Turns.{IsDriven, TurnsDriver, is_last};
+
+use crate::job::Job;
+use crate::lines::SharedLines;
+use crate::turns::Turn;
+use board_def::{Board, ScriptCall};
+use callbacks::{Callbacks, Handler};
+use irq_base::{Call, DriverNo, Entry, UnlinkAnswer};
+use irq_line::IrqLine;
+use std::sync::Wait;
+
+impl<L: IrqLine> Job<L> {
+    /// A driver's turn: on the line of its current call.
+    pub(crate) fn turn_driver<R: Wait, H: Handler>(
+        &mut self,
+        rt: &R,
+        board: &Board,
+        lines: &SharedLines<L>,
+        driver: DriverNo,
+        handlers: &Callbacks<H>,
+    ) -> Turn
+        requires boards { AreBoards board.now lines.now }
+        requires driven { IsDriven board.now lines.now driver self.old }
+        ensures { TurnsDriver board.now lines.now driver result self.old self.new }
+    {
+        self.at = next_call(board.calls(), lines, driver, self.at);
+        let Some(call) = board.call(self.at) else {
+            return Turn::NotYet;
+        };
+        let Some(place) = lines.place_of(call.line) else {
+            unreachable!()
+        };
+        self.step_driver(rt, board, lines, call, place, handlers)
+    }
+
+    /// A try of the driver of that call, its current one, on the line at the place, which is the call's.
+    fn step_driver<R: Wait, H: Handler>(
+        &mut self,
+        rt: &R,
+        board: &Board,
+        lines: &SharedLines<L>,
+        call: ScriptCall,
+        place: usize,
+        handlers: &Callbacks<H>,
+    ) -> Turn
+        requires boards { AreBoards board.now lines.now }
+        requires driven { IsDriven board.now lines.now call.driver self.old }
+        requires call { slice_get board.now.calls self.old.at ≡ Some call }
+        requires place { IsPlaceOf lines.now call.line (Some place) }
+        ensures { TurnsDriver board.now lines.now call.driver result self.old self.new }
+    {
+        board.is_board();
+        let turn = self.try_seat(rt, lines, place, handlers);
+        if let Turn::Moved(entry) = turn {
+            if is_last(call.call, &entry) {
+                self.at += 1;
+            }
+        }
+        turn
+    }
+}
+
+/// The place of the driver's first call from the place on that is about one of the lines; the calls' length where there is
+/// none.
+fn next_call<L: IrqLine>(
+    calls: &[ScriptCall],
+    lines: &SharedLines<L>,
+    driver: DriverNo,
+    from: usize,
+) -> usize
+    requires { from ≤ length calls.now }
+    ensures within { (from ≤ result) × (result ≤ length calls.now) }
+    ensures passed { (k : ℕ) (c : ScriptCall) → from ≤ k → k < result → slice_get calls.now k ≡ Some c → c.driver ≡ driver → IsPlaceOf lines.now c.line None }
+    ensures own { (c : ScriptCall) → slice_get calls.now result ≡ Some c → (c.driver ≡ driver) × ((place : ℕ) × IsPlaceOf lines.now c.line (Some place)) }
+{
+    for at in from..calls.len() {
+        let call = calls[at];
+        if is_own(call, lines, driver) {
+            return at;
+        }
+    }
+    calls.len()
+}
+
+/// Whether the call is the driver's, about one of the lines.
+fn is_own<L: IrqLine>(call: ScriptCall, lines: &SharedLines<L>, driver: DriverNo) -> bool
+    ensures yes { result ≡ true → (call.driver ≡ driver) × ((place : ℕ) × IsPlaceOf lines.now call.line (Some place)) }
+    ensures no { result ≡ false → call.driver ≡ driver → IsPlaceOf lines.now call.line None }
+{
+    call.driver == driver && lines.place_of(call.line).is_some()
+}
+
+/// Whether the entry, which the call made, is its last one.
+fn is_last(call: Call, entry: &Entry) -> bool
+    ensures { result ≡ is_last call entry.now }
+{
+    match (call, *entry) {
+        (
+            Call::Free { .. },
+            Entry::Unlink {
+                answer: UnlinkAnswer::NotThere,
+                ..
+            }
+            | Entry::Freed { .. },
+        ) => true,
+        (Call::Free { .. }, _) => false,
+        (Call::Disable | Call::Sync, Entry::Synced { .. }) => true,
+        (Call::Disable | Call::Sync, _) => false,
+        _ => true,
+    }
+}

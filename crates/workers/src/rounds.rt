@@ -1,0 +1,215 @@
+//! Rounds: each job has a worker of its own in each of them.
+ghost use Rattle.std.specs.Prelude.{◌≡◌, ℕ, Some, All, length, slice_get};
+ghost use Rattle.workers.specs.Fit.{Fit, IsJob};
+ghost use Rattle.workers.specs.Forks.{AreBoards};
+ghost use Rattle.workers.specs.Rounds.{EachLeftSo, Ends, KeepsJobs, SumsUp, worse, LeftIsSo, TurnsJob, WorksJob, WorksOn};
+ghost use Rattle.workers.specs.Seen.{JobSeen};
+
+use crate::gate::Gate;
+use crate::job::{Job, Left};
+use crate::jobs::Jobs;
+use crate::lines::SharedLines;
+use crate::turns::Turn;
+use board_def::Board;
+use callbacks::{Callbacks, Handler};
+use irq_base::{Actor, LineNo};
+use irq_line::IrqLine;
+use std::hint::spin_loop;
+use std::sync::Wait;
+use std::thread::{self, Threads};
+
+/// How many turns a worker has in a round at most: threads are made anew for each round.
+const TURNS: usize = 65_536;
+
+/// How often a worker that finds nothing looks again before it ends its part of a round.
+const LOOKS: usize = 64;
+
+/// How rounds ended.
+#[derive(Clone, Copy, PartialEq, Eq)]
+pub enum RoundsEnd {
+    /// A round made no step, since nothing was due of any actor on what it had seen.
+    Quiet,
+    /// A step was due on that line, whose history has the greatest length; of several such lines it is the lowest. `len`:
+    /// that many entries.
+    Full { line: LineNo, len: u32 },
+    /// Memory was wanted and refused.
+    NoMemory,
+}
+
+impl<L: IrqLine> Job<L> {
+    /// One turn of the actor.
+    fn turn<R: Wait, H: Handler>(
+        &mut self,
+        rt: &R,
+        board: &Board,
+        lines: &SharedLines<L>,
+        handlers: &Callbacks<H>,
+    ) -> Turn
+        requires boards { AreBoards board.now lines.now }
+        requires job { IsJob board.now lines.now self.old }
+        ensures { TurnsJob board.now lines.now result self.old self.new }
+    {
+        match self.actor {
+            Actor::Thread(..) => self.try_seat(rt, lines, 0, handlers),
+            Actor::Cpu(_) => self.turn_cpu(rt, lines, handlers),
+            Actor::Driver(driver) => self.turn_driver(rt, board, lines, driver, handlers),
+        }
+    }
+
+    /// Turns of the actor, as long as there is something to do, but only so many.
+    fn take_turns<R: Wait, G: Gate, H: Handler>(
+        &mut self,
+        rt: &R,
+        board: &Board,
+        lines: &SharedLines<L>,
+        gate: &G,
+        handlers: &Callbacks<H>,
+    ) -> Left
+        requires boards { AreBoards board.now lines.now }
+        requires job { IsJob board.now lines.now self.old }
+        ensures works { WorksOn board.now lines.now self.old self.new }
+        ensures left { LeftIsSo board.now self.new result }
+    {
+        let mut moved = false;
+        let mut looks = 0;
+        for _ in 0..TURNS {
+            self.turns = self.turns.saturating_add(1);
+            gate.pass(self.actor, self.turns);
+            match self.turn(rt, board, lines, handlers) {
+                Turn::Moved(_) => {
+                    moved = true;
+                    looks = 0;
+                }
+                Turn::NotYet if looks >= LOOKS => {
+                    return if moved { Left::Busy } else { Left::Idle };
+                }
+                Turn::Undecided if looks >= LOOKS => return Left::Busy,
+                Turn::NotYet | Turn::Undecided => {
+                    looks += 1;
+                    spin_loop();
+                }
+                Turn::Full { line, len } => return Left::Full { line, len },
+                Turn::NoMemory => return Left::NoMemory,
+            }
+        }
+        Left::Busy
+    }
+
+    /// A worker's part of a round.
+    fn work<R: Wait, G: Gate, H: Handler>(
+        &mut self,
+        rt: &R,
+        board: &Board,
+        lines: &SharedLines<L>,
+        gate: &G,
+        handlers: &Callbacks<H>,
+    )
+        requires boards { AreBoards board.now lines.now }
+        requires job { IsJob board.now lines.now self.old }
+        ensures { WorksJob board.now lines.now self.old self.new }
+    {
+        self.left = self.take_turns(rt, board, lines, gate, handlers);
+    }
+}
+
+/// One round: each job's worker has a thread of its own, where one can be made.
+fn round<R: Threads + Wait + Sync, L: IrqLine + Send + Sync, G: Gate + Sync, H: Handler + Sync>(
+    rt: &R,
+    board: &Board,
+    lines: &SharedLines<L>,
+    jobs: &mut [Job<L>],
+    gate: &G,
+    handlers: &Callbacks<H>,
+)
+    requires boards { AreBoards board.now lines.now }
+    requires jobs { All (IsJob board.now lines.now) jobs.old }
+    ensures { KeepsJobs board.now lines.now jobs.old jobs.new }
+{
+    let count = jobs.len();
+    if count == 0 {
+        return;
+    }
+    thread::for_each_mut(
+        rt,
+        jobs,
+        count,
+        &|_, job| job.work(rt, board, lines, gate, handlers),
+    );
+}
+
+/// Rounds of all jobs, until one of them made no step, or a worker was refused. They work on the lines that the jobs fit.
+pub fn run_rounds<
+    R: Threads + Wait + Sync,
+    L: IrqLine + Send + Sync,
+    G: Gate + Sync,
+    H: Handler + Sync,
+>(
+    rt: &R,
+    lines: &SharedLines<L>,
+    jobs: &mut Jobs<'_, L>,
+    gate: &G,
+    handlers: &Callbacks<H>,
+) -> RoundsEnd
+    requires { Fit lines.now jobs.old }
+    ensures board { jobs.new.board ≡ jobs.old.board }
+    ensures fit { Fit lines.now jobs.new }
+    ensures end { Ends jobs.new result }
+{
+    for _ in rt.forever() {
+        match jobs.one_round(rt, lines, gate, handlers) {
+            Left::Idle => return RoundsEnd::Quiet,
+            Left::Busy => {}
+            Left::Full { line, len } => return RoundsEnd::Full { line, len },
+            Left::NoMemory => return RoundsEnd::NoMemory,
+        }
+    }
+    unreachable!()
+}
+
+impl<'b, L: IrqLine + Send + Sync> Jobs<'b, L> {
+    /// One round of all jobs, and how they were left.
+    fn one_round<R: Threads + Wait + Sync, G: Gate + Sync, H: Handler + Sync>(
+        &mut self,
+        rt: &R,
+        lines: &SharedLines<L>,
+        gate: &G,
+        handlers: &Callbacks<H>,
+    ) -> Left
+        requires { Fit lines.now self.old }
+        ensures board { self.new.board ≡ self.old.board }
+        ensures fit { Fit lines.now self.new }
+        ensures left { EachLeftSo self.new }
+        ensures all { SumsUp self.new.jobs (length self.new.jobs) result }
+    {
+        let jobs = self.jobs.as_mut_slice();
+        round(rt, self.board, lines, jobs, gate, handlers);
+        left_of_all(self.jobs.as_slice())
+    }
+}
+
+/// How the workers left their jobs: full before want of memory, the lowest full line before the others, and that a step was
+/// made before that none was.
+fn left_of_all<L: IrqLine>(jobs: &[Job<L>]) -> Left
+    ensures { SumsUp jobs.now (length jobs.now) result }
+{
+    let mut all = Left::Idle;
+    for i in 0..jobs.len() {
+        let job = &jobs[i];
+        all = worse(all, job.left);
+    }
+    all
+}
+
+/// The one of the two that tells more.
+fn worse(first: Left, second: Left) -> Left
+    ensures { result ≡ worse first second }
+{
+    match (first, second) {
+        (Left::Full { line: a, .. }, Left::Full { line: b, .. }) if b.0 < a.0 => second,
+        (Left::Full { .. }, _) => first,
+        (_, Left::Full { .. }) => second,
+        (Left::NoMemory, _) | (_, Left::NoMemory) => Left::NoMemory,
+        (Left::Busy, _) | (_, Left::Busy) => Left::Busy,
+        (Left::Idle, Left::Idle) => Left::Idle,
+    }
+}

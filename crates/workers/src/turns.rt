@@ -1,0 +1,148 @@
+//! A worker's turns.
+ghost use Rattle.std.specs.Prelude.{◌≡◌, ◌<◌, ℕ, true, Some, length, slice_get};
+ghost use Rattle.workers.specs.Fit.{AreSeated, HasOneFlow};
+ghost use Rattle.workers.specs.Turns.{StepsSeat, StepsCpu, TurnsCpu, turn_of, flow_after, within_flow, is_not_yet};
+
+use crate::job::Job;
+use crate::lines::SharedLines;
+use callbacks::{Callbacks, Handler};
+use irq_base::{Entry, FlowKind, LineNo, TakeAnswer};
+use irq_line::{IrqLine, StepRefused};
+use std::sync::Wait;
+
+/// What a turn came to.
+#[derive(Clone, Copy)]
+pub(crate) enum Turn {
+    /// It added this entry.
+    Moved(Entry),
+    /// Nothing is due of the actor on what it has seen.
+    NotYet,
+    /// Nothing is due on the line that it tried, and it may have something to do on others.
+    Undecided,
+    /// A step is due on that line, whose history has the greatest length. `len`: that many entries.
+    Full { line: LineNo, len: u32 },
+    /// Memory was wanted and refused.
+    NoMemory,
+}
+
+impl<L: IrqLine> Job<L> {
+    /// Tries the actor's next step with the pass at the place.
+    pub(crate) fn try_seat<R: Wait, H: Handler>(
+        &mut self,
+        rt: &R,
+        lines: &SharedLines<L>,
+        place: usize,
+        handlers: &Callbacks<H>,
+    ) -> Turn
+        requires seated { AreSeated lines.now self.old }
+        requires place { place < length self.old.seats }
+        ensures { StepsSeat lines.now place result self.old self.new }
+    {
+        let numbers = lines.numbers.as_slice();
+        let k = self.first + place;
+        let number = numbers[k];
+        let line = &lines.lines[k];
+        let seat = &mut self.seats[place];
+        let tried = seat.step(rt, line, handlers);
+        turn_of(number, tried)
+    }
+
+    /// Tries a processor's next step with the pass at the place, where it has no flow in progress on another line.
+    fn step_cpu<R: Wait, H: Handler>(
+        &mut self,
+        rt: &R,
+        lines: &SharedLines<L>,
+        place: usize,
+        handlers: &Callbacks<H>,
+    ) -> Turn
+        requires seated { AreSeated lines.now self.old }
+        requires place { place < length self.old.seats }
+        requires flow { HasOneFlow self.old }
+        requires free { (i : ℕ) → self.old.flow ≡ Some i → i ≡ place }
+        ensures { StepsCpu lines.now place result self.old self.new }
+    {
+        let turn = self.try_seat(rt, lines, place, handlers);
+        if let Turn::Moved(entry) = turn {
+            let flow = lines.flow_at(self.first, place);
+            self.flow = flow_after(flow, &entry, place, self.flow);
+        }
+        turn
+    }
+
+    /// A processor's turn: on the line where it has a flow in progress, else on the first line where an entry of it is due.
+    pub(crate) fn turn_cpu<R: Wait, H: Handler>(
+        &mut self,
+        rt: &R,
+        lines: &SharedLines<L>,
+        handlers: &Callbacks<H>,
+    ) -> Turn
+        requires seated { AreSeated lines.now self.old }
+        requires flow { HasOneFlow self.old }
+        ensures { TurnsCpu lines.now result self.old self.new }
+    {
+        if let Some(place) = self.flow {
+            if place < self.seats.len() {
+                return within_flow(self.step_cpu(rt, lines, place, handlers));
+            }
+            return Turn::Undecided;
+        }
+        for place in 0..self.seats.len() {
+            let turn = self.step_cpu(rt, lines, place, handlers);
+            if !is_not_yet(turn) {
+                return turn;
+            }
+        }
+        Turn::NotYet
+    }
+}
+
+/// A processor that has nothing to do on the line of its flow may have something to do on others.
+fn within_flow(turn: Turn) -> Turn
+    ensures { result ≡ within_flow turn }
+{
+    match turn {
+        Turn::NotYet => Turn::Undecided,
+        turn => turn,
+    }
+}
+
+/// Whether nothing was due.
+fn is_not_yet(turn: Turn) -> bool
+    ensures { result ≡ is_not_yet turn }
+{
+    match turn {
+        Turn::NotYet => true,
+        _ => false,
+    }
+}
+
+/// What a try on that line comes to as a turn.
+fn turn_of(line: LineNo, tried: Result<Option<Entry>, StepRefused>) -> Turn
+    ensures { result ≡ turn_of line tried }
+{
+    match tried {
+        Ok(Some(entry)) => Turn::Moved(entry),
+        Ok(None) => Turn::NotYet,
+        Err(StepRefused::Full { len }) => Turn::Full { line, len },
+        Err(StepRefused::NoMemory) => Turn::NoMemory,
+    }
+}
+
+/// At which pass a processor has a flow in progress, after it added the entry with the pass at the place.
+pub(crate) fn flow_after(
+    flow: FlowKind,
+    entry: &Entry,
+    place: usize,
+    before: Option<usize>,
+) -> Option<usize>
+    ensures { result ≡ flow_after flow entry.now place before }
+{
+    match *entry {
+        Entry::Take {
+            answer: TakeAnswer::Handle,
+            ..
+        } => Some(place),
+        Entry::End { again, .. } if !again || flow == FlowKind::Eoi => None,
+        _ => before,
+    }
+}
