@@ -1,8 +1,7 @@
 -- The first of some actors that can move, and a driver's due call, as a system answers them.
-use Rattle.std.proofs.Common.{◌≡◌, ℕ, ◌+◌, ◌<◌, ◌≤◌, ◌⊎◌, inl, inr, is_some, Option, Some, None, List, ◌++◌, map, length, slice_get, refl, sym, ap, ◌∙◌, subst, arith}
+use Rattle.std.proofs.Common.{◌≡◌, ℕ, ◌+◌, ◌<◌, inl, inr, is_some, Option, Some, None, List, ◌++◌, map, length, slice_get, refl, sym, ap, ◌∙◌, subst, arith}
 use Rattle.std.proofs.lemmas.Option.{slice_get_within}
 use Rattle.irq_base.specs.declared.calls.Call.{Call}
-use Rattle.irq_base.specs.declared.entries.Actor.{Actor}
 use Rattle.irq_base.specs.declared.entries.Actor.TheVariants as actors
 use Rattle.irq_base.specs.declared.numbers.CpuNo.{CpuNo}
 use Rattle.irq_base.specs.declared.numbers.DriverNo.{DriverNo}
@@ -12,14 +11,13 @@ use Rattle.board_def.specs.Rules.{IsBoard}
 use Rattle.board_def.specs.Seen.{BoardSeen}
 use Rattle.domain_rules.specs.declared.layouts.Placement.{Placement}
 use Rattle.board_play.specs.Lines.{BoardLine, Move}
-use Rattle.board_play.specs.Order.{due_move, threads_of, cpus_of, drivers_of}
+use Rattle.board_play.specs.Order.{threads_of, cpus_of, drivers_of}
 use Rattle.board_ready.specs.Ready.{lowest_thread, lowest_cpu, lowest_driver, lowest_thread_or_cpu, thread_or, cpu_mover}
-use Rattle.board_ready.specs.Seen.{ReadySeen}
 use Rattle.board_ready.specs.declared.parts.LinePart.{LinePart}
 use Rattle.board_ready.specs.declared.parts.Mover.{Mover}
 use Rattle.board_ready.specs.declared.parts.Mover.TheVariants as movers
 use Rattle.board_ready.specs.declared.parts.ReadyThread.{ReadyThread}
-use Rattle.board_core.specs.Firsts.{IsFirst, IsFirstOf, with_line, call_on}
+use Rattle.board_core.specs.Firsts.{IsFirstOf, with_line, call_on}
 use Rattle.board_core.specs.Inside.{Parts, seen_of, IsKept}
 use Rattle.board_core.specs.Scripts.{ScriptSeen, IsScript, due_at}
 use Rattle.board_core.specs.Seen.{SystemSeen, board_lines}

@@ -26,7 +26,6 @@ use Rattle.board_core.specs.Places.{SteppedAt}
 use Rattle.board_core.specs.Scripts.{ScriptSeen, advanced}
 use Rattle.board_core.specs.Seen.{SystemSeen, board_line, board_lines}
 use Rattle.board_core.specs.Turned.{IsScriptOf, StepsBy, script_after, scripts_after, turn_of}
-use Rattle.board_core.specs.Turns.{move_of}
 use Rattle.board_core.specs.declared.turns.Turn.{Turn}
 use Rattle.irq_line.specs.declared.answers.StepRefused.TheVariants as refusals
 use Rattle.board_core.proofs.TurnLaws.{set_other, turned}

@@ -23,7 +23,7 @@ use Rattle.domain_rules.specs.declared.layouts.Placement.{Placement}
 use Rattle.board_def.proofs.Rising.{Rises, rises_on, head_of}
 use Rattle.board_play.specs.Kept.{AreKept}
 use Rattle.board_play.specs.Lines.{BoardLine, Move, find_line, lines_after}
-use Rattle.board_play.specs.Order.{line_for, move_on, due_on, due_move}
+use Rattle.board_play.specs.Order.{line_for, move_on, due_on}
 use Rattle.board_play.proofs.KeptAlways.{apart_kept, move_keeps}
 use Rattle.board_play.proofs.Listed.{def_at}
 use Rattle.board_play.proofs.Members.{AreApart, def_there, find_there}
@@ -34,12 +34,12 @@ use Rattle.board_core.specs.Stands.{IsCurrentAt}
 use Rattle.board_play.proofs.OfBoard.{def_of_row, has_calls}
 use Rattle.board_core.specs.Inside.{seen_of, drivers_of, IsSystem}
 use Rattle.board_core.specs.Log.{without_newest, with_newest, merged}
-use Rattle.board_core.specs.Places.{IsPlace, StepsAt, SteppedAt}
+use Rattle.board_core.specs.Places.{StepsAt, SteppedAt}
 use Rattle.board_core.specs.Scripts.{ScriptSeen, completes, advanced_by, advanced_at, advanced, IsScript}
 use Rattle.board_core.specs.Seen.{board_line, board_lines}
 use Rattle.board_core.specs.Stepping.{Adds}
 use Rattle.board_core.specs.Turned.{IsScriptOf, StepsBy, script_after, scripts_after, turn_of}
-use Rattle.board_core.specs.Turns.{move_of, Moves, IsFullFor}
+use Rattle.board_core.specs.Turns.{Moves, IsFullFor}
 use Rattle.board_core.specs.declared.scripts.Step.{Step}
 use Rattle.board_core.proofs.ScriptLaws.{HaveCalls, script_line, other_script, own_script}
 

@@ -1,4 +1,4 @@
-use Rattle.std.proofs.Common.{map, length, Some, refl, sym, ap, ◌∙◌, arith}
+use Rattle.std.proofs.Common.{map, length, refl, ◌∙◌, arith}
 use Rattle.std.proofs.lemmas.Option.{slice_get_read}
 use Rattle.board_core.proofs.FirstLaws.{due_is, no_due, script_within}
 use Rattle.board_core.proofs.RisingNumbers.{rising_drivers}

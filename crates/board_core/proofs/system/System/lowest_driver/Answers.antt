@@ -1,4 +1,4 @@
-use Rattle.std.proofs.Common.{map, length, Some, refl, sym, ap, ◌∙◌, arith}
+use Rattle.std.proofs.Common.{map, length, refl, arith}
 use Rattle.std.proofs.lemmas.Option.{slice_get_read}
 use Rattle.board_core.proofs.FirstLaws.{first_driver, no_first_driver, driver_within}
 use Rattle.board_core.proofs.system.System.lowest_driver.Goals as goal

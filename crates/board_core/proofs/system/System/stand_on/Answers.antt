@@ -1,4 +1,4 @@
-use Rattle.std.proofs.Common.{map, refl, sym, ◌∙◌}
+use Rattle.std.proofs.Common.{map, refl, ◌∙◌}
 use Rattle.board_core.proofs.InSystem.{numbers_kept}
 use Rattle.board_core.proofs.RisingNumbers.{rising_lines}
 use Rattle.board_core.proofs.Standing.{line_nowhere, line_there, number_there, number_nowhere}

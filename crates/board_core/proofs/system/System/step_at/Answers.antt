@@ -1,4 +1,3 @@
-use Rattle.std.proofs.Common.{map, sym}
 use Rattle.board_core.proofs.Standing.{can_step, steps_by_move}
 use Rattle.board_core.proofs.system.System.step_at.Goals as goal
 
