@@ -13,7 +13,7 @@ use Rattle.line_lock.specs.Passes.{LockSeen, PassSeen, IsPassOf}
 use Rattle.line_lock.specs.declared.view.Known.{Known}
 use Rattle.line_lock.proofs.Placing.{begins_self, begins_more}
 use Rattle.line_shared.specs.Stepping.{Steps}
-use Rattle.workers.specs.Tries.{Tries}
+use Rattle.workers.specs.Tries.{IsIdle, Tries}
 
 -- what stays while answers are asked for
 pub record Waits (line : LockSeen) (old now : PassSeen) : Type 0 where
@@ -93,3 +93,7 @@ module _ (line : LockSeen) (who : Actor) (old mid new : PassSeen) (said : Option
 pub its_actor : (o : Option Actor) → IsSome o → (who : Actor) × (o ≡ Some who)
 its_actor None is = cc
 its_actor (Some who) is = (who, refl)
+
+-- where nothing happened since nothing was due
+pub tries_still : (def : LineDef) (who : Actor) (k : Known) → IsIdle def who k → Tries def who k (Ok None) k
+tries_still def who k idle = record { begins = begins_self k.seen; came = (idle, refl) }

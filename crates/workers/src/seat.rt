@@ -2,7 +2,7 @@
 ghost use Rattle.std.specs.Prelude.{◌≡◌, true, false, Some, IsSome, IsTrue};
 ghost use Rattle.irq_base.specs.declared.entries.Actor.{Actor};
 ghost use Rattle.line_lock.specs.Passes.{IsPassOf};
-ghost use Rattle.workers.specs.Tries.{Tries, rests_after};
+ghost use Rattle.workers.specs.Tries.{IsIdle, Tries, rests_after};
 
 use callbacks::{Callbacks, Handler};
 use irq_base::Entry;
@@ -28,7 +28,8 @@ impl<L: IrqLine> Model for Seat<L> {
 }
 
 impl<L: IrqLine> Seat<L> {
-    /// Tries the actor's next step on the line.
+    /// Tries the actor's next step on the line, but not where nothing is known to have happened on the line since nothing
+    /// was due.
     pub(crate) fn step<R: Wait, H: Handler>(
         &mut self,
         rt: &R,
@@ -38,19 +39,23 @@ impl<L: IrqLine> Seat<L> {
         requires line { IsPassOf line.now self.old.pass }
         requires idle { self.old.pass.turn ≡ false }
         requires actor { IsSome self.old.pass.knows.actor }
+        requires known { self.old.rests ≡ true → (who : Actor) → self.old.pass.knows.actor ≡ Some who → IsIdle line.now.def who self.old.pass.knows }
         ensures line { IsPassOf line.now self.new.pass }
         ensures idle { self.new.pass.turn ≡ false }
         ensures actor { self.new.pass.knows.actor ≡ self.old.pass.knows.actor }
         ensures rests { self.new.rests ≡ rests_after result }
         ensures tries { (who : Actor) → self.old.pass.knows.actor ≡ Some who → Tries line.now.def who self.old.pass.knows result self.new.pass.knows }
     {
+        if self.is_still(line) {
+            return Ok(None);
+        }
         let tried = step_heard(rt, line, &mut self.pass, handlers);
         self.rests = tried == Ok(None);
         tried
     }
 
     /// Whether nothing is known to have happened on the line since the actor was found to have nothing due.
-    pub(crate) fn is_still(&self, line: &SharedLine<L>) -> bool
+    fn is_still(&self, line: &SharedLine<L>) -> bool
         ensures { IsTrue result → self.now.rests ≡ true }
     {
         self.rests && line.count() == self.pass.front()

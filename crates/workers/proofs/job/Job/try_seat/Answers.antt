@@ -1,8 +1,9 @@
-use Rattle.std.proofs.Common.{◌≡◌, ◌+◌, false, IsSome, Option, Some, get_or, slice_set, refl, sym, ap, subst, ◌∙◌, rules}
+use Rattle.std.proofs.Common.{◌≡◌, ◌+◌, true, false, IsSome, Option, Some, get_or, slice_set, refl, sym, ap, subst, ◌∙◌, rules}
 use Rattle.irq_base.specs.declared.entries.Actor.{Actor}
 use Rattle.line_lock.specs.Passes.{LockSeen, IsPassOf}
 use Rattle.workers.specs.Seen.{SeatSeen, JobSeen}
-use Rattle.workers.specs.Tries.{Tries}
+use Rattle.workers.specs.Tries.{IsIdle, Tries}
+use Rattle.irq_laws.proofs.Chosen.{the_same}
 use Rattle.workers.proofs.Turning.{at_place, in_here, in_numbers, line_is, seat_is, number_is, steps_seat}
 use Rattle.workers.proofs.job.Job.try_seat.Goals as goal
 
@@ -38,6 +39,9 @@ step-tried-requires g c =
       line = subst (λ (x : LockSeen). IsPassOf x c.index_mut-seat.result.now.pass) (sym l) (subst (λ (x : SeatSeen). IsPassOf a.line x.pass) (sym s) a.sits.of_line);
       idle = subst (λ (x : SeatSeen). x.pass.turn ≡ false) (sym s) a.sits.idle;
       actor = subst (λ (x : SeatSeen). IsSome x.pass.knows.actor) (sym s) (subst (λ (o : Option Actor). IsSome o) (sym a.sits.actor) refl);
+      known = subst (λ (x : SeatSeen). x.rests ≡ true → (who : Actor) → x.pass.knows.actor ≡ Some who → IsIdle c.index-line.result.now.def who x.pass.knows) (sym s)
+          (subst (λ (x : LockSeen). a.seat.rests ≡ true → (who : Actor) → a.seat.pass.knows.actor ≡ Some who → IsIdle x.def who a.seat.pass.knows) (sym l)
+          (λ still who is. subst (λ (b : Actor). IsIdle a.line.def b a.seat.pass.knows) (let e : c.args.self.now.actor ≡ who = the_same c.args.self.now.actor who (sym a.sits.actor ∙ is) in e) (a.sits.rests still)));
     }
 
 pub returns : goal.returns
