@@ -115,6 +115,24 @@ impl<'b, L: IrqLine> System<'b, L> {
         })
     }
 
+    /// The system of the board's lines as they stand, with an empty log: it tells what comes after the entries that the
+    /// lines have. Refused only for want of memory.
+    pub fn of_lines(
+        alloc: Global,
+        board: &'b Board,
+        layout: Layout,
+        lines: Vec<L>,
+    ) -> Result<System<'b, L>, NoMemory>
+        requires layout { layout ≡ layout_of board.now }
+        requires kept { AreKept board.now (board_lines (map L.seen lines.items)) }
+        ensures board { IfOk result (λ s. s.board ≡ board.now) }
+        ensures layout { IfOk result (λ s. s.layout ≡ layout) }
+        ensures lines { IfOk result (λ s. s.lines ≡ map L.seen lines.items) }
+        ensures log { IfOk result (λ s. s.log ≡ []) }
+    {
+        Err(NoMemory)
+    }
+
     /// What holds of every system: its lines are the board's, each history is legal, and the drivers' calls are made in
     /// the order of their scripts.
     pub fn is_kept(&self)
