@@ -17,3 +17,6 @@ pub mod LowestMover
 pub mod Standing
 pub mod FirstLaws
 pub mod Underway
+pub mod OwnScripts
+pub mod CutCounts
+pub mod Placed

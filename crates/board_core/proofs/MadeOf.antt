@@ -50,7 +50,7 @@ map_more f (y ∷ ys) x = ap (λ (zs : List _). f y ∷ zs) (map_more f ys x)
 
 -- ---- a script of which nothing is complete
 
-number_back : (lines : List BoardLine) (k : ℕ) (line : LineNo) → slice_get (numbers_of_defs (map (λ (x : BoardLine). x.def) lines)) k ≡ Some line.0 → IsSomeAnd (slice_get lines k) (λ y. y.def.line ≡ line)
+pub number_back : (lines : List BoardLine) (k : ℕ) (line : LineNo) → slice_get (numbers_of_defs (map (λ (x : BoardLine). x.def) lines)) k ≡ Some line.0 → IsSomeAnd (slice_get lines k) (λ y. y.def.line ≡ line)
 number_back [] k line at = cc
 number_back (x ∷ xs) zero line at = line_from_same x.def.line line (ap (λ (n : ℕ). n == line.0) (the_same x.def.line.0 line.0 at) ∙ same_self_line line)
 number_back (x ∷ xs) (suc k) line at = number_back xs k line at

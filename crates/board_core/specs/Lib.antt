@@ -13,3 +13,4 @@ pub mod Stands
 pub mod Firsts
 pub mod Playing
 pub mod Making
+pub mod Placing

@@ -19,10 +19,10 @@ abbrev pub MakesAll : (ℕ → LineDef → Type 0) → BoardSeen → List Placem
 MakesAll makes board layout =
     (i virq : ℕ) (path : List (ℕ × ℕ)) (row : LineRow) → slice_get board.lines i ≡ Some row → slice_get layout i ≡ Some (placements.Mapped virq path) → makes virq (line_of_row board row)
 
--- the line of a row and its placement, to which nothing has happened; none where it takes no part
-abbrev pub IsNewLine : BoardSeen → Option LineRow → Option Placement → Option LineSeen → Type 0
-IsNewLine board (Some row) (Some (placements.Mapped virq path)) made = IsSomeAnd made (λ x. board_line x ≡ record { def = line_of_row board row; past = [] })
-IsNewLine board _ _ made = made ≡ None
+-- the line of that definition, to which nothing has happened; none where it has no place
+abbrev pub IsNewLine : LineDef → Option Placement → Option LineSeen → Type 0
+IsNewLine def (Some (placements.Mapped virq path)) made = IsSomeAnd made (λ x. board_line x ≡ record { def = def; past = [] })
+IsNewLine def _ made = made ≡ None
 
 -- the board's lines, to which nothing has happened
 abbrev pub AreNew : BoardSeen → List LineSeen → Type 0

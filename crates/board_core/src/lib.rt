@@ -10,6 +10,7 @@ pub mod making;
 pub mod moves;
 pub mod numbers;
 pub mod places;
+pub mod placing;
 pub mod refreshing;
 pub mod scripts;
 pub mod stands;

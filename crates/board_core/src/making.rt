@@ -1,16 +1,16 @@
 //! What a system is made of.
-ghost use Rattle.std.specs.Prelude.{◌≡◌, ◌<◌, ℕ, Some, [], IfOk, IfSome, OnOk, length, map, slice_get};
+ghost use Rattle.std.specs.Prelude.{◌≡◌, ◌<◌, ℕ, Some, List, IfOk, IfSome, OnOk, length, map};
 ghost use Rattle.std.specs.Option.{option_map};
-ghost use Rattle.board_def.specs.Layout.{layout_of, IsPathOf};
-ghost use Rattle.board_def.specs.LineOf.{line_of_row};
+ghost use Rattle.board_def.specs.Layout.{layout_of};
+ghost use Rattle.domain_rules.specs.declared.layouts.Placement.TheVariants as placements;
 ghost use Rattle.board_play.specs.Lines.{defs_of};
 ghost use Rattle.board_core.specs.Making.{MakesAll, IsNewLine, AreNew, AreCut, AreNewScripts, AreSound, with_call};
 ghost use Rattle.board_core.specs.Numbers.{numbers_of_defs, numbers_of_drivers};
 
 use crate::numbers::place_of;
 use crate::scripts::{Script, Step};
-use board_def::{Board, Layout, LineRow, Placement, ScriptCall};
-use irq_base::{NoMemory, Path};
+use board_def::{Board, Layout, Placement, ScriptCall};
+use irq_base::{LineDef, NoMemory};
 use irq_line::{IrqLine, MakesLine};
 use std::alloc::Global;
 
@@ -25,58 +25,33 @@ pub(crate) fn make_lines<L: IrqLine, M: MakesLine<L>>(
     requires makes { MakesAll (M.makes maker.now) board.now (layout_of board.now) }
     ensures { IfOk result (λ lines. AreNew board.now (map L.seen lines.items)) }
 {
+    let defs = board.line_defs(alloc)?;
     let mut lines = Vec::new(alloc);
-    for i in 0..board.lines_len() {
-        if let Some(line) = make_line_at::<L, M>(alloc, board, layout, maker, i)? {
+    for i in 0..defs.len() {
+        if let Some(line) = make_line::<L, M>(alloc, layout.get(i), &defs[i], maker)? {
             lines.push(line)?;
         }
     }
     Ok(lines)
 }
 
-/// The line at that place of the board; none where it takes no part.
-fn make_line_at<L: IrqLine, M: MakesLine<L>>(
-    alloc: Global,
-    board: &Board,
-    layout: &Layout,
-    maker: &M,
-    i: usize,
-) -> Result<Option<L>, NoMemory>
-    requires layout { layout.now ≡ layout_of board.now }
-    requires makes { MakesAll (M.makes maker.now) board.now (layout_of board.now) }
-    ensures { IfOk result (λ made. IsNewLine board.now (slice_get board.now.lines i) (slice_get (layout_of board.now) i) (option_map L.seen made)) }
-{
-    let (Some(row), Some(placement)) = (board.line(i), layout.get(i)) else {
-        return Ok(None);
-    };
-    match placement {
-        Placement::Mapped { virq, path } => {
-            let line = make_line::<L, M>(alloc, board, row, virq, &path, maker)?;
-            Ok(Some(line))
-        }
-        Placement::Refused(_) => Ok(None),
-    }
-}
-
-/// The line of the row, by the maker.
+/// The line of that definition, by the maker; none where it has no place.
 fn make_line<L: IrqLine, M: MakesLine<L>>(
     alloc: Global,
-    board: &Board,
-    row: LineRow,
-    virq: u32,
-    path: &Path,
+    placement: Option<Placement>,
+    def: &LineDef,
     maker: &M,
-) -> Result<L, NoMemory>
-    requires row { (i : ℕ) × (slice_get board.now.lines i ≡ Some row) }
-    requires path { IsPathOf board.now row.line path.now }
-    requires makes { M.makes maker.now virq (line_of_row board.now row) }
-    ensures def { IfOk result (λ line. (L.seen line).def ≡ line_of_row board.now row) }
-    ensures empty { IfOk result (λ line. (L.seen line).entries ≡ []) }
+) -> Result<Option<L>, NoMemory>
+    requires makes { (virq : ℕ) (path : List (ℕ × ℕ)) → placement ≡ Some (placements.Mapped virq path) → M.makes maker.now virq def.now }
+    ensures { IfOk result (λ made. IsNewLine def.now placement (option_map L.seen made)) }
 {
-    board.is_board();
-    let def = board.line_def(alloc, row.line, path)?;
-    let line = maker.make(alloc, virq, &def)?;
-    Ok(line)
+    match placement {
+        Some(Placement::Mapped { virq, .. }) => {
+            let line = maker.make(alloc, virq, def)?;
+            Ok(Some(line))
+        }
+        _ => Ok(None),
+    }
 }
 
 /// A script for each driver, of which nothing is complete: one pass over the calls of all.
@@ -101,7 +76,7 @@ pub(crate) fn make_scripts(
 }
 
 /// A script without calls for each driver.
-fn empty_scripts(alloc: Global, board: &Board) -> Result<Vec<Script>, NoMemory>
+pub(crate) fn empty_scripts(alloc: Global, board: &Board) -> Result<Vec<Script>, NoMemory>
     ensures { IfOk result (λ scripts. AreCut board.now 0 scripts.items) }
 {
     let mut scripts = Vec::new(alloc);
@@ -115,7 +90,7 @@ fn empty_scripts(alloc: Global, board: &Board) -> Result<Vec<Script>, NoMemory>
 }
 
 /// The call goes to the end of that script, if it has one and its line has a place.
-fn push_call(
+pub(crate) fn push_call(
     scripts: &mut Vec<Script>,
     script: Option<usize>,
     place: Option<usize>,

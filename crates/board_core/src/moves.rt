@@ -1,6 +1,7 @@
 //! A walk over the log of a system.
-ghost use Rattle.std.specs.Prelude.{◌≡◌, ◌<◌, ◌^◌, IfSome, drop, length, map, slice_get};
+ghost use Rattle.std.specs.Prelude.{◌≡◌, ◌<◌, ◌≤◌, ◌^◌, IfSome, drop, length, map, slice_get};
 ghost use Rattle.board_core.specs.Log.{IsWalk, move_at, moves_of};
+ghost use Rattle.board_core.specs.Placing.{AreLengths};
 
 use irq_base::{Entry, LineNo};
 use irq_line::IrqLine;
@@ -59,6 +60,26 @@ impl<'s, L: IrqLine> Moves<'s, L> {
         self.cursors[k] = cursor + 1;
         next
     }
+}
+
+/// How many entries each of the lines has.
+pub(crate) fn lengths_of<L: IrqLine>(lines: &[L]) -> [u32; LINES]
+    requires { length lines.now ≤ 64 }
+    ensures { AreLengths (map L.seen lines.now) result }
+{
+    let mut lengths = [0; LINES];
+    for k in 0..lines.len() {
+        lengths[k] = length_of(&lines[k]);
+    }
+    lengths
+}
+
+/// How many entries the line has.
+fn length_of<L: IrqLine>(line: &L) -> u32
+    ensures { result ≡ length (L.seen line.now).entries }
+{
+    line.is_sound();
+    line.history().len() as u32
 }
 
 /// The place that the order has there.

@@ -1,5 +1,6 @@
 //! The drivers' scripts, cut by driver.
-ghost use Rattle.std.specs.Prelude.{◌≡◌, false, ◌<◌, ◌≤◌, Some, [], ◌∷◌, ◌++◌, slice_get, OnOk};
+ghost use Rattle.std.specs.Prelude.{◌≡◌, ◌+◌, false, ◌<◌, ◌≤◌, Some, [], ◌∷◌, ◌++◌, length, slice_get, OnOk};
+ghost use Rattle.board_core.specs.Placing.{joined};
 ghost use Rattle.board_core.specs.Scripts.{advanced, completes, due_at, is_not_there};
 ghost use Rattle.board_core.specs.ReadyFor.{call_of, wait_for};
 ghost use Rattle.irq_laws.specs.Blocks.{block_of};
@@ -97,6 +98,16 @@ impl Script {
             }),
             None => None,
         }
+    }
+
+    /// Goes on by as much as the other script of the driver has done.
+    pub fn join(&mut self, own: &Script)
+        requires { self.old.at + own.now.at ≤ length self.old.steps }
+        ensures { self.new ≡ joined own.now self.old }
+    {
+        let _end = self.steps.len();
+        self.at += own.at;
+        self.made = self.made.max(own.made);
     }
 
     /// The driver made this entry.

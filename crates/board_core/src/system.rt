@@ -18,9 +18,10 @@ ghost use Rattle.board_core.specs.Turned.{StepsBy};
 ghost use Rattle.board_core.specs.Turns.{Turns, TurnsBy, move_of, lowest_move};
 
 use crate::making::{are_sound, make_lines, make_scripts};
-use crate::moves::{LINES, Moves};
+use crate::moves::{LINES, Moves, lengths_of};
 use crate::numbers::place_of;
 use crate::places::step_place;
+use crate::placing::place_scripts;
 use crate::refreshing::{make_ready, numbers_of_drivers, numbers_of_lines, refresh};
 use crate::scripts::Script;
 use crate::stands::Stand;
@@ -130,7 +131,25 @@ impl<'b, L: IrqLine> System<'b, L> {
         ensures lines { IfOk result (λ s. s.lines ≡ map L.seen lines.items) }
         ensures log { IfOk result (λ s. s.log ≡ []) }
     {
-        Err(NoMemory)
+        board.is_board();
+        are_sound(&lines);
+        let line_numbers = numbers_of_lines(alloc, &lines)?;
+        let driver_numbers = numbers_of_drivers(alloc, board)?;
+        let mut scripts = make_scripts(alloc, board, &line_numbers, &driver_numbers)?;
+        place_scripts(alloc, board, &lines, &driver_numbers, &mut scripts)?;
+        let ready = make_ready(alloc, &lines, &scripts)?;
+        let begun = lengths_of(&lines);
+        Ok(System {
+            board,
+            layout,
+            lines,
+            line_numbers,
+            driver_numbers,
+            scripts,
+            ready,
+            order: Vec::new(alloc),
+            begun,
+        })
     }
 
     /// What holds of every system: its lines are the board's, each history is legal, and the drivers' calls are made in
