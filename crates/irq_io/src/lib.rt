@@ -22,6 +22,3 @@ pub use sources::{ReadAnswer, Source};
 pub use std_sink::StdSink;
 pub use std_source::StdSource;
 pub use whole::{ReadRefused, WriteEnd, read_up_to, write_all};
-
-#[cfg(test)]
-mod tests;

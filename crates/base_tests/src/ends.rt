@@ -1,7 +1,10 @@
 //! The ends, told what to do beforehand, and the loops over them.
 ghost use Rattle.std.specs.Prelude.{◌≡◌, ◌≤◌, IfOk, IfSome, take};
 
-use super::*;
+use irq_io::{
+    FlushAnswer, MemSink, MemSource, ReadAnswer, ReadRefused, Sink, Source, StdSink, StdSource,
+    WriteAnswer, WriteEnd, read_up_to, write_all,
+};
 use std::alloc::Global;
 use std::io::{BufWriter, Error, ErrorKind, Read, Write};
 use std::test::Fail;

@@ -1,0 +1,5 @@
+//! Tests of the ends: what they are told to do beforehand, and the loops over them.
+#![tactic(auto)]
+
+#[cfg(test)]
+mod ends;
