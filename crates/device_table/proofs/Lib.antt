@@ -4,3 +4,4 @@ pub mod Steps
 pub mod Ranking
 pub mod Words
 pub mod Lowest
+pub mod Placing

@@ -1,5 +1,5 @@
 -- A table of the devices of a line: their numbers with their values, in the order of the definition.
-use Rattle.std.specs.Prelude.{◌≡◌, Bool, if◌then◌else◌, nat_lt, Option, Some, None, is_some, List, [], ◌∷◌}
+use Rattle.std.specs.Prelude.{◌≡◌, Bool, false, if◌then◌else◌, nat_lt, Option, Some, None, is_some, List, [], ◌∷◌}
 use Rattle.std.specs.Map.{lookup, set_value}
 use Rattle.irq_base.specs.declared.devices.DeviceDef.{DeviceDef}
 use Rattle.irq_base.specs.declared.numbers.DevNo.{DevNo}
@@ -14,6 +14,11 @@ module _ {R : Type 0} where
   -- the value of d
   abbrev pub at : List (DevNo × R) → DevNo → Option R
   at t d = lookup (same_dev d) t
+
+  -- the row is d's
+  abbrev pub is_row_of : DevNo → Option (DevNo × R) → Bool
+  is_row_of d None = false
+  is_row_of d (Some e) = same_dev d e.0
 
   abbrev pub has : List (DevNo × R) → DevNo → Bool
   has t d = is_some (at t d)

@@ -5,6 +5,7 @@
 //! their memory when they are made; reading and writing take none.
 #![tactic(auto)]
 
+mod hints;
 pub mod rank_set;
 pub mod ranks;
 pub mod table;

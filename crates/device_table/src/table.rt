@@ -1,10 +1,11 @@
 //! The table.
-ghost use Rattle.std.specs.Prelude.{◌≡◌, IfOk, OnOk, false, true, None, [], ◌∷◌, ◌++◌};
+ghost use Rattle.std.specs.Prelude.{◌≡◌, IfOk, OnOk, false, true, None, [], ◌∷◌, ◌++◌, slice_get};
 ghost use Rattle.std.specs.List.{list_any};
 ghost use Rattle.irq_model.specs.Lines.{is_device};
 ghost use Rattle.irq_model.specs.Valid.{HasDistinctDevices};
-ghost use Rattle.device_table.specs.Rows.{at, put, all_with};
+ghost use Rattle.device_table.specs.Rows.{at, put, all_with, is_row_of};
 
+use crate::hints::Hints;
 use indexmap::IndexMap;
 use irq_base::{DevNo, DeviceList, NoMemory};
 use std::alloc::Global;
@@ -15,6 +16,7 @@ use std::marker::Model;
 #[derive(Drop)]
 pub struct DeviceTable<R: Copy> {
     rows: IndexMap<DevNo, R>,
+    hints: Hints,
 }
 
 impl<R: Copy> Model for DeviceTable<R> {
@@ -42,20 +44,23 @@ impl<R: Copy> DeviceTable<R> {
     }
 
     /// The table of no devices. It takes no memory yet.
-    pub(crate) fn empty(alloc: Global) -> DeviceTable<R>
+    pub fn empty(alloc: Global) -> DeviceTable<R>
         ensures { result ≡ [] }
     {
         DeviceTable {
             rows: IndexMap::new(alloc),
+            hints: Hints::new(),
         }
     }
 
     /// Adds a device that the table lacks, at the end.
-    pub(crate) fn add(&mut self, dev: DevNo, row: R) -> Result<(), NoMemory>
+    pub fn add(&mut self, dev: DevNo, row: R) -> Result<(), NoMemory>
         requires { at self.old dev ≡ None }
         ensures { OnOk result (self.new ≡ self.old ++ (dev, row) ∷ []) }
     {
+        let place = self.rows.len();
         self.rows.insert(dev, row)?;
+        self.hints.note(dev, place);
         Ok(())
     }
 
@@ -63,6 +68,11 @@ impl<R: Copy> DeviceTable<R> {
     pub fn get(&self, dev: DevNo) -> Option<R>
         ensures { result ≡ at self.now dev }
     {
+        if let Some((found, row)) = self.rows.get_index(self.hints.place(dev)) {
+            if *found == dev {
+                return Some(*row);
+            }
+        }
         self.rows.get(&dev).copied()
     }
 
@@ -70,9 +80,42 @@ impl<R: Copy> DeviceTable<R> {
     pub fn set(&mut self, dev: DevNo, row: R)
         ensures { self.new ≡ put self.old dev row }
     {
-        let Some(place) = self.rows.get_mut(&dev) else {
+        let hint = self.hints.place(dev);
+        if self.is_at(hint, dev) {
+            self.set_at(hint, dev, row);
+        } else {
+            self.set_found(dev, row);
+        }
+    }
+
+    /// Whether the device's value is at the place.
+    fn is_at(&self, place: usize, dev: DevNo) -> bool
+        ensures { result ≡ is_row_of dev (slice_get self.now place) }
+    {
+        match self.rows.get_index(place) {
+            Some((found, _)) => *found == dev,
+            None => false,
+        }
+    }
+
+    /// Sets the value of the device, which is at the place.
+    fn set_at(&mut self, place: usize, dev: DevNo, row: R)
+        requires { is_row_of dev (slice_get self.old place) ≡ true }
+        ensures { self.new ≡ put self.old dev row }
+    {
+        let Some(value) = self.rows.get_index_mut(place) else {
             return;
         };
-        *place = row;
+        *value = row;
+    }
+
+    /// Sets the value of the device, wherever it is.
+    fn set_found(&mut self, dev: DevNo, row: R)
+        ensures { self.new ≡ put self.old dev row }
+    {
+        let Some(value) = self.rows.get_mut(&dev) else {
+            return;
+        };
+        *value = row;
     }
 }
