@@ -45,7 +45,7 @@ beginning def h before after legal is =
 holds_at : (def : LineDef) (h : List Entry) → IsValid def → IsLegal def h → HoldsAt def h
 holds_at def h valid legal = record { covered = is_covered_law def h valid legal; has_reason = has_reason def h valid legal; served_when_idle = served_when_idle def h valid legal }
 
-keeps_laws : (def : LineDef) (h : List Entry) → IsValid def → IsLegal def h → KeepsLaws def h
+pub keeps_laws : (def : LineDef) (h : List Entry) → IsValid def → IsLegal def h → KeepsLaws def h
 keeps_laws def h valid legal =
     record {
       legal = legal;
@@ -58,7 +58,7 @@ keeps_laws def h valid legal =
       always = λ before after is. holds_at def before valid (beginning def h before after legal is);
     }
 
-line_headline : (def : LineDef) (h : List Entry) → IsValid def → IsLegal def h → IsSettled def h → LineHeadline def h
+pub line_headline : (def : LineDef) (h : List Entry) → IsValid def → IsLegal def h → IsSettled def h → LineHeadline def h
 line_headline def h valid legal settled =
     record {
       laws = keeps_laws def h valid legal;
