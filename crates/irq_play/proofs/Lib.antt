@@ -2,6 +2,7 @@ mod Writing
 mod Printable
 mod Turned
 mod OfRows
+mod Others
 mod Ended
 mod Filling
 mod HandedOut

@@ -12,5 +12,5 @@ mod printing;
 mod reporting;
 mod summaries;
 
-pub use ending::PlayedEnd;
+pub use ending::{PlayedEnd, Wanted};
 pub use playing::{PlayedBoard, play_and_print};
