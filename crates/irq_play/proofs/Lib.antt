@@ -2,6 +2,7 @@ pub mod Writing
 pub mod Printable
 mod Turned
 pub mod OfRows
+mod Others
 pub mod Ended
 mod Filling
 mod HandedOut

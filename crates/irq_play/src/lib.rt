@@ -12,5 +12,5 @@ pub mod printing;
 pub mod reporting;
 pub mod summaries;
 
-pub use ending::PlayedEnd;
+pub use ending::{PlayedEnd, Wanted};
 pub use playing::{PlayedBoard, play_and_print};
