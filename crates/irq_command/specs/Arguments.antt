@@ -9,6 +9,7 @@ use Rattle.std.specs.declared.io.Error.{Error}
 use Rattle.std.specs.declared.io.ErrorKind.TheVariants as kinds
 use Rattle.irq_words.specs.Words.{Asks}
 use Rattle.irq_words.specs.declared.Command.{Command}
+use Rattle.irq_play.specs.declared.ending.Wanted.TheVariants as wants
 use Rattle.irq_top.specs.declared.ending.Ending.{Ending}
 use Rattle.irq_top.specs.declared.ending.Ending.TheVariants as endings
 
@@ -41,4 +42,4 @@ IsNoForm args = (command : Command) → IsForm args command → ⊥
 
 -- how the program ends for arguments that give no words: they aren't text, or memory was wanted
 abbrev pub IsRefusal : Arguments → Ending → Type 0
-IsRefusal args ending = (IsNotText args × (ending ≡ endings.Usage)) ⊎ ((IsNotText args → ⊥) × (ending ≡ endings.NoMemory))
+IsRefusal args ending = (IsNotText args × (ending ≡ endings.Usage)) ⊎ ((IsNotText args → ⊥) × (ending ≡ endings.NoMemory wants.Making))

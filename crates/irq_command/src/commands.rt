@@ -11,7 +11,7 @@ ghost use Rattle.irq_command.specs.Arguments.{IsForm, IsNoForm, IsNotText};
 use crate::words::{lend, words_of};
 use callbacks::{ByKind, Callbacks};
 use irq_io::{Sink, Source};
-use irq_top::{Ending, Outcome, end_early, irq_main};
+use irq_top::{Ending, Outcome, Wanted, end_early, irq_main};
 use std::alloc::Global;
 use std::env::Args;
 use std::io;
@@ -26,7 +26,7 @@ pub fn command<S: Source, O: Sink, E: Sink>(
     err: &mut E,
 ) -> Outcome
     ensures form { (asked : Command) → IsForm args asked → result.ending ≡ Ending.Usage → ⊥ }
-    ensures usage { IsNoForm args → (result.ending ≡ Ending.Usage) ⊎ (result.ending ≡ Ending.NoMemory) }
+    ensures usage { IsNoForm args → (result.ending ≡ Ending.Usage) ⊎ (result.ending ≡ Ending.NoMemory Wanted.Making) }
     ensures not_text { IsNotText args → result.ending ≡ Ending.Usage }
     ensures unread { IsNoForm args → src.new ≡ src.old }
     ensures unasked { IsNoForm args → result.reports.reports ≡ [] }
@@ -62,7 +62,7 @@ fn with_words<S: Source, O: Sink, E: Sink>(
     err: &mut E,
 ) -> Outcome
     ensures form { (asked : Command) → Asks (map string_bytes words.now) asked → result.ending ≡ Ending.Usage → ⊥ }
-    ensures usage { AsksNothing (map string_bytes words.now) → (result.ending ≡ Ending.Usage) ⊎ (result.ending ≡ Ending.NoMemory) }
+    ensures usage { AsksNothing (map string_bytes words.now) → (result.ending ≡ Ending.Usage) ⊎ (result.ending ≡ Ending.NoMemory Wanted.Making) }
     ensures unread { AsksNothing (map string_bytes words.now) → src.new ≡ src.old }
     ensures unasked { AsksNothing (map string_bytes words.now) → result.reports.reports ≡ [] }
     ensures plays { (summary : Bool) → Asks (map string_bytes words.now) (commands.Play summary)
@@ -88,6 +88,6 @@ fn with_words<S: Source, O: Sink, E: Sink>(
             err,
             &Callbacks::new(ByKind),
         ),
-        Err(_) => end_early(alloc, Ending::NoMemory, err),
+        Err(_) => end_early(alloc, Ending::NoMemory(Wanted::Making), err),
     }
 }

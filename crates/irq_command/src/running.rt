@@ -10,7 +10,7 @@ ghost use Rattle.irq_command.specs.Arguments.{IsForm, IsNoForm, IsNotText};
 
 use crate::commands::command;
 use irq_io::{StdSink, StdSource};
-use irq_top::{Ending, Outcome, end_early};
+use irq_top::{Ending, Outcome, Wanted, end_early};
 use std::alloc::Global;
 use std::env::Args;
 use std::io::{self, BufWriter, Read, Write};
@@ -43,9 +43,9 @@ pub fn run<R: Read + Drop, O: Write + Drop, E: Write + Drop>(
     error: E,
 ) -> Ended<R, O, E>
     ensures status { result.status ≡ status_of result.outcome.ending }
-    ensures buffer { result.output ≡ None → result.outcome.ending ≡ Ending.NoMemory }
+    ensures buffer { result.output ≡ None → result.outcome.ending ≡ Ending.NoMemory Wanted.Making }
     ensures form { (asked : Command) → IsForm args asked → result.outcome.ending ≡ Ending.Usage → ⊥ }
-    ensures usage { IsNoForm args → (result.outcome.ending ≡ Ending.Usage) ⊎ (result.outcome.ending ≡ Ending.NoMemory) }
+    ensures usage { IsNoForm args → (result.outcome.ending ≡ Ending.Usage) ⊎ (result.outcome.ending ≡ Ending.NoMemory Wanted.Making) }
     ensures not_text { IsNotText args → IsSome result.output → result.outcome.ending ≡ Ending.Usage }
     ensures unread { IsNoForm args → result.input.reader ≡ input }
     ensures unasked { IsNoForm args → result.outcome.reports.reports ≡ [] }
@@ -80,8 +80,8 @@ pub fn run<R: Read + Drop, O: Write + Drop, E: Write + Drop>(
             }
         }
         Err(_) => Ended {
-            status: Ending::NoMemory.status(),
-            outcome: end_early(alloc, Ending::NoMemory, &mut error),
+            status: Ending::NoMemory(Wanted::Making).status(),
+            outcome: end_early(alloc, Ending::NoMemory(Wanted::Making), &mut error),
             input,
             output: None,
             error,

@@ -4,7 +4,7 @@ ghost use Rattle.std.specs.Vec.Iter.{into_iter_items};
 ghost use Rattle.irq_command.specs.Arguments.{AreText, IsRefusal, after_name};
 
 use irq_base::NoMemory;
-use irq_top::Ending;
+use irq_top::{Ending, Wanted};
 use std::alloc::Global;
 use std::env::Args;
 use std::io::{self, ErrorKind};
@@ -18,10 +18,10 @@ pub fn words_of(alloc: Global, args: io::Result<Args>) -> Result<Vec<String>, En
     match args {
         Ok(args) => match after_name(alloc, args) {
             Ok(words) => Ok(words),
-            Err(NoMemory) => Err(Ending::NoMemory),
+            Err(NoMemory) => Err(Ending::NoMemory(Wanted::Making)),
         },
         Err(error) if error.kind() == ErrorKind::InvalidData => Err(Ending::Usage),
-        Err(_) => Err(Ending::NoMemory),
+        Err(_) => Err(Ending::NoMemory(Wanted::Making)),
     }
 }
 

@@ -21,13 +21,13 @@ use Rattle.board_def.specs.Seen.{BoardSeen}
 use Rattle.board_def.specs.declared.rows.LineRow.{LineRow}
 use Rattle.board_def.proofs.Validity.{valid_row}
 use Rattle.board_play.specs.Lines.{Move, part, defs_of, lines_of}
-use Rattle.board_play.specs.Play.{End, Done, Plays}
-use Rattle.board_play.proofs.KeptAlways.{play_keeps}
+use Rattle.board_play.specs.Play.{Done, IsChosen, Plays}
+use Rattle.board_play.proofs.KeptAlways.{kept_play}
 use Rattle.board_play.proofs.Members.{defs_at, line_there}
-use Rattle.board_play.proofs.Parts.{others_have_none}
 use Rattle.board_play.proofs.Rest.{done_is_settled}
 use Rattle.irq_play.specs.Headline.{HoldsAt, KeepsLaws, LineHeadline, EachMapped, EachRefused}
 use Rattle.irq_play.proofs.OfRows.{is_mapped_at, takes_part, takes_no_part}
+use Rattle.irq_play.proofs.Others.{others_have_none}
 use Rattle.irq_play.proofs.Turned.{part_turned, turned_back}
 
 -- ---- one line
@@ -45,7 +45,7 @@ beginning def h before after legal is =
 holds_at : (def : LineDef) (h : List Entry) → IsValid def → IsLegal def h → HoldsAt def h
 holds_at def h valid legal = record { covered = is_covered_law def h valid legal; has_reason = has_reason def h valid legal; served_when_idle = served_when_idle def h valid legal }
 
-keeps_laws : (def : LineDef) (h : List Entry) → IsValid def → IsLegal def h → KeepsLaws def h
+pub keeps_laws : (def : LineDef) (h : List Entry) → IsValid def → IsLegal def h → KeepsLaws def h
 keeps_laws def h valid legal =
     record {
       legal = legal;
@@ -58,7 +58,7 @@ keeps_laws def h valid legal =
       always = λ before after is. holds_at def before valid (beginning def h before after legal is);
     }
 
-line_headline : (def : LineDef) (h : List Entry) → IsValid def → IsLegal def h → IsSettled def h → LineHeadline def h
+pub line_headline : (def : LineDef) (h : List Entry) → IsValid def → IsLegal def h → IsSettled def h → LineHeadline def h
 line_headline def h valid legal settled =
     record {
       laws = keeps_laws def h valid legal;
@@ -77,35 +77,35 @@ record IsLine (b : BoardSeen) (g : List Move) (row : LineRow) : Type 0 where
 is_line : (b : BoardSeen) (g : List Move) (i : ℕ) (row : LineRow) → slice_get b.lines i ≡ Some row → is_mapped_at (slice_get (layout_of b) i) ≡ true → IsLine b g row
 is_line b g i row at laid = let s = takes_part b i row at laid in record { place = s.place; at = line_there (defs_of b) (reverse g) s.place (line_of_row b row) s.at }
 
-legal_line : (b : BoardSeen) → IsBoard b → (picks : List Actor) (g : List Move) (end : End) → Plays b picks (reverse g) end → (row : LineRow) → IsLine b g row → IsLegal (line_of_row b row) (part row.line g)
-legal_line b board picks g end plays row line =
+legal_line : (b : BoardSeen) → IsBoard b → (picks : List Actor) (g : List Move) (left : List Actor) → IsChosen b picks (reverse g) left → (row : LineRow) → IsLine b g row → IsLegal (line_of_row b row) (part row.line g)
+legal_line b board picks g left chosen row line =
     subst (λ (past : List Entry). IsLegalPast (line_of_row b row) past) (part_turned row.line g)
-    ((play_keeps b picks (reverse g) end board plays).legal line.place (record { def = line_of_row b row; past = part row.line (reverse g) }) line.at)
+    ((kept_play b picks board (reverse g) left chosen).legal line.place (record { def = line_of_row b row; past = part row.line (reverse g) }) line.at)
 
 -- the history of a line that takes part is legal, and one that takes none has no entry
-pub legal_row : (b : BoardSeen) → IsBoard b → (picks : List Actor) (g : List Move) (end : End) → Plays b picks (reverse g) end → (i : ℕ) (row : LineRow) → slice_get b.lines i ≡ Some row → is_mapped_at (slice_get (layout_of b) i) ≡ true
+pub legal_row : (b : BoardSeen) → IsBoard b → (picks : List Actor) (g : List Move) (left : List Actor) → IsChosen b picks (reverse g) left → (i : ℕ) (row : LineRow) → slice_get b.lines i ≡ Some row → is_mapped_at (slice_get (layout_of b) i) ≡ true
     → IsLegal (line_of_row b row) (part row.line g)
-legal_row b board picks g end plays i row at laid = legal_line b board picks g end plays row (is_line b g i row at laid)
+legal_row b board picks g left chosen i row at laid = legal_line b board picks g left chosen row (is_line b g i row at laid)
 
-pub none_of_refused : (b : BoardSeen) → IsBoard b → (picks : List Actor) (g : List Move) (end : End) → Plays b picks (reverse g) end → (i : ℕ) (row : LineRow) → slice_get b.lines i ≡ Some row → is_mapped_at (slice_get (layout_of b) i) ≡ false
+pub none_of_refused : (b : BoardSeen) → IsBoard b → (picks : List Actor) (g : List Move) (left : List Actor) → IsChosen b picks (reverse g) left → (i : ℕ) (row : LineRow) → slice_get b.lines i ≡ Some row → is_mapped_at (slice_get (layout_of b) i) ≡ false
     → part row.line g ≡ []
-none_of_refused b board picks g end plays i row at laid =
+none_of_refused b board picks g left chosen i row at laid =
     sym (turned_back row.line g)
     ∙ ap (λ (past : List Entry). reverse past)
-    (others_have_none b picks (reverse g) end plays row.line (takes_no_part b board (lines_of b (reverse g)) (defs_at (defs_of b) (reverse g)) i row at laid))
+    (others_have_none b board picks (reverse g) left chosen row.line (takes_no_part b board (lines_of b (reverse g)) (defs_at (defs_of b) (reverse g)) i row at laid))
 
 -- ---- the headline's parts
 
-pub all_keep_laws : (b : BoardSeen) → IsBoard b → (picks : List Actor) (g : List Move) (end : End) → Plays b picks (reverse g) end → EachMapped b (λ row. KeepsLaws (line_of_row b row) (part row.line g))
-all_keep_laws b board picks g end plays i row virq path at laid =
-    keeps_laws (line_of_row b row) (part row.line g) (valid_row b i row board at) (legal_row b board picks g end plays i row at (ap is_mapped_at laid))
+pub all_keep_laws : (b : BoardSeen) → IsBoard b → (picks : List Actor) (g : List Move) (left : List Actor) → IsChosen b picks (reverse g) left → EachMapped b (λ row. KeepsLaws (line_of_row b row) (part row.line g))
+all_keep_laws b board picks g left chosen i row virq path at laid =
+    keeps_laws (line_of_row b row) (part row.line g) (valid_row b i row board at) (legal_row b board picks g left chosen i row at (ap is_mapped_at laid))
 
 pub all_end_well : (b : BoardSeen) → IsBoard b → (picks : List Actor) (g : List Move) → Plays b picks (reverse g) Done → EachMapped b (λ row. LineHeadline (line_of_row b row) (part row.line g))
 all_end_well b board picks g plays i row virq path at laid =
     let line = is_line b g i row at (ap is_mapped_at laid) in
-    line_headline (line_of_row b row) (part row.line g) (valid_row b i row board at) (legal_line b board picks g Done plays row line)
+    line_headline (line_of_row b row) (part row.line g) (valid_row b i row board at) (legal_line b board picks g plays.0 plays.1 row line)
     (subst (λ (h : List Entry). IsSettled (line_of_row b row) h) (turned_back row.line g)
     (done_is_settled b picks (reverse g) board plays line.place (record { def = line_of_row b row; past = part row.line (reverse g) }) line.at))
 
-pub refused_have_none : (b : BoardSeen) → IsBoard b → (picks : List Actor) (g : List Move) (end : End) → Plays b picks (reverse g) end → EachRefused b (λ row. part row.line g ≡ [])
-refused_have_none b board picks g end plays i row why at laid = none_of_refused b board picks g end plays i row at (ap is_mapped_at laid)
+pub refused_have_none : (b : BoardSeen) → IsBoard b → (picks : List Actor) (g : List Move) (left : List Actor) → IsChosen b picks (reverse g) left → EachRefused b (λ row. part row.line g ≡ [])
+refused_have_none b board picks g left chosen i row why at laid = none_of_refused b board picks g left chosen i row at (ap is_mapped_at laid)

@@ -1,8 +1,9 @@
-mod Writing
-mod Printable
+pub mod Writing
+pub mod Printable
 mod Turned
-mod OfRows
-mod Ended
+pub mod OfRows
+mod Others
+pub mod Ended
 mod Filling
 mod HandedOut
 mod Finished

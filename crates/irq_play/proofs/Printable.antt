@@ -41,7 +41,7 @@ refused_as error true true h = cc
 refused_as error true false h = cc
 refused_as error false later h = cc
 
-printable : (def : LineDef) (past : List Entry) (e : Entry) → IsDue def e past → IsPrintable e
+pub printable : (def : LineDef) (past : List Entry) (e : Entry) → IsDue def e past → IsPrintable e
 printable def past (entries.Request r d flags (links.Refused error) opened) due =
     opened_nothing def r d flags error opened past (request_due def r d flags (links.Refused error) opened past due)
 printable def past (entries.Affinity r mask (moves.Refused error)) due =
@@ -56,7 +56,7 @@ chosen_printable b picks (m ∷ g) left chosen =
     All-cons HasRow m g (printable on.line.def on.line.past m.1 (due_of on.line.def on.line.past who.actor m.1 on.due)) (chosen_printable b picks g chosen.0 chosen.1)
 
 -- what holds of each item holds of each of them the other way round
-turned : {X : Type 0} (P : X → Type 0) (xs : List X) → All P xs → All P (reverse xs)
+pub turned : {X : Type 0} (P : X → Type 0) (xs : List X) → All P xs → All P (reverse xs)
 turned P [] all = All-nil P
 turned P (x ∷ xs) all =
     subst (All P) (sym (reverse-append (x ∷ []) xs)) (All-push P (reverse xs) x (turned P xs (All-tail P x xs all)) (All-head P x xs all))

@@ -1,7 +1,8 @@
 -- The headline: what holds of the histories of a board's lines when its play has come to its end, and of the reports that
 -- hand them out. The moves of a play stand in the order in which they were made, the oldest first, and so do the entries of
 -- a history; `Plays` has the newest move first.
-use Rattle.std.specs.Prelude.{◌≡◌, ℕ, Some, List, [], ◌++◌, length, map, reverse, slice_get}
+use Rattle.std.specs.Prelude.{◌≡◌, ℕ, IsSome, Some, List, [], ◌++◌, length, map, reverse, slice_get}
+use Rattle.irq_base.specs.declared.entries.Actor.{Actor}
 use Rattle.irq_base.specs.declared.entries.Entry.{Entry}
 use Rattle.irq_base.specs.declared.lines.LineDef.{LineDef}
 use Rattle.irq_base.specs.declared.numbers.LineNo.{LineNo}
@@ -19,8 +20,8 @@ use Rattle.board_def.specs.Layout.{layout_of}
 use Rattle.board_def.specs.LineOf.{line_of_row}
 use Rattle.board_def.specs.Seen.{BoardSeen}
 use Rattle.board_def.specs.declared.rows.LineRow.{LineRow}
-use Rattle.board_play.specs.Lines.{Move, part}
-use Rattle.board_play.specs.Play.{Done, Full, Plays}
+use Rattle.board_play.specs.Lines.{Move, lines_of, part}
+use Rattle.board_play.specs.Play.{Done, Full, IsChosen, Plays, choice}
 
 -- ---- one line
 
@@ -111,3 +112,13 @@ pub record FullLog (b : BoardSeen) (g : List Move) (reports : List LineReport) (
   pub refused : EachRefused b (λ row. part row.line g ≡ [])
   pub length_is : length (part line g) ≡ len
   pub limit_is : len ≡ b.log
+
+-- The board was played until a step wanted memory: each of these moves was the next one, by the
+-- picks and the order, and there is a further one; `left` are the picks that are left.
+pub record CutShort (b : BoardSeen) (g : List Move) (reports : List LineReport) : Type 0 where
+  pub left : List Actor
+  pub so_far : IsChosen b b.picks (reverse g) left
+  pub next : IsSome (choice b (lines_of b (reverse g)) left)
+  pub handed_out : map told_by reports ≡ histories_of b g
+  pub mapped : EachMapped b (λ row. KeepsLaws (line_of_row b row) (part row.line g))
+  pub refused : EachRefused b (λ row. part row.line g ≡ [])

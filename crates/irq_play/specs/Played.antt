@@ -10,10 +10,11 @@ use Rattle.board_core.specs.Playing.{IsPlay}
 use Rattle.board_core.specs.Seen.{SystemSeen, board_lines}
 use Rattle.board_core.specs.declared.turns.PlayEnd.{PlayEnd}
 use Rattle.board_play.specs.Lines.{Move, lines_of}
-use Rattle.irq_play.specs.Headline.{Headline, FullLog}
+use Rattle.irq_play.specs.Headline.{CutShort, Headline, FullLog}
 use Rattle.irq_play.specs.Report.{report_text}
 use Rattle.irq_play.specs.declared.ending.PlayedEnd.{PlayedEnd}
 use Rattle.irq_play.specs.declared.ending.PlayedEnd.TheVariants as ends
+use Rattle.irq_play.specs.declared.ending.Wanted.TheVariants as wants
 
 -- The board was played to its end, the reports hand that play out, and it is what was printed: all of its report, or
 -- after a fault a beginning of it.
@@ -22,12 +23,14 @@ pub record IsPrinted (b : BoardSeen) (summary : Bool) (reports : List LineReport
   pub headline : Headline b moves reports
   pub prints : WritesAll before now (report_text b summary moves) end
 
--- the same by how the play ended; nothing is said to be printed of one that didn't come to its end
+-- The same by how the play ended; nothing is said to be printed of one that didn't come to its end.
+-- Want of memory is free but for a step's: then the board was played up to it.
 abbrev pub PlaysBoard : BoardSeen → Bool → List LineReport → Option (List ℕ) → Option (List ℕ) → PlayedEnd → Type 0
 PlaysBoard b summary reports before now ends.Done = IsPrinted b summary reports before now writes.Done
 PlaysBoard b summary reports before now ends.WriteFault = IsPrinted b summary reports before now writes.Failed
 PlaysBoard b summary reports before now (ends.LogFull line len) = (moves : List Move) × FullLog b moves reports line len
-PlaysBoard b summary reports before now ends.NoMemory = reports ≡ []
+PlaysBoard b summary reports before now (ends.NoMemory wants.Step) = (moves : List Move) × CutShort b moves reports
+PlaysBoard b summary reports before now (ends.NoMemory wants.Making) = reports ≡ []
 
 -- A system in which the board was played, and so its play ended. Where memory was refused it is as the play so far left
 -- it, and there is a next move.

@@ -3,6 +3,16 @@
 use irq_base::LineNo;
 use irq_io::WriteEnd;
 
+/// What wanted memory, and was refused it.
+#[derive(Clone, Copy, PartialEq, Eq)]
+pub enum Wanted {
+    /// What is taken beside the steps of a play: to read an input, to lay and make the lines, to
+    /// hand out the reports.
+    Making,
+    /// A step of the play: there was a next move, and it wasn't made.
+    Step,
+}
+
 /// How a board's play ended, and what was printed of it.
 #[derive(Clone, Copy, PartialEq, Eq)]
 pub enum PlayedEnd {
@@ -13,7 +23,7 @@ pub enum PlayedEnd {
     /// An entry was due on the line, whose history has the greatest length. `len`: that many entries. Nothing is printed.
     LogFull { line: LineNo, len: u32 },
     /// Memory was wanted and refused. Nothing is printed.
-    NoMemory,
+    NoMemory(Wanted),
 }
 
 impl From<WriteEnd> for PlayedEnd {

@@ -3,10 +3,10 @@ ghost use Rattle.std.specs.Prelude.{◌≡◌, ◌≤◌, ◌++◌, true, false,
 ghost use Rattle.board_core.specs.Seen.{board_lines};
 ghost use Rattle.board_def.specs.Layout.{layout_of};
 ghost use Rattle.irq_io.specs.Faults.{Counts};
-ghost use Rattle.irq_io.specs.Whole.{WritesAll, writing_failed};
+ghost use Rattle.irq_io.specs.Whole.{HandsOn, KeepsNone, WritesAll, writing_failed};
 ghost use Rattle.irq_play.specs.Headline.{told_by};
 ghost use Rattle.irq_play.specs.Played.{IsPlayed, IsPrinted};
-ghost use Rattle.irq_play.specs.Printing.{HasRow, HandsOn, KeepsNone};
+ghost use Rattle.irq_play.specs.Printing.{HasRow};
 ghost use Rattle.irq_play.specs.Report.{report_text, totals_text};
 ghost use Rattle.irq_play.specs.Reporting.{HasRoom};
 ghost use Rattle.irq_play.specs.Summable.{IsSummable};

@@ -8,9 +8,9 @@
 mod ending;
 mod finishing;
 mod playing;
-mod printing;
-mod reporting;
-mod summaries;
+pub mod printing;
+pub mod reporting;
+pub mod summaries;
 
-pub use ending::PlayedEnd;
+pub use ending::{PlayedEnd, Wanted};
 pub use playing::{PlayedBoard, play_and_print};

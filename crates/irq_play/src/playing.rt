@@ -3,12 +3,12 @@ ghost use Rattle.std.specs.Prelude.{◌≡◌, [], IfOk, IsTrue, false, length};
 ghost use Rattle.board_def.specs.Layout.{layout_of};
 ghost use Rattle.board_core.specs.Making.{MakesAll};
 ghost use Rattle.irq_io.specs.Faults.{Counts};
-ghost use Rattle.irq_play.specs.Headline.{FullLog};
+ghost use Rattle.irq_play.specs.Headline.{CutShort, FullLog};
 ghost use Rattle.irq_play.specs.Ends.{is_printing, is_write_fault};
 ghost use Rattle.irq_play.specs.Played.{IsPlayed, PlaysBoard};
 ghost use Rattle.irq_play.specs.Reporting.{HasRoom};
 
-use crate::ending::PlayedEnd;
+use crate::ending::{PlayedEnd, Wanted};
 use crate::finishing::{print_play, print_summary};
 use crate::reporting::ReportRoom;
 use board_core::{PlayEnd, System};
@@ -28,13 +28,14 @@ use std::alloc::Global;
 pub struct PlayedBoard {
     /// How the play and its printing ended.
     pub end: PlayedEnd,
-    /// One report a line of the board, in its order; none where memory was refused.
+    /// One report a line of the board, in its order; none where there was no memory to begin.
     pub reports: Reports,
 }
 
-/// Lays the board's lines over its domains, plays them by the stated order with the board's picks, and prints the play,
-/// or with `summary` a summary of it. Handlers are called as they are due. All memory is taken before the first row is
-/// printed.
+/// Lays the board's lines over its domains, plays them by the stated order with the board's picks,
+/// and prints the play, or with `summary` a summary of it. Handlers are called as they are due. All
+/// memory but that of the steps is taken before the first of them, and all of it before the first
+/// row is printed.
 pub fn play_and_print<O: Sink, H: Handler>(
     alloc: Global,
     board: &Board,
@@ -51,12 +52,15 @@ pub fn play_and_print<O: Sink, H: Handler>(
     let Ok((domains, layout)) = lay(alloc, board) else {
         return unplayed(alloc);
     };
+    let Ok(room) = ReportRoom::new(alloc, board) else {
+        return unplayed(alloc);
+    };
     let maker = MakesChainLine::of_board(&domains, board);
     let played = play_lines::<Line<Chain>, MakesChainLine<'_>, H>(
         alloc, board, layout, &maker, handlers,
     );
     match played {
-        Ok((system, end)) => report_play(alloc, board, summary, system, end, out),
+        Ok((system, end)) => report_play(board, summary, system, end, room, out),
         Err(NoMemory) => unplayed(alloc),
     }
 }
@@ -80,27 +84,25 @@ fn play_lines<'b, L: IrqLine, M: MakesLine<L>, H: Handler>(
 
 /// Reports a play that ended so, and prints it where it came to its end.
 fn report_play<O: Sink, L: IrqLine>(
-    alloc: Global,
     board: &Board,
     summary: bool,
     system: System<'_, L>,
     end: PlayEnd,
+    room: ReportRoom,
     out: &mut O,
 ) -> PlayedBoard
-    requires { IsPlayed board.now system end }
+    requires played { IsPlayed board.now system end }
+    requires room { HasRoom (length board.now.lines) room }
     ensures plays { PlaysBoard board.now summary result.reports.reports (O.written out.old) (O.written out.new) result.end }
     ensures handed_on { result.end ≡ PlayedEnd.Done → O.handed_on out.new ≡ O.written out.new }
     ensures emptied { result.end ≡ PlayedEnd.Done → O.kept out.new ≡ [] }
     ensures write_fault { Counts (O.faults out.old) (O.faults out.new) (is_write_fault result.end) }
     ensures silent { is_printing result.end ≡ false → out.new ≡ out.old }
 {
-    let Ok(room) = ReportRoom::new(alloc, board) else {
-        return unplayed(alloc);
-    };
     match end {
         PlayEnd::Done => print_done(board, summary, system, room, out),
         PlayEnd::Full { line, len } => report_full(board, system, room, line, len),
-        PlayEnd::NoMemory => unplayed(alloc),
+        PlayEnd::NoMemory => report_cut(board, system, room),
     }
 }
 
@@ -151,13 +153,27 @@ fn report_full<L: IrqLine>(
     }
 }
 
-/// What comes of a board that memory was refused for.
+/// Reports a play that ended where a step wanted memory.
+fn report_cut<L: IrqLine>(board: &Board, system: System<'_, L>, room: ReportRoom) -> PlayedBoard
+    requires played { IsPlayed board.now system PlayEnd.NoMemory }
+    requires room { HasRoom (length board.now.lines) room }
+    ensures end { result.end ≡ PlayedEnd.NoMemory Wanted.Step }
+    ensures cut { CutShort board.now system.entry.log result.reports.reports }
+{
+    board.is_board();
+    PlayedBoard {
+        end: PlayedEnd::NoMemory(Wanted::Step),
+        reports: room.fill(board, system.take_lines()),
+    }
+}
+
+/// What comes of a board that memory was refused for before its play.
 fn unplayed(alloc: Global) -> PlayedBoard
-    ensures end { result.end ≡ PlayedEnd.NoMemory }
+    ensures end { result.end ≡ PlayedEnd.NoMemory Wanted.Making }
     ensures reports { result.reports.reports ≡ [] }
 {
     PlayedBoard {
-        end: PlayedEnd::NoMemory,
+        end: PlayedEnd::NoMemory(Wanted::Making),
         reports: Reports::new(alloc),
     }
 }

@@ -3,9 +3,9 @@ ghost use Rattle.std.specs.Prelude.{◌≡◌, ℕ, ◌++◌, All, length};
 ghost use Rattle.board_def.specs.Layout.{layout_of};
 ghost use Rattle.irq_io.specs.Faults.{Counts};
 ghost use Rattle.irq_io.specs.Told.{Stays};
-ghost use Rattle.irq_io.specs.Whole.{WritesAll, writing_failed};
+ghost use Rattle.irq_io.specs.Whole.{HandsOn, KeepsNone, WritesAll, writing_failed};
 ghost use Rattle.log_text.specs.LayoutRows.{layout_rows};
-ghost use Rattle.irq_play.specs.Printing.{HasRow, HandsOn, KeepsNone};
+ghost use Rattle.irq_play.specs.Printing.{HasRow};
 ghost use Rattle.irq_play.specs.Report.{moves_text};
 
 use board_core::Moves;
@@ -16,7 +16,7 @@ use log_text::{entry_row, layout_row};
 use text_row::TextRow;
 
 /// Prints where each line lies, in the board's order, by way of the row.
-pub(crate) fn print_layout<O: Sink>(
+pub fn print_layout<O: Sink>(
     out: &mut O,
     row: &mut TextRow,
     board: &Board,
@@ -37,7 +37,7 @@ pub(crate) fn print_layout<O: Sink>(
 }
 
 /// Prints the rows of the moves that are left, the oldest first, by way of the row.
-pub(crate) fn print_moves<O: Sink, L: IrqLine>(
+pub fn print_moves<O: Sink, L: IrqLine>(
     out: &mut O,
     row: &mut TextRow,
     moves: &mut Moves<'_, L>,
@@ -57,7 +57,7 @@ pub(crate) fn print_moves<O: Sink, L: IrqLine>(
 }
 
 /// Has the sink hand on all that was written to it.
-pub(crate) fn hand_on<O: Sink>(out: &mut O) -> WriteEnd
+pub fn hand_on<O: Sink>(out: &mut O) -> WriteEnd
     ensures content { Stays (O.written out.old) (O.written out.new) }
     ensures handed { HandsOn (O.handed_on out.new) (O.written out.new) result }
     ensures emptied { KeepsNone (O.kept out.new) result }

@@ -12,7 +12,7 @@ use log_summary::{summary_row, total_row};
 use text_row::TextRow;
 
 /// Prints a row for each report, in their order, and the total, by way of the row.
-pub(crate) fn print_totals<O: Sink>(out: &mut O, row: &mut TextRow, reports: &Reports) -> WriteEnd
+pub fn print_totals<O: Sink>(out: &mut O, row: &mut TextRow, reports: &Reports) -> WriteEnd
     requires few { length reports.now.reports ≤ 64 }
     requires summable { All IsSummable reports.now.reports }
     ensures content { WritesAll (O.written out.old) (O.written out.new) (totals_text (map told_by reports.now.reports)) result }

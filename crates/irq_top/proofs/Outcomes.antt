@@ -13,6 +13,7 @@ use Rattle.irq_play.specs.Ends as play_ends
 use Rattle.irq_play.specs.Played.{PlaysBoard}
 use Rattle.irq_play.specs.declared.ending.PlayedEnd.{PlayedEnd}
 use Rattle.irq_play.specs.declared.ending.PlayedEnd.TheVariants as plays
+use Rattle.irq_play.specs.declared.ending.Wanted.TheVariants as wants
 use Rattle.irq_top.specs.declared.ending.Ending.{Ending}
 use Rattle.irq_top.specs.declared.ending.Ending.TheVariants as endings
 use Rattle.irq_top.specs.declared.inputs.InputRefused.{InputRefused}
@@ -38,7 +39,8 @@ module _ (summary : Bool) (told left before now : Option (List ℕ)) (reports : 
   plays_input endings.Usage b read stated keeps played = played
   plays_input (endings.Board fault) b read stated keeps played = absurd played
   plays_input endings.ReadFault b read stated keeps played = absurd played
-  plays_input endings.NoMemory b read stated keeps played = played
+  plays_input (endings.NoMemory wants.Step) b read stated keeps played = record { board = b; stated = stated; read = read_to_end told left b read; keeps_rules = keeps; played = played }
+  plays_input (endings.NoMemory wants.Making) b read stated keeps played = played
 
 -- a board that was played came without a read fault
 pub played_unread : (b : BoardSeen) (summary : Bool) (reports : List LineReport) (before now : Option (List ℕ)) (ending : Ending) → PlaysAs b summary reports before now ending → is_read_fault_end ending ≡ false

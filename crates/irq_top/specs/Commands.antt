@@ -11,19 +11,20 @@ use Rattle.irq_check.specs.declared.printing.CheckEnd.{CheckEnd}
 use Rattle.irq_check.specs.declared.printing.CheckEnd.TheVariants as checks
 use Rattle.irq_play.specs.Played.{PlaysBoard}
 use Rattle.irq_play.specs.declared.ending.PlayedEnd.TheVariants as plays
+use Rattle.irq_play.specs.declared.ending.Wanted.TheVariants as wants
 use Rattle.irq_top.specs.Reading.{IsStated, ReadsBoard}
 use Rattle.irq_top.specs.declared.inputs.InputRefused.{InputRefused}
 use Rattle.irq_top.specs.declared.inputs.InputRefused.TheVariants as refusals
 use Rattle.irq_top.specs.declared.ending.Ending.{Ending}
 use Rattle.irq_top.specs.declared.ending.Ending.TheVariants as endings
 
--- a board was played: as the headline says where all is printed and after a fault of the output, and else until a log
--- was full
+-- a board was played: as the headline says where all is printed and after a fault of the output, and
+-- else until a log was full or a step wanted memory
 abbrev pub PlaysAs : BoardSeen → Bool → List LineReport → Option (List ℕ) → Option (List ℕ) → Ending → Type 0
 PlaysAs b summary reports before now endings.Done = PlaysBoard b summary reports before now plays.Done
 PlaysAs b summary reports before now endings.WriteFault = PlaysBoard b summary reports before now plays.WriteFault
 PlaysAs b summary reports before now (endings.LogFull line len) = PlaysBoard b summary reports before now (plays.LogFull line len)
-PlaysAs b summary reports before now endings.NoMemory = reports ≡ []
+PlaysAs b summary reports before now (endings.NoMemory wanted) = PlaysBoard b summary reports before now (plays.NoMemory wanted)
 PlaysAs b summary reports before now _ = ⊥
 
 -- where the source told its bytes, all of them were read
@@ -44,14 +45,15 @@ pub record RefusesInput (told left : Option (List ℕ)) (reports : List LineRepo
   pub read : ReadsBoard told left (Err refused)
   pub reports_are : reports ≡ []
 
--- `play`: the board is played; or the source gave none; want of memory is free
+-- `play`: the board is played; or the source gave none; want of memory is free but for a step's
 abbrev pub Plays : Bool → Option (List ℕ) → Option (List ℕ) → List LineReport → Option (List ℕ) → Option (List ℕ) → Ending → Type 0
 Plays summary told left reports before now endings.Done = PlaysInput summary told left reports before now endings.Done
 Plays summary told left reports before now endings.WriteFault = PlaysInput summary told left reports before now endings.WriteFault
 Plays summary told left reports before now (endings.LogFull line len) = PlaysInput summary told left reports before now (endings.LogFull line len)
 Plays summary told left reports before now (endings.Board fault) = RefusesInput told left reports (refusals.Fault fault)
 Plays summary told left reports before now endings.ReadFault = RefusesInput told left reports refusals.ReadFault
-Plays summary told left reports before now endings.NoMemory = reports ≡ []
+Plays summary told left reports before now (endings.NoMemory wants.Step) = PlaysInput summary told left reports before now (endings.NoMemory wants.Step)
+Plays summary told left reports before now (endings.NoMemory wants.Making) = reports ≡ []
 Plays summary told left reports before now _ = ⊥
 
 -- the input was checked, with that end, and no history is handed out
@@ -68,7 +70,7 @@ Checks told left reports before now (endings.Malformed row) = ChecksInput told l
 Checks told left reports before now endings.WriteFault = ChecksInput told left reports before now checks.WriteFault
 Checks told left reports before now (endings.Board fault) = ChecksInput told left reports before now (checks.Fault fault)
 Checks told left reports before now endings.ReadFault = ChecksInput told left reports before now checks.ReadFault
-Checks told left reports before now endings.NoMemory = reports ≡ []
+Checks told left reports before now (endings.NoMemory wants.Making) = reports ≡ []
 Checks told left reports before now _ = ⊥
 
 -- `gen N`: the board of that number is played, and summed up

@@ -11,6 +11,7 @@ use Rattle.irq_check.specs.declared.printing.CheckEnd.{CheckEnd}
 use Rattle.irq_check.specs.declared.printing.CheckEnd.TheVariants as checks
 use Rattle.irq_play.specs.declared.ending.PlayedEnd.{PlayedEnd}
 use Rattle.irq_play.specs.declared.ending.PlayedEnd.TheVariants as plays
+use Rattle.irq_play.specs.declared.ending.Wanted.TheVariants as wants
 use Rattle.irq_top.specs.declared.inputs.InputRefused.{InputRefused}
 use Rattle.irq_top.specs.declared.inputs.InputRefused.TheVariants as refusals
 use Rattle.irq_top.specs.declared.ending.Ending.{Ending}
@@ -25,7 +26,7 @@ status_of (endings.Board fault) = 3
 status_of endings.ReadFault = 4
 status_of endings.WriteFault = 5
 status_of (endings.LogFull line len) = 6
-status_of endings.NoMemory = 7
+status_of (endings.NoMemory wanted) = 7
 
 -- where a text has its fault, and which
 abbrev pub fault_row : BoardFault → List ℕ
@@ -44,18 +45,18 @@ error_text (endings.Board fault) = fault_row fault
 error_text endings.ReadFault = codes "read fault\n"
 error_text endings.WriteFault = codes "write fault\n"
 error_text (endings.LogFull line len) = full_row line len
-error_text endings.NoMemory = codes "out of memory\n"
+error_text (endings.NoMemory wanted) = codes "out of memory\n"
 
 abbrev pub ending_of_refusal : InputRefused → Ending
 ending_of_refusal (refusals.Fault fault) = endings.Board fault
 ending_of_refusal refusals.ReadFault = endings.ReadFault
-ending_of_refusal refusals.NoMemory = endings.NoMemory
+ending_of_refusal refusals.NoMemory = endings.NoMemory wants.Making
 
 abbrev pub ending_of_play : PlayedEnd → Ending
 ending_of_play plays.Done = endings.Done
 ending_of_play plays.WriteFault = endings.WriteFault
 ending_of_play (plays.LogFull line len) = endings.LogFull line len
-ending_of_play plays.NoMemory = endings.NoMemory
+ending_of_play (plays.NoMemory wanted) = endings.NoMemory wanted
 
 abbrev pub ending_of_check : CheckEnd → Ending
 ending_of_check (checks.Answered answers.Lawful) = endings.Done
@@ -64,7 +65,7 @@ ending_of_check (checks.Answered (answers.Malformed row)) = endings.Malformed ro
 ending_of_check (checks.Fault fault) = endings.Board fault
 ending_of_check checks.ReadFault = endings.ReadFault
 ending_of_check checks.WriteFault = endings.WriteFault
-ending_of_check checks.NoMemory = endings.NoMemory
+ending_of_check checks.NoMemory = endings.NoMemory wants.Making
 
 abbrev pub is_read_fault_end : Ending → Bool
 is_read_fault_end endings.ReadFault = true

@@ -13,7 +13,7 @@ use callbacks::{Callbacks, Handler};
 use irq_base::NoMemory;
 use irq_check::check_and_print;
 use irq_io::{Sink, Source};
-use irq_play::play_and_print;
+use irq_play::{Wanted, play_and_print};
 use std::alloc::Global;
 
 /// `play`: reads a board, plays it, and prints its log, or a summary.
@@ -55,7 +55,7 @@ pub(crate) fn play_generated<O: Sink, H: Handler>(
 {
     match generate(alloc, n) {
         Ok(board) => play_board(alloc, &board, true, out, handlers),
-        Err(NoMemory) => Outcome::without_reports(alloc, Ending::NoMemory),
+        Err(NoMemory) => Outcome::without_reports(alloc, Ending::NoMemory(Wanted::Making)),
     }
 }
 

@@ -6,7 +6,7 @@ use crate::inputs::InputRefused;
 use board_text::BoardFault;
 use irq_base::LineNo;
 use irq_check::{Answer, CheckEnd};
-use irq_play::PlayedEnd;
+use irq_play::{PlayedEnd, Wanted};
 
 /// How the work ended.
 #[derive(Clone, Copy, PartialEq, Eq)]
@@ -27,8 +27,8 @@ pub enum Ending {
     WriteFault,
     /// A further entry was due where the line's history has its greatest length. `len`: that many entries.
     LogFull { line: LineNo, len: u32 },
-    /// Memory was wanted and refused.
-    NoMemory,
+    /// Memory was wanted and refused: by a step of a play, or by anything else that isn't one.
+    NoMemory(Wanted),
 }
 
 impl Ending {
@@ -44,7 +44,7 @@ impl Ending {
             Ending::ReadFault => 4,
             Ending::WriteFault => 5,
             Ending::LogFull { .. } => 6,
-            Ending::NoMemory => 7,
+            Ending::NoMemory(_) => 7,
         }
     }
 }
@@ -59,7 +59,7 @@ impl From<InputRefused> for Ending {
         match refused {
             InputRefused::Fault(fault) => Ending::Board(fault),
             InputRefused::ReadFault => Ending::ReadFault,
-            InputRefused::NoMemory => Ending::NoMemory,
+            InputRefused::NoMemory => Ending::NoMemory(Wanted::Making),
         }
     }
 }
@@ -75,7 +75,7 @@ impl From<PlayedEnd> for Ending {
             PlayedEnd::Done => Ending::Done,
             PlayedEnd::WriteFault => Ending::WriteFault,
             PlayedEnd::LogFull { line, len } => Ending::LogFull { line, len },
-            PlayedEnd::NoMemory => Ending::NoMemory,
+            PlayedEnd::NoMemory(wanted) => Ending::NoMemory(wanted),
         }
     }
 }
@@ -97,7 +97,7 @@ impl From<CheckEnd> for Ending {
             CheckEnd::Fault(fault) => Ending::Board(fault),
             CheckEnd::ReadFault => Ending::ReadFault,
             CheckEnd::WriteFault => Ending::WriteFault,
-            CheckEnd::NoMemory => Ending::NoMemory,
+            CheckEnd::NoMemory => Ending::NoMemory(Wanted::Making),
         }
     }
 }

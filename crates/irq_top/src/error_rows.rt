@@ -21,7 +21,7 @@ pub fn error_row(row: &mut TextRow, ending: Ending)
         Ending::ReadFault => row.push_bytes(b"read fault\n"),
         Ending::WriteFault => row.push_bytes(b"write fault\n"),
         Ending::LogFull { line, len } => push_full_log(row, line, len),
-        Ending::NoMemory => row.push_bytes(b"out of memory\n"),
+        Ending::NoMemory(_) => row.push_bytes(b"out of memory\n"),
     }
 }
 

@@ -5,8 +5,9 @@ use crate::ending::Ending;
 use irq_base::Reports;
 use std::alloc::Global;
 
-/// What the top call hands out: how it ended, and the histories that were taken out of the lines, one report a
-/// line where a board was played, else none.
+/// What the top call hands out: how it ended, and the histories that were taken out of the lines,
+/// one report a line where a board was played, if only up to a full log or a step that wanted
+/// memory, else none.
 #[derive(Drop)]
 pub struct Outcome {
     /// How the call ended, with its exit status.

@@ -30,7 +30,7 @@ returns-clause-printed g c =
     let layout = layout_rows b in
     let totals = totals_text (histories_of b s.log) in
     let told : map told_by reports ≡ histories_of b s.log =
-    told_done b s c.requires.played (map g.L.IrqLine.seen c.take_lines.result.items) c.take_lines.ensures reports c.fill-reports.ensures in
+    told_done b s c.requires.played (map g.L.IrqLine.seen c.take_lines.result.items) c.take_lines.ensures reports c.fill-reports.ensures c.is_board.ensures.board in
     record {
       moves = s.log;
       headline = headline_done b s c.requires.played (map g.L.IrqLine.seen c.take_lines.result.items) c.take_lines.ensures reports c.fill-reports.ensures c.is_board.ensures.board;
