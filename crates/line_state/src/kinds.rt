@@ -4,7 +4,7 @@ ghost use Rattle.irq_model.specs.Valid.{HasDistinctDevices};
 ghost use Rattle.device_table.specs.Rows.{at};
 ghost use Rattle.line_marks.specs.Kinds.{kinds_of, kind_at};
 
-use indexmap::IndexMap;
+use device_table::DeviceTable;
 use irq_base::{DevNo, Kind, LineDef, NoMemory};
 use std::alloc::Global;
 use std::marker::Model;
@@ -12,7 +12,7 @@ use std::marker::Model;
 /// The kinds of a line's devices by their numbers. Contracts see the list of the numbers with the kinds.
 #[derive(Drop)]
 pub(crate) struct Kinds {
-    rows: IndexMap<DevNo, Kind>,
+    rows: DeviceTable<Kind>,
 }
 
 impl Model for Kinds {
@@ -22,7 +22,7 @@ impl Model for Kinds {
 
     ghost Value = { List (DevNo × Kind) };
 
-    ghost view = { λ k. k.rows.entries };
+    ghost view = { λ k. k.rows };
 }
 
 impl Kinds {
@@ -32,7 +32,7 @@ impl Kinds {
         ensures { IfOk result (λ k. k ≡ kinds_of def.now) }
     {
         let mut kinds = Kinds {
-            rows: IndexMap::new(alloc),
+            rows: DeviceTable::empty(alloc),
         };
         for i in 0..def.devices.len() {
             if let Some(device) = def.devices.get(i) {
@@ -47,7 +47,7 @@ impl Kinds {
         requires { at self.old dev ≡ None }
         ensures { OnOk result (self.new ≡ self.old ++ (dev, kind) ∷ []) }
     {
-        self.rows.insert(dev, kind)?;
+        self.rows.add(dev, kind)?;
         Ok(())
     }
 
@@ -55,8 +55,8 @@ impl Kinds {
     pub(crate) fn get(&self, dev: DevNo) -> Kind
         ensures { result ≡ kind_at self.now dev }
     {
-        match self.rows.get(&dev) {
-            Some(kind) => *kind,
+        match self.rows.get(dev) {
+            Some(kind) => kind,
             None => Kind::Stuck,
         }
     }
