@@ -1,2 +1,5 @@
 mod Cutting
 mod WholeInput
+mod OneLog
+mod OneVerdict
+mod OneAnswer

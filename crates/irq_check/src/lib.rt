@@ -9,12 +9,14 @@
 pub mod answers;
 pub mod checking;
 pub mod inputs;
+mod laws;
 pub mod parts;
 pub mod printing;
 
 pub use answers::{Answer, answer_row};
 pub use checking::{CheckRefused, LONGEST_INPUT, check_bytes};
 pub use inputs::InputRefused;
+pub use laws::answer_is_one;
 pub use parts::cut_input;
 pub use printing::{CheckEnd, check_and_print};
 
