@@ -19,6 +19,3 @@ pub mod vector;
 pub use controller::{Controller, ControllerKind};
 pub use kinds::{Eoi, EoiChip, Latch, LatchChip, Level, LevelChip, Lpi, LpiChip, Plain, PlainChip};
 pub use vector::VectorChip;
-
-#[cfg(test)]
-mod tests;

@@ -10,6 +10,3 @@ pub mod message;
 
 pub use level::MsiLevel;
 pub use message::{Message, compose};
-
-#[cfg(test)]
-mod tests;

@@ -14,6 +14,3 @@ pub mod tree;
 pub use linear::LinearMap;
 pub use map::{AssocAnswer, DisposeAnswer, Revmap};
 pub use tree::TreeMap;
-
-#[cfg(test)]
-mod tests;

@@ -3,7 +3,7 @@
 ghost use Rattle.std.specs.Prelude.{◌≡◌, true, false};
 ghost use Rattle.irq_base.specs.Cell.{is_edge_cell};
 
-use crate::{EoiChip, LatchChip, LevelChip, LpiChip, PlainChip, VectorChip};
+use chip_kinds::{EoiChip, LatchChip, LevelChip, LpiChip, PlainChip, VectorChip};
 use irq_base::{Chip, CpuNo};
 
 /// Whether an edge is presented that came while masked, once it is open; one that came while open; the same once it is

@@ -1,5 +1,5 @@
 //! One level through its calls, and messages, by hand.
-use crate::{Message, MsiLevel, compose};
+use chip_msi::{Message, MsiLevel, compose};
 use irq_base::CpuNo;
 
 #[test]

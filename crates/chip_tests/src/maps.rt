@@ -1,6 +1,6 @@
 //! The worked row on both maps, and what stands lowest between the calls, by hand.
-use crate::{AssocAnswer, DisposeAnswer, LinearMap, Revmap, TreeMap};
 use irq_base::NoMemory;
+use revmap::{AssocAnswer, DisposeAnswer, LinearMap, Revmap, TreeMap};
 
 /// What is asked of a map, with its answer.
 #[derive(Clone, Copy)]
