@@ -20,6 +20,7 @@ use Rattle.board_play.proofs.Members.{found, past_at}
 use Rattle.irq_play.specs.Headline.{CutShort, Headline, FullLog, LineHistory, history_of, histories_of, told_by}
 use Rattle.irq_play.specs.Reporting.{entries_of, history_among}
 use Rattle.irq_play.specs.Summable.{IsSummable}
+use Rattle.irq_play.proofs.Ample.{not_full}
 use Rattle.irq_play.proofs.Ended.{all_end_well, all_keep_laws, refused_have_none, legal_row, none_of_refused}
 use Rattle.irq_play.proofs.OfRows.{is_mapped_at}
 use Rattle.irq_play.proofs.Others.{others_have_none}
@@ -63,6 +64,7 @@ full_log b board g reports line len plays long told =
       refused = refused_have_none b board b.picks g plays.0 plays.1;
       length_is = sym (length-reverse (part line g)) ∙ (ap (λ (es : List Entry). length es) (sym (part_turned line g)) ∙ long);
       limit_is = sym long ∙ plays.2.length;
+      scarce = not_full b board b.picks (reverse g) line plays;
     }
 
 pub cut_short : (b : BoardSeen) → IsBoard b → (g : List Move) (reports : List LineReport) (left : List Actor) → IsChosen b b.picks (reverse g) left → IsSome (choice b (lines_of b (reverse g)) left) → map told_by reports ≡ histories_of b g

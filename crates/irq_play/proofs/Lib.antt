@@ -1,3 +1,4 @@
+pub mod Ample
 pub mod Writing
 pub mod Printable
 mod Turned

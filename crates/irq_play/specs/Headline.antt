@@ -1,12 +1,13 @@
 -- The headline: what holds of the histories of a board's lines when its play has come to its end, and of the reports that
 -- hand them out. The moves of a play stand in the order in which they were made, the oldest first, and so do the entries of
 -- a history; `Plays` has the newest move first.
-use Rattle.std.specs.Prelude.{◌≡◌, ℕ, IsSome, Some, List, [], ◌++◌, length, map, reverse, slice_get}
+use Rattle.std.specs.Prelude.{◌≡◌, ◌≤◌, ℕ, IsSome, Some, List, [], ◌++◌, length, map, reverse, slice_get}
 use Rattle.irq_base.specs.declared.entries.Actor.{Actor}
 use Rattle.irq_base.specs.declared.entries.Entry.{Entry}
 use Rattle.irq_base.specs.declared.lines.LineDef.{LineDef}
 use Rattle.irq_base.specs.declared.numbers.LineNo.{LineNo}
 use Rattle.irq_base.specs.declared.reporting.LineReport.{LineReport}
+use Rattle.irq_model.specs.Bounds.{bound}
 use Rattle.irq_model.specs.Laws.{NoOverlap, IsSilentAfterFree, KeepsOneshot, TakesAreCounted, IsSynchronised, IsServedWhenIdle}
 use Rattle.irq_model.specs.Legal.{IsLegal}
 use Rattle.irq_model.specs.Owed.{IsCovered, IsDelivered}
@@ -20,7 +21,7 @@ use Rattle.board_def.specs.Layout.{layout_of}
 use Rattle.board_def.specs.LineOf.{line_of_row}
 use Rattle.board_def.specs.Seen.{BoardSeen}
 use Rattle.board_def.specs.declared.rows.LineRow.{LineRow}
-use Rattle.board_play.specs.Lines.{Move, lines_of, part}
+use Rattle.board_play.specs.Lines.{Move, defs_of, lines_of, part}
 use Rattle.board_play.specs.Play.{Done, Full, IsChosen, Plays, choice}
 
 -- ---- one line
@@ -92,6 +93,10 @@ histories_of b g = map (history_of g) b.lines
 abbrev pub told_by : LineReport → LineHistory
 told_by report = (report.line, report.history.entries)
 
+-- each line that takes part has room for the longest history that its definition allows
+abbrev pub IsAmple : BoardSeen → Type 0
+IsAmple b = (i : ℕ) (def : LineDef) → slice_get (defs_of b) i ≡ Some def → bound def ≤ b.log
+
 -- ---- the play
 
 -- the board was played to its end, with these moves
@@ -112,6 +117,8 @@ pub record FullLog (b : BoardSeen) (g : List Move) (reports : List LineReport) (
   pub refused : EachRefused b (λ row. part row.line g ≡ [])
   pub length_is : length (part line g) ≡ len
   pub limit_is : len ≡ b.log
+  -- so it doesn't come where each line's log is ample
+  pub scarce : IsAmple b → ⊥
 
 -- The board was played until a step wanted memory: each of these moves was the next one, by the
 -- picks and the order, and there is a further one; `left` are the picks that are left.
