@@ -13,13 +13,13 @@ use Rattle.board_core.specs.declared.turns.PlayEnd.TheVariants as plays
 use Rattle.board_def.specs.Rules.{IsBoard}
 use Rattle.board_def.specs.Seen.{BoardSeen}
 use Rattle.board_play.specs.Kept.{AreKept}
-use Rattle.board_play.specs.Lines.{BoardLine, Move, find_line}
+use Rattle.board_play.specs.Lines.{find_line}
 use Rattle.board_play.specs.Order.{actors_of, due_move}
 use Rattle.board_play.specs.Play.{first_move}
 use Rattle.irq_play.specs.Headline.{told_by}
 use Rattle.irq_play.specs.Reporting.{AreOfBoard, history_among}
 use Rattle.irq_play.specs.Summable.{IsSummable}
-use Rattle.irq_run.specs.Headline.{FullLog, Headline, histories_of}
+use Rattle.irq_run.specs.Headline.{Headline}
 use Rattle.irq_run.specs.Ran.{IsRun, IsRunFull}
 use Rattle.irq_run.specs.Report.{HasRows}
 use Rattle.irq_run.proofs.FullAt.{full_line}

@@ -1,4 +1,4 @@
-use Rattle.std.proofs.Common.{◌≡◌, ◌++◌, List, map, sym, subst, ◌∙◌}
+use Rattle.std.proofs.Common.{◌++◌, List, map, sym, subst, ◌∙◌}
 use Rattle.board_core.specs.Making.{AreSound}
 use Rattle.board_core.specs.Seen.{board_lines}
 use Rattle.board_core.specs.declared.turns.PlayEnd.TheVariants as plays
