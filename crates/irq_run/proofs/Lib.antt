@@ -1,0 +1,8 @@
+pub mod Laid
+pub mod Kept
+pub mod Resting
+pub mod FullAt
+pub mod Reported
+pub mod Finished
+pub mod Fresh
+pub mod Rows
