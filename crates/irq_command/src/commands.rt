@@ -4,7 +4,7 @@ ghost use Rattle.irq_io.specs.Faults.{Counts};
 ghost use Rattle.irq_words.specs.Words.{Asks, AsksNothing};
 ghost use Rattle.irq_words.specs.declared.Command.{Command};
 ghost use Rattle.irq_words.specs.declared.Command.TheVariants as commands;
-ghost use Rattle.irq_top.specs.Commands.{Checks, Generates, Plays};
+ghost use Rattle.irq_top.specs.Commands.{Checks, Generates, Plays, Runs};
 ghost use Rattle.irq_top.specs.Ending.{Tells, error_text, is_printed, is_printing, is_read_fault_end, is_write_fault_end};
 ghost use Rattle.irq_command.specs.Arguments.{IsForm, IsNoForm, IsNotText};
 
@@ -15,10 +15,15 @@ use irq_top::{Ending, Outcome, Wanted, end_early, irq_main};
 use std::alloc::Global;
 use std::env::Args;
 use std::io;
+use std::sync::Wait;
+use std::thread::Threads;
+use workers::NoGate;
 
 /// Does what the arguments say: reads `src`, prints to `out`, and tells on `err` what went wrong. The handlers answer by
-/// their devices' kinds. Arguments that are the words of no command end as a fault of usage, also where one isn't UTF-8.
-pub fn command<S: Source, O: Sink, E: Sink>(
+/// their devices' kinds, and no gate holds a worker. Arguments that are the words of no command end as a fault of usage,
+/// also where one isn't UTF-8.
+pub fn command<R: Threads + Wait + Sync, S: Source, O: Sink, E: Sink>(
+    rt: &R,
     alloc: Global,
     args: io::Result<Args>,
     src: &mut S,
@@ -31,6 +36,8 @@ pub fn command<S: Source, O: Sink, E: Sink>(
     ensures unread { IsNoForm args → src.new ≡ src.old }
     ensures unasked { IsNoForm args → result.reports.reports ≡ [] }
 
+    ensures runs { (summary : Bool) → IsForm args (commands.Run summary)
+        → Runs summary (S.left src.old) (S.left src.new) result.reports.reports (O.written out.old) (O.written out.new) result.ending }
     ensures plays { (summary : Bool) → IsForm args (commands.Play summary)
         → Plays summary (S.left src.old) (S.left src.new) result.reports.reports (O.written out.old) (O.written out.new) result.ending }
     ensures checks { IsForm args commands.Check
@@ -48,13 +55,14 @@ pub fn command<S: Source, O: Sink, E: Sink>(
     ensures quiet { is_printed result.ending ≡ true → err.new ≡ err.old }
 {
     match words_of(alloc, args) {
-        Ok(words) => with_words(alloc, words.as_slice(), src, out, err),
+        Ok(words) => with_words(rt, alloc, words.as_slice(), src, out, err),
         Err(ending) => end_early(alloc, ending, err),
     }
 }
 
 /// The top call over these words.
-fn with_words<S: Source, O: Sink, E: Sink>(
+fn with_words<R: Threads + Wait + Sync, S: Source, O: Sink, E: Sink>(
+    rt: &R,
     alloc: Global,
     words: &[String],
     src: &mut S,
@@ -65,6 +73,8 @@ fn with_words<S: Source, O: Sink, E: Sink>(
     ensures usage { AsksNothing (map string_bytes words.now) → (result.ending ≡ Ending.Usage) ⊎ (result.ending ≡ Ending.NoMemory Wanted.Making) }
     ensures unread { AsksNothing (map string_bytes words.now) → src.new ≡ src.old }
     ensures unasked { AsksNothing (map string_bytes words.now) → result.reports.reports ≡ [] }
+    ensures runs { (summary : Bool) → Asks (map string_bytes words.now) (commands.Run summary)
+        → Runs summary (S.left src.old) (S.left src.new) result.reports.reports (O.written out.old) (O.written out.new) result.ending }
     ensures plays { (summary : Bool) → Asks (map string_bytes words.now) (commands.Play summary)
         → Plays summary (S.left src.old) (S.left src.new) result.reports.reports (O.written out.old) (O.written out.new) result.ending }
     ensures checks { Asks (map string_bytes words.now) commands.Check
@@ -81,11 +91,13 @@ fn with_words<S: Source, O: Sink, E: Sink>(
 {
     match lend(alloc, words) {
         Ok(lent) => irq_main(
+            rt,
             alloc,
             lent.as_slice(),
             src,
             out,
             err,
+            &NoGate,
             &Callbacks::new(ByKind),
         ),
         Err(_) => end_early(alloc, Ending::NoMemory(Wanted::Making), err),

@@ -4,7 +4,7 @@ ghost use Rattle.std.specs.Io.Buffered.{writer_buffer, writer_contents, writer_i
 ghost use Rattle.irq_io.specs.Faults.{Counts};
 ghost use Rattle.irq_words.specs.declared.Command.{Command};
 ghost use Rattle.irq_words.specs.declared.Command.TheVariants as commands;
-ghost use Rattle.irq_top.specs.Commands.{Checks, Generates, Plays};
+ghost use Rattle.irq_top.specs.Commands.{Checks, Generates, Plays, Runs};
 ghost use Rattle.irq_top.specs.Ending.{Tells, error_text, is_printed, is_printing, is_read_fault_end, is_write_fault_end, status_of};
 ghost use Rattle.irq_command.specs.Arguments.{IsForm, IsNoForm, IsNotText};
 
@@ -14,6 +14,8 @@ use irq_top::{Ending, Outcome, Wanted, end_early};
 use std::alloc::Global;
 use std::env::Args;
 use std::io::{self, BufWriter, Read, Write};
+use std::sync::Wait;
+use std::thread::Threads;
 
 /// The size of the buffer of the output, in bytes.
 const BUFFER: usize = 64 * 1024;
@@ -35,7 +37,8 @@ pub struct Ended<R: Read + Drop, O: Write + Drop, E: Write + Drop> {
 
 /// Runs the program over its arguments as they come, its input, its output, before which a buffer is put, and its
 /// error stream. All of the output is handed to the writer where the status is 0 or 1.
-pub fn run<R: Read + Drop, O: Write + Drop, E: Write + Drop>(
+pub fn run<T: Threads + Wait + Sync, R: Read + Drop, O: Write + Drop, E: Write + Drop>(
+    rt: &T,
     alloc: Global,
     args: io::Result<Args>,
     input: R,
@@ -50,6 +53,8 @@ pub fn run<R: Read + Drop, O: Write + Drop, E: Write + Drop>(
     ensures unread { IsNoForm args → result.input.reader ≡ input }
     ensures unasked { IsNoForm args → result.outcome.reports.reports ≡ [] }
 
+    ensures runs { (summary : Bool) → IsForm args (commands.Run summary)
+        → IfSome result.output (λ out. Runs summary (R.remaining input) (R.remaining result.input.reader) result.outcome.reports.reports (O.contents output) (writer_contents O.contents out.writer) result.outcome.ending) }
     ensures plays { (summary : Bool) → IsForm args (commands.Play summary)
         → IfSome result.output (λ out. Plays summary (R.remaining input) (R.remaining result.input.reader) result.outcome.reports.reports (O.contents output) (writer_contents O.contents out.writer) result.outcome.ending) }
     ensures checks { IsForm args commands.Check
@@ -70,7 +75,7 @@ pub fn run<R: Read + Drop, O: Write + Drop, E: Write + Drop>(
     match BufWriter::with_capacity(alloc, BUFFER, output) {
         Ok(writer) => {
             let mut output = StdSink::new(writer);
-            let outcome = command(alloc, args, &mut input, &mut output, &mut error);
+            let outcome = command(rt, alloc, args, &mut input, &mut output, &mut error);
             Ended {
                 status: outcome.ending.status(),
                 outcome,

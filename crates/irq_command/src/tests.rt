@@ -5,7 +5,9 @@ use irq_io::{MemSink, MemSource};
 use std::alloc::Global;
 use std::env::Args;
 use std::io::{self, Error, ErrorKind, Read, Write};
+use std::sync::Wait;
 use std::test::Fail;
+use std::thread::Threads;
 
 const BOARD: &str = "board 1
 domain intc linear 4 latch
@@ -86,11 +88,16 @@ fn arguments(alloc: Global, words: &[&str]) -> Result<Args, Fail> {
     Ok(args.into_iter())
 }
 
-fn ends_so(alloc: Global, args: io::Result<Args>, case: &Case) -> Result<bool, Fail> {
+fn ends_so<R: Threads + Wait + Sync>(
+    rt: &R,
+    alloc: Global,
+    args: io::Result<Args>,
+    case: &Case,
+) -> Result<bool, Fail> {
     let mut src = MemSource::new(alloc, case.text.as_bytes(), 100, &[case.read])?;
     let mut out = MemSink::new(alloc, &[case.write], 1_000)?;
     let mut err = MemSink::new(alloc, &[], 100)?;
-    let outcome = command(alloc, args, &mut src, &mut out, &mut err);
+    let outcome = command(rt, alloc, args, &mut src, &mut out, &mut err);
     let ended = outcome.ending.status() == case.status;
     Ok(ended && out.written() == case.out.as_bytes() && err.written() == case.err.as_bytes())
 }
@@ -102,6 +109,10 @@ fn each_status_has_its_row(rt: HostRuntime) -> Result<(), Fail> {
         misused(&[]),
         misused(&["player"]),
         misused(&["play", ""]),
+        Case {
+            words: &["run"],
+            ..PLAYED
+        },
         Case {
             words: &["check"],
             text: UNLAWFUL,
@@ -140,11 +151,11 @@ fn each_status_has_its_row(rt: HostRuntime) -> Result<(), Fail> {
     ];
     for case in &cases {
         let args = arguments(rt.alloc(), case.words)?;
-        assert!(rt; ends_so(rt.alloc(), Ok(args), case)?);
+        assert!(rt; ends_so(&rt, rt.alloc(), Ok(args), case)?);
     }
     // An argument that isn't UTF-8, and arguments that there is no memory for.
     let not_text = Error::from(ErrorKind::InvalidData);
-    assert!(rt; ends_so(rt.alloc(), Err(not_text), &misused(&[]))?);
+    assert!(rt; ends_so(&rt, rt.alloc(), Err(not_text), &misused(&[]))?);
     let no_memory = Case {
         status: 7,
         out: "",
@@ -153,6 +164,7 @@ fn each_status_has_its_row(rt: HostRuntime) -> Result<(), Fail> {
     };
     assert!(rt;
         ends_so(
+            &rt,
             rt.alloc(),
             Err(Error::from(ErrorKind::OutOfMemory)),
             &no_memory
@@ -187,6 +199,7 @@ fn std_ends_give_their_status(rt: HostRuntime) -> Result<(), Fail> {
     let words = ["play"];
     let (out, err) = (Vec::new(alloc), Vec::new(alloc));
     let played = run(
+        &rt,
         alloc,
         Ok(arguments(alloc, &words)?),
         BOARD.as_bytes(),
@@ -200,6 +213,7 @@ fn std_ends_give_their_status(rt: HostRuntime) -> Result<(), Fail> {
 
     let err = Vec::new(alloc);
     let full = run(
+        &rt,
         alloc,
         Ok(arguments(alloc, &words)?),
         BOARD.as_bytes(),
@@ -213,7 +227,7 @@ fn std_ends_give_their_status(rt: HostRuntime) -> Result<(), Fail> {
     );
 
     let out = Vec::new(alloc);
-    let unread = run(alloc, Ok(arguments(alloc, &words)?), Broken, out, Broken);
+    let unread = run(&rt, alloc, Ok(arguments(alloc, &words)?), Broken, out, Broken);
     assert_eq!(rt; unread.status, 4);
     Ok(())
 }
@@ -244,6 +258,7 @@ fn limits_want_no_more_memory_than_there_is(rt: HostRuntime) -> Result<(), Fail>
     let text = board_at_its_limits(alloc)?;
     let (out, err) = (Vec::new(alloc), Vec::new(alloc));
     let played = run(
+        &rt,
         alloc,
         Ok(arguments(alloc, &["play"])?),
         text.as_slice(),

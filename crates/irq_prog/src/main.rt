@@ -8,6 +8,7 @@ use std::process::ExitCode;
 fn main(rt: HostRuntime) -> ExitCode {
     ExitCode::from(
         run(
+            &rt,
             rt.alloc(),
             env::args(&rt),
             rt.reader(),

@@ -12,6 +12,8 @@ use Rattle.irq_check.specs.declared.printing.CheckEnd.TheVariants as checks
 use Rattle.irq_play.specs.Played.{PlaysBoard}
 use Rattle.irq_play.specs.declared.ending.PlayedEnd.TheVariants as plays
 use Rattle.irq_play.specs.declared.ending.Wanted.TheVariants as wants
+use Rattle.irq_run.specs.Ran.{RunsBoard}
+use Rattle.irq_run.specs.declared.ending.RunEnd.TheVariants as runs
 use Rattle.irq_top.specs.Reading.{IsStated, ReadsBoard}
 use Rattle.irq_top.specs.declared.inputs.InputRefused.{InputRefused}
 use Rattle.irq_top.specs.declared.inputs.InputRefused.TheVariants as refusals
@@ -55,6 +57,33 @@ Plays summary told left reports before now endings.ReadFault = RefusesInput told
 Plays summary told left reports before now (endings.NoMemory wants.Step) = PlaysInput summary told left reports before now (endings.NoMemory wants.Step)
 Plays summary told left reports before now (endings.NoMemory wants.Making) = reports ≡ []
 Plays summary told left reports before now _ = ⊥
+
+-- a board was run by threads: as the headline of a run says where all is printed and after a fault of the output, and
+-- else until a log was full
+abbrev pub RunsAs : BoardSeen → Bool → List LineReport → Option (List ℕ) → Option (List ℕ) → Ending → Type 0
+RunsAs b summary reports before now endings.Done = RunsBoard b summary reports before now runs.Done
+RunsAs b summary reports before now endings.WriteFault = RunsBoard b summary reports before now runs.WriteFault
+RunsAs b summary reports before now (endings.LogFull line len) = RunsBoard b summary reports before now (runs.LogFull line len)
+RunsAs b summary reports before now (endings.NoMemory wanted) = reports ≡ []
+RunsAs b summary reports before now _ = ⊥
+
+-- the board that the source told was run
+pub record RunsInput (summary : Bool) (told left : Option (List ℕ)) (reports : List LineReport) (before now : Option (List ℕ)) (ending : Ending) : Type 0 where
+  pub board : BoardSeen
+  pub stated : IsStated told board
+  pub read : IsReadToEnd told left
+  pub keeps_rules : IsBoard board
+  pub ran : RunsAs board summary reports before now ending
+
+-- `run`: the board is run; or the source gave none; want of memory is free
+abbrev pub Runs : Bool → Option (List ℕ) → Option (List ℕ) → List LineReport → Option (List ℕ) → Option (List ℕ) → Ending → Type 0
+Runs summary told left reports before now endings.Done = RunsInput summary told left reports before now endings.Done
+Runs summary told left reports before now endings.WriteFault = RunsInput summary told left reports before now endings.WriteFault
+Runs summary told left reports before now (endings.LogFull line len) = RunsInput summary told left reports before now (endings.LogFull line len)
+Runs summary told left reports before now (endings.Board fault) = RefusesInput told left reports (refusals.Fault fault)
+Runs summary told left reports before now endings.ReadFault = RefusesInput told left reports refusals.ReadFault
+Runs summary told left reports before now (endings.NoMemory wanted) = reports ≡ []
+Runs summary told left reports before now _ = ⊥
 
 -- the input was checked, with that end, and no history is handed out
 pub record ChecksInput (told left : Option (List ℕ)) (reports : List LineReport) (before now : Option (List ℕ)) (end : CheckEnd) : Type 0 where

@@ -12,6 +12,8 @@ use Rattle.irq_check.specs.declared.printing.CheckEnd.TheVariants as checks
 use Rattle.irq_play.specs.declared.ending.PlayedEnd.{PlayedEnd}
 use Rattle.irq_play.specs.declared.ending.PlayedEnd.TheVariants as plays
 use Rattle.irq_play.specs.declared.ending.Wanted.TheVariants as wants
+use Rattle.irq_run.specs.declared.ending.RunEnd.{RunEnd}
+use Rattle.irq_run.specs.declared.ending.RunEnd.TheVariants as runs
 use Rattle.irq_top.specs.declared.inputs.InputRefused.{InputRefused}
 use Rattle.irq_top.specs.declared.inputs.InputRefused.TheVariants as refusals
 use Rattle.irq_top.specs.declared.ending.Ending.{Ending}
@@ -57,6 +59,12 @@ ending_of_play plays.Done = endings.Done
 ending_of_play plays.WriteFault = endings.WriteFault
 ending_of_play (plays.LogFull line len) = endings.LogFull line len
 ending_of_play (plays.NoMemory wanted) = endings.NoMemory wanted
+
+abbrev pub ending_of_run : RunEnd → Ending
+ending_of_run runs.Done = endings.Done
+ending_of_run runs.WriteFault = endings.WriteFault
+ending_of_run (runs.LogFull line len) = endings.LogFull line len
+ending_of_run runs.NoMemory = endings.NoMemory wants.Making
 
 abbrev pub ending_of_check : CheckEnd → Ending
 ending_of_check (checks.Answered answers.Lawful) = endings.Done

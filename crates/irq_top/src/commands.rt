@@ -1,7 +1,7 @@
 //! What each command does, but for the row on the error sink.
 ghost use Rattle.std.specs.Prelude.{◌≡◌, [], false, true};
 ghost use Rattle.irq_io.specs.Faults.{Counts};
-ghost use Rattle.irq_top.specs.Commands.{Checks, Generates, Plays, PlaysAs};
+ghost use Rattle.irq_top.specs.Commands.{Checks, Generates, Plays, PlaysAs, Runs, RunsAs};
 ghost use Rattle.irq_top.specs.Ending.{is_printed, is_printing, is_read_fault_end, is_write_fault_end};
 
 use crate::ending::Ending;
@@ -14,7 +14,11 @@ use irq_base::NoMemory;
 use irq_check::check_and_print;
 use irq_io::{Sink, Source};
 use irq_play::{Wanted, play_and_print};
+use irq_run::run_and_print;
 use std::alloc::Global;
+use std::sync::Wait;
+use std::thread::Threads;
+use workers::Gate;
 
 /// `play`: reads a board, plays it, and prints its log, or a summary.
 pub(crate) fn play<S: Source, O: Sink, H: Handler>(
@@ -37,6 +41,61 @@ pub(crate) fn play<S: Source, O: Sink, H: Handler>(
             play_board(alloc, &board, summary, out, handlers)
         }
         Err(refused) => Outcome::without_reports(alloc, Ending::from(refused)),
+    }
+}
+
+/// `run`: reads a board, runs it by threads, and prints its log line by line, or a summary.
+pub(crate) fn run<
+    R: Threads + Wait + Sync,
+    S: Source,
+    O: Sink,
+    G: Gate + Sync,
+    H: Handler + Sync,
+>(
+    rt: &R,
+    alloc: Global,
+    summary: bool,
+    src: &mut S,
+    out: &mut O,
+    gate: &G,
+    handlers: &Callbacks<H>,
+) -> Outcome
+    ensures runs { Runs summary (S.left src.old) (S.left src.new) result.reports.reports (O.written out.old) (O.written out.new) result.ending }
+    ensures read_fault { Counts (S.faults src.old) (S.faults src.new) (is_read_fault_end result.ending) }
+    ensures handed_on { is_printed result.ending ≡ true → O.handed_on out.new ≡ O.written out.new }
+    ensures emptied { is_printed result.ending ≡ true → O.kept out.new ≡ [] }
+    ensures write_fault { Counts (O.faults out.old) (O.faults out.new) (is_write_fault_end result.ending) }
+    ensures silent { is_printing result.ending ≡ false → out.new ≡ out.old }
+{
+    match read_input(alloc, src) {
+        Ok(board) => {
+            board.is_board();
+            run_board(rt, alloc, &board, summary, out, gate, handlers)
+        }
+        Err(refused) => Outcome::without_reports(alloc, Ending::from(refused)),
+    }
+}
+
+/// Runs the board by threads, and prints its log line by line, or a summary.
+fn run_board<R: Threads + Wait + Sync, O: Sink, G: Gate + Sync, H: Handler + Sync>(
+    rt: &R,
+    alloc: Global,
+    board: &Board,
+    summary: bool,
+    out: &mut O,
+    gate: &G,
+    handlers: &Callbacks<H>,
+) -> Outcome
+    ensures runs { RunsAs board.now summary result.reports.reports (O.written out.old) (O.written out.new) result.ending }
+    ensures handed_on { is_printed result.ending ≡ true → O.handed_on out.new ≡ O.written out.new }
+    ensures emptied { is_printed result.ending ≡ true → O.kept out.new ≡ [] }
+    ensures write_fault { Counts (O.faults out.old) (O.faults out.new) (is_write_fault_end result.ending) }
+    ensures silent { is_printing result.ending ≡ false → out.new ≡ out.old }
+{
+    let ran = run_and_print(rt, alloc, board, summary, gate, handlers, out);
+    Outcome {
+        ending: Ending::from(ran.end),
+        reports: ran.reports,
     }
 }
 

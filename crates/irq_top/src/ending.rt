@@ -7,6 +7,7 @@ use board_text::BoardFault;
 use irq_base::LineNo;
 use irq_check::{Answer, CheckEnd};
 use irq_play::{PlayedEnd, Wanted};
+use irq_run::RunEnd;
 
 /// How the work ended.
 #[derive(Clone, Copy, PartialEq, Eq)]
@@ -76,6 +77,22 @@ impl From<PlayedEnd> for Ending {
             PlayedEnd::WriteFault => Ending::WriteFault,
             PlayedEnd::LogFull { line, len } => Ending::LogFull { line, len },
             PlayedEnd::NoMemory(wanted) => Ending::NoMemory(wanted),
+        }
+    }
+}
+
+impl From<RunEnd> for Ending {
+    ghost use Rattle.std.specs.Prelude.{◌≡◌};
+    ghost use Rattle.irq_top.specs.Ending.{ending_of_run};
+
+    ghost from_gives = { λ end ending. ending ≡ ending_of_run end };
+
+    fn from(end: RunEnd) -> Ending {
+        match end {
+            RunEnd::Done => Ending::Done,
+            RunEnd::WriteFault => Ending::WriteFault,
+            RunEnd::LogFull { line, len } => Ending::LogFull { line, len },
+            RunEnd::NoMemory => Ending::NoMemory(Wanted::Making),
         }
     }
 }

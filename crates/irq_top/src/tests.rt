@@ -5,7 +5,10 @@ use callbacks::{ByKind, Callbacks};
 use irq_base::{NoMemory, Reports};
 use irq_io::{MemSink, MemSource};
 use std::alloc::Global;
+use std::sync::Wait;
 use std::test::Fail;
+use std::thread::Threads;
+use workers::NoGate;
 
 const BOARD: &str = "board 1
 domain intc linear 4 latch
@@ -86,12 +89,20 @@ fn entries_of(reports: &Reports) -> Option<usize> {
     Some(entries)
 }
 
-fn call(alloc: Global, words: &[&str], text: &[u8], ends: Ends) -> Result<Seen, NoMemory> {
+fn call<R: Threads + Wait + Sync>(
+    rt: &R,
+    alloc: Global,
+    words: &[&str],
+    text: &[u8],
+    ends: Ends,
+) -> Result<Seen, NoMemory> {
     let mut src = MemSource::new(alloc, text, ends.piece.max(1), &[ends.read])?;
     let mut out = MemSink::with_failing_flushes(alloc, &[ends.write], &[ends.flush], ends.room)?;
     let mut err = MemSink::new(alloc, &[ends.error], 100)?;
     let handlers = Callbacks::new(ByKind);
-    let outcome = irq_main(alloc, words, &mut src, &mut out, &mut err, &handlers);
+    let outcome = irq_main(
+        rt, alloc, words, &mut src, &mut out, &mut err, &NoGate, &handlers,
+    );
     Ok(Seen {
         status: outcome.ending.status(),
         entries: entries_of(&outcome.reports),
@@ -100,8 +111,13 @@ fn call(alloc: Global, words: &[&str], text: &[u8], ends: Ends) -> Result<Seen, 
     })
 }
 
-fn play(alloc: Global, text: &[u8], ends: Ends) -> Result<Seen, NoMemory> {
-    call(alloc, &["play"], text, ends)
+fn play<R: Threads + Wait + Sync>(
+    rt: &R,
+    alloc: Global,
+    text: &[u8],
+    ends: Ends,
+) -> Result<Seen, NoMemory> {
+    call(rt, alloc, &["play"], text, ends)
 }
 
 fn add_row(rows: &mut String, row: &str) -> Result<(), Fail> {
@@ -143,9 +159,14 @@ impl Case {
     }
 
     /// Whether the call comes to what is written, and ends so; and where a play is printed, whether its log is lawful.
-    fn is_met(&self, alloc: Global, end: &str) -> Result<bool, Fail> {
+    fn is_met<R: Threads + Wait + Sync>(
+        &self,
+        rt: &R,
+        alloc: Global,
+        end: &str,
+    ) -> Result<bool, Fail> {
         let words: Vec<&str> = self.words.as_str().split(' ').collect(alloc)?;
-        let seen = call(alloc, &words, self.text.as_bytes(), SOUND)?;
+        let seen = call(rt, alloc, &words, self.text.as_bytes(), SOUND)?;
         let is_told = seen.out.as_slice() == self.out.as_bytes()
             && seen.err.as_slice() == self.err.as_bytes();
         let is_ended = ended(alloc, &seen)?.as_str() == end;
@@ -153,7 +174,7 @@ impl Case {
         Ok(
             is_told
                 && is_ended
-                && (!is_log || is_lawful(alloc, self.text.as_bytes(), self.out.as_bytes())?),
+                && (!is_log || is_lawful(rt, alloc, self.text.as_bytes(), self.out.as_bytes())?),
         )
     }
 }
@@ -168,11 +189,16 @@ fn ended(alloc: Global, seen: &Seen) -> Result<String, Fail> {
 }
 
 /// Whether the log of the board is lawful.
-fn is_lawful(alloc: Global, board: &[u8], log: &[u8]) -> Result<bool, Fail> {
+fn is_lawful<R: Threads + Wait + Sync>(
+    rt: &R,
+    alloc: Global,
+    board: &[u8],
+    log: &[u8],
+) -> Result<bool, Fail> {
     let mut input = Vec::from_slice(alloc, board)?;
     input.extend_from_slice(b"---\n")?;
     input.extend_from_slice(log)?;
-    let seen = call(alloc, &["check"], &input, SOUND)?;
+    let seen = call(rt, alloc, &["check"], &input, SOUND)?;
     Ok(seen.is(0, None, b"lawful\n", b""))
 }
 
@@ -184,7 +210,7 @@ fn calls_by_hand(rt: HostRuntime) -> Result<(), Fail> {
         if let Some(head) = row.strip_prefix("$ ") {
             case = Case::new(alloc, head)?;
         } else if let Some(end) = row.strip_prefix("status ") {
-            assert!(rt; case.is_met(alloc, end)?, "{}", case.text.as_str());
+            assert!(rt; case.is_met(&rt, alloc, end)?, "{}", case.text.as_str());
         } else {
             case.add(row)?;
         }
@@ -209,10 +235,10 @@ fn of_two_lines(alloc: Global, log: &[u8]) -> Result<Vec<u8>, Fail> {
 #[test]
 fn a_machine(rt: HostRuntime) -> Result<(), Fail> {
     let alloc = rt.alloc();
-    let seen = play(alloc, MACHINE.as_bytes(), SOUND)?;
+    let seen = play(&rt, alloc, MACHINE.as_bytes(), SOUND)?;
     assert!(rt; seen.status == 0 && seen.entries == Some(151));
     assert!(rt; of_two_lines(alloc, &seen.out)?.as_slice() == OF_TWO_LINES.as_bytes());
-    assert!(rt; is_lawful(alloc, MACHINE.as_bytes(), &seen.out)?);
+    assert!(rt; is_lawful(&rt, alloc, MACHINE.as_bytes(), &seen.out)?);
     Ok(())
 }
 
@@ -227,8 +253,8 @@ const OF_ZERO: [&str; 4] = [
 #[test]
 fn a_generated_board(rt: HostRuntime) -> Result<(), Fail> {
     let alloc = rt.alloc();
-    let first = call(alloc, &["gen", "0"], b"", SOUND)?;
-    let again = call(alloc, &["gen", "0"], b"not a board", SOUND)?;
+    let first = call(&rt, alloc, &["gen", "0"], b"", SOUND)?;
+    let again = call(&rt, alloc, &["gen", "0"], b"not a board", SOUND)?;
     assert!(rt; first.is(0, again.entries, &again.out, b""));
     for row in OF_ZERO {
         assert!(rt;
@@ -245,9 +271,9 @@ fn a_generated_board(rt: HostRuntime) -> Result<(), Fail> {
 #[test]
 fn words(rt: HostRuntime) -> Result<(), Fail> {
     let alloc = rt.alloc();
-    for form in ["play now", "", "run", "plays", "gen 07", "check --summary"] {
+    for form in ["play now", "", "run 1", "plays", "gen 07", "check --summary"] {
         let words: Vec<&str> = form.split_whitespace().collect(alloc)?;
-        let seen = call(alloc, &words, BOARD.as_bytes(), SOUND)?;
+        let seen = call(&rt, alloc, &words, BOARD.as_bytes(), SOUND)?;
         assert!(rt; seen.is(2, None, b"", USAGE.as_bytes()), "{form}");
     }
     Ok(())
@@ -256,17 +282,17 @@ fn words(rt: HostRuntime) -> Result<(), Fail> {
 #[test]
 fn texts_at_their_ends(rt: HostRuntime) -> Result<(), Fail> {
     let alloc = rt.alloc();
-    let seen = play(alloc, b"board 1\ndomai", SOUND)?;
+    let seen = play(&rt, alloc, b"board 1\ndomai", SOUND)?;
     assert!(rt; seen.is(3, None, b"", b"board: line 2: unknown word\n"));
     let large = Ends {
         piece: 5_000,
         ..SOUND
     };
     let mut text = vec![in alloc; b'\n'; 1_048_576]?;
-    let seen = play(alloc, &text, large)?;
+    let seen = play(&rt, alloc, &text, large)?;
     assert!(rt; seen.is(3, None, b"", b"board: line 1: no header\n"));
     text.push(b'\n')?;
-    let seen = play(alloc, &text, large)?;
+    let seen = play(&rt, alloc, &text, large)?;
     assert!(rt; seen.is(3, None, b"", b"board: line 0: too long\n"));
     Ok(())
 }
@@ -285,10 +311,10 @@ fn many_asks(rt: HostRuntime) -> Result<(), Fail> {
         room: 1_000_000,
         ..SOUND
     };
-    let seen = play(alloc, text.as_bytes(), large)?;
+    let seen = play(&rt, alloc, text.as_bytes(), large)?;
     assert!(rt; seen.status == 0 && seen.entries == Some(9_996) && seen.err.is_empty());
     add_row(&mut text, "ask 1")?;
-    let seen = play(alloc, text.as_bytes(), large)?;
+    let seen = play(&rt, alloc, text.as_bytes(), large)?;
     assert!(rt; seen.is(6, Some(10_000), b"", b"log full: line 1 at 10000 entries\n"));
     Ok(())
 }
@@ -314,7 +340,7 @@ fn many_devices(rt: HostRuntime) -> Result<(), Fail> {
             format!(in alloc; "request {dev} shared oneshot")?.as_str(),
         )?;
     }
-    let seen = play(alloc, text.as_bytes(), SOUND)?;
+    let seen = play(&rt, alloc, text.as_bytes(), SOUND)?;
     assert!(rt; seen.status == 0 && seen.entries == Some(65));
     assert!(rt;
         seen.out.ends_with(b"1 d1 request 64 so linked no\n1 d1 request 65 so refused 16\n")
@@ -327,13 +353,13 @@ fn pieces_and_failing_reads(rt: HostRuntime) -> Result<(), Fail> {
     let alloc = rt.alloc();
     for piece in [1, 10, 5_000] {
         let ends = Ends { piece, ..SOUND };
-        let seen = play(alloc, BOARD.as_bytes(), ends)?;
+        let seen = play(&rt, alloc, BOARD.as_bytes(), ends)?;
         assert!(rt; seen.is(0, Some(9), LOG.as_bytes(), b""), "piece {piece}");
     }
     for read in 1..=11 {
         let ends = Ends { read, ..SOUND };
         for word in ["play", "check"] {
-            let seen = call(alloc, &[word], BOARD.as_bytes(), ends)?;
+            let seen = call(&rt, alloc, &[word], BOARD.as_bytes(), ends)?;
             assert!(rt;
                 seen.is(4, None, b"", b"read fault\n"),
                 "{word}, read {read}"
@@ -355,15 +381,16 @@ fn failing_writes(rt: HostRuntime) -> Result<(), Fail> {
             error: if number == 3 { 1 } else { 0 },
             ..SOUND
         };
-        let seen = play(alloc, BOARD.as_bytes(), ends)?;
+        let seen = play(&rt, alloc, BOARD.as_bytes(), ends)?;
         let out = LOG.as_bytes().get(..cut).ok_or("a cut beyond the log")?;
         let err: &[u8] = if number == 3 { b"" } else { b"write fault\n" };
         assert!(rt; seen.is(5, Some(9), out, err), "write {number}");
     }
-    let full = play(alloc, BOARD.as_bytes(), Ends { room: 30, ..SOUND })?;
+    let full = play(&rt, alloc, BOARD.as_bytes(), Ends { room: 30, ..SOUND })?;
     let out = LOG.as_bytes().get(..30).ok_or("a short log")?;
     assert!(rt; full.is(5, Some(9), out, b"write fault\n"));
     let checked = call(
+        &rt,
         alloc,
         &["check"],
         b"board 1\n---\n",

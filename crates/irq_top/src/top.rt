@@ -3,10 +3,10 @@ ghost use Rattle.std.specs.Prelude.{◌≡◌, ◌↔◌, ◌⊎◌, ℕ, Bool, 
 ghost use Rattle.irq_io.specs.Faults.{Counts};
 ghost use Rattle.irq_words.specs.Words.{Asks, AsksNothing};
 ghost use Rattle.irq_words.specs.declared.Command.TheVariants as commands;
-ghost use Rattle.irq_top.specs.Commands.{Checks, Generates, Plays};
+ghost use Rattle.irq_top.specs.Commands.{Checks, Generates, Plays, Runs};
 ghost use Rattle.irq_top.specs.Ending.{Tells, error_text, is_printed, is_printing, is_read_fault_end, is_write_fault_end};
 
-use crate::commands::{check, play, play_generated};
+use crate::commands::{check, play, play_generated, run};
 use crate::ending::Ending;
 use crate::error_rows::error_row;
 use crate::outcome::Outcome;
@@ -14,24 +14,40 @@ use callbacks::{Callbacks, Handler};
 use irq_io::{Sink, Source, WriteEnd, write_all};
 use irq_words::{Command, read_command};
 use std::alloc::Global;
+use std::sync::Wait;
+use std::thread::Threads;
 use text_row::TextRow;
+use workers::Gate;
 
-/// Does what the words ask for: `play` reads a board from `src`, plays it with the handlers, and prints its log to
-/// `out`, with `--summary` a row a line; `check` reads a board and a log of it, and prints what is said of the log;
-/// `gen N` makes a board, plays it, and prints its summary. Other words are refused before anything is read. What went
-/// wrong is told on `err`, in one row; a fault of `err` itself changes nothing.
-pub fn irq_main<S: Source, O: Sink, E: Sink, H: Handler>(
+/// Does what the words ask for: `run` reads a board from `src`, runs it by threads with the handlers, and prints its log
+/// to `out`, line by line, with `--summary` a row a line; `play` plays it by the stated order, and prints its log as it
+/// was played, or a summary; `check` reads a board and a log of it, and prints what is said of the log; `gen N` makes a
+/// board, plays it, and prints its summary. `run` alone waits, and passes the gate before each turn of a worker: the
+/// other commands are done by functions that don't wait, and so return. Other words are refused before anything is read.
+/// What went wrong is told on `err`, in one row; a fault of `err` itself changes nothing.
+pub fn irq_main<
+    R: Threads + Wait + Sync,
+    S: Source,
+    O: Sink,
+    E: Sink,
+    G: Gate + Sync,
+    H: Handler + Sync,
+>(
+    rt: &R,
     alloc: Global,
     words: &[&str],
     src: &mut S,
     out: &mut O,
     err: &mut E,
+    gate: &G,
     handlers: &Callbacks<H>,
 ) -> Outcome
     ensures usage { (result.ending ≡ Ending.Usage) ↔ AsksNothing (map (λ w. w.now) words.now) }
     ensures unread { result.ending ≡ Ending.Usage → src.new ≡ src.old }
     ensures unasked { result.ending ≡ Ending.Usage → result.reports.reports ≡ [] }
 
+    ensures runs { (summary : Bool) → Asks (map (λ w. w.now) words.now) (commands.Run summary)
+        → Runs summary (S.left src.old) (S.left src.new) result.reports.reports (O.written out.old) (O.written out.new) result.ending }
     ensures plays { (summary : Bool) → Asks (map (λ w. w.now) words.now) (commands.Play summary)
         → Plays summary (S.left src.old) (S.left src.new) result.reports.reports (O.written out.old) (O.written out.new) result.ending }
     ensures checks { Asks (map (λ w. w.now) words.now) commands.Check
@@ -48,7 +64,7 @@ pub fn irq_main<S: Source, O: Sink, E: Sink, H: Handler>(
     ensures tells { is_printed result.ending ≡ false → Tells (error_text result.ending) (E.written err.old) (E.written err.new) (E.handed_on err.new) (E.kept err.new) (E.faults err.old) (E.faults err.new) }
     ensures quiet { is_printed result.ending ≡ true → err.new ≡ err.old }
 {
-    let outcome = work(alloc, words, src, out, handlers);
+    let outcome = work(rt, alloc, words, src, out, gate, handlers);
     if !is_printed(outcome.ending) {
         tell(err, outcome.ending);
     }
@@ -56,16 +72,26 @@ pub fn irq_main<S: Source, O: Sink, E: Sink, H: Handler>(
 }
 
 /// All but the row on the error sink.
-fn work<S: Source, O: Sink, H: Handler>(
+fn work<
+    R: Threads + Wait + Sync,
+    S: Source,
+    O: Sink,
+    G: Gate + Sync,
+    H: Handler + Sync,
+>(
+    rt: &R,
     alloc: Global,
     words: &[&str],
     src: &mut S,
     out: &mut O,
+    gate: &G,
     handlers: &Callbacks<H>,
 ) -> Outcome
     ensures usage { (result.ending ≡ Ending.Usage) ↔ AsksNothing (map (λ w. w.now) words.now) }
     ensures unread { result.ending ≡ Ending.Usage → src.new ≡ src.old }
     ensures unasked { result.ending ≡ Ending.Usage → result.reports.reports ≡ [] }
+    ensures runs { (summary : Bool) → Asks (map (λ w. w.now) words.now) (commands.Run summary)
+        → Runs summary (S.left src.old) (S.left src.new) result.reports.reports (O.written out.old) (O.written out.new) result.ending }
     ensures plays { (summary : Bool) → Asks (map (λ w. w.now) words.now) (commands.Play summary)
         → Plays summary (S.left src.old) (S.left src.new) result.reports.reports (O.written out.old) (O.written out.new) result.ending }
     ensures checks { Asks (map (λ w. w.now) words.now) commands.Check
@@ -79,6 +105,7 @@ fn work<S: Source, O: Sink, H: Handler>(
     ensures silent { is_printing result.ending ≡ false → out.new ≡ out.old }
 {
     match read_command(words) {
+        Some(Command::Run { summary }) => run(rt, alloc, summary, src, out, gate, handlers),
         Some(Command::Play { summary }) => play(alloc, summary, src, out, handlers),
         Some(Command::Check) => check(alloc, src, out),
         Some(Command::Gen { n }) => play_generated(alloc, n, out, handlers),

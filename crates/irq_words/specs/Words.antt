@@ -5,6 +5,8 @@ use Rattle.irq_words.specs.declared.Command.TheVariants as commands
 
 -- the words after the program's name
 abbrev pub words_of : Command → List (List ℕ)
+words_of (commands.Run false) = codes "run" ∷ []
+words_of (commands.Run true) = codes "run" ∷ codes "--summary" ∷ []
 words_of (commands.Play false) = codes "play" ∷ []
 words_of (commands.Play true) = codes "play" ∷ codes "--summary" ∷ []
 words_of commands.Check = codes "check" ∷ []

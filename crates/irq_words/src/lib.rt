@@ -11,6 +11,8 @@ use log_read::number_of;
 /// What the program can be asked for.
 #[derive(Clone, Copy, PartialEq, Eq)]
 pub enum Command {
+    /// Read a board and run it by threads. `summary`: print a row a line in place of the entries.
+    Run { summary: bool },
     /// Read a board and play it. `summary`: print a row a line in place of the entries.
     Play { summary: bool },
     /// Read a board and a log of it, and judge the log.
@@ -35,6 +37,7 @@ fn read_word(word: &str) -> Option<Command>
     ensures { MatchOption result (AsksNothing (word.now ∷ [])) (Asks (word.now ∷ [])) }
 {
     match word {
+        "run" => Some(Command::Run { summary: false }),
         "play" => Some(Command::Play { summary: false }),
         "check" => Some(Command::Check),
         _ => None,
@@ -46,13 +49,24 @@ fn read_words(word: &str, option: &str) -> Option<Command>
     ensures { MatchOption result (AsksNothing (word.now ∷ option.now ∷ [])) (Asks (word.now ∷ option.now ∷ [])) }
 {
     match word {
-        "play" => summarised(option),
+        "run" => run_summarised(option),
+        "play" => play_summarised(option),
         "gen" => generated(option),
         _ => None,
     }
 }
 
-fn summarised(option: &str) -> Option<Command>
+fn run_summarised(option: &str) -> Option<Command>
+    ensures { MatchOption result (AsksNothing (codes "run" ∷ option.now ∷ [])) (Asks (codes "run" ∷ option.now ∷ [])) }
+{
+    if option == "--summary" {
+        Some(Command::Run { summary: true })
+    } else {
+        None
+    }
+}
+
+fn play_summarised(option: &str) -> Option<Command>
     ensures { MatchOption result (AsksNothing (codes "play" ∷ option.now ∷ [])) (Asks (codes "play" ∷ option.now ∷ [])) }
 {
     if option == "--summary" {

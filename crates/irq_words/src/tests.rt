@@ -3,11 +3,13 @@ use crate::{Command, read_command};
 use std::test::Fail;
 
 /// What words are no command's.
-const USAGE: [&str; 16] = [
+const USAGE: [&str; 18] = [
     "",
     "plays",
     "Play",
-    "run",
+    "runs",
+    "run 1",
+    "run --summary play",
     "play play",
     "play --summary --summary",
     "--summary play",
@@ -24,6 +26,8 @@ const USAGE: [&str; 16] = [
 
 #[test]
 fn words(rt: HostRuntime) -> Result<(), Fail> {
+    assert!(rt; read_command(&["run"]) == Some(Command::Run { summary: false }));
+    assert!(rt; read_command(&["run", "--summary"]) == Some(Command::Run { summary: true }));
     assert!(rt; read_command(&["play"]) == Some(Command::Play { summary: false }));
     assert!(rt; read_command(&["play", "--summary"]) == Some(Command::Play { summary: true }));
     assert!(rt; read_command(&["check"]) == Some(Command::Check));

@@ -17,3 +17,6 @@ returns-in-None-clause-checks g c = λ asked. absurd (c.in-None.ensures commands
 
 pub returns-in-None-clause-generates : goal.returns-in-None-clause-generates
 returns-in-None-clause-generates g c = λ n asked. absurd (c.in-None.ensures (commands.Gen n) asked)
+
+pub returns-in-None-clause-runs : goal.returns-in-None-clause-runs
+returns-in-None-clause-runs g c = λ summary asked. absurd (c.in-None.ensures (commands.Run summary) asked)
