@@ -4,17 +4,13 @@
 //! Standard input has the name of a file a row. For each, standard output gets a row with the name and the
 //! verdict: `lawful`, or `unlawful N`, where entry N, counted from 1, is the first that isn't due. Where the line
 //! tells another verdict than the plain program, or none can be made, the program says so and ends. For a row
-//! `orders` and a name, it gets the name and whether the two lines are the same in every order. For
-//! a row `steps` and a name, it gets the name and whether both answer each step as is written in
-//! the file, or else the first row, counted from 1, at which one doesn't.
+//! `orders` and a name, it gets the name and whether the two lines are the same in every order.
 #![tactic(auto)]
 
 mod by_line;
 mod judging;
 mod reading;
 mod side_by_side;
-mod step_rows;
-mod stepping;
 
 use anyhow::{Context, Result, ensure};
 use by_line::judge_by_line;
@@ -25,8 +21,6 @@ use side_by_side::orders_of;
 use std::alloc::Global;
 use std::fs;
 use std::rt::Files;
-use step_rows::read_steps;
-use stepping::{Outcome, outcome_of};
 
 /// The verdict on the log, on which the plain program and the line agree.
 fn judge_log(alloc: Global, log: &LineLog) -> Result<Verdict> {
@@ -50,28 +44,20 @@ fn read_file(rt: &(impl Files + AllocGlobal), name: &str) -> Result<LineLog> {
     read_log(rt.alloc(), text.as_str()).context(format_args!("in {name}"))
 }
 
-/// Whether the lines answer the steps of that file as is written in it.
-fn steps_of(rt: &(impl Files + AllocGlobal), name: &str) -> Result<Outcome> {
-    let text = fs::read_to_string(rt, name).context(format_args!("reading {name}"))?;
-    let steps = read_steps(rt.alloc(), text.as_str())?;
-    ensure!(is_valid(&steps.def), "no line has this definition");
-    outcome_of(rt.alloc(), &steps.def, &steps.rows)
-}
-
 fn main(rt: HostRuntime) -> Result<()> {
     for row in rt.lines(rt.alloc()) {
         let row = row?;
-        if let Some(name) = row.strip_prefix("orders ") {
-            let log = read_file(&rt, name)?;
-            let orders = orders_of(rt.alloc(), &log.def).context(format_args!("in {name}"))?;
-            println!(rt; "{name} {orders}")?;
-        } else if let Some(name) = row.strip_prefix("steps ") {
-            let outcome = steps_of(&rt, name).context(format_args!("in {name}"))?;
-            println!(rt; "{name} {outcome}")?;
-        } else {
-            let log = read_file(&rt, row.as_str())?;
-            let verdict = judge_log(rt.alloc(), &log).context(format_args!("in {row}"))?;
-            println!(rt; "{row} {verdict}")?;
+        match row.strip_prefix("orders ") {
+            Some(name) => {
+                let log = read_file(&rt, name)?;
+                let orders = orders_of(rt.alloc(), &log.def).context(format_args!("in {name}"))?;
+                println!(rt; "{name} {orders}")?;
+            }
+            None => {
+                let log = read_file(&rt, row.as_str())?;
+                let verdict = judge_log(rt.alloc(), &log).context(format_args!("in {row}"))?;
+                println!(rt; "{row} {verdict}")?;
+            }
         }
     }
     Ok(())

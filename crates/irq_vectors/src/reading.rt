@@ -51,7 +51,7 @@ pub fn read_log(alloc: Global, text: &str) -> Result<LineLog> {
 }
 
 /// The definition, from the rows before `entries`.
-pub(crate) fn read_def(alloc: Global, rows: &[&str]) -> Result<LineDef> {
+fn read_def(alloc: Global, rows: &[&str]) -> Result<LineDef> {
     let [_verdict, definition, parts @ ..] = rows else {
         bail!("no definition");
     };
@@ -94,7 +94,7 @@ fn definition_of(alloc: Global, row: &str) -> Result<LineDef> {
 }
 
 /// The word after that name.
-pub(crate) fn word_named<'a>(words: &[&'a str], name: &str) -> Result<&'a str> {
+fn word_named<'a>(words: &[&'a str], name: &str) -> Result<&'a str> {
     for pair in words.chunks_exact(2) {
         if pair[0] == name {
             return Ok(pair[1]);
@@ -107,7 +107,7 @@ fn number_named(words: &[&str], name: &str) -> Result<u32> {
     number(word_named(words, name)?)
 }
 
-pub(crate) fn bit_named(words: &[&str], name: &str) -> Result<bool> {
+fn bit_named(words: &[&str], name: &str) -> Result<bool> {
     match word_named(words, name)? {
         "0" => Ok(false),
         "1" => Ok(true),
@@ -115,12 +115,12 @@ pub(crate) fn bit_named(words: &[&str], name: &str) -> Result<bool> {
     }
 }
 
-pub(crate) fn number(word: &str) -> Result<u32> {
+fn number(word: &str) -> Result<u32> {
     word.parse::<u32>()
         .context(format_args!("no number: {word:?}"))
 }
 
-pub(crate) fn device(word: &str) -> Result<DevNo> {
+fn device(word: &str) -> Result<DevNo> {
     Ok(DevNo(number(word)?))
 }
 
@@ -203,7 +203,7 @@ fn flags_of(word: &str) -> Result<Flags> {
 }
 
 /// The entry of the row, which begins with the line's number and who made it.
-pub(crate) fn entry_of(alloc: Global, line: LineNo, row: &str) -> Result<Entry> {
+fn entry_of(alloc: Global, line: LineNo, row: &str) -> Result<Entry> {
     let words: Vec<&str> = row.split_whitespace().collect(alloc)?;
     let [number_of_line, actor, step @ ..] = words.as_slice() else {
         bail!("no entry");
