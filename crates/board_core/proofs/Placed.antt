@@ -102,9 +102,12 @@ module _ (lines : List BoardLine) (k : ℕ) (x : BoardLine) (at : slice_get line
   own_there j s at_s =
       let within = slice_get_within first j s at_s in
       let many = as_many first own own_drivers in
-      let o = there own j (omega (arith, within, many)) in
-      (o.0, o.1, the_same s.driver o.0.driver
-      (sym (map_there (λ (s : ScriptSeen). s.driver) first j s at_s) ∙ (ap (λ (ds : List DriverNo). slice_get ds j) own_drivers ∙ map_there (λ (s : ScriptSeen). s.driver) own j o.0 o.1)))
+      let o = there own j (omega (arith, within, many)) in (
+        o.0,
+        o.1,
+        the_same s.driver o.0.driver
+            (sym (map_there (λ (s : ScriptSeen). s.driver) first j s at_s) ∙ (ap (λ (ds : List DriverNo). slice_get ds j) own_drivers ∙ map_there (λ (s : ScriptSeen). s.driver) own j o.0 o.1)),
+      )
 
   -- what it was at first
   first_there : (j : ℕ) (t : ScriptSeen) → slice_get now j ≡ Some t → (s : ScriptSeen) × (slice_get first j ≡ Some s) × (placed (take k lines) s ≡ t)

@@ -71,13 +71,7 @@ fn own_scripts<L: IrqLine>(
 }
 
 /// The script of the entry's driver goes on with the entry, if it is a driver's.
-fn tell(
-    own: &mut Vec<Script>,
-    board: &Board,
-    driver_numbers: &[u32],
-    line: LineNo,
-    entry: Entry,
-)
+fn tell(own: &mut Vec<Script>, board: &Board, driver_numbers: &[u32], line: LineNo, entry: Entry)
     requires numbers { driver_numbers.now ≡ numbers_of_drivers board.now.drivers }
     requires drivers { drivers_of own.old.items ≡ board.now.drivers }
     ensures { (x : BoardLine) → x.def.line ≡ line → IsDue x.def entry x.past → AreOwn board.now.drivers x own.old.items → AreOwn board.now.drivers (with_entry entry x) own.new.items }

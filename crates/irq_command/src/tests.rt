@@ -227,7 +227,14 @@ fn std_ends_give_their_status(rt: HostRuntime) -> Result<(), Fail> {
     );
 
     let out = Vec::new(alloc);
-    let unread = run(&rt, alloc, Ok(arguments(alloc, &words)?), Broken, out, Broken);
+    let unread = run(
+        &rt,
+        alloc,
+        Ok(arguments(alloc, &words)?),
+        Broken,
+        out,
+        Broken,
+    );
     assert_eq!(rt; unread.status, 4);
     Ok(())
 }

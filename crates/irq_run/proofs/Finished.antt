@@ -63,13 +63,14 @@ pub full_done : (b : BoardSeen) (s : SystemSeen) (line : LineNo) (len : ℕ) →
 full_done b s line len p lines are board reports is =
     let k = kept b s (plays.Full line len) p lines are in
     let first = subst (λ (c : BoardSeen). first_move c (board_lines s.lines) (actors_of c) ≡ Some p.ends.move) p.board p.ends.is in
-    let long = subst (λ (ls : List LineSeen). HasLength (find_line (board_lines ls) line) len) (sym are) p.ends.length in
-    (entries_in (board_lines lines),
-    record {
-      handed_out = is;
-      mapped = all_keep_laws b board (board_lines lines) k;
-      refused = refused_have_none b board (board_lines lines) k;
-      full =
-          full_line b board (board_lines lines) k p.ends.move line len (ap (λ (ls : List LineSeen). first_move b (board_lines ls) (actors_of b)) are ∙ first) p.ends.of_line long
-          (p.ends.log ∙ ap (λ (c : BoardSeen). c.log) p.board);
-    })
+    let long = subst (λ (ls : List LineSeen). HasLength (find_line (board_lines ls) line) len) (sym are) p.ends.length in (
+      entries_in (board_lines lines),
+      record {
+        handed_out = is;
+        mapped = all_keep_laws b board (board_lines lines) k;
+        refused = refused_have_none b board (board_lines lines) k;
+        full =
+            full_line b board (board_lines lines) k p.ends.move line len (ap (λ (ls : List LineSeen). first_move b (board_lines ls) (actors_of b)) are ∙ first) p.ends.of_line long
+            (p.ends.log ∙ ap (λ (c : BoardSeen). c.log) p.board);
+      },
+    )

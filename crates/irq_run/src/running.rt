@@ -42,12 +42,7 @@ pub struct RanBoard {
 /// its own until none can, and prints each line's entries, line by line, or with `summary` a summary of them. The
 /// board's picks are passed over. Handlers are called as they are due, and the gate before each turn of a worker. All
 /// memory is taken before the first row is printed.
-pub fn run_and_print<
-    R: Threads + Wait + Sync,
-    O: Sink,
-    G: Gate + Sync,
-    H: Handler + Sync,
->(
+pub fn run_and_print<R: Threads + Wait + Sync, O: Sink, G: Gate + Sync, H: Handler + Sync>(
     rt: &R,
     alloc: Global,
     board: &Board,

@@ -131,7 +131,15 @@ fn is_met<R: Threads + Wait + Sync>(rt: &R, alloc: Global, case: &Case) -> Resul
     let board = read_board(alloc, case.board.as_bytes())?;
     let mut out = MemSink::new(alloc, &[], 10_000)?;
     let handlers = Callbacks::new(ByKind);
-    let ran = run_and_print(rt, alloc, &board, case.summary, &NoGate, &handlers, &mut out);
+    let ran = run_and_print(
+        rt,
+        alloc,
+        &board,
+        case.summary,
+        &NoGate,
+        &handlers,
+        &mut out,
+    );
     let is_printed = out.written() == case.out.as_bytes();
     Ok(is_printed && ran.end == case.end && entries_of(&ran) == case.entries)
 }

@@ -45,13 +45,7 @@ pub(crate) fn play<S: Source, O: Sink, H: Handler>(
 }
 
 /// `run`: reads a board, runs it by threads, and prints its log line by line, or a summary.
-pub(crate) fn run<
-    R: Threads + Wait + Sync,
-    S: Source,
-    O: Sink,
-    G: Gate + Sync,
-    H: Handler + Sync,
->(
+pub(crate) fn run<R: Threads + Wait + Sync, S: Source, O: Sink, G: Gate + Sync, H: Handler + Sync>(
     rt: &R,
     alloc: Global,
     summary: bool,

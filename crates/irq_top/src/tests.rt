@@ -271,7 +271,14 @@ fn a_generated_board(rt: HostRuntime) -> Result<(), Fail> {
 #[test]
 fn words(rt: HostRuntime) -> Result<(), Fail> {
     let alloc = rt.alloc();
-    for form in ["play now", "", "run 1", "plays", "gen 07", "check --summary"] {
+    for form in [
+        "play now",
+        "",
+        "run 1",
+        "plays",
+        "gen 07",
+        "check --summary",
+    ] {
         let words: Vec<&str> = form.split_whitespace().collect(alloc)?;
         let seen = call(&rt, alloc, &words, BOARD.as_bytes(), SOUND)?;
         assert!(rt; seen.is(2, None, b"", USAGE.as_bytes()), "{form}");

@@ -72,13 +72,7 @@ pub fn irq_main<
 }
 
 /// All but the row on the error sink.
-fn work<
-    R: Threads + Wait + Sync,
-    S: Source,
-    O: Sink,
-    G: Gate + Sync,
-    H: Handler + Sync,
->(
+fn work<R: Threads + Wait + Sync, S: Source, O: Sink, G: Gate + Sync, H: Handler + Sync>(
     rt: &R,
     alloc: Global,
     words: &[&str],
