@@ -26,7 +26,7 @@ has d (e ∷ es) = if same_dev d e.0 then true else has d es
 abbrev pub is_mismatch : Flags → List (DevNo × Action) → Bool
 is_mismatch flags t = list_any (λ e. flags_differ flags e.1.flags) t
 
--- the answer of a request, where it is said whether all thread bits are in use
+-- the answer of a request, given whether all thread bits are in use
 abbrev pub answer_where : Bool → Kind → Flags → List (DevNo × Action) → LinkAnswer
 answer_where full kind flags t =
     if flags.shared && flags.noauto then links.Refused errors.Inval
@@ -35,7 +35,7 @@ answer_where full kind flags t =
     else (if is_null kind && not flags.oneshot then links.Refused errors.Inval
     else links.Linked)))
 
--- the answer of a request: all bits are in use where 64 actions are linked
+-- the answer of a request: all bits are in use if 64 actions are linked
 abbrev pub answer_by : Kind → Flags → List (DevNo × Action) → LinkAnswer
 answer_by kind flags t = answer_where (not (nat_lt (length t) 64)) kind flags t
 
@@ -66,7 +66,7 @@ bits_from used (e ∷ es) = bits_from (bit_or used e.1.bit) es
 abbrev pub bits_of : List (DevNo × Action) → ℕ
 bits_of t = bits_from 0 t
 
--- the lowest bit that isn't in use, where one of the 64 isn't
+-- the lowest bit that isn't in use, if there is one of the 64
 abbrev pub lowest_free : ℕ → ℕ
 lowest_free used = 2 ^ trailing_ones w64 used
 
@@ -110,7 +110,7 @@ abbrev pub bit_in : Option (DevNo × Action) → ℕ
 bit_in None = 0
 bit_in (Some e) = e.1.bit
 
--- the bit of an action, where it has one
+-- the bit of an action, if it has one
 abbrev pub bit_of : Option Action → Option ℕ
 bit_of None = None
 bit_of (Some a) = if a.bit == 0 then None else Some a.bit

@@ -15,7 +15,8 @@ use std::marker::Model;
 pub struct Action {
     /// The flags of its request.
     pub flags: Flags,
-    /// Its thread bit (`thread_mask`): a word in which this one bit is set, or 0 where it isn't one-shot.
+    /// Its thread bit (`thread_mask`): a word in which this one bit is set, or 0 if the action
+    /// isn't one-shot.
     pub bit: u64,
 }
 
@@ -85,7 +86,7 @@ impl Actions {
         self.map.len() == 1 && self.contains(dev)
     }
 
-    /// The device's thread bit; none where it isn't linked or has none.
+    /// The device's thread bit; none if it isn't linked or has none.
     pub(crate) fn bit(&self, dev: DevNo) -> Option<u64>
         ensures bit { result ≡ bit_of (lookup (same_dev dev) self.now.actions) }
         ensures oneshot { is_some result ≡ is_oneshot_in (lookup (same_dev dev) self.now.actions) }
@@ -98,7 +99,7 @@ impl Actions {
         Some(action.bit)
     }
 
-    /// Makes room for one more action.
+    /// Makes room for one more action. The only error is `NoMemory`.
     pub(crate) fn reserve(&mut self) -> Result<(), NoMemory>
         ensures room { OnOk result (1 ≤ self.new.spare) }
         ensures spare { self.old.spare ≤ self.new.spare }
@@ -160,7 +161,7 @@ impl Actions {
         used
     }
 
-    /// The thread bit of the action at the place, 0 where it has none.
+    /// The thread bit of the action at the place, 0 if it has none.
     fn bit_at(&self, place: usize) -> u64
         ensures { result ≡ bit_in (slice_get self.now.actions place) }
     {
@@ -170,19 +171,19 @@ impl Actions {
         }
     }
 
-    /// The lowest thread bit that is free: one is, where fewer than 64 actions have one each.
+    /// The lowest thread bit that is free: there is one while fewer than 64 actions are linked.
     fn free_bit(&self) -> u64
         requires { length self.now.actions < 64 }
         ensures bit { result ≡ lowest_free (bits_of self.now.actions) }
         ensures free { IsLowestFree self.now.actions result }
     {
-        // That no two actions have the same bit is kept of the map; so the place is below 64.
+        // The map keeps that no two actions have the same bit; so the place is below 64.
         let _map = &self.map;
         let place = self.used_bits().trailing_ones();
         1 << place
     }
 
-    /// The thread bit of a new action with these flags, or 0 where it isn't one-shot.
+    /// The thread bit of a new action with these flags, or 0 if it isn't one-shot.
     pub(crate) fn new_bit(&self, flags: Flags) -> u64
         requires { flags.oneshot ≡ true → length self.now.actions < 64 }
         ensures bit { result ≡ bit_by flags self.now.actions }

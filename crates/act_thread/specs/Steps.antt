@@ -38,7 +38,7 @@ may_begin r = r.woken && not (is_in_run r.stage)
 abbrev pub may_return : ThreadRow → Bool
 may_return r = is_begun r.stage
 
--- the run ends: at once where the line isn't one-shot, else after it was finalized
+-- the run ends: at once if the line isn't one-shot, else after it was finalized
 abbrev pub ends_after : Bool → Stage → Bool
 ends_after oneshot stages.Returned = not oneshot
 ends_after oneshot stages.Finished = true
@@ -60,11 +60,11 @@ steps_at woken _ = true
 abbrev pub is_ready : ThreadRow → Bool
 is_ready r = steps_at r.woken r.stage
 
--- the thread could step: a run that has returned where it may go on
+-- the thread could step; a run whose handler has returned can if it may go on
 abbrev pub could_step : Bool → ThreadRow → Bool
 could_step goes_on r = is_ready r || (goes_on && is_returned r)
 
--- the thread is to run; nothing changes where it is already
+-- the thread is to run; nothing changes if it is already
 abbrev pub woken_row : Bool → ThreadRow → ThreadRow
 woken_row oneshot r = if r.woken then r else record r { woken = true; held = r.held || oneshot }
 

@@ -39,7 +39,7 @@ pub enum Finished {
 }
 
 impl ThreadRow {
-    /// The thread is to run from now on; nothing changes where it is already.
+    /// The thread is to run from now on; nothing changes if it is already.
     pub(crate) fn woken(self, oneshot: bool) -> ThreadRow
         ensures { result ≡ woken_row oneshot self }
     {
@@ -164,7 +164,7 @@ impl ThreadRow {
         }
     }
 
-    /// Whether the thread's handler has returned, and the run goes on where the line lets it.
+    /// Whether the thread's handler has returned, so that the run goes on if the line lets it.
     pub(crate) fn is_returned(self) -> bool
         ensures { result ≡ is_returned self }
     {

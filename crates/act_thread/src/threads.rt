@@ -39,7 +39,7 @@ impl Model for Threads {
 }
 
 impl Threads {
-    /// The threads of the line's devices, all at rest. Refused only for want of memory.
+    /// The threads of the line's devices, all at rest. The only error is `NoMemory`.
     pub fn new(alloc: Global, def: &LineDef) -> Result<Threads, NoMemory>
         requires distinct { HasDistinctDevices def.now.devices }
         requires few { length def.now.devices ≤ 256 }
@@ -137,8 +137,8 @@ impl Threads {
         row.may_return()
     }
 
-    /// The thread gives its bit up, unless it is to run again (`irq_finalize_oneshot`). Whether the line is one-shot
-    /// and a flow is in progress is the caller's to look at.
+    /// The thread gives its bit up, unless it is to run again (`irq_finalize_oneshot`). The caller
+    /// looks whether the line is one-shot and a flow is in progress.
     pub fn finish(&mut self, dev: DevNo) -> Finished
         ensures could { result ≡ finishes_at self.old dev }
         ensures rows { self.new ≡ change finished_row self.old dev }

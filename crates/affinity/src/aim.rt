@@ -44,8 +44,8 @@ impl Aim {
         }
     }
 
-    /// Changes the mask, now or at the next interrupt. Refused with EINVAL, and nothing changes, where it has no
-    /// processor of the machine.
+    /// Changes the mask, now or at the next interrupt. It is refused with EINVAL, and nothing
+    /// changes, if the mask has no processor of the machine.
     pub fn set(&mut self, mask: u32) -> AffinityAnswer
         ensures answer { result ≡ set_answer self.old mask }
         ensures aim { self.new ≡ after_set result mask self.old }

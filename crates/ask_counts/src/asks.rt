@@ -32,7 +32,7 @@ impl Model for Asks {
 }
 
 impl Asks {
-    /// The devices of the line, of which none has asked. Refused only for want of memory.
+    /// The devices of the line, of which none has asked. The only error is `NoMemory`.
     pub fn new(alloc: Global, def: &LineDef) -> Result<Asks, NoMemory>
         requires distinct { HasDistinctDevices def.now.devices }
         requires few { length def.now.devices ≤ 256 }
@@ -132,7 +132,7 @@ impl Asks {
     }
 }
 
-/// One where an ask of the row is unserved, else nought.
+/// One if an ask of the row is unserved, else nought.
 fn waiting_part(row: AskRow) -> u32
     ensures { result ≡ one_if (is_waiting row) }
 {

@@ -49,7 +49,7 @@ cut_pushed ds r calls steps i x at is yes_call =
 
 -- ---- one more call
 
--- a line takes part exactly where its number has a place
+-- a line takes part exactly if its number has a place
 part_by_number : (ds : List LineDef) (line : LineNo) (o : Option ℕ) → IsPlaceOfNumber (numbers_of_defs ds) line.0 o → takes_part ds line ≡ is_some o
 part_by_number ds line (Some k) at = there ds k at
   where

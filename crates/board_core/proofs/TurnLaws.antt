@@ -241,7 +241,7 @@ module _ (board : BoardSeen) (isb : IsBoard board) (layout : List Placement) (li
           let there : slice_get (board_lines lines) step.place ≡ Some (board_line x) = sym (script_line board.calls (board_lines lines) apart s (is.each j s at_s) (Some step) here) ∙ current in
           own_script board.calls (board_lines lines) (x.def.line, e) apart have s (is.each j s at_s) own step here (board_line x) there refl
 
-  -- where the actor is no driver, each script is another's
+  -- if the actor is no driver, each script is another's
   no_driver : (b : Actor) → IsScriptOf board.drivers b None → (r : DriverNo) → is_driver r b ≡ false
   no_driver (actors.Driver s) of r = absurd of
   no_driver (actors.Cpu c) of r = refl

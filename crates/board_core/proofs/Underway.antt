@@ -31,7 +31,7 @@ fresh s picks f =
       next = refl;
     }
 
--- where nothing has changed the lines are still as the moves left them
+-- if nothing has changed the lines are still as the moves left them
 pub as_left : (old new : SystemSeen) (picks rest : List Actor) → new ≡ old → IsUnderway old picks rest → board_lines new.lines ≡ lines_of new.board (reverse new.log)
 as_left old new picks rest same u = subst (λ (s : SystemSeen). board_lines s.lines ≡ lines_of s.board (reverse s.log)) (sym same) u.lines
 
@@ -117,7 +117,7 @@ pick_full old new picks i d line len turn within u same t =
     subst (λ (s : SystemSeen). IsPlay s picks (ends.Full line len)) (sym full.1)
     (is_full old picks (get_or picks i d ∷ drop (i + 1) picks) (drop (i + 1) picks) (move_of old (get_or picks i d)) line len (at_pick old picks i d within u) full.0 (λ m due. with_move old (get_or picks i d) (drop (i + 1) picks) m due))
 
--- where somebody can move there is a next move, whatever picks are left
+-- if somebody can move there is a next move, whatever picks are left
 some_choice : (s : SystemSeen) (picks : List Actor) → IsSome (lowest_move s) → IsSome (choice s.board (board_lines s.lines) picks)
 some_choice s [] some = by_move (lowest_move s) some
   where
@@ -133,7 +133,7 @@ some_choice s (pick ∷ picks) some = by_pick (move_of s pick) (some_choice s pi
     by_pick None deeper = deeper
     by_pick (Some m) deeper = refl
 
--- memory was refused where there was a next move
+-- memory was refused if there was a next move
 refused : (s : SystemSeen) (picks rest : List Actor) → IsUnderway s picks rest → IsSome (lowest_move s) → IsPlay s picks ends.NoMemory
 refused s picks rest u some =
     let next : IsSome (choice s.board (board_lines s.lines) u.left) = ap (λ (o : Option (Move × List Actor)). is_some o) u.next ∙ some_choice s rest some in

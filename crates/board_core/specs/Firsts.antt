@@ -17,7 +17,7 @@ pub record IsFirst (s : SystemSeen) (all : List Actor) (a : Actor) : Type 0 wher
   pub moves : IsSome (move_of s a)
   pub before : (j : ℕ) (b : Actor) → j < place → slice_get all j ≡ Some b → move_of s b ≡ None
 
--- the first of the actors that can move; none where none can
+-- the first of the actors that can move; none if none can
 abbrev pub IsFirstOf : SystemSeen → List Actor → Option Actor → Type 0
 IsFirstOf s all None = (j : ℕ) (b : Actor) → slice_get all j ≡ Some b → move_of s b ≡ None
 IsFirstOf s all (Some a) = IsFirst s all a

@@ -19,7 +19,7 @@ abbrev pub MakesAll : (ℕ → LineDef → Type 0) → BoardSeen → List Placem
 MakesAll makes board layout =
     (i virq : ℕ) (path : List (ℕ × ℕ)) (row : LineRow) → slice_get board.lines i ≡ Some row → slice_get layout i ≡ Some (placements.Mapped virq path) → makes virq (line_of_row board row)
 
--- the line of that definition, to which nothing has happened; none where it has no place
+-- the line of that definition, to which nothing has happened; none if it has no place
 abbrev pub IsNewLine : LineDef → Option Placement → Option LineSeen → Type 0
 IsNewLine def (Some (placements.Mapped virq path)) made = IsSomeAnd made (λ x. board_line x ≡ record { def = def; past = [] })
 IsNewLine def _ made = made ≡ None

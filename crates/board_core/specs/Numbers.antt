@@ -7,7 +7,7 @@ use Rattle.irq_line.specs.Seen.{LineSeen}
 abbrev pub IsRising : List ℕ → Type 0
 IsRising numbers = (i j : ℕ) → i ≤ j → j < length numbers → slice_index numbers i ≤ slice_index numbers j
 
--- the number stands there; none where it doesn't stand
+-- the number stands there; none if it doesn't stand
 abbrev pub IsPlaceOfNumber : List ℕ → ℕ → Option ℕ → Type 0
 IsPlaceOfNumber numbers n None = (k : ℕ) → slice_get numbers k ≡ Some n → ⊥
 IsPlaceOfNumber numbers n (Some k) = slice_get numbers k ≡ Some n

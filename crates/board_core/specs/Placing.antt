@@ -73,7 +73,7 @@ pub record AreJoined (own old new : List ScriptSeen) : Type 0 where
   pub drivers : drivers_of new ≡ drivers_of old
   pub each : (j : ℕ) (s o : ScriptSeen) → slice_get old j ≡ Some s → slice_get own j ≡ Some o → slice_get new j ≡ Some (joined o s)
 
--- the place of the driver that the actor is; none where it is no driver
+-- the place of the driver that the actor is; none if it is no driver
 abbrev pub IsPlaceOfActor : List ℕ → Actor → Option ℕ → Type 0
 IsPlaceOfActor numbers (actors.Driver r) place = IsPlaceOfNumber numbers r.0 place
 IsPlaceOfActor numbers _ place = place ≡ None

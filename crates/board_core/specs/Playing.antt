@@ -20,7 +20,7 @@ pub record IsUnderway (s : SystemSeen) (picks rest : List Actor) : Type 0 where
   pub chosen : IsChosen s.board picks (reverse s.log) left
   pub next : choice s.board (board_lines s.lines) left ≡ choice s.board (board_lines s.lines) rest
 
--- The log is the play of the board with these picks, done or full as was answered; a full one tells the length. Where
+-- The log is the play of the board with these picks, done or full as was answered; a full one tells the length. If
 -- memory was refused it is the play so far, and there is a next move.
 abbrev pub IsPlay : SystemSeen → List Actor → PlayEnd → Type 0
 IsPlay s picks ends.Done = Plays s.board picks (reverse s.log) Done

@@ -36,7 +36,7 @@ abbrev pub call_at : Option Step → ℕ → Option CurrentCall
 call_at None made = None
 call_at (Some step) made = Some (record { line = step.place; wait = wait_for (block_of step.call.call made) })
 
--- the driver's current call; none where its script is at its end
+-- the driver's current call; none if its script is at its end
 abbrev pub call_of : ScriptSeen → Option CurrentCall
 call_of s = call_at (slice_get s.steps s.at) s.made
 

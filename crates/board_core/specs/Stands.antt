@@ -48,7 +48,7 @@ abbrev pub IsScriptPlace : SystemSeen → Actor → Option ℕ → Type 0
 IsScriptPlace s (actors.Driver r) None = current_line s.board.calls (board_lines s.lines) r ≡ None
 IsScriptPlace s a o = IsScriptOf s.board.drivers a o
 
--- the places of that line and of the actor's script; none where the line takes no part
+-- the places of that line and of the actor's script; none if the line takes no part
 abbrev pub IsStandOn : SystemSeen → LineNo → Actor → Option Stand → Type 0
 IsStandOn s line a None = find_line (board_lines s.lines) line ≡ None
 IsStandOn s line a (Some stand) = CanStepAt s a stand × (slice_get (board_lines s.lines) stand.line ≡ find_line (board_lines s.lines) line)

@@ -36,7 +36,7 @@ pub record IsFullFor (s : SystemSeen) (due : Option Move) (line : LineNo) (len :
   pub length : HasLength (find_line (board_lines s.lines) line) len
   pub log : len ≡ s.board.log
 
--- a turn in which that move was to be made, if any; memory is wanted only where one was
+-- a turn in which that move was to be made, if any; memory is wanted only if one was
 abbrev pub TurnsBy : SystemSeen → Option Move → Turn → SystemSeen → Type 0
 TurnsBy old due (turns.Moved line entry) new = Moves old due (line, entry) new
 TurnsBy old due turns.NotYet new = (due ≡ None) × (new ≡ old)

@@ -35,7 +35,7 @@ pub(crate) fn make_lines<L: IrqLine, M: MakesLine<L>>(
     Ok(lines)
 }
 
-/// The line of that definition, by the maker; none where it has no place.
+/// The line of that definition, by the maker; none if it has no place.
 fn make_line<L: IrqLine, M: MakesLine<L>>(
     alloc: Global,
     placement: Option<Placement>,

@@ -66,14 +66,14 @@ impl Script {
         self.driver
     }
 
-    /// The call that the driver is at; none where all are complete.
+    /// The call that the driver is at; none if all are complete.
     pub fn current(&self) -> Option<Step>
         ensures { result ≡ slice_get self.now.steps self.now.at }
     {
         self.steps.get(self.at).copied()
     }
 
-    /// The current call, by its line and by what it waits for; none where all calls are complete.
+    /// The current call, by its line and by what it waits for; none if all calls are complete.
     pub fn call(&self) -> Option<CurrentCall>
         ensures { result ≡ call_of self.now }
     {
@@ -86,7 +86,7 @@ impl Script {
         }
     }
 
-    /// The current call, with how many of its entries are there; none where all calls are complete.
+    /// The current call, with how many of its entries are there; none if all calls are complete.
     pub fn due(&self) -> Option<DueCall>
         ensures { result ≡ due_at (slice_get self.now.steps self.now.at) self.now.made }
     {

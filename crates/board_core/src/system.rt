@@ -117,7 +117,7 @@ impl<'b, L: IrqLine> System<'b, L> {
     }
 
     /// The system of the board's lines as they stand, with an empty log: it tells what comes after the entries that the
-    /// lines have. Refused only for want of memory.
+    /// lines have. The only error is `NoMemory`.
     pub fn of_lines(
         alloc: Global,
         board: &'b Board,
@@ -231,8 +231,8 @@ impl<'b, L: IrqLine> System<'b, L> {
         }
     }
 
-    /// The call that the driver is at, the first of its script that isn't complete: where calls on lines that take no
-    /// part are passed over. None where all are complete, or the driver isn't the board's.
+    /// The call that the driver is at, the first of its script that isn't complete: if calls on lines that take no
+    /// part are passed over. None if all are complete, or the driver isn't the board's.
     pub fn due_call(&self, driver: DriverNo) -> Option<DueCall>
         ensures { result ≡ call_on (current_line self.now.board.calls (board_lines self.now.lines) driver) driver }
     {
@@ -243,7 +243,7 @@ impl<'b, L: IrqLine> System<'b, L> {
         self.scripts[j].due()
     }
 
-    /// One step of the actor on its line, if it can move. Where the entry ends a run of a handler, that handler is called.
+    /// One step of the actor on its line, if it can move. If the entry ends a run of a handler, that handler is called.
     /// It takes the same time however many actors and entries there are, and no memory but the log's and the histories'.
     pub fn turn<H: Handler>(&mut self, actor: Actor, handlers: &Callbacks<H>) -> Turn
         ensures { Turns self.old actor result self.new }
@@ -362,7 +362,7 @@ impl<'b, L: IrqLine> System<'b, L> {
     }
 
     /// One step of the actor on this line, whichever line it would step on in a turn; a driver's current call is on it.
-    /// `NotYet` where the line takes no part. So the plays of other scenarios are made, which choose lines by a rule of
+    /// `NotYet` if the line takes no part. So the plays of other scenarios are made, which choose lines by a rule of
     /// their own.
     pub fn step_on<H: Handler>(
         &mut self,
@@ -379,7 +379,7 @@ impl<'b, L: IrqLine> System<'b, L> {
         self.step_stand(stand, actor, handlers)
     }
 
-    /// The places of the line and of the actor's script; none where the line takes no part.
+    /// The places of the line and of the actor's script; none if the line takes no part.
     fn stand_on(&self, line: LineNo, actor: Actor) -> Option<Stand>
         requires { IsCurrentOn self.now line actor }
         ensures { IsStandOn self.now line actor result }
@@ -458,7 +458,7 @@ impl<'b, L: IrqLine> System<'b, L> {
         }
     }
 
-    /// Plays the board from its beginning to its end: the picks in turn, where one that can't move is passed over, and
+    /// Plays the board from its beginning to its end: the picks in turn, if one that can't move is passed over, and
     /// then always the lowest actor that can move.
     pub fn play<H: Handler>(&mut self, picks: &[Actor], handlers: &Callbacks<H>) -> PlayEnd
         requires { IsFresh self.old }

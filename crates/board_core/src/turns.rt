@@ -11,7 +11,7 @@ pub enum Turn {
     /// The actor could move, but its line's history has the log limit's length. `len`: that many entries. Nothing
     /// changed.
     Full { line: LineNo, len: u32 },
-    /// Memory was wanted and refused, and nothing changed.
+    /// Memory was needed and refused, and nothing changed.
     NoMemory,
 }
 
@@ -23,7 +23,7 @@ pub enum PlayEnd {
     /// The actor whose turn it is could move, but its line's history has the log limit's length. `len`: that many
     /// entries.
     Full { line: LineNo, len: u32 },
-    /// Memory was wanted and refused.
+    /// Memory was needed and refused.
     NoMemory,
 }
 

@@ -11,7 +11,7 @@ use Rattle.board_def.specs.declared.names.Name.{Name}
 use Rattle.board_def.specs.declared.rows.DomainRow.{DomainRow}
 use Rattle.board_def.specs.declared.rows.LineRow.{LineRow}
 
--- a line is declared exactly where it is found
+-- a line is declared exactly if it is found
 pub has_line_found : (lines : List LineRow) (line : LineNo) → has_line lines line ≡ is_some (find_line lines line)
 has_line_found [] line = refl
 has_line_found (x ∷ xs) line = by (x.line.0 == line.0) (has_line_found xs line)
@@ -20,7 +20,7 @@ has_line_found (x ∷ xs) line = by (x.line.0 == line.0) (has_line_found xs line
     by true rest = refl
     by false rest = rest
 
--- a name is a domain's exactly where a domain of it has a place
+-- a name is a domain's exactly if a domain of it has a place
 pub has_name_place : (domains : List DomainRow) (name : Name) → has_name domains name ≡ is_some (place_of_name domains name)
 has_name_place domains name = walk domains ∙ shown (nat_lt (position_or_len (is_domain_named name) domains) (length domains)) (position_or_len (is_domain_named name) domains)
   where

@@ -210,7 +210,7 @@ first_stands d (x ∷ cs) c h = by (is_owning d x) refl h (first_stands d cs c)
     by true is h rest = let same : x ≡ c = cc in (zero, ap Some same, subst (λ (y : ScriptCall). is_owning d y ≡ true) same is)
     by false is h rest = let r = rest h in (suc r.0, r.1, r.2)
 
--- where the last request or free after a request is no request, a free stands after it
+-- if the last request or free after a request is no request, a free stands after it
 last_stands : (d : DevNo) (cs : List ScriptCall) (c : ScriptCall) → last_owning d cs ≡ Some c → (k : ℕ) × (slice_get cs k ≡ Some c) × (is_owning d c ≡ true)
 last_stands d [] c h = absurd cc
 last_stands d (x ∷ cs) c h = by (last_owning d cs) refl (sym (last_after d x cs) ∙ h) (last_stands d cs c)

@@ -26,7 +26,7 @@ abbrev pub last_item : {A : Type 0} → List A → Option A
 last_item [] = None
 last_item (x ∷ xs) = Some (last_from x xs)
 
--- the number of the last line; none where there is none
+-- the number of the last line; none if there is none
 abbrev pub last_line : List LineRow → Option LineNo
 last_line rows = option_map (λ row. row.line) (last_item rows)
 

@@ -271,28 +271,28 @@ impl Board {
         self.picks.len()
     }
 
-    /// The place of the domain of that name, counted from 0; none where there is none.
+    /// The place of the domain of that name, counted from 0; none if there is none.
     pub fn find_domain(&self, name: &Name) -> Option<usize>
         ensures { result ≡ place_of_name self.now.domains name.now }
     {
         self.domains.place_of(name)
     }
 
-    /// The line of that number; none where there is none.
+    /// The line of that number; none if there is none.
     pub fn find_line(&self, line: LineNo) -> Option<LineRow>
         ensures { result ≡ find_line self.now.lines line }
     {
         self.lines.find(&line)
     }
 
-    /// The place of the line of that number, counted from 0; none where there is none.
+    /// The place of the line of that number, counted from 0; none if there is none.
     pub fn place_of_line(&self, line: LineNo) -> Option<usize>
         ensures { result ≡ place_of_line self.now.lines line }
     {
         self.lines.place_of(&line)
     }
 
-    /// The device of that number; none where there is none.
+    /// The device of that number; none if there is none.
     pub fn find_device(&self, dev: DevNo) -> Option<DeviceDef>
         ensures { result ≡ find_device self.now.devices dev }
     {
@@ -306,21 +306,21 @@ impl Board {
         self.drivers.find(&driver).is_some()
     }
 
-    /// The number of the last line, which is the greatest; none where there is none.
+    /// The number of the last line, which is the greatest; none if there is none.
     pub fn last_line(&self) -> Option<LineNo>
         ensures { result ≡ last_line self.now.lines }
     {
         Some(self.lines.last()?.line)
     }
 
-    /// The number of the last device, which is the greatest; none where there is none.
+    /// The number of the last device, which is the greatest; none if there is none.
     pub fn last_device(&self) -> Option<DevNo>
         ensures { result ≡ last_device self.now.devices }
     {
         Some(self.devices.last()?.dev)
     }
 
-    /// The number of the last driver, which is the greatest; none where there is none.
+    /// The number of the last driver, which is the greatest; none if there is none.
     pub fn last_driver(&self) -> Option<DriverNo>
         ensures { result ≡ last_driver self.now.drivers }
     {

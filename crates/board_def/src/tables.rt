@@ -78,7 +78,7 @@ impl<K: Copy + Eq + Hash + Drop, T: Keyed<K> + Copy + Drop> Table<K, T> {
         Some(*row)
     }
 
-    /// The last row; none where there is none.
+    /// The last row; none if there is none.
     #[tactic(auto, using(crate::proofs::Finds::last_at))]
     pub fn last(&self) -> Option<T>
         ensures { result ≡ last_item self.now }
@@ -86,14 +86,14 @@ impl<K: Copy + Eq + Hash + Drop, T: Keyed<K> + Copy + Drop> Table<K, T> {
         self.get(self.len().saturating_sub(1))
     }
 
-    /// The row of that key; none where there is none.
+    /// The row of that key; none if there is none.
     pub fn find(&self, key: &K) -> Option<T>
         ensures { result ≡ find_row K.eq T.key_of self.now key.now }
     {
         self.rows.get(key).copied()
     }
 
-    /// The place of the row of that key, counted from 0; none where there is none.
+    /// The place of the row of that key, counted from 0; none if there is none.
     pub fn place_of(&self, key: &K) -> Option<usize>
         ensures { result ≡ position (λ row. K.eq key.now (T.key_of row)) self.now }
     {

@@ -27,7 +27,7 @@ use Rattle.domain_rules.specs.declared.layouts.Placement.TheVariants as placemen
 
 -- ---- the cell of a board's line
 
--- an interrupt is kept in service where a level line goes by the fast-EOI flow
+-- an interrupt is kept in service if a level line goes by the fast-EOI flow
 served_by : (k : LevelKind) → serves_kind k ≡ (not (is_edge_trigger (trigger_of_root k)) && is_eoi_flow (flow_of_root k))
 served_by levels.Latch = refl
 served_by levels.Plain = refl

@@ -37,7 +37,7 @@ impl<'h> MakesChainLine<'h> {
         MakesChainLine { domains }
     }
 
-    /// The maker of the board's lines, where the hierarchy is laid for the board. It makes each line that takes part, of
+    /// The maker of the board's lines, if the hierarchy is laid for the board. It makes each line that takes part, of
     /// its virq and of the definition that the board gives it.
     pub fn of_board(domains: &'h Hierarchy, board: &Board) -> MakesChainLine<'h>
         requires domains { domains.now.domains ≡ defs_of board.now.domains }

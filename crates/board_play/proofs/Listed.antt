@@ -115,7 +115,7 @@ listed board is valid lines k (actors.Cpu c) m moves =
 listed board is valid lines k (actors.Driver r) m moves =
     in_second (actors.Driver r) (threads_of board) (cpus_of board ++ drivers_of board) (in_second (actors.Driver r) (cpus_of board) (drivers_of board) (caller_listed board is lines r moves.line moves.its))
 
--- where none of the board's actors can move, none can
+-- if none of the board's actors can move, none can
 pub all_rest : (board : BoardSeen) → IsBoard board → AreValid board → (lines : List BoardLine) → AreKept board lines → ((a : Actor) → IsOneOf a (actors_of board) → due_move board lines a ≡ None) → (a : Actor) → due_move board lines a ≡ None
 all_rest board is valid lines k rest a = by_move (due_move board lines a) refl
   where

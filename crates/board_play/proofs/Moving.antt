@@ -203,7 +203,7 @@ module _ (calls : List ScriptCall) (lines : List BoardLine) (apart : AreApart (m
           let was = subst (λ (z : BoardLine). due_call z.def r z.past ≡ Some (c, suc o)) (sym s.is) due in
           subst (λ (z : BoardLine). IsSomeAnd (slice_get calls k.place) (IsCallOn z.def.line r)) s.is (here s.line (of_line s.line j s.at (same_line s.line.def.line m.0) refl c o was))
 
-  -- where it doesn't go on, no call has begun
+  -- if it doesn't go on, no call has begun
   none : ((d : Call) (n : ℕ) → due_call x.def r (m.1 ∷ x.past) ≡ Some (d, suc n) → ⊥) → current_from lines r [] calls ≡ Some x
       → (y : BoardLine) (j : ℕ) → slice_get lines j ≡ Some y → (b : Bool) → same_line y.def.line m.0 ≡ b → (c : Call) (o : ℕ) → due_call y.def r (cond b (m.1 ∷ y.past) y.past) ≡ Some (c, suc o) → ⊥
   none not is y j at true same c o due = not c o (subst (λ (z : BoardLine). due_call z.def r (m.1 ∷ z.past) ≡ Some (c, suc o)) (sym (is_moved_line y j at same)) due)

@@ -1,4 +1,4 @@
--- No standstill: where nobody can move, every script is at its end.
+-- No standstill: if nobody can move, every script is at its end.
 use Rattle.std.proofs.Common.{◌≡◌, ◌⊎◌, inl, inr, ℕ, zero, suc, ◌+◌, ◌≤◌, Bool, true, false, ◌&&◌, cond, is_some, IsSome, Option, Some, None, List, [], ◌∷◌, reverse, take, slice_get, refl, sym, ap, ◌∙◌, subst, arith}
 use Rattle.std.proofs.lemmas.List.{reverse-reverse}
 use Rattle.irq_base.specs.declared.calls.Call.{Call}

@@ -1,6 +1,6 @@
 -- The line of a driver's current call: the first of its script that isn't complete.
 --
--- Call k of the driver on a line, counted from 0, is complete where the line's history has more than k complete calls of
+-- Call k of the driver on a line, counted from 0, is complete if the line's history has more than k complete calls of
 -- the driver. So only histories are looked at.
 use Rattle.std.specs.Prelude.{ℕ, ◌+◌, Bool, false, ◌&&◌, nat_le, Option, Some, None, List, [], ◌∷◌, length, if◌then◌else◌}
 use Rattle.irq_base.specs.declared.numbers.DriverNo.{DriverNo}
@@ -20,7 +20,7 @@ abbrev pub is_open : Option BoardLine → DriverNo → ℕ → Bool
 is_open None r k = false
 is_open (Some x) r k = nat_le (length (complete_by x.def r x.past)) k
 
--- the line of the driver's first call among `cs` that isn't complete, where `before` stands before them in the scripts,
+-- the line of the driver's first call among `cs` that isn't complete, if `before` stands before them in the scripts,
 -- the last first
 abbrev pub current_from : List BoardLine → DriverNo → List ScriptCall → List ScriptCall → Option BoardLine
 current_from lines r before [] = None

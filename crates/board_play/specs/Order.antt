@@ -41,7 +41,7 @@ abbrev pub due_on : Option BoardLine → Actor → Option Move
 due_on None a = None
 due_on (Some x) a = move_on x.def.line (next_past x.def x.past a)
 
--- the actor's move: its line, and the entry that is due there; none where it can't move
+-- the actor's move: its line, and the entry that is due there; none if it can't move
 abbrev pub due_move : BoardSeen → List BoardLine → Actor → Option Move
 due_move board lines a = due_on (line_for board lines a) a
 

@@ -37,13 +37,13 @@ pub fn play_keeps()
     ensures law { (board : BoardSeen) (picks : List Actor) (g : List Move) (end : End) → IsBoard board → Plays board picks g end → AreKept board (lines_of board g) }
 {}
 
-/// No standstill: where none of the board's actors can move, every script is at its end, and each line is settled.
+/// No standstill: if none of the board's actors can move, every script is at its end, and each line is settled.
 pub fn no_standstill()
     ensures complete { (board : BoardSeen) (lines : List BoardLine) → IsBoard board → AreKept board lines → ((a : Actor) → IsOneOf a (actors_of board) → due_move board lines a ≡ None) → (r : DriverNo) → current_line board.calls lines r ≡ None }
     ensures settled { (board : BoardSeen) (lines : List BoardLine) → IsBoard board → AreKept board lines → ((a : Actor) → IsOneOf a (actors_of board) → due_move board lines a ≡ None) → (i : ℕ) (x : BoardLine) → slice_get lines i ≡ Some x → IsSettled x.def (reverse x.past) }
 {}
 
-/// Where a play is done every script is at its end and each line is settled, and so all is delivered.
+/// If a play is done every script is at its end and each line is settled, and so all is delivered.
 pub fn done_is_settled()
     ensures complete { (board : BoardSeen) (picks : List Actor) (g : List Move) → IsBoard board → Plays board picks g Done → (r : DriverNo) → current_line board.calls (lines_of board g) r ≡ None }
     ensures settled { (board : BoardSeen) (picks : List Actor) (g : List Move) → IsBoard board → Plays board picks g Done → (i : ℕ) (x : BoardLine) → slice_get (lines_of board g) i ≡ Some x → IsSettled x.def (reverse x.past) }

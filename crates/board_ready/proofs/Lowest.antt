@@ -8,7 +8,7 @@ use Rattle.board_ready.specs.Ready.{lower_of, thread_on, lowest_from, lowest_thr
 use Rattle.board_ready.specs.declared.parts.LinePart.{LinePart}
 use Rattle.board_ready.specs.declared.parts.ReadyThread.{ReadyThread}
 
--- where none is found none passes
+-- if none is found none passes
 from_nothing : (p : ℕ → Bool) (k n i : ℕ) → first_from p k n ≡ None → k ≤ i → i < k + n → p i ≡ false
 from_nothing p k zero i h a b = absurd (omega (arith, a, b))
 from_nothing p k (suc n) i h a b = by_test (p k) refl h (λ g less. from_nothing p (k + 1) n i g (omega (arith, less)) (omega (arith, b)))

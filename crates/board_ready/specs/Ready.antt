@@ -85,7 +85,7 @@ is_barred waits.Threads x = x.threads
 is_barred waits.Mutex x = x.mutex
 is_barred waits.Device x = x.device
 
--- a call can go on at its line; where there is no such line it can't
+-- a call can go on at its line; if there is no such line it can't
 abbrev pub is_open : WaitFor → Option LinePart → Bool
 is_open wait None = false
 is_open wait (Some x) = not (is_barred wait x.barriers)

@@ -6,5 +6,5 @@ use Rattle.board_ready.specs.declared.parts.CurrentCall.{CurrentCall}
 pub record ReadySeen : Type 0 where
   -- a part for each line
   pub lines : List LinePart
-  -- the current call of each driver, none where its script is at its end
+  -- the current call of each driver, none if its script is at its end
   pub drivers : List (Option CurrentCall)

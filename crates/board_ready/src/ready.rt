@@ -91,14 +91,14 @@ impl ReadyActors {
         self.drivers[driver] = call;
     }
 
-    /// The part of the line at that place; none where there is no such line.
+    /// The part of the line at that place; none if there is no such line.
     pub fn line(&self, line: usize) -> Option<LinePart>
         ensures { result ≡ slice_get self.now.lines line }
     {
         self.lines.get(line).copied()
     }
 
-    /// The current call of the driver at that place; none where its script is at its end, or there is no such driver.
+    /// The current call of the driver at that place; none if its script is at its end, or there is no such driver.
     pub fn call(&self, driver: usize) -> Option<CurrentCall>
         ensures { result ≡ current_call self.now.drivers driver }
     {

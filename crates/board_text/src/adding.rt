@@ -118,7 +118,7 @@ fn line_of_call(board: &Board, call: CallWords) -> LineNo
     }
 }
 
-/// The line of the device; 0 where it isn't declared.
+/// The line of the device; 0 if it isn't declared.
 fn line_of_device(board: &Board, dev: DevNo) -> LineNo
     ensures { result ≡ line_of_device board.now.devices dev }
 {

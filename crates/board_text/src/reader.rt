@@ -60,7 +60,7 @@ impl Reader {
         }
     }
 
-    /// Reads a text line. After a fault, or where memory was refused, the reader is of no more use.
+    /// Reads a text line. After a fault, or if memory was refused, the reader is of no more use.
     pub fn read_line(&mut self, alloc: Global, line: &[u8]) -> Result<(), StatementRefused>
         requires { IsKept self.old }
         ensures { (past : List Statement) → Keeps past self.old → ReadsLine past line.now self.new result }
@@ -170,7 +170,7 @@ impl Reader {
         Ok(())
     }
 
-    /// The board of the whole text, where no statement had a fault.
+    /// The board of the whole text, if no statement had a fault.
     pub fn end(self) -> Result<Board, FaultKind>
         requires { IsKept self }
         ensures { (past : List Statement) → Keeps past self → Ends past result }

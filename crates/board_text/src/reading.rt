@@ -20,7 +20,7 @@ pub enum BoardRefused {
     /// The text's first fault.
     #[error("{0}")]
     Fault(BoardFault),
-    /// Memory was wanted and refused.
+    /// Memory was needed and refused.
     #[error("out of memory")]
     NoMemory,
 }

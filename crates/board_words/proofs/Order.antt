@@ -72,7 +72,7 @@ left_none (Some k) (Some j) h = kept (ltb (rank j) (rank k)) j k h where
   kept true j k h = cc
   kept false j k h = h
 
--- where nothing is found in the end, nothing was found before
+-- if nothing is found in the end, nothing was found before
 pub none_before : {place : List ℕ → List FaultKind} {old new : Places} → Takes place old new → new.found ≡ None → old.found ≡ None
 none_before {place} {old} {new} takes none = left_none old.found (fault_at place (words_left old.words)) (sym takes.found ∙ none)
 

@@ -30,7 +30,7 @@ spurious_is : (words : List (List ℕ)) → spurious_form words ≡ at (number 1
 spurious_is [] = refl
 spurious_is (word ∷ words) = refl
 
--- the limit's range matters only where the window is well
+-- the limit's range matters only if the window is well
 limit_if : (t : Bool) (found : Option FaultKind) (words : List (List ℕ)) (a b : ℕ) → found ≡ first_in_order (cond t [] (faults.BadNumber ∷ [])) → (found ≡ None → a ≡ b)
     → both found (first_in_order (limit_form b words)) ≡ both found (first_in_order (limit_form a words))
 limit_if true found words a b is same = ap (λ n. both found (first_in_order (limit_form n words))) (sym (same is))

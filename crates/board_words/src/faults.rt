@@ -76,7 +76,7 @@ impl FaultKind {
 #[derive(Clone, Copy, Debug, PartialEq, Eq, Error)]
 #[error("line {at}: {kind}")]
 pub struct BoardFault {
-    /// The text line, counted from 1; 0 where the fault is of the whole text.
+    /// The text line, counted from 1; 0 if the fault is of the whole text.
     pub at: u32,
     /// What is wrong.
     pub kind: FaultKind,

@@ -17,7 +17,7 @@ use irq_base::{Kind, LevelKind, MapKind};
 
 /// The words of a statement that are left, and the first fault in order that was found in those before them.
 ///
-/// Where something is wrong at a place, what is read there is a stand-in.
+/// If something is wrong at a place, what is read there is a stand-in.
 #[derive(Clone, Copy)]
 pub(crate) struct Places<'a> {
     pub(crate) words: Words<'a>,
@@ -158,7 +158,7 @@ impl<'a> Places<'a> {
         MapKind::Tree
     }
 
-    /// The parent of a level, where one is named, and whether more is.
+    /// The parent of a level, if one is named, and whether more is.
     pub(crate) fn parent(&mut self) -> (Option<Name>, bool)
         ensures found { self.new.found ≡ in_all self.old forms.parents_form }
         ensures value { self.new.found ≡ None → result ≡ (said.parent_name (words_left self.old.words), said.has_more_parents (words_left self.old.words)) }

@@ -15,7 +15,7 @@ pub struct DomainWords {
     pub map: MapKind,
     /// What its controllers do with the signal.
     pub chip: LevelKind,
-    /// The name of its parent; the first one where `parent` stands again.
+    /// The name of its parent; the first one if `parent` stands again.
     pub parent: Option<Name>,
     /// `parent` stands again.
     pub twice: bool,
@@ -34,7 +34,7 @@ pub struct LineWords {
     pub unlazy: bool,
     /// `later` stands.
     pub later: bool,
-    /// The number after `mask`, where it stands; the first one where it stands again.
+    /// The number after `mask`, if it stands; the first one if it stands again.
     pub mask: Option<u32>,
     /// An option stands again.
     pub twice: bool,
@@ -43,7 +43,7 @@ pub struct LineWords {
 /// A call of a script, and the device or line that it names.
 #[derive(Clone, Copy, PartialEq, Eq)]
 pub enum CallWords {
-    /// `request`; `twice` where a flag stands again.
+    /// `request`; `twice` if a flag stands again.
     Request {
         dev: DevNo,
         flags: Flags,

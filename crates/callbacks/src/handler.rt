@@ -12,7 +12,7 @@ pub trait Handler {
         ensures { result ≡ answer_of def.kind part unserved };
 }
 
-/// Handlers that are kept. What they answer is told by `Said`s alone.
+/// Handlers that are kept. Only a `Said` says what one of them answered.
 #[derive(Drop)]
 pub struct Callbacks<H: Handler> {
     handler: H,

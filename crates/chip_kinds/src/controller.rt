@@ -26,7 +26,8 @@ pub struct Controller<K> {
 }
 
 impl<K: ControllerKind> Controller<K> {
-    /// One to which nothing has been done: its mask is closed, it isn't active, and it is aimed at processor 0.
+    /// A controller to which nothing has been done: its mask is closed, it isn't active, and it is
+    /// aimed at processor 0.
     pub fn new() -> Controller<K>
         ensures cell { ⟦<Controller<K> as Chip>⟧.cell result ≡ K.fresh }
         ensures active { ⟦<Controller<K> as Chip>⟧.active result ≡ false }

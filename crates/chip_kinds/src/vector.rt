@@ -23,7 +23,7 @@ impl Model for VectorChip {
 }
 
 impl VectorChip {
-    /// One to which nothing has been done. It is open from the start.
+    /// A vector level to which nothing has been done. It is open from the start.
     pub fn new() -> VectorChip
         ensures { vector_cell result ≡ after_unmask (fresh_cell triggers.Edge false false true false) }
     {

@@ -251,8 +251,9 @@ impl Desc {
         self.mask(chip);
     }
 
-    /// One disable less; where it was the last the line is started (`__enable_irq`, `kernel/irq/manage.c`).
-    /// `linked`: the line has an action. Unbalanced, where it has none or no disable stands, nothing changes.
+    /// One disable less; if it was the last the line is started (`__enable_irq`,
+    /// `kernel/irq/manage.c`). `linked`: the line has an action. If it has none, or no disable
+    /// stands, the answer is Unbalanced, and nothing changes.
     pub fn enable<C: Chip>(&mut self, chip: &mut C, linked: bool, trigger: Trigger) -> EnableAnswer
         ensures answer { result ≡ enable_by linked trigger self.old (C.cell chip.old) }
         ensures desc { self.new ≡ enabled result self.old }

@@ -36,7 +36,7 @@ module _ {R : Type 0} where
   abbrev pub all_with : R → List DeviceDef → List (DevNo × R)
   all_with r xs = table_by (λ d. r) xs
 
-  -- the table, with h of d's value in its place; as it was where d has none
+  -- the table, with h of d's value in its place; as it was if d has none
   abbrev pub changed : (R → R) → List (DevNo × R) → DevNo → Option R → List (DevNo × R)
   changed h t d None = t
   changed h t d (Some r) = put t d (h r)

@@ -25,7 +25,7 @@ impl Hints {
         usize::from(self.places[dev.0 as usize % HINTS])
     }
 
-    /// The device is at the place, which isn't kept where it is far.
+    /// Notes that the device is at the place. A place that doesn't fit 16 bits isn't kept.
     pub(crate) fn note(&mut self, dev: DevNo, place: usize)
         ensures { place < 2 ^ 16 → self.new.places ≡ slice_set self.old.places (dev.0 % 256) place }
     {

@@ -44,7 +44,7 @@ impl RankSet {
         }
     }
 
-    /// The lowest rank of the set, or of both sets where `with` says so.
+    /// The lowest rank of the set, or of both sets if `with` says so.
     pub fn first(&self, other: &RankSet, with: bool) -> Option<u32>
         ensures { IsFirst (λ r. holds self.now r || (with && holds other.now r)) result }
     {
@@ -58,7 +58,7 @@ impl RankSet {
     }
 }
 
-/// The bits of the first word, or of both where `with` says so.
+/// The bits of the first word, or of both if `with` says so.
 fn joined(first: u64, second: u64, with: bool) -> u64
     ensures { (i : ℕ) → (bit_at result i == 1) ≡ ((bit_at first i == 1) || (with && (bit_at second i == 1))) }
 {

@@ -29,7 +29,7 @@ impl<R: Copy> Model for DeviceTable<R> {
 }
 
 impl<R: Copy> DeviceTable<R> {
-    /// The table of these devices, each with the same value. Refused only for want of memory.
+    /// The table of these devices, each with the same value. The only error is `NoMemory`.
     pub fn new(alloc: Global, devices: &DeviceList, row: R) -> Result<DeviceTable<R>, NoMemory>
         requires { HasDistinctDevices devices.now }
         ensures { IfOk result (λ t. t ≡ all_with row devices.now) }
@@ -76,7 +76,7 @@ impl<R: Copy> DeviceTable<R> {
         self.rows.get(&dev).copied()
     }
 
-    /// Sets the value of a device of the line; nothing changes where it isn't one.
+    /// Sets the value of a device of the line; nothing changes if it isn't one.
     pub fn set(&mut self, dev: DevNo, row: R)
         ensures { self.new ≡ put self.old dev row }
     {

@@ -10,7 +10,7 @@ use Rattle.domain_rules.specs.Domains.{is_msi}
 use Rattle.domain_rules.specs.Levels.{masking_kind, root_kind, is_root_kind, presents_level_kind, is_some_kind, trigger_of_root, keeps_kind, stores_at_root, retriggers_kind, serves_kind, cell_of}
 use Rattle.domain_chain.specs.Chains.{is_path_of_kinds, has_messages, root_cell, chain_cell, IsOpenBehind, fresh_chain, some_if}
 
--- the root masks, or a level of messages does; and that is so exactly where a level sends messages
+-- the root masks, or a level of messages does; and that is so exactly if a level sends messages
 pub data Masking (kinds : List LevelKind) : Type 0 where
   by_root : masking_kind kinds ≡ Some (root_kind kinds) → has_messages kinds ≡ false → is_msi (root_kind kinds) ≡ false → Masking kinds
   by_message : masking_kind kinds ≡ Some levels.Msi → has_messages kinds ≡ true → Masking kinds
@@ -134,7 +134,7 @@ pub behind_messages : (kinds : List LevelKind) (root after : Cell) → root ≡ 
     → chain_cell (Some fresh_level) after ≡ cell_of kinds
 behind_messages kinds root after e o m p = ap (chain_cell (Some fresh_level)) (o ∙ ap after_unmask e) ∙ (behind_kind (root_kind kinds) p ∙ ap (cell_by (root_kind kinds)) (sym m))
 
--- where the root masks, the path's cell is the root's
+-- if the root masks, the path's cell is the root's
 pub at_root : (kinds : List LevelKind) → masking_kind kinds ≡ Some (root_kind kinds) → root_cell (root_kind kinds) ≡ cell_of kinds
 at_root kinds m = ap (cell_by (root_kind kinds)) (sym m)
 

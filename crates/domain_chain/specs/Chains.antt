@@ -1,4 +1,4 @@
--- The chip of a path: its root and, where a level of messages masks, that level before it. Each other level passes
+-- The chip of a path: its root and, if a level of messages masks, that level before it. Each other level passes
 -- everything on and is open for good.
 use Rattle.std.specs.Prelude.{◌≡◌, ℕ, Bool, true, false, not, ◌&&◌, if◌then◌else◌, IfSome, Option, Some, None, List, [], ◌∷◌}
 use Rattle.std.specs.List.{list_any}
@@ -24,13 +24,13 @@ has_messages kinds = list_any is_msi kinds
 abbrev pub root_cell : LevelKind → Cell
 root_cell kind = fresh_cell (trigger_of_root kind) (keeps_kind kind) (stores_at_root kind) (retriggers_kind kind) (serves_kind kind)
 
--- The cell of both. The level of messages, where there is one, masks and stores in the root's place, and what the
--- root was sent is not taken back.
+-- The cell of both. The level of messages, if there is one, masks and stores in the root's place,
+-- and what was sent to the root isn't taken back.
 abbrev pub chain_cell : Option LevelSeen → Cell → Cell
 chain_cell None root = root
 chain_cell (Some level) root = record root { keeps = true; recalls = false; masked = level.masked; stored = level.pending }
 
--- where a level of messages masks, the root presents edges and is open
+-- if a level of messages masks, the root presents edges and is open
 abbrev pub IsOpenBehind : Option LevelSeen → Cell → Type 0
 IsOpenBehind level root = IfSome level (λ _. (is_edge_cell root ≡ true) × (root.masked ≡ false))
 
@@ -43,7 +43,7 @@ pub record ChainSeen : Type 0 where
   pub aimed : ℕ
   -- the number of its levels
   pub levels : ℕ
-  -- the number that its messages carry, where it sends messages: the one at its root
+  -- the number that its messages carry, if it sends messages: the one at its root
   pub number : Option ℕ
 
 -- a chain to which nothing was done
@@ -57,7 +57,7 @@ message_by c = if c.active then option_map (message_of c.aimed) c.number else No
 abbrev pub some_if : Bool → ℕ → Option ℕ
 some_if b number = if b then Some number else None
 
--- the number that messages carry, where a level sends them
+-- the number that messages carry, if a level sends them
 abbrev pub number_sent : Option LevelSeen → ℕ → Option ℕ
 number_sent None number = None
 number_sent (Some level) number = Some number

@@ -74,8 +74,9 @@ impl Chain {
         if self.active { self.levels } else { 0 }
     }
 
-    /// The message that the path sends (`irq_chip_compose_msi_msg`, `kernel/irq/chip.c`): to the processor that it is
-    /// aimed at, with the number at its root; none exactly where no level sends messages, or it isn't active.
+    /// The message that the path sends (`irq_chip_compose_msi_msg`, `kernel/irq/chip.c`): to the
+    /// processor that it is aimed at, with the number at its root; none exactly if no level sends
+    /// messages, or it isn't active.
     pub fn message(&self) -> Option<Message>
         ensures { result ≡ message_by self.now }
     {

@@ -50,7 +50,7 @@ tally_used c d [] one = omega (arith, tally_none c (is_used [] d) (λ j below. r
 tally_used c d (p ∷ ps) one =
     omega (arith, tally_or c (λ j. has_number d j p) (is_used ps d), tally_one c (λ j. has_number d j p) one.0, tally_used c d ps one.1)
 
--- where all numbers below c are used, there are as many lines
+-- if all numbers below c are used, there are as many lines
 pub used_below : (c d : ℕ) (earlier : List Placement) → OneEach d earlier → ((j : ℕ) → j < c → is_used earlier d j ≡ true) → c ≤ length earlier
 used_below c d earlier one all = omega (arith, tally_all c (is_used earlier d) all, tally_used c d earlier one)
 

@@ -28,7 +28,7 @@ answer_by (placements.Refused reasons.OutOfRange) virq = allocs.OutOfRange
 answer_by (placements.Refused reasons.Taken) virq = allocs.Taken
 answer_by (placements.Mapped number path) virq = allocs.Ok virq
 
--- what is due of a line that is asked for by its domain and its number there, where memory is ample
+-- what is due of a line that is asked for by its domain and its number there, with ample memory
 abbrev pub alloc_answer : HierarchySeen → ℕ × ℕ → AllocAnswer
 alloc_answer h leaf = answer_by (placement_of h.domains (in_use h.paths) leaf) (lowest_virq h.paths)
 
@@ -36,7 +36,7 @@ abbrev pub is_allocated : AllocAnswer → Bool
 is_allocated (allocs.Ok virq) = true
 is_allocated _ = false
 
--- the due answer is told; in place of a virq also that memory was refused
+-- the answer is the due one; in place of a virq it may also be that memory was refused
 abbrev pub IsAnswered : AllocAnswer → AllocAnswer → Type 0
 IsAnswered due allocs.NoMemory = is_allocated due ≡ true
 IsAnswered due told = told ≡ due

@@ -9,7 +9,7 @@ use Rattle.domain_rules.specs.declared.layouts.Placement.TheVariants as placemen
 abbrev pub slot : List (Option (List (ℕ × ℕ))) → ℕ → Option (List (ℕ × ℕ))
 slot paths i = slice_index_or paths i None
 
--- the path of a virq; none where it isn't in use
+-- the path of a virq; none if it isn't in use
 abbrev pub path_in : List (Option (List (ℕ × ℕ))) → ℕ → Option (List (ℕ × ℕ))
 path_in paths zero = None
 path_in paths (suc i) = slot paths i

@@ -11,6 +11,6 @@ pub enum AllocAnswer {
     OutOfRange,
     /// No level of its path can mask.
     NoMask,
-    /// Memory was wanted and refused.
+    /// Memory was needed and refused.
     NoMemory,
 }

@@ -53,7 +53,7 @@ impl Hierarchy {
     }
 
     /// Adds the domain, which is allowed after those before it, and answers its place (`irq_domain_create_hierarchy`).
-    /// Refused, all is as before.
+    /// If it is refused, all is as before.
     pub fn add_domain(&mut self, def: DomainDef) -> Result<usize, NoMemory>
         requires { IsDomainAfter self.old.domains def }
         ensures place { IfOk result (λ place. place ≡ length self.old.domains) }
@@ -108,7 +108,8 @@ impl Hierarchy {
         DisposeAnswer::Ok
     }
 
-    /// The path of the virq, leaf first: pairs of a domain's place and the number there; none where it isn't in use.
+    /// The path of the virq, leaf first: pairs of a domain's place and the number there; none if
+    /// the virq isn't in use.
     pub fn path(&self, virq: u32) -> Option<Path>
         ensures { result ≡ path_in self.now.paths virq }
     {
@@ -168,7 +169,7 @@ impl Hierarchy {
     }
 }
 
-// Writes the path for the lowest virq that isn't in use. Refused for want of memory, all is as before.
+// Writes the path for the lowest virq that isn't in use. If memory is refused, all is as before.
 fn write(maps: &mut DomainMaps, paths: &mut PathTable, path: Path) -> Result<u32, NoMemory>
     requires few { length path ≤ 8 }
     requires room { HasRoom maps.old path }

@@ -2,7 +2,8 @@
 //! whole path.
 //!
 //! A line is asked for by a domain and its number there. An allocation first looks: it finds the number at each level
-//! of the path, or the refusal, and changes nothing. Then it writes, and what fails for want of memory is undone.
+//! of the path, or the refusal, and changes nothing. Then it writes, and what fails out of memory
+//! is undone.
 #![tactic(auto)]
 
 pub mod answers;

@@ -25,7 +25,7 @@ impl Model for PathTable {
 }
 
 impl PathTable {
-    /// None in use. It takes no memory yet.
+    /// The table with no path in use. It takes no memory yet.
     pub(crate) fn new(alloc: Global) -> PathTable
         ensures { result ≡ [] }
     {
@@ -35,7 +35,7 @@ impl PathTable {
         }
     }
 
-    /// The path at the place; none where it is free.
+    /// The path at the place; none if it is free.
     pub(crate) fn get(&self, place: usize) -> Option<Path>
         ensures { result ≡ slot self.now place }
     {
@@ -53,7 +53,7 @@ impl PathTable {
         self.free
     }
 
-    /// Puts the path at the first place that is free. Refused, all is as before.
+    /// Puts the path at the first place that is free. If it is refused, all is as before.
     pub(crate) fn put(&mut self, path: Path) -> Result<(), NoMemory>
         ensures ok { OnOk result (self.new ≡ placed self.old path) }
         ensures err { OnErr result (self.new ≡ self.old) }
@@ -89,7 +89,7 @@ fn store(paths: &mut Vec<Option<Path>>, free: usize, path: Path) -> Result<(), N
     Ok(())
 }
 
-// The first place that is free, where none before `from` is.
+// The first place that is free, which isn't before `from`.
 fn next_free(paths: &[Option<Path>], from: usize) -> usize
     requires { first_free (drop from paths.now) + from ≡ first_free paths.now }
     ensures { result ≡ first_free paths.now }

@@ -35,7 +35,7 @@ impl DomainMaps {
         }
     }
 
-    /// Adds an empty map of that kind at the end. Refused, all is as before.
+    /// Adds an empty map of that kind at the end. If it is refused, all is as before.
     pub fn push(&mut self, alloc: Global, kind: MapKind) -> Result<(), NoMemory>
         ensures numbers { OnOk result ((domain hw : ℕ) → virq_at self.new domain hw ≡ virq_at self.old domain hw) }
         ensures sizes { OnOk result (sizes self.new ≡ sizes self.old ++ size_of_kind kind ∷ []) }
@@ -46,7 +46,7 @@ impl DomainMaps {
         Ok(())
     }
 
-    /// The virq at the hardware number of the domain at that place; none where it isn't mapped.
+    /// The virq at the hardware number of the domain at that place; none if it isn't mapped.
     pub fn virq(&self, domain: usize, hw: u32) -> Option<u32>
         ensures { result ≡ virq_at self.now domain hw }
     {
@@ -57,7 +57,8 @@ impl DomainMaps {
         }
     }
 
-    /// The lowest number that isn't mapped at the domain, where one isn't. In a full linear map it is the size.
+    /// The lowest number that isn't mapped at the domain; there is one. In a full linear map it is
+    /// the size.
     pub fn lowest_free(&self, domain: usize) -> u32
         requires there { domain < length self.now }
         requires free { IsLowestFree (virq_at self.now domain) None → ⊥ }
@@ -66,8 +67,9 @@ impl DomainMaps {
         self.maps[domain].lowest_free().unwrap()
     }
 
-    /// Maps each level of the path to the virq, which is above 0, the root's first (`irq_domain_alloc_irqs_hierarchy`,
-    /// `kernel/irq/irqdomain.c`). Refused for want of memory, what was written is given up again.
+    /// Maps each level of the path to the virq, which is above 0, the root's first
+    /// (`irq_domain_alloc_irqs_hierarchy`, `kernel/irq/irqdomain.c`). If memory is refused, what
+    /// was written is given up again.
     pub fn write(&mut self, path: &Path, virq: u32) -> Result<(), NoMemory>
         requires few { length path.now ≤ 8 }
         requires virq { 0 < virq }

@@ -44,7 +44,7 @@ level_desc takes.Off cpu d = record d { masked = true; pending = true }
 abbrev pub level_cell : Cell → Cell
 level_cell c = after_ack (after_mask c)
 
--- the end opens the line where it may
+-- the end opens the line if it may
 abbrev pub level_left : Bool → DescSeen → Left
 level_left held d = record { again = false; unmask = may_open held d }
 
@@ -93,7 +93,7 @@ eoi_level_cell oneshot takes.Off c = after_eoi (after_mask c)
 abbrev pub eoi_cell : Trigger → Bool → TakeAnswer → Cell → Cell
 eoi_cell trigger oneshot answer c = if is_edge_trigger trigger then eoi_edge_cell answer c else eoi_level_cell oneshot answer c
 
--- the end has an edge line's chip send again what is pending, and opens a one-shot level line where it may
+-- the end has an edge line's chip send again what is pending, and opens a one-shot level line if it may
 abbrev pub eoi_left : Trigger → Bool → DescSeen → Left
 eoi_left trigger held d =
     if is_edge_trigger trigger then record { again = goes_on d; unmask = false }

@@ -9,9 +9,10 @@ use crate::left::Left;
 use desc_state::Desc;
 use irq_base::{Chip, CpuNo, TakeAnswer, Trigger};
 
-/// Takes an interrupt on a controller that keeps an accepted interrupt in service by itself and wants one end of
-/// interrupt for it. The line comes in open as a rule. A level shows itself again after that end; an edge line is
-/// acknowledged first (ours; `handle_fasteoi_ack_irq` does so where the handlers are to run).
+/// Takes an interrupt on a controller that keeps an accepted interrupt in service by itself and
+/// needs one end of interrupt for it. The line comes in open as a rule. A level shows itself again
+/// after that end; an edge line is acknowledged first (ours; `handle_fasteoi_ack_irq` does so if
+/// the handlers are to run).
 ///
 /// Busy: a flow is in progress; the interrupt is ended, and on an edge line it is pending (ours). Off: the line is
 /// disabled, or has no action (`linked` is false); the interrupt is pending, the line is masked, and the interrupt
@@ -92,10 +93,11 @@ fn turn_off<C: Chip>(desc: &mut Desc, chip: &mut C) -> TakeAnswer
     TakeAnswer::Off
 }
 
-/// Ends the flow, after the note on spurious interrupts, and after the kill that it may have made: the end of
-/// interrupt. On a one-shot level line the mask opens unless the line is disabled by now, or `held`: some one-shot
-/// thread hasn't finished (`cond_unmask_eoi_irq`). On an edge line where an interrupt is pending and the line isn't
-/// disabled by now, the chip is made to send it again (ours); so at depth 0 such a line must come in open.
+/// Ends the flow, after the note on spurious interrupts, and after the kill that it may have made:
+/// the end of interrupt. On a one-shot level line the mask opens unless the line is disabled by
+/// now, or `held`: some one-shot thread hasn't finished (`cond_unmask_eoi_irq`). On an edge line,
+/// if an interrupt is pending and the line isn't disabled by now, the chip is made to send it again
+/// (ours); so at depth 0 such a line must come in open.
 pub fn leave<C: Chip>(desc: &mut Desc, chip: &mut C, held: bool, trigger: Trigger) -> Left
     requires open { is_edge_trigger trigger ≡ true → desc.old.depth ≡ 0 → (C.cell chip.old).masked ≡ false }
     ensures left { result ≡ eoi_left trigger held desc.old }
@@ -132,7 +134,7 @@ fn send_again<C: Chip>(desc: &mut Desc, chip: &mut C) -> Left
     }
 }
 
-/// A one-shot line opens where nothing holds it.
+/// A one-shot line opens if nothing holds it.
 fn open_again<C: Chip>(desc: &mut Desc, chip: &mut C, held: bool) -> Left
     ensures left { result ≡ record { again = false; unmask = desc.old.oneshot && may_open held desc.old } }
     ensures desc { desc.new ≡ record desc.old { masked = desc.old.masked && not result.unmask } }

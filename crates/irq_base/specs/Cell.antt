@@ -60,7 +60,7 @@ after_ack c = if is_edge_cell c then record c { sent = false } else c
 abbrev pub after_eoi : Cell → Cell
 after_eoi c = if is_edge_cell c then c else record c { in_service = false }
 
--- whether the cell sends again when it is told to
+-- whether the cell sends again when it is asked to
 abbrev pub can_retrigger : Cell → Bool
 can_retrigger c = is_edge_cell c && c.retriggers
 

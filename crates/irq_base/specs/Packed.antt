@@ -89,7 +89,7 @@ is_wide w = w.0 % 32 == 31
 abbrev pub place_of : Packed → ℕ
 place_of w = w.0 / 32
 
--- what is read where no wide entry stands
+-- what is read from a place without a wide entry
 abbrev pub nothing : Entry
 nothing = entries.Done (dev_no 0)
 

@@ -21,7 +21,7 @@ pub enum LevelKind {
     Plain,
     /// A root that presents levels.
     Level,
-    /// A root that presents levels and wants an end of interrupt.
+    /// A root that presents levels and needs an end of interrupt.
     Eoi,
     /// A child with a mask bit and a pending bit for each message.
     Msi,

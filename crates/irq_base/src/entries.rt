@@ -141,15 +141,15 @@ pub enum Entry {
         cpu: CpuNo,
         dev: DevNo,
     },
-    /// It returned. `served`: how many asks it served.
+    /// The handler returned. `served`: how many asks it served.
     Return {
         cpu: CpuNo,
         dev: DevNo,
         answer: Answer,
         served: u32,
     },
-    /// The flow handler after its last handler. `again`: the interrupt that came meanwhile is handled too.
-    /// `unmask`: the chip's mask is opened.
+    /// The flow handler after its last handler. `again`: it goes on with the interrupt that came
+    /// meanwhile. `unmask`: it opens the chip's mask.
     End {
         cpu: CpuNo,
         again: bool,
@@ -160,7 +160,7 @@ pub enum Entry {
     ThreadBegin {
         dev: DevNo,
     },
-    /// It returned. `served`: how many asks it served.
+    /// The thread's handler returned. `served`: how many asks it served.
     ThreadReturn {
         dev: DevNo,
         served: u32,

@@ -32,7 +32,7 @@ impl Model for History {
 }
 
 impl History {
-    /// The empty history, with room for `n` entries.
+    /// The empty history, with room for `n` entries. The only error is `NoMemory`.
     pub fn with_room(alloc: Global, n: usize) -> Result<History, NoMemory>
         ensures empty { IfOk result (λ h. h.entries ≡ []) }
         ensures room { IfOk result (λ h. n ≤ h.spare) }
@@ -42,13 +42,13 @@ impl History {
         Ok(History { words, wide })
     }
 
-    /// Makes room for `n` more entries. Refused, all is as before.
+    /// Makes room for `n` more entries. If it is refused, all is as before.
     pub fn reserve(&mut self, n: usize) -> Result<(), NoMemory>
         ensures room { OnOk result (n ≤ self.new.spare) }
         ensures same { self.new.entries ≡ self.old.entries }
         ensures refused { OnErr result (self.new ≡ self.old) }
     {
-        // The roomier one first: where the other is refused, the smaller room is as it was.
+        // The roomier one grows first: if the other is refused, the smaller room is as it was.
         let words_room = self.words.capacity() - self.words.len();
         let wide_room = self.wide.capacity() - self.wide.len();
         if words_room <= wide_room {

@@ -63,7 +63,7 @@ pub struct LineDef {
 }
 
 impl LineDef {
-    /// The same definition once more, in memory of its own. Refused only for want of memory.
+    /// The same definition once more, in memory of its own. The only error is `NoMemory`.
     pub fn try_clone(&self, alloc: Global) -> Result<LineDef, NoMemory>
         ensures { IfOk result (λ d. d ≡ self.now) }
     {

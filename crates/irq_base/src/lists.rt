@@ -29,7 +29,7 @@ impl<T: Copy> ItemList<T> {
         }
     }
 
-    /// Adds the item at the end. Refused, the list is as before.
+    /// Adds the item at the end. If it is refused, the list is as before.
     pub fn push(&mut self, item: T) -> Result<(), NoMemory>
         ensures ok { OnOk result (self.new ≡ self.old ++ item ∷ []) }
         ensures err { OnErr result (self.new ≡ self.old) }
@@ -59,7 +59,7 @@ impl<T: Copy> ItemList<T> {
         self.items.get(i).copied()
     }
 
-    /// The same list once more, in memory of its own.
+    /// The same list once more, in memory of its own. The only error is `NoMemory`.
     pub fn try_clone(&self, alloc: Global) -> Result<ItemList<T>, NoMemory>
         ensures { IfOk result (λ l. l ≡ self.now) }
     {

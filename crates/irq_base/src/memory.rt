@@ -1,10 +1,10 @@
-//! Want of memory, the one refusal that no contract can rule out.
+//! Out of memory: the one refusal that no contract can rule out.
 ghost use Rattle.std.specs.Prelude.{◌≡◌};
 
 use std::alloc::{AllocError, AllocFailed};
 use thiserror::Error;
 
-/// Memory was wanted and refused. What the call was to change is as before.
+/// Memory was needed and refused. What the call was to change is as before.
 #[derive(Clone, Copy, Debug, PartialEq, Eq, Error)]
 #[error("out of memory")]
 pub struct NoMemory;

@@ -46,7 +46,7 @@ impl Packed {
         Packed(WIDE + TAGS * place)
     }
 
-    /// Its parts.
+    /// The parts of the word.
     pub fn parts(self) -> Parts
         ensures { result ≡ parts_of self }
     {
@@ -73,7 +73,7 @@ impl Packed {
         None
     }
 
-    /// Its entry, where these are the wide ones.
+    /// The entry that the word stands for, with these as the wide entries.
     #[tactic(auto, unfolding(crate::specs::Packed::unpack))]
     pub fn unpack(self, wide: &[Entry]) -> Entry
         ensures { result ≡ unpack wide.now self }

@@ -22,7 +22,7 @@ pub struct Parts {
     pub second: u32,
 }
 
-// The tags: processors first, then threads, then drivers.
+// The tags: those of processors come first, then those of threads, then those of drivers.
 const TAKE: u32 = 0;
 
 const BEGIN: u32 = 1;

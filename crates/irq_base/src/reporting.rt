@@ -45,7 +45,7 @@ impl Reports {
         }
     }
 
-    /// Makes room for `n` more reports. Refused, all is as before.
+    /// Makes room for `n` more reports. If it is refused, all is as before.
     pub fn reserve(&mut self, n: usize) -> Result<(), NoMemory>
         ensures room { OnOk result (n ≤ self.new.spare) }
         ensures same { self.new.reports ≡ self.old.reports }
@@ -55,7 +55,8 @@ impl Reports {
         Ok(())
     }
 
-    /// Adds the report at the end. Refused, the list is as before; with spare room it isn't refused.
+    /// Adds the report at the end. If it is refused, the list is as before; with spare room it
+    /// isn't refused.
     pub fn push(&mut self, report: LineReport) -> Result<(), NoMemory>
         ensures ok { OnOk result (self.new.reports ≡ self.old.reports ++ report ∷ []) }
         ensures err { OnErr result (self.new ≡ self.old) }
@@ -116,7 +117,7 @@ impl Logs {
         }
     }
 
-    /// Adds the history at the end. Refused, the list is as before.
+    /// Adds the history at the end. If it is refused, the list is as before.
     pub fn push(&mut self, history: History) -> Result<(), NoMemory>
         ensures ok { OnOk result (self.new ≡ self.old ++ history ∷ []) }
         ensures err { OnErr result (self.new ≡ self.old) }

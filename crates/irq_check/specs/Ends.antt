@@ -26,7 +26,7 @@ abbrev pub is_read_fault : Result Answer InputRefused → Bool
 is_read_fault (Err refusals.ReadFault) = true
 is_read_fault _ = false
 
--- where the source tells what is left: what came is judged, and was read to its end; or it has that fault, and was read
+-- if the source tells what is left: what came is judged, and was read to its end; or it has that fault, and was read
 -- to its end or one byte past the longest input
 abbrev pub ReadsInput : Option (List ℕ) → Option (List ℕ) → Result Answer InputRefused → Type 0
 ReadsInput (Some bytes) now (Ok answer) = IsChecked bytes answer × (now ≡ Some [])

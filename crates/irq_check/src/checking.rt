@@ -24,7 +24,7 @@ pub enum CheckRefused {
     /// It is too long, has no log, or has a board's text with this as its first fault; the first of these counts.
     #[error("{0}")]
     Fault(BoardFault),
-    /// Memory was wanted and refused.
+    /// Memory was needed and refused.
     #[error("out of memory")]
     NoMemory,
 }
@@ -34,7 +34,7 @@ pub enum CheckRefused {
 /// # Errors
 ///
 /// `Fault` with the first of: the input has more than `LONGEST_INPUT` bytes; it has no row `---`; the faults of the
-/// text of the board. `NoMemory` where memory was refused.
+/// text of the board. `NoMemory` if memory was refused.
 pub fn check_bytes(alloc: Global, bytes: &[u8]) -> Result<Answer, CheckRefused>
     ensures exact { Checks bytes.now result }
 {
@@ -62,7 +62,7 @@ fn whole(kind: FaultKind) -> CheckRefused
     CheckRefused::Fault(BoardFault { at: 0, kind })
 }
 
-/// Judges the text of a log of the board. Refused only for want of memory.
+/// Judges the text of a log of the board. The only error is `NoMemory`.
 fn check_log(alloc: Global, board: &Board, log: &[u8]) -> Result<Answer, NoMemory>
     requires { length log.now ≤ 67108864 }
     ensures { IfOk result (λ answer. ChecksLog board.now log.now answer) }

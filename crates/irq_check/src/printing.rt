@@ -23,7 +23,7 @@ pub enum CheckEnd {
     ReadFault,
     /// The input was judged, and a write or a flush of the output failed.
     WriteFault,
-    /// Memory was wanted and refused.
+    /// Memory was needed and refused.
     NoMemory,
 }
 

@@ -9,7 +9,7 @@ use std::alloc::Global;
 use std::env::Args;
 use std::io::{self, ErrorKind};
 
-/// The words after the program's name; or how the program ends where the arguments aren't text, or memory is wanted
+/// The words after the program's name; or how the program ends if the arguments aren't text, or memory is wanted
 /// and refused.
 pub fn words_of(alloc: Global, args: io::Result<Args>) -> Result<Vec<String>, Ending>
     ensures words { IfOk result (λ words. AreText args (map string_bytes words.items)) }

@@ -15,17 +15,17 @@ IsToldBeginning None (Some all) = ⊥
 IsToldBeginning (Some first) None = ⊥
 IsToldBeginning (Some first) (Some all) = IsBeginning first all
 
--- the bytes are what an end told, where it told
+-- the bytes are what an end told, if it told
 abbrev pub IsTold : Option (List ℕ) → List ℕ → Type 0
 IsTold None bytes = Unit {0}
 IsTold (Some told) bytes = told ≡ bytes
 
--- where it was told: it still is, and begins with what it was
+-- if it was told: it still is, and begins with what it was
 abbrev pub GrowsTo : Option (List ℕ) → Option (List ℕ) → Type 0
 GrowsTo None now = Unit {0}
 GrowsTo (Some before) now = IsToldBeginning (Some before) now
 
--- where it was told: it is as it was
+-- if it was told: it is as it was
 abbrev pub Stays : Option (List ℕ) → Option (List ℕ) → Type 0
 Stays None now = Unit {0}
 Stays (Some before) now = now ≡ Some before

@@ -17,7 +17,7 @@ abbrev pub writing_failed : WriteEnd → Bool
 writing_failed ends.Done = false
 writing_failed ends.Failed = true
 
--- where a writing is done, and a flush after it, all that was written has been handed on
+-- if a writing is done, and a flush after it, all that was written has been handed on
 abbrev pub HandsOn : Option (List ℕ) → Option (List ℕ) → WriteEnd → Type 0
 HandsOn handed_on written ends.Done = handed_on ≡ written
 HandsOn handed_on written ends.Failed = Unit {0}
@@ -27,18 +27,18 @@ abbrev pub KeepsNone : List ℕ → WriteEnd → Type 0
 KeepsNone kept ends.Done = kept ≡ []
 KeepsNone kept ends.Failed = Unit {0}
 
--- where the source tells what is left: the bytes are the first `most` of it, or all, and exactly they were taken
+-- if the source tells what is left: the bytes are the first `most` of it, or all, and exactly they were taken
 abbrev pub TakesUpTo : ℕ → Option (List ℕ) → Option (List ℕ) → List ℕ → Type 0
 TakesUpTo most None now bytes = Unit {0}
 TakesUpTo most (Some before) now bytes = (bytes ≡ take most before) × (now ≡ Some (drop most before))
 
--- where the source tells what is left: what was taken is a beginning of it, of at most `most` bytes
+-- if the source tells what is left: what was taken is a beginning of it, of at most `most` bytes
 abbrev pub TakesAtMost : ℕ → Option (List ℕ) → Option (List ℕ) → Type 0
 TakesAtMost most None now = Unit {0}
 TakesAtMost most (Some before) now =
     (taken : List ℕ) × (rest : List ℕ) × (length taken ≤ most) × (before ≡ taken ++ rest) × (now ≡ Some rest)
 
--- where the sink tells its content: it grew by the bytes, or after a fault by a beginning of them
+-- if the sink tells its content: it grew by the bytes, or after a fault by a beginning of them
 abbrev pub WritesAll : Option (List ℕ) → Option (List ℕ) → List ℕ → WriteEnd → Type 0
 WritesAll None now bytes end = Unit {0}
 WritesAll (Some before) now bytes ends.Done = now ≡ Some (before ++ bytes)

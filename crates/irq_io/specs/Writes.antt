@@ -24,7 +24,7 @@ IfTook writes.Failed P = Unit {0}
 abbrev pub TookWithin : ℕ → WriteAnswer → Type 0
 TookWithin given answer = IfTook answer (λ n. (1 ≤ n) × (n ≤ given))
 
--- where the sink tells its content: it grew by the bytes that were taken; a fault adds nothing
+-- if the sink tells its content: it grew by the bytes that were taken; a fault adds nothing
 abbrev pub Writes : Option (List ℕ) → Option (List ℕ) → List ℕ → WriteAnswer → Type 0
 Writes None now bytes answer = Unit {0}
 Writes (Some before) now bytes (writes.Took n) = now ≡ Some (before ++ take n bytes)

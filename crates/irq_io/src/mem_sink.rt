@@ -1,4 +1,4 @@
-//! A sink in memory, whose writes and flushes fail where they are told to.
+//! A sink in memory, whose writes and flushes fail if they are told to.
 ghost use Rattle.std.specs.Prelude.{◌≡◌, Some, [], ◌-◌, ◌<◌, ◌↔◌, ◌⊎◌, min, length, IfOk};
 ghost use Rattle.std.specs.List.{Contains};
 ghost use Rattle.std.proofs.Common.{sym};
@@ -51,7 +51,7 @@ impl MemSink {
     }
 
     /// The empty sink with that room, for which the memory is taken at once. `fails` are the numbers of the writes
-    /// that fail, `flush_fails` those of the flushes, each counted from 1. Refused only for want of memory.
+    /// that fail, `flush_fails` those of the flushes, each counted from 1. The only error is `NoMemory`.
     pub fn with_failing_flushes(
         alloc: Global,
         fails: &[u32],
@@ -115,7 +115,7 @@ impl Sink for MemSink {
             ↔ (Contains self.old.fails (next_count self.old.writes) ⊎ (self.old.room ≡ 0)) }
         ensures faults { self.new.faults ≡ count_after self.old.faults (write_failed result) }
 
-        // The number of writes stands still at the greatest u64, where no list has it.
+        // The number of writes stands still at the greatest u64, if no list has it.
         ensures writes { self.new.writes ≡ next_count self.old.writes }
         ensures room { self.new.room ≡ self.old.room - taken_of result }
         ensures settings { (self.new.fails ≡ self.old.fails)
@@ -143,7 +143,7 @@ impl Sink for MemSink {
             ↔ Contains self.old.flush_fails (next_count self.old.flushes) }
         ensures faults { self.new.faults ≡ count_after self.old.faults (flush_failed result) }
 
-        // The number of flushes stands still at the greatest u64, where no list has it.
+        // The number of flushes stands still at the greatest u64, if no list has it.
         ensures flushes { self.new.flushes ≡ next_count self.old.flushes }
         ensures settings { (self.new.fails ≡ self.old.fails) × (self.new.flush_fails ≡ self.old.flush_fails)
             × (self.new.writes ≡ self.old.writes) × (self.new.room ≡ self.old.room) }

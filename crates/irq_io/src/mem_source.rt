@@ -1,4 +1,4 @@
-//! A source in memory, whose reads fail where they are told to.
+//! A source in memory, whose reads fail if they are told to.
 ghost use Rattle.std.specs.Prelude.{◌≡◌, Some, ◌<◌, ◌≤◌, ◌↔◌, min, length, IfOk};
 ghost use Rattle.std.specs.List.{Contains};
 ghost use Rattle.irq_io.specs.Faults.{Counts, next_count, count_after};
@@ -36,7 +36,7 @@ impl Model for MemSource {
 
 impl MemSource {
     /// The source of these bytes. A read gives at most `piece` of them, which is at least 1. `fails` are the numbers
-    /// of the reads that fail, counted from 1. Refused only for want of memory.
+    /// of the reads that fail, counted from 1. The only error is `NoMemory`.
     pub fn new(
         alloc: Global,
         bytes: &[u8],
@@ -84,7 +84,7 @@ impl Source for MemSource {
         ensures fails { (result ≡ ReadAnswer.Failed) ↔ Contains self.old.fails (next_count self.old.reads) }
         ensures faults { self.new.faults ≡ count_after self.old.faults (read_failed result) }
 
-        // The number of reads stands still at the greatest u64, where no list has it.
+        // The number of reads stands still at the greatest u64, if no list has it.
         ensures reads { self.new.reads ≡ next_count self.old.reads }
         ensures settings { (self.new.piece ≡ self.old.piece) × (self.new.fails ≡ self.old.fails) }
     {

@@ -25,7 +25,7 @@ pub trait Sink {
     ghost use Rattle.irq_io.specs.Told.{GrowsTo, IsToldBeginning, Stays};
     ghost use Rattle.irq_io.specs.Writes.{HandsAllOn, LeavesNone, TookWithin, Writes, flush_failed, write_failed};
 
-    /// The bytes that it took so far, where the sink tells them.
+    /// The bytes that it took so far, if the sink tells them.
     ghost written: { Self → Option (List ℕ) };
 
     /// Those of them that it has handed on.

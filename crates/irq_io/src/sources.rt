@@ -17,7 +17,7 @@ pub trait Source {
     ghost use Rattle.irq_io.specs.Faults.{Counts};
     ghost use Rattle.irq_io.specs.Reads.{GotWithin, Reads, read_failed};
 
-    /// What is left to read, where the source tells it.
+    /// What is left to read, if the source tells it.
     ghost left: { Self → Option (List ℕ) };
 
     /// The number of faults so far.

@@ -15,7 +15,7 @@ pub enum ReadRefused {
     /// A read failed.
     #[error("a read failed")]
     Fault,
-    /// Memory was wanted and refused.
+    /// Memory was needed and refused.
     #[error("out of memory")]
     NoMemory,
 }

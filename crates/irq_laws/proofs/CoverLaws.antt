@@ -132,7 +132,7 @@ start_resends def (entries.Request s x flags (links.Refused error) opened) past 
     both_ways (is_started_opened opened) h (ap is_started_opened is)
 start_resends def e past due h = cc
 
--- what is pending where a start comes is sent by the chip, or kept for the software
+-- what is pending if a start comes is sent by the chip, or kept for the software
 resend_cases : (g p r : Bool) → g ≡ true → p ≡ true → (is_chip_opened (opens.Started (cond (g && p) (cond r resends.Chip resends.Soft) resends.No)) ≡ true) ⊎ (is_soft_opened (opens.Started (cond (g && p) (cond r resends.Chip resends.Soft) resends.No)) ≡ true)
 resend_cases true true true a b = inl refl
 resend_cases true true false a b = inr refl
@@ -179,7 +179,7 @@ ahead_stays def e past d plain linked no_unlink no_begin h =
     ahead_from (has_flow def (e ∷ past)) (is_linked (e ∷ past) d) (has_begun def (e ∷ past) d) (flow_same def e past plain ∙ p.0) (linked_stays (links_dev d e) (unlinks_dev d e) (is_linked past d) no_unlink linked)
     (round_more def e past d plain ∙ either_false (is_begin d e) (has_begun def past d) no_begin p.1)
 
--- where no device is left, each linked one was called
+-- if no device is left, each linked one was called
 all_begun : (def : LineDef) (past : List Entry) (ds : List DevNo) → first_left def past ds ≡ None → list_any (λ x. not (has_begun def past x)) ds ≡ false
 all_begun def past [] h = refl
 all_begun def past (x ∷ xs) h = by_test (has_begun def past x) refl (all_begun def past xs)

@@ -1,4 +1,4 @@
--- What a processor's entry implies, where it is due: the conditions of its row.
+-- What a processor's entry implies, if it is due: the conditions of its row.
 use Rattle.std.proofs.Common.{◌≡◌, ℕ, ◌⊎◌, inl, inr, Bool, true, false, not, ◌&&◌, cond, Option, Some, None, List, is_some, refl, sym, ap, ◌∙◌}
 use Rattle.irq_base.specs.declared.numbers.CpuNo.{CpuNo}
 use Rattle.irq_base.specs.declared.numbers.DevNo.{DevNo}
@@ -33,7 +33,7 @@ again_by def flows.Edge past note = is_pending def past && not (is_off_now past 
 again_by def flows.Level past note = false
 again_by def flows.Eoi past note = is_edge_line def && (is_pending def past && not (is_off_now past note))
 
--- the flow leaves the line open, where it is masked and no thread holds it
+-- the flow leaves the line open, if it is masked and no thread holds it
 abbrev pub opens_level : LineDef → List Entry → Bool → Bool
 opens_level def past may_open = may_open && (is_masked def past && not (is_some_unfinished def past))
 

@@ -1,4 +1,4 @@
--- What a thread's entry implies, where it is due: the conditions of its row.
+-- What a thread's entry implies, if it is due: the conditions of its row.
 use Rattle.std.proofs.Common.{◌≡◌, ℕ, ◌⊎◌, inl, inr, Bool, true, false, not, ◌&&◌, cond, Option, Some, None, List, refl}
 use Rattle.std.specs.List.{list_any}
 use Rattle.irq_base.specs.declared.numbers.DevNo.{DevNo}
@@ -34,7 +34,7 @@ pub record IsThreadReturnDue (def : LineDef) (d : DevNo) (served : ℕ) (past : 
   pub not_returned : has_returned past d ≡ false
   pub served_is : served ≡ asks_of_thread def d past
 
--- on a one-shot line it gives its bit up, or keeps it where it was woken again, while no flow is in progress
+-- on a one-shot line it gives its bit up, or keeps it if it was woken again, while no flow is in progress
 pub record IsFinishDue (def : LineDef) (d : DevNo) (kept unmask : Bool) (past : List Entry) : Type 0 where
   pub running : is_running past d ≡ true
   pub returned : has_returned past d ≡ true

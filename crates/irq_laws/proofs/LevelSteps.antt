@@ -40,7 +40,7 @@ unserved_quiet kinds.Check d e past h = refl
 unserved_quiet kinds.Null d e past h = refl
 unserved_quiet kinds.Stuck d e past h = refl
 
--- the level stays where no device's unserved asks change
+-- the level stays if no device's unserved asks change
 high_by : (def : LineDef) (e : Entry) (past : List Entry) → ((d : DevNo) → unserved_asks def d (e ∷ past) ≡ unserved_asks def d past) → is_high def (e ∷ past) ≡ is_high def past
 high_by def e past h =
     ap (λ (b : Bool). is_level_line def && b)
@@ -80,7 +80,7 @@ module _ (a p q : Entry → Bool) where
           let s : stands p q past ≡ true = sym (ap (λ (b : Bool). b || (not (q e) && stands p q past)) ip ∙ ap (λ (b : Bool). not b && stands p q past) iq) ∙ h in
           rw (ip, iq) (one_more (a e) _ _ _ _ (deeper s))
 
-  -- its return leaves those since its beginning; where it met none, that is what there was
+  -- its return leaves those since its beginning; if it met none, that is what there was
   returns_none : ((e : Entry) → p e ≡ true → (a e ≡ false) × (q e ≡ false)) → (e : Entry) (past : List Entry) → stands p q past ≡ true → q e ≡ true → left (before p past) ≡ 0 → left (e ∷ past) ≡ left past
   returns_none alone e past run is none =
       let w = within_run alone past run in

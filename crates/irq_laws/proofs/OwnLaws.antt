@@ -29,7 +29,7 @@ use Rattle.irq_steps.proofs.Same.{cpu_from_same, line_from_same, same_self_cpu}
 use Rattle.irq_laws.proofs.ImpliesFlow.{end_shape, take_due}
 use Rattle.irq_laws.proofs.ImpliesThread.{row, has_returned, has_finished}
 
--- ---- P holds of the entry, where there is one
+-- ---- P holds of the entry, if there is one
 
 abbrev Holds : (Entry → Type 0) → Option Entry → Type 0
 Holds P None = Unit {0}

@@ -41,7 +41,7 @@ same_count (calls.Free dev) y ys zs = ap (λ (b : Bool). cond b 1 3) (same_begin
 same_count (calls.Ask dev) y ys zs = refl
 same_count c y ys zs = refl
 
--- where the due call is c: the calls after it, and its entries
+-- if the due call is c: the calls after it, and its entries
 pub record Standing (cs : List Call) (es : List Entry) (c : Call) (n : ℕ) : Type 0 where
   pub rest : List Call
   pub own : List Entry

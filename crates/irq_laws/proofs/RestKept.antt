@@ -199,7 +199,7 @@ rest_more def e past due k d l f = k.rest.at_rest d l f
 woken_now : (o b s w f : Bool) → (o && (b || s)) ≡ true → ((o && s) ≡ true → (w || f) ≡ true) → ((b || w) || f) ≡ true
 woken_now o b s w f h k = grind arith
 
--- where the run's handler returned, a finish after the return is a finish of the run
+-- if the run's handler returned, a finish after the return is a finish of the run
 finish_in_run : {A : Type 0} (b r f : A → Bool) (past : List A) → list_any r (since b past) ≡ true → list_any f (since r past) ≡ true → list_any f (since b past) ≡ true
 finish_in_run b r f [] h g = g
 finish_in_run b r f (e ∷ past) h g = by_test (b e) (r e) refl refl (λ x y. finish_in_run b r f past x y)
@@ -237,7 +237,7 @@ pub called_there : (def : LineDef) (past : List Entry) → Kept def past → (x 
 called_there def past k x called =
     true_from_ne_false (is_linked past x || is_being_freed past x) (λ none. let p = or_parts _ _ none in both_ways (is_called past x) called (parts_of past x (k.rest.at_rest x p.0 p.1)).3)
 
--- a run ends with the thread's bit only where the thread was woken again
+-- a run ends with the thread's bit only if the thread was woken again
 done_woken : (def : LineDef) (x : DevNo) (past : List Entry) → IsDue def (entries.Done x) past → Kept def past → is_unfinished past x ≡ true → is_woken past x ≡ true
 done_woken def x past due k h = by_case (or_cases (is_woken past x) (is_finishing past x) (k.rest.at_work x h))
   where

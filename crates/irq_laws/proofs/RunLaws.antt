@@ -106,7 +106,7 @@ not_edge false h n = cc
 unheld : (a m u : Bool) → (a && (m && not u)) ≡ true → u ≡ false
 unheld a m u h = grind arith
 
--- a flow's end opens a level line only where no thread is unfinished
+-- a flow's end opens a level line only if no thread is unfinished
 opens_unheld : (def : LineDef) (f : FlowKind) (past : List Entry) (note : Note) → IsValid def → is_level_line def ≡ true → def.flow ≡ f → unmask_by def f past note ≡ true → is_some_unfinished def past ≡ false
 opens_unheld def flows.Edge past note valid level is h = not_edge (is_edge_line def) (valid.edge_flow (ap is_edge_flow is)) level
 opens_unheld def flows.Level past note valid level is h = unheld (not (is_off_now past note)) (is_masked def past) (is_some_unfinished def past) h

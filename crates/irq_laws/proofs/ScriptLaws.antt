@@ -64,7 +64,7 @@ none_made (c ∷ cs) = inl (nothing_made c)
 
 -- ---- one more entry of a script
 
--- where n entries of the call c are there and it isn't complete, e is the next
+-- if n entries of the call c are there and it isn't complete, e is the next
 abbrev pub GoesOn : Call → ℕ → Entry → Type 0
 GoesOn c n e = (own : List Entry) → MakesSome c own → length own ≡ n → nat_lt (length own) (entries_of_call c own) ≡ true → MakesSome c (own ++ e ∷ [])
 

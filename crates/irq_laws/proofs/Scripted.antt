@@ -128,7 +128,7 @@ first_behind x cs r d between now j b at is = shifted (between zero (suc j) x b 
     shifted : (k : ℕ) × (c : DriverNo × Call) × (zero < k) × (k < suc j) × (slice_get (x ∷ cs) k ≡ Some c) × (frees_dev d c.1 ≡ true) → (k : ℕ) × (c : DriverNo × Call) × (k < j) × (slice_get cs k ≡ Some c) × (frees_dev d c.1 ≡ true)
     shifted h = at_place h.0 h.1 h.2 h.3 h.4 h.5
 
--- where a request of d is due, the last complete request or free of it is none but a free
+-- if a request of d is due, the last complete request or free of it is none but a free
 pub unrequested : (r : DriverNo) (d : DevNo) (cs : List (DriverNo × Call)) (done : List Call) (es : List Entry) (c : Call) (n : ℕ) → AllOwn cs r d → IsFreedBetween cs d
     → (stands (requests_dev d) (frees_dev d) done ≡ true → FreedFirst cs r d) → due_of (calls_by r cs) es ≡ Some (c, n) → requests_dev d c ≡ true → stands (requests_dev d) (frees_dev d) (complete done (calls_by r cs) es) ≡ false
 unrequested r d [] done es c n own between first due now = cc

@@ -70,7 +70,7 @@ taken def flows.Level oneshot answer c = after_ack (after_mask c)
 taken def flows.Edge oneshot answer c = taken_on_edge_flow answer c
 taken def flows.Eoi oneshot answer c = if is_edge_line def then taken_on_eoi_edge answer c else taken_on_eoi_level oneshot answer c
 
--- what masks by the call or by the note
+-- a call or a note that masks
 abbrev pub masked_if : Bool → Cell → Cell
 masked_if b c = if b then after_mask c else c
 
@@ -92,7 +92,7 @@ asked def past c = if is_edge_line def then after_edge c else after_high (is_hig
 abbrev pub served : LineDef → ℕ → List Entry → Cell → Cell
 served def count past c = if is_level_line def && nat_lt 0 count then after_high (is_high def past) c else c
 
--- what the entry does, where `past` stands before it
+-- what the entry does after `past`
 abbrev pub driven : LineDef → Entry → List Entry → Cell → Cell
 driven def (entries.Ask driver dev) past c = asked def (entries.Ask driver dev ∷ past) c
 driven def (entries.Return cpu dev answer count) past c = served def count (entries.Return cpu dev answer count ∷ past) c

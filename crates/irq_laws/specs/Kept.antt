@@ -24,7 +24,7 @@ pub record KeepsRuns (def : LineDef) (past : List Entry) : Type 0 where
   pub called : (d : DevNo) → is_called past d ≡ true → at_work past ≡ Some d
   pub working : (d : DevNo) → at_work past ≡ Some d → (is_called past d ≡ true) × (has_flow def past ≡ true) × (has_begun def past d ≡ true)
 
--- the driver and the device of the last unlink, where no free was completed after it
+-- the driver and the device of the last unlink, unless a free was completed after it
 abbrev pub freeing : List Entry → Option (DriverNo × DevNo)
 freeing [] = None
 freeing (entries.Unlink driver dev (unlinks.Unlinked last) ∷ past) = Some (driver, dev)
@@ -75,7 +75,7 @@ pub record Wanted (def : LineDef) (past : List Entry) (d : DevNo) : Type 0 where
   pub requests : requests_dev d call.1 ≡ true
   pub wanted : stands (requests_dev d) (frees_dev d) (complete_by def driver past) ≡ true
 
--- a linked device is wanted, so that no request of it is due
+-- a linked device is wanted (`Wanted`), so that no request of it is due
 abbrev pub LinkedIsWanted : LineDef → List Entry → Type 0
 LinkedIsWanted def past = (d : DevNo) → is_linked past d ≡ true → Wanted def past d
 

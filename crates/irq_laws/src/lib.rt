@@ -32,8 +32,8 @@ ghost use Rattle.irq_laws.specs.Kept.{Kept};
 ghost use Rattle.irq_laws.specs.LogLimit.{with_log};
 ghost use Rattle.irq_laws.specs.Quiet.{IsQuiet};
 
-/// No overlap: a device's handler is called only where it isn't at work, and its thread's run begins only where
-/// it isn't in one.
+/// No overlap: a device's handler is called only when it isn't at work, and its thread's run begins
+/// only when it isn't in one.
 #[tactic(auto, using(crate::proofs::RunLaws::no_overlap))]
 pub fn no_overlap()
     ensures law { (def : LineDef) (h : List Entry) → IsValid def → IsLegal def h → NoOverlap def h }
@@ -45,13 +45,14 @@ pub fn silent_after_free()
     ensures law { (def : LineDef) (h : List Entry) → IsValid def → IsLegal def h → IsSilentAfterFree def h }
 {}
 
-/// The one-shot promise: where an end or a finish opens a level line, no thread is unfinished.
+/// The one-shot promise: when an end or a finish opens a level line, no thread is unfinished.
 #[tactic(auto, using(crate::proofs::RunLaws::keeps_oneshot))]
 pub fn keeps_oneshot()
     ensures law { (def : LineDef) (h : List Entry) → IsValid def → IsLegal def h → KeepsOneshot def h }
 {}
 
-/// Synchronised calls: a hard clear comes where no handler is at work, a sync's end where no thread is.
+/// Synchronised calls: a hard clear comes when no handler is at work, a sync's end when no thread
+/// is.
 #[tactic(auto, using(crate::proofs::RunLaws::synchronised))]
 pub fn synchronised()
     ensures law { (def : LineDef) (h : List Entry) → IsValid def → IsLegal def h → IsSynchronised def h }
@@ -91,7 +92,7 @@ pub fn has_target()
     ensures law { (def : LineDef) (past : List Entry) → IsValid def → IsLegalPast def past → IsSome (target def past) }
 {}
 
-/// No standstill: where no actor may add an entry, every driver's calls are complete.
+/// No standstill: if no actor may add an entry, every driver's calls are complete.
 #[tactic(auto, using(crate::proofs::RestLaws::no_standstill))]
 pub fn no_standstill()
     ensures law { (def : LineDef) (h : List Entry) → IsValid def → IsLegal def h → ((a : Actor) → next def h a ≡ None) → IsSettled def h }
@@ -151,12 +152,13 @@ pub fn flow_moves()
     ensures law { (def : LineDef) (h : List Entry) (c : CpuNo) → flow def (reverse h) ≡ Some c → IsSome (next def h (actors.Cpu c)) }
 {}
 
-/// A driver whose call isn't complete may add its next entry exactly where what that waits for isn't in the way.
+/// A driver whose call isn't complete may add its next entry exactly if what it waits for isn't in
+/// the way.
 pub fn call_waits()
     ensures law { (def : LineDef) (h : List Entry) (r : DriverNo) (c : Call) (n : ℕ) → due_call def r (reverse h) ≡ Some (c, n) → is_some (next def h (actors.Driver r)) ≡ not (stands_in_way def (reverse h) (block_of c n)) }
 {}
 
-/// No standstill among drivers: where no thread and no processor may add an entry, a driver whose calls aren't
+/// No standstill among drivers: if no thread and no processor may add an entry, a driver whose calls aren't
 /// complete may, or the driver of the free that is under way may.
 pub fn drivers_move()
     ensures law { (def : LineDef) (h : List Entry) → IsValid def → IsLegal def h → ((line : LineNo) (d : DevNo) → next def h (actors.Thread line d) ≡ None) → ((c : CpuNo) → next def h (actors.Cpu c) ≡ None) → (r : DriverNo) → IsSome (due_call def r (reverse h)) → IsSome (next def h (actors.Driver r)) ⊎ FreeMoves def h }

@@ -1,7 +1,7 @@
 -- What a step answers, and what it leaves.
 --
--- The conditions of the four answers other than want of memory exclude one another, and one of them always stands. So
--- each answer comes exactly where it says, want of memory apart.
+-- The conditions of the four answers other than `NoMemory` exclude one another, and one of them
+-- always holds. So, but for `NoMemory`, each answer comes exactly if its condition holds.
 use Rattle.std.specs.Prelude.{◌≡◌, ◌+◌, ◌<◌, ◌≤◌, ℕ, Option, Some, None, IsSome, IfSome, Result, Ok, Err, [], ◌∷◌, ◌++◌, length}
 use Rattle.irq_base.specs.Who.{actor_of}
 use Rattle.irq_base.specs.declared.entries.Actor.{Actor}
@@ -24,7 +24,7 @@ IsSaidFor (Some said) run = said.run ≡ run
 abbrev pub IsDueOf : LineSeen → Actor → Type 0
 IsDueOf line actor = IsSome (next line.def line.entries actor)
 
--- The entry is the one that is due of the actor; where it ends a run, its answer was handed in. It stands at the end,
+-- The entry is the one that is due of the actor; if it ends a run, its answer was handed in. It stands at the end,
 -- and there was a place for it. At most one of the places that were free is gone.
 pub record AddsEntry (old : LineSeen) (who : Actor) (said : Option SaidSeen) (entry : Entry) (new : LineSeen) : Type 0 where
   pub due : next old.def old.entries who ≡ Some entry
@@ -41,7 +41,8 @@ pub record WantsRun (old : LineSeen) (who : Actor) (said : Option SaidSeen) (run
   pub unheard : IsSaidFor said run → ⊥
   pub below : length old.entries < old.def.log
 
--- An entry is due, and the history has the greatest length that the definition allows, which is told.
+-- An entry is due, and the history has the greatest length that the definition allows, which the
+-- answer says.
 pub record IsFull (old : LineSeen) (who : Actor) (len : ℕ) : Type 0 where
   pub due : IsDueOf old who
   pub told : len ≡ length old.entries

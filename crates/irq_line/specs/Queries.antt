@@ -36,7 +36,7 @@ IsTaker line taker = (cpu : CpuNo) → (taker ≡ Some cpu) ↔ IsPresented line
 abbrev pub IsThreadDue : LineSeen → DevNo → Type 0
 IsThreadDue line dev = IsSome (next line.def line.entries (actors.Thread line.def.line dev))
 
--- the device with the least number whose thread has an entry due; none where no thread has
+-- the device with the least number whose thread has an entry due; none if no thread has
 abbrev pub IsLowestThread : LineSeen → Option DevNo → Type 0
 IsLowestThread line None = (dev : DevNo) → IsThreadDue line dev → ⊥
 IsLowestThread line (Some lowest) = IsThreadDue line lowest × ((dev : DevNo) → IsThreadDue line dev → lowest.0 ≤ dev.0)
@@ -45,7 +45,7 @@ IsLowestThread line (Some lowest) = IsThreadDue line lowest × ((dev : DevNo) �
 abbrev pub are_threads_at_work : LineDef → List Entry → Bool
 are_threads_at_work def past = list_any (λ x. is_woken past x.dev || is_running past x.dev) def.devices
 
--- whether that of a device which is being freed is
+-- whether the thread of the device that is being freed is woken or in a run
 abbrev pub is_freed_at_work : LineDef → List Entry → Bool
 is_freed_at_work def past = list_any (λ x. is_being_freed past x.dev && (is_woken past x.dev || is_running past x.dev)) def.devices
 
@@ -56,7 +56,8 @@ blocks_at def past = record { flow = has_flow def past; threads = are_threads_at
 abbrev pub blocks_of : LineSeen → Blocks
 blocks_of line = blocks_at line.def (reverse line.entries)
 
--- whether a call that waits for this can't go on; where it waits for a device, that is the one that is being freed
+-- whether a call that waits for this can't go on; the device that a call waits for is the one that
+-- is being freed
 abbrev pub is_blocked : Block → Blocks → Bool
 is_blocked Nothing blocks = false
 is_blocked Flow blocks = blocks.flow

@@ -7,7 +7,8 @@ use thiserror::Error;
 pub enum Stepped {
     /// It added this entry.
     Added(Entry),
-    /// The entry that is due ends a run of a handler, whose answer is wanted first. `unserved`: how many asks of the
+    /// The entry that is due ends a run of a handler, whose answer is needed first. `unserved`: how
+    /// many asks of the
     /// device were unserved as the run began. Nothing changed.
     Run {
         def: DeviceDef,
@@ -18,13 +19,13 @@ pub enum Stepped {
     NotYet,
 }
 
-/// Why a step that was due didn't come. Nothing changed.
+/// Why a step that was due wasn't made. Nothing changed.
 #[derive(Clone, Copy, Debug, PartialEq, Eq, Error)]
 pub enum StepRefused {
     /// The history has the greatest length that the line's definition allows. `len`: that many entries.
     #[error("the log is full with {len} entries")]
     Full { len: u32 },
-    /// Memory was wanted and refused.
+    /// Memory was needed and refused.
     #[error("out of memory")]
     NoMemory,
 }

@@ -29,7 +29,7 @@ pub use line::IrqLine;
 pub use makes::MakesLine;
 pub use queries::Blocks;
 
-/// A step has one answer, want of memory apart: the conditions of the others exclude one another.
+/// But for `NoMemory` a step has one answer: the conditions of the others exclude one another.
 #[tactic(auto, using(crate::proofs::OneAnswer::one_answer))]
 pub fn step_has_one_answer()
     ensures law { (old : LineSeen) (who : Actor) (said : Option SaidSeen) (a b : Result Stepped StepRefused) (new other : LineSeen)
@@ -37,9 +37,9 @@ pub fn step_has_one_answer()
         → (a ≡ Err refusals.NoMemory → ⊥) → (b ≡ Err refusals.NoMemory → ⊥) → a ≡ b }
 {}
 
-/// A driver whose call isn't complete has no entry due exactly where what its call waits for stands, as `blocks` tells
-/// it; so after each step the four facts say which drivers can go on, and nobody asks them one by one. A driver whose
-/// calls are all complete never has one due.
+/// A driver whose call isn't complete has no entry due exactly if what its call waits for stands,
+/// as `blocks` says; so after each step the four facts say which drivers can go on, and nobody asks
+/// them one by one. A driver whose calls are all complete never has one due.
 #[tactic(auto, using(crate::proofs::Waits::call_waits, crate::proofs::Waits::complete_rests))]
 pub fn calls_wait_for_blocks()
     ensures law { (line : LineSeen) (r : DriverNo) (c : Call) (n : ℕ) → IsSound line

@@ -14,19 +14,21 @@ use irq_base::{Actor, CpuNo, DevNo, History, LineDef, NoMemory};
 pub trait IrqLine: Drop {
     ghost seen: { Self → LineSeen };
 
-    /// Adds the entry that is due of the actor, if there is one: one hold of the line's lock. Where the entry ends a
-    /// run of a handler, the answer of that run has to be handed in; an answer of another run, or one that isn't
-    /// wanted, is let go.
+    /// Adds the entry that is due of the actor, if there is one: one hold of the line's lock. If
+    /// the entry ends a run of a handler, the answer of that run has to be handed in; an answer of
+    /// another run, or one that isn't needed, is dropped.
     ///
     /// # Errors
     ///
-    /// `Full` where an entry is due and the history has the greatest length that the definition allows. `NoMemory`
-    /// where memory was refused; a line may want some at any step. Nothing has changed then.
+    /// `Full` if an entry is due and the history has the greatest length that the definition
+    /// allows. `NoMemory` if memory was refused; a line may need some at any step. Nothing has
+    /// changed then.
     fn step(&mut self, actor: Actor, said: Option<Said>) -> Result<Stepped, StepRefused>
         ensures def { (seen self.new).def ≡ (seen self.old).def }
         ensures answer { Answers (seen self.old) actor said result (seen self.new) };
 
-    /// Makes room for one more entry. Where there is some it isn't refused; refused, all is as before.
+    /// Makes room for one more entry. With room to spare it isn't refused; if it is refused, all is
+    /// as before.
     fn reserve(&mut self) -> Result<(), NoMemory>
         ensures room { OnOk result (1 ≤ (seen self.new).spare) }
         ensures def { (seen self.new).def ≡ (seen self.old).def }
@@ -39,7 +41,7 @@ pub trait IrqLine: Drop {
     fn spare(&self) -> usize
         ensures { result ≡ (seen self.now).spare };
 
-    /// What the line was made of.
+    /// The definition that the line was made of.
     fn definition(&self) -> &LineDef
         ensures { result.now ≡ (seen self.now).def };
 
@@ -48,7 +50,7 @@ pub trait IrqLine: Drop {
         ensures entries { result.now.entries ≡ (seen self.now).entries }
         ensures spare { result.now.spare ≡ (seen self.now).spare };
 
-    /// The entries so far, without the line.
+    /// The entries so far; the line is given up.
     fn into_history(self) -> History
         ensures entries { result.entries ≡ (seen self).entries }
         ensures spare { result.spare ≡ (seen self).spare };

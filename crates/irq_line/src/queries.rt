@@ -1,4 +1,4 @@
-//! What a line tells of what its drivers' calls wait for.
+//! What a line says of what its drivers' calls wait for.
 
 /// The four things that calls wait for, each as it stands.
 #[derive(Clone, Copy, PartialEq, Eq)]

@@ -87,7 +87,7 @@ pub busy_latch_is_still :
     × (next busy_latch_line busy_latch_log (actors.Driver (driver 1)) ≡ None)
 busy_latch_is_still = (refl, refl, refl)
 
--- The same where the masked chip drops edges: the third ask is dropped, and covered by what is pending.
+-- The same if the masked chip drops edges: the third ask is dropped, and covered by what is pending.
 abbrev pub busy_plain_line : LineDef
 busy_plain_line = record plain {
   cpus = 2;

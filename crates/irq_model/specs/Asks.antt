@@ -25,7 +25,7 @@ ends_serving kinds.Check d e = is_thread_return d e
 ends_serving kinds.Null d e = is_thread_return d e
 ends_serving kinds.Stuck d e = false
 
--- the asks of d after the beginning of the last serving run that returned, or all where none has
+-- the asks of d after the beginning of the last serving run that returned, or all if none has
 abbrev pub unserved_by : Kind → DevNo → List Entry → ℕ
 unserved_by kind d past =
     count_of (is_ask d) (since (ends_serving kind d) past) + count_of (is_ask d) (since (begins_serving kind d) (before (ends_serving kind d) past))

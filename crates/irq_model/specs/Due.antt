@@ -25,7 +25,7 @@ abbrev pub begins_not_there : List Entry → Bool
 begins_not_there (entries.Unlink driver dev unlinks.NotThere ∷ es) = true
 begins_not_there _ = false
 
--- how many entries a call makes, where these are what stands from its first entry on
+-- how many entries a call makes, given the driver's entries from its first one on
 abbrev pub entries_of_call : Call → List Entry → ℕ
 entries_of_call (calls.Ask dev) es = 1
 entries_of_call (calls.Request dev flags) es = 1

@@ -20,8 +20,8 @@ use Rattle.irq_model.specs.Owed.{is_owed}
 use Rattle.irq_model.specs.Reason.{is_called}
 use Rattle.irq_model.specs.Next.{next}
 
--- no overlap: a device's handler is called only where it isn't at work, and its thread's run begins only
--- where it isn't in one
+-- no overlap: a device's handler is called only when it isn't at work, and its thread's run begins
+-- only when it isn't in one
 abbrev pub NoOverlap : LineDef → List Entry → Type 0
 NoOverlap def h =
     EachEntry (λ e past. (d : DevNo) → (is_begin d e ≡ true → is_called past d ≡ false) × (is_thread_begin d e ≡ true → is_running past d ≡ false)) (reverse h)
@@ -35,7 +35,7 @@ abbrev pub IsSilentAfterFree : LineDef → List Entry → Type 0
 IsSilentAfterFree def h =
     EachEntry (λ e past. (d : DevNo) → is_run_of d e ≡ true → stands (is_freed d) (links_dev d) past ≡ false) (reverse h)
 
--- the one-shot promise: where an end or a finish opens a level line, no thread is unfinished
+-- the one-shot promise: when an end or a finish opens a level line, no thread is unfinished
 abbrev pub KeepsOneshot : LineDef → List Entry → Type 0
 KeepsOneshot def h =
     is_level_line def ≡ true → EachEntry (λ e past. is_reopening e ≡ true → is_some_unfinished def (e ∷ past) ≡ false) (reverse h)
@@ -46,7 +46,7 @@ pub record TakesAreCounted (def : LineDef) (h : List Entry) : Type 0 where
       ≤ count_of is_any_ask (reverse h) + count_of is_chip_start (reverse h) + count_of (λ e. is_eoi_flow def.flow && is_again e) (reverse h)
   pub resend : is_edge_line def ≡ true → count_of is_resend_take (reverse h) ≤ count_of is_soft_start (reverse h)
 
--- synchronised calls: a hard clear comes where no handler is at work, a sync's end where no thread is
+-- synchronised calls: a hard clear comes when no handler is at work, a sync's end when no thread is
 abbrev pub IsSynchronised : LineDef → List Entry → Type 0
 IsSynchronised def h =
     EachEntry (λ e past. (d : DevNo) → (is_hard_clear e ≡ true → is_called past d ≡ false) × (is_synced e ≡ true → (is_woken past d || is_running past d) ≡ false)) (reverse h)

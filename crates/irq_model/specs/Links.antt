@@ -30,7 +30,7 @@ is_empty (d ∷ ds) = false
 abbrev pub is_none_linked : List Entry → Bool
 is_none_linked past = is_empty (linked past)
 
--- the newest entry is a request that was linked where nothing was
+-- the newest entry is a request that was linked when nothing else was
 abbrev pub is_first_request : List Entry → Bool
 is_first_request [] = false
 is_first_request (e ∷ past) = is_linked_request e && is_none_linked past
@@ -40,7 +40,7 @@ abbrev pub is_reset : List Entry → Bool
 is_reset [] = false
 is_reset (e ∷ past) = is_last_unlink e || is_first_request (e ∷ past)
 
--- that value: 0 where a first request started the line, else 1, as at the beginning
+-- that value: 0 if a first request started the line, else 1, as at the beginning
 abbrev pub base : List Entry → ℕ
 base [] = 1
 base (e ∷ past) = if is_start e then 0 else 1

@@ -59,8 +59,9 @@ finish_unmasks def d past =
     not (is_woken past d) && (not (is_disabled past) && (is_masked def past && not (is_other_unfinished def past d)))
 
 -- after the thread's handler returned: on a one-shot line it gives its bit up, once no flow is in progress.
--- Why it waits: a thread may be done before the flow that woke it has come to its end. Would it open the line then, the
--- flow could mask it behind the thread's back, or leave it masked for a thread that is gone, and nobody would open it.
+-- Why it waits: a thread may be done before the flow that woke it has come to its end. If it opened
+-- the line then, the flow could mask it behind the thread's back, or leave it masked for a thread
+-- that is gone, and nobody would open it.
 abbrev pub finish_or_done : LineDef → DevNo → List Entry → Option Entry
 finish_or_done def d past =
     if is_oneshot past && not (list_any (is_finish d) (since (is_thread_return d) past))
@@ -172,7 +173,8 @@ link_answer def d flags past =
     else (if is_null (kind_of def d) && not flags.oneshot then links.Refused errors.Inval
     else links.Linked)))
 
--- what a request that is linked makes of the depth: the first starts the line unless it is told not to; a
+-- what a request that is linked makes of the depth: the first starts the line unless its flags say
+-- not to; a
 -- further one enables a line that the rule on spurious interrupts disabled
 abbrev pub opened_by_request : LineDef → Flags → List Entry → Opened
 opened_by_request def flags past =
@@ -245,7 +247,8 @@ next_of_call def r past (Some (calls.Moment at, n)) = Some (entries.Moment r at)
 
 -- ---- the table
 
--- the entry that is due for the actor, where the newest entry comes first; none for a thread of another line
+-- the entry that is due for the actor, after a past whose newest entry comes first; none for a
+-- thread of another line
 abbrev pub next_past : LineDef → List Entry → Actor → Option Entry
 next_past def past (actors.Thread line d) = if same_line line def.line then next_of_thread def d past else None
 next_past def past (actors.Cpu c) = next_of_cpu def c past

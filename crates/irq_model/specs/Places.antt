@@ -3,12 +3,12 @@
 use Rattle.std.specs.Prelude.{ℕ, ◌+◌, Bool, false, not, ◌||◌, ◌&&◌, if◌then◌else◌, Option, Some, None, List, [], ◌∷◌}
 
 module _ {A : Type 0} where
-  -- what stands after the last that is p, or all where none is
+  -- what stands after the last that is p, or all if none is
   abbrev pub since : (A → Bool) → List A → List A
   since p [] = []
   since p (e ∷ past) = if p e then [] else (e ∷ since p past)
 
-  -- what stands before the last that is p, or nothing where none is
+  -- what stands before the last that is p, or nothing if none is
   abbrev pub before : (A → Bool) → List A → List A
   before p [] = []
   before p (e ∷ past) = if p e then past else before p past
@@ -28,12 +28,12 @@ module _ {A : Type 0} where
   count_of p [] = 0
   count_of p (e ∷ past) = if p e then (count_of p past + 1) else count_of p past
 
-  -- the same where the test is on the list up to the place
+  -- the same with the test on the list up to the place
   abbrev pub since_place : (List A → Bool) → List A → List A
   since_place p [] = []
   since_place p (e ∷ past) = if p (e ∷ past) then [] else (e ∷ since_place p past)
 
-  -- the list up to the last place that is p, or nothing where none is
+  -- the list up to the last place that is p, or nothing if none is
   abbrev pub upto_place : (List A → Bool) → List A → List A
   upto_place p [] = []
   upto_place p (e ∷ past) = if p (e ∷ past) then (e ∷ past) else upto_place p past
@@ -43,7 +43,7 @@ module _ {A : Type 0} where
   some_place P [] = false
   some_place P (e ∷ past) = P [] (e ∷ past) || some_place (λ after upto. P (e ∷ after) upto) past
 
-  -- the list up to the last such place, or nothing where none is
+  -- the list up to the last such place, or nothing if none is
   abbrev pub last_place : (List A → List A → Bool) → List A → List A
   last_place P [] = []
   last_place P (e ∷ past) = if P [] (e ∷ past) then (e ∷ past) else last_place (λ after upto. P (e ∷ after) upto) past

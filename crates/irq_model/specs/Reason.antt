@@ -51,7 +51,7 @@ EoiEdgeIsOpen def past = is_edge_line def ≡ true → is_eoi_flow def.flow ≡ 
 abbrev pub EdgePendingHasFlow : LineDef → List Entry → Type 0
 EdgePendingHasFlow def past = is_edge_line def ≡ true → is_pending def past ≡ true → depth past ≡ 0 → has_flow def past ≡ true
 
--- where a masked chip drops edges, a started line that is masked is pending
+-- if a masked chip drops edges, a started line that is masked is pending
 abbrev pub DroppedIsPending : LineDef → List Entry → Type 0
 DroppedIsPending def past = is_edge_line def ≡ true → def.keeps ≡ false → is_masked def past ≡ true → is_started past ≡ true → is_pending def past ≡ true
 
@@ -92,7 +92,7 @@ pub record OneIsFreed (def : LineDef) (past : List Entry) : Type 0 where
   pub held : holds_mutex past ≡ true → (d : DevNo) × (is_being_freed past d ≡ true)
   pub free : (d : DevNo) → is_being_freed past d ≡ true → holds_mutex past ≡ true
 
--- each device that is linked or being freed was linked one-shot exactly where the line is
+-- each device that is linked or being freed was linked one-shot exactly if the line is one-shot
 abbrev pub FlagsAgree : LineDef → List Entry → Type 0
 FlagsAgree def past = (d : DevNo) → (is_linked past d || is_being_freed past d) ≡ true → (linking_flags past d).oneshot ≡ is_oneshot past
 

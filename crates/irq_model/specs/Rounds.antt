@@ -20,7 +20,7 @@ abbrev pub cpu_of_handle : Option Entry → Option CpuNo
 cpu_of_handle (Some (entries.Take cpu way answer)) = Some cpu
 cpu_of_handle _ = None
 
--- the processor of the last take that is handled, where no end that closes follows it
+-- the processor of the last take that is handled, unless an end that closes follows it
 abbrev pub flow : LineDef → List Entry → Option CpuNo
 flow def past = cpu_of_handle (last_of (λ e. is_handle e || closes def e) past)
 
@@ -56,6 +56,6 @@ abbrev pub dev_of_begin : Option Entry → Option DevNo
 dev_of_begin (Some (entries.Begin cpu dev)) = Some dev
 dev_of_begin _ = None
 
--- the device whose handler is at work: that of the last begin, where no return stands after it
+-- the device whose handler is at work: that of the last begin, unless a return stands after it
 abbrev pub at_work : List Entry → Option DevNo
 at_work past = dev_of_begin (last_of is_begin_or_return past)

@@ -30,17 +30,17 @@ use Rattle.board_play.specs.Play.{Done, Full, IsChosen, Plays, choice}
 pub record HoldsAt (def : LineDef) (h : List Entry) : Type 0 where
   -- each owed edge is somewhere: presented, kept, pending, in a software resend, or its device is still ahead in the round
   pub covered : IsCovered def h
-  -- a started line with linked devices is masked only where it is disabled, or a flow is in progress, or on a level line a
+  -- a started line with linked devices is masked only if it is disabled, or a flow is in progress, or on a level line a
   -- thread isn't finished
   pub has_reason : HasReason def h
-  -- where the line is enabled and no flow is in progress, what is owed or high is handled next
+  -- if the line is enabled and no flow is in progress, what is owed or high is handled next
   pub served_when_idle : IsServedWhenIdle def h
 
 -- a line's history, at its end or not
 pub record KeepsLaws (def : LineDef) (h : List Entry) : Type 0 where
   -- each entry was the due one of its actor
   pub legal : IsLegal def h
-  -- a device's handler is called, and its thread's run begins, only where it isn't at work
+  -- a device's handler is called, and its thread's run begins, only if it isn't at work
   pub no_overlap : NoOverlap def h
   -- no run of a device comes after its free
   pub silent_after_free : IsSilentAfterFree def h
@@ -60,7 +60,7 @@ pub record LineHeadline (def : LineDef) (h : List Entry) : Type 0 where
   pub laws : KeepsLaws def h
   -- nothing is due any more, and the drivers' calls are complete
   pub settled : IsSettled def h
-  -- where the line isn't left disabled, no edge is owed to a linked device, and on a level line all asks are served
+  -- if the line isn't left disabled, no edge is owed to a linked device, and on a level line all asks are served
   pub delivered : IsDelivered def h
   -- nothing is at work: each handler that was called has returned
   pub quiet : IsQuiet def h
@@ -117,7 +117,7 @@ pub record FullLog (b : BoardSeen) (g : List Move) (reports : List LineReport) (
   pub refused : EachRefused b (λ row. part row.line g ≡ [])
   pub length_is : length (part line g) ≡ len
   pub limit_is : len ≡ b.log
-  -- so it doesn't come where each line's log is ample
+  -- so it doesn't come if each line's log is ample
   pub scarce : IsAmple b → ⊥
 
 -- The board was played until a step wanted memory: each of these moves was the next one, by the

@@ -12,7 +12,7 @@ use Rattle.board_play.specs.Lines.{BoardLine, defs_of, find_line}
 use Rattle.irq_play.specs.Headline.{LineHistory}
 use Rattle.irq_play.specs.declared.reporting.ReportRoom.{ReportRoom}
 
--- the entries of a line, the oldest first; none where there is no line
+-- the entries of a line, the oldest first; none if there is no line
 abbrev pub entries_of : Option BoardLine → List Entry
 entries_of None = []
 entries_of (Some x) = reverse x.past
@@ -34,7 +34,7 @@ abbrev pub is_first : LineNo → List BoardLine → Bool
 is_first number [] = false
 is_first number (x ∷ xs) = same_line number x.def.line
 
--- the entries of the first line were taken, and the line with them; or none, where it is of another number
+-- the entries of the first line were taken, and the line with them; or none, if it is of another number
 abbrev pub TakesFirst : Bool → List BoardLine → List BoardLine → List Entry → Type 0
 TakesFirst true old new entries = (entries ≡ entries_of (slice_get old 0)) × (new ≡ drop 1 old)
 TakesFirst false old new entries = (entries ≡ []) × (new ≡ old)

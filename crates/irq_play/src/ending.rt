@@ -22,7 +22,7 @@ pub enum PlayedEnd {
     WriteFault,
     /// An entry was due on the line, whose history has the greatest length. `len`: that many entries. Nothing is printed.
     LogFull { line: LineNo, len: u32 },
-    /// Memory was wanted and refused. Nothing is printed.
+    /// Memory was needed and refused. Nothing is printed.
     NoMemory(Wanted),
 }
 

@@ -28,7 +28,7 @@ use std::alloc::Global;
 pub struct PlayedBoard {
     /// How the play and its printing ended.
     pub end: PlayedEnd,
-    /// One report a line of the board, in its order; none where there was no memory to begin.
+    /// One report a line of the board, in its order; none if there was no memory to begin.
     pub reports: Reports,
 }
 
@@ -65,7 +65,7 @@ pub fn play_and_print<O: Sink, H: Handler>(
     }
 }
 
-/// Plays the board with lines of that maker. Refused only for want of memory for the lines and the order of play.
+/// Plays the board with lines of that maker. The only error is `NoMemory` for the lines and the order of play.
 fn play_lines<'b, L: IrqLine, M: MakesLine<L>, H: Handler>(
     alloc: Global,
     board: &'b Board,
@@ -82,7 +82,7 @@ fn play_lines<'b, L: IrqLine, M: MakesLine<L>, H: Handler>(
     Ok((system, end))
 }
 
-/// Reports a play that ended so, and prints it where it came to its end.
+/// Reports a play that ended so, and prints it if it came to its end.
 fn report_play<O: Sink, L: IrqLine>(
     board: &Board,
     summary: bool,
@@ -133,7 +133,7 @@ fn print_done<O: Sink, L: IrqLine>(
     }
 }
 
-/// Reports a play that ended where the line's history has the greatest length, `len` entries.
+/// Reports a play that ended if the line's history has the greatest length, `len` entries.
 fn report_full<L: IrqLine>(
     board: &Board,
     system: System<'_, L>,
@@ -153,7 +153,7 @@ fn report_full<L: IrqLine>(
     }
 }
 
-/// Reports a play that ended where a step wanted memory.
+/// Reports a play that ended if a step wanted memory.
 fn report_cut<L: IrqLine>(board: &Board, system: System<'_, L>, room: ReportRoom) -> PlayedBoard
     requires played { IsPlayed board.now system PlayEnd.NoMemory }
     requires room { HasRoom (length board.now.lines) room }

@@ -34,7 +34,7 @@ use workers::{Gate, RoundsEnd, gather, run_rounds, share};
 pub struct RanBoard {
     /// How the run and its printing ended.
     pub end: RunEnd,
-    /// One report a line of the board, in its order; none where memory was refused.
+    /// One report a line of the board, in its order; none if memory was refused.
     pub reports: Reports,
 }
 
@@ -70,7 +70,7 @@ pub fn run_and_print<R: Threads + Wait + Sync, O: Sink, G: Gate + Sync, H: Handl
     }
 }
 
-/// Runs lines of that maker in rounds of threads, and settles what is left. Refused only for want of memory for the
+/// Runs lines of that maker in rounds of threads, and settles what is left. The only error is `NoMemory` for the
 /// lines, their locks, the workers and the order of steps.
 fn run_lines<
     'b,
@@ -100,7 +100,7 @@ fn run_lines<
     Ok((system, end))
 }
 
-/// Shares the lines, lets the workers step in rounds, and takes the lines back. Where a history was full the rest is left
+/// Shares the lines, lets the workers step in rounds, and takes the lines back. If a history was full the rest is left
 /// to be settled.
 fn run_in_rounds<
     R: Threads + Wait + Sync,
@@ -126,7 +126,7 @@ fn run_in_rounds<
     }
 }
 
-/// Reports a run that ended so, and prints it where it came to its end.
+/// Reports a run that ended so, and prints it if it came to its end.
 fn report_run<O: Sink, L: IrqLine>(
     alloc: Global,
     board: &Board,
@@ -175,7 +175,7 @@ fn print_done<O: Sink, L: IrqLine>(
     }
 }
 
-/// Reports a run that ended where the line's history has the greatest length, `len` entries.
+/// Reports a run that ended if the line's history has the greatest length, `len` entries.
 fn report_full<L: IrqLine>(
     board: &Board,
     system: System<'_, L>,

@@ -131,7 +131,7 @@ same_driver_of r t e = eq-eqb r.0 t.0 (ap (λ x. x.0) (sym e))
 other_driver_of : (r t u : DriverNo) → u ≡ r → same_driver t r ≡ false → same_driver t u ≡ false
 other_driver_of r t u e differs = ap (same_driver t) e ∙ differs
 
--- where all calls are of r, they are its calls in order
+-- if all calls are of r, they are its calls in order
 pub all_by : (r : DriverNo) (cs : List (DriverNo × Call)) (p : ℕ) → ((q : ℕ) (c : DriverNo × Call) → slice_get cs q ≡ Some c → c.0 ≡ r) → slice_get (calls_by r cs) p ≡ option_map (λ c. c.1) (slice_get cs p)
 all_by r [] p h = refl
 all_by r (c ∷ cs) zero h = rw (same_driver_of r c.0 (h zero c refl)) refl

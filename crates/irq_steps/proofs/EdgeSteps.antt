@@ -25,7 +25,7 @@ pub still_stored : (r m n t E K T W : Bool) → (not m ≡ true → W ≡ true)
     ≡ (cond n (cond r (cond t (alive E K T && not (shown r m W)) ((alive E K T && shown r m W) || (alive E K T && not (shown r m W)))) (alive E K T && not (shown r m W))) false)
 still_stored r m n t E K T W h = grind arith
 
--- where the line is open, it was open since
+-- if the line is open, it was open since
 pub open_since : (def : LineDef) (a u : List Entry) → not (is_masked def (a ++ u)) ≡ true → was_open def a u ≡ true
 open_since def [] u h = h
 open_since def (e ∷ a) u h = rw h refl
@@ -36,7 +36,7 @@ hidden E K T W r m a b = grind arith
 seen : (E K T W r m : Bool) → m ≡ false → (alive E K T && not (shown r m W)) ≡ false
 seen E K T W r m a = grind arith
 
--- how the edges go on, where the entry masks (n), takes (t), and masking takes back (r)
+-- how the edges go on, if the entry masks (n), takes (t), and masking takes back (r)
 abbrev pub goes_sent : Bool → Bool → Bool → Bool → Bool → Bool
 goes_sent r n t s w = cond n (cond r false (cond t false s)) (cond t w (s || w))
 

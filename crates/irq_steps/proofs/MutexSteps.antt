@@ -36,7 +36,7 @@ done_free r d a (entries.Unlink driver dev (unlinks.Unlinked last) ∷ u) h =
 done_free r d a (entries.Unlink driver dev unlinks.NotThere ∷ u) h = refl
 done_free r d a (_ ∷ u) h = refl
 
--- where only r took devices off the line, the end of its free gives the mutex up
+-- if only r took devices off the line, the end of its free gives the mutex up
 pub mutex_freed : (r : DriverNo) (d : DevNo) (past : List Entry) → ((s : DriverNo) → list_any (unlinks_by s) past ≡ true → s ≡ r) → holds_mutex (entries.Freed r d ∷ past) ≡ false
 mutex_freed r d past h =
     some_ext _ (λ a u. false) past (λ a u is. done_free r d a u (λ s. subst (λ (xs : List Entry). list_any (unlinks_by s) xs ≡ true → s ≡ r) (sym is) (h s)))

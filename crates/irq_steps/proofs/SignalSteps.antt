@@ -28,7 +28,7 @@ none_in_force pre (e ∷ past) h =
     let here : puts_in_force (pre []) (e ∷ past) ≡ false = no_change e (pre []) past (head_none (is_affinity e) (list_any is_affinity past) h) in
     rw here (none_in_force (λ a. pre (e ∷ a)) past (rest_none (is_affinity e) (list_any is_affinity past) h))
 
--- where no affinity was changed, the line's own mask is in force
+-- if no affinity was changed, the line's own mask is in force
 pub own_mask : (def : LineDef) (past : List Entry) → list_any is_affinity past ≡ false → mask_in_force def past ≡ def.mask
 own_mask def past h = ap (mask_of def.mask) (none_in_force (λ a. a) past h)
 

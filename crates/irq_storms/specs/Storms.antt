@@ -52,12 +52,13 @@ pub record IsEdgeCounted (def : LineDef) (past : List Entry) : Type 0 where
 abbrev pub EdgeIsCounted : LineDef → List Entry → Type 0
 EdgeIsCounted def h = is_edge_line def ≡ true → IsEdgeCounted def (reverse h)
 
--- killed and not started since: disabled, with no flow in progress
+-- the line was killed and not started since: it is disabled, with no flow in progress
 pub record IsShut (def : LineDef) (past : List Entry) : Type 0 where
   pub disabled : is_disabled past ≡ true
   pub no_flow : has_flow def past ≡ false
 
--- not started since the last take that was answered Off, or ever: masked and disabled
+-- the line wasn't started since the last take that was answered Off, or ever: it is masked and
+-- disabled
 pub record IsClosed (def : LineDef) (past : List Entry) : Type 0 where
   pub masked : is_masked def past ≡ true
   pub disabled : is_disabled past ≡ true

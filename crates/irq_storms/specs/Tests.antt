@@ -12,7 +12,7 @@ abbrev pub is_any_begin : Entry → Bool
 is_any_begin (entries.Begin cpu dev) = true
 is_any_begin _ = false
 
--- it returned
+-- a handler returned
 abbrev pub is_any_return : Entry → Bool
 is_any_return (entries.Return cpu dev answer served) = true
 is_any_return _ = false

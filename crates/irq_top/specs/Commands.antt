@@ -20,7 +20,7 @@ use Rattle.irq_top.specs.declared.inputs.InputRefused.TheVariants as refusals
 use Rattle.irq_top.specs.declared.ending.Ending.{Ending}
 use Rattle.irq_top.specs.declared.ending.Ending.TheVariants as endings
 
--- a board was played: as the headline says where all is printed and after a fault of the output, and
+-- a board was played: as the headline says if all is printed and after a fault of the output, and
 -- else until a log was full or a step wanted memory
 abbrev pub PlaysAs : BoardSeen → Bool → List LineReport → Option (List ℕ) → Option (List ℕ) → Ending → Type 0
 PlaysAs b summary reports before now endings.Done = PlaysBoard b summary reports before now plays.Done
@@ -29,7 +29,7 @@ PlaysAs b summary reports before now (endings.LogFull line len) = PlaysBoard b s
 PlaysAs b summary reports before now (endings.NoMemory wanted) = PlaysBoard b summary reports before now (plays.NoMemory wanted)
 PlaysAs b summary reports before now _ = ⊥
 
--- where the source told its bytes, all of them were read
+-- if the source told its bytes, all of them were read
 abbrev pub IsReadToEnd : Option (List ℕ) → Option (List ℕ) → Type 0
 IsReadToEnd None left = Unit {0}
 IsReadToEnd (Some bytes) left = left ≡ Some []
@@ -58,7 +58,7 @@ Plays summary told left reports before now (endings.NoMemory wants.Step) = Plays
 Plays summary told left reports before now (endings.NoMemory wants.Making) = reports ≡ []
 Plays summary told left reports before now _ = ⊥
 
--- a board was run by threads: as the headline of a run says where all is printed and after a fault of the output, and
+-- a board was run by threads: as the headline of a run says if all is printed and after a fault of the output, and
 -- else until a log was full
 abbrev pub RunsAs : BoardSeen → Bool → List LineReport → Option (List ℕ) → Option (List ℕ) → Ending → Type 0
 RunsAs b summary reports before now endings.Done = RunsBoard b summary reports before now runs.Done

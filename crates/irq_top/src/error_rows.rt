@@ -7,7 +7,7 @@ use board_text::BoardFault;
 use irq_base::LineNo;
 use text_row::TextRow;
 
-/// Writes the row that says how the call ended, empty where the work was done or a log refused. What the row held before is gone.
+/// Writes the row that says how the call ended, empty if the work was done or a log refused. What the row held before is gone.
 pub fn error_row(row: &mut TextRow, ending: Ending)
     ensures { row.new ≡ error_text ending }
 {

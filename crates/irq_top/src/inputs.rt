@@ -18,7 +18,7 @@ pub enum InputRefused {
     /// A read failed.
     #[error("read fault")]
     ReadFault,
-    /// Memory was wanted and refused.
+    /// Memory was needed and refused.
     #[error("out of memory")]
     NoMemory,
 }

@@ -6,7 +6,7 @@ use irq_base::Reports;
 use std::alloc::Global;
 
 /// What the top call hands out: how it ended, and the histories that were taken out of the lines,
-/// one report a line where a board was played, if only up to a full log or a step that wanted
+/// one report a line if a board was played, if only up to a full log or a step that wanted
 /// memory, else none.
 #[derive(Drop)]
 pub struct Outcome {

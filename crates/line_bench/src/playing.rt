@@ -54,7 +54,8 @@ fn next_actor<L: IrqLine>(line: &L) -> Actor {
     }
 }
 
-/// One step of the actor, with the handlers' answer where it is asked for; whether there was one.
+/// One step of the actor, with the handlers' answer if the step needs it. Answers whether there was
+/// one.
 fn turn<L: IrqLine>(
     line: &mut L,
     actor: Actor,

@@ -1,4 +1,4 @@
--- What drivers' calls wait for, told by the state.
+-- What drivers' calls wait for, read off the state.
 use Rattle.std.specs.Prelude.{Bool, false, not, is_some, nat_lt, Option, Some, None, List}
 use Rattle.irq_base.specs.declared.numbers.DevNo.{DevNo}
 use Rattle.irq_base.specs.declared.numbers.DriverNo.{DriverNo}

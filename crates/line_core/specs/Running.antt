@@ -1,4 +1,4 @@
--- The run that an entry ends, told by the state.
+-- The run that an entry ends, read off the state.
 use Rattle.std.specs.Prelude.{Option, Some, None}
 use Rattle.irq_base.specs.declared.devices.DeviceDef.{DeviceDef}
 use Rattle.irq_base.specs.declared.devices.Part.TheVariants as parts

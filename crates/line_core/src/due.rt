@@ -12,7 +12,7 @@ use irq_base::{Actor, Chip, DevNo, DriverNo, Entry, LineDef, LineNo};
 use line_scripts::Scripts;
 use line_state::LineState;
 
-/// By the state, and for a driver by its place in its script.
+/// The entry that is due by the state, and for a driver by its place in its script.
 pub(crate) fn due_by<C: Chip>(
     def: &LineDef,
     state: &LineState<C>,
@@ -31,7 +31,7 @@ pub(crate) fn due_by<C: Chip>(
     }
 }
 
-/// Of a thread; none of one of another line.
+/// The entry that is due of a thread; none for a thread of another line.
 fn due_of_thread<C: Chip>(
     def: &LineDef,
     state: &LineState<C>,
@@ -46,7 +46,7 @@ fn due_of_thread<C: Chip>(
     state.due_of_thread(dev)
 }
 
-/// Of a driver; none where its calls are complete.
+/// The entry that is due of a driver; none if its calls are complete.
 fn due_of_driver<C: Chip>(
     def: &LineDef,
     state: &LineState<C>,

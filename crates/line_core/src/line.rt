@@ -45,9 +45,9 @@ impl<C: Chip> Model for Line<C> {
 }
 
 impl<C: Chip + Drop> Line<C> {
-    /// The line of that definition over these chips, to which nothing has happened. The chips are those that the
-    /// definition describes, masked and not active; they are aimed at the line's target. Refused only for want of
-    /// memory.
+    /// The line of that definition over these chips, to which nothing has happened. The chips are
+    /// those that the definition describes, masked and not active; they are aimed at the line's
+    /// target. The only error is `NoMemory`.
     #[tactic(auto, using(crate::proofs::More::line_starts))]
     pub fn new(alloc: Global, def: &LineDef, chip: C) -> Result<Line<C>, NoMemory>
         requires valid { IsValid def.now }
@@ -87,8 +87,8 @@ impl<C: Chip> Line<C> {
         due_by(&self.def, &self.state, &self.scripts, actor)
     }
 
-    /// Adds the entry, which is due of the actor, and brings the state up to it. Where no action is linked and the
-    /// history has room, no memory is wanted.
+    /// Adds the entry, which is due of the actor, and brings the state up to it. If the entry links
+    /// no action and the history has room, it takes no memory.
     fn add(&mut self, actor: Actor, entry: Entry) -> Result<(), NoMemory>
         requires due { next self.old.def self.old.entries actor ≡ Some entry }
         requires below { length self.old.entries < self.old.def.log }
@@ -127,7 +127,7 @@ fn freed_at_work<C: Chip>(state: &LineState<C>) -> bool
     }
 }
 
-/// What drivers' calls wait for, as the state tells it.
+/// What drivers' calls wait for, as the state says.
 fn blocks_by<C: Chip>(state: &LineState<C>) -> Blocks
     ensures { result ≡ blocks_by state.now.state }
 {

@@ -16,7 +16,7 @@ pub(crate) fn advance(scripts: &mut Scripts, actor: Actor, entry: &Entry)
     }
 }
 
-/// One more entry of the driver's due call.
+/// Counts one more entry of the driver's due call.
 fn advance_driver(scripts: &mut Scripts, who: DriverNo, entry: &Entry)
     requires due { IsSome (call_of scripts.old who) }
     requires within { within_of scripts.old who + 1 < 2 ^ 32 }

@@ -1,4 +1,4 @@
-//! The memory that an entry wants, taken before anything changes.
+//! The memory that an entry needs, taken before anything changes.
 ghost use Rattle.std.specs.Prelude.{◌≡◌, ◌≤◌, true, false, IsOk, OnOk, OnErr};
 ghost use Rattle.irq_model.specs.Kinds.{is_linked_request};
 
@@ -18,8 +18,8 @@ fn is_linked_request(entry: &Entry) -> bool
     )
 }
 
-/// Makes room for the action of a request that is linked, and for one more entry. The action's comes first: where the
-/// other is refused, nothing of the history has changed.
+/// Makes room for the action of a request that is linked, and for one more entry. The room for the
+/// action comes first: if the other is refused, nothing of the history has changed.
 pub(crate) fn make_room<C: Chip>(
     state: &mut LineState<C>,
     history: &mut History,

@@ -25,7 +25,7 @@ impl Model for Running {
 }
 
 impl Running {
-    /// Whether what was handed in is its answer.
+    /// Whether what was handed in is the run's answer.
     fn is_answered(&self, said: &Option<Said>) -> bool
         ensures { IsTrue result ↔ IsSaidFor said.now self.now }
     {
@@ -66,7 +66,7 @@ fn run_by<C: Chip>(def: &LineDef, state: &LineState<C>, entry: &Entry) -> Option
     }
 }
 
-/// The run that the entry ends, where what was handed in isn't its answer.
+/// The run that the entry ends, unless what was handed in is its answer.
 pub(crate) fn unanswered<C: Chip>(
     def: &LineDef,
     state: &LineState<C>,

@@ -123,7 +123,7 @@ impl Join<View> for MeetsOne {
     ghost spent = { spent_view };
 }
 
-/// Asks for the turn once. Where nobody had it, the pass has it now, with the value.
+/// Asks for the turn once. If nobody had it, the pass has it now, with the value.
 pub fn ask_turn<T: Kept>(lock: &Words<T>, seat: &mut Seated<T>) -> bool
     requires table { (seat.old.table_id ≡ lock.now.table_id) × (lock.now.table_id.words ≡ 2) }
     requires idle { (seat.old.me.1 ≡ []) × (seat.old.me.0.spent ≡ false) }
@@ -170,7 +170,7 @@ pub fn count_more<T: Kept>(lock: &Words<T>, seat: &mut Seated<T>)
     lock.fetch_add::<CountsMore<T>>(seat, COUNT, 1);
 }
 
-/// Looks at the count where nothing was added.
+/// Looks at the count if nothing was added.
 pub fn count_same<T: Kept>(lock: &Words<T>, seat: &mut Seated<T>)
     requires table { (seat.old.table_id ≡ lock.now.table_id) × (lock.now.table_id.words ≡ 2) }
     requires turn { (seat.old.me.0.turn ≡ true) × (seat.old.me.0.spent ≡ false) }

@@ -179,6 +179,6 @@ bare_flags [] f (d ∷ ds) h = cc
 bare_flags (e ∷ es) f [] h = cc
 bare_flags (e ∷ es) f (d ∷ ds) h = refl
 
--- the list is bare where nothing is linked
+-- the list is bare if nothing is linked
 pub bare_is : (def : LineDef) (past : List Entry) → IsValid def → IsLegalPast def past → is_bare (actions_of past) ≡ is_none_linked past
 bare_is def past valid legal = bare_flags (actions_of past) (linking_flags past) (linked past) (actions_are def past valid legal)

@@ -26,7 +26,7 @@ aim_after (entries.Affinity driver mask answer) a = after_set answer mask a
 aim_after (entries.Take cpu way answer) a = after_move a
 aim_after _ a = a
 
--- the number of a processor; 0 where there is none
+-- the number of a processor; 0 if there is none
 abbrev pub number_of : Option CpuNo → ℕ
 number_of None = 0
 number_of (Some c) = c.0
@@ -39,7 +39,7 @@ aimed_of def past = number_of (target def past)
 abbrev pub aimed_by : AimSeen → ℕ
 aimed_by a = number_of (lowest_in a.cpus a.mask)
 
--- where this was the aim before the entry
+-- the processor that the chip is aimed at after the entry, with this as the aim before it
 abbrev pub aimed_after : Entry → AimSeen → ℕ → ℕ
 aimed_after (entries.Affinity driver mask moves.Now) a n = aimed_by (after_set moves.Now mask a)
 aimed_after (entries.Take cpu way answer) a n = aimed_by (after_move a)

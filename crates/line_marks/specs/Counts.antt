@@ -12,7 +12,7 @@ use Rattle.line_marks.specs.Rounds.{RoundSeen}
 abbrev pub tally_of : LineDef → List Entry → CountsSeen
 tally_of def past = record { window = def.window; limit = def.limit; counts = counts_of def past }
 
--- where this was the round before the entry
+-- what an entry makes of the counts, with this as the round before it
 abbrev pub tally_after : Entry → RoundSeen → CountsSeen → CountsSeen
 tally_after (entries.ThreadReturn dev served) r c = if nat_lt 0 served then after_thread c else c
 tally_after (entries.Request driver dev flags links.Linked opened) r c = after_reset c

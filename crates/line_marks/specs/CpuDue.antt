@@ -1,4 +1,4 @@
--- The entry that is due of a processor, told by the state of the line.
+-- The entry that is due of a processor, read off the state of the line.
 use Rattle.std.specs.Prelude.{ℕ, Bool, not, if◌then◌else◌, nat_lt, Option, Some, None}
 use Rattle.irq_base.specs.Cell.{signals}
 use Rattle.irq_base.specs.Handlers.{answer_of}

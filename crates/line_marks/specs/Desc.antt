@@ -26,7 +26,7 @@ desc_of def past = record {
   flow = flow def past;
 }
 
--- the take masks, where the line is one-shot or not
+-- the take masks, given whether the line is one-shot
 abbrev pub take_masks_with : LineDef → FlowKind → Bool → Entry → Bool
 take_masks_with def flows.Level oneshot e = is_take e
 take_masks_with def flows.Edge oneshot e = is_busy e || is_off e
@@ -36,7 +36,7 @@ take_masks_with def flows.Eoi oneshot e = is_off e || (is_handle e && (is_level_
 abbrev pub masks_with : LineDef → DescSeen → Entry → Bool
 masks_with def d e = take_masks_with def def.flow d.oneshot e || (((is_disable e || is_kill e) && d.unlazy) || is_last_unlink e)
 
--- `first`: nothing was linked before the entry
+-- the depth after the entry; `first`: nothing was linked before it
 abbrev pub depth_after : Bool → Entry → ℕ → ℕ
 depth_after first e n =
     if is_last_unlink e || (is_linked_request e && first) then (if is_start e then 0 else 1)

@@ -1,4 +1,4 @@
--- The entry that is due of a driver, told by its due call and the state of the line.
+-- The entry that is due of a driver, read off its due call and the state of the line.
 use Rattle.std.specs.Prelude.{ℕ, ◌==◌, not, if◌then◌else◌, is_some, Option, Some, None}
 use Rattle.irq_base.specs.declared.calls.Call.{Call}
 use Rattle.irq_base.specs.declared.calls.Call.TheVariants as calls

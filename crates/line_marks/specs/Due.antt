@@ -1,4 +1,4 @@
--- The entry that is due of a thread, told by the state of the line.
+-- The entry that is due of a thread, read off the state of the line.
 use Rattle.std.specs.Prelude.{ℕ, ◌-◌, Bool, not, ◌&&◌, if◌then◌else◌, nat_lt, is_some, Option, Some, None}
 use Rattle.irq_base.specs.declared.entries.Entry.{Entry}
 use Rattle.irq_base.specs.declared.entries.Entry.TheVariants as entries

@@ -22,11 +22,11 @@ use Rattle.line_marks.specs.DriversDue.{opened_by}
 use Rattle.line_marks.specs.Kinds.{kind_at}
 use Rattle.line_marks.specs.State.{StateSeen}
 
--- a round more fits
+-- one more round fits
 abbrev pub HasRounds : StateSeen → Type 0
 HasRounds s = s.list.rounds < 2 ^ 32 - 2
 
--- a disable more fits
+-- one more disable fits
 abbrev pub HasDepth : StateSeen → Type 0
 HasDepth s = s.desc.depth < 2 ^ 32 - 1
 

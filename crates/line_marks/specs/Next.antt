@@ -1,4 +1,4 @@
--- The entry that is due of an actor, told by the state of the line and by the driver's due call.
+-- The entry that is due of an actor, read off the state of the line and the driver's due call.
 use Rattle.std.specs.Prelude.{ℕ, if◌then◌else◌, Option, None, List}
 use Rattle.irq_base.specs.declared.calls.Call.{Call}
 use Rattle.irq_base.specs.declared.entries.Actor.{Actor}

@@ -10,7 +10,7 @@ use Rattle.irq_steps.specs.Laid.{Laid}
 abbrev pub IsAt : LineDef → List Entry → DriverNo → ℕ → ℕ → Type 0
 IsAt def past r place within = Laid (calls_by r def.calls) (entries_by r past) place within
 
--- `ends`: the entry completes the call
+-- the place after the entry; `ends`: the entry completes the call
 abbrev pub place_after : Bool → ℕ → ℕ
 place_after ends place = if ends then suc place else place
 

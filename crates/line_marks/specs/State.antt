@@ -92,7 +92,8 @@ first_state def = record {
 abbrev pub high_in : List (DevNo × AskRow) → Bool
 high_in t = nat_lt 0 (how_many is_waiting t)
 
--- what the entry does to the cell, where this was the descriptor before it, and some ask is unserved after it
+-- what the entry does to the cell, given the descriptor before it, and whether some ask is unserved
+-- after it
 abbrev pub driven_by : LineDef → Entry → DescSeen → Bool → Cell → Cell
 driven_by def (entries.Ask driver dev) d high c = if is_edge_line def then after_edge c else after_high high c
 driven_by def (entries.Return cpu dev answer count) d high c = if is_level_line def && nat_lt 0 count then after_high high c else c

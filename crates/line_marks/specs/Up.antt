@@ -1,5 +1,5 @@
--- Whether the line's domains are activated (`is_up`), told by the actions and by who frees what; and what an entry
--- makes of it.
+-- Whether the line's domains are activated (`is_up`), read off the actions and who frees what; and
+-- what an entry makes of it.
 use Rattle.std.specs.Prelude.{Bool, not, ◌||◌, ◌&&◌, Option, is_some}
 use Rattle.irq_base.specs.declared.entries.Entry.{Entry}
 use Rattle.irq_base.specs.declared.entries.Entry.TheVariants as entries
@@ -11,7 +11,8 @@ use Rattle.irq_base.specs.declared.numbers.DriverNo.{DriverNo}
 abbrev pub up_by : Bool → Option (DriverNo × DevNo) → Bool
 up_by bare freeing = not bare || is_some freeing
 
--- `bare`: nothing was linked before the entry. A first request activates, and the free of the last action gives up
+-- `bare`: nothing was linked before the entry. A first request activates, and the free of the last
+-- action deactivates
 abbrev pub active_after : Bool → Entry → Bool → Bool
 active_after bare (entries.Request driver dev flags links.Linked opened) active = bare || active
 active_after bare (entries.Freed driver dev) active = not bare && active

@@ -1,5 +1,5 @@
-//! What is due of every actor is told by the state and by the drivers' places; and what the state's functions expect of
-//! an entry holds where the entry is due.
+//! What is due of every actor is what the state and the drivers' places say; and what the state's
+//! functions expect of an entry holds if the entry is due.
 ghost use Rattle.std.specs.Prelude.{◌≡◌, ℕ, ◌≤◌, Bool, List, Option, length};
 ghost use Rattle.irq_base.specs.declared.calls.Call.{Call};
 ghost use Rattle.irq_base.specs.declared.calls.Flags.{Flags};
@@ -63,7 +63,7 @@ pub fn due_is_told()
         → IsLine def h s scripts → next def h a ≡ due_by def s scripts a }
 {}
 
-/// A driver's due call is told by its place.
+/// A driver's due call is the one at its place.
 #[tactic(auto, using(crate::proofs::DueIs::call_is))]
 pub fn due_call_is_told()
     ensures law { (def : LineDef) (past : List Entry) (scripts : List (DriverNo × RowSeen))
@@ -87,7 +87,7 @@ pub fn take_is_its_parts()
         → state_after def (entries.Take cpu way answer) s ≡ handling_from answer (moved (entered def def.flow answer cpu (arrived way s))) }
 {}
 
-/// So is what an end makes of it, where it is the end that the state tells.
+/// So is what an end makes of it, if it is the end that is due by the state.
 #[tactic(auto, using(crate::proofs::Ends::end_is))]
 pub fn end_is_its_parts()
     ensures law { (def : LineDef) (c : CpuNo) (again unmask : Bool) (note : Note) (s : StateSeen)
@@ -95,7 +95,7 @@ pub fn end_is_its_parts()
         → state_after def (entries.End c again unmask note) s ≡ gone_on def again (left_at def def.flow (is_held s) (killed_by note (noted_at s))) }
 {}
 
-/// And what a linked request makes of it, where it opens the line as the state tells.
+/// And what a linked request makes of it, if it opens the line as the state says.
 #[tactic(auto, using(crate::proofs::Linking::request_is))]
 pub fn request_is_its_parts()
     ensures law { (def : LineDef) (r : DriverNo) (d : DevNo) (flags : Flags) (opened : Opened) (s : StateSeen) → opened ≡ opened_by def flags s

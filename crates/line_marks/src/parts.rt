@@ -38,7 +38,7 @@ pub fn desc_follows()
     ensures law { (def : LineDef) (e : Entry) (past : List Entry) → IsValid def → IsLegalPast def (e ∷ past) → desc_of def (e ∷ past) ≡ desc_after def (is_none_linked past) e (desc_of def past) }
 {}
 
-/// The list of actions, whose handler was called in the round, and the number of rounds.
+/// The list of actions, those whose handler was called in the round, and the number of rounds.
 #[tactic(auto, using(crate::proofs::ListFollows::list_more))]
 pub fn list_follows()
     ensures law { (def : LineDef) (e : Entry) (past : List Entry) → IsValid def → list_of def (e ∷ past) ≡ list_after def e (list_of def past) }
@@ -50,7 +50,7 @@ pub fn actions_are()
     ensures law { (def : LineDef) (past : List Entry) → IsValid def → IsLegalPast def past → flags_of (actions_of past) ≡ linked_flags past }
 {}
 
-/// It is bare where nothing is linked.
+/// The list is bare exactly if nothing is linked.
 #[tactic(auto, using(crate::proofs::ActionsFollow::bare_is))]
 pub fn bare_is()
     ensures law { (def : LineDef) (past : List Entry) → IsValid def → IsLegalPast def past → is_bare (actions_of past) ≡ is_none_linked past }
@@ -94,7 +94,7 @@ pub fn active_follows()
     ensures law { (def : LineDef) (e : Entry) (past : List Entry) → IsValid def → IsLegalPast def (e ∷ past) → is_up (e ∷ past) ≡ active_after (is_bare (actions_of past)) e (is_up past) }
 {}
 
-/// They are active exactly while something is linked or a device is being freed.
+/// The domains are active exactly while something is linked or a device is being freed.
 #[tactic(auto, using(crate::proofs::UpFollow::up_is))]
 pub fn up_is()
     ensures law { (def : LineDef) (past : List Entry) → IsValid def → IsLegalPast def past → is_up past ≡ up_by (is_none_linked past) (freeing past) }

@@ -24,13 +24,13 @@ pub fn state_follows()
     ensures law { (def : LineDef) (e : Entry) (past : List Entry) → IsValid def → IsLegalPast def (e ∷ past) → state_of def (e ∷ past) ≡ state_after def e (state_of def past) }
 {}
 
-/// It begins as one to which nothing was done.
+/// The state begins as that of a line to which nothing was done.
 #[tactic(auto, using(crate::proofs::StateFollows::state_first))]
 pub fn state_begins()
     ensures law { (def : LineDef) → state_of def [] ≡ first_state def }
 {}
 
-/// What an entry does to the cell is told by the descriptor before it and by the asks after it.
+/// What an entry does to the cell follows from the descriptor before it and the asks after it.
 #[tactic(auto, using(crate::proofs::CellFollows::cell_more))]
 pub fn cell_follows()
     ensures law { (def : LineDef) (e : Entry) (past : List Entry) (c : Cell) → IsValid def → driven def e past c ≡ driven_by def e (desc_of def past) (high_in (asks_after (kinds_of def) e (asks_of def past))) c }
@@ -43,7 +43,8 @@ pub fn cell_is_told()
     ensures signal { (def : LineDef) (past : List Entry) → IsValid def → IsLegalPast def past → presents (cell_after def past) ≡ signals def past }
 {}
 
-/// The cell has the trigger of the definition, and can be retriggered where the definition says so.
+/// The cell has the trigger of the definition, and can be retriggered exactly if the definition
+/// says so.
 #[tactic(auto, using(crate::proofs::CellFollows::is_of))]
 pub fn cell_keeps_kind()
     ensures law { (def : LineDef) (past : List Entry) → IsValid def → IsLegalPast def past → IsOf def (state_of def past) }

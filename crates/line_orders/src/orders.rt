@@ -31,7 +31,7 @@ enum Turn {
 ///
 /// # Errors
 ///
-/// `NoMemory` where memory was wanted and refused, and nothing else.
+/// `NoMemory` if memory was needed and refused, and nothing else.
 pub fn compare<L: IrqLine, M: IrqLine, A: MakesLine<L>, B: MakesLine<M>>(
     alloc: Global,
     lines: &A,
@@ -93,7 +93,7 @@ fn pair_after<L: IrqLine, M: IrqLine, A: MakesLine<L>, B: MakesLine<M>>(
     Ok(pair)
 }
 
-/// Asks the actors from that place on, and where none can move, whether the histories are the same.
+/// Asks the actors from that place on, and if none can move, whether the histories are the same.
 fn next_turn<L: IrqLine, M: IrqLine>(
     pair: &mut Pair<L, M>,
     actors: &[Actor],

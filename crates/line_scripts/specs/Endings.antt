@@ -7,7 +7,7 @@ use Rattle.irq_base.specs.declared.entries.Entry.TheVariants as entries
 use Rattle.irq_base.specs.declared.entries.UnlinkAnswer.TheVariants as unlinks
 use Rattle.irq_model.specs.Kinds.{is_synced}
 
--- a free ends with its last step, or at once where there was nothing to free
+-- a free ends with its last step, or at once if there was nothing to free
 abbrev pub ends_free : Entry → Bool
 ends_free (entries.Freed driver dev) = true
 ends_free (entries.Unlink driver dev unlinks.NotThere) = true

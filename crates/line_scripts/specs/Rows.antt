@@ -18,7 +18,7 @@ pub record RowSeen : Type 0 where
 abbrev pub unbegun : List Call → RowSeen
 unbegun cs = record { calls = cs; place = 0; within = 0 }
 
--- the driver's row, empty where it has no calls on the line
+-- the driver's row, empty if it has no calls on the line
 abbrev pub row_of : List (DriverNo × RowSeen) → DriverNo → RowSeen
 row_of s r = unwrap_or (lookup (same_driver r) s) (unbegun [])
 

@@ -35,7 +35,7 @@ impl Row {
         }
     }
 
-    /// Adds a call at the end. Refused only for want of memory.
+    /// Adds a call at the end. The only error is `NoMemory`.
     pub fn push(&mut self, call: Call) -> Result<(), NoMemory>
         ensures { OnOk result (self.new ≡ record self.old { calls = self.old.calls ++ call ∷ [] }) }
     {
@@ -43,7 +43,7 @@ impl Row {
         Ok(())
     }
 
-    /// The first call that isn't complete, and how many entries it has made; none where all are complete.
+    /// The first call that isn't complete, and how many entries it has made; none if all are complete.
     pub fn due(&self) -> Option<(Call, u32)>
         ensures { result ≡ with_count (call_in self.now) self.now.within }
     {
@@ -51,7 +51,7 @@ impl Row {
         Some((call, self.within))
     }
 
-    /// One more entry of the due call was added: its last one, where it completes the call.
+    /// One more entry of the due call was added. `completes`: it was the last one.
     pub fn advance(&mut self, completes: bool)
         requires due { IsSome (call_in self.old) }
         requires within { self.old.within + 1 < 2 ^ 32 }

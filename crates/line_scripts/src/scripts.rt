@@ -31,7 +31,7 @@ impl Model for Scripts {
 }
 
 impl Scripts {
-    /// The scripts of these calls, of which none has begun. Refused only for want of memory.
+    /// The scripts of these calls, of which none has begun. The only error is `NoMemory`.
     pub fn new(alloc: Global, calls: &CallList) -> Result<Scripts, NoMemory>
         ensures calls { IfOk result (λ s. (r : DriverNo) → calls_of s r ≡ calls_by r calls.now) }
         ensures place { IfOk result (λ s. (r : DriverNo) → place_of s r ≡ 0) }
@@ -65,7 +65,7 @@ impl Scripts {
         Ok(())
     }
 
-    /// The driver's first call that isn't complete, and how many entries it has made; none where all are complete,
+    /// The driver's first call that isn't complete, and how many entries it has made; none if all are complete,
     /// or the driver has none on the line.
     pub fn due(&self, who: DriverNo) -> Option<(Call, u32)>
         ensures { result ≡ with_count (call_of self.now who) (within_of self.now who) }
@@ -73,7 +73,7 @@ impl Scripts {
         self.rows.get(&who)?.due()
     }
 
-    /// One more entry of the driver's due call was added: its last one, where it completes the call.
+    /// One more entry of the driver's due call was added. `completes`: it was the last one.
     pub fn advance(&mut self, who: DriverNo, completes: bool)
         requires due { IsSome (call_of self.old who) }
         requires within { within_of self.old who + 1 < 2 ^ 32 }

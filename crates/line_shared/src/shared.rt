@@ -40,7 +40,7 @@ impl<L: IrqLine> Model for SharedLine<L> {
 }
 
 impl<L: IrqLine> SharedLine<L> {
-    /// Shares a line to which nothing has happened, and gives its first pass. Refused only for want of memory: the line
+    /// Shares a line to which nothing has happened, and gives its first pass. The only error is `NoMemory`: the line
     /// comes back.
     pub fn new(alloc: Global, line: L) -> Result<(SharedLine<L>, Pass<L>), ShareRefused<L>>
         requires empty { (L.seen line).entries ≡ [] }
@@ -117,7 +117,7 @@ impl<L: IrqLine> SharedLine<L> {
         self.lock.meet(pass, other);
     }
 
-    /// The line, where no actor is out. Its history is what the first pass has seen.
+    /// The line, if no actor is out. Its history is what the first pass has seen.
     pub fn finish(self, pass: Pass<L>) -> L
         requires pass { IsPassOf self pass }
         requires idle { pass.turn ≡ false }

@@ -10,8 +10,8 @@ use crate::state::LineState;
 use irq_base::{Chip, Entry, LineDef};
 
 impl<C: Chip> LineState<C> {
-    /// Brings the state up to the entry, which was due in it. A request that is linked wants room for its action
-    /// (`reserve`); nothing takes memory.
+    /// Brings the state up to the entry, which was due in it. A request that is linked needs room
+    /// for its action (`reserve`); nothing takes memory.
     pub fn apply(&mut self, def: &LineDef, entry: Entry)
         requires valid { IsValid def.now }
         requires is_of { IsOf def.now self.old.state }

@@ -19,8 +19,8 @@ use irq_base::{
 };
 
 impl<C: Chip> LineState<C> {
-    /// The entry that is due of the driver, if there is one, where `call` is its first call that isn't complete and
-    /// `within` of its entries are there.
+    /// The entry that is due of the driver, if there is one. `call` is its first call that isn't
+    /// complete, and `within` of its entries are there.
     pub fn due_of_call(
         &self,
         def: &LineDef,
@@ -133,7 +133,7 @@ impl<C: Chip> LineState<C> {
         }
     }
 
-    /// `free_irq`: the unlink, once no other free is in progress; then, where it found the device, the hard clear and
+    /// `free_irq`: the unlink, once no other free is in progress; then, if it found the device, the hard clear and
     /// the wait for its thread.
     fn due_of_free(&self, driver: DriverNo, dev: DevNo, within: u32) -> Option<Entry>
         ensures { result ≡ free_by driver dev within self.now.state }

@@ -52,7 +52,8 @@ impl<C: Chip> LineState<C> {
         }
     }
 
-    /// The last step of `__free_irq`: where nothing is linked, the domains give the interrupt up.
+    /// The last step of `__free_irq`: if nothing is linked, the interrupt is deactivated in its
+    /// domains.
     pub(crate) fn freed(&mut self)
         ensures { (def : LineDef) (driver : DriverNo) (dev : DevNo) → self.new.state ≡ state_after def (entries.Freed driver dev) self.old.state }
     {
@@ -62,7 +63,7 @@ impl<C: Chip> LineState<C> {
         }
     }
 
-    /// `irq_set_affinity`: a mask that is in force at once is where the chip is aimed from now on.
+    /// `irq_set_affinity`: if a mask is in force at once, the chip is aimed by it from now on.
     pub(crate) fn affinity(&mut self, mask: u32)
         requires { self.old.state.aim.cpus ≤ 32 }
         ensures { (def : LineDef) (driver : DriverNo) → self.new.state ≡ state_after def (entries.Affinity driver mask (set_answer self.old.state.aim mask)) self.old.state }

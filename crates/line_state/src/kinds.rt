@@ -26,7 +26,7 @@ impl Model for Kinds {
 }
 
 impl Kinds {
-    /// The kinds of the definition's devices. Refused only for want of memory.
+    /// The kinds of the definition's devices. The only error is `NoMemory`.
     pub(crate) fn new(alloc: Global, def: &LineDef) -> Result<Kinds, NoMemory>
         requires { HasDistinctDevices def.now.devices }
         ensures { IfOk result (λ k. k ≡ kinds_of def.now) }

@@ -1,10 +1,10 @@
 //! The state of one interrupt line, joined of its parts: descriptor, chips, affinity, actions, threads, asks, the round
 //! of the flow and the counts of the rule on spurious interrupts.
 //!
-//! `LineState` says which entry is due of a thread, of a processor and of a driver's call, and is brought up to an
-//! entry by `apply`. It keeps no history: what it is after an entry is told by what it was before. Each call looks at a
-//! few rows of tables, scans nothing, and takes no memory but `new` and `reserve`, which makes the room that a request
-//! wants.
+//! `LineState` says which entry is due of a thread, of a processor and of a driver's call, and is
+//! brought up to an entry by `apply`. It keeps no history: what it is after an entry follows from
+//! what it was before. Each call looks at a few rows of tables, scans nothing, and takes no memory
+//! but `new` and `reserve`, which makes the room that a request needs.
 #![tactic(auto)]
 
 pub mod apply;

@@ -38,7 +38,8 @@ impl<C: Chip> LineState<C> {
         self.actions.begin(dev);
     }
 
-    /// It returns: what it met is served where it serves, and its thread is woken where it says so.
+    /// The handler returns: what it met is served if it serves, and its thread is woken if it says
+    /// so.
     pub(crate) fn returned(&mut self, def: &LineDef, dev: DevNo, answer: Answer, served: u32)
         requires { IsOf def.now self.old.state }
         ensures { (cpu : CpuNo) → self.new.state ≡ state_after def.now (entries.Return cpu dev answer served) self.old.state }

@@ -48,7 +48,7 @@ impl<C: Chip> Model for LineState<C> {
 
 impl<C: Chip + Drop> LineState<C> {
     /// The state of a line of that definition to which nothing has happened, over a chip to which nothing has been
-    /// done; the chip is aimed at the line's target. Refused only for want of memory.
+    /// done; the chip is aimed at the line's target. The only error is `NoMemory`.
     #[tactic(auto, using(crate::proofs::Targets::target_below))]
     pub fn new(alloc: Global, def: &LineDef, chip: C) -> Result<LineState<C>, NoMemory>
         requires valid { IsValid def.now }
@@ -79,8 +79,8 @@ impl<C: Chip + Drop> LineState<C> {
 }
 
 impl<C: Chip> LineState<C> {
-    /// Makes room for one more action, so that a request that is linked takes no memory. Refused only for want of
-    /// memory; the state is as before either way.
+    /// Makes room for one more action, so that a request that is linked takes no memory. The only
+    /// error is `NoMemory`; the state is as before either way.
     pub fn reserve(&mut self) -> Result<(), NoMemory>
         ensures room { OnOk result (1 ≤ self.new.spare) }
         ensures state { self.new.state ≡ self.old.state }
@@ -104,8 +104,8 @@ impl<C: Chip> LineState<C> {
         self.desc.flow()
     }
 
-    /// The one processor of which a take is due, if there is one: the line's target, where the line signals or the
-    /// software resends, unless the flow in progress is its own.
+    /// The one processor of which a take is due, if there is one: the line's target, if the line
+    /// signals or the software resends, unless the flow in progress is its own.
     pub fn taker(&self) -> Option<CpuNo>
         ensures { result ≡ taker_of self.now.state }
     {

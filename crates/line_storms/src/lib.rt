@@ -1,4 +1,4 @@
-//! What the bound on storms says of any line: where the log limit is at least the bound of the line's definition, no
+//! What the bound on storms says of any line: if the log limit is at least the bound of the line's definition, no
 //! step finds the log full.
 #![tactic(auto)]
 
@@ -14,19 +14,21 @@ use callbacks::Said;
 use irq_base::{Actor, NoMemory};
 use irq_line::{IrqLine, StepRefused, Stepped};
 
-/// No log that is at least as long as the bound is ever full: whoever steps the line next, and whatever is handed in,
-/// the answer isn't `Full`. Called before a step it tells its caller that this refusal doesn't come.
+/// No log that is at least as long as the bound is ever full: whoever steps the line next, and
+/// whatever is handed in, the answer isn't `Full`. A caller that calls it before a step knows that
+/// this refusal doesn't come.
 pub fn next_step_is_not_full<L: IrqLine>(line: &L)
     ensures not_full { bound (L.seen line.now).def ≤ (L.seen line.now).def.log → (actor : Actor) (said : Option SaidSeen) (len : ℕ) (new : LineSeen) → Answers (L.seen line.now) actor said (Err (refusals.Full len)) new → ⊥ }
 {
     line.is_sound();
 }
 
-/// `IrqLine::step` on a line whose log limit is at least its bound: it is refused for want of memory alone.
+/// `IrqLine::step` on a line whose log limit is at least its bound: the only refusal is out of
+/// memory.
 ///
 /// # Errors
 ///
-/// `NoMemory` where memory was refused. Nothing has changed then.
+/// `NoMemory` if memory was refused. Nothing has changed then.
 pub fn step_within_bound<L: IrqLine>(
     line: &mut L,
     actor: Actor,

@@ -26,7 +26,7 @@ shares (calls.Request dev flags) c = links_dev dev c
 shares (calls.Free dev) c = links_dev dev c
 shares _ c = false
 
--- they are one driver's, where both request or free one device
+-- the calls are one driver's, or don't both request or free one device
 abbrev pub agrees : DriverNo × Call → DriverNo × Call → Bool
 agrees a b = not (shares a.1 b.1) || same_driver a.0 b.0
 

@@ -67,7 +67,7 @@ fn shares(call: Call, other: Call) -> bool
     }
 }
 
-/// Whether the calls are one driver's, where both request or free one device.
+/// Whether the calls are one driver's, or don't both request or free one device.
 fn agrees(call: (DriverNo, Call), other: (DriverNo, Call)) -> bool
     ensures { result ≡ agrees call other }
 {

@@ -11,7 +11,7 @@ pub record IsFirstUndue (def : LineDef) (entries : List Entry) (number : ℕ) : 
   pub before : IsLegal def (take (number - 1) entries)
   pub undue : (e : Entry) × (slice_get entries (number - 1) ≡ Some e) × (IsDue def e (reverse (take (number - 1) entries)) → ⊥)
 
--- nothing where the history is legal, else the number of its first entry that isn't due
+-- nothing if the history is legal, else the number of its first entry that isn't due
 abbrev pub Judged : LineDef → List Entry → Option ℕ → Type 0
 Judged def entries None = IsLegal def entries
 Judged def entries (Some number) = IsFirstUndue def entries number

@@ -35,7 +35,7 @@ pub enum Verdict {
 ///
 /// # Errors
 ///
-/// `NoMemory` where memory was wanted and refused.
+/// `NoMemory` if memory was needed and refused.
 pub fn check<L: IrqLine, M: MakesLine<L>>(
     alloc: Global,
     board: &Board,

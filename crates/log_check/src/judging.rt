@@ -11,7 +11,7 @@ use irq_base::{Actor, Entry, History, NoMemory};
 use irq_line::{IrqLine, StepRefused, Stepped};
 
 /// The number, counted from 1, of the first entry that isn't the one that is due of its actor after those before it;
-/// nothing where there is none. The line is one to which nothing has happened, and has room for so many entries.
+/// nothing if there is none. The line is one to which nothing has happened, and has room for so many entries.
 pub fn judge<L: IrqLine>(line: &mut L, history: &History) -> Result<Option<u32>, NoMemory>
     requires new { (L.seen line.old).entries ≡ [] }
     requires fits { length history.now.entries ≤ (L.seen line.old).def.log }
@@ -40,7 +40,7 @@ fn adds<L: IrqLine>(line: &mut L, entry: Entry) -> Result<bool, NoMemory>
     Ok(due == Some(entry))
 }
 
-/// Adds the entry that is due of the actor, if there is one, and tells it. Where it ends a run of a handler, the handler
+/// Adds the entry that is due of the actor, if there is one, and tells it. If it ends a run of a handler, the handler
 /// of the device's kind answers.
 fn step<L: IrqLine>(line: &mut L, actor: Actor) -> Result<Option<Entry>, NoMemory>
     requires { length (L.seen line.old).entries < (L.seen line.old).def.log }

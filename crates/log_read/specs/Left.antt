@@ -11,7 +11,7 @@ is_space b = b == 32
 abbrev pub words_of : List ℕ → List (List ℕ)
 words_of row = slice_split is_space row
 
--- the words that are left; nothing where something didn't fit
+-- the words that are left; nothing if something didn't fit
 abbrev pub left_of : Words → Option (List (List ℕ))
 left_of words.Failed = None
 left_of words.Done = Some []

@@ -17,7 +17,7 @@ abbrev pub onto_first : ℕ → List (List ℕ) → List (List ℕ)
 onto_first b [] = (b ∷ []) ∷ []
 onto_first b (row ∷ rows) = (b ∷ row) ∷ rows
 
--- the rows of a text, each with its line feed; what stands behind the last line feed is one where it isn't empty
+-- the rows of a text, each with its line feed; what stands behind the last line feed is one if it isn't empty
 abbrev pub rows_of : List ℕ → List (List ℕ)
 rows_of [] = []
 rows_of (b ∷ bs) = if is_feed b then (b ∷ []) ∷ rows_of bs else onto_first b (rows_of bs)

@@ -19,7 +19,7 @@ pub enum LogRefused {
     /// board.
     #[error("malformed {row}")]
     Malformed { row: u32 },
-    /// Memory was wanted and refused.
+    /// Memory was needed and refused.
     #[error("out of memory")]
     NoMemory,
 }
@@ -41,7 +41,7 @@ impl From<NoMemory> for LogRefused {
 /// # Errors
 ///
 /// `Malformed` with the first row, counted from 1 with those that are passed over, that isn't passed over and isn't
-/// the row of an entry of a line of the board. `NoMemory` where memory was refused.
+/// the row of an entry of a line of the board. `NoMemory` if memory was refused.
 pub fn read_log(alloc: Global, board: &Board, bytes: &[u8]) -> Result<Logs, LogRefused>
     requires { length bytes.now ≤ 67108864 }
     ensures log { IsLogOf board.now.lines bytes.now result }
@@ -76,7 +76,7 @@ fn empty_logs(alloc: Global, board: &Board) -> Result<Logs, NoMemory>
     Ok(logs)
 }
 
-/// The first row of a text that isn't empty, without its line feed, and what follows it; nothing where the text has no
+/// The first row of a text that isn't empty, without its line feed, and what follows it; nothing if the text has no
 /// line feed.
 pub fn cut_row(text: &[u8]) -> Option<(&[u8], &[u8])>
     requires { 1 ≤ length text.now }

@@ -31,7 +31,7 @@ without d (x ∷ ds) none = by_test (same_dev d x) (same_both x d) none (without
     by_test true is m rest = absurd (omega (arith, m))
     by_test false is m rest = rw is (ap (λ ys. x ∷ ys) (rest m))
 
--- nothing is left exactly where d is the only one
+-- nothing is left exactly if d is the only one
 left_without : (d : DevNo) (ds : List DevNo) → list_any (same_dev d) ds ≡ true → count_of (same_dev d) ds ≤ 1 → is_empty (others d ds) ≡ is_only d ds
 left_without d [] there once = cc
 left_without d (x ∷ ds) there once = by_test (same_dev d x) (same_both x d) once

@@ -6,7 +6,7 @@ use Rattle.irq_base.specs.declared.entries.UnlinkAnswer.TheVariants as unlinks
 use Rattle.irq_model.specs.Places.{EachEntry}
 use Rattle.irq_model.specs.Links.{is_none_linked}
 
--- an entry that unlinks says `last` exactly where no device is linked after it
+-- an entry that unlinks says `last` exactly if no device is linked after it
 abbrev pub TellsLast : Entry → List Entry → Type 0
 TellsLast (entries.Unlink driver dev (unlinks.Unlinked last)) past =
     is_none_linked (entries.Unlink driver dev (unlinks.Unlinked last) ∷ past) ≡ last

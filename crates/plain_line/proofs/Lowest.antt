@@ -103,7 +103,7 @@ lowest_is p [] so_far c = record {
 lowest_is p (x ∷ xs) so_far c =
     more_is p x xs so_far (lower_of so_far x.dev (p x.dev)) refl (lowest_is p xs (lower_of so_far x.dev (p x.dev)) (lower_counts p so_far x.dev (p x.dev) refl c))
 
--- an entry of a thread is due only where the device is one of the line's
+-- an entry of a thread is due only if the device is one of the line's
 due_device : (def : LineDef) (past : List Entry) → IsValid def → IsLegalPast def past → (d : DevNo) → IsThreadDueAt def past d → list_any (is_device d) def.devices ≡ true
 due_device def past valid legal d = by_due (next_past def past (actors.Thread def.line d)) refl
   where

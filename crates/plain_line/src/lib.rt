@@ -1,5 +1,6 @@
-//! The plain line: a definition and a history, in which everything is looked up. Slow, short, and a line like any
-//! other: the executable meaning of the contract of lines, to try what stands above it and to compare faster lines with.
+//! The plain line: a definition and a history, in which everything is looked up. It is slow, short,
+//! and a line like any other: the executable meaning of the contract of lines, to try what stands
+//! above it and to compare faster lines with.
 #![tactic(auto)]
 
 mod line;

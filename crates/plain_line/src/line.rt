@@ -13,7 +13,8 @@ use plain_next::{newest_first, next_past};
 use std::alloc::Global;
 use std::marker::Model;
 
-/// A definition and a history. Beside them stands what the queries answer now, since a query can't want memory.
+/// A definition and a history. Beside them stands what the queries answer now, since a query can't
+/// take memory.
 #[derive(Drop)]
 pub struct PlainLine {
     alloc: Global,
@@ -35,7 +36,7 @@ impl Model for PlainLine {
 }
 
 impl PlainLine {
-    /// The line of that definition, to which nothing has happened.
+    /// The line of that definition, to which nothing has happened. The only error is `NoMemory`.
     pub fn new(alloc: Global, def: &LineDef) -> Result<PlainLine, NoMemory>
         requires { IsValid def.now }
         ensures def { IfOk result (λ line. line.def ≡ def.now) }
@@ -74,7 +75,7 @@ impl PlainLine {
     }
 }
 
-/// The entries with one more, where the newest comes first.
+/// The entries with one more; the newest comes first.
 fn with_newest(alloc: Global, past: &[Entry], entry: Entry) -> Result<Vec<Entry>, NoMemory>
     ensures { IfOk result (λ more. more.items ≡ entry ∷ past.now) }
 {

@@ -21,7 +21,7 @@ pub(crate) struct Looked {
     pub(crate) blocks: Blocks,
 }
 
-/// Looks them up, where the newest entry comes first.
+/// Looks the answers up in a past whose newest entry comes first.
 pub(crate) fn look(alloc: Global, def: &LineDef, past: &[Entry]) -> Result<Looked, NoMemory>
     requires valid { IsValid def.now }
     requires legal { IsLegalPast def.now past.now }
@@ -99,7 +99,7 @@ fn is_thread_due(alloc: Global, def: &LineDef, past: &[Entry], dev: DevNo) -> Re
     Ok(due.is_some())
 }
 
-/// The lower of the two, where the second counts.
+/// The lower of the two, or the first alone unless the second counts.
 fn lower(so_far: Option<DevNo>, dev: DevNo, counts: bool) -> Option<DevNo>
     ensures { result ≡ lower_of so_far dev counts }
 {

@@ -47,7 +47,7 @@ fn device(def: &LineDef, dev: DevNo) -> DeviceDef
     }
 }
 
-/// The run that the entry ends, where the newest entry of the history before it comes first.
+/// The run that the entry ends, after a past whose newest entry comes first.
 fn run_ended(def: &LineDef, past: &[Entry], entry: Entry) -> Option<Running>
     requires { length past.now ≤ 100000000 }
     ensures { result ≡ run_ended def.now past.now entry }
@@ -67,7 +67,7 @@ fn run_ended(def: &LineDef, past: &[Entry], entry: Entry) -> Option<Running>
     }
 }
 
-/// The run that the entry ends, where what was handed in isn't its answer.
+/// The run that the entry ends, unless what was handed in is its answer.
 pub(crate) fn unanswered(
     def: &LineDef,
     past: &[Entry],

@@ -27,7 +27,7 @@ front_more past place j d h k =
 or_comm : (a b : Bool) → (a || b) ≡ (b || a)
 or_comm a b = grind arith
 
--- whether the line was open since the edge, where o says so before the entry and m is whether the entry leaves the line masked
+-- whether the line was open since the edge, if o says so before the entry and m is whether the entry leaves the line masked
 pub opened_more : (def : LineDef) (past : List Entry) (place i : ℕ) (o m : Bool) → 0 < i → i ≤ place → place < length past
     → o ≡ was_open def (drop i (take place past)) (drop place past) → m ≡ is_masked def (drop (i - 1) past)
     → (o || not m) ≡ was_open def (drop (i - 1) (take place past)) (drop place past)
@@ -44,7 +44,7 @@ opened_more def past place i o m a b l p q =
     or_comm o (not m) ∙ (ap (λ b. not b || o) q ∙ ap (λ b. not (is_masked def (drop (i - 1) past)) || b) p) in
     before ∙ (ap (λ ys. not (is_masked def ys) || was_open def front rest) (sym whole) ∙ ap (λ ys. was_open def ys rest) (sym step))
 
--- whether a take took the edge, where t says so before the entry, m is whether the line was masked then, and o whether it was open since the edge
+-- whether a take took the edge, if t says so before the entry, m is whether the line was masked then, and o whether it was open since the edge
 pub taken_more : (def : LineDef) (past : List Entry) (place i : ℕ) (d : Entry) (t o m : Bool) → 0 < i → i ≤ place → place < length past
     → t ≡ is_taken def (drop i (take place past)) (drop place past) → o ≡ was_open def (drop i (take place past)) (drop place past) → m ≡ is_masked def (drop i past)
     → ((is_take (get_or past (i - 1) d) && (not m || (not def.recalls && o))) || t) ≡ is_taken def (drop (i - 1) (take place past)) (drop place past)
@@ -62,7 +62,7 @@ taken_more def past place i d t o m a b l p q r =
     ∙ (ap (λ ys. (is_take x && (not (is_masked def ys) || (not def.recalls && was_open def front rest))) || is_taken def front rest) (sym whole)
     ∙ ap (λ ys. is_taken def ys rest) (sym step))))
 
--- some edge is presented where one at a place is, and none where none is
+-- some edge is presented if one at a place is, and none if none is
 pub sent_at : (def : LineDef) (past : List Entry) (i : ℕ) → i < length past
     → true ≡ (is_alive def (take i past) (drop i past) && is_sent_edge def (take i past) (drop i past)) → true ≡ is_sent def past
 sent_at def past i h e = sym (some_at (λ after upto. is_alive def after upto && is_sent_edge def after upto) past i h (sym e))

@@ -48,7 +48,7 @@ fn begins_not_there(entries: &[Entry]) -> bool
     )
 }
 
-/// How many entries a call makes, where these are what stands from its first entry on.
+/// How many entries a call makes, given the driver's entries from its first one on.
 fn entries_of_call(call: Call, entries: &[Entry]) -> usize
     ensures { result ≡ entries_of_call call entries.now }
 {
@@ -73,7 +73,7 @@ pub fn due_call(
     Ok(due_of(&def.calls, r, &entries))
 }
 
-/// The same, where these are the driver's entries.
+/// The same, given the driver's entries.
 fn due_of(calls: &CallList, r: DriverNo, entries: &[Entry]) -> Option<(Call, usize)>
     ensures { result ≡ due_of (calls_by r calls.now) entries.now }
 {

@@ -29,7 +29,8 @@ fn mask_table(alloc: Global, def: &LineDef, past: &[Entry]) -> Result<Vec<bool>,
     Ok(masked)
 }
 
-/// An edge is sent where the line is open now, or where it was open since the edge and masking doesn't take back.
+/// An edge is sent if the line is open now, or was open since the edge and masking doesn't take
+/// back.
 fn shows_edge(def: &LineDef, is_masked_now: bool, opened: bool) -> bool
     ensures { result ≡ (not is_masked_now || (not def.now.recalls && opened)) }
 {

@@ -48,7 +48,7 @@ fn next_of_line_thread(
     next_of_thread(alloc, def, d, past)
 }
 
-/// The entry that is due for the actor, where the newest entry comes first.
+/// The entry that is due for the actor, after a past whose newest entry comes first.
 pub fn next_past(
     alloc: Global,
     def: &LineDef,
@@ -67,16 +67,17 @@ pub fn next_past(
     }
 }
 
-/// The entry that is due for the actor, or none where it may add none, for any history of the line: the plain
-/// body, read off the definitions, with which faster ones are compared. It takes up to the square of the
-/// history's length.
+/// The entry that is due for the actor, or none if it may add none, for any history of the line:
+/// the plain body, read off the definitions, with which faster ones are compared. It takes up to
+/// the square of the history's length.
 ///
-/// The definition need not be one that a board can have: whatever it says, as long as it has at most 32
-/// processors and 256 devices, and the history at most 100,000,000 entries, the answer is what the table of steps says of it.
+/// The definition need not be one that a board can have: whatever it says, as long as it has at
+/// most 32 processors and 256 devices, and the history at most 100,000,000 entries, the answer is
+/// what the table of steps says of it.
 ///
 /// # Errors
 ///
-/// `NoMemory` where memory was wanted and refused, and nothing else.
+/// `NoMemory` if memory was needed and refused, and nothing else.
 pub fn next_slow(
     alloc: Global,
     def: &LineDef,

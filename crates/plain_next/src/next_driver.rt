@@ -91,7 +91,8 @@ fn link_answer(
     Ok(LinkAnswer::Linked)
 }
 
-/// What a request that is linked makes of the depth: the first starts the line unless it is told not to; a
+/// What a request that is linked makes of the depth: the first starts the line unless its flags say
+/// not to; a
 /// further one enables a line that the rule on spurious interrupts disabled.
 fn opened_by_request(
     alloc: Global,
@@ -180,7 +181,7 @@ fn affinity_answer(def: &LineDef, mask: u32) -> AffinityAnswer
     }
 }
 
-/// Once no flow is in progress.
+/// The hard clear, once no flow is in progress.
 fn hard_clear_of(def: &LineDef, r: DriverNo, past: &[Entry]) -> Option<Entry>
     ensures { result ≡ hard_clear_of def.now r past.now }
 {
@@ -191,7 +192,7 @@ fn hard_clear_of(def: &LineDef, r: DriverNo, past: &[Entry]) -> Option<Entry>
     }
 }
 
-/// Once no thread is woken or in a run.
+/// The end of a synchronization, once no thread is woken or in a run.
 fn synced_of(def: &LineDef, r: DriverNo, past: &[Entry]) -> Option<Entry>
     requires { length def.now.devices ≤ 256 }
     ensures { result ≡ synced_of def.now r past.now }
@@ -203,7 +204,7 @@ fn synced_of(def: &LineDef, r: DriverNo, past: &[Entry]) -> Option<Entry>
     }
 }
 
-/// Once the device's thread is at rest.
+/// The end of a free, once the device's thread is at rest.
 fn freed_of(r: DriverNo, d: DevNo, past: &[Entry]) -> Option<Entry>
     ensures { result ≡ freed_of r d past.now }
 {

@@ -29,7 +29,7 @@ pub fn stands<P: Fn(Entry) -> bool + Drop, Q: Fn(Entry) -> bool + Drop>(
     false
 }
 
-/// What stands after the last `p`, or all where there is none.
+/// What stands after the last `p`, or all if there is none.
 pub fn since<P: Fn(Entry) -> bool + Drop>(past: &[Entry], p: P) -> &[Entry]
     requires { P.IsAlwaysCallable p }
     ensures value { (x : Entry → Bool) → Computes (P.post p) x → result.now ≡ since x past.now }
@@ -43,7 +43,7 @@ pub fn since<P: Fn(Entry) -> bool + Drop>(past: &[Entry], p: P) -> &[Entry]
     past
 }
 
-/// What stands before the last `p`, or nothing where there is none.
+/// What stands before the last `p`, or nothing if there is none.
 pub fn before<P: Fn(Entry) -> bool + Drop>(past: &[Entry], p: P) -> &[Entry]
     requires { P.IsAlwaysCallable p }
     ensures value { (x : Entry → Bool) → Computes (P.post p) x → result.now ≡ before x past.now }

@@ -24,7 +24,7 @@ fn cpu_of_handle(e: Option<Entry>) -> Option<CpuNo>
     }
 }
 
-/// The processor of the last take that is handled, where no end that closes follows it.
+/// The processor of the last take that is handled, unless an end that closes follows it.
 pub fn flow(def: &LineDef, past: &[Entry]) -> Option<CpuNo>
     ensures { result ≡ flow def.now past.now }
 {
@@ -83,7 +83,7 @@ fn dev_of_begin(e: Option<Entry>) -> Option<DevNo>
     }
 }
 
-/// The device whose handler is at work: that of the last begin, where no return stands after it.
+/// The device whose handler is at work: that of the last begin, unless a return stands after it.
 pub fn at_work(past: &[Entry]) -> Option<DevNo>
     ensures { result ≡ at_work past.now }
 {

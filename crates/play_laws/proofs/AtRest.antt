@@ -1,4 +1,4 @@
--- Where a play is done, no listed actor has a due entry.
+-- If a play is done, no listed actor has a due entry.
 use Rattle.std.proofs.Common.{◌≡◌, Option, Some, None, List, [], ◌∷◌, reverse, refl, ap, ◌∙◌, inl, inr}
 use Rattle.irq_base.specs.declared.lines.LineDef.{LineDef}
 use Rattle.irq_base.specs.declared.entries.Actor.{Actor}

@@ -1,4 +1,4 @@
--- Where none of the line's actors has a due entry, as where a play is done, the line is settled.
+-- If none of the line's actors has a due entry, as if a play is done, the line is settled.
 use Rattle.std.proofs.Common.{◌≡◌, Option, Some, None, List, reverse, refl}
 use Rattle.irq_base.specs.declared.lines.LineDef.{LineDef}
 use Rattle.irq_base.specs.declared.entries.Actor.{Actor}
@@ -20,7 +20,7 @@ others_rest def h a valid legal other = by_next (next def h a) refl
     by_next None is = is
     by_next (Some e) is = absurd (other (mover_listed def (reverse h) a e valid legal is))
 
--- where none of the line's actors has a due entry, no actor has
+-- if none of the line's actors has a due entry, no actor has
 all_rest : (def : LineDef) (h : List Entry) → IsValid def → IsLegal def h → ((a : Actor) → IsOneOf a (actors_of def) → next def h a ≡ None) → (a : Actor) → next def h a ≡ None
 all_rest def h valid legal rest a = by_next (next def h a) refl
   where

@@ -30,8 +30,8 @@ abbrev pub or_choice : Option (Entry × List Actor) → Option (Entry × List Ac
 or_choice None other = other
 or_choice (Some move) other = Some move
 
--- the next move: of the first pick that can move, where the picks before it are passed over; after the picks of
--- the lowest actor that can move
+-- the next move: of the first pick that can move, with the picks before it passed over; after the
+-- picks of the lowest actor that can move
 abbrev pub choice : LineDef → List Entry → List Actor → Option (Entry × List Actor)
 choice def past [] = with_picks [] (first_move def past (actors_of def))
 choice def past (pick ∷ picks) = or_choice (with_picks picks (next_past def past pick)) (choice def past picks)

@@ -18,7 +18,7 @@ pub fn play_is_one()
     ensures law { (def : LineDef) (picks : List Actor) (g h : List Entry) (a b : End) → Plays def picks g a → Plays def picks h b → (g ≡ h) × (a ≡ b) }
 {}
 
-/// Where a play is done, none of the line's actors has a due entry.
+/// If a play is done, none of the line's actors has a due entry.
 pub fn done_at_rest()
     ensures law { (def : LineDef) (picks : List Actor) (h : List Entry) (a : Actor) → Plays def picks h Done → IsOneOf a (actors_of def) → next def h a ≡ None }
 {}
@@ -28,12 +28,13 @@ pub fn others_rest()
     ensures law { (def : LineDef) (h : List Entry) (a : Actor) → IsValid def → IsLegal def h → (IsOneOf a (actors_of def) → ⊥) → next def h a ≡ None }
 {}
 
-/// No standstill: after a legal history where none of the line's own actors has a due entry, the line is settled.
+/// No standstill: if after a legal history none of the line's own actors has a due entry, the line
+/// is settled.
 pub fn rest_is_settled()
     ensures law { (def : LineDef) (h : List Entry) → IsValid def → IsLegal def h → ((a : Actor) → IsOneOf a (actors_of def) → next def h a ≡ None) → IsSettled def h }
 {}
 
-/// Where the play of a legal history is done, the line is settled: nothing is due, and every script is complete.
+/// If the play of a legal history is done, the line is settled: nothing is due, and every script is complete.
 pub fn done_is_settled()
     ensures law { (def : LineDef) (picks : List Actor) (h : List Entry) → IsValid def → IsLegal def h → Plays def picks h Done → IsSettled def h }
 {}

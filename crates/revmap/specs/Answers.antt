@@ -9,7 +9,8 @@ use Rattle.revmap.specs.declared.map.AssocAnswer.TheVariants as associated
 use Rattle.revmap.specs.declared.map.DisposeAnswer.{DisposeAnswer}
 use Rattle.revmap.specs.declared.map.DisposeAnswer.TheVariants as disposed
 
--- whether a map of that size has a place for the number: a tree, which has no size, for each
+-- whether a map of that size has a place for the number; a tree, which has no size, has one for
+-- each
 abbrev pub has_place : Option ℕ → ℕ → Bool
 has_place None hw = true
 has_place (Some n) hw = nat_lt hw n
@@ -18,7 +19,8 @@ abbrev pub is_tree : Option ℕ → Bool
 is_tree None = true
 is_tree (Some n) = false
 
--- that a map of that size, with that at the number, answers so: no two of these can stand together, and a linear
+-- a map of that size, with that at the number, answers so: no two of these can stand together, and
+-- a linear
 -- map always has one of the first three
 abbrev pub IsAssociated : Option ℕ → Option ℕ → ℕ → AssocAnswer → Type 0
 IsAssociated size virq hw associated.Ok = (has_place size hw ≡ true) × (virq ≡ None)
@@ -45,7 +47,7 @@ dispose_answer (Some virq) = disposed.Ok
 abbrev pub after_dispose : ℕ → (ℕ → Option ℕ) → ℕ → Option ℕ
 after_dispose hw at k = if k == hw then None else at k
 
--- the number isn't mapped and each below it is; none where all of 32 bits are mapped
+-- the number isn't mapped and each below it is; none if all numbers of 32 bits are mapped
 abbrev pub IsLowestFree : (ℕ → Option ℕ) → Option ℕ → Type 0
 IsLowestFree at None = (k : ℕ) → k < 2 ^ 32 → is_some (at k) ≡ true
 IsLowestFree at (Some hw) = (at hw ≡ None) × (hw < 2 ^ 32) × ((k : ℕ) → k < hw → is_some (at k) ≡ true)

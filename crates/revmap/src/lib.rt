@@ -3,7 +3,7 @@
 //!
 //! `LinearMap` is an array of a fixed size, whose memory is taken when it is made; `TreeMap` has every hardware
 //! number. To contracts both are one thing, a finite map from hardware numbers to virqs (`Revmap`).
-//! Each keeps its lowest free number, below which all are mapped, so that it is told at once.
+//! Each keeps its lowest free number, below which all are mapped, so that it is answered at once.
 #![tactic(auto)]
 
 mod free;

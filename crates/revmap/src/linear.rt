@@ -27,7 +27,8 @@ impl Model for LinearMap {
 }
 
 impl LinearMap {
-    /// A map of that size in which nothing is mapped. Refused only for want of memory; no later call wants any.
+    /// A map of that size in which nothing is mapped. The only error is `NoMemory`; no later call
+    /// takes memory.
     pub fn new(alloc: Global, size: u32) -> Result<LinearMap, NoMemory>
         ensures size { IfOk result (λ m. ⟦<LinearMap as Revmap>⟧.size m ≡ Some size) }
         ensures empty { IfOk result (λ m. (k : ℕ) → ⟦<LinearMap as Revmap>⟧.at m k ≡ None) }

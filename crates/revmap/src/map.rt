@@ -11,7 +11,7 @@ pub enum AssocAnswer {
     Taken,
     /// A linear map has no place for it.
     OutOfRange,
-    /// A tree's memory was wanted and refused.
+    /// A tree's memory was needed and refused.
     NoMemory,
 }
 
@@ -33,14 +33,14 @@ pub trait Revmap {
     ghost size: { Self → Option ℕ };
 
     /// Maps the hardware number to the virq, which is above 0 (`irq_domain_associate`, `kernel/irq/irqdomain.c`).
-    /// A refusal changes nothing; a linear map never wants memory.
+    /// A refusal changes nothing; a linear map never takes memory.
     fn associate(&mut self, virq: u32, hw: u32) -> AssocAnswer
         requires { 0 < virq }
         ensures answer { IsAssociated (size self.old) (at self.old hw) hw result }
         ensures map { (k : ℕ) → at self.new k ≡ after_associate result virq hw (at self.old) k }
         ensures size { size self.new ≡ size self.old };
 
-    /// The virq at the hardware number; none where it isn't mapped (`__irq_resolve_mapping`, `kernel/irq/irqdomain.c`).
+    /// The virq at the hardware number; none if it isn't mapped (`__irq_resolve_mapping`, `kernel/irq/irqdomain.c`).
     fn resolve(&self, hw: u32) -> Option<u32>
         ensures { result ≡ at self.now hw };
 
@@ -50,7 +50,8 @@ pub trait Revmap {
         ensures map { (k : ℕ) → at self.new k ≡ after_dispose hw (at self.old) k }
         ensures size { size self.new ≡ size self.old };
 
-    /// The least hardware number, of 0 to 4,294,967,295, that isn't mapped; none where each is. In a full linear
+    /// The least hardware number, of 0 to 4,294,967,295, that isn't mapped; none if all are mapped.
+    /// In a full linear
     /// map it is the size (ours).
     fn lowest_free(&self) -> Option<u32>
         ensures { IsLowestFree (at self.now) result };

@@ -94,6 +94,6 @@ pub its_actor : (o : Option Actor) → IsSome o → (who : Actor) × (o ≡ Some
 its_actor None is = cc
 its_actor (Some who) is = (who, refl)
 
--- where nothing happened since nothing was due
+-- if nothing happened since nothing was due
 pub tries_still : (def : LineDef) (who : Actor) (k : Known) → IsIdle def who k → Tries def who k (Ok None) k
 tries_still def who k idle = record { begins = begins_self k.seen; came = (idle, refl) }

@@ -27,14 +27,14 @@ numbers_of lines = map (λ (l : LockSeen). l.def.line) lines
 abbrev pub flows_of : List LockSeen → List FlowKind
 flows_of lines = map (λ (l : LockSeen). l.def.flow) lines
 
--- the line of that number stands at the place; none where there is none
+-- the line of that number stands at the place; none if there is none
 abbrev pub IsPlaceOf : List LockSeen → LineNo → Option ℕ → Type 0
 IsPlaceOf lines number None = list_any (λ (l : LockSeen). same_line number l.def.line) lines ≡ false
 IsPlaceOf lines number (Some k) = IsSomeAnd (slice_get lines k) (λ l. l.def.line ≡ number)
 
 -- ---- one job
 
--- the pass is of that line, holds no turn, and is of that actor; where it rests, nothing is due on what it has seen
+-- the pass is of that line, holds no turn, and is of that actor; if it rests, nothing is due on what it has seen
 pub record Sits (line : LockSeen) (who : Actor) (s : SeatSeen) : Type 0 where
   pub of_line : IsPassOf line s.pass
   pub idle : s.pass.turn ≡ false

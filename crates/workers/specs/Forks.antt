@@ -23,7 +23,7 @@ pub record IsForkOf (line : LockSeen) (who : Actor) (first : PassSeen) (s : Seat
   pub knows : s.pass.knows ≡ newcomer first.knows who
   pub rests : s.rests ≡ false
 
--- the first pass afterwards, where it gave one and where it didn't
+-- the first pass afterwards, if it gave one and if it didn't
 pub record Gave (who : Actor) (old new : PassSeen) : Type 0 where
   pub table : new.table ≡ old.table
   pub def : new.def ≡ old.def

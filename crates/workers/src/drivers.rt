@@ -65,7 +65,7 @@ impl<L: IrqLine> Job<L> {
     }
 }
 
-/// The place of the driver's first call from the place on that is about one of the lines; the calls' length where there is
+/// The place of the driver's first call from the place on that is about one of the lines; the calls' length if there is
 /// none.
 fn next_call<L: IrqLine>(
     calls: &[ScriptCall],

@@ -13,7 +13,7 @@ pub(crate) enum Left {
     Busy,
     /// A step was due on that line, whose history has the greatest length. `len`: that many entries.
     Full { line: LineNo, len: u32 },
-    /// Memory was wanted and refused.
+    /// Memory was needed and refused.
     NoMemory,
 }
 

@@ -30,7 +30,7 @@ impl<L: IrqLine> Model for SharedLines<L> {
 }
 
 impl<L: IrqLine> SharedLines<L> {
-    /// The place of the line of that number; none where it takes no part.
+    /// The place of the line of that number; none if it takes no part.
     pub(crate) fn place_of(&self, number: LineNo) -> Option<usize>
         ensures place { IsPlaceOf self.now number result }
         ensures few { IfSome result (λ k. k + 1 < 2 ^ 64) }

@@ -32,7 +32,7 @@ pub enum RoundsEnd {
     /// A step was due on that line, whose history has the greatest length; of several such lines it is the lowest. `len`:
     /// that many entries.
     Full { line: LineNo, len: u32 },
-    /// Memory was wanted and refused.
+    /// Memory was needed and refused.
     NoMemory,
 }
 
@@ -112,7 +112,7 @@ impl<L: IrqLine> Job<L> {
     }
 }
 
-/// One round: each job's worker has a thread of its own, where one can be made.
+/// One round: each job's worker has a thread of its own, if one can be made.
 fn round<R: Threads + Wait + Sync, L: IrqLine + Send + Sync, G: Gate + Sync, H: Handler + Sync>(
     rt: &R,
     board: &Board,

@@ -11,7 +11,7 @@ use line_shared::{Pass, SharedLine};
 use std::marker::Model;
 use std::sync::Wait;
 
-/// A pass, and whether its actor is known to have nothing due on what the pass has seen. Where nothing has happened on
+/// A pass, and whether its actor is known to have nothing due on what the pass has seen. If nothing has happened on
 /// the line since, it needn't be asked again.
 #[derive(Drop)]
 pub(crate) struct Seat<L: IrqLine> {
@@ -28,7 +28,7 @@ impl<L: IrqLine> Model for Seat<L> {
 }
 
 impl<L: IrqLine> Seat<L> {
-    /// Tries the actor's next step on the line, but not where nothing is known to have happened on the line since nothing
+    /// Tries the actor's next step on the line, but not if nothing is known to have happened on the line since nothing
     /// was due.
     pub(crate) fn step<R: Wait, H: Handler>(
         &mut self,
@@ -62,7 +62,7 @@ impl<L: IrqLine> Seat<L> {
     }
 }
 
-/// Adds the entry that is due of the pass's actor, if there is one. Where it ends a run of a handler, that handler is
+/// Adds the entry that is due of the pass's actor, if there is one. If it ends a run of a handler, that handler is
 /// called, with the line let go.
 fn step_heard<L: IrqLine, R: Wait, H: Handler>(
     rt: &R,

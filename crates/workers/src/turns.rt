@@ -21,7 +21,7 @@ pub(crate) enum Turn {
     Undecided,
     /// A step is due on that line, whose history has the greatest length. `len`: that many entries.
     Full { line: LineNo, len: u32 },
-    /// Memory was wanted and refused.
+    /// Memory was needed and refused.
     NoMemory,
 }
 
@@ -47,7 +47,7 @@ impl<L: IrqLine> Job<L> {
         turn_of(number, tried)
     }
 
-    /// Tries a processor's next step with the pass at the place, where it has no flow in progress on another line.
+    /// Tries a processor's next step with the pass at the place, if it has no flow in progress on another line.
     fn step_cpu<R: Wait, H: Handler>(
         &mut self,
         rt: &R,
