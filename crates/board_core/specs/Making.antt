@@ -44,7 +44,8 @@ pub record AreCut (board : BoardSeen) (n : ℕ) (scripts : List ScriptSeen) : Ty
 abbrev pub AreNewScripts : BoardSeen → List ScriptSeen → Type 0
 AreNewScripts board scripts = AreCut board (length board.calls) scripts
 
--- the scripts with the call at the end of the one at place j, if there are both places
+-- the scripts with the call at the end of the one at place j; as they were unless there are both
+-- places
 abbrev pub call_put : Option ScriptSeen → ℕ → ℕ → ScriptCall → List ScriptSeen → List ScriptSeen
 call_put None j k c scripts = scripts
 call_put (Some s) j k c scripts = slice_set scripts j (record s { steps = s.steps ++ record { place = k; call = c } ∷ [] })

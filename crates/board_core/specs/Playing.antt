@@ -20,14 +20,15 @@ pub record IsUnderway (s : SystemSeen) (picks rest : List Actor) : Type 0 where
   pub chosen : IsChosen s.board picks (reverse s.log) left
   pub next : choice s.board (board_lines s.lines) left ≡ choice s.board (board_lines s.lines) rest
 
--- The log is the play of the board with these picks, done or full as was answered; a full one tells the length. If
--- memory was refused it is the play so far, and there is a next move.
+-- The log is the play of the board with these picks, done or full as was answered; a full one says
+-- the length. If memory was refused it is the play so far, and there is a next move.
 abbrev pub IsPlay : SystemSeen → List Actor → PlayEnd → Type 0
 IsPlay s picks ends.Done = Plays s.board picks (reverse s.log) Done
 IsPlay s picks (ends.Full line len) = Plays s.board picks (reverse s.log) (Full line) × (length (part line (reverse s.log)) ≡ len)
 IsPlay s picks ends.NoMemory = (left : List Actor) × IsChosen s.board picks (reverse s.log) left × IsSome (choice s.board (lines_of s.board (reverse s.log)) left)
 
--- no actor can move; or the lowest that can has a line without room, whose length is told; or it wanted memory
+-- no actor can move; or the lowest that can has a line without room, whose length is answered; or
+-- it needed memory
 abbrev pub Ends : SystemSeen → PlayEnd → Type 0
 Ends s ends.Done = lowest_move s ≡ None
 Ends s (ends.Full line len) = IsFullFor s (lowest_move s) line len

@@ -1,4 +1,4 @@
--- What a step of a line comes to if the handlers of its devices are at hand.
+-- What a step of a line comes to, with the handlers of its devices at hand.
 use Rattle.std.specs.Prelude.{◌≡◌, ◌<◌, Option, Some, None, Result, Ok, Err, [], ◌∷◌, ◌++◌, length}
 use Rattle.irq_base.specs.declared.entries.Actor.{Actor}
 use Rattle.irq_base.specs.declared.entries.Entry.{Entry}

@@ -14,7 +14,7 @@ use Rattle.board_core.specs.Turns.{TurnsBy}
 use Rattle.board_core.specs.declared.turns.Turn.{Turn}
 use Rattle.board_core.specs.declared.turns.Turn.TheVariants as turns
 
--- a step in which that move was to be made, if any; memory is wanted wherever it pleases
+-- a step in which that move was to be made, if any; memory may be refused at any of them
 abbrev pub StepsBy : SystemSeen → Option Move → Turn → SystemSeen → Type 0
 StepsBy old due turns.NoMemory new = new ≡ old
 StepsBy old due turn new = TurnsBy old due turn new

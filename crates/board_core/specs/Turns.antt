@@ -28,7 +28,7 @@ pub record Moves (old : SystemSeen) (due : Option Move) (m : Move) (new : System
   pub lines : board_lines new.lines ≡ lines_after m (board_lines old.lines)
   pub log : new.log ≡ old.log ++ m ∷ []
 
--- there is a move to be made, and its line has no room: the length is told
+-- there is a move to be made, and its line has no room: the length is answered
 pub record IsFullFor (s : SystemSeen) (due : Option Move) (line : LineNo) (len : ℕ) : Type 0 where
   pub move : Move
   pub is : due ≡ Some move
@@ -36,7 +36,7 @@ pub record IsFullFor (s : SystemSeen) (due : Option Move) (line : LineNo) (len :
   pub length : HasLength (find_line (board_lines s.lines) line) len
   pub log : len ≡ s.board.log
 
--- a turn in which that move was to be made, if any; memory is wanted only if one was
+-- a turn in which that move was to be made, if any; memory is needed only if one was
 abbrev pub TurnsBy : SystemSeen → Option Move → Turn → SystemSeen → Type 0
 TurnsBy old due (turns.Moved line entry) new = Moves old due (line, entry) new
 TurnsBy old due turns.NotYet new = (due ≡ None) × (new ≡ old)
@@ -53,7 +53,7 @@ MayMove s a = IsSome (move_of s a)
 abbrev pub lowest_move : SystemSeen → Option Move
 lowest_move s = first_move s.board (board_lines s.lines) (actors_of s.board)
 
--- a step of the actor may want memory: it may move, and somebody can
+-- a step of the actor may need memory: it may move, and somebody can
 pub record MayWant (s : SystemSeen) (a : Actor) : Type 0 where
   pub actor : MayMove s a
   pub somebody : IsSome (lowest_move s)

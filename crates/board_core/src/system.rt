@@ -63,8 +63,8 @@ impl<'b, L: IrqLine> Model for System<'b, L> {
 }
 
 impl<'b, L: IrqLine> System<'b, L> {
-    /// The system of the board, to which nothing has happened: the maker makes each line that takes part. Refused only
-    /// for want of memory.
+    /// The system of the board, to which nothing has happened: the maker makes each line that takes
+    /// part. The only error is `NoMemory`.
     pub fn new<M: MakesLine<L>>(
         alloc: Global,
         board: &'b Board,
@@ -82,8 +82,8 @@ impl<'b, L: IrqLine> System<'b, L> {
         Ok(system)
     }
 
-    /// The system of the board's lines, to which nothing has happened, and the board's layout. Refused only for want of
-    /// memory.
+    /// The system of the board's lines, to which nothing has happened, and the board's layout. The
+    /// only error is `NoMemory`.
     pub fn of_new_lines(
         alloc: Global,
         board: &'b Board,
@@ -231,8 +231,9 @@ impl<'b, L: IrqLine> System<'b, L> {
         }
     }
 
-    /// The call that the driver is at, the first of its script that isn't complete: if calls on lines that take no
-    /// part are passed over. None if all are complete, or the driver isn't the board's.
+    /// The call that the driver is at, the first of its script that isn't complete: calls on lines
+    /// that take no part are passed over. None if all are complete, or the driver isn't the
+    /// board's.
     pub fn due_call(&self, driver: DriverNo) -> Option<DueCall>
         ensures { result ≡ call_on (current_line self.now.board.calls (board_lines self.now.lines) driver) driver }
     {
@@ -244,7 +245,8 @@ impl<'b, L: IrqLine> System<'b, L> {
     }
 
     /// One step of the actor on its line, if it can move. If the entry ends a run of a handler, that handler is called.
-    /// It takes the same time however many actors and entries there are, and no memory but the log's and the histories'.
+    /// It takes the same time however many actors and entries there are, and no memory but the
+    /// log's and the line's.
     pub fn turn<H: Handler>(&mut self, actor: Actor, handlers: &Callbacks<H>) -> Turn
         ensures { Turns self.old actor result self.new }
     {
@@ -361,9 +363,9 @@ impl<'b, L: IrqLine> System<'b, L> {
         }
     }
 
-    /// One step of the actor on this line, whichever line it would step on in a turn; a driver's current call is on it.
-    /// `NotYet` if the line takes no part. So the plays of other scenarios are made, which choose lines by a rule of
-    /// their own.
+    /// One step of the actor on this line, whichever line it would step on in a turn; a driver's
+    /// current call is on it. `NotYet` if the line takes no part. So the plays of other scenarios
+    /// are made, which choose lines by a rule of their own.
     pub fn step_on<H: Handler>(
         &mut self,
         line: LineNo,
@@ -458,8 +460,8 @@ impl<'b, L: IrqLine> System<'b, L> {
         }
     }
 
-    /// Plays the board from its beginning to its end: the picks in turn, if one that can't move is passed over, and
-    /// then always the lowest actor that can move.
+    /// Plays the board from its beginning to its end: the picks in turn, with one that can't move
+    /// passed over, and then always the lowest actor that can move.
     pub fn play<H: Handler>(&mut self, picks: &[Actor], handlers: &Callbacks<H>) -> PlayEnd
         requires { IsFresh self.old }
         ensures board { self.new.board ≡ self.old.board }

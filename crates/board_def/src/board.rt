@@ -89,7 +89,7 @@ impl Board {
         self.log = log;
     }
 
-    /// Declares the domain after the others. Refused, the board is as before.
+    /// Declares the domain after the others. If it is refused, the board is as before.
     pub fn add_domain(&mut self, row: DomainRow) -> Result<(), NoMemory>
         requires board { IsBoard (record self.old { domains = self.old.domains ++ row ∷ [] }) }
         ensures added { OnOk result (self.new ≡ record self.old { domains = self.old.domains ++ row ∷ [] }) }
@@ -98,7 +98,7 @@ impl Board {
         self.domains.push(row)
     }
 
-    /// Declares the line after the others. Refused, the board is as before.
+    /// Declares the line after the others. If it is refused, the board is as before.
     pub fn add_line(&mut self, row: LineRow) -> Result<(), NoMemory>
         requires board { IsBoard (record self.old { lines = self.old.lines ++ row ∷ [] }) }
         ensures added { OnOk result (self.new ≡ record self.old { lines = self.old.lines ++ row ∷ [] }) }
@@ -107,7 +107,7 @@ impl Board {
         self.lines.push(row)
     }
 
-    /// Declares the device after the others. Refused, the board is as before.
+    /// Declares the device after the others. If it is refused, the board is as before.
     pub fn add_device(&mut self, device: DeviceDef) -> Result<(), NoMemory>
         requires board { IsBoard (record self.old { devices = self.old.devices ++ device ∷ [] }) }
         ensures added { OnOk result (self.new ≡ record self.old { devices = self.old.devices ++ device ∷ [] }) }
@@ -116,7 +116,7 @@ impl Board {
         self.devices.push(device)
     }
 
-    /// Declares the driver after the others. Refused, the board is as before.
+    /// Declares the driver after the others. If it is refused, the board is as before.
     pub fn add_driver(&mut self, driver: DriverNo) -> Result<(), NoMemory>
         requires board { IsBoard (record self.old { drivers = self.old.drivers ++ driver ∷ [] }) }
         ensures added { OnOk result (self.new ≡ record self.old { drivers = self.old.drivers ++ driver ∷ [] }) }
@@ -125,7 +125,7 @@ impl Board {
         self.drivers.push(driver)
     }
 
-    /// Adds the call at the end of the scripts. Refused, the board is as before.
+    /// Adds the call at the end of the scripts. If it is refused, the board is as before.
     pub fn add_call(&mut self, call: ScriptCall) -> Result<(), NoMemory>
         requires board { IsBoard (record self.old { calls = self.old.calls ++ call ∷ [] }) }
         ensures added { OnOk result (self.new ≡ record self.old { calls = self.old.calls ++ call ∷ [] }) }
@@ -135,7 +135,7 @@ impl Board {
         Ok(())
     }
 
-    /// Adds the pick after the others. Refused, the board is as before.
+    /// Adds the pick after the others. If it is refused, the board is as before.
     pub fn add_pick(&mut self, pick: Actor) -> Result<(), NoMemory>
         requires board { IsBoard (record self.old { picks = self.old.picks ++ pick ∷ [] }) }
         ensures added { OnOk result (self.new ≡ record self.old { picks = self.old.picks ++ pick ∷ [] }) }

@@ -77,7 +77,7 @@ pub struct Levels {
 }
 
 impl Levels {
-    /// None were passed.
+    /// No level was passed.
     pub fn none() -> Levels
         ensures { result ≡ record { root = Remap; masking = None; count = 0 } }
     {

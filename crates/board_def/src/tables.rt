@@ -44,7 +44,7 @@ impl<K: Eq + Hash, T: Keyed<K>> Model for Table<K, T> {
 }
 
 impl<K: Copy + Eq + Hash + Drop, T: Keyed<K> + Copy + Drop> Table<K, T> {
-    /// No rows. It takes no memory yet.
+    /// The table without rows. It takes no memory yet.
     pub fn new(alloc: Global) -> Table<K, T>
         ensures { result ≡ [] }
     {
@@ -53,7 +53,7 @@ impl<K: Copy + Eq + Hash + Drop, T: Keyed<K> + Copy + Drop> Table<K, T> {
         }
     }
 
-    /// Adds the row at the end. Refused, the table is as before.
+    /// Adds the row at the end. If it is refused, the table is as before.
     pub fn push(&mut self, row: T) -> Result<(), NoMemory>
         requires { find_row K.eq T.key_of self.old (T.key_of row) ≡ None }
         ensures ok { OnOk result (self.new ≡ self.old ++ row ∷ []) }

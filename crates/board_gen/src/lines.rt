@@ -14,7 +14,8 @@ use irq_base::{DevNo, DeviceDef, DriverNo, Kind, LineNo, NoMemory};
 /// The processors of a line without options: the two of the machine.
 const BOTH: u32 = 3;
 
-/// Adds the line of that number, whose first device gets that number, and tells how many devices it has.
+/// Adds the line of that number, whose first device gets that number, and answers how many devices
+/// it has.
 pub(crate) fn add_line(
     board: &mut Board,
     draws: &mut Draws,

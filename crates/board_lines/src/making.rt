@@ -37,8 +37,8 @@ impl<'h> MakesChainLine<'h> {
         MakesChainLine { domains }
     }
 
-    /// The maker of the board's lines, if the hierarchy is laid for the board. It makes each line that takes part, of
-    /// its virq and of the definition that the board gives it.
+    /// The maker of the board's lines, for a hierarchy that is laid for the board. It makes each
+    /// line that takes part, of its virq and of the definition that the board gives it.
     pub fn of_board(domains: &'h Hierarchy, board: &Board) -> MakesChainLine<'h>
         requires domains { domains.now.domains ≡ defs_of board.now.domains }
         requires paths { domains.now.paths ≡ paths_of (layout_of board.now) }

@@ -20,8 +20,8 @@ abbrev pub is_open : Option BoardLine → DriverNo → ℕ → Bool
 is_open None r k = false
 is_open (Some x) r k = nat_le (length (complete_by x.def r x.past)) k
 
--- the line of the driver's first call among `cs` that isn't complete, if `before` stands before them in the scripts,
--- the last first
+-- the line of the driver's first call among `cs` that isn't complete; `before` stands before them
+-- in the scripts, the last first
 abbrev pub current_from : List BoardLine → DriverNo → List ScriptCall → List ScriptCall → Option BoardLine
 current_from lines r before [] = None
 current_from lines r before (c ∷ cs) =

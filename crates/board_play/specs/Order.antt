@@ -12,12 +12,12 @@ use Rattle.board_def.specs.Seen.{BoardSeen}
 use Rattle.board_play.specs.Current.{current_line}
 use Rattle.board_play.specs.Lines.{BoardLine, Move, find_line}
 
--- the lowest line where the processor has a flow in progress
+-- the lowest line on which the processor has a flow in progress
 abbrev pub flow_line : List BoardLine → CpuNo → Option BoardLine
 flow_line [] c = None
 flow_line (x ∷ xs) c = if is_cpu c (flow x.def x.past) then Some x else flow_line xs c
 
--- the lowest line where an entry of the processor is due
+-- the lowest line on which an entry of the processor is due
 abbrev pub due_line : List BoardLine → CpuNo → Option BoardLine
 due_line [] c = None
 due_line (x ∷ xs) c = if is_some (next_past x.def x.past (actors.Cpu c)) then Some x else due_line xs c

@@ -30,8 +30,8 @@ abbrev pub or_choice : Option (Move × List Actor) → Option (Move × List Acto
 or_choice None other = other
 or_choice (Some choice) other = Some choice
 
--- the next move: of the first pick that can move, if the picks before it are passed over; after the picks of the
--- lowest actor that can move
+-- the next move: of the first pick that can move, with the picks before it passed over; after the
+-- picks of the lowest actor that can move
 abbrev pub choice : BoardSeen → List BoardLine → List Actor → Option (Move × List Actor)
 choice board lines [] = with_picks [] (first_move board lines (actors_of board))
 choice board lines (pick ∷ picks) = or_choice (with_picks picks (due_move board lines pick)) (choice board lines picks)

@@ -43,7 +43,7 @@ pub fn no_standstill()
     ensures settled { (board : BoardSeen) (lines : List BoardLine) → IsBoard board → AreKept board lines → ((a : Actor) → IsOneOf a (actors_of board) → due_move board lines a ≡ None) → (i : ℕ) (x : BoardLine) → slice_get lines i ≡ Some x → IsSettled x.def (reverse x.past) }
 {}
 
-/// If a play is done every script is at its end and each line is settled, and so all is delivered.
+/// If a play is done, every script is at its end and each line is settled, and so all is delivered.
 pub fn done_is_settled()
     ensures complete { (board : BoardSeen) (picks : List Actor) (g : List Move) → IsBoard board → Plays board picks g Done → (r : DriverNo) → current_line board.calls (lines_of board g) r ≡ None }
     ensures settled { (board : BoardSeen) (picks : List Actor) (g : List Move) → IsBoard board → Plays board picks g Done → (i : ℕ) (x : BoardLine) → slice_get (lines_of board g) i ≡ Some x → IsSettled x.def (reverse x.past) }

@@ -8,7 +8,7 @@ use Rattle.board_ready.specs.declared.parts.LinePart.{LinePart}
 use Rattle.board_ready.specs.declared.parts.ReadyThread.{ReadyThread}
 use Rattle.board_ready.specs.declared.parts.WaitFor.{WaitFor}
 
--- the ready thread of a line, if there is such a line
+-- the ready thread of a line; none if there is no such line
 abbrev pub thread_of : Option LinePart → Option DevNo
 thread_of None = None
 thread_of (Some x) = x.thread

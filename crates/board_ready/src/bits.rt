@@ -12,7 +12,7 @@ pub fn with_bit(word: u64, number: usize, to: bool) -> u64
     if to { word | bit } else { word & !bit }
 }
 
-/// The second word's numbers if the choice has them, the first's elsewhere.
+/// The second word's numbers that the choice has, and the first word's others.
 pub fn chosen(word: u64, choice: u64, other: u64) -> u64
     ensures { (i : ℕ) → i < 64 → has result i ≡ (if has choice i then has other i else has word i) }
 {

@@ -75,7 +75,7 @@ impl CallSets {
         self.lines[line]
     }
 
-    /// The drivers whose calls could go on if that stands in the way.
+    /// The drivers whose calls could go on while that stands in the way.
     pub fn open(&self, barriers: Barriers) -> u64
         ensures { (r : ℕ) → has result r ≡ may_go_on barriers self.now.waiting r }
     {
@@ -88,7 +88,7 @@ impl CallSets {
     }
 }
 
-/// The word, or none of it if it is barred.
+/// The word, or the empty one if it is barred.
 fn unless(barred: bool, word: u64) -> u64
     ensures { (i : ℕ) → has result i ≡ (has word i && not barred) }
 {

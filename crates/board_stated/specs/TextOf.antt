@@ -56,7 +56,8 @@ first_fault at past (line ∷ lines) = fault_or at (fault_of_line past line) (fi
 abbrev pub has_words : List ℕ → Bool
 has_words line = not (is_empty (words_of line))
 
--- a text without a statement lacks the header at its first text line, if only a bad byte comes before
+-- a text without a statement lacks the header at its first text line; only a bad byte there comes
+-- before that fault
 abbrev pub fault_without_statement : List (List ℕ) → FaultKind
 fault_without_statement [] = faults.NoHeader
 fault_without_statement (line ∷ lines) = if has_bad_byte line then faults.BadByte else faults.NoHeader

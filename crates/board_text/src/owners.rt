@@ -39,7 +39,7 @@ impl Model for Owners {
 }
 
 impl Owners {
-    /// None.
+    /// No device has an owner.
     pub fn new(alloc: Global) -> Owners
         ensures { result ≡ [] }
     {

@@ -47,7 +47,7 @@ pub struct Reader {
 }
 
 impl Reader {
-    /// Before the first statement.
+    /// The reader before the first statement.
     pub fn new(alloc: Global) -> Reader
         ensures { Keeps [] result }
     {
@@ -170,7 +170,8 @@ impl Reader {
         Ok(())
     }
 
-    /// The board of the whole text, if no statement had a fault.
+    /// The board of the whole text, of which no statement had a fault; or the fault of its log
+    /// limit.
     pub fn end(self) -> Result<Board, FaultKind>
         requires { IsKept self }
         ensures { (past : List Statement) → Keeps past self → Ends past result }

@@ -23,7 +23,7 @@ pub struct Stood {
 }
 
 impl Stood {
-    /// None.
+    /// No statement has stood.
     pub fn new() -> Stood
         ensures { result ≡ stood_after [] }
     {
@@ -37,7 +37,7 @@ impl Stood {
         }
     }
 
-    /// Those, and the statement after them.
+    /// These, and the statement after them.
     pub fn with(mut self, statement: &Statement) -> Stood
         ensures { (past : List Statement) → self ≡ stood_after past → result ≡ stood_after (statement.now ∷ past) }
     {

@@ -18,7 +18,8 @@ abbrev pub onto_first : ℕ → List (List ℕ) → List (List ℕ)
 onto_first b [] = (b ∷ []) ∷ []
 onto_first b (text ∷ texts) = (b ∷ text) ∷ texts
 
--- the text lines without their ends; what stands after the last line feed is one if it isn't empty
+-- the text lines without their ends; what stands after the last line feed is a text line if it
+-- isn't empty
 abbrev pub text_lines : List ℕ → List (List ℕ)
 text_lines [] = []
 text_lines (b ∷ bs) = if is_line_feed b then [] ∷ text_lines bs else onto_first b (text_lines bs)

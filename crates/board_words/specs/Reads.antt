@@ -8,13 +8,13 @@ use Rattle.board_words.specs.declared.statements.Statement.{Statement}
 use Rattle.board_words.specs.declared.statements.StatementRefused.{StatementRefused}
 use Rattle.board_words.specs.declared.statements.StatementRefused.TheVariants as refusals
 
--- the first of the faults, and if there is none that statement; want of memory is free
+-- the first of the faults, or without one that statement; out of memory is free
 abbrev pub Tells : List FaultKind → Statement → Result Statement StatementRefused → Type 0
 Tells kinds said (Ok statement) = (first_in_order kinds ≡ None) × (statement ≡ said)
 Tells kinds said (Err (refusals.Fault kind)) = first_in_order kinds ≡ Some kind
 Tells kinds said (Err refusals.NoMemory) = Unit {0}
 
--- the first fault of the words, and if there is none what they say
+-- the first fault of the words, or without one what they say
 abbrev pub Reads : Bool → List (List ℕ) → Result Statement StatementRefused → Type 0
 Reads has_moments words result = Tells (faults_of has_moments words) (statement_of words) result
 
@@ -23,7 +23,7 @@ abbrev pub ArePicks : List (List ℕ) → Type 0
 ArePicks [] = ⊥
 ArePicks (word ∷ words) = is word (codes "picks") ≡ true
 
--- memory is wanted for picks alone
+-- memory is needed for picks alone
 abbrev pub WantsForPicks : List (List ℕ) → Result Statement StatementRefused → Type 0
 WantsForPicks words (Ok statement) = Unit {0}
 WantsForPicks words (Err (refusals.Fault kind)) = Unit {0}

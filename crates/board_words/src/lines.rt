@@ -11,14 +11,14 @@ pub struct Lines<'a> {
 }
 
 impl<'a> Lines<'a> {
-    /// Those of the whole text.
+    /// The text lines of the whole text.
     pub fn new(text: &'a [u8]) -> Lines<'a>
         ensures { lines_left result ≡ text_lines text.now }
     {
         Lines { rest: text }
     }
 
-    /// The next one, without its line feed.
+    /// The next text line, without its line feed.
     pub fn next(&mut self) -> Option<&'a [u8]>
         ensures { MatchOption result ((lines_left self.old ≡ []) × (lines_left self.new ≡ [])) (λ line. lines_left self.old ≡ line.now ∷ lines_left self.new) }
     {

@@ -124,7 +124,7 @@ impl<'a> Places<'a> {
         }
     }
 
-    /// That very word.
+    /// Takes that very word.
     fn keyword(&mut self, text: &[u8])
         ensures { Takes (forms.one_of (text.now ∷ [])) self.old self.new }
     {
@@ -138,7 +138,7 @@ impl<'a> Places<'a> {
         }
     }
 
-    /// How a domain maps numbers. Behind a word that tells no way nothing is read.
+    /// How a domain maps numbers. Behind a word that names no way nothing is read.
     pub(crate) fn map(&mut self) -> MapKind
         ensures found { in_all self.old forms.map_form ≡ in_all self.new (forms.at (forms.one_of forms.level_kinds) forms.parents_form) }
         ensures value { self.new.found ≡ None → result ≡ map_kind (words_left self.old.words) }
@@ -158,7 +158,7 @@ impl<'a> Places<'a> {
         MapKind::Tree
     }
 
-    /// The parent of a level, if one is named, and whether more is.
+    /// The parent of a level, if one is named, and whether more stands after it.
     pub(crate) fn parent(&mut self) -> (Option<Name>, bool)
         ensures found { self.new.found ≡ in_all self.old forms.parents_form }
         ensures value { self.new.found ≡ None → result ≡ (said.parent_name (words_left self.old.words), said.has_more_parents (words_left self.old.words)) }
@@ -209,7 +209,7 @@ impl<'a> Places<'a> {
         mask.or(Some(number))
     }
 
-    /// The word of an option; whether it is `mask`.
+    /// Takes the word of an option. Answers whether it is `mask`.
     fn option_word(&mut self) -> bool
         ensures takes { Takes (forms.one_of option_texts) self.old self.new }
         ensures mask { result ≡ forms.is (get_or (words_left self.old.words) 0 []) (codes "mask") }
@@ -246,7 +246,7 @@ impl<'a> Places<'a> {
         }
     }
 
-    /// Nothing more.
+    /// Nothing more may stand.
     pub(crate) fn full(&mut self)
         ensures { self.new.found ≡ in_all self.old forms.full }
     {

@@ -147,7 +147,7 @@ pub enum StatementRefused {
     /// The first fault of the words.
     #[error("{0}")]
     Fault(FaultKind),
-    /// Memory was wanted for the picks, and refused.
+    /// Memory was needed for the picks, and refused.
     #[error("out of memory")]
     NoMemory,
 }

@@ -14,14 +14,14 @@ pub struct Words<'a> {
 }
 
 impl<'a> Words<'a> {
-    /// Those of the whole text line.
+    /// The words of the whole text line.
     pub fn of_line(line: &'a [u8]) -> Words<'a>
         ensures { words_left result ≡ words_of line.now }
     {
         Words { rest: line }
     }
 
-    /// The next one.
+    /// The next word.
     pub fn next(&mut self) -> Option<&'a [u8]>
         ensures { MatchOption result ((words_left self.old ≡ []) × (words_left self.new ≡ [])) (λ word. words_left self.old ≡ word.now ∷ words_left self.new) }
     {
@@ -30,14 +30,14 @@ impl<'a> Words<'a> {
         Some(word)
     }
 
-    /// Whether none is left.
+    /// Whether no word is left.
     pub fn is_empty(self) -> bool
         ensures { result ≡ are_none (words_left self.entry) }
     {
         split_word(self.rest).is_none()
     }
 
-    /// Whether the next one is `board`.
+    /// Whether the next word is `board`.
     pub fn is_header(self) -> bool
         ensures { result ≡ is_header (words_left self.entry) }
     {

@@ -51,7 +51,7 @@ pub record IsChecked (input : List ℕ) (answer : Answer) : Type 0 where
   pub states : checked input ≡ Ok (board, log)
   pub judged : ChecksLog board log answer
 
--- what an input comes to; want of memory is free
+-- what an input comes to; out of memory is free
 abbrev pub Checks : List ℕ → Result Answer CheckRefused → Type 0
 Checks input (Ok answer) = IsChecked input answer
 Checks input (Err (checks.Fault fault)) = checked input ≡ Err fault

@@ -40,6 +40,6 @@ IsForm (Err error) command = ⊥
 abbrev pub IsNoForm : Arguments → Type 0
 IsNoForm args = (command : Command) → IsForm args command → ⊥
 
--- how the program ends for arguments that give no words: they aren't text, or memory was wanted
+-- how the program ends for arguments that give no words: they aren't text, or memory was refused
 abbrev pub IsRefusal : Arguments → Ending → Type 0
 IsRefusal args ending = (IsNotText args × (ending ≡ endings.Usage)) ⊎ ((IsNotText args → ⊥) × (ending ≡ endings.NoMemory wants.Making))

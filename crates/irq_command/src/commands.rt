@@ -19,9 +19,10 @@ use std::sync::Wait;
 use std::thread::Threads;
 use workers::NoGate;
 
-/// Does what the arguments say: reads `src`, prints to `out`, and tells on `err` what went wrong. The handlers answer by
-/// their devices' kinds, and no gate holds a worker. Arguments that are the words of no command end as a fault of usage,
-/// also if one isn't UTF-8.
+/// Does what the arguments say: reads `src`, prints to `out`, and says on `err` what went wrong.
+/// The handlers answer by their devices' kinds, and no gate holds a worker. Unless memory is
+/// refused, arguments that are the words of no command end as a fault of usage, also if one isn't
+/// UTF-8.
 pub fn command<R: Threads + Wait + Sync, S: Source, O: Sink, E: Sink>(
     rt: &R,
     alloc: Global,

@@ -9,8 +9,8 @@ use std::alloc::Global;
 use std::env::Args;
 use std::io::{self, ErrorKind};
 
-/// The words after the program's name; or how the program ends if the arguments aren't text, or memory is wanted
-/// and refused.
+/// The words after the program's name; or how the program ends if the arguments aren't text, or
+/// memory is needed and refused.
 pub fn words_of(alloc: Global, args: io::Result<Args>) -> Result<Vec<String>, Ending>
     ensures words { IfOk result (λ words. AreText args (map string_bytes words.items)) }
     ensures refused { IfErr result (IsRefusal args) }

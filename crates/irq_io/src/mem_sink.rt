@@ -1,4 +1,4 @@
-//! A sink in memory, whose writes and flushes fail if they are told to.
+//! A sink in memory, whose writes and flushes fail as they are told to.
 ghost use Rattle.std.specs.Prelude.{◌≡◌, Some, [], ◌-◌, ◌<◌, ◌↔◌, ◌⊎◌, min, length, IfOk};
 ghost use Rattle.std.specs.List.{Contains};
 ghost use Rattle.std.proofs.Common.{sym};
@@ -39,9 +39,9 @@ impl Model for MemSink {
 }
 
 impl MemSink {
-    /// The empty sink with that room, whose flushes never fail. The memory for the room is taken at once, so
-    /// no write wants any. `fails` are the numbers of the writes that fail, counted from 1. Refused only for want of
-    /// memory.
+    /// The empty sink with that room, whose flushes never fail. The memory for the room is taken at
+    /// once, so no write needs any. `fails` are the numbers of the writes that fail, counted from
+    /// 1. The only error is `NoMemory`.
     pub fn new(alloc: Global, fails: &[u32], room: usize) -> Result<MemSink, NoMemory>
         ensures content { IfOk result (λ s. (s.content ≡ []) × (s.room ≡ room)) }
         ensures settings { IfOk result (λ s. (s.fails ≡ fails.now) × (s.flush_fails ≡ [])) }
@@ -109,13 +109,13 @@ impl Sink for MemSink {
         ensures handed { GrowsTo (Some self.old.content) (Some self.new.content) }
         ensures cause { Counts self.old.faults self.new.faults (write_failed result) }
 
-        // It takes all, or as much as fits. A listed write fails, and one that finds no room.
+        // It takes all, or as much as fits. A write fails if it is listed, or finds no room.
         ensures amount { IfTook result (λ n. n ≡ min self.old.room (length bytes.now)) }
         ensures fails { (result ≡ WriteAnswer.Failed)
             ↔ (Contains self.old.fails (next_count self.old.writes) ⊎ (self.old.room ≡ 0)) }
         ensures faults { self.new.faults ≡ count_after self.old.faults (write_failed result) }
 
-        // The number of writes stands still at the greatest u64, if no list has it.
+        // The number of writes stands still at the greatest u64, which no list has.
         ensures writes { self.new.writes ≡ next_count self.old.writes }
         ensures room { self.new.room ≡ self.old.room - taken_of result }
         ensures settings { (self.new.fails ≡ self.old.fails)
@@ -143,7 +143,7 @@ impl Sink for MemSink {
             ↔ Contains self.old.flush_fails (next_count self.old.flushes) }
         ensures faults { self.new.faults ≡ count_after self.old.faults (flush_failed result) }
 
-        // The number of flushes stands still at the greatest u64, if no list has it.
+        // The number of flushes stands still at the greatest u64, which no list has.
         ensures flushes { self.new.flushes ≡ next_count self.old.flushes }
         ensures settings { (self.new.fails ≡ self.old.fails) × (self.new.flush_fails ≡ self.old.flush_fails)
             × (self.new.writes ≡ self.old.writes) × (self.new.room ≡ self.old.room) }

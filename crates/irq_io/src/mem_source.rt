@@ -1,4 +1,4 @@
-//! A source in memory, whose reads fail if they are told to.
+//! A source in memory, whose reads fail as they are told to.
 ghost use Rattle.std.specs.Prelude.{◌≡◌, Some, ◌<◌, ◌≤◌, ◌↔◌, min, length, IfOk};
 ghost use Rattle.std.specs.List.{Contains};
 ghost use Rattle.irq_io.specs.Faults.{Counts, next_count, count_after};
@@ -84,7 +84,7 @@ impl Source for MemSource {
         ensures fails { (result ≡ ReadAnswer.Failed) ↔ Contains self.old.fails (next_count self.old.reads) }
         ensures faults { self.new.faults ≡ count_after self.old.faults (read_failed result) }
 
-        // The number of reads stands still at the greatest u64, if no list has it.
+        // The number of reads stands still at the greatest u64, which no list has.
         ensures reads { self.new.reads ≡ next_count self.old.reads }
         ensures settings { (self.new.piece ≡ self.old.piece) × (self.new.fails ≡ self.old.fails) }
     {

@@ -40,15 +40,15 @@ pub record HoldsAt (def : LineDef) (h : List Entry) : Type 0 where
 pub record KeepsLaws (def : LineDef) (h : List Entry) : Type 0 where
   -- each entry was the due one of its actor
   pub legal : IsLegal def h
-  -- a device's handler is called, and its thread's run begins, only if it isn't at work
+  -- a device's handler is called, and its thread's run begins, only when it isn't at work
   pub no_overlap : NoOverlap def h
-  -- no run of a device comes after its free
+  -- no run of a device comes after its free before it is linked again
   pub silent_after_free : IsSilentAfterFree def h
   -- no end and no finish opened a level line over an unfinished thread
   pub keeps_oneshot : KeepsOneshot def h
   -- an edge line took no more interrupts than came
   pub takes_are_counted : TakesAreCounted def h
-  -- what waited for handlers and threads did
+  -- a hard clear came when no handler was at work, a sync's end when no thread was
   pub synchronised : IsSynchronised def h
   -- each driver's entries are those of its calls, in the order of its script, each once
   pub scripts : FollowsScripts def h
@@ -60,7 +60,8 @@ pub record LineHeadline (def : LineDef) (h : List Entry) : Type 0 where
   pub laws : KeepsLaws def h
   -- nothing is due any more, and the drivers' calls are complete
   pub settled : IsSettled def h
-  -- if the line isn't left disabled, no edge is owed to a linked device, and on a level line all asks are served
+  -- if the line isn't left disabled, no edge is owed to a linked device, and on a level line each
+  -- linked device that works has all its asks served
   pub delivered : IsDelivered def h
   -- nothing is at work: each handler that was called has returned
   pub quiet : IsQuiet def h
@@ -117,10 +118,10 @@ pub record FullLog (b : BoardSeen) (g : List Move) (reports : List LineReport) (
   pub refused : EachRefused b (λ row. part row.line g ≡ [])
   pub length_is : length (part line g) ≡ len
   pub limit_is : len ≡ b.log
-  -- so it doesn't come if each line's log is ample
+  -- so this ending doesn't come if each line's log is ample
   pub scarce : IsAmple b → ⊥
 
--- The board was played until a step wanted memory: each of these moves was the next one, by the
+-- The board was played until a step needed memory: each of these moves was the next one, by the
 -- picks and the order, and there is a further one; `left` are the picks that are left.
 pub record CutShort (b : BoardSeen) (g : List Move) (reports : List LineReport) : Type 0 where
   pub left : List Actor

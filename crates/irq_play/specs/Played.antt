@@ -24,7 +24,7 @@ pub record IsPrinted (b : BoardSeen) (summary : Bool) (reports : List LineReport
   pub prints : WritesAll before now (report_text b summary moves) end
 
 -- The same by how the play ended; nothing is said to be printed of one that didn't come to its end.
--- Want of memory is free but for a step's: then the board was played up to it.
+-- Out of memory is free but for a step's: then the board was played up to it.
 abbrev pub PlaysBoard : BoardSeen → Bool → List LineReport → Option (List ℕ) → Option (List ℕ) → PlayedEnd → Type 0
 PlaysBoard b summary reports before now ends.Done = IsPrinted b summary reports before now writes.Done
 PlaysBoard b summary reports before now ends.WriteFault = IsPrinted b summary reports before now writes.Failed

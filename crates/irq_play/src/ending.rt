@@ -3,7 +3,7 @@
 use irq_base::LineNo;
 use irq_io::WriteEnd;
 
-/// What wanted memory, and was refused it.
+/// What needed memory, and was refused it.
 #[derive(Clone, Copy, PartialEq, Eq)]
 pub enum Wanted {
     /// What is taken beside the steps of a play: to read an input, to lay and make the lines, to

@@ -133,7 +133,7 @@ fn print_done<O: Sink, L: IrqLine>(
     }
 }
 
-/// Reports a play that ended if the line's history has the greatest length, `len` entries.
+/// Reports a play that ended when the line's history has the greatest length, `len` entries.
 fn report_full<L: IrqLine>(
     board: &Board,
     system: System<'_, L>,
@@ -153,7 +153,7 @@ fn report_full<L: IrqLine>(
     }
 }
 
-/// Reports a play that ended if a step wanted memory.
+/// Reports a play that ended when a step was refused memory.
 fn report_cut<L: IrqLine>(board: &Board, system: System<'_, L>, room: ReportRoom) -> PlayedBoard
     requires played { IsPlayed board.now system PlayEnd.NoMemory }
     requires room { HasRoom (length board.now.lines) room }

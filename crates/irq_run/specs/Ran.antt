@@ -23,7 +23,7 @@ pub record IsPrinted (b : BoardSeen) (summary : Bool) (reports : List LineReport
   pub headline : Headline b entries reports
   pub prints : WritesAll before now (run_text b summary (histories_of b entries)) end
 
--- the run ended if that line's history has the greatest length, and the reports hand it out
+-- the run ended when that line's history had the greatest length, and the reports hand it out
 abbrev pub IsRunFull : BoardSeen → List LineReport → LineNo → ℕ → Type 0
 IsRunFull b reports line len = (entries : Histories) × FullLog b entries reports line len
 

@@ -100,7 +100,8 @@ fn run_lines<
     Ok((system, end))
 }
 
-/// Shares the lines, lets the workers step in rounds, and takes the lines back. If a history was full the rest is left
+/// Shares the lines, lets the workers step in rounds, and takes the lines back. If a history was
+/// full, the rest is left
 /// to be settled.
 fn run_in_rounds<
     R: Threads + Wait + Sync,
@@ -175,7 +176,7 @@ fn print_done<O: Sink, L: IrqLine>(
     }
 }
 
-/// Reports a run that ended if the line's history has the greatest length, `len` entries.
+/// Reports a run that ended when the line's history had the greatest length, `len` entries.
 fn report_full<L: IrqLine>(
     board: &Board,
     system: System<'_, L>,

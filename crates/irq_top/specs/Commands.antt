@@ -21,7 +21,7 @@ use Rattle.irq_top.specs.declared.ending.Ending.{Ending}
 use Rattle.irq_top.specs.declared.ending.Ending.TheVariants as endings
 
 -- a board was played: as the headline says if all is printed and after a fault of the output, and
--- else until a log was full or a step wanted memory
+-- else until a log was full or a step needed memory
 abbrev pub PlaysAs : BoardSeen → Bool → List LineReport → Option (List ℕ) → Option (List ℕ) → Ending → Type 0
 PlaysAs b summary reports before now endings.Done = PlaysBoard b summary reports before now plays.Done
 PlaysAs b summary reports before now endings.WriteFault = PlaysBoard b summary reports before now plays.WriteFault
@@ -47,7 +47,7 @@ pub record RefusesInput (told left : Option (List ℕ)) (reports : List LineRepo
   pub read : ReadsBoard told left (Err refused)
   pub reports_are : reports ≡ []
 
--- `play`: the board is played; or the source gave none; want of memory is free but for a step's
+-- `play`: the board is played; or the source gave none; out of memory is free but for a step's
 abbrev pub Plays : Bool → Option (List ℕ) → Option (List ℕ) → List LineReport → Option (List ℕ) → Option (List ℕ) → Ending → Type 0
 Plays summary told left reports before now endings.Done = PlaysInput summary told left reports before now endings.Done
 Plays summary told left reports before now endings.WriteFault = PlaysInput summary told left reports before now endings.WriteFault
@@ -58,8 +58,8 @@ Plays summary told left reports before now (endings.NoMemory wants.Step) = Plays
 Plays summary told left reports before now (endings.NoMemory wants.Making) = reports ≡ []
 Plays summary told left reports before now _ = ⊥
 
--- a board was run by threads: as the headline of a run says if all is printed and after a fault of the output, and
--- else until a log was full
+-- a board was run by threads: as the headline of a run says if all is printed and after a fault of
+-- the output, and else until a log was full
 abbrev pub RunsAs : BoardSeen → Bool → List LineReport → Option (List ℕ) → Option (List ℕ) → Ending → Type 0
 RunsAs b summary reports before now endings.Done = RunsBoard b summary reports before now runs.Done
 RunsAs b summary reports before now endings.WriteFault = RunsBoard b summary reports before now runs.WriteFault
@@ -75,7 +75,7 @@ pub record RunsInput (summary : Bool) (told left : Option (List ℕ)) (reports :
   pub keeps_rules : IsBoard board
   pub ran : RunsAs board summary reports before now ending
 
--- `run`: the board is run; or the source gave none; want of memory is free
+-- `run`: the board is run; or the source gave none; out of memory is free
 abbrev pub Runs : Bool → Option (List ℕ) → Option (List ℕ) → List LineReport → Option (List ℕ) → Option (List ℕ) → Ending → Type 0
 Runs summary told left reports before now endings.Done = RunsInput summary told left reports before now endings.Done
 Runs summary told left reports before now endings.WriteFault = RunsInput summary told left reports before now endings.WriteFault
@@ -91,7 +91,8 @@ pub record ChecksInput (told left : Option (List ℕ)) (reports : List LineRepor
   pub says : SaysOrNot told before now end
   pub reports_are : reports ≡ []
 
--- `check`: the log of the input is lawful; or unlawful, or malformed, as told; or the input is refused
+-- `check`: the log of the input is lawful; or unlawful, or malformed, as is said; or the input is
+-- refused
 abbrev pub Checks : Option (List ℕ) → Option (List ℕ) → List LineReport → Option (List ℕ) → Option (List ℕ) → Ending → Type 0
 Checks told left reports before now endings.Done = ChecksInput told left reports before now (checks.Answered answers.Lawful)
 Checks told left reports before now (endings.Unlawful line entry) = ChecksInput told left reports before now (checks.Answered (answers.Unlawful line entry))

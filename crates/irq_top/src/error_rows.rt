@@ -1,4 +1,4 @@
-//! The row that tells on the error sink how a call ended.
+//! The row that says on the error sink how a call ended.
 ghost use Rattle.std.specs.Prelude.{◌≡◌, ◌≤◌, ◌++◌, length};
 ghost use Rattle.irq_top.specs.Ending.{error_text, fault_row, full_row};
 
@@ -7,7 +7,8 @@ use board_text::BoardFault;
 use irq_base::LineNo;
 use text_row::TextRow;
 
-/// Writes the row that says how the call ended, empty if the work was done or a log refused. What the row held before is gone.
+/// Writes the row that says how the call ended, empty if the work was done, or a log is unlawful or
+/// malformed. What the row held before is gone.
 pub fn error_row(row: &mut TextRow, ending: Ending)
     ensures { row.new ≡ error_text ending }
 {

@@ -19,12 +19,14 @@ use std::thread::Threads;
 use text_row::TextRow;
 use workers::Gate;
 
-/// Does what the words ask for: `run` reads a board from `src`, runs it by threads with the handlers, and prints its log
-/// to `out`, line by line, with `--summary` a row a line; `play` plays it by the stated order, and prints its log as it
-/// was played, or a summary; `check` reads a board and a log of it, and prints what is said of the log; `gen N` makes a
-/// board, plays it, and prints its summary. `run` alone waits, and passes the gate before each turn of a worker: the
-/// other commands are done by functions that don't wait, and so return. Other words are refused before anything is read.
-/// What went wrong is told on `err`, in one row; a fault of `err` itself changes nothing.
+/// Does what the words ask for: `run` reads a board from `src`, runs it by threads with the
+/// handlers, and prints its log to `out`, line by line, with `--summary` a row a line; `play` plays
+/// it by the stated order, and prints its log as it was played, or a summary; `check` reads a board
+/// and a log of it, and prints what is said of the log; `gen N` makes a board, plays it, and prints
+/// its summary. `run` alone waits, and passes the gate before each turn of a worker: the other
+/// commands are done by functions that don't wait, and so return. Other words are refused before
+/// anything is read. What went wrong is said on `err`, in one row; a fault of `err` itself changes
+/// nothing.
 pub fn irq_main<
     R: Threads + Wait + Sync,
     S: Source,
@@ -117,7 +119,7 @@ fn is_printed(ending: Ending) -> bool
     }
 }
 
-/// An ending before anything was read or played, which is told on `err`.
+/// An ending before anything was read or played, which is said on `err`.
 pub fn end_early<E: Sink>(alloc: Global, ending: Ending, err: &mut E) -> Outcome
     ensures ending { result.ending ≡ ending }
     ensures reports { result.reports.reports ≡ [] }
@@ -127,7 +129,7 @@ pub fn end_early<E: Sink>(alloc: Global, ending: Ending, err: &mut E) -> Outcome
     Outcome::without_reports(alloc, ending)
 }
 
-/// Tells on the error sink how the call ended.
+/// Says on the error sink how the call ended.
 fn tell<E: Sink>(err: &mut E, ending: Ending)
     ensures { Tells (error_text ending) (E.written err.old) (E.written err.new) (E.handed_on err.new) (E.kept err.new) (E.faults err.old) (E.faults err.new) }
 {

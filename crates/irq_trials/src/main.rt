@@ -1,5 +1,6 @@
 //! Tries the top call from outside: logs with their verdicts, plays of boards, the first board's
-//! log with a row missing or twice, and the limits of the formats. What is wanted was worked out by
+//! log with a row missing or twice, and the limits of the formats. What should come was worked out
+//! by
 //! hand or given, never by the program.
 //!
 //! Each row of standard input names what to try: `log FILE`, or one of the groups of trials

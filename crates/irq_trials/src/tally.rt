@@ -14,7 +14,7 @@ impl Tally {
         Tally { trials: 0, ok: 0 }
     }
 
-    /// Counts a trial, and prints its row: that what was seen is what was wanted, or both.
+    /// Counts a trial, and prints its row: that what was seen is what was wanted, or else both.
     pub fn note(&mut self, rt: &impl Print, name: &str, wanted: &str, seen: &str) -> Result<()> {
         self.trials = self.trials.saturating_add(1);
         if seen == wanted {

@@ -21,7 +21,8 @@ pub enum Command {
     Gen { n: u32 },
 }
 
-/// The command whose words these are, which follow the program's name; nothing if they are no command's.
+/// The command whose words these are, which follow the program's name; none if they are no
+/// command's.
 pub fn read_command(words: &[&str]) -> Option<Command>
     ensures { MatchOption result (AsksNothing (map (λ w. w.now) words.now)) (Asks (map (λ w. w.now) words.now)) }
 {

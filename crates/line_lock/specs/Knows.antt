@@ -46,7 +46,7 @@ met k other = record k { seen = longer k.seen other.seen; out = without_of other
 abbrev pub looked : LineNo → Known → List Entry → Known
 looked line k history = record k { seen = history; mine = placed_of line k.actor history }
 
--- What a first pass learns when it meets another, if `new` is what it then knows.
+-- What a first pass learns when it meets another; `new` is what it knows then.
 pub record Meets (line : LineNo) (old other new : Known) : Type 0 where
   pub whole : new ≡ met old other
   -- what either has seen is a beginning of what is seen now

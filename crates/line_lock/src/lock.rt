@@ -22,7 +22,7 @@ pub struct CountedLock<T: Kept> {
     table: Table<Option<T>, View, LineDef, Counted<T>, Global>,
 }
 
-/// Memory was refused. The value comes back.
+/// Memory was refused, and the value comes back.
 #[derive(Drop)]
 pub struct LockRefused<T: Kept> {
     pub value: T,
@@ -146,7 +146,7 @@ impl<T: Kept> CountedLock<T> {
         }
     }
 
-    /// Takes the lock apart if no actor is out.
+    /// Takes the lock apart. No actor is out.
     pub fn finish(self, pass: Pass<T>) -> T
         requires pass { IsPassOf self pass }
         requires idle { pass.turn ≡ false }
@@ -165,7 +165,8 @@ impl<T: Kept> CountedLock<T> {
         value
     }
 
-    /// How many entries there are about now. Nothing is claimed of it: it is a look without the turn, which may tell
+    /// How many entries there are about now. Nothing is claimed of it: it is a look without the
+    /// turn, which may say
     /// that a hold isn't worth while.
     pub fn count(&self) -> u64 {
         self.table.shared.peek(COUNT)

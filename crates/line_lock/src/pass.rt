@@ -7,9 +7,9 @@ use crate::steps::Seated;
 use irq_base::Actor;
 use std::marker::Model;
 
-/// What a thread takes the value of a lock out with. Contracts see what it knows (`Known`): how the history was when it
-/// last looked, and where its own entries stand in it. It can be neither copied nor cloned; where it is dropped, its
-/// actor is lost.
+/// What a thread takes the value of a lock out with. Contracts see what it knows (`Known`): how the
+/// history was when it last looked, and where its own entries stand in it. It can be neither copied
+/// nor cloned; when it is dropped, its actor is lost.
 ///
 /// A first pass has no actor: it gives passes to actors, and meets them again. The actors of two passes differ.
 #[derive(Drop)]

@@ -54,7 +54,7 @@ impl<L: IrqLine, M: IrqLine> Pair<L, M> {
     }
 }
 
-/// One step, with the call of the device's handler if its answer is wanted.
+/// One step, with the call of the device's handler if its answer is needed.
 fn step<L: IrqLine>(line: &mut L, actor: Actor) -> Result<Stepped, StepRefused> {
     match line.step(actor, None)? {
         Stepped::Run {

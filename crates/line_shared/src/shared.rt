@@ -25,7 +25,7 @@ pub struct SharedLine<L: IrqLine> {
     lock: CountedLock<HeldLine<L>>,
 }
 
-/// Memory was refused. The line comes back.
+/// Memory was refused, and the line comes back.
 #[derive(Drop)]
 pub struct ShareRefused<L: IrqLine> {
     pub line: L,
@@ -117,7 +117,7 @@ impl<L: IrqLine> SharedLine<L> {
         self.lock.meet(pass, other);
     }
 
-    /// The line, if no actor is out. Its history is what the first pass has seen.
+    /// The line, out of its lock. No actor is out, and its history is what the first pass has seen.
     pub fn finish(self, pass: Pass<L>) -> L
         requires pass { IsPassOf self pass }
         requires idle { pass.turn ≡ false }
@@ -130,7 +130,8 @@ impl<L: IrqLine> SharedLine<L> {
         Box::into_inner(lock.finish(pass).line)
     }
 
-    /// How many entries there are about now, without a wait. Nothing is claimed of it: it may tell that a step isn't
+    /// How many entries there are about now, without a wait. Nothing is claimed of it: it may say
+    /// that a step isn't
     /// worth while.
     pub fn count(&self) -> u64 {
         self.lock.count()

@@ -1,4 +1,4 @@
--- What is told of the histories of a board's lines.
+-- What is said of the histories of a board's lines.
 use Rattle.std.specs.Prelude.{◌≡◌, ℕ, ◌≤◌, ◌<◌, Option, Some, None, List, [], length, slice_get}
 use Rattle.board_def.specs.Layout.{layout_of}
 use Rattle.board_def.specs.LineOf.{line_of_row}
@@ -28,8 +28,8 @@ JudgedAt b logs i first =
     (row : LineRow) (placement : Placement) (history : HistorySeen)
     → slice_get b.lines i ≡ Some row → slice_get (layout_of b) i ≡ Some placement → slice_get logs i ≡ Some history → JudgedLine b row placement history.entries first
 
--- lawful: each line's history is; unlawful: the first line, in the board's order, whose history isn't, and in that the
--- first entry that isn't due
+-- lawful: each line's history is legal; unlawful: the first line, in the board's order, whose
+-- history isn't, and in that the first entry that isn't due
 abbrev pub IsVerdict : BoardSeen → List HistorySeen → Verdict → Type 0
 IsVerdict b logs verdicts.Lawful = (i : ℕ) → i < length b.lines → JudgedAt b logs i None
 IsVerdict b logs (verdicts.Unlawful line number) =

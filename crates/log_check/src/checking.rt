@@ -26,12 +26,13 @@ pub enum Verdict {
     /// Each entry is the one that was due of its actor after those before it on its line, and no line that takes no
     /// part has any.
     Lawful,
-    /// This entry of this line, counted from 1, is the first that isn't, and no line before has one.
+    /// This entry of this line, counted from 1, is the first that isn't due, and no line before has
+    /// one.
     Unlawful { line: LineNo, entry: u32 },
 }
 
-/// Judges logs: one history for each line of the board, in its order. Lines of the maker judge: `L` is any type of
-/// lines, and `maker` makes one for each line that takes part.
+/// Judges logs: one history for each line of the board, in its order. It is lines of the maker that
+/// judge: `L` is any type of lines, and `maker` makes one for each line that takes part.
 ///
 /// # Errors
 ///

@@ -17,7 +17,8 @@ abbrev pub onto_first : ℕ → List (List ℕ) → List (List ℕ)
 onto_first b [] = (b ∷ []) ∷ []
 onto_first b (row ∷ rows) = (b ∷ row) ∷ rows
 
--- the rows of a text, each with its line feed; what stands behind the last line feed is one if it isn't empty
+-- the rows of a text, each with its line feed; what stands behind the last line feed is a row if it
+-- isn't empty
 abbrev pub rows_of : List ℕ → List (List ℕ)
 rows_of [] = []
 rows_of (b ∷ bs) = if is_feed b then (b ∷ []) ∷ rows_of bs else onto_first b (rows_of bs)
@@ -73,7 +74,7 @@ pub record IsFirstMalformed (lines : List LineRow) (rows : List (List ℕ)) (num
 abbrev pub entries_of : List HistorySeen → List (List Entry)
 entries_of logs = map (λ h. h.entries) logs
 
--- what the text of a log comes to; want of memory is free
+-- what the text of a log comes to; out of memory is free
 abbrev pub IsLogOf : List LineRow → List ℕ → Result (List HistorySeen) LogRefused → Type 0
 IsLogOf lines text (Ok logs) = Tell lines (rows_of text) (entries_of logs)
 IsLogOf lines text (Err (refusals.Malformed number)) = IsFirstMalformed lines (rows_of text) number

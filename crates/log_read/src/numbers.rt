@@ -18,7 +18,7 @@ pub(crate) enum Who {
     Driver(DriverNo),
 }
 
-/// A number of 32 bits.
+/// Takes a number of 32 bits.
 pub(crate) fn number(words: &mut Words<'_>) -> u32
     ensures { TakesAs IsSmall number_words (λ n. n) words.old words.new result }
 {
@@ -34,7 +34,7 @@ pub fn number_of(word: &[u8]) -> Option<u32>
     board_words::number(word, 0, u32::MAX)
 }
 
-/// A letter, and at once a number.
+/// Takes a letter, and at once a number.
 pub(crate) fn made_by(words: &mut Words<'_>) -> Who
     ensures { TakesAs IsWho (one who_word) (λ w. w) words.old words.new result }
 {
@@ -54,7 +54,7 @@ fn who_of(word: &[u8]) -> Option<Who>
     }
 }
 
-/// This very word.
+/// Takes this very word.
 pub(crate) fn expect(words: &mut Words<'_>, text: &[u8])
     ensures { TakesAs Any (text_words text.now) (λ u. u) words.old words.new tt }
 {

@@ -35,8 +35,9 @@ impl From<NoMemory> for LogRefused {
     }
 }
 
-/// Reads the text of a log: one history for each line of the board, in its order. Rows that begin with `#` are passed
-/// over. The time is linear in the bytes, and memory is taken for the histories alone.
+/// Reads the text of a log: one history for each line of the board, in its order. Rows that begin
+/// with `#` are passed over. The time is in the order of the bytes times the lines of the board,
+/// and memory is taken for the histories alone.
 ///
 /// # Errors
 ///
@@ -96,8 +97,8 @@ fn line_feed(text: &[u8]) -> Option<usize>
     text.iter().position(|b| *b == b'\n')
 }
 
-/// Reads a row, which stands here without its line feed, and adds its entry to its line's history. Whether nothing is
-/// wrong with it.
+/// Reads a row, which stands here without its line feed, and adds its entry to its line's history.
+/// Answers whether nothing is wrong with it.
 fn add_row(logs: &mut Logs, board: &Board, row: &[u8]) -> Result<bool, NoMemory>
     requires { length logs.old ≡ length board.now.lines }
     ensures { IfOk result (λ fine. Judges board.now.lines (row.now ++ codes "\n") fine (entries_of logs.old) (entries_of logs.new)) }

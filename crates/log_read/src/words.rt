@@ -4,7 +4,8 @@ ghost use Rattle.log_read.specs.Left.{left_of, words_of, CutsOff, is_space};
 ghost use Rattle.log_read.specs.Takes.{Takes, TakesAs, Any, one, text_words};
 ghost use Rattle.std.specs.List.{position};
 
-/// The words of a row that are left: those between its spaces. Once a word was wanted that isn't there, or one didn't
+/// The words of a row that are left: those between its spaces. Once a word was asked for that isn't
+/// there, or one didn't
 /// fit, nothing more is read.
 #[derive(Clone, Copy)]
 pub(crate) enum Words<'a> {
@@ -17,14 +18,14 @@ pub(crate) enum Words<'a> {
 }
 
 impl<'a> Words<'a> {
-    /// Those of a row without its line feed.
+    /// The words of a row without its line feed.
     pub(crate) fn of_row(row: &'a [u8]) -> Words<'a>
         ensures { left_of result ≡ Some (words_of row.now) }
     {
         Words::More(row)
     }
 
-    /// Whether none is left, and all did fit.
+    /// Whether no word is left, and all did fit.
     pub(crate) fn is_done(self) -> bool
         ensures { IsTrue result ↔ (left_of self.entry ≡ Some []) }
     {

@@ -1,4 +1,4 @@
--- What a history tells of its last unlinks.
+-- What a history says of its last unlinks.
 use Rattle.std.specs.Prelude.{◌≡◌, List, ◌∷◌, reverse}
 use Rattle.irq_base.specs.declared.entries.Entry.{Entry}
 use Rattle.irq_base.specs.declared.entries.Entry.TheVariants as entries

@@ -20,7 +20,7 @@ pub(crate) struct Counts {
 }
 
 impl Counts {
-    /// Those of no entry.
+    /// The counts of no entry.
     pub(crate) fn new() -> Counts
         ensures { AreCountsOf [] result }
     {

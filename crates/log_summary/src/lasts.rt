@@ -1,11 +1,11 @@
-//! Which histories tell their last unlinks.
+//! Which histories say which of their unlinks are last ones.
 ghost use Rattle.std.specs.Prelude.{List};
 ghost use Rattle.irq_base.specs.declared.entries.Entry.{Entry};
 ghost use Rattle.irq_base.specs.declared.lines.LineDef.{LineDef};
 ghost use Rattle.irq_model.specs.Legal.{IsLegal};
 ghost use Rattle.log_summary.specs.Lasts.{TellsLasts};
 
-/// Every legal history does: an unlink says `last` exactly if no device stays linked.
+/// Every legal history says so: an unlink says `last` exactly if no device stays linked.
 #[tactic(auto, using(crate::proofs::LastLaws::legal_tells))]
 pub fn lasts_are_told()
     ensures law { (def : LineDef) (h : List Entry) → IsLegal def h → TellsLasts h }

@@ -29,7 +29,8 @@ pub fn summary_row(row: &mut TextRow, line: LineNo, history: &History)
     row.push(b'\n');
 }
 
-/// Writes the row that tells how many entries all lines have together. What the row held before is gone.
+/// Writes the row that says how many entries all lines have together. What the row held before is
+/// gone.
 pub fn total_row(row: &mut TextRow, entries: u64)
     ensures { row.new ≡ total_text entries }
 {

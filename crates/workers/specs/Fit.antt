@@ -34,7 +34,8 @@ IsPlaceOf lines number (Some k) = IsSomeAnd (slice_get lines k) (λ l. l.def.lin
 
 -- ---- one job
 
--- the pass is of that line, holds no turn, and is of that actor; if it rests, nothing is due on what it has seen
+-- the pass is of that line, holds no turn, and is of that actor; if the seat rests, nothing is due
+-- on what it has seen
 pub record Sits (line : LockSeen) (who : Actor) (s : SeatSeen) : Type 0 where
   pub of_line : IsPassOf line s.pass
   pub idle : s.pass.turn ≡ false

@@ -23,7 +23,7 @@ pub record IsForkOf (line : LockSeen) (who : Actor) (first : PassSeen) (s : Seat
   pub knows : s.pass.knows ≡ newcomer first.knows who
   pub rests : s.rests ≡ false
 
--- the first pass afterwards, if it gave one and if it didn't
+-- the first pass afterwards, whether it gave a pass or not
 pub record Gave (who : Actor) (old new : PassSeen) : Type 0 where
   pub table : new.table ≡ old.table
   pub def : new.def ≡ old.def

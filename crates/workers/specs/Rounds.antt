@@ -57,7 +57,8 @@ EachLeftSo s = (i : ℕ) (j : JobSeen) → slice_get s.jobs i ≡ Some j → Lef
 
 -- ---- how rounds end
 
--- of two workers' parts the one that tells more: the lower full line, then want of memory, then that a step was made
+-- of two workers' parts the one that tells more: the lower full line, then out of memory, then that
+-- a step was made
 abbrev pub worse : Left → Left → Left
 worse (lefts.Full a m) (lefts.Full b n) = if nat_lt b.0 a.0 then lefts.Full b n else lefts.Full a m
 worse (lefts.Full a m) _ = lefts.Full a m
@@ -76,7 +77,8 @@ pub record IsLowestFull (jobs : List JobSeen) (n : ℕ) (line : LineNo) (len : �
   pub left : job.left ≡ lefts.Full line len
   pub lowest : (k : ℕ) (j : JobSeen) (other : LineNo) (m : ℕ) → k < n → slice_get jobs k ≡ Some j → j.left ≡ lefts.Full other m → line.0 ≤ other.0
 
--- what is told of the first jobs: all are idle, or that is the lowest full line, or none found a full line
+-- what is said of the first jobs: all are idle, or that is the lowest full line, or none found a
+-- full line
 abbrev pub SumsUp : List JobSeen → ℕ → Left → Type 0
 SumsUp jobs n lefts.Idle = (k : ℕ) (j : JobSeen) → k < n → slice_get jobs k ≡ Some j → j.left ≡ lefts.Idle
 SumsUp jobs n (lefts.Full line len) = IsLowestFull jobs n line len

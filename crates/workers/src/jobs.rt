@@ -35,9 +35,9 @@ impl<'b, L: IrqLine> Model for Jobs<'b, L> {
     ghost view = { λ s. record { board = s.board.now; jobs = s.jobs.items; firsts = s.firsts.items } };
 }
 
-/// Shares each line, and gives a pass of it to the thread of each of its devices that has one, to each processor and to
-/// each driver. The lines are those of the board that take part, in its order, and nothing has happened to them. Refused
-/// only for want of memory: the lines are gone then.
+/// Shares each line, and gives a pass of it to the thread of each of its devices that has one, to
+/// each processor and to each driver. The lines are those of the board that take part, in its
+/// order, and nothing has happened to them. The only error is `NoMemory`: the lines are gone then.
 pub fn share<'b, L: IrqLine>(
     alloc: Global,
     board: &'b Board,

@@ -187,8 +187,8 @@ impl<'b, L: IrqLine + Send + Sync> Jobs<'b, L> {
     }
 }
 
-/// How the workers left their jobs: full before want of memory, the lowest full line before the others, and that a step was
-/// made before that none was.
+/// How the workers left their jobs: full comes before out of memory, the lowest full line before
+/// the others, and that a step was made before that none was.
 fn left_of_all<L: IrqLine>(jobs: &[Job<L>]) -> Left
     ensures { SumsUp jobs.now (length jobs.now) result }
 {

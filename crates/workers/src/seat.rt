@@ -28,8 +28,8 @@ impl<L: IrqLine> Model for Seat<L> {
 }
 
 impl<L: IrqLine> Seat<L> {
-    /// Tries the actor's next step on the line, but not if nothing is known to have happened on the line since nothing
-    /// was due.
+    /// Tries the actor's next step on the line, unless nothing is known to have happened on the
+    /// line since nothing was due.
     pub(crate) fn step<R: Wait, H: Handler>(
         &mut self,
         rt: &R,
@@ -62,8 +62,8 @@ impl<L: IrqLine> Seat<L> {
     }
 }
 
-/// Adds the entry that is due of the pass's actor, if there is one. If it ends a run of a handler, that handler is
-/// called, with the line let go.
+/// Adds the entry that is due of the pass's actor, if there is one. If it ends a run of a handler,
+/// that handler is called, with the line let go.
 fn step_heard<L: IrqLine, R: Wait, H: Handler>(
     rt: &R,
     line: &SharedLine<L>,

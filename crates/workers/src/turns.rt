@@ -47,7 +47,8 @@ impl<L: IrqLine> Job<L> {
         turn_of(number, tried)
     }
 
-    /// Tries a processor's next step with the pass at the place, if it has no flow in progress on another line.
+    /// Tries a processor's next step with the pass at the place. It has no flow in progress on
+    /// another line.
     fn step_cpu<R: Wait, H: Handler>(
         &mut self,
         rt: &R,
@@ -69,7 +70,8 @@ impl<L: IrqLine> Job<L> {
         turn
     }
 
-    /// A processor's turn: on the line where it has a flow in progress, else on the first line where an entry of it is due.
+    /// A processor's turn: on the line on which it has a flow in progress, else on the first on
+    /// which an entry of it is due.
     pub(crate) fn turn_cpu<R: Wait, H: Handler>(
         &mut self,
         rt: &R,
