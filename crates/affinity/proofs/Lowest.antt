@@ -30,7 +30,7 @@ lowest_none mask c (suc n) none = ap (λ b. cond b (Some (numbered c)) (lowest_f
 low : (mask : ℕ) → 0 < mask → mask < 2 ^ 32 → (trailing_zeros w32 mask < 32) × (bit_at mask (trailing_zeros w32 mask) ≡ 1) × ((i : ℕ) → i < trailing_zeros w32 mask → bit_at mask i ≡ 0)
 low mask some small = bit_at-trailing_zeros w32 mask some small
 
--- no bit is below the lowest, also if there is none
+-- no bit is below the lowest, even if there is none
 none_below : (mask i : ℕ) → mask < 2 ^ 32 → i < trailing_zeros w32 mask → is_in_mask mask i ≡ false
 none_below zero i small below = ap (λ n. n == 1) (bit_at-zero i)
 none_below (suc m) i small below = ap (λ n. n == 1) ((low (suc m) (omega arith) small).2 i below)

@@ -110,7 +110,7 @@ module _ (board : BoardSeen) (lines : List BoardLine) where
       by_first None deeper = deeper
       by_first (Some m) deeper = refl
 
-  -- the one at a place, if none before it can move
+  -- the one at a place, when none before it can move
   pub first_there : (all : List Actor) (i : ℕ) (a : Actor) (m : Move) → slice_get all i ≡ Some a → due_move board lines a ≡ Some m → ((j : ℕ) (b : Actor) → j < i → slice_get all j ≡ Some b → due_move board lines b ≡ None) → first_move board lines all ≡ Some m
   first_there [] i a m at due before = cc
   first_there (b ∷ all) zero a m at due before = ap (λ (o : Option Move). or_move o (first_move board lines all)) (ap (λ (x : Actor). due_move board lines x) (the_same b a at) ∙ due)

@@ -133,7 +133,7 @@ some_choice s (pick ∷ picks) some = by_pick (move_of s pick) (some_choice s pi
     by_pick None deeper = deeper
     by_pick (Some m) deeper = refl
 
--- memory was refused if there was a next move
+-- memory was refused, and there was a next move
 refused : (s : SystemSeen) (picks rest : List Actor) → IsUnderway s picks rest → IsSome (lowest_move s) → IsPlay s picks ends.NoMemory
 refused s picks rest u some =
     let next : IsSome (choice s.board (board_lines s.lines) u.left) = ap (λ (o : Option (Move × List Actor)). is_some o) u.next ∙ some_choice s rest some in

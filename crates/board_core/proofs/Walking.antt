@@ -167,7 +167,7 @@ next_move cursors k order lines w =
             let old = get_or-set_other cursors k j (get_or cursors k 0 + 1) 0 other in
             omega (arith, e, none, old)
 
--- if the order has a further place
+-- when the order has a further place
 pub record NextAt (cursors order : List ℕ) (at k : ℕ) (lines : List LineSeen) : Type 0 where
   pub within : k < length lines
   pub few : k < 64

@@ -34,7 +34,7 @@ first_of_two d (c ∷ cs) ys = by (is_owning d c) (first_of_two d cs ys)
     by true rest = refl
     by false rest = rest
 
--- if nothing names the device, nothing does the other way round
+-- if nothing names the device, nothing does in reverse order either
 none_back : (d : DevNo) (cs : List ScriptCall) → first_owning d cs ≡ None → first_owning d (reverse cs) ≡ None
 none_back d [] none = refl
 none_back d (c ∷ cs) none = by (is_owning d c) refl none (none_back d cs)

@@ -43,7 +43,7 @@ same_past board picks (e ∷ p) (f ∷ q) l m n a b =
     let newest : e ≡ f = (same_move (next_move board p a.0) (next_move board q b.0) e f l m moves a.2 b.2).0 in
     ap (λ x. x ∷ p) newest ∙ ap (λ x. f ∷ x) older
 
--- what a longer play did if a shorter one ended
+-- what a longer play did at the point at which a shorter one ended
 record Went (board : BoardSeen) (p : List Move) (l : List Actor) : Type 0 where
   pub move : Move
   pub after : List Actor

@@ -1,4 +1,5 @@
--- If none of the board's actors can move, as if a play is done, every script is at its end and each line is settled.
+-- If none of the board's actors can move, as when a play is done, every script is at its end and
+-- each line is settled.
 use Rattle.std.proofs.Common.{◌≡◌, ℕ, Option, Some, None, List, [], ◌∷◌, reverse, slice_get, refl, ap, ◌∙◌, sym, subst, inl, inr}
 use Rattle.std.proofs.lemmas.List.{reverse-reverse}
 use Rattle.irq_base.specs.declared.entries.Actor.{Actor}

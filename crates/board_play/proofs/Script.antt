@@ -142,7 +142,7 @@ module _ (lines : List BoardLine) (r : DriverNo) where
       by_test true test is deeper = let b = and_parts (same_driver r c.driver) _ test in here is b.0 b.1
       by_test false test is deeper = later test (deeper is)
 
-  -- if there is none, all calls are complete
+  -- if there is no current call, all calls are complete
   pub no_current : (before cs : List ScriptCall) → current_from lines r before cs ≡ None → (y : BoardLine) → IsThe lines y → calls_on y.def.line r before ≤ done y r
       → calls_on y.def.line r before + calls_on y.def.line r cs ≤ done y r
   no_current before [] is y the le = omega (arith, le)

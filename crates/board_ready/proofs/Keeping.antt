@@ -136,7 +136,7 @@ open_is drivers calls x r call small was is =
     at : (w : WaitFor) → has (word_for w calls.waiting) r ≡ is_wait w call.wait
     at w = was w r small ∙ ap (is_waiting w) is
 
--- the drivers that can go on if a line's part is replaced
+-- the drivers that can go on when a line's part is replaced
 pub ready_line : (lines : List LinePart) (drivers : List (Option CurrentCall)) (calls : CallsSeen) (i on free old new : ℕ) (part : LinePart) → i < length lines → i < 64 → AreOnLines drivers calls → AreWaiting drivers calls → AreReady lines drivers old
     → on ≡ on_line calls i → ((r : ℕ) → has free r ≡ may_go_on part.barriers calls.waiting r) → ((r : ℕ) → r < 64 → has new r ≡ cond (has on r) (has free r) (has old r)) → AreReady (set lines i part) drivers new
 ready_line lines drivers calls i on free old new part inside few on_lines waiting was is_on_line is_may is r small =

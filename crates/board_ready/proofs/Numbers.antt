@@ -52,7 +52,7 @@ without_number word n i few small = by_test (eqb i n) refl
     by_test true is = let e : i ≡ n = eqb-true i n is in ap (has (bit_and word (bit_not w64 (1 * 2 ^ n % 2 ^ 64)))) e ∙ ap (λ m. m == 1) (bit_at_clear_same w64 word n few)
     by_test false is = ap (λ m. m == 1) (bit_at_clear_other w64 word n few i small (eqb-false i n is))
 
--- the numbers of one word if the choice has them, of the other elsewhere
+-- the numbers of one word that the choice has, and the others of the other word
 pub chosen_has : (word choice other i : ℕ) → choice < 2 ^ 64 → i < 64 → has (bit_or (bit_and word (bit_not w64 choice)) (bit_and choice other)) i ≡ cond (has choice i) (has other i) (has word i)
 chosen_has word choice other i small few =
     either_has (bit_and word (bit_not w64 choice)) (bit_and choice other) i

@@ -39,7 +39,7 @@ first_append (k ∷ xs) ys = ap (earlier k) (first_append xs ys) ∙ sym (both_a
 pub both_append : (f : Option FaultKind) (xs ys : List FaultKind) → both f (first_in_order (xs ++ ys)) ≡ both (both f (first_in_order xs)) (first_in_order ys)
 both_append f xs ys = ap (both f) (first_append xs ys) ∙ sym (both_assoc f (first_in_order xs) (first_in_order ys))
 
--- without words a form wants nothing, or words
+-- without words a form needs nothing, or words
 abbrev pub EndsWell : List FaultKind → Type 0
 EndsWell [] = Unit {0}
 EndsWell (k ∷ []) = k ≡ faults.WrongCount

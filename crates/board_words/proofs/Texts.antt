@@ -115,7 +115,7 @@ word_cut : (begun : List ℕ) → 0 < position_or_len ends_word begun
 word_cut [] some = absurd (omega arith)
 word_cut (b ∷ bs) some = word_if (is_blank b) (is_hash b) b bs refl refl some
 
--- the first word, if one begins after the blanks
+-- the first word, when one begins after the blanks
 pub first_word : (line : List ℕ) → 0 < position_or_len ends_word (drop (position_or_len starts_word line) line)
     → words_of line ≡ take (position_or_len ends_word (drop (position_or_len starts_word line) line)) (drop (position_or_len starts_word line) line) ∷ words_of (drop (position_or_len ends_word (drop (position_or_len starts_word line) line)) (drop (position_or_len starts_word line) line))
 first_word line some = skipped line ∙ word_cut (drop (position_or_len starts_word line) line) some

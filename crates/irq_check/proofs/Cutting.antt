@@ -99,7 +99,7 @@ module _ (input rest : List ℕ) (before : ℕ) (cut : IsCutTo input rest before
           ∙ ap (λ (x : List ℕ). onto_board x (split_at_dashes (rows_of after))) front);
     }
 
--- A row with its line feed is `---` if it is without. A row is compared byte by byte.
+-- A row with its line feed is `---` if it is so without. A row is compared byte by byte.
 
 unended : (p q r s : Bool) → ((p && (q && (r && (s && false)))) || (p && (q && (r && false)))) ≡ (p && (q && (r && false)))
 unended false q r s = refl

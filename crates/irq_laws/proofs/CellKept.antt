@@ -169,7 +169,7 @@ by_start def e past o due is p still no_ask no_reopening no_deepening no_last = 
 
 -- ---- takes
 
--- no interrupt is in service if one is taken
+-- no interrupt is in service when one is taken
 none_in_service : (def : LineDef) (c : CpuNo) (way : Way) (answer : TakeAnswer) (past : List Entry) → IsDue def (entries.Take c way answer) past → (is_soft past ≡ true → is_edge_line def ≡ true) → (serves def && has_flow def past) ≡ false
 none_in_service def c ways.Line answer past due soft =
     by_signal (is_edge_line def) (is_eoi_flow def.flow) (has_flow def past) (is_sent def past) (is_high def past) (is_masked def past) ((take_due def c ways.Line answer past due).by_line refl)
@@ -233,7 +233,7 @@ level_masked def past h i level = ap after_mask (unsent def past h i level) ∙ 
 ack_unsent : (def : LineDef) (m w h i : Bool) → is_edge_line def ≡ false → after_ack (cell_with def m w false h i) ≡ cell_with def m w false h i
 ack_unsent def m w h i level = ack_is def m w false h i ∙ ap (λ (b : Bool). cell_with def m w (cond b false false) h i) level
 
--- the end of interrupt, if what is in service is what the line serves
+-- the end of interrupt, when what is in service is what the line serves
 eoi_served : (def : LineDef) (m w s h : Bool) → after_eoi (cell_with def m w s h (serves def)) ≡ cell_with def m w s h false
 eoi_served def m w s h = eoi_is def m w s h (serves def) ∙ ap (λ (x : Bool). cell_with def m w s h x) (by_line (is_edge_line def) (is_eoi_flow def.flow))
   where

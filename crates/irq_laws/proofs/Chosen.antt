@@ -6,7 +6,7 @@ module _ {A : Type 0} where
   chosen true x y e h = inl (refl, h)
   chosen false x y e h = inr (refl, h)
 
-  -- if one branch gives nothing
+  -- when one branch gives nothing
   pub from_else : (b : Bool) (x : A) (e : A) → cond b None (Some x) ≡ Some e → (b ≡ false) × (x ≡ e)
   from_else true x e h = cc
   from_else false x e h = (refl, (let same : x ≡ e = cc in same))

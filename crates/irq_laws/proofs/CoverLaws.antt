@@ -132,7 +132,7 @@ start_resends def (entries.Request s x flags (links.Refused error) opened) past 
     both_ways (is_started_opened opened) h (ap is_started_opened is)
 start_resends def e past due h = cc
 
--- what is pending if a start comes is sent by the chip, or kept for the software
+-- what is pending when a start comes is sent by the chip, or kept for the software
 resend_cases : (g p r : Bool) → g ≡ true → p ≡ true → (is_chip_opened (opens.Started (cond (g && p) (cond r resends.Chip resends.Soft) resends.No)) ≡ true) ⊎ (is_soft_opened (opens.Started (cond (g && p) (cond r resends.Chip resends.Soft) resends.No)) ≡ true)
 resend_cases true true true a b = inl refl
 resend_cases true true false a b = inr refl

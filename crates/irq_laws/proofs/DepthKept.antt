@@ -123,7 +123,7 @@ exact_by def e past due k false is = by_lowering (is_lowering e) (is_deepening e
 exact_more : (def : LineDef) (e : Entry) (past : List Entry) → IsDue def e past → lowered past ≤ raised past → lowered (e ∷ past) ≤ raised (e ∷ past)
 exact_more def e past due k = exact_by def e past due k (is_reset (e ∷ past)) refl
 
--- ---- if the depth is zero
+-- ---- when the depth is zero
 
 -- what an entry tells that leaves an enabled line enabled
 pub record StaysEnabled (e : Entry) (past : List Entry) : Type 0 where

@@ -139,7 +139,7 @@ eoi_more def (entries.Take c way takes.Busy) past due kd k edge eoi zero = take_
 eoi_more def (entries.Take c way takes.Off) past due kd k edge eoi zero = never_off def c way past due kd zero
 eoi_more def e past due kd k edge eoi zero = eoi_plain def e past due kd k refl edge eoi zero
 
--- ---- if a masked chip drops edges
+-- ---- when a masked chip drops edges
 
 -- such a line is handled by the edge flow, and isn't masked as soon as it is disabled
 dropping_flow : (def : LineDef) (f : FlowKind) → IsValid def → is_edge_line def ≡ true → def.keeps ≡ false → def.flow ≡ f → f ≡ flows.Edge
@@ -159,7 +159,7 @@ lazy_masks y d k l s r m a b c h = (grind arith, grind arith)
 take_off : (t y u m n : Bool) → t ≡ false → ((t || y) || m) ≡ n → ((false || y) || m) ≡ n
 take_off t y u m n a h = grind arith
 
--- a line that drops stays masked and started only if it was, by an entry that is no take
+-- a line that drops stays masked and started only if it was so before, by an entry that is no take
 dropping_before : (def : LineDef) (e : Entry) (past : List Entry) → IsValid def → is_take e ≡ false → is_edge_line def ≡ true → def.keeps ≡ false → is_masked def (e ∷ past) ≡ true → is_started (e ∷ past) ≡ true
     → (is_masked def past ≡ true) × (is_started past ≡ true) × (is_reopening e ≡ false) × (is_start e ≡ false)
 dropping_before def e past valid no_take edge drops m s = by_start (is_start e) refl

@@ -1,4 +1,4 @@
--- If no processor and no thread may add an entry: no flow is in progress, and no thread is at work.
+-- If no processor and no thread may add an entry, no flow is in progress, and no thread is at work.
 use Rattle.std.proofs.Common.{◌≡◌, Bool, true, false, cond, Option, Some, None, is_some, List, [], ◌∷◌, refl, sym, ap, ◌∙◌}
 use Rattle.std.specs.List.{list_any}
 use Rattle.irq_base.specs.declared.numbers.CpuNo.{CpuNo}

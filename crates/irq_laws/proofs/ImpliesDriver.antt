@@ -1,4 +1,5 @@
--- What a driver's entry implies, if it is due: the call that it belongs to, and the conditions of its row.
+-- What a driver's entry implies when it is due: the call that it belongs to, and the conditions of
+-- its row.
 use Rattle.std.proofs.Common.{◌≡◌, ℕ, ◌⊎◌, inl, inr, true, false, ◌||◌, ◌==◌, cond, Option, Some, None, List, refl, sym, ap, ap₂, ◌∙◌, eqb-true}
 use Rattle.std.proofs.lemmas.Bool.{or_parts}
 use Rattle.irq_base.specs.declared.numbers.DevNo.{DevNo}
@@ -32,7 +33,7 @@ request_shape : (def : LineDef) (r : DriverNo) (d : DevNo) (flags : Flags) (past
 request_shape def r d flags past links.Linked = refl
 request_shape def r d flags past (links.Refused error) = refl
 
--- the rows of a driver, if `due` is its due call
+-- the rows of a driver; `due` is its due call
 pub data Row (def : LineDef) (r : DriverNo) (due : Option (Call × ℕ)) (past : List Entry) (e : Entry) : Type 0 where
   ask : (d : DevNo) (n : ℕ) → due ≡ Some (calls.Ask d, n) → entries.Ask r d ≡ e → Row def r due past e
   request : (d : DevNo) (flags : Flags) (n : ℕ) → due ≡ Some (calls.Request d flags, n) → holds_mutex past ≡ false

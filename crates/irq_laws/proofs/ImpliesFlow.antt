@@ -1,4 +1,4 @@
--- What a processor's entry implies, if it is due: the conditions of its row.
+-- What a processor's entry implies when it is due: the conditions of its row.
 use Rattle.std.proofs.Common.{◌≡◌, ℕ, ◌⊎◌, inl, inr, Bool, true, false, not, ◌&&◌, cond, Option, Some, None, List, is_some, refl, sym, ap, ◌∙◌}
 use Rattle.irq_base.specs.declared.numbers.CpuNo.{CpuNo}
 use Rattle.irq_base.specs.declared.numbers.DevNo.{DevNo}

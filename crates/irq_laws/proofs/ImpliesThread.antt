@@ -1,4 +1,4 @@
--- What a thread's entry implies, if it is due: the conditions of its row.
+-- What a thread's entry implies when it is due: the conditions of its row.
 use Rattle.std.proofs.Common.{◌≡◌, ℕ, ◌⊎◌, inl, inr, Bool, true, false, not, ◌&&◌, cond, Option, Some, None, List, refl}
 use Rattle.std.specs.List.{list_any}
 use Rattle.irq_base.specs.declared.numbers.DevNo.{DevNo}

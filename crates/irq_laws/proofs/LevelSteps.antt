@@ -80,7 +80,7 @@ module _ (a p q : Entry → Bool) where
           let s : stands p q past ≡ true = sym (ap (λ (b : Bool). b || (not (q e) && stands p q past)) ip ∙ ap (λ (b : Bool). not b && stands p q past) iq) ∙ h in
           rw (ip, iq) (one_more (a e) _ _ _ _ (deeper s))
 
-  -- its return leaves those since its beginning; if it met none, that is what there was
+  -- its return leaves those since its beginning; if it met no ask, that is what there was
   returns_none : ((e : Entry) → p e ≡ true → (a e ≡ false) × (q e ≡ false)) → (e : Entry) (past : List Entry) → stands p q past ≡ true → q e ≡ true → left (before p past) ≡ 0 → left (e ∷ past) ≡ left past
   returns_none alone e past run is none =
       let w = within_run alone past run in

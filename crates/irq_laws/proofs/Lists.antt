@@ -19,7 +19,7 @@ none_here : (b : Bool) (n : ℕ) → cond b (n + 1) n ≡ 0 → (b ≡ false) ×
 none_here true n h = absurd (omega (arith, h))
 none_here false n h = (refl, h)
 
--- one more entry, if something stands
+-- one more entry, when something stands
 pub stands_cases : (p q : Bool) (s : Bool) → (p || (not q && s)) ≡ true → (p ≡ true) ⊎ ((q ≡ false) × (s ≡ true))
 stands_cases true q s h = inl refl
 stands_cases false false s h = inr (refl, h)

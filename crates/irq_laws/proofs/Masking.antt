@@ -101,7 +101,7 @@ start_opens def e past h =
 not_opened : (s r m : Bool) → (not (s || r) && m) ≡ true → (m ≡ true) × (r ≡ false)
 not_opened s r m h = (grind arith, grind arith)
 
--- an entry that is no take leaves an enabled line masked only if it was masked
+-- an entry that is no take leaves an enabled line masked only if it was masked before
 pub masked_before : (def : LineDef) (e : Entry) (past : List Entry) → is_take e ≡ false → StaysEnabled e past → is_masked def (e ∷ past) ≡ true → (is_masked def past ≡ true) × (is_reopening e ≡ false)
 masked_before def e past no_take q h =
     not_opened (is_start e) (is_reopening e) (is_masked def past) (sym (masked_by_opening def e past no_take q.no_deepening q.no_last) ∙ h)

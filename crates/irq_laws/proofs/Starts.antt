@@ -1,4 +1,4 @@
--- What the starts resend, and what else is only where the line has edges.
+-- What the starts resend, and what else only a line with edges has.
 use Rattle.std.proofs.Common.{◌≡◌, ◌⊎◌, inl, inr, Bool, true, false, ◌||◌, ◌&&◌, cond, ◌==◌, List, [], ◌∷◌, refl, sym, ap, ◌∙◌}
 use Rattle.irq_base.specs.declared.lines.LineDef.{LineDef}
 use Rattle.irq_base.specs.declared.calls.Flags.{Flags}

@@ -95,7 +95,7 @@ pub nested_latch_is_still :
     × (next nested_latch_line nested_latch_log (actors.Driver (driver 1)) ≡ None)
 nested_latch_is_still = (refl, refl)
 
--- The same if the chip can't send again: the software does.
+-- The same on a chip that can't send again: the software does.
 abbrev pub nested_plain_line : LineDef
 nested_plain_line = record plain {
   devices = device 1 kinds.Direct ∷ [];

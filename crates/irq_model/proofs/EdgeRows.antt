@@ -87,7 +87,8 @@ pub busy_latch_is_still :
     × (next busy_latch_line busy_latch_log (actors.Driver (driver 1)) ≡ None)
 busy_latch_is_still = (refl, refl, refl)
 
--- The same if the masked chip drops edges: the third ask is dropped, and covered by what is pending.
+-- The same on a chip that drops edges while it is masked: the third ask is dropped, and covered by
+-- what is pending.
 abbrev pub busy_plain_line : LineDef
 busy_plain_line = record plain {
   cpus = 2;

@@ -1,4 +1,4 @@
--- If each line's log is ample no play ends at a full one.
+-- If each line's log is ample, no play ends at a full one.
 use Rattle.std.proofs.Common.{◌≡◌, ℕ, ◌≤◌, Option, Some, None, List, length, reverse, slice_get, sym, ap, ◌∙◌, subst}
 use Rattle.std.proofs.lemmas.List.{reverse-reverse, length-reverse}
 use Rattle.irq_base.specs.declared.entries.Actor.{Actor}

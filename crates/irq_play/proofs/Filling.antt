@@ -107,7 +107,7 @@ module _ (b : BoardSeen) (board : IsBoard b) (all : List BoardLine) (are : AreOf
   unfolding after
   defs_after new is = is ∙ ap (λ (n : ℕ). map (line_of_row b) (mapped (drop n b.lines) (drop n (layout_of b)))) (sym (add-one i))
 
-  -- the definitions that are left, if the row's line takes part, and if it doesn't
+  -- the definitions that are left, when the row's line takes part, and when it doesn't
   next_defs : (t : Bool) (defs : List LineDef) → is_mapped_at (slice_get (layout_of b) i) ≡ t → defs ≡ map (line_of_row b) (mapped (drop i b.lines) (drop i (layout_of b))) → defs ≡ cond t (line_of_row b row ∷ after) after
   unfolding after
   next_defs t defs test is =

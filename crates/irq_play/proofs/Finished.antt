@@ -48,7 +48,7 @@ module _ (b : BoardSeen) (s : SystemSeen) (p : IsPlayed b s plays.Done) where
     pub few_done : IsBoard b → length reports ≤ 64
     few_done board = few_reports b board s.log reports (told_done board)
 
--- if a log was full
+-- when a log was full
 pub full_done : (b : BoardSeen) (s : SystemSeen) (line : LineNo) (len : ℕ) → IsPlayed b s (plays.Full line len) → (lines : List LineSeen) → lines ≡ s.lines → (reports : List LineReport)
     → map told_by reports ≡ map (history_among (board_lines lines)) b.lines → IsBoard b → FullLog b s.log reports line len
 full_done b s line len p lines are reports is board =
@@ -56,7 +56,7 @@ full_done b s line len p lines are reports is board =
     full_log b board s.log reports line len full p.play.1
     (handed_out b board b.picks s.log full.0 full.1 (board_lines lines) (map told_by reports) (as_left b s (plays.Full line len) p lines are) is)
 
--- if a step wanted memory
+-- when a step was refused memory
 pub cut_done : (b : BoardSeen) (s : SystemSeen) → IsPlayed b s plays.NoMemory → (lines : List LineSeen) → lines ≡ s.lines → (reports : List LineReport) → map told_by reports ≡ map (history_among (board_lines lines)) b.lines → IsBoard b
     → CutShort b s.log reports
 cut_done b s p lines are reports is board =

@@ -57,7 +57,7 @@ module _ (b : BoardSeen) (s : SystemSeen) (p : IsRun b s plays.Done) (lines : Li
       let k = kept b s plays.Done p lines are in
       record { handed_out = is; mapped = all_end_well b board (board_lines lines) k rests; refused = refused_have_none b board (board_lines lines) k }
 
--- if a log was full
+-- when a log was full
 pub full_done : (b : BoardSeen) (s : SystemSeen) (line : LineNo) (len : ℕ) → IsRun b s (plays.Full line len) → (lines : List LineSeen) → lines ≡ s.lines → IsBoard b → (reports : List LineReport)
     → map told_by reports ≡ map (history_among (board_lines lines)) b.lines → IsRunFull b reports line len
 full_done b s line len p lines are board reports is =

@@ -43,7 +43,7 @@ module _ (b : BoardSeen) (board : IsBoard b) (lines : List BoardLine) (k : AreKe
   pub refused_have_none : EachRefused b (λ row. entries_in lines row.line ≡ [])
   refused_have_none i row why at laid = no_entries b board lines k i row at (ap is_mapped_at laid)
 
-  -- if none of the board's actors can move
+  -- when none of the board's actors can move
   pub all_end_well : ((a : Actor) → IsOneOf a (actors_of b) → due_move b lines a ≡ None) → EachMapped b (λ row. LineHeadline (line_of_row b row) (entries_in lines row.line))
   all_end_well rest i row virq path at laid =
       let h = line_laid b board lines k i row at (ap is_mapped_at laid) in

@@ -15,7 +15,7 @@ use Rattle.irq_play.specs.Reporting.{entries_of}
 use Rattle.irq_play.proofs.OfRows.{is_mapped_at, takes_no_part, takes_part}
 use Rattle.irq_run.specs.Headline.{Histories}
 
--- what the lines have, by their numbers; nothing if there is no line
+-- what the lines have, by their numbers; nothing if there is no such line
 abbrev pub entries_in : List BoardLine → Histories
 entries_in lines line = entries_of (find_line lines line)
 

@@ -36,7 +36,8 @@ hidden E K T W r m a b = grind arith
 seen : (E K T W r m : Bool) → m ≡ false → (alive E K T && not (shown r m W)) ≡ false
 seen E K T W r m a = grind arith
 
--- how the edges go on, if the entry masks (n), takes (t), and masking takes back (r)
+-- how the edges go on, by whether the entry masks (n), whether it takes (t), and whether masking
+-- takes back (r)
 abbrev pub goes_sent : Bool → Bool → Bool → Bool → Bool → Bool
 goes_sent r n t s w = cond n (cond r false (cond t false s)) (cond t w (s || w))
 

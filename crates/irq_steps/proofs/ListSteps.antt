@@ -1,4 +1,5 @@
--- What one more entry makes of the list of linked devices, if it is refused, and that the list names each once.
+-- What one more entry makes of the list of linked devices, also when it is refused, and that the
+-- list names each once.
 use Rattle.std.proofs.Common.{◌≡◌, ℕ, ◌+◌, ◌≤◌, Bool, true, false, not, ◌||◌, ◌&&◌, cond, List, [], ◌∷◌, ◌++◌, filter, refl, sym, ap, ◌∙◌, subst, arith}
 use Rattle.irq_base.specs.declared.numbers.DevNo.{DevNo}
 use Rattle.irq_base.specs.declared.numbers.DriverNo.{DriverNo}

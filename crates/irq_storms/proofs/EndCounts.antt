@@ -189,7 +189,7 @@ kill_note c again unmask notes.Killed = refl
 kill_note c again unmask notes.Quiet = refl
 kill_note c again unmask notes.Counted = refl
 
--- the line isn't shut if a flow is in progress
+-- the line isn't shut while a flow is in progress
 in_flow_open : (def : LineDef) (past : List Entry) → IsValid def → IsLegalPast def past → is_level_line def ≡ true → has_flow def past ≡ true → stands is_kill is_start past ≡ false
 in_flow_open def past valid legal level f = false_from_ne_true (stands is_kill is_start past) (λ shut. both_ways (has_flow def past) f (shut_past def past valid legal level shut).no_flow)
 

@@ -212,7 +212,7 @@ off_started def (entries.Take c way answer) past valid legal level due h =
     true_from_ne_false (stands is_start is_off past) (λ none. both_ways (is_masked def past) (closed_past def past valid legal none).masked (level_take def c way answer past legal level due).0)
 off_started def e past valid legal level due h = cc
 
--- the takes that were answered Off, and one if there was a start since, are at most the starts
+-- the takes that were answered Off, plus one if there was a start since, are at most the starts
 pub offs_past : (def : LineDef) (past : List Entry) → IsValid def → IsLegalPast def past → is_level_line def ≡ true → count_of is_off past + one_if (stands is_start is_off past) ≤ count_of is_start past
 offs_past def past valid legal level =
     runs_below def is_off is_start (λ past. one_if (stands is_start is_off past)) refl (λ e past legal due. off_marks (is_off e) (stands is_start is_off past) (is_start e) (off_started def e past valid legal level due)) past legal
@@ -276,7 +276,7 @@ busy_more def (entries.Finish x kept unmask) past valid level legal due =
     omega (arith, after)
 busy_more def e past valid level legal due = let k = kept_quiet def e past refl refl refl refl in omega (arith, k)
 
--- the takes that were answered Busy, and one if another may be, are at most the starts
+-- the takes that were answered Busy, plus one if another may be, are at most the starts
 pub busy_past : (def : LineDef) (past : List Entry) → IsValid def → IsLegalPast def past → is_level_line def ≡ true → count_of is_busy past + one_if (may_be_busy def past) ≤ count_of is_start past
 busy_past def past valid legal level =
     runs_below def is_busy is_start (λ past. one_if (may_be_busy def past)) (no_flow_marks (is_eoi_flow def.flow) false (is_masked def []) refl) (λ e past legal due. busy_more def e past valid level legal due) past legal

@@ -44,7 +44,7 @@ returns_past def past legal =
     let r = runs_below def is_any_return is_any_begin (λ past. one_if (is_some (at_work past))) refl (λ e past legal due. returns_more def e past due) past legal in
     omega (arith, r)
 
--- ---- the rounds are the ends, and one if a flow is in progress
+-- ---- the rounds are the ends, plus one while a flow is in progress
 
 flow_kept : (def : LineDef) (e : Entry) (past : List Entry) → is_handle e ≡ false → is_leave e ≡ false → is_again e ≡ false → one_if (has_flow def (e ∷ past)) ≡ one_if (has_flow def past)
 flow_kept def e past a b c = ap (λ o. one_if (is_some o)) (flow_quiet def e past a b c)

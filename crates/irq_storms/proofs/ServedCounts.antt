@@ -76,7 +76,7 @@ module _ (a b r : Entry → Bool) where
   served : ((e : Entry) → b e ≡ true → (r e ≡ false) × (a e ≡ false)) → (e : Entry) (past : List Entry) → r e ≡ true → stands b r past ≡ true → unserved (e ∷ past) + unserved (before b past) ≡ unserved past
   served apart e past is s = let o = over e past is in let m = met apart past s in omega (arith, o, m)
 
--- a run that began, if no return stands after it
+-- a run that began, with no return after it
 still_standing : (b r o : Entry → Bool) (past : List Entry) → stands b o past ≡ true → list_any r (since b past) ≡ false → stands b r past ≡ true
 still_standing b r o [] s n = cc
 still_standing b r o (e ∷ past) s n = by_begin (b e) s n (λ s n. still_standing b r o past s n)

@@ -34,7 +34,7 @@ abbrev pub is_any_done : Entry → Bool
 is_any_done (entries.Done dev) = true
 is_any_done _ = false
 
--- ---- what an entry of d's thread tells, if it is due
+-- ---- what an entry of d's thread says when it is due
 
 pub begin_tells : (def : LineDef) (d : DevNo) (e : Entry) (past : List Entry) → IsDue def e past → is_thread_begin d e ≡ true → (is_woken past d ≡ true) × (is_running past d ≡ false)
 begin_tells def d (entries.ThreadBegin x) past due h =

@@ -1,4 +1,4 @@
--- What is asked of a line is told by its state.
+-- What is asked of a line is what its state says.
 use Rattle.std.proofs.Common.{◌≡◌, ◌↔◌, ◌≤◌, Bool, true, false, not, ◌||◌, ◌&&◌, cond, is_some, Option, Some, None, List, refl, sym, ap, subst, ◌∙◌}
 use Rattle.std.proofs.lemmas.Bool.{false≢true}
 use Rattle.std.proofs.lemmas.Option.{none-some, same_Some}
@@ -67,7 +67,7 @@ no_target : (x g : Bool) → IsTrue (not x && (false && g)) → ⊥
 no_target true g h = false≢true h
 no_target false g h = false≢true h
 
--- the target takes, if something waits, and it isn't in the flow
+-- the target takes if something waits, and it isn't in the flow
 module _ (s : StateSeen) (c : CpuNo) where
   by_target : (t : CpuNo) (b : Bool) → is_cpu t s.desc.flow ≡ b → (e : Bool) → same_cpu c t ≡ e → (cond b None (Some t) ≡ Some c) ↔ IsTrue (not (is_cpu c s.desc.flow) && (e && true))
   by_target t true busy true same = (

@@ -1,4 +1,4 @@
--- The run that a due entry ends is told by the state.
+-- The run that a due entry ends is what the state says.
 use Rattle.std.proofs.Common.{◌≡◌, ℕ, true, Some, List, refl, sym, ap, ◌∙◌}
 use Rattle.std.specs.List.{list_any}
 use Rattle.irq_base.specs.declared.devices.Kind.{Kind}

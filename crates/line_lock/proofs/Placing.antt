@@ -98,7 +98,7 @@ pub between_of : (line : LineNo) (o : Option Actor) (h n s : List Entry) → Beg
 between_of line None h n s above below same = refl
 between_of line (Some who) h n s above below same = between line who h n s above below same
 
--- the history is what is seen of it, if that has the entries of every actor
+-- the history is what is seen of it, when that has the entries of every actor
 pub all_seen : (line : LineNo) (h s : List Entry) → BeginsWith h s → ((who : Actor) → placed line who h ≡ placed line who s) → h ≡ s
 all_seen line h s b same = by_rest b.0 b.1
   where

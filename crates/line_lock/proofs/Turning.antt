@@ -25,7 +25,7 @@ module _ {T : Type 0} (def_of : T → LineDef) (entries_of : T → List Entry) w
   abbrev with_views : State (Option T) View → List View → State (Option T) View
   with_views s views = record { words = s.words; homes = s.homes; views = views }
 
-  -- whose turn it is stays, if the passes with the turn stay
+  -- whose turn it is stays as long as the passes with the turn stay
   turn_stays : (key : LineDef) (h : List Entry) (s : State (Option T) View) (views : List View)
       → ((j : ℕ) (u : View) → get_elem? views j ≡ some u → u.turn ≡ true → get_elem? s.views j ≡ some u)
       → ((j : ℕ) (u : View) → get_elem? s.views j ≡ some u → u.turn ≡ true → get_elem? views j ≡ some u)

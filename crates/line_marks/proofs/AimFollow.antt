@@ -15,7 +15,7 @@ last_ext : (P Q : List Entry → List Entry → Bool) (past : List Entry) → ((
 last_ext P Q [] h = refl
 last_ext P Q (e ∷ past) h = rw (h [] (e ∷ past)) (ap (λ (t : List Entry). cond (Q [] (e ∷ past)) (e ∷ past) t) (last_ext (λ a u. P (e ∷ a) u) (λ a u. Q (e ∷ a) u) past (λ a u. h (e ∷ a) u)))
 
--- if no take comes, what is in force stays
+-- while no take comes, what is in force stays
 same_place : (e : Entry) (a u : List Entry) → is_take e ≡ false → puts_in_force (e ∷ a) u ≡ puts_in_force a u
 same_place e a [] h = refl
 same_place e a (entries.Affinity r mask moves.Now ∷ u) h = refl

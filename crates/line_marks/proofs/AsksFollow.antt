@@ -80,7 +80,7 @@ row_more def e past d =
     same_row (ask_row def (e ∷ past) d) (by_tests (is_ask d e) (begins_serving k d e) (ends_serving k d e) (is_begin d e) (is_thread_begin d e) (ask_row def past d))
     (unserved_more k d e past) (fresh_more k d e past) (met_more k d (is_begin d) e past) (met_more k d (is_thread_begin d) e past)
 
--- if no test passes
+-- when no test passes
 no_test : (k : Kind) (d : DevNo) (e : Entry) → is_ask d e ≡ false → begins_serving k d e ≡ false → ends_serving k d e ≡ false → is_begin d e ≡ false → is_thread_begin d e ≡ false → (r : AskRow)
     → by_tests (is_ask d e) (begins_serving k d e) (ends_serving k d e) (is_begin d e) (is_thread_begin d e) r ≡ r
 no_test k d e a b c f g r = rw (a, b, c, f, g) refl

@@ -1,4 +1,5 @@
--- The cell of a line follows its history: what an entry does to it is told by the state; and what it is.
+-- The cell of a line follows its history: what an entry does to it follows from the state; and what
+-- it is.
 use Rattle.std.proofs.Common.{◌≡◌, Bool, true, false, not, ◌||◌, ◌&&◌, cond, ltb, List, [], ◌∷◌, reverse, refl, sym, ap, ◌∙◌, subst}
 use Rattle.std.proofs.lemmas.List.{reverse-reverse}
 use Rattle.std.specs.List.{list_any}

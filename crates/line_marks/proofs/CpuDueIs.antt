@@ -76,7 +76,7 @@ and_false : (a : Bool) → false ≡ (a && false)
 and_false true = refl
 and_false false = refl
 
--- the end of each flow, if the line is off by now or not
+-- the end of each flow, whether the line is off by now or not
 never : (p m k : Bool) → ((p && false) && m) ≡ ((p && false) && k)
 never true m k = refl
 never false m k = refl

@@ -137,7 +137,8 @@ module _ (def : LineDef) (c : CpuNo) (s : StateSeen) where
   abbrev left : FlowKind → Note → Left
   left f note = left_by def f (is_held s) (killed_if note s.desc)
 
-  -- the state with this descriptor and this cell, after the note, and in the next round if the flow goes on
+  -- the state with this descriptor and this cell, after the note, and in the next round when the
+  -- flow goes on
   abbrev to : Bool → DescSeen → Cell → StateSeen
   to again d k = gone_on def again (record (noted_at s) { desc = d; cell = k })
 

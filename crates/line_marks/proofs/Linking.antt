@@ -23,7 +23,7 @@ use Rattle.line_marks.specs.Desc.{take_masks_with}
 use Rattle.line_marks.specs.DriversDue.{opened_by}
 use Rattle.line_marks.specs.State.{StateSeen, state_after}
 
--- ---- what the depth is if a request opens the line
+-- ---- what the depth is when a request opens the line
 
 -- what a linked request may make of a line with this depth, the first one or not
 pub record Fits (def : LineDef) (first : Bool) (opened : Opened) (s : StateSeen) : Type 0 where

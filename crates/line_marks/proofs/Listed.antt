@@ -1,4 +1,4 @@
--- What is read off the list of actions, if its devices and flags are known.
+-- What is read off the list of actions, once its devices and flags are known.
 use Rattle.std.proofs.Common.{◌≡◌, Bool, true, false, ◌||◌, ◌&&◌, cond, Option, Some, None, List, [], ◌∷◌, length, refl, ap, ◌∙◌, arith}
 use Rattle.std.specs.List.{list_any}
 use Rattle.irq_base.specs.declared.calls.Flags.{Flags}

@@ -38,7 +38,7 @@ use Rattle.line_marks.specs.Threads.{has_returned, has_finished, stage_by, threa
 abbrev row : Bool → Stage → Bool → ThreadRow
 row w s h = record { woken = w; stage = s; held = h }
 
--- ---- if d is woken, its bit stands exactly if it was linked one-shot
+-- ---- when d is woken, its bit stands exactly if it was linked one-shot
 
 abbrev IsWokenHeld : List Entry → Type 0
 IsWokenHeld past = (d : DevNo) → is_woken past d ≡ true → is_unfinished past d ≡ (linking_flags past d).oneshot
@@ -56,7 +56,7 @@ at_rest def r x flags opened past valid due k =
     let p = parts_of past x (k.rest.at_rest x off (none_freed def past k u.no_mutex x)) in
     (p.0, p.1, p.2)
 
--- ---- if a thread is woken, its bit stands if it was linked one-shot
+-- ---- when a thread is woken, its bit stands if it was linked one-shot
 
 held_now : (f s : Bool) → (f && true) ≡ f
 held_now true s = refl
@@ -130,7 +130,8 @@ woken_held def (e ∷ past) valid legal = woken_held_more def e past valid legal
 same_row : (w v : Bool) (s t : Stage) (h k : Bool) → w ≡ v → s ≡ t → h ≡ k → row w s h ≡ row v t k
 same_row w v s t h k a b c = rw (a, b, c) refl
 
--- a wake of a thread whose bit stands if it is woken (w: woken, u: its bit, f: linked one-shot, o: a one-shot line)
+-- a wake of a thread whose bit stands while it is woken (w: woken, u: its bit, f: linked one-shot,
+-- o: a one-shot line)
 wake_held : (u f s : Bool) → u ≡ (f && s) → (f && true) ≡ (u || f)
 wake_held u f s h = grind arith
 

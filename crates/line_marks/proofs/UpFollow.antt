@@ -214,7 +214,7 @@ up_quiet e past is h =
     up_later e past is
     ∙ ap (λ b. is_some_entry (upto_place is_first_request past) && not b) (some_ext (λ a u. is_freed_last (e ∷ a) u) is_freed_last (since_first past) (λ a u same. same_place e a u h))
 
--- ---- told by the actions and by who frees what
+-- ---- read off the actions and who frees what
 
 some_count : (n : ℕ) → (n == 0) ≡ false → (m : ℕ) × (n ≡ suc m)
 some_count zero h = cc

@@ -70,7 +70,7 @@ pub calls_other : (r : DriverNo) (cs : List (DriverNo × Call)) (who : DriverNo)
 calls_other r [] who call other = ap (λ b. cond b (call ∷ []) []) other
 calls_other r (c ∷ cs) who call other = ap (λ xs. cond (same_driver r c.0) (c.1 ∷ xs) xs) (calls_other r cs who call other)
 
--- if no call has begun, one more call of a driver goes into its row
+-- while no call has begun, one more call of a driver goes into its row
 pub rows_more : (s n : List (DriverNo × RowSeen)) (cs : List (DriverNo × Call)) (who : DriverNo) (call : Call)
     → ((r : DriverNo) → row_of s r ≡ unbegun (calls_by r cs))
     → row_of n who ≡ record (row_of s who) { calls = (row_of s who).calls ++ call ∷ [] }
@@ -105,7 +105,7 @@ is_there o v at = subst (λ (x : Option RowSeen). IsSome x) (sym at) refl
 asks_unbegun : (x : RowSeen) → x.place ≡ 0 → asks_in x ≡ count_of is_ask_call x.calls
 asks_unbegun x h = ap (λ n. count_of is_ask_call (drop n x.calls)) h
 
--- a row takes one more call, if none has begun
+-- a row takes one more call while none has begun
 pub asks_pushed : (es : List (DriverNo × RowSeen)) (who : DriverNo) (v w : RowSeen) (call : Call) → lookup (same_driver who) es ≡ Some v → v.place ≡ 0
     → w ≡ record v { calls = v.calls ++ call ∷ [] } → asks_left (set_value (same_driver who) es w) ≡ asks_left es + cond (is_ask_call call) 1 0
 asks_pushed es who v w call at start is =

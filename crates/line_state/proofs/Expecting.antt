@@ -1,4 +1,4 @@
--- What is due is as its function expects it, if the counts have room.
+-- What is due is as its function expects it, since the counts have room.
 use Rattle.std.proofs.Common.{◌≡◌, ℕ, ◌==◌, ◌-◌, ◌<◌, ◌^◌, Bool, true, false, not, cond, is_some, Option, Some, None, refl, sym, subst}
 use Rattle.irq_base.specs.Cell.{signals}
 use Rattle.irq_base.specs.declared.calls.Call.{Call}

@@ -1,4 +1,4 @@
--- A legal history tells its last unlinks.
+-- A legal history says which of its unlinks are last ones.
 use Rattle.std.proofs.Common.{◌≡◌, ◌+◌, ◌≤◌, Bool, true, false, not, ◌&&◌, cond, List, [], ◌∷◌, filter, reverse, refl, sym, ap, ◌∙◌, arith}
 use Rattle.std.specs.List.{list_any}
 use Rattle.irq_base.specs.declared.entries.Entry.{Entry}

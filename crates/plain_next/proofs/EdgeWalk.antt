@@ -27,7 +27,8 @@ front_more past place j d h k =
 or_comm : (a b : Bool) → (a || b) ≡ (b || a)
 or_comm a b = grind arith
 
--- whether the line was open since the edge, if o says so before the entry and m is whether the entry leaves the line masked
+-- whether the line was open since the edge; o says so before the entry, and m whether the entry
+-- leaves the line masked
 pub opened_more : (def : LineDef) (past : List Entry) (place i : ℕ) (o m : Bool) → 0 < i → i ≤ place → place < length past
     → o ≡ was_open def (drop i (take place past)) (drop place past) → m ≡ is_masked def (drop (i - 1) past)
     → (o || not m) ≡ was_open def (drop (i - 1) (take place past)) (drop place past)
@@ -44,7 +45,8 @@ opened_more def past place i o m a b l p q =
     or_comm o (not m) ∙ (ap (λ b. not b || o) q ∙ ap (λ b. not (is_masked def (drop (i - 1) past)) || b) p) in
     before ∙ (ap (λ ys. not (is_masked def ys) || was_open def front rest) (sym whole) ∙ ap (λ ys. was_open def ys rest) (sym step))
 
--- whether a take took the edge, if t says so before the entry, m is whether the line was masked then, and o whether it was open since the edge
+-- whether a take took the edge; t says so before the entry, m whether the line was masked then, and
+-- o whether it was open since the edge
 pub taken_more : (def : LineDef) (past : List Entry) (place i : ℕ) (d : Entry) (t o m : Bool) → 0 < i → i ≤ place → place < length past
     → t ≡ is_taken def (drop i (take place past)) (drop place past) → o ≡ was_open def (drop i (take place past)) (drop place past) → m ≡ is_masked def (drop i past)
     → ((is_take (get_or past (i - 1) d) && (not m || (not def.recalls && o))) || t) ≡ is_taken def (drop (i - 1) (take place past)) (drop place past)

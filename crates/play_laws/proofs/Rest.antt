@@ -1,4 +1,4 @@
--- If none of the line's actors has a due entry, as if a play is done, the line is settled.
+-- If none of the line's actors has a due entry, as when a play is done, the line is settled.
 use Rattle.std.proofs.Common.{◌≡◌, Option, Some, None, List, reverse, refl}
 use Rattle.irq_base.specs.declared.lines.LineDef.{LineDef}
 use Rattle.irq_base.specs.declared.entries.Actor.{Actor}

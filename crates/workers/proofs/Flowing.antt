@@ -121,7 +121,7 @@ module _ (lines : List LockSeen) (place : ℕ) (old mid : JobSeen) (seated : Are
     seat_def : s.seat.pass.def ≡ s.line.def
     seat_def = (subst (λ (o : Option LockSeen). IsSomeAnd o (λ l. Sits l old.actor s.seat)) s.at_line (seated place s.seat s.at_seat)).of_line.1
 
-    -- if no entry was added
+    -- when no entry was added
     pub cpu_rests : ((e : Entry) → turn ≡ turns.Moved e → ⊥) → StepsCpu lines place turn old mid
     cpu_rests not =
         record {
@@ -152,7 +152,7 @@ module _ (lines : List LockSeen) (place : ℕ) (old mid : JobSeen) (seated : Are
         others : (i : ℕ) (t : SeatSeen) → (i ≡ place → ⊥) → slice_get mid.seats i ≡ Some t → slice_get old.seats i ≡ Some t
         others i t apart at = elim (seat_now lines place turn old mid s i t at) [ inl here ↦ absurd (apart here.0) | inr other ↦ other.1 ]
 
-  -- if one was
+  -- when an entry was added
   pub cpu_moved : (e : Entry) (s : StepsSeat lines place (turns.Moved e) old mid) (w : FlowKind) (new : JobSeen) → w ≡ s.line.def.flow → new ≡ record mid { flow = flow_after w e place mid.flow } → StepsCpu lines place (turns.Moved e) old new
   cpu_moved e s w new way is =
       let k = keeps_seats lines place (turns.Moved e) old mid seated s in

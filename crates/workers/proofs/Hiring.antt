@@ -26,7 +26,7 @@ use Rattle.workers.specs.declared.job.Left.TheVariants as lefts
 use Rattle.workers.proofs.Lists.{of_map, within, at_snoc, there_or}
 use Rattle.workers.proofs.Manning.{map_more, taken, all_taken}
 
--- ---- if nothing was made yet
+-- ---- when nothing was made yet
 
 pub nothing_made : (calls : List ScriptCall) (lines : List BoardLine) (r : DriverNo) → ((i : ℕ) (x : BoardLine) → slice_get lines i ≡ Some x → x.past ≡ []) → IsUpTo calls lines r 0
 nothing_made calls lines r none =

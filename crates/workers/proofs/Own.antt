@@ -72,7 +72,7 @@ own_are_seen line r h mine is =
     entries_seen r (map (λ (x : Placed). x.entry) mine)
     ∙ (ap (filter (is_by_driver r)) (ap (map (λ (x : Placed). x.entry)) is ∙ by_places line r 0 h) ∙ (filter_twice (is_by_driver r) h ∙ sym (entries_seen r h)))
 
--- if its places are the same, its entries are
+-- if its places are the same, so are its entries
 pub same_places : (line : LineNo) (r : DriverNo) (h k : List Entry) → placed line (actors.Driver r) h ≡ placed line (actors.Driver r) k → entries_by r (reverse h) ≡ entries_by r (reverse k)
 same_places line r h k same =
     entries_seen r h ∙ (sym (by_places line r 0 h) ∙ (ap (map (λ (x : Placed). x.entry)) same ∙ (by_places line r 0 k ∙ sym (entries_seen r k))))

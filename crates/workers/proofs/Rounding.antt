@@ -192,7 +192,7 @@ left_after lines board old new long each i j at = (each_at board lines old new l
 pub all_jobs : (lines : List LockSeen) (s : JobsSeen) → Fit lines s → All (IsJob s.board lines) s.jobs
 all_jobs lines s fit k d less = fit.each k (get_or s.jobs k d) (there_or s.jobs k d less)
 
--- ---- what is told of all jobs
+-- ---- what is said of all jobs
 
 -- one job more
 module _ (jobs : List JobSeen) (n : ℕ) (job : JobSeen) (at : slice_get jobs n ≡ Some job) where

@@ -1,4 +1,4 @@
--- One try of a worker: steps of the shared line until none of them wants an answer first.
+-- One try of a worker: steps of the shared line until none of them needs an answer first.
 use Rattle.std.proofs.Common.{◌≡◌, ◌<◌, false, IsSome, Option, Some, None, Ok, Err, List, [], ◌∷◌, ◌++◌, length, refl, sym, ap, subst, ◌∙◌, append_assoc}
 use Rattle.irq_base.specs.declared.entries.Actor.{Actor}
 use Rattle.irq_base.specs.declared.entries.Entry.{Entry}
@@ -94,6 +94,6 @@ pub its_actor : (o : Option Actor) → IsSome o → (who : Actor) × (o ≡ Some
 its_actor None is = cc
 its_actor (Some who) is = (who, refl)
 
--- if nothing happened since nothing was due
+-- when nothing happened since nothing was due
 pub tries_still : (def : LineDef) (who : Actor) (k : Known) → IsIdle def who k → Tries def who k (Ok None) k
 tries_still def who k idle = record { begins = begins_self k.seen; came = (idle, refl) }

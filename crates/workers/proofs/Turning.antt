@@ -61,7 +61,7 @@ module _ (lines here : List LockSeen) (j : JobSeen) (first place : ℕ) (seats :
       (sym (there_or numbers (first + place) d (in_numbers numbers are_numbers)) ∙ (ap (λ (ns : List LineNo). slice_get ns (first + place)) (are_numbers ∙ ap numbers_of same)
       ∙ (ap (λ (i : ℕ). slice_get (numbers_of lines) i) k_is ∙ at_map (λ (l : LockSeen). l.def.line) lines (j.first + place) a.line a.at_line)))
 
--- if nothing was due, that is known
+-- when nothing was due, that is known
 rests_idle : (def : LineDef) (who : Actor) (old new : Known) (tried : Result (Option Entry) StepRefused) → Tries def who old tried new → rests_after tried ≡ true → IsIdle def who new
 rests_idle def who old new (Ok (Some e)) t is = cc
 rests_idle def who old new (Ok None) t is = t.came.0
