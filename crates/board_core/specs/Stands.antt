@@ -33,12 +33,12 @@ abbrev pub IsCurrentOn : SystemSeen → LineNo → Actor → Type 0
 IsCurrentOn s line (actors.Driver r) = IsSomeAnd (current_line s.board.calls (board_lines s.lines) r) (λ x. x.def.line ≡ line)
 IsCurrentOn s line _ = Unit {0}
 
--- there, where the actor may move; none where it can't
+-- there, where the actor may move; none if it can't
 abbrev pub IsStand : SystemSeen → Actor → Option Stand → Type 0
 IsStand s a None = move_of s a ≡ None
 IsStand s a (Some stand) = IsAt s a stand × MayWant s a
 
--- the lowest actor that can move, and where it does; none where nobody can
+-- the lowest actor that can move, and where it does; none if nobody can
 abbrev pub IsLowestStand : SystemSeen → Option (Actor × Stand) → Type 0
 IsLowestStand s None = lowest_move s ≡ None
 IsLowestStand s (Some (a, stand)) = IsAt s a stand × (lowest_move s ≡ move_of s a) × IsSome (move_of s a)

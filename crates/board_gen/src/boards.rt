@@ -25,7 +25,7 @@ pub fn generate(alloc: Global, n: u32) -> Result<Board, NoMemory>
     Ok(board)
 }
 
-// Two processors and four domains, one of each kind of root that masks.
+// Two processors and four domains: a latch, a plain, a level and a fast-EOI root.
 fn machine(alloc: Global) -> Result<Board, NoMemory>
     ensures { IfOk result (λ b. b ≡ bare_machine) }
 {

@@ -54,7 +54,7 @@ abbrev pub has_take : ℕ → Option LinePart → Bool
 has_take c None = false
 has_take c (Some x) = is_cpu c x.taker
 
--- the first line where it has its flow, and the first where a take is due of it
+-- the first line on which it has its flow, and the first on which a take is due of it
 abbrev pub flow_line : List LinePart → ℕ → Option ℕ
 flow_line lines c = first_of (λ k. has_flow c (slice_get lines k)) (length lines)
 

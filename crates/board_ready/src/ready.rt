@@ -177,8 +177,8 @@ impl ReadyActors {
         driver < 64 && (self.ready >> driver) & 1 == 1
     }
 
-    /// The line on which a processor moves: the first where it has its flow, else the first where it has a take due.
-    /// None for processors of 32 and above.
+    /// The line on which a processor moves: the first on which it has its flow, else the first on
+    /// which it has a take due. None for processors of 32 and above.
     pub fn cpu_line(&self, cpu: CpuNo) -> Option<usize>
         ensures { result ≡ cpu_line self.now.lines cpu.0 }
     {

@@ -23,8 +23,7 @@ pub fn next_step_is_not_full<L: IrqLine>(line: &L)
     line.is_sound();
 }
 
-/// `IrqLine::step` on a line whose log limit is at least its bound: the only refusal is out of
-/// memory.
+/// `IrqLine::step` on a line whose log limit is at least its bound: the only error is `NoMemory`.
 ///
 /// # Errors
 ///
