@@ -51,7 +51,7 @@ is_deepening e = is_disable e || is_kill e
 abbrev pub is_lowering : Entry → Bool
 is_lowering e = is_lowering_opened (opened_of e)
 
--- the disables and kills since the last reset, less the enables
+-- the base, plus the disables and kills since the last reset, less the lowerings
 abbrev pub depth : List Entry → ℕ
 depth past = (base (upto_place is_reset past) + count_of is_deepening (since_place is_reset past)) - count_of is_lowering (since_place is_reset past)
 

@@ -60,8 +60,8 @@ finish_unmasks def d past =
 
 -- after the thread's handler returned: on a one-shot line it gives its bit up, once no flow is in progress.
 -- Why it waits: a thread may be done before the flow that woke it has come to its end. If it opened
--- the line then, the flow could mask it behind the thread's back, or leave it masked for a thread
--- that is gone, and nobody would open it.
+-- the line then, the interrupt could come again, mask the line, and leave since the flow is in
+-- progress; the line would stay masked (so says the comment of `irq_finalize_oneshot`).
 abbrev pub finish_or_done : LineDef → DevNo → List Entry → Option Entry
 finish_or_done def d past =
     if is_oneshot past && not (list_any (is_finish d) (since (is_thread_return d) past))
@@ -124,8 +124,9 @@ next_in_flow def c past None = begin_or_end def c past (first_left def past (lin
 
 -- ---- processors: taking an interrupt (the flow handlers' beginnings)
 
--- Why Busy: one processor at a time walks the actions. What another takes meanwhile is left pending, and on the edge flow
--- the line is masked, so that the same source can't come again and again until the first one goes on with it.
+-- Why Busy: one processor at a time walks the actions. What another takes meanwhile is left pending
+-- on an edge line, and on the edge flow the line is masked, so that the same source can't come
+-- again and again until the first one goes on with it.
 abbrev pub take_answer : LineDef → List Entry → TakeAnswer
 take_answer def past = if has_flow def past then takes.Busy else (if is_disabled past || is_none_linked past then takes.Off else takes.Handle)
 
@@ -174,8 +175,7 @@ link_answer def d flags past =
     else links.Linked)))
 
 -- what a request that is linked makes of the depth: the first starts the line unless its flags say
--- not to; a
--- further one enables a line that the rule on spurious interrupts disabled
+-- not to; a further one enables a line that the rule on spurious interrupts disabled
 abbrev pub opened_by_request : LineDef → Flags → List Entry → Opened
 opened_by_request def flags past =
     if is_none_linked past then (if flags.noauto then opens.No else opens.Started (resend_of def past))

@@ -13,7 +13,7 @@ use Rattle.irq_model.specs.Rounds.{round}
 
 -- what the line keeps for the rule
 pub record Counts : Type 0 where
-  -- the ends of the open window
+  -- the ends that the open window has counted
   pub irq_count : ℕ
   -- those of them that were unhandled
   pub irqs_unhandled : ℕ
@@ -33,7 +33,7 @@ pub record Noted : Type 0 where
   pub note : Note
   pub counts : Counts
 
--- one more end of the window, `unhandled` of which were unhandled
+-- one more end of the window, of whose ends `irqs_unhandled` were unhandled
 abbrev pub counted : ℕ → ℕ → Counts → Noted
 counted window limit c =
     if c.irqs_unhandled == 0 then record { note = notes.Quiet; counts = c }

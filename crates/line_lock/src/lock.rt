@@ -40,7 +40,7 @@ impl<T: Kept> Model for CountedLock<T> {
 }
 
 impl<T: Kept> CountedLock<T> {
-    /// A lock round the value, and its first pass. The only error is `NoMemory`: the value comes back.
+    /// A lock round the value, and its first pass. If memory is refused, the value comes back.
     pub fn new(alloc: Global, value: T) -> Result<(CountedLock<T>, Pass<T>), LockRefused<T>>
         requires empty { T.entries value ≡ [] }
         ensures def { IfOk result (λ r. r.0.def ≡ T.definition value) }

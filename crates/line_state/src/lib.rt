@@ -3,8 +3,9 @@
 //!
 //! `LineState` says which entry is due of a thread, of a processor and of a driver's call, and is
 //! brought up to an entry by `apply`. It keeps no history: what it is after an entry follows from
-//! what it was before. Each call looks at a few rows of tables, scans nothing, and takes no memory
-//! but `new` and `reserve`, which makes the room that a request needs.
+//! what it was before. Each call looks at a few rows of tables, and goes over the actions only as
+//! one is linked or unlinked. No call takes memory but `new` and `reserve`, which makes the room
+//! that a request needs.
 #![tactic(auto)]
 
 pub mod apply;

@@ -123,7 +123,8 @@ fn base(past: &[Entry]) -> u32
     }
 }
 
-/// How deep the line is disabled: the disables and kills since the last reset, less the enables.
+/// How deep the line is disabled: the base, plus the disables and kills since the last reset, less
+/// the lowerings.
 pub fn depth(alloc: Global, past: &[Entry]) -> Result<u32, NoMemory>
     requires { length past.now ≤ 100000000 }
     ensures { IfOk result (λ n. n ≡ depth past.now) }

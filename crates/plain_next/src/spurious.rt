@@ -10,7 +10,7 @@ use std::marker::Model;
 /// What the line keeps for the rule.
 #[derive(Clone, Copy)]
 struct SpuriousCounts {
-    /// The ends of the open window.
+    /// The ends that the open window has counted.
     irq_count: u32,
     /// Those of them that were unhandled.
     irqs_unhandled: u32,

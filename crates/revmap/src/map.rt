@@ -51,8 +51,7 @@ pub trait Revmap {
         ensures size { size self.new ≡ size self.old };
 
     /// The least hardware number, of 0 to 4,294,967,295, that isn't mapped; none if all are mapped.
-    /// In a full linear
-    /// map it is the size (ours).
+    /// In a full linear map it is the size (ours).
     fn lowest_free(&self) -> Option<u32>
         ensures { IsLowestFree (at self.now) result };
 }

@@ -8,7 +8,7 @@ use irq_base::Note;
 /// What the rule keeps of a line's rounds.
 #[derive(Clone, Copy)]
 pub struct Tally {
-    /// The rounds of the open window.
+    /// The rounds that the open window has counted.
     pub irq_count: u32,
     /// Those of them that nobody handled.
     pub irqs_unhandled: u32,
