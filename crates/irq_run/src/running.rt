@@ -101,8 +101,7 @@ fn run_lines<
 }
 
 /// Shares the lines, lets the workers step in rounds, and takes the lines back. If a history was
-/// full, the rest is left
-/// to be settled.
+/// full, the rest is left to be settled.
 fn run_in_rounds<
     R: Threads + Wait + Sync,
     L: IrqLine + Send + Sync,
