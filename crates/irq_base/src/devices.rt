@@ -8,7 +8,7 @@ use crate::numbers::{DevNo, LineNo};
 /// What a run of a handler answers (`enum irqreturn`, `include/linux/irqreturn.h`).
 #[derive(Clone, Copy, PartialEq, Eq)]
 pub enum Answer {
-    /// `IRQ_NONE`: the device had nothing to be served.
+    /// `IRQ_NONE`: the handler found nothing to serve.
     Nothing,
     /// `IRQ_HANDLED`.
     Handled,

@@ -49,7 +49,7 @@ pub enum TakeAnswer {
 /// What the rule on spurious interrupts makes of a round (`note_interrupt`, `kernel/irq/spurious.c`).
 #[derive(Clone, Copy, PartialEq, Eq)]
 pub enum Note {
-    /// Nothing was unhandled lately.
+    /// Nothing was unhandled lately, or the round waits to be judged by what threads do.
     Quiet,
     /// The round was counted.
     Counted,

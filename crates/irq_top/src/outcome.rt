@@ -6,8 +6,8 @@ use irq_base::Reports;
 use std::alloc::Global;
 
 /// What the top call hands out: how it ended, and the histories that were taken out of the lines,
-/// one report a line if a board was played, if only up to a full log or a step that needed memory,
-/// else none.
+/// one report a line if a board was played or run, if only up to a full log or, in a play, up to a
+/// step that was refused memory; else none.
 #[derive(Drop)]
 pub struct Outcome {
     /// How the call ended, with its exit status.
