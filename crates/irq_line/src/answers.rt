@@ -8,8 +8,7 @@ pub enum Stepped {
     /// It added this entry.
     Added(Entry),
     /// The entry that is due ends a run of a handler, whose answer is needed first. `unserved`: how
-    /// many asks of the
-    /// device were unserved as the run began. Nothing changed.
+    /// many asks of the device were unserved as the run began. Nothing changed.
     Run {
         def: DeviceDef,
         part: Part,

@@ -1,7 +1,6 @@
 //! Tries the top call from outside: logs with their verdicts, plays of boards, the first board's
 //! log with a row missing or twice, and the limits of the formats. What should come was worked out
-//! by
-//! hand or given, never by the program.
+//! by hand or given, never by the program.
 //!
 //! Each row of standard input names what to try: `log FILE`, or one of the groups of trials
 //! below. Standard output gets a row a trial, and at last how many there were.

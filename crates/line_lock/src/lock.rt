@@ -166,8 +166,7 @@ impl<T: Kept> CountedLock<T> {
     }
 
     /// How many entries there are about now. Nothing is claimed of it: it is a look without the
-    /// turn, which may say
-    /// that a hold isn't worth while.
+    /// turn, which may say that a hold isn't worth while.
     pub fn count(&self) -> u64 {
         self.table.shared.peek(COUNT)
     }

@@ -130,8 +130,7 @@ impl<L: IrqLine> SharedLine<L> {
     }
 
     /// How many entries there are about now, without a wait. Nothing is claimed of it: it may say
-    /// that a step isn't
-    /// worth while.
+    /// that a step isn't worth while.
     pub fn count(&self) -> u64 {
         self.lock.count()
     }

@@ -41,8 +41,7 @@ fn adds<L: IrqLine>(line: &mut L, entry: Entry) -> Result<bool, NoMemory>
 }
 
 /// Adds the entry that is due of the actor, if there is one, and answers it. If it ends a run of a
-/// handler, the handler
-/// of the device's kind answers.
+/// handler, the handler of the device's kind answers.
 fn step<L: IrqLine>(line: &mut L, actor: Actor) -> Result<Option<Entry>, NoMemory>
     requires { length (L.seen line.old).entries < (L.seen line.old).def.log }
     ensures def { (L.seen line.new).def ≡ (L.seen line.old).def }

@@ -5,8 +5,7 @@ ghost use Rattle.log_read.specs.Takes.{Takes, TakesAs, Any, one, text_words};
 ghost use Rattle.std.specs.List.{position};
 
 /// The words of a row that are left: those between its spaces. Once a word was asked for that isn't
-/// there, or one didn't
-/// fit, nothing more is read.
+/// there, or one didn't fit, nothing more is read.
 #[derive(Clone, Copy)]
 pub(crate) enum Words<'a> {
     /// Something didn't fit.

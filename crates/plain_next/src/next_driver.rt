@@ -92,8 +92,7 @@ fn link_answer(
 }
 
 /// What a request that is linked makes of the depth: the first starts the line unless its flags say
-/// not to; a
-/// further one enables a line that the rule on spurious interrupts disabled.
+/// not to; a further one enables a line that the rule on spurious interrupts disabled.
 fn opened_by_request(
     alloc: Global,
     def: &LineDef,

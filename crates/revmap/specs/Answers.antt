@@ -20,8 +20,7 @@ is_tree None = true
 is_tree (Some n) = false
 
 -- a map of that size, with that at the number, answers so: no two of these can stand together, and
--- a linear
--- map always has one of the first three
+-- a linear map always has one of the first three
 abbrev pub IsAssociated : Option ℕ → Option ℕ → ℕ → AssocAnswer → Type 0
 IsAssociated size virq hw associated.Ok = (has_place size hw ≡ true) × (virq ≡ None)
 IsAssociated size virq hw associated.Taken = (has_place size hw ≡ true) × (is_some virq ≡ true)
