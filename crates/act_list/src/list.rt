@@ -74,8 +74,8 @@ impl ActList {
         self.actions.is_only(dev)
     }
 
-    /// The device's thread bit (`thread_mask`), as a word in which this one bit is set; none if it isn't linked or
-    /// isn't one-shot.
+    /// The device's thread bit (`thread_mask`), as a word in which this one bit is set; none if it
+    /// isn't linked or isn't one-shot.
     pub fn bit(&self, dev: DevNo) -> Option<u64>
         ensures bit { result ≡ bit_of (lookup (same_dev dev) self.now.list.actions) }
         ensures oneshot { is_some result ≡ is_oneshot_in (lookup (same_dev dev) self.now.list.actions) }
@@ -93,7 +93,8 @@ impl ActList {
         self.actions.answer(kind, flags)
     }
 
-    /// Makes room for one more action. The only error is `NoMemory`; the list is as before either way.
+    /// Makes room for one more action. The only error is `NoMemory`; the list is as before either
+    /// way.
     pub fn reserve(&mut self) -> Result<(), NoMemory>
         ensures room { OnOk result (1 ≤ self.new.spare) }
         ensures spare { self.old.spare ≤ self.new.spare }
@@ -103,8 +104,9 @@ impl ActList {
     }
 
     /// Links a device with an action at the end, or says why not: EINVAL for a shared request that isn't to start the
-    /// line, EBUSY if its flags don't go with those of the others or all thread bits are in use, EINVAL for the
-    /// default handler without one-shot. `NoMemory` comes only if it would be linked and there was no room.
+    /// line, EBUSY if its flags don't go with those of the others or all thread bits are in use,
+    /// EINVAL for the default handler without one-shot. `NoMemory` comes only if it would be linked
+    /// and there was no room.
     pub fn link(&mut self, dev: DevNo, kind: Kind, flags: Flags) -> Result<LinkAnswer, NoMemory>
         requires { has dev self.old.list.actions ≡ false }
         ensures answer { IfOk result (λ answer. answer ≡ answer_by kind flags self.old.list.actions) }

@@ -6,7 +6,8 @@ use callbacks::{Callbacks, Handler};
 use irq_base::{Actor, Entry};
 use irq_line::{IrqLine, StepRefused, Stepped};
 
-/// Adds the entry that is due of the actor, if there is one. If it ends a run of a handler, that handler is called.
+/// Adds the entry that is due of the actor, if there is one. If it ends a run of a handler, that
+/// handler is called.
 pub(crate) fn step_heard<L: IrqLine, H: Handler>(
     line: &mut L,
     actor: Actor,

@@ -244,9 +244,9 @@ impl<'b, L: IrqLine> System<'b, L> {
         self.scripts[j].due()
     }
 
-    /// One step of the actor on its line, if it can move. If the entry ends a run of a handler, that handler is called.
-    /// It takes the same time however many actors and entries there are, and no memory but the
-    /// log's and the line's.
+    /// One step of the actor on its line, if it can move. If the entry ends a run of a handler,
+    /// that handler is called. It takes the same time however many actors and entries there are,
+    /// and no memory but the log's and the line's.
     pub fn turn<H: Handler>(&mut self, actor: Actor, handlers: &Callbacks<H>) -> Turn
         ensures { Turns self.old actor result self.new }
     {

@@ -40,7 +40,8 @@ impl Board {
         unlazy && trigger_of(levels.root) == Trigger::Edge && !levels.keeps()
     }
 
-    /// The definition of a line that has that path in the board's layout. The only error is `NoMemory`.
+    /// The definition of a line that has that path in the board's layout. The only error is
+    /// `NoMemory`.
     pub fn line_def(&self, alloc: Global, line: LineNo, path: &Path) -> Result<LineDef, NoMemory>
         requires path { IsPathOf self.now line path.now }
         ensures there { IsSome (find_line self.now.lines line) }

@@ -37,7 +37,8 @@ pub fn play_keeps()
     ensures law { (board : BoardSeen) (picks : List Actor) (g : List Move) (end : End) → IsBoard board → Plays board picks g end → AreKept board (lines_of board g) }
 {}
 
-/// No standstill: if none of the board's actors can move, every script is at its end, and each line is settled.
+/// No standstill: if none of the board's actors can move, every script is at its end, and each line
+/// is settled.
 pub fn no_standstill()
     ensures complete { (board : BoardSeen) (lines : List BoardLine) → IsBoard board → AreKept board lines → ((a : Actor) → IsOneOf a (actors_of board) → due_move board lines a ≡ None) → (r : DriverNo) → current_line board.calls lines r ≡ None }
     ensures settled { (board : BoardSeen) (lines : List BoardLine) → IsBoard board → AreKept board lines → ((a : Actor) → IsOneOf a (actors_of board) → due_move board lines a ≡ None) → (i : ℕ) (x : BoardLine) → slice_get lines i ≡ Some x → IsSettled x.def (reverse x.past) }

@@ -7,16 +7,16 @@ ghost use Rattle.board_ready.specs.Ready.{lowest_thread};
 ghost use Rattle.board_ready.specs.declared.parts.LinePart.{LinePart};
 ghost use Rattle.board_ready.specs.declared.parts.ReadyThread.{ReadyThread};
 
-/// The number that `first_of` finds is below the bound and passes, and none before it does; if it finds none, none
-/// does.
+/// The number that `first_of` finds is below the bound and passes, and none before it does; if it
+/// finds none, none does.
 #[tactic(auto, using(crate::proofs::Lowest::first_some))]
 pub fn first_is_first()
     ensures some { (p : ℕ → Bool) (n t : ℕ) → first_of p n ≡ Some t → (t < n) × (p t ≡ true) × ((i : ℕ) → i < t → p i ≡ false) }
     ensures none { (p : ℕ → Bool) (n i : ℕ) → first_of p n ≡ None → i < n → p i ≡ false }
 {}
 
-/// The thread that `lowest_thread` finds is its line's, and no line's has a device of a lower number; if it finds
-/// none, no line has one.
+/// The thread that `lowest_thread` finds is its line's, and no line's has a device of a lower
+/// number; if it finds none, no line has one.
 #[tactic(auto, using(crate::proofs::Lowest::thread_some, crate::proofs::Lowest::thread_least, crate::proofs::Lowest::thread_none))]
 pub fn lowest_thread_is_lowest()
     ensures there { (lines : List LinePart) (t : ReadyThread) → lowest_thread lines ≡ Some t → thread_of (slice_get lines t.line) ≡ Some t.dev }

@@ -98,7 +98,8 @@ impl ReadyActors {
         self.lines.get(line).copied()
     }
 
-    /// The current call of the driver at that place; none if its script is at its end, or there is no such driver.
+    /// The current call of the driver at that place; none if its script is at its end, or there is
+    /// no such driver.
     pub fn call(&self, driver: usize) -> Option<CurrentCall>
         ensures { result ≡ current_call self.now.drivers driver }
     {

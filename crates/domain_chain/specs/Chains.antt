@@ -1,5 +1,5 @@
--- The chip of a path: its root and, if a level of messages masks, that level before it. Each other level passes
--- everything on and is open for good.
+-- The chip of a path: its root and, if a level of messages masks, that level before it. Each other
+-- level passes everything on and is open for good.
 use Rattle.std.specs.Prelude.{◌≡◌, ℕ, Bool, true, false, not, ◌&&◌, if◌then◌else◌, IfSome, Option, Some, None, List, [], ◌∷◌}
 use Rattle.std.specs.List.{list_any}
 use Rattle.std.specs.Option.{option_map}

@@ -2,8 +2,9 @@
 //! as one signal cell.
 //!
 //! A path has at most one level before its root that masks and stores, the first level of messages from the device;
-//! each other level passes everything on. So a `Chain` is a root and, if there is one, that level. An `MsiChip` is
-//! the chain of one message over a plain root. No call takes memory or refuses, and each takes constant time.
+//! each other level passes everything on. So a `Chain` is a root and, if there is one, that level.
+//! An `MsiChip` is the chain of one message over a plain root. No call takes memory or refuses, and
+//! each takes constant time.
 #![tactic(auto)]
 
 pub mod chain;

@@ -93,7 +93,8 @@ eoi_level_cell oneshot takes.Off c = after_eoi (after_mask c)
 abbrev pub eoi_cell : Trigger → Bool → TakeAnswer → Cell → Cell
 eoi_cell trigger oneshot answer c = if is_edge_trigger trigger then eoi_edge_cell answer c else eoi_level_cell oneshot answer c
 
--- the end has an edge line's chip send again what is pending, and opens a one-shot level line if it may
+-- the end has an edge line's chip send again what is pending, and opens a one-shot level line if it
+-- may
 abbrev pub eoi_left : Trigger → Bool → DescSeen → Left
 eoi_left trigger held d =
     if is_edge_trigger trigger then record { again = goes_on d; unmask = false }

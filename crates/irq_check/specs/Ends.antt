@@ -26,8 +26,8 @@ abbrev pub is_read_fault : Result Answer InputRefused → Bool
 is_read_fault (Err refusals.ReadFault) = true
 is_read_fault _ = false
 
--- if the source tells what is left: what came is judged, and was read to its end; or it has that fault, and was read
--- to its end or one byte past the longest input
+-- if the source tells what is left: what came is judged, and was read to its end; or it has that
+-- fault, and was read to its end or one byte past the longest input
 abbrev pub ReadsInput : Option (List ℕ) → Option (List ℕ) → Result Answer InputRefused → Type 0
 ReadsInput (Some bytes) now (Ok answer) = IsChecked bytes answer × (now ≡ Some [])
 ReadsInput (Some bytes) now (Err (refusals.Fault fault)) = (checked bytes ≡ Err fault) × (now ≡ Some (left_after bytes))

@@ -19,8 +19,8 @@ IfGot answers.Failed P = Unit {0}
 abbrev pub GotWithin : ℕ → ReadAnswer → Type 0
 GotWithin room answer = IfGot answer (λ n. (1 ≤ n) × (n ≤ room))
 
--- if the source tells what is left: the bytes that came are the first of it and are taken, the end comes
--- if nothing is left, and a fault takes nothing
+-- if the source tells what is left: the bytes that came are the first of it and are taken, the end
+-- comes if nothing is left, and a fault takes nothing
 abbrev pub Reads : Option (List ℕ) → Option (List ℕ) → List ℕ → ReadAnswer → Type 0
 Reads None now buf answer = Unit {0}
 Reads (Some before) now buf (answers.Got n) = (now ≡ Some (drop n before)) × (take n buf ≡ take n before) × (n ≤ length before)

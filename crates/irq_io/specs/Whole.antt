@@ -27,7 +27,8 @@ abbrev pub KeepsNone : List ℕ → WriteEnd → Type 0
 KeepsNone kept ends.Done = kept ≡ []
 KeepsNone kept ends.Failed = Unit {0}
 
--- if the source tells what is left: the bytes are the first `most` of it, or all, and exactly they were taken
+-- if the source tells what is left: the bytes are the first `most` of it, or all, and exactly they
+-- were taken
 abbrev pub TakesUpTo : ℕ → Option (List ℕ) → Option (List ℕ) → List ℕ → Type 0
 TakesUpTo most None now bytes = Unit {0}
 TakesUpTo most (Some before) now bytes = (bytes ≡ take most before) × (now ≡ Some (drop most before))

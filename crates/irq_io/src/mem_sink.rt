@@ -51,7 +51,8 @@ impl MemSink {
     }
 
     /// The empty sink with that room, for which the memory is taken at once. `fails` are the numbers of the writes
-    /// that fail, `flush_fails` those of the flushes, each counted from 1. The only error is `NoMemory`.
+    /// that fail, `flush_fails` those of the flushes, each counted from 1. The only error is
+    /// `NoMemory`.
     pub fn with_failing_flushes(
         alloc: Global,
         fails: &[u32],

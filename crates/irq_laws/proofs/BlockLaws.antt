@@ -1,4 +1,5 @@
--- A driver with a due call may add its entry exactly if nothing that the call waits for stands in the way.
+-- A driver with a due call may add its entry exactly if nothing that the call waits for stands in
+-- the way.
 use Rattle.std.proofs.Common.{◌≡◌, ℕ, ◌+◌, ◌≤◌, ◌==◌, Bool, true, false, not, ◌||◌, cond, Option, Some, None, is_some, List, [], ◌∷◌, refl, ap, ◌∙◌, arith, eqb-true}
 use Rattle.std.specs.List.{list_any}
 use Rattle.std.proofs.lemmas.Bool.{false_from_ne_true}

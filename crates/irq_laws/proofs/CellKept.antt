@@ -198,7 +198,8 @@ accepted_is def c ways.Line answer past due soft =
 accepted_is def c ways.Resend answer past due soft =
     same_rest def _ _ _ _ _ _ _ refl (none_in_service def c ways.Resend answer past due soft ∙ sym (edge_serves def (soft ((take_due def c ways.Resend answer past due).by_resend refl).1)))
 
--- a take leaves the cell with nothing sent, what it stored, masked if the flow says so, and in service or not
+-- a take leaves the cell with nothing sent, what it stored, masked if the flow says so, and in
+-- service or not
 after_take : (def : LineDef) (c : CpuNo) (way : Way) (answer : TakeAnswer) (past : List Entry) (n j : Bool) → is_masked def (entries.Take c way answer ∷ past) ≡ n → (n ≡ false → is_masked def past ≡ false)
     → j ≡ (serves def && has_flow def (entries.Take c way answer ∷ past)) → cell_with def n (is_stored def past) false (is_high def past) j ≡ cell_of def (entries.Take c way answer ∷ past)
 after_take def c way answer past n j is opens flow =

@@ -1,5 +1,5 @@
--- No standstill among drivers: if no thread and no processor may add an entry, a driver with a due call may, or
--- the driver of the free that is under way.
+-- No standstill among drivers: if no thread and no processor may add an entry, a driver with a due
+-- call may, or the driver of the free that is under way.
 use Rattle.std.proofs.Common.{◌≡◌, ◌⊎◌, inl, inr, ℕ, suc, ◌==◌, Bool, true, false, not, ◌||◌, cond, IsSome, Option, Some, None, List, reverse, refl, ap, ◌∙◌, arith, eqb-true}
 use Rattle.std.proofs.lemmas.Bool.{or_from, false_from_ne_true}
 use Rattle.irq_base.specs.declared.numbers.CpuNo.{CpuNo}

@@ -34,7 +34,8 @@ pub record IsThreadReturnDue (def : LineDef) (d : DevNo) (served : ℕ) (past : 
   pub not_returned : has_returned past d ≡ false
   pub served_is : served ≡ asks_of_thread def d past
 
--- on a one-shot line it gives its bit up, or keeps it if it was woken again, while no flow is in progress
+-- on a one-shot line it gives its bit up, or keeps it if it was woken again, while no flow is in
+-- progress
 pub record IsFinishDue (def : LineDef) (d : DevNo) (kept unmask : Bool) (past : List Entry) : Type 0 where
   pub running : is_running past d ≡ true
   pub returned : has_returned past d ≡ true

@@ -158,8 +158,8 @@ pub fn call_waits()
     ensures law { (def : LineDef) (h : List Entry) (r : DriverNo) (c : Call) (n : ℕ) → due_call def r (reverse h) ≡ Some (c, n) → is_some (next def h (actors.Driver r)) ≡ not (stands_in_way def (reverse h) (block_of c n)) }
 {}
 
-/// No standstill among drivers: if no thread and no processor may add an entry, a driver whose calls aren't
-/// complete may, or the driver of the free that is under way may.
+/// No standstill among drivers: if no thread and no processor may add an entry, a driver whose
+/// calls aren't complete may, or the driver of the free that is under way may.
 pub fn drivers_move()
     ensures law { (def : LineDef) (h : List Entry) → IsValid def → IsLegal def h → ((line : LineNo) (d : DevNo) → next def h (actors.Thread line d) ≡ None) → ((c : CpuNo) → next def h (actors.Cpu c) ≡ None) → (r : DriverNo) → IsSome (due_call def r (reverse h)) → IsSome (next def h (actors.Driver r)) ⊎ FreeMoves def h }
 {}

@@ -26,6 +26,7 @@ abbrev pub run_of_entry : LineDef → List Entry → Option Entry → Option Run
 run_of_entry def past None = None
 run_of_entry def past (Some e) = run_ended def past e
 
--- the run that ends with the entry that is due of the actor, if that entry is a return or a thread's return
+-- the run that ends with the entry that is due of the actor, if that entry is a return or a
+-- thread's return
 abbrev pub run_of : LineDef → List Entry → Actor → Option Run
 run_of def h actor = run_of_entry def (reverse h) (next def h actor)

@@ -30,8 +30,8 @@ use Rattle.board_play.specs.Play.{Done, Full, IsChosen, Plays, choice}
 pub record HoldsAt (def : LineDef) (h : List Entry) : Type 0 where
   -- each owed edge is somewhere: presented, kept, pending, in a software resend, or its device is still ahead in the round
   pub covered : IsCovered def h
-  -- a started line with linked devices is masked only if it is disabled, or a flow is in progress, or on a level line a
-  -- thread isn't finished
+  -- a started line with linked devices is masked only if it is disabled, or a flow is in progress,
+  -- or on a level line a thread isn't finished
   pub has_reason : HasReason def h
   -- if the line is enabled and no flow is in progress, what is owed or high is handled next
   pub served_when_idle : IsServedWhenIdle def h

@@ -32,8 +32,8 @@ PlaysBoard b summary reports before now (ends.LogFull line len) = (moves : List 
 PlaysBoard b summary reports before now (ends.NoMemory wants.Step) = (moves : List Move) × CutShort b moves reports
 PlaysBoard b summary reports before now (ends.NoMemory wants.Making) = reports ≡ []
 
--- A system in which the board was played, and so its play ended. If memory was refused it is as the play so far left
--- it, and there is a next move.
+-- A system in which the board was played, and so its play ended. If memory was refused it is as the
+-- play so far left it, and there is a next move.
 pub record IsPlayed (b : BoardSeen) (s : SystemSeen) (end : PlayEnd) : Type 0 where
   pub board : s.board ≡ b
   pub layout : s.layout ≡ layout_of b

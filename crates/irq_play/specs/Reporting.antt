@@ -34,7 +34,8 @@ abbrev pub is_first : LineNo → List BoardLine → Bool
 is_first number [] = false
 is_first number (x ∷ xs) = same_line number x.def.line
 
--- the entries of the first line were taken, and the line with them; or none, if it is of another number
+-- the entries of the first line were taken, and the line with them; or none, if it is of another
+-- number
 abbrev pub TakesFirst : Bool → List BoardLine → List BoardLine → List Entry → Type 0
 TakesFirst true old new entries = (entries ≡ entries_of (slice_get old 0)) × (new ≡ drop 1 old)
 TakesFirst false old new entries = (entries ≡ []) × (new ≡ old)

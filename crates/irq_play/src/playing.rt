@@ -65,7 +65,8 @@ pub fn play_and_print<O: Sink, H: Handler>(
     }
 }
 
-/// Plays the board with lines of that maker. The only error is `NoMemory` for the lines and the order of play.
+/// Plays the board with lines of that maker. The only error is `NoMemory` for the lines and the
+/// order of play.
 fn play_lines<'b, L: IrqLine, M: MakesLine<L>, H: Handler>(
     alloc: Global,
     board: &'b Board,

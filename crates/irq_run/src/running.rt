@@ -70,8 +70,8 @@ pub fn run_and_print<R: Threads + Wait + Sync, O: Sink, G: Gate + Sync, H: Handl
     }
 }
 
-/// Runs lines of that maker in rounds of threads, and settles what is left. The only error is `NoMemory` for the
-/// lines, their locks, the workers and the order of steps.
+/// Runs lines of that maker in rounds of threads, and settles what is left. The only error is
+/// `NoMemory` for the lines, their locks, the workers and the order of steps.
 fn run_lines<
     'b,
     R: Threads + Wait + Sync,

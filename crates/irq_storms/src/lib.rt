@@ -52,7 +52,8 @@ pub fn within_level_bound()
     ensures law { (def : LineDef) (h : List Entry) → IsValid def → IsLegal def h → length h ≤ level_bound def }
 {}
 
-/// If the log limit is at least the bound, a history of the limit's length has no further entry due.
+/// If the log limit is at least the bound, a history of the limit's length has no further entry
+/// due.
 pub fn never_full()
     ensures law { (def : LineDef) (h : List Entry) (a : Actor) → IsValid def → IsLegal def h → bound def ≤ def.log → length h ≡ def.log → next def h a ≡ None }
 {}

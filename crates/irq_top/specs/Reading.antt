@@ -15,8 +15,9 @@ abbrev pub is_read_fault : Result BoardSeen InputRefused → Bool
 is_read_fault (Err refusals.ReadFault) = true
 is_read_fault _ = false
 
--- if the source tells what is left: a board comes of the bytes that state it, which were read to their end; the
--- bytes are refused for the fault that they have, and were read to their end or one byte past the longest text
+-- if the source tells what is left: a board comes of the bytes that state it, which were read to
+-- their end; the bytes are refused for the fault that they have, and were read to their end or one
+-- byte past the longest text
 abbrev pub ReadsBoard : Option (List ℕ) → Option (List ℕ) → Result BoardSeen InputRefused → Type 0
 ReadsBoard (Some bytes) now (Ok board) = (board_of_text bytes ≡ Ok board) × (now ≡ Some [])
 ReadsBoard (Some bytes) now (Err (refusals.Fault fault)) = (board_of_text bytes ≡ Err fault) × (now ≡ Some (left_after bytes))

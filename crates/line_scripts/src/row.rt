@@ -43,7 +43,8 @@ impl Row {
         Ok(())
     }
 
-    /// The first call that isn't complete, and how many entries it has made; none if all are complete.
+    /// The first call that isn't complete, and how many entries it has made; none if all are
+    /// complete.
     pub fn due(&self) -> Option<(Call, u32)>
         ensures { result ≡ with_count (call_in self.now) self.now.within }
     {

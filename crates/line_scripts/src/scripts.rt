@@ -65,8 +65,8 @@ impl Scripts {
         Ok(())
     }
 
-    /// The driver's first call that isn't complete, and how many entries it has made; none if all are complete,
-    /// or the driver has none on the line.
+    /// The driver's first call that isn't complete, and how many entries it has made; none if all
+    /// are complete, or the driver has none on the line.
     pub fn due(&self, who: DriverNo) -> Option<(Call, u32)>
         ensures { result ≡ with_count (call_of self.now who) (within_of self.now who) }
     {

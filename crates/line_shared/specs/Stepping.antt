@@ -13,8 +13,9 @@ use Rattle.line_lock.specs.Knows.{BeginsWith, looked}
 use Rattle.line_lock.specs.Placed.{placed_of}
 use Rattle.line_lock.specs.declared.view.Known.{Known}
 
--- If an entry was added, it stands at the end of what is seen, and is the pass's own, at the place that it has there.
--- After every other answer what is seen is the history as it was, and the pass has no entry more.
+-- If an entry was added, it stands at the end of what is seen, and is the pass's own, at the place
+-- that it has there. After every other answer what is seen is the history as it was, and the pass
+-- has no entry more.
 abbrev pub Gains : Known → List Entry → Result Stepped StepRefused → Known → Type 0
 Gains old history (Ok (stepped.Added e)) new = (new.seen ≡ history ++ e ∷ []) × (new.mine ≡ old.mine ++ record { place = length history; entry = e } ∷ [])
 Gains old history (Ok (stepped.Run def part unserved)) new = (new.seen ≡ history) × (new.mine ≡ old.mine)

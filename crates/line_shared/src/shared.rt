@@ -40,7 +40,8 @@ impl<L: IrqLine> Model for SharedLine<L> {
 }
 
 impl<L: IrqLine> SharedLine<L> {
-    /// Shares a line to which nothing has happened, and gives its first pass. If memory is refused, the line comes back.
+    /// Shares a line to which nothing has happened, and gives its first pass. If memory is refused,
+    /// the line comes back.
     pub fn new(alloc: Global, line: L) -> Result<(SharedLine<L>, Pass<L>), ShareRefused<L>>
         requires empty { (L.seen line).entries ≡ [] }
         ensures def { IfOk result (λ r. r.0.def ≡ (L.seen line).def) }

@@ -63,7 +63,8 @@ impl<C: Chip> LineState<C> {
         }
     }
 
-    /// The first linked device whose handler wasn't called in the round is called; if there is none, the round ends.
+    /// The first linked device whose handler wasn't called in the round is called; if there is
+    /// none, the round ends.
     fn due_begin_or_end(&self, def: &LineDef, cpu: CpuNo) -> Entry
         ensures { result ≡ in_flow_by def.now self.now.state cpu None }
     {

@@ -133,8 +133,8 @@ impl<C: Chip> LineState<C> {
         }
     }
 
-    /// `free_irq`: the unlink, once no other free is in progress; then, if it found the device, the hard clear and
-    /// the wait for its thread.
+    /// `free_irq`: the unlink, once no other free is in progress; then, if it found the device, the
+    /// hard clear and the wait for its thread.
     fn due_of_free(&self, driver: DriverNo, dev: DevNo, within: u32) -> Option<Entry>
         ensures { result ≡ free_by driver dev within self.now.state }
     {

@@ -1,5 +1,5 @@
-//! What the bound on storms says of any line: if the log limit is at least the bound of the line's definition, no
-//! step finds the log full.
+//! What the bound on storms says of any line: if the log limit is at least the bound of the line's
+//! definition, no step finds the log full.
 #![tactic(auto)]
 
 ghost use Rattle.std.specs.Prelude.{◌≡◌, ◌≤◌, ℕ, Option, Ok, Err, IfOk, OnErr};

@@ -77,8 +77,8 @@ fn empty_logs(alloc: Global, board: &Board) -> Result<Logs, NoMemory>
     Ok(logs)
 }
 
-/// The first row of a text that isn't empty, without its line feed, and what follows it; nothing if the text has no
-/// line feed.
+/// The first row of a text that isn't empty, without its line feed, and what follows it; nothing if
+/// the text has no line feed.
 pub fn cut_row(text: &[u8]) -> Option<(&[u8], &[u8])>
     requires { 1 ≤ length text.now }
     ensures rows { MatchOption result ((rows_of text.now ≡ text.now ∷ []) × (is_whole text.now ≡ false)) (λ x. rows_of text.now ≡ (x.0.now ++ codes "\n") ∷ rows_of x.1.now) }

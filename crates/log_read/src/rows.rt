@@ -9,7 +9,8 @@ use crate::numbers::number;
 use crate::words::Words;
 use irq_base::{Entry, LineNo};
 
-/// The line and the entry of a row, which stands here without its line feed; nothing if it isn't the row of any.
+/// The line and the entry of a row, which stands here without its line feed; nothing if it isn't
+/// the row of any.
 pub(crate) fn read_row(row: &[u8]) -> Option<(LineNo, Entry)>
     ensures { MatchOption result ((line : LineNo) (e : Entry) → IsRowOf (row.now ++ codes "\n") line e → ⊥) (λ read. IsRowOf (row.now ++ codes "\n") read.0 read.1) }
 {

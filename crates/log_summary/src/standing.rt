@@ -7,8 +7,8 @@ ghost use Rattle.log_summary.specs.Texts.{state_word};
 
 use irq_base::{EnableAnswer, Entry, LinkAnswer, Note, Opened, UnlinkAnswer};
 
-/// How a line stands. The depth is kept as its two sides: the line is disabled if it was raised further than it
-/// was lowered (`desc->depth`).
+/// How a line stands. The depth is kept as its two sides: the line is disabled if it was raised
+/// further than it was lowered (`desc->depth`).
 #[derive(Clone, Copy)]
 pub(crate) struct Standing {
     /// A device is linked.

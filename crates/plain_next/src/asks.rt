@@ -29,7 +29,8 @@ fn ends_serving(kind: Kind, d: DevNo, e: Entry) -> bool
     }
 }
 
-/// The asks of the device after the beginning of the last serving run that returned, or all if none has.
+/// The asks of the device after the beginning of the last serving run that returned, or all if none
+/// has.
 fn unserved_by(kind: Kind, d: DevNo, past: &[Entry]) -> u32
     requires { length past.now ≤ 100000000 }
     ensures { result ≡ unserved_by kind d past.now }

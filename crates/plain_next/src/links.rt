@@ -112,7 +112,8 @@ fn since_reset(alloc: Global, past: &[Entry]) -> Result<usize, NoMemory>
     Ok(place)
 }
 
-/// The depth at the last such entry: 0 if a first request started the line, else 1, as at the beginning.
+/// The depth at the last such entry: 0 if a first request started the line, else 1, as at the
+/// beginning.
 fn base(past: &[Entry]) -> u32
     ensures value { result ≡ base past.now }
     ensures within { result ≤ 1 }

@@ -34,7 +34,8 @@ pub fn rest_is_settled()
     ensures law { (def : LineDef) (h : List Entry) → IsValid def → IsLegal def h → ((a : Actor) → IsOneOf a (actors_of def) → next def h a ≡ None) → IsSettled def h }
 {}
 
-/// If the play of a legal history is done, the line is settled: nothing is due, and every script is complete.
+/// If the play of a legal history is done, the line is settled: nothing is due, and every script is
+/// complete.
 pub fn done_is_settled()
     ensures law { (def : LineDef) (picks : List Actor) (h : List Entry) → IsValid def → IsLegal def h → Plays def picks h Done → IsSettled def h }
 {}

@@ -40,7 +40,8 @@ pub trait Revmap {
         ensures map { (k : ℕ) → at self.new k ≡ after_associate result virq hw (at self.old) k }
         ensures size { size self.new ≡ size self.old };
 
-    /// The virq at the hardware number; none if it isn't mapped (`__irq_resolve_mapping`, `kernel/irq/irqdomain.c`).
+    /// The virq at the hardware number; none if it isn't mapped (`__irq_resolve_mapping`,
+    /// `kernel/irq/irqdomain.c`).
     fn resolve(&self, hw: u32) -> Option<u32>
         ensures { result ≡ at self.now hw };
 

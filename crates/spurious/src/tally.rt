@@ -72,7 +72,8 @@ impl Tally {
         self.judged(window, limit, now, handled)
     }
 
-    /// A round that woke threads alone, after another such one: it is handled if a thread has served since.
+    /// A round that woke threads alone, after another such one: it is handled if a thread has
+    /// served since.
     fn judged_by_threads(self, window: u32, limit: u32, now: u32) -> Noted
         requires { IsWithin window self }
         ensures rule { IsNoted result (judged_by_threads window limit now (rule_counts self)) }

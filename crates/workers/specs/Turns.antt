@@ -75,8 +75,8 @@ abbrev pub FullIsSo : JobSeen → Turn → Type 0
 FullIsSo j (turns.Full line len) = IsFullOn j line len
 FullIsSo j _ = Unit {0}
 
--- a processor's try: its flow is on one line at most; if nothing was due, that is known, and the flow is as it was; the
--- other passes are as they were
+-- a processor's try: its flow is on one line at most; if nothing was due, that is known, and the
+-- flow is as it was; the other passes are as they were
 pub record StepsCpu (lines : List LockSeen) (place : ℕ) (turn : Turn) (old new : JobSeen) : Type 0 where
   pub keeps : KeepsSeats lines old new
   pub flow : HasOneFlow new
@@ -125,8 +125,8 @@ pub record WaitsAt (board : BoardSeen) (j : JobSeen) (r : DriverNo) : Type 0 whe
   pub line : seat.pass.def.line ≡ call.line
   pub rests : IsIdle seat.pass.def (actors.Driver r) seat.pass.knows
 
--- a driver's turn: its entries are those of its script up to its place; if nothing was due it is past all calls, or
--- waits at one
+-- a driver's turn: its entries are those of its script up to its place; if nothing was due it is
+-- past all calls, or waits at one
 pub record TurnsDriver (board : BoardSeen) (lines : List LockSeen) (r : DriverNo) (turn : Turn) (old new : JobSeen) : Type 0 where
   pub keeps : KeepsSeats lines old new
   pub up_to : IsUpTo board.calls (own_lines new.seats) r new.at

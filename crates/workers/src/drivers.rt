@@ -65,8 +65,8 @@ impl<L: IrqLine> Job<L> {
     }
 }
 
-/// The place of the driver's first call from the place on that is about one of the lines; the calls' length if there is
-/// none.
+/// The place of the driver's first call from the place on that is about one of the lines; the
+/// calls' length if there is none.
 fn next_call<L: IrqLine>(
     calls: &[ScriptCall],
     lines: &SharedLines<L>,

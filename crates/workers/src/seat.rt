@@ -11,8 +11,8 @@ use line_shared::{Pass, SharedLine};
 use std::marker::Model;
 use std::sync::Wait;
 
-/// A pass, and whether its actor is known to have nothing due on what the pass has seen. If nothing has happened on
-/// the line since, it needn't be asked again.
+/// A pass, and whether its actor is known to have nothing due on what the pass has seen. If nothing
+/// has happened on the line since, it needn't be asked again.
 #[derive(Drop)]
 pub(crate) struct Seat<L: IrqLine> {
     pub(crate) pass: Pass<L>,
