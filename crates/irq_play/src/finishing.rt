@@ -87,7 +87,7 @@ fn write_play<O: Sink, L: IrqLine>(board: &Board, system: &System<'_, L>, out: &
         WriteEnd::Done => {}
         WriteEnd::Failed => return WriteEnd::Failed,
     }
-    match print_moves(out, &mut row, &mut system.moves()) {
+    match print_moves(out, &mut system.moves()) {
         WriteEnd::Done => hand_on(out),
         WriteEnd::Failed => WriteEnd::Failed,
     }

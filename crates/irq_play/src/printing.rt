@@ -1,4 +1,4 @@
-//! Prints a play, or a summary of it, row by row: each row is made in one that is kept, and handed to the sink by itself.
+//! Prints a play, or a summary of it, row by row, each handed to the sink by itself.
 ghost use Rattle.std.specs.Prelude.{◌≡◌, ℕ, ◌++◌, All, length};
 ghost use Rattle.board_def.specs.Layout.{layout_of};
 ghost use Rattle.irq_io.specs.Faults.{Counts};
@@ -12,7 +12,8 @@ use board_core::Moves;
 use board_def::{Board, Layout};
 use irq_io::{FlushAnswer, Sink, WriteEnd, write_all};
 use irq_line::IrqLine;
-use log_text::{entry_row, layout_row};
+use kept_rows::KeptRows;
+use log_text::layout_row;
 use text_row::TextRow;
 
 /// Prints where each line lies, in the board's order, by way of the row.
@@ -36,19 +37,16 @@ pub fn print_layout<O: Sink>(
     WriteEnd::Done
 }
 
-/// Prints the rows of the moves that are left, the oldest first, by way of the row.
-pub fn print_moves<O: Sink, L: IrqLine>(
-    out: &mut O,
-    row: &mut TextRow,
-    moves: &mut Moves<'_, L>,
-) -> WriteEnd
+/// Prints the rows of the moves that are left, the oldest first.
+pub fn print_moves<O: Sink, L: IrqLine>(out: &mut O, moves: &mut Moves<'_, L>) -> WriteEnd
     requires { All HasRow moves.old }
     ensures content { WritesAll (O.written out.old) (O.written out.new) (moves_text moves.old) result }
     ensures cause { Counts (O.faults out.old) (O.faults out.new) (writing_failed result) }
 {
+    let mut rows = KeptRows::new();
     while let Some((line, entry)) = moves.next() {
-        entry_row(row, line, &entry);
-        match write_all(out, row.bytes()) {
+        let row = rows.row_of(line, &entry);
+        match write_all(out, row) {
             WriteEnd::Done => {}
             WriteEnd::Failed => return WriteEnd::Failed,
         }

@@ -72,7 +72,7 @@ fn write_lines<O: Sink>(
     let printed = if summary {
         print_totals(out, row, reports)
     } else {
-        print_lines(out, row, reports)
+        print_lines(out, reports)
     };
     match printed {
         WriteEnd::Done => hand_on(out),

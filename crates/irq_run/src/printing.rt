@@ -1,4 +1,4 @@
-//! Prints histories line by line: each row is made in one that is kept, and handed to the sink by itself.
+//! Prints histories line by line, each row handed to the sink by itself.
 ghost use Rattle.std.specs.Prelude.{All, map};
 ghost use Rattle.irq_io.specs.Faults.{Counts};
 ghost use Rattle.irq_io.specs.Whole.{WritesAll, writing_failed};
@@ -9,20 +9,20 @@ ghost use Rattle.irq_run.specs.Report.{HasRows, lines_text};
 
 use irq_base::{History, LineNo, Reports};
 use irq_io::{Sink, WriteEnd, write_all};
-use log_text::entry_row;
-use text_row::TextRow;
+use kept_rows::KeptRows;
 
-/// Prints the rows of each report's history, report by report, by way of the row.
-pub(crate) fn print_lines<O: Sink>(out: &mut O, row: &mut TextRow, reports: &Reports) -> WriteEnd
+/// Prints the rows of each report's history, report by report.
+pub(crate) fn print_lines<O: Sink>(out: &mut O, reports: &Reports) -> WriteEnd
     requires { All HasRows reports.now.reports }
     ensures content { WritesAll (O.written out.old) (O.written out.new) (lines_text (map told_by reports.now.reports)) result }
     ensures cause { Counts (O.faults out.old) (O.faults out.new) (writing_failed result) }
 {
+    let mut rows = KeptRows::new();
     for i in 0..reports.len() {
         let Some(report) = reports.get(i) else {
             unreachable!();
         };
-        match print_history(out, row, report.line, &report.history) {
+        match print_history(out, &mut rows, report.line, &report.history) {
             WriteEnd::Done => {}
             WriteEnd::Failed => return WriteEnd::Failed,
         }
@@ -33,7 +33,7 @@ pub(crate) fn print_lines<O: Sink>(out: &mut O, row: &mut TextRow, reports: &Rep
 /// Prints the rows of a line's history, the oldest entry's first.
 fn print_history<O: Sink>(
     out: &mut O,
-    row: &mut TextRow,
+    rows: &mut KeptRows,
     line: LineNo,
     history: &History,
 ) -> WriteEnd
@@ -45,8 +45,8 @@ fn print_history<O: Sink>(
         let Some(entry) = history.get(i) else {
             unreachable!();
         };
-        entry_row(row, line, &entry);
-        match write_all(out, row.bytes()) {
+        let row = rows.row_of(line, &entry);
+        match write_all(out, row) {
             WriteEnd::Done => {}
             WriteEnd::Failed => return WriteEnd::Failed,
         }
