@@ -9,22 +9,22 @@ use Rattle.irq_play.proofs.Writing.{items_done, items_failed}
 use Rattle.irq_run.proofs.Rows.{all_at}
 use Rattle.irq_run.proofs.printing.print_history.Goals as goal
 
-pub row_of-requires : goal.row_of-requires
-row_of-requires g c = all_at IsPrintable c.args.history.now.entries c.loop-i.i c.in-Some.entry c.requires (sym c.in-Some.ensures)
+pub row_of-row-requires : goal.row_of-row-requires
+row_of-row-requires g c = all_at IsPrintable c.args.history.now.entries c.loop-i.i c.in-Some.entry c.requires (sym c.in-Some.ensures)
 
 pub returns-in-Failed-clause-content : goal.returns-in-Failed-clause-content
 returns-in-Failed-clause-content g c =
     let sink = g.O.Sink.written in
-    items_failed (entry_text c.args.line) (sink c.args.out.now) (sink c.loop-i.out) (sink c.write_all.new.sink) c.args.history.now.entries c.loop-i.i c.in-Some.entry c.row_of.result.now
-    (sym c.in-Some.ensures) c.row_of.ensures c.loop-i.invariant.content c.in-Failed.ensures.content
+    items_failed (entry_text c.args.line) (sink c.args.out.now) (sink c.loop-i.out) (sink c.write_all.new.sink) c.args.history.now.entries c.loop-i.i c.in-Some.entry c.row_of-row.result.now
+    (sym c.in-Some.ensures) c.row_of-row.ensures c.loop-i.invariant.content c.in-Failed.ensures.content
 
 pub loop-i-preserved : goal.loop-i-preserved
 loop-i-preserved g c =
     let sink = g.O.Sink.written in
     record {
       content =
-          items_done (entry_text c.args.line) (sink c.args.out.now) (sink c.loop-i.out) (sink c.write_all.new.sink) c.args.history.now.entries c.loop-i.i c.in-Some.entry c.row_of.result.now
-          (sym c.in-Some.ensures) c.row_of.ensures c.loop-i.invariant.content c.in-Done.ensures.content;
+          items_done (entry_text c.args.line) (sink c.args.out.now) (sink c.loop-i.out) (sink c.write_all.new.sink) c.args.history.now.entries c.loop-i.i c.in-Some.entry c.row_of-row.result.now
+          (sym c.in-Some.ensures) c.row_of-row.ensures c.loop-i.invariant.content c.in-Done.ensures.content;
       faults = c.in-Done.ensures.cause ∙ c.loop-i.invariant.faults;
     }
 
