@@ -18,8 +18,17 @@ use std::hint::spin_loop;
 use std::sync::Wait;
 use std::thread::{self, Threads};
 
-/// How many turns a worker has in a round at most: threads are made anew for each round.
+/// How many turns a worker has in a round at most, those in which it finds nothing among them.
 const TURNS: usize = 65_536;
+
+/// A worker makes at most this part of a history's greatest length as steps in a round. So one that
+/// goes on by itself, as a processor that takes a level line again and again until the thread of its
+/// device has run, leaves room for those that wait for the next round. Threads are made anew for each
+/// round, so it isn't to be a small part.
+const SHARE: u32 = 16;
+
+/// The fewest steps that are the most of a round.
+const LEAST: u32 = 16;
 
 /// How often a worker that finds nothing looks again before it ends its part of a round.
 const LOOKS: usize = 64;
@@ -56,7 +65,7 @@ impl<L: IrqLine> Job<L> {
         }
     }
 
-    /// Turns of the actor, as long as there is something to do, but only so many.
+    /// Turns of the actor, as long as there is something to do, but only so many steps.
     fn take_turns<R: Wait, G: Gate, H: Handler>(
         &mut self,
         rt: &R,
@@ -70,18 +79,22 @@ impl<L: IrqLine> Job<L> {
         ensures works { WorksOn board.now lines.now self.old self.new }
         ensures left { LeftIsSo board.now self.new result }
     {
-        let mut moved = false;
+        let most = (board.log() / SHARE).max(LEAST);
+        let mut steps: u32 = 0;
         let mut looks = 0;
         for _ in 0..TURNS {
             self.turns = self.turns.saturating_add(1);
             gate.pass(self.actor, self.turns);
             match self.turn(rt, board, lines, handlers) {
                 Turn::Moved(_) => {
-                    moved = true;
+                    steps = steps.saturating_add(1);
                     looks = 0;
+                    if steps >= most {
+                        return Left::Busy;
+                    }
                 }
                 Turn::NotYet if looks >= LOOKS => {
-                    return if moved { Left::Busy } else { Left::Idle };
+                    return if steps > 0 { Left::Busy } else { Left::Idle };
                 }
                 Turn::Undecided if looks >= LOOKS => return Left::Busy,
                 Turn::NotYet | Turn::Undecided => {
