@@ -11,6 +11,3 @@ pub mod list;
 
 pub use actions::Action;
 pub use list::ActList;
-
-#[cfg(test)]
-mod tests;

@@ -1,5 +1,5 @@
 //! Each call at its edges, through the bound, in rows that are worked out by hand from the rules of calls.
-use crate::desc::Desc;
+use desc_state::Desc;
 use irq_base::{Chip, CpuNo, EnableAnswer, Resend, Trigger};
 use line_cell::Cell;
 

@@ -1,5 +1,5 @@
 //! Masks on machines of two and of 32 processors, by hand.
-use crate::aim::Aim;
+use affinity::Aim;
 use irq_base::{AffinityAnswer, CpuNo, Errno};
 
 /// What happens to an aim.

@@ -1,7 +1,6 @@
 //! Each flow through the bound, as rows that are worked out by hand from the rules of takes and ends.
-use crate::left::Left;
-use crate::{edge, fasteoi, level};
 use desc_state::Desc;
+use flow_handlers::{Left, edge, fasteoi, level};
 use irq_base::{Chip, CpuNo, FlowKind, TakeAnswer, Trigger};
 use line_cell::Cell;
 

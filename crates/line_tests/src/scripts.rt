@@ -1,6 +1,6 @@
 //! Whole scripts, entry by entry. The expected calls are worked out by hand.
-use crate::scripts::Scripts;
 use irq_base::{Call, CallList, DevNo, DriverNo, Flags, NoMemory};
+use line_scripts::Scripts;
 use std::alloc::Global;
 use std::process::Abort;
 use std::test::Fail;

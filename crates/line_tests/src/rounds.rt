@@ -1,6 +1,6 @@
 //! The notes of lists of rounds. The expected ones are worked out by hand from the rule.
-use crate::counts::Counts;
 use irq_base::Note;
+use spurious::Counts;
 use std::test::Fail;
 
 /// What happens to the counts.

@@ -2,9 +2,7 @@
 ghost use Rattle.std.specs.Prelude.{◌≡◌, ◌≤◌, IfOk, length};
 ghost use Rattle.irq_model.specs.Valid.{HasDistinctDevices};
 
-use crate::rank_set::RankSet;
-use crate::ranks::Ranks;
-use crate::table::DeviceTable;
+use device_table::{DeviceTable, RankSet, Ranks};
 use irq_base::{DevNo, DeviceDef, DeviceList, Kind, LineNo, NoMemory};
 use std::alloc::Global;
 use std::test::Fail;
