@@ -1,6 +1,6 @@
-use Rattle.line_core.specs.Tests.{row_line}
-use Rattle.line_core.proofs.Rows.{fits_is_valid}
-use Rattle.line_core.proofs.tests.definition.Goals as goal
+use Rattle.whole_line_tests.specs.TestLines.{row_line}
+use Rattle.whole_line_tests.proofs.Rows.{fits_is_valid}
+use Rattle.whole_line_tests.proofs.cell_line.definition.Goals as goal
 
 pub returns : goal.returns
 returns c =

@@ -4,13 +4,13 @@ use super::{
     LATCH, LINE, NOTHING, Row, Shape, TAKEN, THREAD_BEGUN, THREAD_SERVED, THREADS, WOKEN, counting,
     definition, look, plain_line, play, returns,
 };
-use crate::making::MakesPlainLine;
 use callbacks::{ByKind, Callbacks};
 use irq_base::{
     Actor, AffinityAnswer, Answer, Call, CpuNo, DeviceDef, DriverNo, Entry, Flags, FlowKind, Kind,
     LinkAnswer, Note, Opened, Resend, TakeAnswer, Trigger, UnlinkAnswer, Way,
 };
 use irq_line::{Blocks, IrqLine, MakesLine};
+use plain_line::MakesPlainLine;
 use std::sync::Arc;
 use std::sync::atomic::{AtomicU64, Ordering};
 use std::test::Fail;

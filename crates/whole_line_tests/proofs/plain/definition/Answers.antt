@@ -1,6 +1,6 @@
-use Rattle.plain_line.specs.Tests.{row_line}
-use Rattle.plain_line.proofs.Rows.{fits_is_valid}
-use Rattle.plain_line.proofs.tests.definition.Goals as goal
+use Rattle.whole_line_tests.specs.TestLines.{row_line}
+use Rattle.whole_line_tests.proofs.Rows.{fits_is_valid}
+use Rattle.whole_line_tests.proofs.plain.definition.Goals as goal
 
 pub returns : goal.returns
 returns c =

@@ -2,18 +2,18 @@
 ghost use Rattle.std.specs.Prelude.{◌≡◌, IfOk, IsTrue};
 ghost use Rattle.irq_base.specs.Handlers.{answer_of};
 ghost use Rattle.irq_model.specs.Valid.{IsValid};
-ghost use Rattle.plain_line.specs.Tests.{fits, row_line};
+ghost use Rattle.whole_line_tests.specs.TestLines.{fits, row_line};
 
 mod edges;
 mod levels;
 
-use crate::line::PlainLine;
 use callbacks::{Boxed, ByKind, Callbacks, Handler};
 use irq_base::{
     Actor, Answer, Call, CpuNo, DevNo, DeviceDef, DriverNo, Entry, FlowKind, History, ItemList,
     LineDef, LineNo, NoMemory, Note, Part, TakeAnswer, Trigger, Way,
 };
 use irq_line::{Blocks, IrqLine, StepRefused, Stepped};
+use plain_line::PlainLine;
 use std::alloc::{AllocError, Global};
 use std::process::Abort;
 use std::sync::Arc;

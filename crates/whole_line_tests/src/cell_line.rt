@@ -1,15 +1,15 @@
 //! Worked histories. The entries, and what is told after each, are written by hand.
 ghost use Rattle.std.specs.Prelude.{◌≡◌, IfOk, IsTrue};
 ghost use Rattle.irq_model.specs.Valid.{IsValid};
-ghost use Rattle.line_core.specs.Tests.{fits, row_line};
+ghost use Rattle.whole_line_tests.specs.TestLines.{fits, row_line};
 
-use crate::making::MakesCellLine;
 use callbacks::{ByKind, Callbacks};
 use irq_base::{
     Actor, Answer, Call, Chip, CpuNo, DevNo, DeviceDef, DriverNo, Entry, Flags, FlowKind, ItemList,
     Kind, LineDef, LineNo, LinkAnswer, NoMemory, Note, Opened, Resend, TakeAnswer, Trigger, Way,
 };
 use irq_line::{Blocks, IrqLine, MakesLine, StepRefused, Stepped};
+use line_core::MakesCellLine;
 use std::alloc::Global;
 use std::process::Abort;
 use std::test::Fail;

@@ -13,7 +13,7 @@ use Rattle.irq_base.specs.declared.numbers.DriverNo.{DriverNo}
 use Rattle.irq_model.specs.Kinds.{same_driver, same_line}
 use Rattle.irq_model.specs.Lines.{is_edge_line, is_level_line, is_edge_flow, is_level_flow, is_eoi_flow, is_device}
 use Rattle.irq_model.specs.Valid.{IsValid, HasDistinctDevices, requests_dev, names_one_of}
-use Rattle.plain_line.specs.Tests.{the_driver, has_distinct, requests_as, requests_once, fits_numbers, fits_flow, fits_lists, fits}
+use Rattle.whole_line_tests.specs.TestLines.{the_driver, has_distinct, requests_as, requests_once, fits_numbers, fits_flow, fits_lists, fits}
 
 both : (a b : Bool) → (a && b) ≡ true → (a ≡ true) × (b ≡ true)
 both true b h = (refl, h)
