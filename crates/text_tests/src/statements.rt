@@ -1,9 +1,9 @@
 //! Statements by hand: what they say, and what is wrong with them. The texts of faults.
-use crate::{
+use board_def::Name;
+use board_words::{
     CallWords, DomainWords, FaultKind, LineWords, Lines, PickWord, Picked, Statement,
     StatementRefused, Words, has_bad_byte, name, number, pick, read_statement,
 };
-use board_def::Name;
 use irq_base::{CpuNo, DevNo, DriverNo, Flags, Kind, LevelKind, LineNo, MapKind};
 use std::alloc::Global;
 use std::test::Fail;

@@ -1,5 +1,5 @@
 //! Rows written by hand.
-use crate::TextRow;
+use text_row::TextRow;
 
 #[test]
 fn a_row_is_written_again(rt: HostRuntime) {
