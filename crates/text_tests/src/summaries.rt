@@ -2,11 +2,11 @@
 ghost use Rattle.std.specs.Prelude.{◌≡◌, ◌≤◌, IfOk, length};
 ghost use Rattle.log_summary.specs.Lasts.{TellsLasts};
 
-use crate::{summary_row, total_row};
 use irq_base::{
     Answer, CpuNo, DevNo, DriverNo, EnableAnswer, Entry, Flags, History, LineNo, LinkAnswer,
     NoMemory, Note, Opened, Resend, TakeAnswer, UnlinkAnswer, Way,
 };
+use log_summary::{summary_row, total_row};
 use std::alloc::Global;
 use std::process::Abort;
 use text_row::TextRow;

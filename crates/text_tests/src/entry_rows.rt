@@ -1,11 +1,11 @@
 //! Rows written by hand from the format of the log.
 ghost use Rattle.log_text.specs.EntryWords.{IsPrintable};
 
-use crate::entry_row;
 use irq_base::{
     AffinityAnswer, Answer, CpuNo, DevNo, DriverNo, EnableAnswer, Entry, Errno, Flags, LineNo,
     LinkAnswer, Note, Opened, Resend, TakeAnswer, UnlinkAnswer, Way,
 };
+use log_text::entry_row;
 use std::process::Abort;
 use text_row::TextRow;
 

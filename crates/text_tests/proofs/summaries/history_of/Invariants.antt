@@ -1,5 +1,5 @@
 use Rattle.std.proofs.Common.{◌≡◌, take}
-use Rattle.log_summary.proofs.summaries.tests.history_of.Given as goal
+use Rattle.text_tests.proofs.summaries.history_of.Given as goal
 
 -- the entries so far
 abbrev pub invariant-loop-entry : goal.invariant-loop-entry
