@@ -21,3 +21,5 @@ mod tables;
 mod threads;
 #[cfg(test)]
 mod two_devices;
+#[cfg(test)]
+mod validity;

@@ -1,9 +1,9 @@
 //! Definitions that are valid and ones that aren't, by hand.
-use crate::deciding::is_valid;
 use irq_base::{
     Call, DevNo, DeviceDef, DriverNo, Flags, FlowKind, ItemList, Kind, LineDef, LineNo, NoMemory,
     Trigger,
 };
+use line_valid::is_valid;
 use std::alloc::Global;
 use std::test::Fail;
 
