@@ -12,6 +12,3 @@ pub mod list;
 
 pub use actions::Action;
 pub use list::ActList;
-
-#[cfg(test)]
-mod tests;

@@ -12,6 +12,3 @@ pub mod threads;
 
 pub use rows::{Finished, Stage, ThreadRow};
 pub use threads::Threads;
-
-#[cfg(test)]
-mod tests;

@@ -7,6 +7,3 @@
 pub mod aim;
 
 pub use aim::{Aim, has_processor};
-
-#[cfg(test)]
-mod tests;

@@ -10,6 +10,3 @@ pub mod rows;
 
 pub use asks::Asks;
 pub use rows::AskRow;
-
-#[cfg(test)]
-mod tests;

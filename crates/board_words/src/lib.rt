@@ -24,6 +24,3 @@ pub use statements::{
     CallWords, DomainWords, LineWords, PickList, PickWord, Picked, Statement, StatementRefused,
 };
 pub use words::Words;
-
-#[cfg(test)]
-mod tests;

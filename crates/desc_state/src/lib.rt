@@ -8,6 +8,3 @@
 pub mod desc;
 
 pub use desc::Desc;
-
-#[cfg(test)]
-mod tests;

@@ -13,6 +13,3 @@ pub mod table;
 pub use rank_set::RankSet;
 pub use ranks::Ranks;
 pub use table::DeviceTable;
-
-#[cfg(test)]
-mod tests;

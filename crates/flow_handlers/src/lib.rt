@@ -13,6 +13,3 @@ pub mod left;
 pub mod level;
 
 pub use left::Left;
-
-#[cfg(test)]
-mod tests;

@@ -5,4 +5,3 @@ pub mod Queries
 pub mod Blocked
 pub mod Asked
 pub mod Stepping
-pub mod Rows

@@ -2,4 +2,3 @@ pub mod Moves
 pub mod Running
 pub mod Blocking
 pub mod Room
-pub mod Tests

@@ -15,6 +15,3 @@ mod running;
 
 pub use line::Line;
 pub use making::MakesCellLine;
-
-#[cfg(test)]
-mod tests;

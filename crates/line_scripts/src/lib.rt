@@ -12,6 +12,3 @@ pub mod scripts;
 pub use ending::completes;
 pub use row::Row;
 pub use scripts::Scripts;
-
-#[cfg(test)]
-mod tests;

@@ -7,6 +7,3 @@ pub mod deciding;
 pub mod devices;
 
 pub use deciding::is_valid;
-
-#[cfg(test)]
-mod tests;

@@ -71,6 +71,3 @@ fn push_counts(row: &mut TextRow, counts: &Counts)
     push_count(row, b"threads", counts.threads);
     push_count(row, b"served", counts.served);
 }
-
-#[cfg(test)]
-mod tests;

@@ -298,6 +298,3 @@ fn push_moment(row: &mut TextRow, driver: DriverNo, at: u32)
     push_driver_verb(row, driver, b"moment");
     push_number(row, at);
 }
-
-#[cfg(test)]
-mod tests;

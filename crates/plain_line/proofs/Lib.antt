@@ -2,4 +2,3 @@ pub mod Takers
 pub mod Lowest
 pub mod Queries
 pub mod Steps
-pub mod Rows

@@ -1,3 +1,2 @@
 pub mod Looked
 pub mod Line
-pub mod Tests

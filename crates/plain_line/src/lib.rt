@@ -10,6 +10,3 @@ mod running;
 
 pub use line::PlainLine;
 pub use making::MakesPlainLine;
-
-#[cfg(test)]
-mod tests;

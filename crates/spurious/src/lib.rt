@@ -9,6 +9,3 @@ pub mod counts;
 mod tally;
 
 pub use counts::Counts;
-
-#[cfg(test)]
-mod tests;

@@ -102,6 +102,3 @@ impl TextRow {
         self.push_bytes(&digits[start..]);
     }
 }
-
-#[cfg(test)]
-mod tests;

@@ -1,9 +1,0 @@
-use Rattle.plain_line.specs.Tests.{row_line}
-use Rattle.plain_line.proofs.Rows.{fits_is_valid}
-use Rattle.plain_line.proofs.tests.definition.Goals as goal
-
-pub returns : goal.returns
-returns c =
-    let s = c.args.shape in
-    rw (c.in_ok-item_list.ensures, c.in_ok-item_list-2.ensures)
-    (fits_is_valid (row_line s.flow s.trigger s.latches s.mask s.cpus s.window s.limit c.args.devices.now c.args.calls.now) c.requires)
