@@ -5,3 +5,4 @@ pub mod Processors
 pub mod Keeping
 pub mod Searching
 pub mod Lowest
+pub mod Same

@@ -96,6 +96,14 @@ leaf_set nodes line k t long few = by_test (eqb k line) refl
     by_test true is = let e : k ≡ line = eqb-true k line is in ap (leaf (slice_set nodes (64 + line) t)) e ∙ get_or-set_same nodes (64 + line) t None (omega (arith, long, few))
     by_test false is = let ne : k ≡ line → ⊥ = eqb-false k line is in get_or-set_other nodes (64 + line) (64 + k) t None (λ e. ne (omega (arith, e)))
 
+-- a line that has the thread already
+pub leaf_stands : (nodes : List (Option ReadyThread)) (line k : ℕ) (t : Option ReadyThread) → leaf nodes line ≡ t → leaf nodes k ≡ cond (eqb k line) t (leaf nodes k)
+leaf_stands nodes line k t is = by_test (eqb k line) refl
+  where
+    by_test : (b : Bool) → eqb k line ≡ b → leaf nodes k ≡ cond b t (leaf nodes k)
+    by_test true same = ap (leaf nodes) (eqb-true k line same) ∙ is
+    by_test false other = refl
+
 -- all but the node above the one that was set
 pub joined_but : (nodes : List (Option ReadyThread)) (place i : ℕ) (t : Option ReadyThread) → (i ≡ place → ⊥) → (i ≡ place / 2 → ⊥) → IsJoined nodes i → IsJoined (slice_set nodes place t) i
 joined_but nodes place i t other above is =

@@ -1,5 +1,5 @@
 //! The parts of the two lists, and who moves.
-ghost use Rattle.std.specs.Prelude.{◌≡◌};
+ghost use Rattle.std.specs.Prelude.{◌≡◌, IsTrue};
 ghost use Rattle.board_ready.specs.Ready.{idle};
 
 use irq_base::{CpuNo, DevNo};
@@ -91,4 +91,57 @@ impl LinePart {
             },
         }
     }
+}
+
+/// Whether the two parts are the same in all that they say.
+#[tactic(auto, using(crate::proofs::Same::same_part))]
+pub(crate) fn is_same_part(first: LinePart, second: LinePart) -> bool
+    ensures { IsTrue result → first ≡ second }
+{
+    is_same_dev(first.thread, second.thread)
+        && is_same_cpu(first.flow, second.flow)
+        && is_same_cpu(first.taker, second.taker)
+        && is_same_barriers(first.barriers, second.barriers)
+}
+
+/// Whether the two threads are the same, line and device.
+#[tactic(auto, using(crate::proofs::Same::same_thread))]
+pub(crate) fn is_same_thread(first: Option<ReadyThread>, second: Option<ReadyThread>) -> bool
+    ensures { IsTrue result → first ≡ second }
+{
+    match (first, second) {
+        (None, None) => true,
+        (Some(first), Some(second)) => first.line == second.line && first.dev == second.dev,
+        _ => false,
+    }
+}
+
+fn is_same_dev(first: Option<DevNo>, second: Option<DevNo>) -> bool
+    ensures { IsTrue result → first ≡ second }
+{
+    match (first, second) {
+        (None, None) => true,
+        (Some(first), Some(second)) => first == second,
+        _ => false,
+    }
+}
+
+fn is_same_cpu(first: Option<CpuNo>, second: Option<CpuNo>) -> bool
+    ensures { IsTrue result → first ≡ second }
+{
+    match (first, second) {
+        (None, None) => true,
+        (Some(first), Some(second)) => first == second,
+        _ => false,
+    }
+}
+
+#[tactic(auto, using(crate::proofs::Same::same_barriers))]
+fn is_same_barriers(first: Barriers, second: Barriers) -> bool
+    ensures { IsTrue result → first ≡ second }
+{
+    first.flow == second.flow
+        && first.threads == second.threads
+        && first.mutex == second.mutex
+        && first.device == second.device
 }

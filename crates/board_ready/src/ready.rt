@@ -5,7 +5,7 @@ ghost use Rattle.board_ready.specs.Ready.{idle, lowest, lowest_thread_or_cpu, lo
 use crate::bits::{chosen, first_bit, with_bit};
 use crate::calls::CallSets;
 use crate::cpus::CpuLines;
-use crate::parts::{Barriers, CurrentCall, LinePart, Mover, ReadyThread, WaitFor};
+use crate::parts::{Barriers, CurrentCall, LinePart, Mover, ReadyThread, WaitFor, is_same_part};
 use crate::tree::ThreadTree;
 use irq_base::{CpuNo, NoMemory};
 use std::alloc::Global;
@@ -60,8 +60,19 @@ impl ReadyActors {
         })
     }
 
-    /// Replaces the part of the line at that place.
+    /// Replaces the part of the line at that place. Where it's the same, nothing else is looked at.
+    #[tactic(auto, using(crate::proofs::Same::part_stands))]
     pub fn set_line(&mut self, line: usize, part: LinePart)
+        requires { line < length self.now.lines }
+        ensures { self.new ≡ record self.old { lines = slice_set self.old.lines line part } }
+    {
+        if !is_same_part(self.lines[line], part) {
+            self.put_line(line, part);
+        }
+    }
+
+    /// Puts the part in the place of the line's, and the line into the sets where it belongs.
+    fn put_line(&mut self, line: usize, part: LinePart)
         requires { line < length self.now.lines }
         ensures { self.new ≡ record self.old { lines = slice_set self.old.lines line part } }
     {

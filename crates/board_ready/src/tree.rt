@@ -3,7 +3,7 @@ ghost use Rattle.std.specs.Prelude.{◌≡◌, ℕ, ◌<◌, ◌==◌, None, if�
 ghost use Rattle.board_ready.specs.Ready.{lower_of, thread_on};
 ghost use Rattle.board_ready.specs.Sets.{leaf, lowest_in};
 
-use crate::parts::ReadyThread;
+use crate::parts::{ReadyThread, is_same_thread};
 use irq_base::DevNo;
 use std::marker::Model;
 
@@ -38,13 +38,27 @@ impl ThreadTree {
         ThreadTree { nodes: [None; 128] }
     }
 
-    /// Puts the line's thread in the place of the one it had.
+    /// Puts the line's thread in the place of the one it had. Where it's the same one, no node is
+    /// looked at but its own.
+    #[tactic(auto, using(crate::proofs::Trees::leaf_stands))]
     pub fn set(&mut self, line: usize, thread: Option<DevNo>)
         requires { line < 64 }
         ensures { (k : ℕ) → k < 64 → leaf self.new k ≡ (if k == line then thread_on line thread else leaf self.old k) }
     {
+        let thread = placed(line, thread);
+        if !is_same_thread(self.nodes[LINES + line], thread) {
+            self.put(line, thread);
+        }
+    }
+
+    /// Puts the thread at the line's node, and joins the nodes above it.
+    fn put(&mut self, line: usize, thread: Option<ReadyThread>)
+        requires { line < 64 }
+        ensures { (k : ℕ) → k < 64
+            → leaf self.new k ≡ (if k == line then thread else leaf self.old k) }
+    {
         let place = LINES + line;
-        self.nodes[place] = placed(line, thread);
+        self.nodes[place] = thread;
         let mut node = place / 2;
         while node > 0 {
             self.nodes[node] = lower(self.nodes[2 * node], self.nodes[2 * node + 1]);

@@ -6,7 +6,7 @@ use Rattle.board_ready.specs.Seen.{ReadySeen}
 use Rattle.board_ready.specs.Sets.{is_of}
 use Rattle.board_ready.specs.declared.parts.LinePart.{LinePart}
 use Rattle.board_ready.proofs.Keeping.{lines_set, threads_set, ready_line}
-use Rattle.board_ready.proofs.ready.ReadyActors.set_line.Goals as goal
+use Rattle.board_ready.proofs.ready.ReadyActors.put_line.Goals as goal
 
 pub invariant_of-self : goal.invariant_of-self
 invariant_of-self c =

@@ -1,9 +1,0 @@
-use Rattle.board_ready.specs.Ready.{thread_on}
-use Rattle.board_ready.proofs.Trees.{IsUpTo}
-use Rattle.board_ready.proofs.tree.ThreadTree.set.Given as goal
-
-abbrev pub invariant-loop-node : goal.invariant-loop-node
-invariant-loop-node l = IsUpTo l.self-inside.nodes l.fn.self l.line l.node (thread_on l.line l.fn.thread)
-
-abbrev pub decreases-loop-node : goal.decreases-loop-node
-decreases-loop-node l = l.node
