@@ -60,7 +60,7 @@ impl ReadyActors {
         })
     }
 
-    /// Replaces the part of the line at that place. Where it's the same, nothing else is looked at.
+    /// Replaces the part of the line at that place. If it is the same, nothing else is looked at.
     #[tactic(auto, using(crate::proofs::Same::part_stands))]
     pub fn set_line(&mut self, line: usize, part: LinePart)
         requires { line < length self.now.lines }

@@ -38,7 +38,7 @@ impl ThreadTree {
         ThreadTree { nodes: [None; 128] }
     }
 
-    /// Puts the line's thread in the place of the one it had. Where it's the same one, no node is
+    /// Puts the line's thread in the place of the one it had. If it is the same one, no node is
     /// looked at but its own.
     #[tactic(auto, using(crate::proofs::Trees::leaf_stands))]
     pub fn set(&mut self, line: usize, thread: Option<DevNo>)
