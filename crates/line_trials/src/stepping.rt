@@ -27,7 +27,8 @@ pub fn stepped<L: IrqLine>(alloc: Global, line: &mut L, row: &str) -> Result<Str
     }
 }
 
-/// One step. Where a run's answer is wanted, a second one with the answer of that run, or of another.
+/// One step. Where a run's answer is wanted, a second one: with that answer if the line is to hear
+/// it, else with the answer of another run.
 fn step<L: IrqLine>(line: &mut L, actor: Actor, hears: bool) -> Result<Stepped, StepRefused> {
     match line.step(actor, None)? {
         Stepped::Run {
