@@ -12,6 +12,3 @@ mod roots;
 
 pub use chain::Chain;
 pub use message::MsiChip;
-
-#[cfg(test)]
-mod tests;
