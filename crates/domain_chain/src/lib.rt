@@ -13,6 +13,3 @@ mod roots;
 
 pub use chain::Chain;
 pub use message::MsiChip;
-
-#[cfg(test)]
-mod tests;

@@ -13,6 +13,3 @@ mod paths;
 
 pub use answers::AllocAnswer;
 pub use hierarchy::Hierarchy;
-
-#[cfg(test)]
-mod tests;

@@ -3,8 +3,8 @@
 ghost use Rattle.std.specs.Prelude.{◌≡◌, true, false};
 ghost use Rattle.irq_base.specs.Cell.{is_edge_cell};
 
-use crate::{Chain, MsiChip};
 use chip_msi::Message;
+use domain_chain::{Chain, MsiChip};
 use irq_base::LevelKind::{Eoi, Latch, Level, Lpi, Msi, Plain, Remap, Vector};
 use irq_base::{Chip, CpuNo};
 

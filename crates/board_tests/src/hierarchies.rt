@@ -2,8 +2,8 @@
 ghost use Rattle.std.specs.Prelude.{◌≡◌, ◌+◌, ◌<◌, ◌≤◌, IfOk, length};
 ghost use Rattle.domain_hier.specs.PathsInUse.{in_use};
 
-use crate::{AllocAnswer, Hierarchy};
 use chip_msi::Message;
+use domain_hier::{AllocAnswer, Hierarchy};
 use irq_base::{Chip, DomainDef, LevelKind, MapKind, NoMemory};
 use revmap::DisposeAnswer;
 use std::alloc::Global;
