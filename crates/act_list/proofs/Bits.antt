@@ -1,4 +1,5 @@
--- Thread bits: no two one-shot actions have the same one, so with fewer than 64 of them one is free.
+-- Thread bits: no two one-shot actions have the same one, so with fewer than 64 of them one is
+-- free.
 use Rattle.std.proofs.Common.{◌≡◌, ℕ, zero, suc, ◌+◌, ◌-◌, ◌*◌, ◌/◌, ◌%◌, ◌^◌, ◌<◌, ◌≤◌, min, ◌⊎◌, inl, inr, ◌==◌, leb, ◌&&◌, Bool, true, false, cond, bit_and, bit_or, count_ones, Some, List, [], ◌∷◌, ◌++◌, length, refl, sym, ap, subst, ◌∙◌, arith}
 use Rattle.std.proofs.Math.Nat.{pow-suc}
 use Rattle.std.specs.Int.{bit_at, trailing_ones, w64}

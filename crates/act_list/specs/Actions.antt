@@ -1,4 +1,5 @@
--- The actions of a line: each device that is linked, with its action, in the order in which they were linked.
+-- The actions of a line: each device that is linked, with its action, in the order in which they
+-- were linked.
 use Rattle.std.specs.Prelude.{◌≡◌, ℕ, ◌+◌, ◌-◌, ◌^◌, ◌<◌, ◌==◌, Bool, true, false, not, ◌&&◌, if◌then◌else◌, nat_lt, bit_and, bit_or, count_ones, Option, Some, None, List, [], ◌∷◌, length}
 use Rattle.std.specs.Int.{trailing_ones, w64}
 use Rattle.std.specs.List.{list_any}
@@ -99,7 +100,8 @@ abbrev pub HaveBits : List (DevNo × Action) → Type 0
 HaveBits [] = Unit {0}
 HaveBits (e ∷ es) = (count_ones e.1.bit ≡ bits_due e.1.flags) × (e.1.bit < 2 ^ 64) × HaveBits es
 
--- the actions go together, and no two have the same bit: as many are in use as there are one-shot actions
+-- the actions go together, and no two have the same bit: as many are in use as there are one-shot
+-- actions
 pub record AreKept (t : List (DevNo × Action)) : Type 0 where
   pub alike : AreAlike t
   pub have : HaveBits t

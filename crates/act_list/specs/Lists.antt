@@ -12,8 +12,8 @@ use Rattle.device_table.specs.Rows.{at, change, all_with}
 use Rattle.act_list.specs.Actions.{has, is_only_action, bit_by}
 use Rattle.act_list.specs.declared.actions.Action.{Action}
 
--- the actions in order, for each device of the line whether its handler was called in the round, and the number of
--- rounds so far
+-- the actions in order, for each device of the line whether its handler was called in the round,
+-- and the number of rounds so far
 pub record ListSeen : Type 0 where
   pub actions : List (DevNo × Action)
   pub begun : List (DevNo × Bool)
@@ -46,7 +46,9 @@ abbrev pub action_by : Flags → List (DevNo × Action) → Action
 action_by flags t = record { flags = flags; bit = bit_by flags t }
 
 abbrev pub after_link : LinkAnswer → DevNo → Flags → ListSeen → ListSeen
-after_link answer d flags l = if is_linked_answer answer then record l { actions = l.actions ++ (d, action_by flags l.actions) ∷ [] } else l
+after_link answer d flags l =
+    if is_linked_answer answer
+    then record l { actions = l.actions ++ (d, action_by flags l.actions) ∷ [] } else l
 
 -- the answer of an unlink, and the list after it
 abbrev pub unlink_by : DevNo → List (DevNo × Action) → UnlinkAnswer

@@ -1,4 +1,5 @@
--- The number of the round in which each device's handler was last called, one more than that of the rounds before it.
+-- The number of the round in which each device's handler was last called, one more than that of the
+-- rounds before it.
 use Rattle.std.specs.Prelude.{◌≡◌, ℕ, ◌≤◌, ◌==◌, Bool, true, List, [], ◌∷◌}
 use Rattle.irq_base.specs.declared.numbers.DevNo.{DevNo}
 use Rattle.act_list.specs.Lists.{begun_at}

@@ -20,8 +20,8 @@ pub struct Action {
     pub bit: u64,
 }
 
-/// The linked devices with their actions, in the order in which they were linked. Contracts see that list, and how many
-/// more fit without memory.
+/// The linked devices with their actions, in the order in which they were linked. Contracts see
+/// that list, and how many more fit without memory.
 #[derive(Drop)]
 pub(crate) struct Actions {
     map: IndexMap<DevNo, Action>,
@@ -130,7 +130,8 @@ impl Actions {
         LinkAnswer::Linked
     }
 
-    /// Whether the flags don't go with those of the linked actions: it is enough to look at the first.
+    /// Whether the flags don't go with those of the linked actions: it is enough to look at the
+    /// first.
     fn is_mismatch(&self, flags: Flags) -> bool
         ensures { result ≡ is_mismatch flags self.now.actions }
     {
@@ -140,7 +141,8 @@ impl Actions {
         }
     }
 
-    /// Whether each of the 64 thread bits is in use: each one-shot action has one, and all linked ones are one-shot.
+    /// Whether each of the 64 thread bits is in use: each one-shot action has one, and all linked
+    /// ones are one-shot.
     fn has_no_bit(&self, flags: Flags) -> bool
         requires { is_mismatch flags self.now.actions ≡ false }
         ensures many { result ≡ (flags.oneshot && (length self.now.actions == 64)) }

@@ -1,5 +1,6 @@
-//! The actions of a line in the order in which they were linked (`struct irqaction`, `__setup_irq` and `__free_irq` of
-//! `kernel/irq/manage.c`), and the walk over them (`__handle_irq_event_percpu`, `kernel/irq/handle.c`).
+//! The actions of a line in the order in which they were linked (`struct irqaction`, `__setup_irq`
+//! and `__free_irq` of `kernel/irq/manage.c`), and the walk over them (`__handle_irq_event_percpu`,
+//! `kernel/irq/handle.c`).
 //!
 //! `ActList` links and unlinks, gives each one-shot action its thread bit, and knows whose handler
 //! was called in the round, so that the first action that is left is found without going over those

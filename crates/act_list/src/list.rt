@@ -15,9 +15,9 @@ use irq_base::{DevNo, Flags, Kind, LineDef, LinkAnswer, NoMemory, UnlinkAnswer};
 use std::alloc::Global;
 use std::marker::Model;
 
-/// The actions of a line, and whose handler was called in the round. Contracts see the actions in order, for each
-/// device of the line whether its handler was called, the number of rounds so far, and beside these how many more
-/// actions fit without memory.
+/// The actions of a line, and whose handler was called in the round. Contracts see the actions in
+/// order, for each device of the line whether its handler was called, the number of rounds so far,
+/// and beside these how many more actions fit without memory.
 #[derive(Drop)]
 pub struct ActList {
     actions: Actions,
@@ -103,10 +103,10 @@ impl ActList {
         self.actions.reserve()
     }
 
-    /// Links a device with an action at the end, or says why not: EINVAL for a shared request that isn't to start the
-    /// line, EBUSY if its flags don't go with those of the others or all thread bits are in use,
-    /// EINVAL for the default handler without one-shot. `NoMemory` comes only if it would be linked
-    /// and there was no room.
+    /// Links a device with an action at the end, or says why not: EINVAL for a shared request that
+    /// isn't to start the line, EBUSY if its flags don't go with those of the others or all thread
+    /// bits are in use, EINVAL for the default handler without one-shot. `NoMemory` comes only if
+    /// it would be linked and there was no room.
     pub fn link(&mut self, dev: DevNo, kind: Kind, flags: Flags) -> Result<LinkAnswer, NoMemory>
         requires { has dev self.old.list.actions ≡ false }
         ensures answer { IfOk result (λ answer. answer ≡ answer_by kind flags self.old.list.actions) }
@@ -125,8 +125,8 @@ impl ActList {
         Ok(answer)
     }
 
-    /// Takes the device's action out, and says whether it was there and the last (`__free_irq`). The rest keeps its
-    /// order.
+    /// Takes the device's action out, and says whether it was there and the last (`__free_irq`).
+    /// The rest keeps its order.
     pub fn unlink(&mut self, dev: DevNo) -> UnlinkAnswer
         ensures answer { result ≡ unlink_by dev self.old.list.actions }
         ensures list { self.new.list ≡ after_unlink dev self.old.list }
@@ -203,7 +203,8 @@ fn is_stamped(stamps: &DeviceTable<u32>, stamp: u32, dev: DevNo) -> bool
     }
 }
 
-/// The place of the first action from `from` on whose device lacks the stamp, or the number of actions.
+/// The place of the first action from `from` on whose device lacks the stamp, or the number of
+/// actions.
 fn place_left(actions: &Actions, stamps: &DeviceTable<u32>, stamp: u32, from: usize) -> usize
     requires within { from ≤ length actions.now.actions }
     requires begun { AreBegun (stamped stamp stamps.now) (take from actions.now.actions) }

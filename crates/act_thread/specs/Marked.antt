@@ -14,8 +14,10 @@ is_rank r (Some s) = r == s
 
 -- the ranks in the set are those of the devices whose rows pass
 pub record AreMarked (p : ThreadRow → Bool) (t : List (DevNo × ThreadRow)) (ranks : List (DevNo × ℕ)) (words : List ℕ) : Type 0 where
-  pub here : (d : DevNo) (row : ThreadRow) (r : ℕ) → at t d ≡ Some row → at ranks d ≡ Some r → holds words r ≡ p row
-  pub only : (r : ℕ) → r < 256 → holds words r ≡ true → (d : DevNo) × (row : ThreadRow) × (at t d ≡ Some row) × (at ranks d ≡ Some r)
+  pub here : (d : DevNo) (row : ThreadRow) (r : ℕ) → at t d ≡ Some row → at ranks d ≡ Some r
+      → holds words r ≡ p row
+  pub only : (r : ℕ) → r < 256 → holds words r ≡ true
+      → (d : DevNo) × (row : ThreadRow) × (at t d ≡ Some row) × (at ranks d ≡ Some r)
 
 pub record IsKept (t : List (DevNo × ThreadRow)) (a h : ℕ) (ranks : List (DevNo × ℕ)) (ready returned : List ℕ) : Type 0 where
   pub active : a ≡ active_in t

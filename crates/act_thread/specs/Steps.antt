@@ -49,7 +49,8 @@ may_end oneshot r = ends_after oneshot r.stage
 
 -- what a finish finds
 abbrev pub finished_by : ThreadRow → Finished
-finished_by r = if is_returned r then (if r.woken then finishes.Kept else finishes.Cleared) else finishes.NotDue
+finished_by r =
+    if is_returned r then (if r.woken then finishes.Kept else finishes.Cleared) else finishes.NotDue
 
 -- the thread could step, whatever the line is
 abbrev pub steps_at : Bool → Stage → Bool
@@ -76,7 +77,8 @@ returned_row r = if may_return r then record r { stage = stages.Returned } else 
 
 -- the bit is given up, unless the thread is to run again
 abbrev pub finished_row : ThreadRow → ThreadRow
-finished_row r = if is_returned r then record r { stage = stages.Finished; held = r.held && r.woken } else r
+finished_row r =
+    if is_returned r then record r { stage = stages.Finished; held = r.held && r.woken } else r
 
 abbrev pub done_row : Bool → ThreadRow → ThreadRow
 done_row oneshot r = if may_end oneshot r then record r { stage = stages.Idle } else r

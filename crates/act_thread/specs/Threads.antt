@@ -45,7 +45,8 @@ finishes_at t d = finish_of (at t d)
 
 -- what an entry makes of the threads of a line, one-shot or not
 abbrev pub threads_after : Bool → Entry → List (DevNo × ThreadRow) → List (DevNo × ThreadRow)
-threads_after oneshot (entries.Return cpu dev answers.Wake served) t = change (woken_row oneshot) t dev
+threads_after oneshot (entries.Return cpu dev answers.Wake served) t =
+    change (woken_row oneshot) t dev
 threads_after oneshot (entries.ThreadBegin dev) t = change begun_row t dev
 threads_after oneshot (entries.ThreadReturn dev served) t = change returned_row t dev
 threads_after oneshot (entries.Finish dev kept unmask) t = change finished_row t dev

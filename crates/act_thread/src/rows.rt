@@ -135,7 +135,8 @@ impl ThreadRow {
         }
     }
 
-    /// Whether the run may end: it is finalized, or the line isn't one-shot and the handler has returned.
+    /// Whether the run may end: it is finalized, or the line isn't one-shot and the handler has
+    /// returned.
     pub(crate) fn may_end(self, oneshot: bool) -> bool
         ensures { result ≡ may_end oneshot self }
     {

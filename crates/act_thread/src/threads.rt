@@ -69,7 +69,8 @@ impl Threads {
         self.rows.get(dev)
     }
 
-    /// Whether the device's thread is neither to run nor in a run; a device that the line lacks is so.
+    /// Whether the device's thread is neither to run nor in a run; a device that the line lacks is
+    /// so.
     pub fn idle(&self, dev: DevNo) -> bool
         ensures { result ≡ is_idle_at self.now dev }
     {
@@ -93,8 +94,8 @@ impl Threads {
         self.held
     }
 
-    /// The lowest device by number whose thread could step. `goes_on`: a run whose handler has returned may go on,
-    /// since the line isn't one-shot or no flow is in progress.
+    /// The lowest device by number whose thread could step. `goes_on`: a run whose handler has
+    /// returned may go on, since the line isn't one-shot or no flow is in progress.
     pub fn lowest(&self, goes_on: bool) -> Option<DevNo>
         ensures { result ≡ lowest_where (could_step goes_on) self.now }
     {
@@ -102,8 +103,8 @@ impl Threads {
         self.ranks.device(rank)
     }
 
-    /// The handler of the device asks for its thread (`__irq_wake_thread`). `oneshot`: the device was linked with a
-    /// thread bit.
+    /// The handler of the device asks for its thread (`__irq_wake_thread`). `oneshot`: the device
+    /// was linked with a thread bit.
     pub fn wake(&mut self, dev: DevNo, oneshot: bool)
         ensures { self.new ≡ change (woken_row oneshot) self.old dev }
     {
@@ -150,8 +151,8 @@ impl Threads {
         row.finish()
     }
 
-    /// The run is over, and the thread waits (`irq_wait_for_interrupt`). `oneshot`: the line is one-shot. Answers
-    /// whether it could end.
+    /// The run is over, and the thread waits (`irq_wait_for_interrupt`). `oneshot`: the line is
+    /// one-shot. Answers whether it could end.
     pub fn done(&mut self, dev: DevNo, oneshot: bool) -> bool
         ensures could { result ≡ ends_at oneshot self.old dev }
         ensures rows { self.new ≡ change (done_row oneshot) self.old dev }

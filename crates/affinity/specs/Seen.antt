@@ -15,7 +15,9 @@ pub record AimSeen : Type 0 where
 
 -- a mask without a processor of the machine is refused
 abbrev pub set_answer : AimSeen → ℕ → AffinityAnswer
-set_answer a mask = if is_some (lowest_in a.cpus mask) then (if a.later then moves.Later else moves.Now) else moves.Refused errors.Inval
+set_answer a mask =
+    if is_some (lowest_in a.cpus mask) then (if a.later then moves.Later else moves.Now)
+    else moves.Refused errors.Inval
 
 -- a later mask takes the place of one that waits
 abbrev pub after_set : AffinityAnswer → ℕ → AimSeen → AimSeen

@@ -6,8 +6,8 @@ ghost use Rattle.affinity.specs.Seen.{set_answer, after_set, after_move};
 use irq_base::{AffinityAnswer, CpuNo, Errno};
 use std::marker::Model;
 
-/// The processors that may take a line's interrupts: bit c of a mask stands for processor c. The type keeps that each
-/// mask has a processor of the machine.
+/// The processors that may take a line's interrupts: bit c of a mask stands for processor c. The
+/// type keeps that each mask has a processor of the machine.
 #[derive(Drop)]
 pub struct Aim {
     cpus: u32,
@@ -29,8 +29,8 @@ impl Model for Aim {
 }
 
 impl Aim {
-    /// The aim of a line on a machine of so many processors, at most 32. `later`: a change waits for the next
-    /// interrupt (`irqd_can_move_in_process_context` is false).
+    /// The aim of a line on a machine of so many processors, at most 32. `later`: a change waits
+    /// for the next interrupt (`irqd_can_move_in_process_context` is false).
     pub fn new(cpus: u32, mask: u32, later: bool) -> Aim
         requires few { cpus ≤ 32 }
         requires some { IsSome (lowest_in cpus mask) }
@@ -72,7 +72,8 @@ impl Aim {
         self.waiting = None;
     }
 
-    /// The processor that takes the line's interrupts: the lowest of the mask in force that the machine has.
+    /// The processor that takes the line's interrupts: the lowest of the mask in force that the
+    /// machine has.
     pub fn target(&self) -> CpuNo
         ensures { Some result ≡ lowest_in self.now.cpus self.now.mask }
     {
@@ -81,7 +82,8 @@ impl Aim {
     }
 }
 
-/// Whether one of the processors 0 to `cpus` - 1 is in the mask (`cpumask_intersects`, `include/linux/cpumask.h`).
+/// Whether one of the processors 0 to `cpus` - 1 is in the mask (`cpumask_intersects`,
+/// `include/linux/cpumask.h`).
 pub fn has_processor(cpus: u32, mask: u32) -> bool
     requires { cpus ≤ 32 }
     ensures { result ≡ is_some (lowest_in cpus mask) }

@@ -108,7 +108,8 @@ impl Asks {
         self.replace(dev, row, new);
     }
 
-    /// A run of the device returns. `serves`: it was its serving run, so that the asks since it began are left.
+    /// A run of the device returns. `serves`: it was its serving run, so that the asks since it
+    /// began are left.
     pub fn served(&mut self, dev: DevNo, serves: bool)
         ensures { self.new ≡ change (served serves) self.old dev }
     {

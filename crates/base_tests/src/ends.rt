@@ -146,8 +146,8 @@ fn memory_takes_what_it_is_told_to(rt: HostRuntime) -> Result<(), Fail> {
     Ok(())
 }
 
-/// An end of std that fails at its first call, fails or takes nothing at its second, and then works, two
-/// bytes a call. Flushes fail at every other call.
+/// An end of std that fails at its first call, fails or takes nothing at its second, and then
+/// works, two bytes a call. Flushes fail at every other call.
 #[derive(Drop)]
 struct Flaky {
     calls: u64,
@@ -299,7 +299,8 @@ fn writings_go_on_until_all_is_taken(rt: HostRuntime) -> Result<(), Fail> {
     Ok(())
 }
 
-/// What a list has of bytes that were written to it through a buffer with that room and flushed, unless that failed.
+/// What a list has of bytes that were written to it through a buffer with that room and flushed,
+/// unless that failed.
 fn written_to_list(alloc: Global, room: usize, bytes: &[u8]) -> Result<Option<Vec<u8>>, Fail>
     ensures { IfOk result (λ held. IfSome held (λ list. list.items ≡ bytes.now)) }
 {

@@ -28,7 +28,8 @@ use Rattle.board_core.proofs.TurnLaws.{set_there, set_other, set_cases, map_ther
 
 -- ---- the oldest of the moves
 
--- line k has one entry more than the order takes of it: e, which comes before all that the order tells
+-- line k has one entry more than the order takes of it: e, which comes before all that the order
+-- tells
 module _ (k : ℕ) (m : Move) where
   abbrev HasNext : Option BoardLine → ℕ → Type 0
   HasNext None n = ⊥

@@ -13,18 +13,21 @@ use Rattle.board_core.specs.ReadyFor.{IsReadyFor}
 use Rattle.board_core.specs.Seen.{SystemSeen, board_lines}
 
 abbrev pub seen_of : BoardSeen → List Placement → List LineSeen → List ℕ → SystemSeen
-seen_of board layout lines order = record { board = board; layout = layout; lines = lines; log = moves_of order lines }
+seen_of board layout lines order =
+    record { board = board; layout = layout; lines = lines; log = moves_of order lines }
 
 abbrev pub drivers_of : List ScriptSeen → List DriverNo
 drivers_of scripts = map (λ (s : ScriptSeen). s.driver) scripts
 
 pub record IsSystem (board : BoardSeen) (lines : List LineSeen) (scripts : List ScriptSeen) : Type 0 where
-  -- the lines are the board's, each history is legal, and the drivers' calls are made in the order of their scripts
+  -- the lines are the board's, each history is legal, and the drivers' calls are made in the order
+  -- of their scripts
   pub kept : AreKept board (board_lines lines)
   pub sound : (i : ℕ) (x : LineSeen) → slice_get lines i ≡ Some x → IsSound x
   -- each driver has its script, which is at its current call
   pub drivers : drivers_of scripts ≡ board.drivers
-  pub each : (i : ℕ) (s : ScriptSeen) → slice_get scripts i ≡ Some s → IsScript board.calls (board_lines lines) s
+  pub each : (i : ℕ) (s : ScriptSeen) → slice_get scripts i ≡ Some s
+      → IsScript board.calls (board_lines lines) s
 
 -- the parts of a system that its lines, its scripts and its order determine
 pub record Parts : Type 0 where

@@ -1,5 +1,5 @@
--- The log of a system, kept as the order of its lines alone: an entry stands once, in its line's history. The newest
--- move comes first here.
+-- The log of a system, kept as the order of its lines alone: an entry stands once, in its line's
+-- history. The newest move comes first here.
 use Rattle.std.specs.Prelude.{◌≡◌, ◌==◌, ◌+◌, ◌<◌, ◌≤◌, ℕ, Option, Some, None, List, [], ◌∷◌, All, length, if◌then◌else◌, reverse, slice_get, slice_index, slice_set}
 use Rattle.irq_base.specs.declared.entries.Entry.{Entry}
 use Rattle.irq_base.specs.declared.numbers.LineNo.{LineNo}
@@ -29,7 +29,8 @@ with_newest (Some x) g = newest_of x.def.line x.past g
 -- each place stands for the newest entry of its line that isn't taken yet
 abbrev pub merged : List ℕ → List BoardLine → List Move
 merged [] lines = []
-merged (k ∷ ks) lines = with_newest (slice_get lines k) (merged ks (without_newest (slice_get lines k) k lines))
+merged (k ∷ ks) lines =
+    with_newest (slice_get lines k) (merged ks (without_newest (slice_get lines k) k lines))
 
 -- the moves that the order tells, the oldest first; the order has the oldest first too
 abbrev pub moves_of : List ℕ → List LineSeen → List Move
@@ -45,7 +46,8 @@ pub record IsWalk (cursors order : List ℕ) (lines : List LineSeen) : Type 0 wh
   pub few : length lines ≤ 64
   pub all : length cursors ≡ 64
   pub places : All (λ k. k < length lines) order
-  pub from : (k : ℕ) (x : LineSeen) → slice_get lines k ≡ Some x → slice_index cursors k + times k order ≡ length x.entries
+  pub from : (k : ℕ) (x : LineSeen) → slice_get lines k ≡ Some x
+      → slice_index cursors k + times k order ≡ length x.entries
 
 -- the move that the entry of the line at the place n was, counted from 0
 abbrev pub move_at : Option LineSeen → ℕ → Option Move

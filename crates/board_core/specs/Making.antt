@@ -17,11 +17,14 @@ use Rattle.board_core.specs.declared.scripts.Step.{Step}
 -- the maker makes each line that takes part, of its virq and its definition
 abbrev pub MakesAll : (ℕ → LineDef → Type 0) → BoardSeen → List Placement → Type 0
 MakesAll makes board layout =
-    (i virq : ℕ) (path : List (ℕ × ℕ)) (row : LineRow) → slice_get board.lines i ≡ Some row → slice_get layout i ≡ Some (placements.Mapped virq path) → makes virq (line_of_row board row)
+    (i virq : ℕ) (path : List (ℕ × ℕ)) (row : LineRow) → slice_get board.lines i ≡ Some row
+    → slice_get layout i ≡ Some (placements.Mapped virq path)
+    → makes virq (line_of_row board row)
 
 -- the line of that definition, to which nothing has happened; none if it has no place
 abbrev pub IsNewLine : LineDef → Option Placement → Option LineSeen → Type 0
-IsNewLine def (Some (placements.Mapped virq path)) made = IsSomeAnd made (λ x. board_line x ≡ record { def = def; past = [] })
+IsNewLine def (Some (placements.Mapped virq path)) made =
+    IsSomeAnd made (λ x. board_line x ≡ record { def = def; past = [] })
 IsNewLine def _ made = made ≡ None
 
 -- the board's lines, to which nothing has happened
@@ -33,7 +36,8 @@ pub record IsCut (board : BoardSeen) (n : ℕ) (s : ScriptSeen) : Type 0 where
   pub at : s.at ≡ 0
   pub made : s.made ≡ 0
   pub cut : calls_of s.steps ≡ cut (defs_of board) s.driver (take n board.calls)
-  pub places : (i : ℕ) (x : Step) → slice_get s.steps i ≡ Some x → slice_get (numbers_of_defs (defs_of board)) x.place ≡ Some x.call.line.0
+  pub places : (i : ℕ) (x : Step) → slice_get s.steps i ≡ Some x
+      → slice_get (numbers_of_defs (defs_of board)) x.place ≡ Some x.call.line.0
 
 -- such a script for each driver
 pub record AreCut (board : BoardSeen) (n : ℕ) (scripts : List ScriptSeen) : Type 0 where
@@ -48,7 +52,8 @@ AreNewScripts board scripts = AreCut board (length board.calls) scripts
 -- places
 abbrev pub call_put : Option ScriptSeen → ℕ → ℕ → ScriptCall → List ScriptSeen → List ScriptSeen
 call_put None j k c scripts = scripts
-call_put (Some s) j k c scripts = slice_set scripts j (record s { steps = s.steps ++ record { place = k; call = c } ∷ [] })
+call_put (Some s) j k c scripts =
+    slice_set scripts j (record s { steps = s.steps ++ record { place = k; call = c } ∷ [] })
 
 abbrev pub with_call : Option ℕ → Option ℕ → ScriptCall → List ScriptSeen → List ScriptSeen
 with_call (Some j) (Some k) c scripts = call_put (slice_get scripts j) j k c scripts

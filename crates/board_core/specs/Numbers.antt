@@ -5,7 +5,8 @@ use Rattle.irq_base.specs.declared.numbers.DriverNo.{DriverNo}
 use Rattle.irq_line.specs.Seen.{LineSeen}
 
 abbrev pub IsRising : List ℕ → Type 0
-IsRising numbers = (i j : ℕ) → i ≤ j → j < length numbers → slice_index numbers i ≤ slice_index numbers j
+IsRising numbers =
+    (i j : ℕ) → i ≤ j → j < length numbers → slice_index numbers i ≤ slice_index numbers j
 
 -- the number stands there; none if it doesn't stand
 abbrev pub IsPlaceOfNumber : List ℕ → ℕ → Option ℕ → Type 0

@@ -19,7 +19,8 @@ abbrev pub IsPlace : List BoardLine → Option ℕ → Option BoardLine → Type
 IsPlace lines None line = line ≡ None
 IsPlace lines (Some k) line = IsSome line × (slice_get lines k ≡ line)
 
--- The line at place k, which was `before`, is `after` with one entry more, and the order tells it; all else is as it was.
+-- The line at place k, which was `before`, is `after` with one entry more, and the order tells it;
+-- all else is as it was.
 pub record StepsAt (old : List LineSeen) (order : List ℕ) (k : ℕ) (a : Actor) (e : Entry) (new : List LineSeen) (longer : List ℕ) : Type 0 where
   pub before : LineSeen
   pub after : LineSeen
@@ -45,8 +46,10 @@ told (Ok (Some e)) order k = order ++ k ∷ []
 told (Ok None) order k = order
 told (Err refused) order k = order
 
-abbrev pub SteppedAt : List LineSeen → List ℕ → ℕ → Actor → Result (Option Entry) StepRefused → List LineSeen → List ℕ → Type 0
+abbrev pub SteppedAt : List LineSeen → List ℕ → ℕ → Actor → Result (Option Entry) StepRefused
+    → List LineSeen → List ℕ → Type 0
 SteppedAt old order k a (Ok (Some e)) new longer = StepsAt old order k a e new longer
 SteppedAt old order k a (Ok None) new longer = RestsAt old k a × (new ≡ old) × (longer ≡ order)
-SteppedAt old order k a (Err (refusals.Full len)) new longer = IsFullAt old k a len × (new ≡ old) × (longer ≡ order)
+SteppedAt old order k a (Err (refusals.Full len)) new longer =
+    IsFullAt old k a len × (new ≡ old) × (longer ≡ order)
 SteppedAt old order k a (Err refusals.NoMemory) new longer = (new ≡ old) × (longer ≡ order)

@@ -32,19 +32,21 @@ abbrev pub most_made : DriverNo → List BoardLine → ℕ
 most_made r [] = 0
 most_made r (x ∷ lines) = max (made_on r x) (most_made r lines)
 
--- The script, gone on by all that its driver has done on the lines. At most one of them has a call of the driver that has
--- begun, since its calls are made one after another.
+-- The script, gone on by all that its driver has done on the lines. At most one of them has a call
+-- of the driver that has begun, since its calls are made one after another.
 abbrev pub placed : List BoardLine → ScriptSeen → ScriptSeen
 placed lines s = record s { at = s.at + sum_by (completed_on s.driver) lines; made = max s.made (most_made s.driver lines) }
 
 -- each script is
 pub record ArePlaced (lines : List BoardLine) (old new : List ScriptSeen) : Type 0 where
   pub drivers : drivers_of new ≡ drivers_of old
-  pub each : (j : ℕ) (s : ScriptSeen) → slice_get old j ≡ Some s → slice_get new j ≡ Some (placed lines s)
+  pub each : (j : ℕ) (s : ScriptSeen) → slice_get old j ≡ Some s
+      → slice_get new j ≡ Some (placed lines s)
 
 -- the scripts have as many calls left as are complete on the lines
 abbrev pub HaveRoom : List BoardLine → List ScriptSeen → Type 0
-HaveRoom lines scripts = (j : ℕ) (s : ScriptSeen) → slice_get scripts j ≡ Some s → s.at + sum_by (completed_on s.driver) lines ≤ length s.steps
+HaveRoom lines scripts = (j : ℕ) (s : ScriptSeen) → slice_get scripts j ≡ Some s
+    → s.at + sum_by (completed_on s.driver) lines ≤ length s.steps
 
 -- the line with one entry more
 abbrev pub with_entry : Entry → BoardLine → BoardLine
@@ -67,11 +69,13 @@ joined own s = record s { at = s.at + own.at; made = max s.made own.made }
 
 -- each has one at its place by which it can go on
 abbrev pub CanJoin : List ScriptSeen → List ScriptSeen → Type 0
-CanJoin own scripts = (j : ℕ) (s : ScriptSeen) → slice_get scripts j ≡ Some s → IsSomeAnd (slice_get own j) (λ o. s.at + o.at ≤ length s.steps)
+CanJoin own scripts = (j : ℕ) (s : ScriptSeen) → slice_get scripts j ≡ Some s
+    → IsSomeAnd (slice_get own j) (λ o. s.at + o.at ≤ length s.steps)
 
 pub record AreJoined (own old new : List ScriptSeen) : Type 0 where
   pub drivers : drivers_of new ≡ drivers_of old
-  pub each : (j : ℕ) (s o : ScriptSeen) → slice_get old j ≡ Some s → slice_get own j ≡ Some o → slice_get new j ≡ Some (joined o s)
+  pub each : (j : ℕ) (s o : ScriptSeen) → slice_get old j ≡ Some s → slice_get own j ≡ Some o
+      → slice_get new j ≡ Some (joined o s)
 
 -- the place of the driver that the actor is; none if it is no driver
 abbrev pub IsPlaceOfActor : List ℕ → Actor → Option ℕ → Type 0
@@ -81,4 +85,5 @@ IsPlaceOfActor numbers _ place = place ≡ None
 -- for each line the number of its entries
 pub record AreLengths (lines : List LineSeen) (lengths : List ℕ) : Type 0 where
   pub all : length lengths ≡ 64
-  pub each : (k : ℕ) (x : LineSeen) → slice_get lines k ≡ Some x → slice_get lengths k ≡ Some (length x.entries)
+  pub each : (k : ℕ) (x : LineSeen) → slice_get lines k ≡ Some x
+      → slice_get lengths k ≡ Some (length x.entries)

@@ -13,7 +13,8 @@ pub record IsFresh (s : SystemSeen) : Type 0 where
   pub lines : board_lines s.lines ≡ lines_of s.board []
   pub log : s.log ≡ []
 
--- each move so far was the next one; the picks that are left, but for some that can't move, are `rest`
+-- each move so far was the next one; the picks that are left, but for some that can't move, are
+-- `rest`
 pub record IsUnderway (s : SystemSeen) (picks rest : List Actor) : Type 0 where
   pub lines : board_lines s.lines ≡ lines_of s.board (reverse s.log)
   pub left : List Actor
@@ -24,8 +25,10 @@ pub record IsUnderway (s : SystemSeen) (picks rest : List Actor) : Type 0 where
 -- the length. If memory was refused it is the play so far, and there is a next move.
 abbrev pub IsPlay : SystemSeen → List Actor → PlayEnd → Type 0
 IsPlay s picks ends.Done = Plays s.board picks (reverse s.log) Done
-IsPlay s picks (ends.Full line len) = Plays s.board picks (reverse s.log) (Full line) × (length (part line (reverse s.log)) ≡ len)
-IsPlay s picks ends.NoMemory = (left : List Actor) × IsChosen s.board picks (reverse s.log) left × IsSome (choice s.board (lines_of s.board (reverse s.log)) left)
+IsPlay s picks (ends.Full line len) =
+    Plays s.board picks (reverse s.log) (Full line) × (length (part line (reverse s.log)) ≡ len)
+IsPlay s picks ends.NoMemory = (left : List Actor) × IsChosen s.board picks (reverse s.log) left
+    × IsSome (choice s.board (lines_of s.board (reverse s.log)) left)
 
 -- no actor can move; or the lowest that can has a line without room, whose length is answered; or
 -- it needed memory

@@ -1,4 +1,5 @@
--- What the ready actors of a system are: for each line what it tells of itself, for each driver its current call.
+-- What the ready actors of a system are: for each line what it tells of itself, for each driver its
+-- current call.
 use Rattle.std.specs.Prelude.{◌≡◌, ℕ, Bool, false, nat_le, IsSomeAnd, Option, Some, None, List, length, slice_get}
 use Rattle.irq_base.specs.declared.numbers.DevNo.{DevNo}
 use Rattle.irq_laws.specs.Blocks.{Block, Nothing, Flow, Threads, Mutex, Device, block_of}
@@ -34,7 +35,8 @@ wait_for (Device d) = waits.Device
 
 abbrev pub call_at : Option Step → ℕ → Option CurrentCall
 call_at None made = None
-call_at (Some step) made = Some (record { line = step.place; wait = wait_for (block_of step.call.call made) })
+call_at (Some step) made =
+    Some (record { line = step.place; wait = wait_for (block_of step.call.call made) })
 
 -- the driver's current call; none if its script is at its end
 abbrev pub call_of : ScriptSeen → Option CurrentCall
@@ -42,9 +44,11 @@ call_of s = call_at (slice_get s.steps s.at) s.made
 
 pub record IsReadyFor (lines : List LineSeen) (scripts : List ScriptSeen) (ready : ReadySeen) : Type 0 where
   pub all_lines : length ready.lines ≡ length lines
-  pub each_line : (k : ℕ) (x : LineSeen) → slice_get lines k ≡ Some x → IsSomeAnd (slice_get ready.lines k) (IsPartOf x)
+  pub each_line : (k : ℕ) (x : LineSeen) → slice_get lines k ≡ Some x
+      → IsSomeAnd (slice_get ready.lines k) (IsPartOf x)
   pub all_drivers : length ready.drivers ≡ length scripts
-  pub each_driver : (j : ℕ) (s : ScriptSeen) → slice_get scripts j ≡ Some s → slice_get ready.drivers j ≡ Some (call_of s)
+  pub each_driver : (j : ℕ) (s : ScriptSeen) → slice_get scripts j ≡ Some s
+      → slice_get ready.drivers j ≡ Some (call_of s)
 
 -- the line's lowest ready thread is that of the device, or of one of a lower number
 abbrev pub is_up_to : DevNo → Option DevNo → Bool

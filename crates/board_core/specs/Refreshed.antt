@@ -9,10 +9,12 @@ use Rattle.board_core.specs.Scripts.{ScriptSeen}
 
 -- the parts of the first n lines, and the calls of the first n drivers
 abbrev pub HasLines : List LineSeen → ℕ → ReadySeen → Type 0
-HasLines lines n ready = (k : ℕ) (x : LineSeen) → k < n → slice_get lines k ≡ Some x → IsSomeAnd (slice_get ready.lines k) (IsPartOf x)
+HasLines lines n ready = (k : ℕ) (x : LineSeen) → k < n → slice_get lines k ≡ Some x
+    → IsSomeAnd (slice_get ready.lines k) (IsPartOf x)
 
 abbrev pub HasDrivers : List ScriptSeen → ℕ → ReadySeen → Type 0
-HasDrivers scripts n ready = (j : ℕ) (s : ScriptSeen) → j < n → slice_get scripts j ≡ Some s → slice_get ready.drivers j ≡ Some (call_of s)
+HasDrivers scripts n ready = (j : ℕ) (s : ScriptSeen) → j < n → slice_get scripts j ≡ Some s
+    → slice_get ready.drivers j ≡ Some (call_of s)
 
 -- the driver's call is put in
 pub record AsksCall (scripts : List ScriptSeen) (j : ℕ) (old new : List (Option CurrentCall)) : Type 0 where
@@ -21,7 +23,8 @@ pub record AsksCall (scripts : List ScriptSeen) (j : ℕ) (old new : List (Optio
   pub set : new ≡ slice_set old j call
 
 -- the same if there is a driver to be asked; else nothing changes
-abbrev pub AsksScript : List ScriptSeen → Option ℕ → List (Option CurrentCall) → List (Option CurrentCall) → Type 0
+abbrev pub AsksScript : List ScriptSeen → Option ℕ → List (Option CurrentCall)
+    → List (Option CurrentCall) → Type 0
 AsksScript scripts None old new = new ≡ old
 AsksScript scripts (Some j) old new = AsksCall scripts j old new
 

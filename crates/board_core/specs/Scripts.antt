@@ -1,4 +1,5 @@
--- The drivers' scripts, cut by driver: the calls on lines that take part, and how far each driver is.
+-- The drivers' scripts, cut by driver: the calls on lines that take part, and how far each driver
+-- is.
 use Rattle.std.specs.Prelude.{◌≡◌, ℕ, ◌+◌, Bool, true, false, ◌&&◌, ◌==◌, nat_le, if◌then◌else◌, IsSomeAnd, Option, Some, None, List, [], ◌∷◌, map, slice_get}
 use Rattle.std.specs.List.{list_any}
 use Rattle.irq_base.specs.declared.calls.Call.{Call}
@@ -17,8 +18,8 @@ use Rattle.board_play.specs.Lines.{BoardLine}
 use Rattle.board_core.specs.declared.scripts.Step.{Step}
 use Rattle.board_core.specs.declared.turns.DueCall.{DueCall}
 
--- a driver's script: its calls with the places of their lines, at which of them it is, and how many entries of that one
--- are there
+-- a driver's script: its calls with the places of their lines, at which of them it is, and how many
+-- entries of that one are there
 pub record ScriptSeen : Type 0 where
   pub driver : DriverNo
   pub steps : List Step
@@ -32,7 +33,8 @@ takes_part defs line = list_any (λ d. same_line line d.line) defs
 -- the driver's calls on lines that take part
 abbrev pub cut : List LineDef → DriverNo → List ScriptCall → List ScriptCall
 cut defs r [] = []
-cut defs r (c ∷ cs) = if same_driver r c.driver && takes_part defs c.line then (c ∷ cut defs r cs) else cut defs r cs
+cut defs r (c ∷ cs) =
+    if same_driver r c.driver && takes_part defs c.line then (c ∷ cut defs r cs) else cut defs r cs
 
 abbrev pub is_not_there : Entry → Bool
 is_not_there (entries.Unlink driver dev unlinks.NotThere) = true
@@ -47,7 +49,8 @@ completes _ n e = true
 
 -- the script after one more entry of its driver
 abbrev pub advanced_by : Bool → ScriptSeen → ScriptSeen
-advanced_by last s = if last then record s { at = s.at + 1; made = 0 } else record s { made = s.made + 1 }
+advanced_by last s =
+    if last then record s { at = s.at + 1; made = 0 } else record s { made = s.made + 1 }
 
 abbrev pub advanced_at : Option Step → Entry → ScriptSeen → ScriptSeen
 advanced_at None e s = s
@@ -63,11 +66,15 @@ calls_of steps = map (λ (x : Step). x.call) steps
 -- a script as it stands on a board of these calls and lines
 pub record IsScript (calls : List ScriptCall) (lines : List BoardLine) (s : ScriptSeen) : Type 0 where
   pub cut : calls_of s.steps ≡ cut (map (λ (x : BoardLine). x.def) lines) s.driver calls
-  pub places : (i : ℕ) (x : Step) → slice_get s.steps i ≡ Some x → IsSomeAnd (slice_get lines x.place) (λ y. y.def.line ≡ x.call.line)
+  pub places : (i : ℕ) (x : Step) → slice_get s.steps i ≡ Some x
+      → IsSomeAnd (slice_get lines x.place) (λ y. y.def.line ≡ x.call.line)
   pub up_to : IsUpTo (calls_of s.steps) lines s.driver s.at
-  pub due : (x : Step) (y : BoardLine) → slice_get s.steps s.at ≡ Some x → slice_get lines x.place ≡ Some y → due_call y.def s.driver y.past ≡ Some (x.call.call, s.made)
+  pub due : (x : Step) (y : BoardLine) → slice_get s.steps s.at ≡ Some x
+      → slice_get lines x.place ≡ Some y
+      → due_call y.def s.driver y.past ≡ Some (x.call.call, s.made)
 
 -- the call that a driver is at, of which so many entries are there
 abbrev pub due_at : Option Step → ℕ → Option DueCall
 due_at None made = None
-due_at (Some step) made = Some (record { line = step.call.line; call = step.call.call; made = made })
+due_at (Some step) made =
+    Some (record { line = step.call.line; call = step.call.call; made = made })

@@ -19,7 +19,8 @@ pub record IsAt (s : SystemSeen) (a : Actor) (stand : Stand) : Type 0 where
 
 -- a driver's current call is on the line at the place; a thread and a processor may step anywhere
 abbrev pub IsCurrentAt : SystemSeen → Actor → ℕ → Type 0
-IsCurrentAt s (actors.Driver r) k = current_line s.board.calls (board_lines s.lines) r ≡ slice_get (board_lines s.lines) k
+IsCurrentAt s (actors.Driver r) k =
+    current_line s.board.calls (board_lines s.lines) r ≡ slice_get (board_lines s.lines) k
 IsCurrentAt s _ k = Unit {0}
 
 -- a line stands at the place, where the actor may step, and the script is its own
@@ -30,7 +31,8 @@ pub record CanStepAt (s : SystemSeen) (a : Actor) (stand : Stand) : Type 0 where
 
 -- the same of a line's number
 abbrev pub IsCurrentOn : SystemSeen → LineNo → Actor → Type 0
-IsCurrentOn s line (actors.Driver r) = IsSomeAnd (current_line s.board.calls (board_lines s.lines) r) (λ x. x.def.line ≡ line)
+IsCurrentOn s line (actors.Driver r) =
+    IsSomeAnd (current_line s.board.calls (board_lines s.lines) r) (λ x. x.def.line ≡ line)
 IsCurrentOn s line _ = Unit {0}
 
 -- there, where the actor may move; none if it can't
@@ -41,7 +43,8 @@ IsStand s a (Some stand) = IsAt s a stand × MayWant s a
 -- the lowest actor that can move, and where it does; none if nobody can
 abbrev pub IsLowestStand : SystemSeen → Option (Actor × Stand) → Type 0
 IsLowestStand s None = lowest_move s ≡ None
-IsLowestStand s (Some (a, stand)) = IsAt s a stand × (lowest_move s ≡ move_of s a) × IsSome (move_of s a)
+IsLowestStand s (Some (a, stand)) =
+    IsAt s a stand × (lowest_move s ≡ move_of s a) × IsSome (move_of s a)
 
 -- the actor's script; a driver that isn't the board's has no call
 abbrev pub IsScriptPlace : SystemSeen → Actor → Option ℕ → Type 0
@@ -51,4 +54,5 @@ IsScriptPlace s a o = IsScriptOf s.board.drivers a o
 -- the places of that line and of the actor's script; none if the line takes no part
 abbrev pub IsStandOn : SystemSeen → LineNo → Actor → Option Stand → Type 0
 IsStandOn s line a None = find_line (board_lines s.lines) line ≡ None
-IsStandOn s line a (Some stand) = CanStepAt s a stand × (slice_get (board_lines s.lines) stand.line ≡ find_line (board_lines s.lines) line)
+IsStandOn s line a (Some stand) = CanStepAt s a stand
+    × (slice_get (board_lines s.lines) stand.line ≡ find_line (board_lines s.lines) line)

@@ -31,7 +31,8 @@ script_after None j e scripts = scripts
 script_after (Some s) j e scripts = slice_set scripts j (advanced e s)
 
 -- the scripts after what the step added
-abbrev pub scripts_after : Option ℕ → Result (Option Entry) StepRefused → List ScriptSeen → List ScriptSeen
+abbrev pub scripts_after : Option ℕ → Result (Option Entry) StepRefused → List ScriptSeen
+    → List ScriptSeen
 scripts_after (Some j) (Ok (Some e)) scripts = script_after (slice_get scripts j) j e scripts
 scripts_after _ _ scripts = scripts
 

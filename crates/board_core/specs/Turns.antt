@@ -43,10 +43,11 @@ TurnsBy old due turns.NotYet new = (due ≡ None) × (new ≡ old)
 TurnsBy old due (turns.Full line len) new = IsFullFor old due line len × (new ≡ old)
 TurnsBy old due turns.NoMemory new = IsSome due × (new ≡ old)
 
--- The actor has a move. Of a thread no more is known than that some thread of its line has one, of a device of no higher
--- number: a line tells the lowest of its threads alone.
+-- The actor has a move. Of a thread no more is known than that some thread of its line has one, of
+-- a device of no higher number: a line tells the lowest of its threads alone.
 abbrev pub MayMove : SystemSeen → Actor → Type 0
-MayMove s (actors.Thread line d) = (lowest : DevNo) × (lowest.0 ≤ d.0) × IsSome (move_of s (actors.Thread line lowest))
+MayMove s (actors.Thread line d) =
+    (lowest : DevNo) × (lowest.0 ≤ d.0) × IsSome (move_of s (actors.Thread line lowest))
 MayMove s a = IsSome (move_of s a)
 
 -- the move of the lowest actor that can move

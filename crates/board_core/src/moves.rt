@@ -10,8 +10,8 @@ use std::marker::Model;
 /// How many lines a board has at most.
 pub(crate) const LINES: usize = 64;
 
-/// The moves of a log, the oldest first. Contracts see the list of those that are left. It lends values alone, and takes
-/// no memory.
+/// The moves of a log, the oldest first. Contracts see the list of those that are left. It lends
+/// values alone, and takes no memory.
 #[derive(Drop)]
 pub struct Moves<'s, L: IrqLine> {
     lines: &'s [L],
@@ -46,7 +46,8 @@ impl<'s, L: IrqLine> Moves<'s, L> {
         }
     }
 
-    /// The next move, if one is left: its line and its entry. It takes the same time however many there are.
+    /// The next move, if one is left: its line and its entry. It takes the same time however many
+    /// there are.
     pub fn next(&mut self) -> Option<(LineNo, Entry)>
         ensures first { result ≡ slice_get self.old 0 }
         ensures rest { self.new ≡ drop 1 self.old }

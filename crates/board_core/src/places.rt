@@ -7,8 +7,8 @@ use callbacks::{Callbacks, Handler};
 use irq_base::{Actor, Entry};
 use irq_line::{IrqLine, StepRefused};
 
-/// A step of the line at the place: what it adds, the order tells. It takes room in the order first, so that nothing is
-/// refused after the step.
+/// A step of the line at the place: what it adds, the order tells. It takes room in the order
+/// first, so that nothing is refused after the step.
 pub(crate) fn step_place<L: IrqLine, H: Handler>(
     lines: &mut Vec<L>,
     order: &mut Vec<u16>,

@@ -116,8 +116,8 @@ impl<'b, L: IrqLine> System<'b, L> {
         })
     }
 
-    /// The system of the board's lines as they stand, with an empty log: it tells what comes after the entries that the
-    /// lines have. The only error is `NoMemory`.
+    /// The system of the board's lines as they stand, with an empty log: it tells what comes after
+    /// the entries that the lines have. The only error is `NoMemory`.
     pub fn of_lines(
         alloc: Global,
         board: &'b Board,
@@ -152,8 +152,8 @@ impl<'b, L: IrqLine> System<'b, L> {
         })
     }
 
-    /// What holds of every system: its lines are the board's, each history is legal, and the drivers' calls are made in
-    /// the order of their scripts.
+    /// What holds of every system: its lines are the board's, each history is legal, and the
+    /// drivers' calls are made in the order of their scripts.
     pub fn is_kept(&self)
         ensures { AreKept self.now.board (board_lines self.now.lines) }
     {
@@ -181,7 +181,8 @@ impl<'b, L: IrqLine> System<'b, L> {
         self.lines.as_slice()
     }
 
-    /// The log, from its first move on. It takes no memory, and the same time however long the log is.
+    /// The log, from its first move on. It takes no memory, and the same time however long the log
+    /// is.
     pub fn moves(&self) -> Moves<'_, L>
         ensures { result ≡ self.now.log }
     {
@@ -203,8 +204,8 @@ impl<'b, L: IrqLine> System<'b, L> {
         lines
     }
 
-    /// The first thread or processor that can move, in the order of turns: threads by the numbers of their devices, then
-    /// processors. It takes the same time however many wait.
+    /// The first thread or processor that can move, in the order of turns: threads by the numbers
+    /// of their devices, then processors. It takes the same time however many wait.
     pub fn lowest_thread_or_cpu(&self) -> Option<Actor>
         ensures { IsFirstOf self.now (threads_of self.now.board ++ cpus_of self.now.board) result }
     {
@@ -267,8 +268,8 @@ impl<'b, L: IrqLine> System<'b, L> {
         }
     }
 
-    /// Where the thread of the device steps. Of a line's threads only the lowest ready one is known: one above it may
-    /// have nothing to do.
+    /// Where the thread of the device steps. Of a line's threads only the lowest ready one is
+    /// known: one above it may have nothing to do.
     fn thread_stand(&self, line: LineNo, dev: DevNo) -> Option<Stand>
         ensures { IsStand self.now (actors.Thread line dev) result }
     {
@@ -394,7 +395,8 @@ impl<'b, L: IrqLine> System<'b, L> {
         Some(Stand { line: k, script })
     }
 
-    /// The place of the actor's script; none for a thread, a processor, or a driver that isn't the board's.
+    /// The place of the actor's script; none for a thread, a processor, or a driver that isn't the
+    /// board's.
     fn script_place(&self, actor: Actor) -> Option<usize>
         ensures { IsScriptPlace self.now actor result }
     {

@@ -1,4 +1,5 @@
--- The layout of a board by hand: messages over a remapping of one number, and messages over the vectors themselves.
+-- The layout of a board by hand: messages over a remapping of one number, and messages over the
+-- vectors themselves.
 use Rattle.std.proofs.Common.{◌≡◌, ℕ, false, Option, Some, None, List, [], ◌∷◌, codes, refl}
 use Rattle.irq_base.specs.declared.domains.LevelKind.{LevelKind}
 use Rattle.irq_base.specs.declared.domains.LevelKind.TheVariants as levels

@@ -1,5 +1,5 @@
--- Each device's requests and frees are one driver's, and a free stands between two requests: from what each call
--- meets after those before it, to what the calls on one line meet.
+-- Each device's requests and frees are one driver's, and a free stands between two requests: from
+-- what each call meets after those before it, to what the calls on one line meet.
 use Rattle.std.proofs.Common.{◌≡◌, ℕ, zero, suc, ◌<◌, ◌==◌, Bool, true, false, cond, ◌||◌, Option, Some, None, List, [], ◌∷◌, ◌++◌, filter, map, reverse, take, refl, sym, ap, subst, ◌∙◌, arith}
 use Rattle.std.specs.List.{slice_get}
 use Rattle.std.specs.Option.{option_map}

@@ -15,4 +15,5 @@ layout_of b = layout_over (defs_of b.domains) (leaves_of b.lines)
 -- the path is the line's in the layout
 abbrev pub IsPathOf : BoardSeen → LineNo → List (ℕ × ℕ) → Type 0
 IsPathOf b line path =
-    (i : ℕ) × (row : LineRow) × (virq : ℕ) × (slice_get b.lines i ≡ Some row) × (row.line.0 ≡ line.0) × (slice_get (layout_of b) i ≡ Some (placements.Mapped virq path))
+    (i : ℕ) × (row : LineRow) × (virq : ℕ) × (slice_get b.lines i ≡ Some row)
+    × (row.line.0 ≡ line.0) × (slice_get (layout_of b) i ≡ Some (placements.Mapped virq path))

@@ -60,7 +60,8 @@ pub record IsDomainRowAfter (earlier : List DomainRow) (row : DomainRow) : Type 
 -- an edge line that is masked as soon as it is disabled needs a level that keeps what comes then
 abbrev pub is_bad_unlazy : List DomainDef → ℕ → Bool → Bool
 is_bad_unlazy domains domain unlazy =
-    unlazy && (is_edge_trigger (trigger_of_root (root_kind (kinds_from domains (Some domain)))) && not (keeps (kinds_from domains (Some domain))))
+    unlazy && (is_edge_trigger (trigger_of_root (root_kind (kinds_from domains (Some domain))))
+    && not (keeps (kinds_from domains (Some domain))))
 
 pub record IsLineAfter (b : BoardSeen) (earlier : List LineRow) (row : LineRow) : Type 0 where
   pub number : IsNumber row.line.0
@@ -99,11 +100,12 @@ abbrev pub is_a_request : DevNo → Option ScriptCall → Bool
 is_a_request dev (Some c) = requests_dev dev c.call
 is_a_request dev None = false
 
--- The requests and frees of a device are all of the driver that made the first, and between two requests stands
--- a free.
+-- The requests and frees of a device are all of the driver that made the first, and between two
+-- requests stands a free.
 abbrev pub is_bad_owner : List ScriptCall → DriverNo → Call → Bool
 is_bad_owner earlier driver (calls.Request dev flags) =
-    is_of_another driver (first_owning dev earlier) || is_a_request dev (first_owning dev (reverse earlier))
+    is_of_another driver (first_owning dev earlier)
+    || is_a_request dev (first_owning dev (reverse earlier))
 is_bad_owner earlier driver (calls.Free dev) = is_of_another driver (first_owning dev earlier)
 is_bad_owner earlier driver _ = false
 

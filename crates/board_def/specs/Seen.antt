@@ -10,7 +10,8 @@ use Rattle.board_def.specs.declared.rows.ScriptCall.{ScriptCall}
 pub record BoardSeen : Type 0 where
   -- the number of processors
   pub cpus : ℕ
-  -- how many interrupts of a line are counted before the unhandled ones are judged, and how many may be unhandled
+  -- how many interrupts of a line are counted before the unhandled ones are judged, and how many
+  -- may be unhandled
   pub window : ℕ
   pub limit : ℕ
   -- the greatest length of a line's history

@@ -13,4 +13,5 @@ IsKeyedBy key (entry ∷ entries) = (entry.0 ≡ key entry.1) × IsKeyedBy key e
 -- the first row of that key
 abbrev pub find_row : {K V : Type 0} → (K → K → Bool) → (V → K) → List V → K → Option V
 find_row eq key_of [] key = None
-find_row eq key_of (row ∷ rows) key = if eq key (key_of row) then Some row else find_row eq key_of rows key
+find_row eq key_of (row ∷ rows) key =
+    if eq key (key_of row) then Some row else find_row eq key_of rows key

@@ -1,5 +1,5 @@
--- What the rules of domains see of a board's rows: the domains without their names, and which number each line asks
--- for at which domain.
+-- What the rules of domains see of a board's rows: the domains without their names, and which
+-- number each line asks for at which domain.
 use Rattle.std.specs.Prelude.{ℕ, List, map}
 use Rattle.irq_base.specs.declared.domains.DomainDef.{DomainDef}
 use Rattle.board_def.specs.declared.rows.DomainRow.{DomainRow}

@@ -11,8 +11,8 @@ use irq_base::{Actor, DevNo, DeviceDef, DriverNo, LineNo, NoMemory};
 use std::alloc::Global;
 use std::marker::Model;
 
-/// A board that keeps the rules. Contracts see its numbers and its lists. It looks up a domain's name and the
-/// numbers of lines, devices and drivers in constant time.
+/// A board that keeps the rules. Contracts see its numbers and its lists. It looks up a domain's
+/// name and the numbers of lines, devices and drivers in constant time.
 #[derive(Drop)]
 pub struct Board {
     cpus: u32,
@@ -41,8 +41,9 @@ impl Model for Board {
 }
 
 impl Board {
-    /// A board of that many processors (1 to 32), that window (1 to 1,000,000) and limit (below the window) of
-    /// the spurious note, and that greatest length of a line's history (1 to 1,000,000), with nothing declared.
+    /// A board of that many processors (1 to 32), that window (1 to 1,000,000) and limit (below the
+    /// window) of the spurious note, and that greatest length of a line's history (1 to 1,000,000),
+    /// with nothing declared.
     pub fn new(alloc: Global, cpus: u32, window: u32, limit: u32, log: u32) -> Board
         requires cpus { (1 ≤ cpus) × (cpus ≤ 32) }
         requires window { window ≤ 1000000 }
@@ -72,7 +73,8 @@ impl Board {
         self.cpus = cpus;
     }
 
-    /// Sets the window, 1 to 1,000,000, and the limit, below it (`note_interrupt`, `kernel/irq/spurious.c`).
+    /// Sets the window, 1 to 1,000,000, and the limit, below it (`note_interrupt`,
+    /// `kernel/irq/spurious.c`).
     pub fn set_spurious(&mut self, window: u32, limit: u32)
         requires board { IsBoard (record self.old { window = window; limit = limit }) }
         ensures set { self.new ≡ record self.old { window = window; limit = limit } }
@@ -159,7 +161,8 @@ impl Board {
         self.cpus
     }
 
-    /// How many interrupts of a line are counted before the unhandled ones are judged, 1 to 1,000,000.
+    /// How many interrupts of a line are counted before the unhandled ones are judged, 1 to
+    /// 1,000,000.
     pub fn window(&self) -> u32
         ensures { result ≡ self.now.window }
     {

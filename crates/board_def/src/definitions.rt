@@ -17,8 +17,9 @@ use irq_base::{CallList, DeviceList, LevelKind, LineDef, LineNo, NoMemory, Path,
 use std::alloc::Global;
 
 impl Board {
-    /// Whether no domain of that kind may have that parent, the place of one of the board's domains: a root has
-    /// none, a child has one, messages are sent as edges, and a path has at most eight levels.
+    /// Whether no domain of that kind may have that parent, the place of one of the board's
+    /// domains: a root has none, a child has one, messages are sent as edges, and a path has at
+    /// most eight levels.
     pub fn has_bad_parent(&self, chip: LevelKind, parent: Option<usize>) -> bool
         ensures { result ≡ is_bad_parent (defs_of self.now.domains) chip parent }
     {
@@ -31,8 +32,8 @@ impl Board {
             || levels.count >= LEVELS
     }
 
-    /// Whether a line at the domain of that place may not be masked as soon as it is disabled: it is an edge line,
-    /// and no level keeps what comes then.
+    /// Whether a line at the domain of that place may not be masked as soon as it is disabled: it
+    /// is an edge line, and no level keeps what comes then.
     pub fn is_bad_unlazy(&self, domain: usize, unlazy: bool) -> bool
         ensures { result ≡ is_bad_unlazy (defs_of self.now.domains) domain unlazy }
     {

@@ -1,7 +1,8 @@
-//! Boards: the processors, domains, lines and devices of a modelled machine, and its drivers' scripts.
+//! Boards: the processors, domains, lines and devices of a modelled machine, and its drivers'
+//! scripts.
 //!
-//! A `Board` keeps the rules that a text without a fault meets, and gives the definition of each of its lines.
-//! What a line gets at each level of its path, and which line is refused, is its layout.
+//! A `Board` keeps the rules that a text without a fault meets, and gives the definition of each of
+//! its lines. What a line gets at each level of its path, and which line is refused, is its layout.
 #![tactic(auto)]
 
 pub mod board;

@@ -10,8 +10,9 @@ use irq_base::{CallList, DeviceDef, DeviceList, LineDef, NoMemory};
 use std::alloc::Global;
 
 impl Board {
-    /// The definitions of all lines, in the board's order, also of those that have no place. It goes over the devices and
-    /// the calls once, and finds the line of each in constant time. The only error is `NoMemory`.
+    /// The definitions of all lines, in the board's order, also of those that have no place. It
+    /// goes over the devices and the calls once, and finds the line of each in constant time. The
+    /// only error is `NoMemory`.
     pub fn line_defs(&self, alloc: Global) -> Result<Vec<LineDef>, NoMemory>
         ensures defs { IfOk result (λ defs. defs.items ≡ line_defs_of self.now) }
         ensures valid { IfOk result (λ defs. All IsValid defs.items) }

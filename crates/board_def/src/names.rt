@@ -5,8 +5,8 @@ ghost use Rattle.board_def.specs.Names.{is_name, name_of, name_bytes};
 /// The most bytes of a name.
 pub const LONGEST_NAME: usize = 16;
 
-/// The name of a domain: a letter a to z and up to 15 letters, digits or `_` (`name` of `struct irq_domain`,
-/// `include/linux/irqdomain.h`). The bytes after it are zeros, which no name has.
+/// The name of a domain: a letter a to z and up to 15 letters, digits or `_` (`name` of `struct
+/// irq_domain`, `include/linux/irqdomain.h`). The bytes after it are zeros, which no name has.
 #[derive(Clone, Copy, PartialEq, Eq, Hash)]
 pub struct Name {
     padded: [u8; LONGEST_NAME],

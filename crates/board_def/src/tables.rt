@@ -21,8 +21,8 @@ pub trait Keyed<K> {
         ensures { result ≡ key_of self.now };
 }
 
-/// Rows in their order, each with another key. Contracts see the list of the rows. A row is found by its key in
-/// constant time.
+/// Rows in their order, each with another key. Contracts see the list of the rows. A row is found
+/// by its key in constant time.
 #[derive(Drop)]
 pub struct Table<K: Eq + Hash, T: Keyed<K>> {
     rows: IndexMap<K, T>,

@@ -26,7 +26,8 @@ abbrev pub root_domain : List ℕ → LevelKind → DomainRow
 root_domain name chip = record { name = name_of name; def = record { map = maps.Linear 16; chip = chip; parent = None } }
 
 abbrev pub four_domains : List DomainRow
-four_domains = root_domain (codes "latch") levels.Latch ∷ root_domain (codes "plain") levels.Plain ∷ root_domain (codes "level") levels.Level ∷ root_domain (codes "eoi") levels.Eoi ∷ []
+four_domains = root_domain (codes "latch") levels.Latch ∷ root_domain (codes "plain") levels.Plain
+    ∷ root_domain (codes "level") levels.Level ∷ root_domain (codes "eoi") levels.Eoi ∷ []
 
 -- two processors, and nothing but the four domains
 abbrev pub bare_machine : BoardSeen
@@ -49,7 +50,8 @@ driver_no number = record { 0 = number }
 -- ---- its driver's script
 
 abbrev pub script_call : Script → Call → ScriptCall
-script_call s call = record { driver = record { 0 = s.number }; line = record { 0 = s.number }; call = call }
+script_call s call =
+    record { driver = record { 0 = s.number }; line = record { 0 = s.number }; call = call }
 
 abbrev pub shared_oneshot : Flags
 shared_oneshot = record { shared = true; oneshot = true; noauto = false }
@@ -64,9 +66,11 @@ asks_from s place count = map (λ k. script_call s (calls.Ask (record { 0 = s.fi
 
 -- a free of each device, in order of number
 abbrev pub frees : Script → List ScriptCall
-frees s = map (λ dev. script_call s (calls.Free (record { 0 = dev }))) (range_with_len s.first s.devices)
+frees s =
+    map (λ dev. script_call s (calls.Free (record { 0 = dev }))) (range_with_len s.first s.devices)
 
--- requests; the first half of the asks, rounded down; a disable and an enable; the other asks; frees
+-- requests; the first half of the asks, rounded down; a disable and an enable; the other asks;
+-- frees
 abbrev pub script_calls : Script → List ScriptCall
 script_calls s =
     requests s ++ asks_from s 0 (s.asks / 2)

@@ -30,8 +30,10 @@ pub record IsUpTo (number first : ℕ) (b : BoardSeen) : Type 0 where
 pub record IsScripted (s : Script) (b : BoardSeen) : Type 0 where
   pub driver : has_driver b.drivers (record { 0 = s.number }) ≡ true
   pub line : has_line b.lines (record { 0 = s.number }) ≡ true
-  pub devices : (d : DevNo) → s.first ≤ d.0 → d.0 < s.first + s.devices → is_on_line (record { 0 = s.number }) (find_device b.devices d) ≡ true
+  pub devices : (d : DevNo) → s.first ≤ d.0 → d.0 < s.first + s.devices
+      → is_on_line (record { 0 = s.number }) (find_device b.devices d) ≡ true
   pub callers : All (λ c. c.driver.0 ≤ s.number) b.calls
   -- what names these devices is of this driver, and nothing names later ones
-  pub own : (d : DevNo) → s.first ≤ d.0 → is_of_another (record { 0 = s.number }) (first_owning d b.calls) ≡ false
+  pub own : (d : DevNo) → s.first ≤ d.0
+      → is_of_another (record { 0 = s.number }) (first_owning d b.calls) ≡ false
   pub unnamed : NamesNone (s.first + s.devices) b

@@ -24,8 +24,8 @@ kinds_drawn count x = map (λ k. kind_of (draw k 3 x)) (range_with_len 1 count)
 abbrev pub device_count : ℕ → ℕ
 device_count x = 1 + draw 2 2 x
 
--- the line of that number, whose first device has that number: its domain, the number of its devices, their kinds,
--- and the number of its asks
+-- the line of that number, whose first device has that number: its domain, the number of its
+-- devices, their kinds, and the number of its asks
 abbrev pub plan_of : ℕ → ℕ → ℕ → LinePlan
 plan_of number first x =
     let devices = device_count x in

@@ -18,7 +18,8 @@ paths_of (placements.Refused why ∷ layout) = paths_of layout
 
 -- a line that has a place has its path by its virq
 abbrev pub HavePaths : List (Option (List (ℕ × ℕ))) → List Placement → Type 0
-HavePaths paths layout = (i virq : ℕ) (path : List (ℕ × ℕ)) → slice_get layout i ≡ Some (placements.Mapped virq path) → path_in paths virq ≡ Some path
+HavePaths paths layout = (i virq : ℕ) (path : List (ℕ × ℕ))
+    → slice_get layout i ≡ Some (placements.Mapped virq path) → path_in paths virq ≡ Some path
 
 -- each path has a domain once
 abbrev pub AllFall : List Placement → Type 0
@@ -26,10 +27,12 @@ AllFall [] = Unit {0}
 AllFall (placements.Mapped virq path ∷ layout) = Falls (places path) × AllFall layout
 AllFall (placements.Refused why ∷ layout) = AllFall layout
 
--- after so many of the board's lines: their placements are those of the layout, and the hierarchy has their paths
+-- after so many of the board's lines: their placements are those of the layout, and the hierarchy
+-- has their paths
 pub record IsLaid (b : BoardSeen) (lines : ℕ) (h : HierarchySeen) (layout : List Placement) : Type 0 where
   pub domains : h.domains ≡ defs_of b.domains
   pub paths : h.paths ≡ paths_of layout
   pub falls : AllFall layout
   pub count : length layout ≡ lines
-  pub rest : layout ++ layout_after (defs_of b.domains) layout (drop lines (leaves_of b.lines)) ≡ layout_of b
+  pub rest : layout ++ layout_after (defs_of b.domains) layout (drop lines (leaves_of b.lines))
+      ≡ layout_of b

@@ -11,9 +11,10 @@ use domain_rules::{Layout, Placement, Unmapped};
 use irq_base::NoMemory;
 use std::alloc::Global;
 
-/// Lays the board's lines in its order, each by an allocation over its domains (`irq_domain_alloc_irqs_hierarchy`,
-/// `kernel/irq/irqdomain.c`). Answers the hierarchy, which has exactly the paths of the lines that have a place, and where
-/// each line lies. The only error is `NoMemory`.
+/// Lays the board's lines in its order, each by an allocation over its domains
+/// (`irq_domain_alloc_irqs_hierarchy`, `kernel/irq/irqdomain.c`). Answers the hierarchy, which has
+/// exactly the paths of the lines that have a place, and where each line lies. The only error is
+/// `NoMemory`.
 pub fn lay(alloc: Global, board: &Board) -> Result<(Hierarchy, Layout), NoMemory>
     ensures layout { IfOk result (λ laid. laid.1 ≡ layout_of board.now) }
     ensures domains { IfOk result (λ laid. laid.0.domains ≡ defs_of board.now.domains) }

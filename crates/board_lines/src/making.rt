@@ -14,8 +14,8 @@ use line_core::Line;
 use std::alloc::Global;
 use std::marker::Model;
 
-/// Makes each line over the chip of its whole path, which it finds by the line's virq (`irq_get_irq_data`,
-/// `kernel/irq/chip.c`). Contracts see the hierarchy that it looks in.
+/// Makes each line over the chip of its whole path, which it finds by the line's virq
+/// (`irq_get_irq_data`, `kernel/irq/chip.c`). Contracts see the hierarchy that it looks in.
 #[derive(Drop)]
 pub struct MakesChainLine<'h> {
     domains: &'h Hierarchy,

@@ -1,4 +1,5 @@
--- What is known of the definitions of a board's lines: whatever the layout refuses, they are definitions of rows.
+-- What is known of the definitions of a board's lines: whatever the layout refuses, they are
+-- definitions of rows.
 use Rattle.std.proofs.Common.{◌≡◌, ℕ, zero, suc, ◌+◌, ◌<◌, ◌==◌, Bool, true, false, ◌&&◌, cond, Some, List, [], ◌∷◌, map, filter, length, take, slice_get, refl, ap, ◌∙◌, subst, arith}
 use Rattle.irq_base.specs.declared.calls.Call.{Call}
 use Rattle.irq_base.specs.declared.lines.LineDef.{LineDef}

@@ -13,19 +13,24 @@ use Rattle.board_play.specs.Lines.{BoardLine, find_line}
 -- how many of the calls are the driver's on the line
 abbrev pub calls_on : LineNo → DriverNo → List ScriptCall → ℕ
 calls_on line r [] = 0
-calls_on line r (c ∷ cs) = if same_line c.line line && same_driver r c.driver then calls_on line r cs + 1 else calls_on line r cs
+calls_on line r (c ∷ cs) =
+    if same_line c.line line && same_driver r c.driver then calls_on line r cs + 1
+    else calls_on line r cs
 
--- the driver's call number k on the line isn't complete; a line that was refused has no calls that wait
+-- the driver's call number k on the line isn't complete; a line that was refused has no calls that
+-- wait
 abbrev pub is_open : Option BoardLine → DriverNo → ℕ → Bool
 is_open None r k = false
 is_open (Some x) r k = nat_le (length (complete_by x.def r x.past)) k
 
 -- the line of the driver's first call among `cs` that isn't complete; `before` stands before them
 -- in the scripts, the last first
-abbrev pub current_from : List BoardLine → DriverNo → List ScriptCall → List ScriptCall → Option BoardLine
+abbrev pub current_from : List BoardLine → DriverNo → List ScriptCall → List ScriptCall
+    → Option BoardLine
 current_from lines r before [] = None
 current_from lines r before (c ∷ cs) =
-    if same_driver r c.driver && is_open (find_line lines c.line) r (calls_on c.line r before) then find_line lines c.line
+    if same_driver r c.driver && is_open (find_line lines c.line) r (calls_on c.line r before)
+    then find_line lines c.line
     else current_from lines r (c ∷ before) cs
 
 abbrev pub current_line : List ScriptCall → List BoardLine → DriverNo → Option BoardLine

@@ -15,13 +15,18 @@ use Rattle.board_play.specs.Lines.{BoardLine, defs_of}
 abbrev pub IsCallOn : LineNo → DriverNo → ScriptCall → Type 0
 IsCallOn line r c = (c.line ≡ line) × (c.driver ≡ r)
 
--- The driver's entries are those of its script up to a place, line by line: on each line the calls before the place are
--- complete and no others are, and a call that has begun and isn't complete is the one at the place.
+-- The driver's entries are those of its script up to a place, line by line: on each line the calls
+-- before the place are complete and no others are, and a call that has begun and isn't complete is
+-- the one at the place.
 pub record IsUpTo (calls : List ScriptCall) (lines : List BoardLine) (r : DriverNo) (place : ℕ) : Type 0 where
-  pub complete : (i : ℕ) (x : BoardLine) → slice_get lines i ≡ Some x → length (complete_by x.def r x.past) ≡ calls_on x.def.line r (take place calls)
-  pub begun : (i : ℕ) (x : BoardLine) (c : Call) (n : ℕ) → slice_get lines i ≡ Some x → due_call x.def r x.past ≡ Some (c, suc n) → IsSomeAnd (slice_get calls place) (IsCallOn x.def.line r)
+  pub complete : (i : ℕ) (x : BoardLine) → slice_get lines i ≡ Some x
+      → length (complete_by x.def r x.past) ≡ calls_on x.def.line r (take place calls)
+  pub begun : (i : ℕ) (x : BoardLine) (c : Call) (n : ℕ) → slice_get lines i ≡ Some x
+      → due_call x.def r x.past ≡ Some (c, suc n)
+      → IsSomeAnd (slice_get calls place) (IsCallOn x.def.line r)
 
--- the lines are the board's, each history is legal, and the drivers' calls are made in the order of their scripts
+-- the lines are the board's, each history is legal, and the drivers' calls are made in the order of
+-- their scripts
 pub record AreKept (board : BoardSeen) (lines : List BoardLine) : Type 0 where
   pub defs : map (λ (x : BoardLine). x.def) lines ≡ defs_of board
   pub legal : (i : ℕ) (x : BoardLine) → slice_get lines i ≡ Some x → IsLegalPast x.def x.past

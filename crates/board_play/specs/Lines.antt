@@ -1,6 +1,6 @@
--- What a board's lines are: those of its layout that aren't refused, each with its definition and its history so far.
--- What has happened on a board is a list of moves, each an entry of a line. The newest comes first, of the moves and of
--- a line's entries.
+-- What a board's lines are: those of its layout that aren't refused, each with its definition and
+-- its history so far. What has happened on a board is a list of moves, each an entry of a line. The
+-- newest comes first, of the moves and of a line's entries.
 use Rattle.std.specs.Prelude.{Option, Some, None, List, [], ◌∷◌, map, if◌then◌else◌}
 use Rattle.irq_base.specs.declared.entries.Entry.{Entry}
 use Rattle.irq_base.specs.declared.lines.LineDef.{LineDef}
@@ -25,7 +25,8 @@ Move = LineNo × Entry
 abbrev pub mapped : List LineRow → List Placement → List LineRow
 mapped [] places = []
 mapped (row ∷ rows) [] = []
-mapped (row ∷ rows) (place ∷ places) = if is_mapped place then (row ∷ mapped rows places) else mapped rows places
+mapped (row ∷ rows) (place ∷ places) =
+    if is_mapped place then (row ∷ mapped rows places) else mapped rows places
 
 -- the definitions of the lines that take part, in the board's order, which is that of their numbers
 abbrev pub defs_of : BoardSeen → List LineDef
@@ -46,7 +47,8 @@ lines_of b g = lines_at (defs_of b) g
 
 -- a line after one more move, and all lines
 abbrev pub line_after : Move → BoardLine → BoardLine
-line_after m x = record { def = x.def; past = if same_line x.def.line m.0 then (m.1 ∷ x.past) else x.past }
+line_after m x =
+    record { def = x.def; past = if same_line x.def.line m.0 then (m.1 ∷ x.past) else x.past }
 
 abbrev pub lines_after : Move → List BoardLine → List BoardLine
 lines_after m lines = map (line_after m) lines

@@ -20,7 +20,8 @@ flow_line (x ∷ xs) c = if is_cpu c (flow x.def x.past) then Some x else flow_l
 -- the lowest line on which an entry of the processor is due
 abbrev pub due_line : List BoardLine → CpuNo → Option BoardLine
 due_line [] c = None
-due_line (x ∷ xs) c = if is_some (next_past x.def x.past (actors.Cpu c)) then Some x else due_line xs c
+due_line (x ∷ xs) c =
+    if is_some (next_past x.def x.past (actors.Cpu c)) then Some x else due_line xs c
 
 abbrev pub or_line : Option BoardLine → Option BoardLine → Option BoardLine
 or_line None other = other
@@ -46,8 +47,8 @@ due_on (Some x) a = move_on x.def.line (next_past x.def x.past a)
 abbrev pub due_move : BoardSeen → List BoardLine → Actor → Option Move
 due_move board lines a = due_on (line_for board lines a) a
 
--- the actors in order, the lowest first: the threads by the number of their device, whatever its line; the processors; the
--- drivers. The devices and the drivers of a board stand in rising order.
+-- the actors in order, the lowest first: the threads by the number of their device, whatever its
+-- line; the processors; the drivers. The devices and the drivers of a board stand in rising order.
 abbrev pub threads_of : BoardSeen → List Actor
 threads_of b = map (λ x. actors.Thread x.line x.dev) b.devices
 

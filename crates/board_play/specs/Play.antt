@@ -1,5 +1,5 @@
--- The play of a board: the picks first, then always the lowest actor that can move, until none can, or a line's log is
--- full (ours). The newest move comes first.
+-- The play of a board: the picks first, then always the lowest actor that can move, until none can,
+-- or a line's log is full (ours). The newest move comes first.
 use Rattle.std.specs.Prelude.{◌≡◌, ◌<◌, Option, Some, None, List, [], ◌∷◌, length}
 use Rattle.irq_base.specs.declared.entries.Actor.{Actor}
 use Rattle.irq_base.specs.declared.numbers.LineNo.{LineNo}
@@ -7,7 +7,8 @@ use Rattle.board_def.specs.Seen.{BoardSeen}
 use Rattle.board_play.specs.Lines.{BoardLine, Move, part, lines_of}
 use Rattle.board_play.specs.Order.{due_move, actors_of}
 
--- how a play ends: no actor can move; or the line whose turn it is has a history of the log limit's length
+-- how a play ends: no actor can move; or the line whose turn it is has a history of the log limit's
+-- length
 pub data End : Type 0 where
   Done : End
   Full : LineNo → End
@@ -26,7 +27,8 @@ abbrev pub with_picks : List Actor → Option Move → Option (Move × List Acto
 with_picks picks None = None
 with_picks picks (Some m) = Some (m, picks)
 
-abbrev pub or_choice : Option (Move × List Actor) → Option (Move × List Actor) → Option (Move × List Actor)
+abbrev pub or_choice : Option (Move × List Actor) → Option (Move × List Actor)
+    → Option (Move × List Actor)
 or_choice None other = other
 or_choice (Some choice) other = Some choice
 
@@ -34,13 +36,16 @@ or_choice (Some choice) other = Some choice
 -- picks of the lowest actor that can move
 abbrev pub choice : BoardSeen → List BoardLine → List Actor → Option (Move × List Actor)
 choice board lines [] = with_picks [] (first_move board lines (actors_of board))
-choice board lines (pick ∷ picks) = or_choice (with_picks picks (due_move board lines pick)) (choice board lines picks)
+choice board lines (pick ∷ picks) =
+    or_choice (with_picks picks (due_move board lines pick)) (choice board lines picks)
 
 -- each move was the next one, and its line had room for it; `left` are the picks that are left
 abbrev pub IsChosen : BoardSeen → List Actor → List Move → List Actor → Type 0
 IsChosen board picks [] left = left ≡ picks
 IsChosen board picks (m ∷ g) left =
-    (before : List Actor) × IsChosen board picks g before × (choice board (lines_of board g) before ≡ Some (m, left)) × (length (part m.0 g) < board.log)
+    (before : List Actor) × IsChosen board picks g before
+    × (choice board (lines_of board g) before ≡ Some (m, left))
+    × (length (part m.0 g) < board.log)
 
 -- there is no further move; or there is one, and its line has the greatest length
 pub record IsFullAt (board : BoardSeen) (g : List Move) (left : List Actor) (line : LineNo) : Type 0 where

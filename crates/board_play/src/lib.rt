@@ -1,6 +1,6 @@
-//! The play of a board of many lines by the stated order, and its laws, over the definitions alone: who moves next and
-//! where, what a play is, and what is promised of every play. Each law is the clause of a function with an empty body, so
-//! that crates above can call it or cite its lemma.
+//! The play of a board of many lines by the stated order, and its laws, over the definitions alone:
+//! who moves next and where, what a play is, and what is promised of every play. Each law is the
+//! clause of a function with an empty body, so that crates above can call it or cite its lemma.
 #![tactic(auto)]
 
 ghost use Rattle.std.specs.Prelude.{◌≡◌, ℕ, None, Some, List, [], reverse, slice_get};
@@ -19,7 +19,8 @@ ghost use Rattle.board_play.specs.Lines.{BoardLine, Move, find_line, lines_after
 ghost use Rattle.board_play.specs.Order.{due_move, actors_of};
 ghost use Rattle.board_play.specs.Play.{End, Done, Plays};
 
-/// A play is one function of the board and the picks: at most one list of moves and one end are its play.
+/// A play is one function of the board and the picks: at most one list of moves and one end are its
+/// play.
 pub fn play_is_one()
     ensures law { (board : BoardSeen) (picks : List Actor) (g h : List Move) (a b : End) → Plays board picks g a → Plays board picks h b → (g ≡ h) × (a ≡ b) }
 {}
@@ -30,8 +31,8 @@ pub fn parts_are_legal()
     ensures others { (board : BoardSeen) (picks : List Actor) (g : List Move) (end : End) → Plays board picks g end → (line : LineNo) → find_line (lines_of board g) line ≡ None → part line g ≡ [] }
 {}
 
-/// What a board's lines keep: every move of an actor keeps it, so it holds of every play. Each history is legal, and the
-/// drivers' calls are made in the order of their scripts, over all lines.
+/// What a board's lines keep: every move of an actor keeps it, so it holds of every play. Each
+/// history is legal, and the drivers' calls are made in the order of their scripts, over all lines.
 pub fn play_keeps()
     ensures step { (board : BoardSeen) (lines : List BoardLine) (a : Actor) (m : Move) → IsBoard board → AreKept board lines → due_move board lines a ≡ Some m → AreKept board (lines_after m lines) }
     ensures law { (board : BoardSeen) (picks : List Actor) (g : List Move) (end : End) → IsBoard board → Plays board picks g end → AreKept board (lines_of board g) }

@@ -120,7 +120,8 @@ joined_here nodes i some inside =
     let right : node (slice_set nodes i t) (2 * i + 1) ≡ node nodes (2 * i + 1) = get_or-set_other nodes i (2 * i + 1) t None (λ e. omega (arith, some, e)) in
     get_or-set_same nodes i t None inside ∙ (ap (λ x. lower_of x (node nodes (2 * i + 1))) (sym left) ∙ ap (lower_of (node (slice_set nodes i t) (2 * i))) (sym right))
 
--- while a line's thread is being put: all nodes are joined but one, and the threads are the new ones
+-- while a line's thread is being put: all nodes are joined but one, and the threads are the new
+-- ones
 pub record IsUpTo (nodes old : List (Option ReadyThread)) (line n : ℕ) (t : Option ReadyThread) : Type 0 where
   pub few : n < 64
   pub joined : (i : ℕ) → 0 < i → i < 64 → (i ≡ n → ⊥) → IsJoined nodes i

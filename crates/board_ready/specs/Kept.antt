@@ -14,20 +14,26 @@ thread_of None = None
 thread_of (Some x) = x.thread
 
 abbrev pub AreThreads : List LinePart → List (Option ReadyThread) → Type 0
-AreThreads lines nodes = (k : ℕ) → k < 64 → leaf nodes k ≡ thread_on k (thread_of (slice_get lines k))
+AreThreads lines nodes =
+    (k : ℕ) → k < 64 → leaf nodes k ≡ thread_on k (thread_of (slice_get lines k))
 
 abbrev pub AreFlows : List LinePart → List ℕ → Type 0
-AreFlows lines words = (c k : ℕ) → c < 32 → k < 64 → is_of words c k ≡ has_flow c (slice_get lines k)
+AreFlows lines words =
+    (c k : ℕ) → c < 32 → k < 64 → is_of words c k ≡ has_flow c (slice_get lines k)
 
 abbrev pub AreTakes : List LinePart → List ℕ → Type 0
-AreTakes lines words = (c k : ℕ) → c < 32 → k < 64 → is_of words c k ≡ has_take c (slice_get lines k)
+AreTakes lines words =
+    (c k : ℕ) → c < 32 → k < 64 → is_of words c k ≡ has_take c (slice_get lines k)
 
 abbrev pub AreOnLines : List (Option CurrentCall) → CallsSeen → Type 0
-AreOnLines drivers calls = (k r : ℕ) → k < 64 → r < 64 → has (on_line calls k) r ≡ is_on k (current_call drivers r)
+AreOnLines drivers calls =
+    (k r : ℕ) → k < 64 → r < 64 → has (on_line calls k) r ≡ is_on k (current_call drivers r)
 
 abbrev pub AreWaiting : List (Option CurrentCall) → CallsSeen → Type 0
-AreWaiting drivers calls = (w : WaitFor) (r : ℕ) → r < 64 → has (word_for w calls.waiting) r ≡ is_waiting w (current_call drivers r)
+AreWaiting drivers calls = (w : WaitFor) (r : ℕ) → r < 64
+    → has (word_for w calls.waiting) r ≡ is_waiting w (current_call drivers r)
 
 -- the drivers that can go on
 abbrev pub AreReady : List LinePart → List (Option CurrentCall) → ℕ → Type 0
-AreReady lines drivers word = (r : ℕ) → r < 64 → has word r ≡ can_go_on lines (current_call drivers r)
+AreReady lines drivers word =
+    (r : ℕ) → r < 64 → has word r ≡ can_go_on lines (current_call drivers r)

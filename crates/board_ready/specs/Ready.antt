@@ -68,12 +68,14 @@ flow_or_take (Some k) take = Some k
 
 -- the line on which a processor moves; processors of 32 and above don't
 abbrev pub cpu_line : List LinePart → ℕ → Option ℕ
-cpu_line lines c = if nat_lt c 32 then flow_or_take (flow_line lines c) (take_line lines c) else None
+cpu_line lines c =
+    if nat_lt c 32 then flow_or_take (flow_line lines c) (take_line lines c) else None
 
 abbrev pub is_cpu_ready : List LinePart → ℕ → Bool
 is_cpu_ready lines c = is_some (cpu_line lines c)
 
--- the first of processors 0 to 31 that moves; opened by name, so that a goal doesn't spell out all 32
+-- the first of processors 0 to 31 that moves; opened by name, so that a goal doesn't spell out all
+-- 32
 unfoldable pub lowest_cpu : List LinePart → Option ℕ
 lowest_cpu lines = first_of (is_cpu_ready lines) 32
 

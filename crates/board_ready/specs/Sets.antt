@@ -77,4 +77,6 @@ is_waiting w (Some call) = is_wait w call.wait
 
 -- the driver waits for nothing, or for what doesn't stand in the way
 abbrev pub may_go_on : Barriers → Waiting → ℕ → Bool
-may_go_on x w r = has w.nothing r || (has w.flow r && not x.flow) || (has w.threads r && not x.threads) || (has w.mutex r && not x.mutex) || (has w.device r && not x.device)
+may_go_on x w r = has w.nothing r || (has w.flow r && not x.flow)
+    || (has w.threads r && not x.threads) || (has w.mutex r && not x.mutex)
+    || (has w.device r && not x.device)

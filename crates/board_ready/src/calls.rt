@@ -20,7 +20,8 @@ pub struct Waiting {
     pub device: u64,
 }
 
-/// The drivers whose current calls are on each of 64 lines, a bit for each driver, and those that wait for each thing.
+/// The drivers whose current calls are on each of 64 lines, a bit for each driver, and those that
+/// wait for each thing.
 #[derive(Drop)]
 pub struct CallSets {
     lines: [u64; 64],

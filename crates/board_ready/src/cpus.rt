@@ -11,7 +11,8 @@ use std::marker::Model;
 /// How many processors it has room for.
 const CPUS: u32 = 32;
 
-/// A set of lines for each of 32 processors, a bit for each line, and the set of the processors that have some.
+/// A set of lines for each of 32 processors, a bit for each line, and the set of the processors
+/// that have some.
 #[derive(Drop)]
 pub struct CpuLines {
     words: [u64; 32],
@@ -41,7 +42,8 @@ impl CpuLines {
         }
     }
 
-    /// Gives the line to the processor, or takes it away; nothing changes for none, or one of 32 and above.
+    /// Gives the line to the processor, or takes it away; nothing changes for none, or one of 32
+    /// and above.
     pub fn put(&mut self, cpu: Option<CpuNo>, line: usize, to: bool)
         requires { line < 64 }
         ensures { (c k : ℕ) → c < 32 → k < 64 → is_of self.new c k ≡ (if is_cpu c cpu && (k == line) then to else is_of self.old c k) }

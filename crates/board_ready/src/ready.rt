@@ -14,8 +14,8 @@ use std::marker::Model;
 /// How many processors there are at most.
 const CPUS: u32 = 32;
 
-/// Who can move: a part for each line and the current call of each driver, at most 64 of either. Contracts see the two
-/// lists.
+/// Who can move: a part for each line and the current call of each driver, at most 64 of either.
+/// Contracts see the two lists.
 #[derive(Drop)]
 pub struct ReadyActors {
     lines: Vec<LinePart>,
@@ -120,7 +120,8 @@ impl ReadyActors {
         }
     }
 
-    /// The first that can move: threads by the numbers of their devices, then processors, then drivers.
+    /// The first that can move: threads by the numbers of their devices, then processors, then
+    /// drivers.
     pub fn lowest(&self) -> Option<Mover>
         ensures { result ≡ lowest self.now }
     {

@@ -1,4 +1,5 @@
-//! The answers by hand, and every choice of three lines and four drivers from two small tables beside a plain search.
+//! The answers by hand, and every choice of three lines and four drivers from two small tables
+//! beside a plain search.
 ghost use Rattle.std.specs.Prelude.{◌≡◌, ◌<◌, length};
 
 use crate::parts::{Barriers, CurrentCall, LinePart, Mover, ReadyThread, WaitFor};
@@ -303,7 +304,8 @@ fn threads(rt: HostRuntime) -> Result<(), Fail> {
     Ok(())
 }
 
-/// A processor with a flow on line 9 and a take due on line 2 moves on line 9; processors go by their numbers.
+/// A processor with a flow on line 9 and a take due on line 2 moves on line 9; processors go by
+/// their numbers.
 #[test]
 fn processors(rt: HostRuntime) -> Result<(), Fail> {
     let mut ready = ReadyActors::new(rt.alloc(), 64, 64)?;

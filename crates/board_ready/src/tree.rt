@@ -10,8 +10,9 @@ use std::marker::Model;
 /// How many lines it has room for.
 const LINES: usize = 64;
 
-/// A thread for each of 64 lines, and the lowest of each pair of neighbours, of each pair of pairs and so on: node 1 is
-/// the lowest of all, the nodes 2 i and 2 i + 1 stand below node i, and the line at place k has node 64 + k.
+/// A thread for each of 64 lines, and the lowest of each pair of neighbours, of each pair of pairs
+/// and so on: node 1 is the lowest of all, the nodes 2 i and 2 i + 1 stand below node i, and the
+/// line at place k has node 64 + k.
 #[derive(Drop)]
 pub struct ThreadTree {
     nodes: [Option<ReadyThread>; 128],

@@ -1,4 +1,5 @@
--- What has no fault after the statements before it; and that nothing is declared yet that a later section declares.
+-- What has no fault after the statements before it; and that nothing is declared yet that a later
+-- section declares.
 use Rattle.std.proofs.Common.{◌≡◌, ℕ, ◌<◌, ◌≤◌, Bool, true, false, cond, Option, Some, None, List, [], ◌∷◌, nat_lt, refl, arith}
 use Rattle.std.proofs.lemmas.Bool.{ltb-false, or_parts}
 use Rattle.board_def.specs.Seen.{BoardSeen}

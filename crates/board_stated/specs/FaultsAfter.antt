@@ -1,5 +1,5 @@
--- What is wrong with a statement after those before it, the newest one first. A fault in the statement itself
--- comes before all of these.
+-- What is wrong with a statement after those before it, the newest one first. A fault in the
+-- statement itself comes before all of these.
 use Rattle.std.specs.Prelude.{ℕ, ◌+◌, Bool, true, false, not, ◌||◌, ◌==◌, nat_lt, nat_le, is_none, if◌then◌else◌, Option, Some, None, List, [], ◌∷◌, length}
 use Rattle.std.specs.List.{list_any}
 use Rattle.std.specs.Option.{option_map_or}
@@ -33,14 +33,18 @@ is_empty xs = length xs == 0
 
 -- a number that isn't above the last one of its kind, or a call before any driver
 abbrev pub is_misplaced : BoardSeen → Statement → Bool
-is_misplaced b (statements.Line l) = option_map_or (λ last. nat_le l.line.0 last.0) (last_line b.lines) false
-is_misplaced b (statements.Device dev line kind) = option_map_or (λ last. nat_le dev.0 last.0) (last_device b.devices) false
-is_misplaced b (statements.Driver driver) = option_map_or (λ last. nat_le driver.0 last.0) (last_driver b.drivers) false
+is_misplaced b (statements.Line l) =
+    option_map_or (λ last. nat_le l.line.0 last.0) (last_line b.lines) false
+is_misplaced b (statements.Device dev line kind) =
+    option_map_or (λ last. nat_le dev.0 last.0) (last_device b.devices) false
+is_misplaced b (statements.Driver driver) =
+    option_map_or (λ last. nat_le driver.0 last.0) (last_driver b.drivers) false
 is_misplaced b (statements.Call c) = is_empty b.drivers
 is_misplaced b _ = false
 
 abbrev pub is_out_of_order : List Statement → Statement → Bool
-is_out_of_order past s = nat_lt (section_of s) (section_reached past) || is_misplaced (board_of past) s
+is_out_of_order past s =
+    nat_lt (section_of s) (section_reached past) || is_misplaced (board_of past) s
 
 -- twice
 
@@ -98,11 +102,13 @@ is_not_there b _ = false
 -- parents, options, owners
 
 abbrev pub has_bad_parent : BoardSeen → Statement → Bool
-has_bad_parent b (statements.Domain d) = is_bad_parent (defs_of b.domains) d.chip (parent_place b.domains d.parent)
+has_bad_parent b (statements.Domain d) =
+    is_bad_parent (defs_of b.domains) d.chip (parent_place b.domains d.parent)
 has_bad_parent b _ = false
 
 abbrev pub has_bad_unlazy : BoardSeen → Statement → Bool
-has_bad_unlazy b (statements.Line l) = is_bad_unlazy (defs_of b.domains) (place_or_first (place_of_name b.domains l.domain)) l.unlazy
+has_bad_unlazy b (statements.Line l) =
+    is_bad_unlazy (defs_of b.domains) (place_or_first (place_of_name b.domains l.domain)) l.unlazy
 has_bad_unlazy b _ = false
 
 abbrev pub is_mask_empty : ℕ → Option ℕ → Bool
@@ -114,7 +120,8 @@ has_bad_mask b (statements.Line l) = is_mask_empty b.cpus l.mask
 has_bad_mask b _ = false
 
 abbrev pub has_bad_owner : BoardSeen → Statement → Bool
-has_bad_owner b (statements.Call c) = is_bad_owner b.calls (driver_writing b.drivers) (call_of_words c)
+has_bad_owner b (statements.Call c) =
+    is_bad_owner b.calls (driver_writing b.drivers) (call_of_words c)
 has_bad_owner b _ = false
 
 -- too many

@@ -25,7 +25,7 @@ abbrev pub IsSound : List Statement → Type 0
 IsSound [] = Unit {0}
 IsSound (s ∷ past) = IsSound past × IsWellFormed s × (fault_after past s ≡ None)
 
--- The board so far. Its log limit is the least one until the text has ended, since the rule on the log limit counts
--- the lines of the whole text.
+-- The board so far. Its log limit is the least one until the text has ended, since the rule on the
+-- log limit counts the lines of the whole text.
 abbrev pub draft_of : List Statement → BoardSeen
 draft_of past = record (board_of past) { log = 1 }

@@ -105,12 +105,15 @@ with_statement (statements.Board version) b = b
 with_statement (statements.Cpus cpus) b = record b { cpus = cpus }
 with_statement (statements.Spurious window limit) b = record b { window = window; limit = limit }
 with_statement (statements.Log log) b = record b { log = log }
-with_statement (statements.Domain d) b = record b { domains = b.domains ++ domain_row b.domains d ∷ [] }
+with_statement (statements.Domain d) b =
+    record b { domains = b.domains ++ domain_row b.domains d ∷ [] }
 with_statement (statements.Line l) b = record b { lines = b.lines ++ line_row b l ∷ [] }
-with_statement (statements.Device dev line kind) b = record b { devices = b.devices ++ record { dev = dev; line = line; kind = kind } ∷ [] }
+with_statement (statements.Device dev line kind) b =
+    record b { devices = b.devices ++ record { dev = dev; line = line; kind = kind } ∷ [] }
 with_statement (statements.Driver driver) b = record b { drivers = b.drivers ++ driver ∷ [] }
 with_statement (statements.Call c) b = record b { calls = b.calls ++ script_call b c ∷ [] }
-with_statement (statements.Picks picks) b = record b { picks = b.picks ++ flat_map (actors_picked b.devices) picks }
+with_statement (statements.Picks picks) b =
+    record b { picks = b.picks ++ flat_map (actors_picked b.devices) picks }
 
 -- the board that the statements state
 abbrev pub board_of : List Statement → BoardSeen

@@ -22,8 +22,8 @@ abbrev pub or_else : Option FaultKind → Option FaultKind → Option FaultKind
 or_else (Some kind) other = Some kind
 or_else None other = other
 
--- the first fault of a statement: the first statement is the header; then come the faults in itself, and then
--- those after the statements before it
+-- the first fault of a statement: the first statement is the header; then come the faults in
+-- itself, and then those after the statements before it
 abbrev pub fault_of_statement : List Statement → List (List ℕ) → Option FaultKind
 fault_of_statement past words =
     if is_empty past && not (begins_with_board words) then Some faults.NoHeader
@@ -51,7 +51,8 @@ fault_or at None later = later
 -- the fault of the first text line that has one; the lines are counted on from `at`
 abbrev pub first_fault : ℕ → List Statement → List (List ℕ) → Option BoardFault
 first_fault at past [] = None
-first_fault at past (line ∷ lines) = fault_or at (fault_of_line past line) (first_fault (at + 1) (with_line past line) lines)
+first_fault at past (line ∷ lines) =
+    fault_or at (fault_of_line past line) (first_fault (at + 1) (with_line past line) lines)
 
 abbrev pub has_words : List ℕ → Bool
 has_words line = not (is_empty (words_of line))
@@ -60,7 +61,8 @@ has_words line = not (is_empty (words_of line))
 -- before that fault
 abbrev pub fault_without_statement : List (List ℕ) → FaultKind
 fault_without_statement [] = faults.NoHeader
-fault_without_statement (line ∷ lines) = if has_bad_byte line then faults.BadByte else faults.NoHeader
+fault_without_statement (line ∷ lines) =
+    if has_bad_byte line then faults.BadByte else faults.NoHeader
 
 abbrev pub fault_of_lines : List (List ℕ) → Option BoardFault
 fault_of_lines lines =

@@ -1,5 +1,5 @@
-//! Chains of every kind of path, and a message by itself, through the bound, over the same calls. The expected signals
-//! are worked out by hand from the table of paths.
+//! Chains of every kind of path, and a message by itself, through the bound, over the same calls.
+//! The expected signals are worked out by hand from the table of paths.
 ghost use Rattle.std.specs.Prelude.{◌≡◌, true, false};
 ghost use Rattle.irq_base.specs.Cell.{is_edge_cell};
 
@@ -8,8 +8,9 @@ use domain_chain::{Chain, MsiChip};
 use irq_base::LevelKind::{Eoi, Latch, Level, Lpi, Msi, Plain, Remap, Vector};
 use irq_base::{Chip, CpuNo};
 
-/// Whether an edge is presented that came while masked, once it is open; one that came while open; the same once it is
-/// masked, and open again; what a retrigger answers, and whether it is presented.
+/// Whether an edge is presented that came while masked, once it is open; one that came while open;
+/// the same once it is masked, and open again; what a retrigger answers, and whether it is
+/// presented.
 fn edge_calls<C: Chip>(chip: &mut C) -> [bool; 6]
     requires { is_edge_cell (C.cell chip.old) ≡ true }
 {

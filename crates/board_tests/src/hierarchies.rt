@@ -32,8 +32,8 @@ const NEAR: DomainDef = DomainDef {
     parent: Some(0),
 };
 
-/// A vector domain, a remap over it with one number, messages over that and messages near the vectors, and one more
-/// remap.
+/// A vector domain, a remap over it with one number, messages over that and messages near the
+/// vectors, and one more remap.
 fn messages(alloc: Global) -> Result<Hierarchy, NoMemory>
     ensures { IfOk result (λ h. (length h.domains ≡ 5) × (length (in_use h.paths) ≡ 0)) }
 {

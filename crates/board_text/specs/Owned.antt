@@ -17,10 +17,13 @@ abbrev pub is_requested : Option Owner → Bool
 is_requested (Some owner) = owner.requested
 is_requested None = false
 
--- each device's owner is the driver of the first request or free of it, and knows whether the last is a request
+-- each device's owner is the driver of the first request or free of it, and knows whether the last
+-- is a request
 abbrev pub Owns : List (DevNo × Owner) → List ScriptCall → Type 0
 Owns owners calls =
-    (dev : DevNo) → (option_map (λ o. o.driver) (owner_in dev owners) ≡ option_map (λ c. c.driver) (first_owning dev calls))
+    (dev : DevNo)
+    → (option_map (λ o. o.driver) (owner_in dev owners)
+    ≡ option_map (λ c. c.driver) (first_owning dev calls))
     × (is_requested (owner_in dev owners) ≡ is_a_request dev (first_owning dev (reverse calls)))
 
 -- the owner after a request or a free by the driver

@@ -49,8 +49,8 @@ pub fn driver_writing(board: &Board) -> DriverNo
     board.last_driver().unwrap_or(DriverNo(0))
 }
 
-/// Whether it names a domain, line, device, processor or driver that isn't declared, or picks a thread that isn't
-/// there.
+/// Whether it names a domain, line, device, processor or driver that isn't declared, or picks a
+/// thread that isn't there.
 pub fn is_not_there(board: &Board, statement: &Statement) -> bool
     ensures { result ≡ is_not_there board.now statement.now }
 {

@@ -1,5 +1,5 @@
-//! Who owns the devices: the driver that made the first request or free of a device makes all of them, and between
-//! two requests stands a free.
+//! Who owns the devices: the driver that made the first request or free of a device makes all of
+//! them, and between two requests stands a free.
 ghost use Rattle.std.specs.Prelude.{◌≡◌, List, [], ◌∷◌, ◌++◌, OnOk};
 ghost use Rattle.board_def.specs.Rules.{is_bad_owner};
 ghost use Rattle.board_def.specs.declared.rows.ScriptCall.{ScriptCall};
@@ -22,7 +22,8 @@ pub struct Owner {
     pub requested: bool,
 }
 
-/// The owners of the devices that were requested or freed so far. Contracts see the pairs of a device and its owner.
+/// The owners of the devices that were requested or freed so far. Contracts see the pairs of a
+/// device and its owner.
 #[derive(Drop)]
 pub struct Owners {
     devices: IndexMap<DevNo, Owner>,

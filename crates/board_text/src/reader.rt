@@ -1,4 +1,5 @@
-//! The reader: the board that the statements so far state, and what it keeps of them to judge the next one.
+//! The reader: the board that the statements so far state, and what it keeps of them to judge the
+//! next one.
 ghost use Rattle.std.specs.Prelude.{◌≡◌, List, [], ◌∷◌, ◌&&◌, not, OnOk};
 ghost use Rattle.board_stated.specs.FaultsAfter.{is_empty, is_out_of_order, is_twice, has_bad_owner, has_flag_twice, fault_after};
 ghost use Rattle.board_stated.specs.Stated.{board_of, with_statement};
@@ -24,8 +25,8 @@ use board_words::{
 use irq_base::NoMemory;
 use std::alloc::Global;
 
-/// The least log limit, which the board has until the text has ended: the rule on it counts the lines of the whole
-/// text.
+/// The least log limit, which the board has until the text has ended: the rule on it counts the
+/// lines of the whole text.
 const LEAST_LOG: u32 = 1;
 
 /// The most entries of all histories together.

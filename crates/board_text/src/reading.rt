@@ -25,8 +25,8 @@ pub enum BoardRefused {
     NoMemory,
 }
 
-/// Reads the text of a board, at most `LONGEST_TEXT` bytes: the board that it states, or its first fault, or that
-/// memory was refused. The time is linear in the bytes and in the picks.
+/// Reads the text of a board, at most `LONGEST_TEXT` bytes: the board that it states, or its first
+/// fault, or that memory was refused. The time is linear in the bytes and in the picks.
 pub fn read_board(alloc: Global, bytes: &[u8]) -> Result<Board, BoardRefused>
     ensures exact { Gives (board_of_text bytes.now) result }
 {

@@ -1,7 +1,7 @@
 //! Texts by hand: the first fault of each, or the board that it states.
 //!
-//! A table has a row for each text: what is told of it, `=` and the text, in which `|` stands for a line feed and `^`
-//! for a byte beyond ASCII. Rows that begin with `#` are headings.
+//! A table has a row for each text: what is told of it, `=` and the text, in which `|` stands for a
+//! line feed and `^` for a byte beyond ASCII. Rows that begin with `#` are headings.
 use crate::{BoardRefused, LONGEST_TEXT, read_board};
 use board_def::{Board, ScriptCall};
 use irq_base::{Actor, Call, CpuNo, DevNo, DeviceDef, DriverNo, Kind, LevelKind, LineNo, MapKind};
@@ -145,7 +145,8 @@ line 11: too many=picks c0*65535|picks c0||picks d7
 line 8: not there=picks t4 c0*65535 c0*2
 ";
 
-/// Two lines on an Lpi, one of them through messages, and a driver, in a text of the second version.
+/// Two lines on an Lpi, one of them through messages, and a driver, in a text of the second
+/// version.
 const SECOND: &str =
     "board 2|domain a tree lpi|domain b tree msi parent a|line 2 a 0|line 3 b 0 unlazy|device 3 2 direct|driver 7|";
 
@@ -159,8 +160,8 @@ line 9: unknown word=moment 3 5|moments 3 5
 line 9: out of order=picks d7|moment 3 5
 ";
 
-/// Declarations that stand again and again, numbered from 1: before, what is before the number and after it, how many
-/// are the most, and what is told of one more.
+/// Declarations that stand again and again, numbered from 1: before, what is before the number and
+/// after it, how many are the most, and what is told of one more.
 const LIMITS: [(&str, &str, &str, u32, &str); 5] = [
     (
         "board 1|",
@@ -293,7 +294,8 @@ fn long_texts(rt: HostRuntime) -> Result<(), Fail> {
     Ok(())
 }
 
-/// Whether the board is the one of the table's texts: one processor, the default window and limit, and the line.
+/// Whether the board is the one of the table's texts: one processor, the default window and limit,
+/// and the line.
 fn is_on_latch(board: &Board) -> bool {
     let of_line = match (board.domain(0), board.line(0)) {
         (Some(domain), Some(row)) => {

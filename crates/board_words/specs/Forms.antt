@@ -1,5 +1,6 @@
--- The forms of the statements. A form lays the words at its places, one after another, and lists what is wrong:
--- a word that doesn't fit its place, a place without a word, words that are left over.
+-- The forms of the statements. A form lays the words at its places, one after another, and lists
+-- what is wrong: a word that doesn't fit its place, a place without a word, words that are left
+-- over.
 use Rattle.std.specs.Prelude.{ℕ, ◌-◌, Bool, not, ◌&&◌, is_some, if◌then◌else◌, Option, List, [], ◌∷◌, ◌++◌, codes}
 use Rattle.std.specs.List.{list_any, flat_map}
 use Rattle.std.specs.Str.{bytes_eq}
@@ -28,7 +29,8 @@ abbrev pub one_of : List (List ℕ) → List ℕ → List FaultKind
 one_of texts word = if list_any (is word) texts then [] else faults.UnknownWord ∷ []
 
 -- a word at a place, and the rest after it
-abbrev pub at : (List ℕ → List FaultKind) → (List (List ℕ) → List FaultKind) → List (List ℕ) → List FaultKind
+abbrev pub at : (List ℕ → List FaultKind) → (List (List ℕ) → List FaultKind) → List (List ℕ)
+    → List FaultKind
 at place rest [] = faults.WrongCount ∷ []
 at place rest (word ∷ words) = place word ++ rest words
 
@@ -52,7 +54,8 @@ moment_number = number 0 4294967295
 -- the statements
 
 abbrev pub level_kinds : List (List ℕ)
-level_kinds = codes "latch" ∷ codes "plain" ∷ codes "level" ∷ codes "eoi" ∷ codes "vector" ∷ codes "msi" ∷ codes "remap" ∷ codes "lpi" ∷ []
+level_kinds = codes "latch" ∷ codes "plain" ∷ codes "level" ∷ codes "eoi" ∷ codes "vector"
+    ∷ codes "msi" ∷ codes "remap" ∷ codes "lpi" ∷ []
 
 abbrev pub device_kinds : List (List ℕ)
 device_kinds = codes "direct" ∷ codes "check" ∷ codes "null" ∷ codes "stuck" ∷ []
@@ -63,13 +66,15 @@ request_flags = codes "shared" ∷ codes "oneshot" ∷ codes "noauto" ∷ []
 -- `spurious W L`: the limit is below the window
 abbrev pub spurious_form : List (List ℕ) → List FaultKind
 spurious_form [] = faults.WrongCount ∷ []
-spurious_form (window ∷ words) = number 1 1000000 window ++ at (number 0 (value_of window - 1)) full words
+spurious_form (window ∷ words) =
+    number 1 1000000 window ++ at (number 0 (value_of window - 1)) full words
 
 -- `parent NAME`, as often as it stands
 abbrev pub parents_form : List (List ℕ) → List FaultKind
 parents_form [] = []
 parents_form (word ∷ []) = one_of (codes "parent" ∷ []) word ++ faults.WrongCount ∷ []
-parents_form (word ∷ of ∷ words) = one_of (codes "parent" ∷ []) word ++ (name of ++ parents_form words)
+parents_form (word ∷ of ∷ words) =
+    one_of (codes "parent" ∷ []) word ++ (name of ++ parents_form words)
 
 -- `linear SIZE KIND` or `tree KIND`
 abbrev pub map_form : List (List ℕ) → List FaultKind
@@ -83,7 +88,8 @@ map_form (word ∷ words) =
 abbrev pub line_options : List (List ℕ) → List FaultKind
 line_options [] = []
 line_options (word ∷ []) =
-    if is word (codes "mask") then faults.WrongCount ∷ [] else one_of (codes "unlazy" ∷ codes "later" ∷ []) word
+    if is word (codes "mask") then faults.WrongCount ∷ []
+    else one_of (codes "unlazy" ∷ codes "later" ∷ []) word
 line_options (word ∷ next ∷ words) =
     if is word (codes "mask") then mask_number next ++ line_options words
     else one_of (codes "unlazy" ∷ codes "later" ∷ []) word ++ line_options (next ∷ words)
@@ -101,13 +107,16 @@ form_after word words =
     else if is word (codes "log") then at (number 1 1000000) full words
     else if is word (codes "domain") then at name map_form words
     else if is word (codes "line") then at part_number (at name (at mask_number line_options)) words
-    else if is word (codes "device") then at part_number (at part_number (at (one_of device_kinds) full)) words
+    else if is word (codes "device")
+    then at part_number (at part_number (at (one_of device_kinds) full)) words
     else if is word (codes "driver") then at part_number full words
     else if is word (codes "request") then at part_number (flat_map (one_of request_flags)) words
     else if is word (codes "affinity") then at part_number (at mask_number full) words
     else if is word (codes "moment") then at part_number (at moment_number full) words
     else if is word (codes "picks") then picks_form words
-    else if list_any (is word) (codes "free" ∷ codes "ask" ∷ codes "disable" ∷ codes "disable_nosync" ∷ codes "enable" ∷ codes "sync" ∷ []) then at part_number full words
+    else if list_any (is word) (codes "free" ∷ codes "ask" ∷ codes "disable"
+    ∷ codes "disable_nosync" ∷ codes "enable" ∷ codes "sync"
+    ∷ []) then at part_number full words
     else faults.UnknownWord ∷ []
 
 -- the word is `moment`, which a text knows in its second version alone
@@ -117,7 +126,8 @@ is_unknown_moment has_moments word = not has_moments && is word (codes "moment")
 -- what is wrong with a statement in itself, in a text whose version has moments or not
 abbrev pub faults_of : Bool → List (List ℕ) → List FaultKind
 faults_of has_moments [] = faults.UnknownWord ∷ []
-faults_of has_moments (word ∷ words) = if is_unknown_moment has_moments word then faults.UnknownWord ∷ [] else form_after word words
+faults_of has_moments (word ∷ words) =
+    if is_unknown_moment has_moments word then faults.UnknownWord ∷ [] else form_after word words
 
 -- the first of it
 abbrev pub fault_of_words : Bool → List (List ℕ) → Option FaultKind

@@ -16,7 +16,8 @@ part_text parts.Device = codes "device"
 part_text parts.Driver = codes "driver"
 
 abbrev pub part_texts : List (List ℕ)
-part_texts = codes "board" ∷ codes "cpus" ∷ codes "spurious" ∷ codes "log" ∷ codes "domain" ∷ codes "line" ∷ codes "device" ∷ codes "driver" ∷ []
+part_texts = codes "board" ∷ codes "cpus" ∷ codes "spurious" ∷ codes "log" ∷ codes "domain"
+    ∷ codes "line" ∷ codes "device" ∷ codes "driver" ∷ []
 
 abbrev pub call_text : CallWord → List ℕ
 call_text calls.Request = codes "request"
@@ -30,4 +31,5 @@ call_text calls.Affinity = codes "affinity"
 call_text calls.Moment = codes "moment"
 
 abbrev pub call_texts : List (List ℕ)
-call_texts = codes "request" ∷ codes "free" ∷ codes "ask" ∷ codes "disable" ∷ codes "disable_nosync" ∷ codes "enable" ∷ codes "sync" ∷ codes "affinity" ∷ codes "moment" ∷ []
+call_texts = codes "request" ∷ codes "free" ∷ codes "ask" ∷ codes "disable" ∷ codes "disable_nosync"
+    ∷ codes "enable" ∷ codes "sync" ∷ codes "affinity" ∷ codes "moment" ∷ []

@@ -36,7 +36,8 @@ outcome None value = Ok value
 outcome (Some kind) value = Err kind
 
 -- what the words that are left say, or the first fault of their form
-abbrev pub reads : {A : Type 0} → (List (List ℕ) → List FaultKind) → (List (List ℕ) → A) → Words → Result A FaultKind
+abbrev pub reads : {A : Type 0} → (List (List ℕ) → List FaultKind) → (List (List ℕ) → A) → Words
+    → Result A FaultKind
 reads form said words = outcome (first_in_order (form (words_left words))) (said (words_left words))
 
 -- the words of a line's options
@@ -45,7 +46,8 @@ option_texts = codes "mask" ∷ codes "unlazy" ∷ codes "later" ∷ []
 
 -- the words begin with the way in which a domain maps numbers
 abbrev pub map_kind : List (List ℕ) → MapKind
-map_kind words = if is (get_or words 0 []) (codes "linear") then maps.Linear (number_at 1 words) else maps.Tree
+map_kind words =
+    if is (get_or words 0 []) (codes "linear") then maps.Linear (number_at 1 words) else maps.Tree
 
 -- what follows it
 abbrev pub after_map : List (List ℕ) → List (List ℕ)

@@ -21,12 +21,14 @@ begins_with_zero (b ∷ bs) = b == 48
 -- 1 to 10 digits without a leading zero
 abbrev pub is_decimal : List ℕ → Bool
 is_decimal word =
-    (list_all is_digit word && (nat_le 1 (length word) && nat_le (length word) 10)) && not (begins_with_zero word && nat_lt 1 (length word))
+    (list_all is_digit word && (nat_le 1 (length word) && nat_le (length word) 10))
+    && not (begins_with_zero word && nat_lt 1 (length word))
 
 -- the number in that range that the word spells
 abbrev pub number_between : ℕ → ℕ → List ℕ → Option ℕ
 number_between low high word =
-    if is_decimal word && (nat_le low (value_of word) && nat_le (value_of word) high) then Some (value_of word) else None
+    if is_decimal word && (nat_le low (value_of word) && nat_le (value_of word) high)
+    then Some (value_of word) else None
 
 abbrev pub is_star : ℕ → Bool
 is_star b = b == 42
@@ -56,7 +58,8 @@ picked_of [] = None
 picked_of (b ∷ bs) =
     if b == 116 then numbered (λ n. picked.Thread (record { 0 = n })) (number_between 1 65535 bs)
     else if b == 99 then numbered (λ n. picked.Cpu (record { 0 = n })) (number_between 0 31 bs)
-    else if b == 100 then numbered (λ n. picked.Driver (record { 0 = n })) (number_between 1 65535 bs)
+    else if b == 100
+    then numbered (λ n. picked.Driver (record { 0 = n })) (number_between 1 65535 bs)
     else None
 
 abbrev pub both_of : Option Picked → Option ℕ → Option PickWord

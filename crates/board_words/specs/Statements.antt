@@ -84,13 +84,15 @@ domain_of words map rest = record {
 
 abbrev pub domain_words : List (List ℕ) → DomainWords
 domain_words words =
-    if is (get_or words 1 []) (codes "linear") then domain_of words (maps.Linear (number_at 2 words)) (drop 3 words)
+    if is (get_or words 1 []) (codes "linear")
+    then domain_of words (maps.Linear (number_at 2 words)) (drop 3 words)
     else domain_of words maps.Tree (drop 2 words)
 
 -- the number after the first `mask`
 abbrev pub mask_after : List (List ℕ) → Option ℕ
 mask_after [] = None
-mask_after (word ∷ words) = if is word (codes "mask") then Some (number_at 0 words) else mask_after words
+mask_after (word ∷ words) =
+    if is word (codes "mask") then Some (number_at 0 words) else mask_after words
 
 abbrev pub line_words : List (List ℕ) → LineWords
 line_words words =
@@ -102,14 +104,16 @@ line_words words =
       unlazy = stands (codes "unlazy") options;
       later = stands (codes "later") options;
       mask = mask_after options;
-      twice = stands_again (codes "unlazy") options || (stands_again (codes "later") options || stands_again (codes "mask") options);
+      twice = stands_again (codes "unlazy") options
+          || (stands_again (codes "later") options || stands_again (codes "mask") options);
     }
 
 abbrev pub request_words : List (List ℕ) → CallWords
 request_words words =
     let flags = drop 1 words in
     calls.Request (dev_at 0 words) (record { shared = stands (codes "shared") flags; oneshot = stands (codes "oneshot") flags; noauto = stands (codes "noauto") flags })
-    (stands_again (codes "shared") flags || (stands_again (codes "oneshot") flags || stands_again (codes "noauto") flags))
+    (stands_again (codes "shared") flags
+    || (stands_again (codes "oneshot") flags || stands_again (codes "noauto") flags))
 
 abbrev pub onto_picks : Option PickWord → List PickWord → List PickWord
 onto_picks (Some pick) picks = pick ∷ picks
@@ -135,11 +139,13 @@ abbrev pub statement_after : List ℕ → List (List ℕ) → Statement
 statement_after word words =
     if is word (codes "board") then statements.Board (number_at 0 words)
     else if is word (codes "cpus") then statements.Cpus (number_at 0 words)
-    else if is word (codes "spurious") then statements.Spurious (number_at 0 words) (number_at 1 words)
+    else if is word (codes "spurious")
+    then statements.Spurious (number_at 0 words) (number_at 1 words)
     else if is word (codes "log") then statements.Log (number_at 0 words)
     else if is word (codes "domain") then statements.Domain (domain_words words)
     else if is word (codes "line") then statements.Line (line_words words)
-    else if is word (codes "device") then statements.Device (dev_at 0 words) (line_at 1 words) (device_kind (get_or words 2 []))
+    else if is word (codes "device")
+    then statements.Device (dev_at 0 words) (line_at 1 words) (device_kind (get_or words 2 []))
     else if is word (codes "driver") then statements.Driver (record { 0 = number_at 0 words })
     else if is word (codes "picks") then statements.Picks (picks_of words)
     else statements.Call (call_of word words)

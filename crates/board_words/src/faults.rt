@@ -28,7 +28,8 @@ pub enum FaultKind {
     OutOfOrder,
     /// A setting, a domain's name or an option stands again.
     Twice,
-    /// A domain, line, device, processor or driver isn't declared before; or a pick's device has no thread.
+    /// A domain, line, device, processor or driver isn't declared before; or a pick's device has no
+    /// thread.
     NotThere,
     /// A parent that the kind of the level doesn't allow, or too many levels.
     BadParent,
@@ -36,7 +37,8 @@ pub enum FaultKind {
     BadUnlazy,
     /// A line's mask has no processor of the machine.
     BadMask,
-    /// A device's requests and frees aren't one driver's, or it is requested again without a free between.
+    /// A device's requests and frees aren't one driver's, or it is requested again without a free
+    /// between.
     BadOwner,
     /// One more of its kind than a board may have.
     TooMany,

@@ -1,7 +1,8 @@
-//! The words of a board's text: its text lines, the words of each, and the statement that they make.
+//! The words of a board's text: its text lines, the words of each, and the statement that they
+//! make.
 //!
-//! What is wrong with a statement in itself is found here. What a statement is to the statements before it, as a
-//! number that doesn't rise or a name that isn't declared, is not.
+//! What is wrong with a statement in itself is found here. What a statement is to the statements
+//! before it, as a number that doesn't rise or a name that isn't declared, is not.
 #![tactic(auto)]
 
 mod calls;

@@ -15,7 +15,8 @@ use crate::{kinds, spelling};
 use board_def::Name;
 use irq_base::{Kind, LevelKind, MapKind};
 
-/// The words of a statement that are left, and the first fault in order that was found in those before them.
+/// The words of a statement that are left, and the first fault in order that was found in those
+/// before them.
 ///
 /// If something is wrong at a place, what is read there is a stand-in.
 #[derive(Clone, Copy)]

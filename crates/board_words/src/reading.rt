@@ -16,7 +16,8 @@ use crate::statements::{PickList, Statement, StatementRefused};
 use crate::words::{Words, is};
 use std::alloc::Global;
 
-/// What the words of a text line say, in a text whose version has moments or not. Only picks take memory.
+/// What the words of a text line say, in a text whose version has moments or not. Only picks take
+/// memory.
 pub fn read_statement(
     alloc: Global,
     words: Words<'_>,

@@ -115,8 +115,8 @@ pub enum Statement {
     Board(u32),
     /// `cpus`: the number of processors, 1 to 32.
     Cpus(u32),
-    /// `spurious`: how many interrupts of a line are counted before the unhandled ones are judged, and how many may
-    /// be unhandled.
+    /// `spurious`: how many interrupts of a line are counted before the unhandled ones are judged,
+    /// and how many may be unhandled.
     Spurious {
         window: u32,
         limit: u32,

@@ -4,7 +4,8 @@ use Rattle.irq_base.specs.declared.devices.Answer.{Answer}
 use Rattle.irq_base.specs.declared.devices.DeviceDef.{DeviceDef}
 use Rattle.irq_base.specs.declared.devices.Part.{Part}
 
--- A run of a handler: of which device, which part of it, and how many asks were unserved as it began.
+-- A run of a handler: of which device, which part of it, and how many asks were unserved as it
+-- began.
 pub record Run : Type 0 where
   pub def : DeviceDef
   pub part : Part

@@ -11,8 +11,8 @@ use irq_base::{Answer, DeviceDef, Part};
 /// A function that stands for all handlers: the device, the part, how many asks are unserved.
 pub type Handling = Box<dyn Fn(DeviceDef, Part, u32) -> Answer + Sync>;
 
-/// A boxed function, with the facts that it may always be called and that it answers as the devices do. Whoever makes
-/// the box hands it in.
+/// A boxed function, with the facts that it may always be called and that it answers as the devices
+/// do. Whoever makes the box hands it in.
 #[derive(Drop)]
 pub struct Boxed {
     f: Handling,

@@ -5,9 +5,11 @@ ghost use Rattle.irq_base.specs.Handlers.{answer_of};
 use crate::said::Said;
 use irq_base::{Answer, DeviceDef, Part};
 
-/// The handlers of all devices, primary and threaded (`irq_handler_t` of `include/linux/interrupt.h`).
+/// The handlers of all devices, primary and threaded (`irq_handler_t` of
+/// `include/linux/interrupt.h`).
 pub trait Handler {
-    /// Calls that part of the device's handler, with that many of its asks unserved. It answers as the device does.
+    /// Calls that part of the device's handler, with that many of its asks unserved. It answers as
+    /// the device does.
     fn answer(&self, def: DeviceDef, part: Part, unserved: u32) -> Answer
         ensures { result ≡ answer_of def.kind part unserved };
 }
@@ -25,7 +27,8 @@ impl<H: Handler> Callbacks<H> {
     }
 
     /// Calls that part of the device's handler (`action->handler`, `__handle_irq_event_percpu` of
-    /// `kernel/irq/handle.c`; `action->thread_fn`, `irq_thread_fn` of `kernel/irq/manage.c`). It takes no memory.
+    /// `kernel/irq/handle.c`; `action->thread_fn`, `irq_thread_fn` of `kernel/irq/manage.c`). It
+    /// takes no memory.
     pub fn call(&self, def: DeviceDef, part: Part, unserved: u32) -> Said
         ensures { result ≡ record { run = record { def = def; part = part; unserved = unserved }; answer = answer_of def.kind part unserved } }
     {

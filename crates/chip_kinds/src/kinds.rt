@@ -7,9 +7,9 @@ use crate::controller::{Controller, ControllerKind};
 use irq_base::Trigger;
 use line_cell::Cell;
 
-/// A latch controller: an edge input with a latch. An edge that comes while it is masked is stored, masking takes back
-/// into store what was sent, and it can send an edge again (`irq_retrigger`). Its lines have the edge flow
-/// (`handle_edge_irq`).
+/// A latch controller: an edge input with a latch. An edge that comes while it is masked is stored,
+/// masking takes back into store what was sent, and it can send an edge again (`irq_retrigger`).
+/// Its lines have the edge flow (`handle_edge_irq`).
 pub struct Latch;
 
 impl ControllerKind for Latch {
@@ -23,9 +23,9 @@ impl ControllerKind for Latch {
 /// Such a controller.
 pub type LatchChip = Controller<Latch>;
 
-/// A plain controller: an edge input without a latch. An edge that comes while it is masked is lost, what was sent stays
-/// sent, and it can't send an edge again, so that the software does (`irq_sw_resend`, `kernel/irq/resend.c`). Its
-/// lines have the edge flow (`handle_edge_irq`).
+/// A plain controller: an edge input without a latch. An edge that comes while it is masked is
+/// lost, what was sent stays sent, and it can't send an edge again, so that the software does
+/// (`irq_sw_resend`, `kernel/irq/resend.c`). Its lines have the edge flow (`handle_edge_irq`).
 pub struct Plain;
 
 impl ControllerKind for Plain {
@@ -39,8 +39,8 @@ impl ControllerKind for Plain {
 /// Such a controller.
 pub type PlainChip = Controller<Plain>;
 
-/// A level controller: its input is presented as long as it is high and the mask is open. Its lines have the level flow
-/// (`handle_level_irq`).
+/// A level controller: its input is presented as long as it is high and the mask is open. Its lines
+/// have the level flow (`handle_level_irq`).
 pub struct Level;
 
 impl ControllerKind for Level {
@@ -54,8 +54,8 @@ impl ControllerKind for Level {
 /// Such a controller.
 pub type LevelChip = Controller<Level>;
 
-/// A fast-EOI controller: a level input of which nothing more is presented once it was accepted, until the end of
-/// interrupt. Its lines have the fast-EOI flow (`handle_fasteoi_irq`).
+/// A fast-EOI controller: a level input of which nothing more is presented once it was accepted,
+/// until the end of interrupt. Its lines have the fast-EOI flow (`handle_fasteoi_irq`).
 pub struct Eoi;
 
 impl ControllerKind for Eoi {
@@ -69,8 +69,9 @@ impl ControllerKind for Eoi {
 /// Such a controller.
 pub type EoiChip = Controller<Eoi>;
 
-/// A controller of message interrupts with nothing in service, as a GIC's locality-specific peripheral interrupts: its
-/// cell is that of a latch. Its lines have the fast-EOI flow (`handle_fasteoi_irq`).
+/// A controller of message interrupts with nothing in service, as a GIC's locality-specific
+/// peripheral interrupts: its cell is that of a latch. Its lines have the fast-EOI flow
+/// (`handle_fasteoi_irq`).
 pub struct Lpi;
 
 impl ControllerKind for Lpi {

@@ -2,8 +2,8 @@
 use Rattle.std.specs.Prelude.{ℕ, ◌+◌, ◌*◌, Bool, true, false, ◌||◌}
 use Rattle.chip_msi.specs.declared.message.Message.{Message}
 
--- what is seen of the level of one message: its mask bit and its pending bit (the two of a PCI device's MSI-X table,
--- which `kernel/irq/msi.c` masks through `struct irq_chip`)
+-- what is seen of the level of one message: its mask bit and its pending bit (the two of a PCI
+-- device's MSI-X table, which `kernel/irq/msi.c` masks through `struct irq_chip`)
 pub record LevelSeen : Type 0 where
   pub masked : Bool
   pub pending : Bool
@@ -23,7 +23,7 @@ level_after_unmask l = record { masked = false; pending = false }
 abbrev pub first_page : ℕ
 first_page = 4276092928
 
--- the message that sends a number to a processor (`irq_chip_compose_msi_msg`, `kernel/irq/chip.c`; the addresses are
--- ours, in the manner of x86)
+-- the message that sends a number to a processor (`irq_chip_compose_msi_msg`, `kernel/irq/chip.c`;
+-- the addresses are ours, in the manner of x86)
 abbrev pub message_of : ℕ → ℕ → Message
 message_of cpu number = record { address = first_page + 4096 * cpu; payload = number }

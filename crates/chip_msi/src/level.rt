@@ -4,9 +4,9 @@ ghost use Rattle.chip_msi.specs.Messages.{LevelSeen, level_after_edge, level_aft
 
 use std::marker::Model;
 
-/// The level of one message, between a device and the root of its path: a mask bit, and a pending bit for an edge that
-/// comes while the mask is closed (the callbacks `irq_mask` and `irq_unmask` of `struct irq_chip` that
-/// `kernel/irq/msi.c` asks of a domain's chip).
+/// The level of one message, between a device and the root of its path: a mask bit, and a pending
+/// bit for an edge that comes while the mask is closed (the callbacks `irq_mask` and `irq_unmask`
+/// of `struct irq_chip` that `kernel/irq/msi.c` asks of a domain's chip).
 #[derive(Drop)]
 pub struct MsiLevel {
     masked: bool,

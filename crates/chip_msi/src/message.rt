@@ -13,9 +13,9 @@ pub struct Message {
     pub payload: u32,
 }
 
-/// The message that sends the number to a processor below 32 (`irq_chip_compose_msi_msg`, `kernel/irq/chip.c`). Its
-/// address is 0xFEE00000 and 4,096 for each processor before that one, its payload the number (ours, in the manner
-/// of x86).
+/// The message that sends the number to a processor below 32 (`irq_chip_compose_msi_msg`,
+/// `kernel/irq/chip.c`). Its address is 0xFEE00000 and 4,096 for each processor before that one,
+/// its payload the number (ours, in the manner of x86).
 pub fn compose(cpu: CpuNo, number: u32) -> Message
     requires { cpu.0 < 32 }
     ensures { result ≡ message_of cpu.0 number }

@@ -1,13 +1,14 @@
-//! Each controller through the bound, over the same calls. The expected signals are worked out by hand from the table
-//! of the controllers' properties.
+//! Each controller through the bound, over the same calls. The expected signals are worked out by
+//! hand from the table of the controllers' properties.
 ghost use Rattle.std.specs.Prelude.{◌≡◌, true, false};
 ghost use Rattle.irq_base.specs.Cell.{is_edge_cell};
 
 use chip_kinds::{EoiChip, LatchChip, LevelChip, LpiChip, PlainChip, VectorChip};
 use irq_base::{Chip, CpuNo};
 
-/// Whether an edge is presented that came while masked, once it is open; one that came while open; the same once it is
-/// masked, and open again; what a retrigger answers, and whether it is presented.
+/// Whether an edge is presented that came while masked, once it is open; one that came while open;
+/// the same once it is masked, and open again; what a retrigger answers, and whether it is
+/// presented.
 fn edge_calls<C: Chip>(chip: &mut C) -> [bool; 6]
     requires { is_edge_cell (C.cell chip.old) ≡ true }
 {

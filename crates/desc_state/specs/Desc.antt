@@ -36,7 +36,8 @@ fresh_desc unlazy = record { unlazy = unlazy; depth = 1; started = false; masked
 abbrev pub is_disabled : DescSeen → Bool
 is_disabled d = nat_lt 0 d.depth
 
--- one disable more, which masks an unlazy line (`__disable_irq`, `kernel/irq/manage.c`; `irq_disable`, `kernel/irq/chip.c`)
+-- one disable more, which masks an unlazy line (`__disable_irq`, `kernel/irq/manage.c`;
+-- `irq_disable`, `kernel/irq/chip.c`)
 abbrev pub disabled : DescSeen → DescSeen
 disabled d = record d { depth = d.depth + 1; masked = d.unlazy || d.masked }
 
@@ -47,10 +48,12 @@ masked_if b c = if b then after_mask c else c
 abbrev pub killed : DescSeen → DescSeen
 killed d = record (disabled d) { spurious = true }
 
--- how a start sends again what is pending (`check_irq_resend`, `kernel/irq/resend.c`): a level shows by itself
+-- how a start sends again what is pending (`check_irq_resend`, `kernel/irq/resend.c`): a level
+-- shows by itself
 abbrev pub resend_by : Trigger → DescSeen → Cell → Resend
 resend_by trigger d c =
-    if is_edge_trigger trigger && d.pending then (if can_retrigger c then resends.Chip else resends.Soft) else resends.No
+    if is_edge_trigger trigger && d.pending
+    then (if can_retrigger c then resends.Chip else resends.Soft) else resends.No
 
 abbrev pub is_soft_resend : Resend → Bool
 is_soft_resend resends.Soft = true
@@ -67,7 +70,8 @@ abbrev pub started_up : Resend → DescSeen → DescSeen
 started_up resend d = record d { depth = 0; started = true; masked = false; pending = false; soft = is_soft_resend resend || d.soft }
 
 abbrev pub cell_started : Resend → Cell → Cell
-cell_started resend c = if is_chip_resend resend then after_retrigger (after_unmask c) else after_unmask c
+cell_started resend c =
+    if is_chip_resend resend then after_retrigger (after_unmask c) else after_unmask c
 
 -- the line is shut down (`irq_shutdown`, `kernel/irq/chip.c`); what is pending stays
 abbrev pub shut_down : DescSeen → DescSeen

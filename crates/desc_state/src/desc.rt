@@ -97,7 +97,8 @@ impl Desc {
         self.spurious
     }
 
-    /// Whether the software is to send an interrupt again (the line's bit of `irqs_resend`, `kernel/irq/resend.c`).
+    /// Whether the software is to send an interrupt again (the line's bit of `irqs_resend`,
+    /// `kernel/irq/resend.c`).
     pub fn soft(&self) -> bool
         ensures { result ≡ self.now.soft }
     {
@@ -118,28 +119,32 @@ impl Desc {
         self.pending = to;
     }
 
-    /// Sets whether the line is one-shot, as its first action says (`__setup_irq`, `kernel/irq/manage.c`).
+    /// Sets whether the line is one-shot, as its first action says (`__setup_irq`,
+    /// `kernel/irq/manage.c`).
     pub fn set_oneshot(&mut self, to: bool)
         ensures { self.new ≡ record self.old { oneshot = to } }
     {
         self.oneshot = to;
     }
 
-    /// Sets whether a storm disabled the line; a further action clears it (`__setup_irq`, `kernel/irq/manage.c`).
+    /// Sets whether a storm disabled the line; a further action clears it (`__setup_irq`,
+    /// `kernel/irq/manage.c`).
     pub fn set_spurious(&mut self, to: bool)
         ensures { self.new ≡ record self.old { spurious = to } }
     {
         self.spurious = to;
     }
 
-    /// Sets whether the software is to send an interrupt again (`resend_irqs`, `kernel/irq/resend.c`, clears it).
+    /// Sets whether the software is to send an interrupt again (`resend_irqs`,
+    /// `kernel/irq/resend.c`, clears it).
     pub fn set_soft(&mut self, to: bool)
         ensures { self.new ≡ record self.old { soft = to } }
     {
         self.soft = to;
     }
 
-    /// Sets the processor whose flow is in progress, or that none is (`handle_irq_event`, `kernel/irq/handle.c`).
+    /// Sets the processor whose flow is in progress, or that none is (`handle_irq_event`,
+    /// `kernel/irq/handle.c`).
     pub fn set_flow(&mut self, to: Option<CpuNo>)
         ensures { self.new ≡ record self.old { flow = to } }
     {
@@ -173,7 +178,8 @@ impl Desc {
         self.masked = true;
     }
 
-    /// Opens the chip's mask, and answers whether it was closed (`unmask_irq`, `kernel/irq/chip.c`).
+    /// Opens the chip's mask, and answers whether it was closed (`unmask_irq`,
+    /// `kernel/irq/chip.c`).
     pub fn unmask<C: Chip>(&mut self, chip: &mut C) -> bool
         ensures answer { result ≡ self.old.masked }
         ensures desc { self.new ≡ record self.old { masked = false } }
@@ -187,8 +193,9 @@ impl Desc {
         was_masked
     }
 
-    /// One disable more (`__disable_irq`, `kernel/irq/manage.c`). Only an unlazy line is masked at once; on another
-    /// the flow handler masks when an interrupt comes (`irq_disable`, `kernel/irq/chip.c`).
+    /// One disable more (`__disable_irq`, `kernel/irq/manage.c`). Only an unlazy line is masked at
+    /// once; on another the flow handler masks when an interrupt comes (`irq_disable`,
+    /// `kernel/irq/chip.c`).
     pub fn disable<C: Chip>(&mut self, chip: &mut C)
         requires { self.old.depth < 2 ^ 32 - 1 }
         ensures desc { self.new ≡ disabled self.old }
@@ -214,8 +221,9 @@ impl Desc {
         self.spurious = true;
     }
 
-    /// Starts the line: no disable stands, the mask is open, and what was pending on an edge line is sent again
-    /// (`irq_startup`, `kernel/irq/chip.c`; `check_irq_resend`, `kernel/irq/resend.c`). Answers who sends it.
+    /// Starts the line: no disable stands, the mask is open, and what was pending on an edge line
+    /// is sent again (`irq_startup`, `kernel/irq/chip.c`; `check_irq_resend`,
+    /// `kernel/irq/resend.c`). Answers who sends it.
     pub fn startup<C: Chip>(&mut self, chip: &mut C, trigger: Trigger) -> Resend
         ensures answer { result ≡ resend_by trigger self.old (C.cell chip.old) }
         ensures desc { self.new ≡ started_up result self.old }
@@ -238,8 +246,8 @@ impl Desc {
         Resend::Soft
     }
 
-    /// Shuts the line down: one disable stands, the mask is closed (`irq_shutdown`, `kernel/irq/chip.c`). What is
-    /// pending, in the descriptor and in the chip, stays.
+    /// Shuts the line down: one disable stands, the mask is closed (`irq_shutdown`,
+    /// `kernel/irq/chip.c`). What is pending, in the descriptor and in the chip, stays.
     pub fn shutdown<C: Chip>(&mut self, chip: &mut C)
         ensures desc { self.new ≡ shut_down self.old }
         ensures cell { C.cell chip.new ≡ after_mask (C.cell chip.old) }

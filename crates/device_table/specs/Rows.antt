@@ -1,4 +1,5 @@
--- A table of the devices of a line: their numbers with their values, in the order of the definition.
+-- A table of the devices of a line: their numbers with their values, in the order of the
+-- definition.
 use Rattle.std.specs.Prelude.{◌≡◌, Bool, false, if◌then◌else◌, nat_lt, Option, Some, None, is_some, List, [], ◌∷◌}
 use Rattle.std.specs.Map.{lookup, set_value}
 use Rattle.irq_base.specs.declared.devices.DeviceDef.{DeviceDef}
@@ -47,7 +48,8 @@ module _ {R : Type 0} where
   -- of the devices whose values pass, the one of the lowest number
   abbrev pub lowest_where : (R → Bool) → List (DevNo × R) → Option DevNo
   lowest_where p [] = None
-  lowest_where p (e ∷ es) = if p e.1 then Some (lower e.0 (lowest_where p es)) else lowest_where p es
+  lowest_where p (e ∷ es) =
+      if p e.1 then Some (lower e.0 (lowest_where p es)) else lowest_where p es
 
   -- no two rows have one number
   abbrev pub HasOwnKeys : List (DevNo × R) → Type 0

@@ -6,7 +6,8 @@ use irq_base::DevNo;
 /// How many hints there are.
 const HINTS: usize = 256;
 
-/// For the last eight bits of a device's number a place in a list. Whoever looks there sees whether it is the device's.
+/// For the last eight bits of a device's number a place in a list. Whoever looks there sees whether
+/// it is the device's.
 #[derive(Drop)]
 pub(crate) struct Hints {
     places: [u16; HINTS],

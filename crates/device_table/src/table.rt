@@ -11,8 +11,8 @@ use irq_base::{DevNo, DeviceList, NoMemory};
 use std::alloc::Global;
 use std::marker::Model;
 
-/// A value for each device of a line. Contracts see the list of the devices' numbers with their values, in the order
-/// of the line's definition.
+/// A value for each device of a line. Contracts see the list of the devices' numbers with their
+/// values, in the order of the line's definition.
 #[derive(Drop)]
 pub struct DeviceTable<R: Copy> {
     rows: IndexMap<DevNo, R>,

@@ -28,7 +28,8 @@ root_cell kind = fresh_cell (trigger_of_root kind) (keeps_kind kind) (stores_at_
 -- and what was sent to the root isn't taken back.
 abbrev pub chain_cell : Option LevelSeen → Cell → Cell
 chain_cell None root = root
-chain_cell (Some level) root = record root { keeps = true; recalls = false; masked = level.masked; stored = level.pending }
+chain_cell (Some level) root =
+    record root { keeps = true; recalls = false; masked = level.masked; stored = level.pending }
 
 -- if a level of messages masks, the root presents edges and is open
 abbrev pub IsOpenBehind : Option LevelSeen → Cell → Type 0
@@ -48,7 +49,8 @@ pub record ChainSeen : Type 0 where
 
 -- a chain to which nothing was done
 abbrev pub fresh_chain : Cell → ℕ → Option ℕ → ChainSeen
-fresh_chain cell levels number = record { cell = cell; active = false; aimed = 0; levels = levels; number = number }
+fresh_chain cell levels number =
+    record { cell = cell; active = false; aimed = 0; levels = levels; number = number }
 
 -- what a chain sends while it is active
 abbrev pub message_by : ChainSeen → Option Message

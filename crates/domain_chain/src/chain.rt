@@ -10,8 +10,9 @@ use irq_base::{Chip, CpuNo, LevelKind};
 use line_cell::Cell;
 use std::marker::Model;
 
-/// The chip of a path (`struct irq_data` with its `parent_data`, `include/linux/irq.h`). What a level lacks is passed to
-/// its parent, so the first level from the device that can mask does, and the others are open for good.
+/// The chip of a path (`struct irq_data` with its `parent_data`, `include/linux/irq.h`). What a
+/// level lacks is passed to its parent, so the first level from the device that can mask does, and
+/// the others are open for good.
 #[derive(Drop)]
 pub struct Chain {
     message: Option<MsiLevel>,
@@ -34,8 +35,9 @@ impl Model for Chain {
 }
 
 impl Chain {
-    /// The chip of a path with levels of these kinds, leaf first, one of which can mask, and with that number at its
-    /// root. Its mask is closed, it isn't active, and it is aimed at processor 0.
+    /// The chip of a path with levels of these kinds, leaf first, one of which can mask, and with
+    /// that number at its root. Its mask is closed, it isn't active, and it is aimed at processor
+    /// 0.
     pub fn new(kinds: &[LevelKind], number: u32) -> Chain
         requires few { length kinds.now ≤ 8 }
         requires path { is_path_of_kinds kinds.now ≡ true }

@@ -9,8 +9,8 @@ use chip_msi::Message;
 use irq_base::{Chip, CpuNo, LevelKind};
 use std::marker::Model;
 
-/// The chip of one message, over a plain root: an edge that comes while it is masked is stored, what was sent stays sent,
-/// and it can't send an edge again.
+/// The chip of one message, over a plain root: an edge that comes while it is masked is stored,
+/// what was sent stays sent, and it can't send an edge again.
 #[derive(Drop)]
 pub struct MsiChip {
     chain: Chain,
@@ -25,7 +25,8 @@ impl Model for MsiChip {
 }
 
 impl MsiChip {
-    /// The chip of the message with that number. Its mask is closed, it isn't active, and it is aimed at processor 0.
+    /// The chip of the message with that number. Its mask is closed, it isn't active, and it is
+    /// aimed at processor 0.
     pub fn new(number: u32) -> MsiChip
         ensures { result ≡ fresh_chain (fresh_cell triggers.Edge true false false false) 2 (Some number) }
     {
@@ -34,7 +35,8 @@ impl MsiChip {
         }
     }
 
-    /// The message: to the processor that it is aimed at, with its number; none exactly while it isn't active.
+    /// The message: to the processor that it is aimed at, with its number; none exactly while it
+    /// isn't active.
     pub fn message(&self) -> Option<Message>
         ensures { result ≡ message_by self.now }
     {

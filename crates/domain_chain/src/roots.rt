@@ -8,7 +8,8 @@ use chip_kinds::{ControllerKind, Eoi, Latch, Level, Lpi, Plain};
 use irq_base::{Chip, LevelKind, Trigger};
 use line_cell::Cell;
 
-/// A root of that kind, to which nothing has been done. A vector can't mask by itself: a level before it does.
+/// A root of that kind, to which nothing has been done. A vector can't mask by itself: a level
+/// before it does.
 pub(crate) fn root_of(kind: LevelKind) -> Cell
     requires { is_root_kind kind ≡ true }
     ensures { ⟦<Cell as Chip>⟧.cell result ≡ root_cell kind }

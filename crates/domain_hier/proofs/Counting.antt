@@ -1,5 +1,5 @@
--- As many lines use no more numbers of a domain: the lowest unused number, found by a search as long as there are
--- lines, is the lowest one that isn't mapped.
+-- As many lines use no more numbers of a domain: the lowest unused number, found by a search as
+-- long as there are lines, is the lowest one that isn't mapped.
 use Rattle.std.proofs.Common.{◌≡◌, ◌≢◌, ℕ, zero, suc, ◌+◌, ◌<◌, ◌≤◌, Bool, true, false, cond, ◌||◌, ◌==◌, ◌⊎◌, inl, inr, List, [], ◌∷◌, length, refl, sym, ap, ◌∙◌, eqb-true, arith}
 use Rattle.std.proofs.lemmas.Bool.{false≢true, eqb-false}
 use Rattle.domain_rules.specs.Layout.{has_number, is_used, unused_from, lowest_unused}

@@ -1,4 +1,5 @@
--- What a hierarchy keeps: the path of an allocation has room, and after each call the maps are what the paths say.
+-- What a hierarchy keeps: the path of an allocation has room, and after each call the maps are what
+-- the paths say.
 use Rattle.std.proofs.Common.{◌≡◌, ◌≢◌, ℕ, zero, suc, ◌+◌, ◌<◌, ◌≤◌, Bool, true, false, cond, ◌==◌, ◌||◌, is_some, is_none, Option, Some, None, option_map, List, [], ◌∷◌, ◌++◌, length, map, refl, sym, ap, subst, ◌∙◌, eqb-true, add-one, arith}
 use Rattle.std.proofs.Math.ListN.{set, length-map}
 use Rattle.std.specs.List.{slice_get, list_any}

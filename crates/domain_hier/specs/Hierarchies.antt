@@ -1,6 +1,6 @@
--- Hierarchies of domains: what is seen of one, and what an allocation answers and leaves. Which path a line takes, and
--- why it is refused, are the rules of layouts, over the paths in use (`irq_domain_alloc_irqs_hierarchy`,
--- `kernel/irq/irqdomain.c`).
+-- Hierarchies of domains: what is seen of one, and what an allocation answers and leaves. Which
+-- path a line takes, and why it is refused, are the rules of layouts, over the paths in use
+-- (`irq_domain_alloc_irqs_hierarchy`, `kernel/irq/irqdomain.c`).
 use Rattle.std.specs.Prelude.{◌≡◌, ℕ, ◌-◌, ◌<◌, Bool, true, false, IfSome, is_some, Option, Some, None, List, [], ◌∷◌, length, map, slice_get}
 use Rattle.irq_base.specs.declared.domains.DomainDef.{DomainDef}
 use Rattle.domain_maps.specs.Numbers.{virq_at, sizes, size_of_kind, is_on}
@@ -43,7 +43,8 @@ IsAnswered due told = told ≡ due
 
 -- the hierarchy after an allocation that was answered so
 abbrev pub after_alloc : AllocAnswer → HierarchySeen → ℕ × ℕ → HierarchySeen
-after_alloc (allocs.Ok virq) h leaf = record h { paths = placed h.paths (path_of h.domains (in_use h.paths) leaf) }
+after_alloc (allocs.Ok virq) h leaf =
+    record h { paths = placed h.paths (path_of h.domains (in_use h.paths) leaf) }
 after_alloc _ h leaf = h
 
 -- ---- the chip of a path
@@ -56,7 +57,8 @@ number_in None = 0
 abbrev pub root_number : List (ℕ × ℕ) → ℕ
 root_number path = number_in (slice_get path (length path - 1))
 
--- the chip of a path to which nothing was done: one cell, with the properties that its levels have together
+-- the chip of a path to which nothing was done: one cell, with the properties that its levels have
+-- together
 abbrev pub chain_of : List DomainDef → List (ℕ × ℕ) → ChainSeen
 chain_of domains path =
     let kinds = kinds_on domains path in fresh_chain (cell_of kinds) (length path) (some_if (has_messages kinds) (root_number path))
@@ -81,6 +83,9 @@ pub record IsHierarchy (domains : List DomainDef) (maps : List DomainMap) (paths
   pub each : EachAfter IsDomainAfter domains
   pub sizes : sizes maps ≡ map (λ def. size_of_kind def.map) domains
   -- each domain's map is exactly what the paths in use say
-  pub mapped : (domain hw virq : ℕ) → virq_at maps domain hw ≡ Some virq → has_level (path_in paths virq) domain hw ≡ true
-  pub told : (domain hw virq : ℕ) → has_level (path_in paths virq) domain hw ≡ true → virq_at maps domain hw ≡ Some virq
-  pub placed : (virq : ℕ) (path : List (ℕ × ℕ)) → path_in paths virq ≡ Some path → IsPlaced domains path
+  pub mapped : (domain hw virq : ℕ) → virq_at maps domain hw ≡ Some virq
+      → has_level (path_in paths virq) domain hw ≡ true
+  pub told : (domain hw virq : ℕ) → has_level (path_in paths virq) domain hw ≡ true
+      → virq_at maps domain hw ≡ Some virq
+  pub placed : (virq : ℕ) (path : List (ℕ × ℕ)) → path_in paths virq ≡ Some path
+      → IsPlaced domains path

@@ -1,5 +1,5 @@
--- The finite map from the virqs in use to their paths: a list, at whose place i stands the path of virq i + 1, if that
--- one is in use (virq 0 is never).
+-- The finite map from the virqs in use to their paths: a list, at whose place i stands the path of
+-- virq i + 1, if that one is in use (virq 0 is never).
 use Rattle.std.specs.Prelude.{ℕ, zero, suc, ◌+◌, if◌then◌else◌, is_some, Option, Some, None, List, [], ◌∷◌, slice_index_or, slice_set, map}
 use Rattle.domain_rules.specs.Layout.{lowest_unused}
 use Rattle.domain_rules.specs.declared.layouts.Placement.{Placement}

@@ -19,8 +19,9 @@ use revmap::DisposeAnswer;
 use std::alloc::Global;
 use std::marker::Model;
 
-/// Domains and the lines that are allocated in them (`struct irq_domain`, `include/linux/irqdomain.h`). Contracts see the
-/// list of the domains and the finite map from the virqs in use to their paths.
+/// Domains and the lines that are allocated in them (`struct irq_domain`,
+/// `include/linux/irqdomain.h`). Contracts see the list of the domains and the finite map from the
+/// virqs in use to their paths.
 #[derive(Drop)]
 pub struct Hierarchy {
     alloc: Global,
@@ -52,8 +53,8 @@ impl Hierarchy {
         }
     }
 
-    /// Adds the domain, which is allowed after those before it, and answers its place (`irq_domain_create_hierarchy`).
-    /// If it is refused, all is as before.
+    /// Adds the domain, which is allowed after those before it, and answers its place
+    /// (`irq_domain_create_hierarchy`). If it is refused, all is as before.
     pub fn add_domain(&mut self, def: DomainDef) -> Result<usize, NoMemory>
         requires { IsDomainAfter self.old.domains def }
         ensures place { IfOk result (λ place. place ≡ length self.old.domains) }
@@ -67,9 +68,10 @@ impl Hierarchy {
         Ok(place)
     }
 
-    /// Allocates the line with that number at that domain: it gets the lowest virq from 1 that isn't in use, and the lowest
-    /// free number at each level above (`irq_domain_alloc_irqs_hierarchy`, `kernel/irq/irqdomain.c`; which virq and which
-    /// numbers is ours). Any other answer changes nothing.
+    /// Allocates the line with that number at that domain: it gets the lowest virq from 1 that
+    /// isn't in use, and the lowest free number at each level above
+    /// (`irq_domain_alloc_irqs_hierarchy`, `kernel/irq/irqdomain.c`; which virq and which numbers
+    /// is ours). Any other answer changes nothing.
     pub fn alloc(&mut self, domain: usize, hw: u32) -> AllocAnswer
         requires there { domain < length self.old.domains }
         requires few { length (in_use self.old.paths) < 4294967295 }
@@ -94,7 +96,8 @@ impl Hierarchy {
         AllocAnswer::Ok(virq)
     }
 
-    /// Gives up the numbers of all levels of the virq's path (`irq_domain_free_irqs`, `kernel/irq/irqdomain.c`).
+    /// Gives up the numbers of all levels of the virq's path (`irq_domain_free_irqs`,
+    /// `kernel/irq/irqdomain.c`).
     pub fn free(&mut self, virq: u32) -> DisposeAnswer
         ensures answer { result ≡ (if is_some (path_in self.old.paths virq) then disposed.Ok else disposed.NotThere) }
         ensures after { self.new ≡ record self.old { paths = freed self.old.paths virq } }

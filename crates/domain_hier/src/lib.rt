@@ -1,9 +1,9 @@
-//! Hierarchies of interrupt domains (`kernel/irq/irqdomain.c`): where each line lies, by its virq, and the chip of its
-//! whole path.
+//! Hierarchies of interrupt domains (`kernel/irq/irqdomain.c`): where each line lies, by its virq,
+//! and the chip of its whole path.
 //!
-//! A line is asked for by a domain and its number there. An allocation first looks: it finds the number at each level
-//! of the path, or the refusal, and changes nothing. Then it writes, and what fails out of memory
-//! is undone.
+//! A line is asked for by a domain and its number there. An allocation first looks: it finds the
+//! number at each level of the path, or the refusal, and changes nothing. Then it writes, and what
+//! fails out of memory is undone.
 #![tactic(auto)]
 
 pub mod answers;

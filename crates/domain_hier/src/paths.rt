@@ -6,7 +6,8 @@ use irq_base::{NoMemory, Path};
 use std::alloc::Global;
 use std::marker::Model;
 
-/// The paths in use, found by place, and the first place that is free. Contracts see the list of the places.
+/// The paths in use, found by place, and the first place that is free. Contracts see the list of
+/// the places.
 #[derive(Drop)]
 pub(crate) struct PathTable {
     paths: Vec<Option<Path>>,

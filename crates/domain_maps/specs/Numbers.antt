@@ -1,5 +1,5 @@
--- The reverse maps of a list of domains: the virq at each domain and hardware number, and what it is to write a whole
--- path into them or to give it up.
+-- The reverse maps of a list of domains: the virq at each domain and hardware number, and what it
+-- is to write a whole path into them or to give it up.
 use Rattle.std.specs.Prelude.{◌≡◌, ℕ, Bool, true, false, ◌&&◌, ◌==◌, if◌then◌else◌, Option, Some, None, List, [], ◌∷◌, length, map, slice_get, slice_index_or}
 use Rattle.std.specs.List.{list_any}
 use Rattle.irq_base.specs.declared.domains.MapKind.{MapKind}
@@ -52,7 +52,9 @@ is_on path domain hw = list_any (is_level domain hw) path
 -- each level of the path is within its map and free there, and no other level is the same
 abbrev pub HasRoom : List DomainMap → List (ℕ × ℕ) → Type 0
 HasRoom maps [] = Unit {0}
-HasRoom maps (level ∷ levels) = (is_within (sizes maps) level ≡ true) × (virq_at maps level.0 level.1 ≡ None) × (is_on levels level.0 level.1 ≡ false) × HasRoom maps levels
+HasRoom maps (level ∷ levels) = (is_within (sizes maps) level ≡ true)
+    × (virq_at maps level.0 level.1 ≡ None) × (is_on levels level.0 level.1 ≡ false)
+    × HasRoom maps levels
 
 -- the virq at a place after a path was written for one, and after a path was given up
 abbrev pub with_path : List (ℕ × ℕ) → ℕ → (ℕ → ℕ → Option ℕ) → ℕ → ℕ → Option ℕ

@@ -9,8 +9,8 @@ use revmap::{AssocAnswer, Revmap};
 use std::alloc::Global;
 use std::marker::Model;
 
-/// The reverse maps of a list of domains, in their order. Contracts see the list, by the virq at each domain's place and
-/// hardware number (`virq_at`), and the maps' sizes.
+/// The reverse maps of a list of domains, in their order. Contracts see the list, by the virq at
+/// each domain's place and hardware number (`virq_at`), and the maps' sizes.
 #[derive(Drop)]
 pub struct DomainMaps {
     maps: Vec<DomainMap>,
@@ -81,7 +81,8 @@ impl DomainMaps {
         self.write_from(path, 0, virq)
     }
 
-    /// Gives up the numbers of all levels of the path (`irq_domain_free_irqs`, `kernel/irq/irqdomain.c`).
+    /// Gives up the numbers of all levels of the path (`irq_domain_free_irqs`,
+    /// `kernel/irq/irqdomain.c`).
     pub fn give_up(&mut self, path: &Path)
         requires few { length path.now ≤ 8 }
         ensures numbers { (domain hw : ℕ) → virq_at self.new domain hw ≡ without_path path.now (virq_at self.old) domain hw }

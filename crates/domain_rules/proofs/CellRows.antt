@@ -1,4 +1,5 @@
--- The cells of paths, leaf to root: what is kept, what is recalled, and whether the line can send again.
+-- The cells of paths, leaf to root: what is kept, what is recalled, and whether the line can send
+-- again.
 use Rattle.std.proofs.Common.{◌≡◌, Bool, true, false, None, List, [], ◌∷◌, refl}
 use Rattle.irq_base.specs.declared.domains.LevelKind.{LevelKind}
 use Rattle.irq_base.specs.declared.domains.LevelKind.TheVariants as levels

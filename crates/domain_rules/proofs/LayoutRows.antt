@@ -1,4 +1,5 @@
--- A layout by hand: messages over a remapping of one number, and messages over the vectors themselves.
+-- A layout by hand: messages over a remapping of one number, and messages over the vectors
+-- themselves.
 use Rattle.std.proofs.Common.{◌≡◌, ℕ, Option, Some, None, List, [], ◌∷◌, refl}
 use Rattle.irq_base.specs.declared.domains.DomainDef.{DomainDef}
 use Rattle.irq_base.specs.declared.domains.LevelKind.{LevelKind}

@@ -1,5 +1,5 @@
--- The way from a domain to its root: how long it is, that it stays as domains are added, and what an Lpi root makes of
--- its path.
+-- The way from a domain to its root: how long it is, that it stays as domains are added, and what
+-- an Lpi root makes of its path.
 use Rattle.std.proofs.Common.{◌≡◌, ℕ, zero, suc, ◌<◌, ◌≤◌, Bool, true, false, ◌||◌, Option, Some, None, IfSome, List, [], ◌∷◌, ◌++◌, length, map, take, refl, sym, ap, ◌∙◌, arith}
 use Rattle.std.specs.List.{slice_get}
 use Rattle.std.proofs.lemmas.List.{length-take}

@@ -16,11 +16,14 @@ abbrev pub is_msi : LevelKind → Bool
 is_msi levels.Msi = true
 is_msi _ = false
 
--- A root has no parent, a child has one; messages are sent as edges; and a path has at most eight levels.
+-- A root has no parent, a child has one; messages are sent as edges; and a path has at most eight
+-- levels.
 abbrev pub is_bad_parent : List DomainDef → LevelKind → Option ℕ → Bool
 is_bad_parent earlier kind None = not (is_root_kind kind)
 is_bad_parent earlier kind (Some parent) =
-    is_root_kind kind || ((is_msi kind && presents_level_kind (root_kind (kinds_from earlier (Some parent)))) || nat_le most_levels (length (way most_levels earlier (Some parent))))
+    is_root_kind kind
+    || ((is_msi kind && presents_level_kind (root_kind (kinds_from earlier (Some parent))))
+    || nat_le most_levels (length (way most_levels earlier (Some parent))))
 
 abbrev pub IsSize : MapKind → Type 0
 IsSize (maps.Linear size) = (1 ≤ size) × (size ≤ 1024)

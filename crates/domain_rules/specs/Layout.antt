@@ -1,6 +1,7 @@
--- The layout of lines over domains: which hardware number each line has at each level of its path, and its virq; or
--- why it is refused (`irq_domain_alloc_irqs_hierarchy`, `kernel/irq/irqdomain.c`). A line is asked for by the place
--- of its domain and its own number there. The lines are laid in the order in which they are asked for.
+-- The layout of lines over domains: which hardware number each line has at each level of its path,
+-- and its virq; or why it is refused (`irq_domain_alloc_irqs_hierarchy`, `kernel/irq/irqdomain.c`).
+-- A line is asked for by the place of its domain and its own number there. The lines are laid in
+-- the order in which they are asked for.
 use Rattle.std.specs.Prelude.{ℕ, zero, suc, ◌+◌, Bool, true, false, ◌&&◌, ◌==◌, nat_le, is_none, Option, Some, None, List, [], ◌∷◌, ◌++◌, length, map, slice_get, if◌then◌else◌}
 use Rattle.std.specs.List.{list_any}
 use Rattle.irq_base.specs.declared.domains.DomainDef.{DomainDef}
@@ -18,7 +19,8 @@ is_mapped (placements.Refused why) = false
 
 -- the path has the number at the domain
 abbrev pub has_number : ℕ → ℕ → Placement → Bool
-has_number domain number (placements.Mapped virq path) = list_any (λ level. (level.0 == domain) && (level.1 == number)) path
+has_number domain number (placements.Mapped virq path) =
+    list_any (λ level. (level.0 == domain) && (level.1 == number)) path
 has_number domain number (placements.Refused why) = false
 
 -- a line laid before has the number at the domain
@@ -27,7 +29,8 @@ is_used earlier domain number = list_any (has_number domain number) earlier
 
 abbrev pub unused_from : ℕ → ℕ → List Placement → ℕ → ℕ
 unused_from zero number earlier domain = number
-unused_from (suc n) number earlier domain = if is_used earlier domain number then unused_from n (number + 1) earlier domain else number
+unused_from (suc n) number earlier domain =
+    if is_used earlier domain number then unused_from n (number + 1) earlier domain else number
 
 -- the lowest number that isn't used at the domain: as many lines use no more numbers
 abbrev pub lowest_unused : List Placement → ℕ → ℕ
@@ -61,7 +64,8 @@ count_of_mapped (p ∷ ps) = if is_mapped p then count_of_mapped ps + 1 else cou
 abbrev pub placement_of : List DomainDef → List Placement → ℕ × ℕ → Placement
 placement_of domains earlier leaf =
     let path = path_of domains earlier leaf in
-    if is_none (masking_kind (kinds_from domains (Some leaf.0))) then placements.Refused reasons.NoMask
+    if is_none (masking_kind (kinds_from domains (Some leaf.0)))
+    then placements.Refused reasons.NoMask
     else if list_any (is_past_path domains) path then placements.Refused reasons.OutOfRange
     else if is_used earlier leaf.0 leaf.1 then placements.Refused reasons.Taken
     else placements.Mapped (count_of_mapped earlier + 1) path
@@ -69,7 +73,8 @@ placement_of domains earlier leaf =
 abbrev pub layout_after : List DomainDef → List Placement → List (ℕ × ℕ) → List Placement
 layout_after domains earlier [] = []
 layout_after domains earlier (leaf ∷ leaves) =
-    let placement = placement_of domains earlier leaf in placement ∷ layout_after domains (earlier ++ placement ∷ []) leaves
+    let placement = placement_of domains earlier leaf in placement
+    ∷ layout_after domains (earlier ++ placement ∷ []) leaves
 
 -- a placement for each line that is asked for, in their order
 abbrev pub layout_of : List DomainDef → List (ℕ × ℕ) → List Placement

@@ -1,4 +1,5 @@
--- The levels of interrupt controllers between a line and its processors, and what they make of its signal.
+-- The levels of interrupt controllers between a line and its processors, and what they make of its
+-- signal.
 use Rattle.std.specs.Prelude.{Bool, true, false, ◌&&◌, if◌then◌else◌, Option, Some, None, List, [], ◌∷◌}
 use Rattle.irq_base.specs.Cell.{Cell, fresh_cell}
 use Rattle.irq_base.specs.declared.domains.LevelKind.{LevelKind}

@@ -26,7 +26,8 @@ kind_in None = levels.Remap
 
 -- the kinds of the levels from a domain to its root, the root's last
 abbrev pub kinds_from : List DomainDef → Option ℕ → List LevelKind
-kinds_from domains from = map (λ place. kind_in (slice_get domains place)) (way most_levels domains from)
+kinds_from domains from =
+    map (λ place. kind_in (slice_get domains place)) (way most_levels domains from)
 
 -- the kind of a level of a path, which is the place of a domain and a number there
 abbrev pub kind_at : List DomainDef → ℕ × ℕ → LevelKind

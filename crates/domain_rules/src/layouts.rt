@@ -15,7 +15,8 @@ pub enum Unmapped {
 /// Where a line lies.
 #[derive(Clone, Copy)]
 pub enum Placement {
-    /// The interrupt number by which the machine knows it, from 1, and its way through its domains, leaf first.
+    /// The interrupt number by which the machine knows it, from 1, and its way through its domains,
+    /// leaf first.
     Mapped { virq: u32, path: Path },
     /// It takes no part.
     Refused(Unmapped),

@@ -10,10 +10,12 @@ use Rattle.flow_handlers.specs.declared.left.Left.{Left}
 
 -- ---- all flows
 
--- what a take answers: a flow is in progress already (`irq_may_run`), or the line is disabled or has no action, or the
--- handlers are to run
+-- what a take answers: a flow is in progress already (`irq_may_run`), or the line is disabled or
+-- has no action, or the handlers are to run
 abbrev pub answer_by : Bool → DescSeen → TakeAnswer
-answer_by linked d = if is_some d.flow then takes.Busy else (if is_disabled d || not linked then takes.Off else takes.Handle)
+answer_by linked d =
+    if is_some d.flow then takes.Busy
+    else (if is_disabled d || not linked then takes.Off else takes.Handle)
 
 -- the handlers are to run (`handle_irq_event`, `kernel/irq/handle.c`)
 abbrev pub handling : CpuNo → DescSeen → DescSeen
@@ -25,7 +27,8 @@ unmasked_if b c = if b then after_unmask c else c
 abbrev pub retriggered_if : Bool → Cell → Cell
 retriggered_if b c = if b then after_retrigger c else c
 
--- the end may open the line: no disable stands, the mask is closed, and no thread holds it (`cond_unmask_irq`)
+-- the end may open the line: no disable stands, the mask is closed, and no thread holds it
+-- (`cond_unmask_irq`)
 abbrev pub may_open : Bool → DescSeen → Bool
 may_open held d = not (is_disabled d) && (d.masked && not held)
 
@@ -69,14 +72,16 @@ abbrev pub edge_left : DescSeen → Left
 edge_left d = record { again = goes_on d; unmask = goes_on d && d.masked }
 
 abbrev pub edge_ended : DescSeen → DescSeen
-edge_ended d = if goes_on d then record d { pending = false; masked = false } else record d { flow = None }
+edge_ended d =
+    if goes_on d then record d { pending = false; masked = false } else record d { flow = None }
 
 -- ---- `handle_fasteoi_irq`
 
--- on an edge line what can't be handled now is pending; on a level line it shows by itself, and a one-shot line stays
--- masked while its handlers run
+-- on an edge line what can't be handled now is pending; on a level line it shows by itself, and a
+-- one-shot line stays masked while its handlers run
 abbrev pub eoi_desc : Trigger → TakeAnswer → CpuNo → DescSeen → DescSeen
-eoi_desc trigger takes.Handle cpu d = handling cpu (record d { masked = d.masked || (not (is_edge_trigger trigger) && d.oneshot) })
+eoi_desc trigger takes.Handle cpu d =
+    handling cpu (record d { masked = d.masked || (not (is_edge_trigger trigger) && d.oneshot) })
 eoi_desc trigger takes.Busy cpu d = record d { pending = d.pending || is_edge_trigger trigger }
 eoi_desc trigger takes.Off cpu d = record d { masked = true; pending = true }
 
@@ -91,7 +96,8 @@ eoi_level_cell oneshot takes.Busy c = after_eoi c
 eoi_level_cell oneshot takes.Off c = after_eoi (after_mask c)
 
 abbrev pub eoi_cell : Trigger → Bool → TakeAnswer → Cell → Cell
-eoi_cell trigger oneshot answer c = if is_edge_trigger trigger then eoi_edge_cell answer c else eoi_level_cell oneshot answer c
+eoi_cell trigger oneshot answer c =
+    if is_edge_trigger trigger then eoi_edge_cell answer c else eoi_level_cell oneshot answer c
 
 -- the end has an edge line's chip send again what is pending, and opens a one-shot level line if it
 -- may
@@ -101,7 +107,11 @@ eoi_left trigger held d =
     else record { again = false; unmask = d.oneshot && may_open held d }
 
 abbrev pub eoi_ended : Left → DescSeen → DescSeen
-eoi_ended left d = record d { masked = d.masked && not left.unmask; pending = d.pending && not left.again; flow = None }
+eoi_ended left d = record d {
+  masked = d.masked && not left.unmask;
+  pending = d.pending && not left.again;
+  flow = None;
+}
 
 abbrev pub eoi_ended_cell : Left → Cell → Cell
 eoi_ended_cell left c = retriggered_if left.again (unmasked_if left.unmask (after_eoi c))

@@ -6,13 +6,14 @@ use crate::left::Left;
 use desc_state::Desc;
 use irq_base::{Chip, CpuNo, TakeAnswer};
 
-/// Takes an interrupt of a line whose signal is an edge, latched by its controller until it is acknowledged. The line
-/// comes in open as a rule; it is acknowledged first, so that from then on a further edge is latched.
+/// Takes an interrupt of a line whose signal is an edge, latched by its controller until it is
+/// acknowledged. The line comes in open as a rule; it is acknowledged first, so that from then on a
+/// further edge is latched.
 ///
-/// Busy: a flow is in progress; the interrupt is pending, and the line is masked until that flow goes on with it. Off:
-/// the line is disabled, or has no action (`linked` is false); the interrupt is pending and the line masked, which is
-/// when a lazy disable takes effect. Handle: the handlers are to run, in a flow of processor `cpu`, with the mask as
-/// it was.
+/// Busy: a flow is in progress; the interrupt is pending, and the line is masked until that flow
+/// goes on with it. Off: the line is disabled, or has no action (`linked` is false); the interrupt
+/// is pending and the line masked, which is when a lazy disable takes effect. Handle: the handlers
+/// are to run, in a flow of processor `cpu`, with the mask as it was.
 pub fn enter<C: Chip>(desc: &mut Desc, chip: &mut C, cpu: CpuNo, linked: bool) -> TakeAnswer
     ensures answer { result ≡ answer_by linked desc.old }
     ensures desc { desc.new ≡ edge_desc result cpu desc.old }

@@ -14,9 +14,10 @@ use irq_base::{Chip, CpuNo, TakeAnswer, Trigger};
 /// after that end; an edge line is acknowledged first (ours; `handle_fasteoi_ack_irq` does so if
 /// the handlers are to run).
 ///
-/// Busy: a flow is in progress; the interrupt is ended, and on an edge line it is pending (ours). Off: the line is
-/// disabled, or has no action (`linked` is false); the interrupt is pending, the line is masked, and the interrupt
-/// ended. Handle: the handlers are to run, in a flow of processor `cpu`; a one-shot level line is masked for them.
+/// Busy: a flow is in progress; the interrupt is ended, and on an edge line it is pending (ours).
+/// Off: the line is disabled, or has no action (`linked` is false); the interrupt is pending, the
+/// line is masked, and the interrupt ended. Handle: the handlers are to run, in a flow of processor
+/// `cpu`; a one-shot level line is masked for them.
 pub fn enter<C: Chip>(
     desc: &mut Desc,
     chip: &mut C,

@@ -6,12 +6,13 @@ use crate::left::Left;
 use desc_state::Desc;
 use irq_base::{Chip, CpuNo, TakeAnswer};
 
-/// Takes an interrupt of a line whose signal is a level, on a controller that presents it as long as it stands. The
-/// line comes in as it is, masked or not; its mask is closed first and the interrupt acknowledged, so that the level
-/// presents nothing more until the device was served.
+/// Takes an interrupt of a line whose signal is a level, on a controller that presents it as long
+/// as it stands. The line comes in as it is, masked or not; its mask is closed first and the
+/// interrupt acknowledged, so that the level presents nothing more until the device was served.
 ///
-/// Busy: a flow is in progress, and nothing more is done. Off: the line is disabled, or has no action (`linked` is
-/// false), and the interrupt is pending. Handle: the handlers are to run, in a flow of processor `cpu`.
+/// Busy: a flow is in progress, and nothing more is done. Off: the line is disabled, or has no
+/// action (`linked` is false), and the interrupt is pending. Handle: the handlers are to run, in a
+/// flow of processor `cpu`.
 pub fn enter<C: Chip>(desc: &mut Desc, chip: &mut C, cpu: CpuNo, linked: bool) -> TakeAnswer
     ensures answer { result ≡ answer_by linked desc.old }
     ensures desc { desc.new ≡ level_desc result cpu desc.old }
@@ -33,9 +34,9 @@ pub fn enter<C: Chip>(desc: &mut Desc, chip: &mut C, cpu: CpuNo, linked: bool) -
     TakeAnswer::Handle
 }
 
-/// Ends the flow, after the note on spurious interrupts, and after the kill that it may have made. The mask opens
-/// unless the line is disabled by now, or `held`: some one-shot thread hasn't finished (`threads_oneshot`; see
-/// `cond_unmask_irq`).
+/// Ends the flow, after the note on spurious interrupts, and after the kill that it may have made.
+/// The mask opens unless the line is disabled by now, or `held`: some one-shot thread hasn't
+/// finished (`threads_oneshot`; see `cond_unmask_irq`).
 pub fn leave<C: Chip>(desc: &mut Desc, chip: &mut C, held: bool) -> Left
     ensures left { result ≡ level_left held desc.old }
     ensures desc { desc.new ≡ level_ended held desc.old }

@@ -1,6 +1,6 @@
--- The signal cell (ours): all that a line's chips keep of its signal. It has five properties, which never
--- change, and five marks. The mask bit, the latch and the in-service bit of an interrupt controller are its
--- like; `struct irq_chip` of `include/linux/irq.h` has the operations.
+-- The signal cell (ours): all that a line's chips keep of its signal. It has five properties, which
+-- never change, and five marks. The mask bit, the latch and the in-service bit of an interrupt
+-- controller are its like; `struct irq_chip` of `include/linux/irq.h` has the operations.
 use Rattle.std.specs.Prelude.{Bool, true, false, not, ◌&&◌, ◌||◌, if◌then◌else◌}
 use Rattle.irq_base.specs.declared.lines.Trigger.{Trigger}
 use Rattle.irq_base.specs.declared.lines.Trigger.TheVariants as triggers
@@ -34,7 +34,8 @@ fresh_cell trigger keeps recalls retriggers serves = record { trigger = trigger;
 
 -- an edge comes
 abbrev pub after_edge : Cell → Cell
-after_edge c = if c.masked then record c { stored = c.stored || c.keeps } else record c { sent = true }
+after_edge c =
+    if c.masked then record c { stored = c.stored || c.keeps } else record c { sent = true }
 
 -- the level rises or falls
 abbrev pub after_high : Bool → Cell → Cell
@@ -42,11 +43,13 @@ after_high to c = record c { high = to }
 
 abbrev pub after_mask : Cell → Cell
 after_mask c =
-    if is_edge_cell c && (c.recalls && c.sent) then record c { masked = true; stored = true; sent = false } else record c { masked = true }
+    if is_edge_cell c && (c.recalls && c.sent)
+    then record c { masked = true; stored = true; sent = false } else record c { masked = true }
 
 abbrev pub after_unmask : Cell → Cell
 after_unmask c =
-    if is_edge_cell c then record c { masked = false; sent = c.sent || c.stored; stored = false } else record c { masked = false }
+    if is_edge_cell c then record c { masked = false; sent = c.sent || c.stored; stored = false }
+    else record c { masked = false }
 
 -- a processor takes the interrupt
 abbrev pub after_accept : Cell → Cell
@@ -67,6 +70,7 @@ can_retrigger c = is_edge_cell c && c.retriggers
 abbrev pub after_retrigger : Cell → Cell
 after_retrigger c = if can_retrigger c then record c { sent = true } else c
 
--- whether the cell presents an interrupt; an edge that was sent is presented also while the cell is masked
+-- whether the cell presents an interrupt; an edge that was sent is presented also while the cell is
+-- masked
 abbrev pub signals : Cell → Bool
 signals c = if is_edge_cell c then c.sent else (c.high && (not c.masked && not c.in_service))

@@ -1,5 +1,5 @@
--- The small answers of an entry as numbers (ours), the first of each type 0, in the order of the source. A
--- number that stands for none is read as the last.
+-- The small answers of an entry as numbers (ours), the first of each type 0, in the order of the
+-- source. A number that stands for none is read as the last.
 use Rattle.std.specs.Prelude.{ℕ, ◌-◌, ◌==◌, Bool, if◌then◌else◌}
 use Rattle.irq_base.specs.declared.devices.Answer.{Answer}
 use Rattle.irq_base.specs.declared.devices.Answer.TheVariants as answers
@@ -43,12 +43,15 @@ unfoldable pub error_at : ℕ → Errno
 error_at n = if n == 0 then errors.Inval else errors.Busy
 
 unfoldable pub enable_at : ℕ → EnableAnswer
-enable_at n = if n == 0 then enables.Unbalanced else (if n == 1 then enables.Lowered else enables.Started (resend_at (n - 2)))
+enable_at n =
+    if n == 0 then enables.Unbalanced
+    else (if n == 1 then enables.Lowered else enables.Started (resend_at (n - 2)))
 
 unfoldable pub opened_at : ℕ → Opened
 opened_at n =
     if n == 0 then opens.No
-    else (if n == 1 then opens.Unbalanced else (if n == 2 then opens.Lowered else opens.Started (resend_at (n - 3))))
+    else (if n == 1 then opens.Unbalanced
+    else (if n == 2 then opens.Lowered else opens.Started (resend_at (n - 3))))
 
 unfoldable pub link_at : ℕ → LinkAnswer
 link_at n = if n == 0 then links.Linked else links.Refused (error_at (n - 1))
@@ -57,7 +60,8 @@ unfoldable pub unlink_at : ℕ → UnlinkAnswer
 unlink_at n = if n == 0 then unlinks.NotThere else unlinks.Unlinked (n == 2)
 
 unfoldable pub affinity_at : ℕ → AffinityAnswer
-affinity_at n = if n == 0 then moves.Now else (if n == 1 then moves.Later else moves.Refused (error_at (n - 2)))
+affinity_at n =
+    if n == 0 then moves.Now else (if n == 1 then moves.Later else moves.Refused (error_at (n - 2)))
 
 unfoldable pub flag_at : ℕ → Bool
 flag_at n = n == 1

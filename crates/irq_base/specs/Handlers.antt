@@ -7,15 +7,20 @@ use Rattle.irq_base.specs.declared.devices.Part.TheVariants as parts
 use Rattle.irq_base.specs.declared.devices.Answer.{Answer}
 use Rattle.irq_base.specs.declared.devices.Answer.TheVariants as answers
 
--- the answer of a run that begins with that many unserved asks; a device without a thread never runs one
+-- the answer of a run that begins with that many unserved asks; a device without a thread never
+-- runs one
 abbrev pub answer_of : Kind → Part → ℕ → Answer
-answer_of kinds.Direct parts.Primary unserved = if nat_lt 0 unserved then answers.Handled else answers.Nothing
-answer_of kinds.Check parts.Primary unserved = if nat_lt 0 unserved then answers.Wake else answers.Nothing
+answer_of kinds.Direct parts.Primary unserved =
+    if nat_lt 0 unserved then answers.Handled else answers.Nothing
+answer_of kinds.Check parts.Primary unserved =
+    if nat_lt 0 unserved then answers.Wake else answers.Nothing
 answer_of kinds.Null parts.Primary unserved = answers.Wake
 answer_of kinds.Stuck parts.Primary unserved = answers.Nothing
 answer_of kinds.Direct parts.Thread unserved = answers.Nothing
-answer_of kinds.Check parts.Thread unserved = if nat_lt 0 unserved then answers.Handled else answers.Nothing
-answer_of kinds.Null parts.Thread unserved = if nat_lt 0 unserved then answers.Handled else answers.Nothing
+answer_of kinds.Check parts.Thread unserved =
+    if nat_lt 0 unserved then answers.Handled else answers.Nothing
+answer_of kinds.Null parts.Thread unserved =
+    if nat_lt 0 unserved then answers.Handled else answers.Nothing
 answer_of kinds.Stuck parts.Thread unserved = answers.Nothing
 
 -- whether the device has a thread

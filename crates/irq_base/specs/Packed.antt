@@ -1,5 +1,6 @@
--- How an entry stands in one word (ours). From its low end a word has a tag of 5 bits, a code of 8, a first
--- number of 16 and a second of 32. The tag says which entry it is, the code holds its small answers.
+-- How an entry stands in one word (ours). From its low end a word has a tag of 5 bits, a code of 8,
+-- a first number of 16 and a second of 32. The tag says which entry it is, the code holds its small
+-- answers.
 use Rattle.std.specs.Prelude.{ℕ, ◌/◌, ◌%◌, ◌<◌, ◌==◌, nat_lt, ◌≡◌, Bool, true, false, ◌&&◌, if◌then◌else◌, List, get_or}
 use Rattle.irq_base.specs.declared.numbers.CpuNo.{CpuNo}
 use Rattle.irq_base.specs.declared.numbers.DevNo.{DevNo}
@@ -33,11 +34,13 @@ unfoldable pub thread_entry : Parts → Entry
 thread_entry p =
     if p.tag == 4 then entries.ThreadBegin (dev_no p.first)
     else (if p.tag == 5 then entries.ThreadReturn (dev_no p.first) p.second
-    else (if p.tag == 6 then entries.Finish (dev_no p.first) (flag_at (p.code % 2)) (flag_at (p.code / 2))
+    else (if p.tag == 6
+    then entries.Finish (dev_no p.first) (flag_at (p.code % 2)) (flag_at (p.code / 2))
     else entries.Done (dev_no p.first)))
 
 unfoldable pub flags_at : ℕ → Flags
-flags_at n = record { shared = flag_at (n % 2); oneshot = flag_at (n / 2 % 2); noauto = flag_at (n / 4) }
+flags_at n =
+    record { shared = flag_at (n % 2); oneshot = flag_at (n / 2 % 2); noauto = flag_at (n / 4) }
 
 -- the entries of drivers
 unfoldable pub driver_entry : Parts → Entry
@@ -48,7 +51,8 @@ driver_entry p =
     else (if p.tag == 11 then entries.Synced (driver_no p.first)
     else (if p.tag == 12 then entries.Enable (driver_no p.first) (enable_at p.code)
     else (if p.tag == 13 then entries.Request (driver_no p.first) (dev_no p.second) (flags_at (p.code % 8)) (link_at (p.code / 8 % 4)) (opened_at (p.code / 32))
-    else (if p.tag == 14 then entries.Unlink (driver_no p.first) (dev_no p.second) (unlink_at p.code)
+    else (if p.tag == 14
+    then entries.Unlink (driver_no p.first) (dev_no p.second) (unlink_at p.code)
     else (if p.tag == 15 then entries.Freed (driver_no p.first) (dev_no p.second)
     else (if p.tag == 16 then entries.Affinity (driver_no p.first) p.second (affinity_at p.code)
     else entries.Moment (driver_no p.first) p.second))))))))
@@ -76,13 +80,16 @@ is_of_driver (entries.Moment driver at) = true
 
 -- the entry that the parts of a word stand for
 unfoldable pub entry_of : Parts → Entry
-entry_of p = if nat_lt p.tag 4 then cpu_entry p else (if nat_lt p.tag 8 then thread_entry p else driver_entry p)
+entry_of p =
+    if nat_lt p.tag 4 then cpu_entry p
+    else (if nat_lt p.tag 8 then thread_entry p else driver_entry p)
 
 -- the parts of a word
 abbrev pub parts_of : Packed → Parts
 parts_of w = record { tag = w.0 % 32; code = w.0 / 32 % 256; first = w.0 / 32 / 256 % 65536; second = w.0 / 32 / 256 / 65536 % 4294967296 }
 
--- an entry with a greater number stands in a list of its own, and its word has the place there above the tag 31
+-- an entry with a greater number stands in a list of its own, and its word has the place there
+-- above the tag 31
 abbrev pub is_wide : Packed → Bool
 is_wide w = w.0 % 32 == 31
 
@@ -121,7 +128,8 @@ is_narrow (entries.Disable driver) = is_narrow_driver driver
 is_narrow (entries.HardClear driver) = is_narrow_driver driver
 is_narrow (entries.Synced driver) = is_narrow_driver driver
 is_narrow (entries.Enable driver answer) = is_narrow_driver driver
-is_narrow (entries.Request driver dev flags answer opened) = is_narrow_driver driver && is_narrow_dev dev
+is_narrow (entries.Request driver dev flags answer opened) =
+    is_narrow_driver driver && is_narrow_dev dev
 is_narrow (entries.Unlink driver dev answer) = is_narrow_driver driver && is_narrow_dev dev
 is_narrow (entries.Freed driver dev) = is_narrow_driver driver && is_narrow_dev dev
 is_narrow (entries.Affinity driver mask answer) = is_narrow_driver driver

@@ -1,5 +1,5 @@
--- A path is an array of eight pairs, of which the first `len` count. The others are (0, 0), so that the list
--- gives the array back.
+-- A path is an array of eight pairs, of which the first `len` count. The others are (0, 0), so that
+-- the list gives the array back.
 use Rattle.std.specs.Prelude.{◌≡◌, ℕ, ◌+◌, ◌-◌, ◌<◌, ◌≤◌, List, ◌++◌, length, take, drop, slice_set}
 use Rattle.std.proofs.Math.ListN.{replicate}
 use Rattle.std.proofs.Common.{sym, ap, ◌∙◌, arith}
@@ -26,7 +26,8 @@ same_parts xs ys m n a b = ap (λ zs. made zs m) a ∙ ap (made ys) b
 pub of_levels_back : (p : Inside) → IsPath p → of_levels (levels_of p) ≡ p
 of_levels_back p h =
     let none : ℕ × ℕ = (0, 0) in
-    let front : length (take p.len p.levels) ≡ p.len = length-take-le p.len p.levels (omega (arith, h.within, h.full)) in
+    let front : length (take p.len p.levels) ≡ p.len =
+    length-take-le p.len p.levels (omega (arith, h.within, h.full)) in
     let back : take p.len p.levels ++ replicate (8 - length (take p.len p.levels)) none ≡ p.levels =
     ap (λ k. take p.len p.levels ++ replicate (8 - k) none) front
     ∙ (ap (λ xs. take p.len p.levels ++ xs) (sym h.rest) ∙ take-append-drop p.len p.levels) in
@@ -38,10 +39,14 @@ pub IsPath-push : (p : Inside) (level : ℕ × ℕ) → IsPath p → p.len < 8
 IsPath-push p level h room =
     let none : ℕ × ℕ = (0, 0) in
     let left : 8 - p.len - 1 ≡ 8 - (p.len + 1) = omega arith in
-    let kept : drop (p.len + 1) (slice_set p.levels p.len level) ≡ drop (p.len + 1) p.levels = drop-set-lt (p.len + 1) p.levels p.len level (omega arith) in
-    let on : drop (p.len + 1) p.levels ≡ drop 1 (drop p.len p.levels) = sym (drop-drop 1 p.len p.levels) in
-    let next : drop 1 (drop p.len p.levels) ≡ drop 1 (replicate (8 - p.len) none) = ap (λ (xs : List (ℕ × ℕ)). drop 1 xs) h.rest in
-    let last : drop 1 (replicate (8 - p.len) none) ≡ replicate (8 - p.len - 1) none = drop-replicate 1 (8 - p.len) none in
+    let kept : drop (p.len + 1) (slice_set p.levels p.len level) ≡ drop (p.len + 1) p.levels =
+    drop-set-lt (p.len + 1) p.levels p.len level (omega arith) in
+    let on : drop (p.len + 1) p.levels ≡ drop 1 (drop p.len p.levels) =
+    sym (drop-drop 1 p.len p.levels) in
+    let next : drop 1 (drop p.len p.levels) ≡ drop 1 (replicate (8 - p.len) none) =
+    ap (λ (xs : List (ℕ × ℕ)). drop 1 xs) h.rest in
+    let last : drop 1 (replicate (8 - p.len) none) ≡ replicate (8 - p.len - 1) none =
+    drop-replicate 1 (8 - p.len) none in
     record {
       within = omega arith;
       full = length-set p.levels p.len level ∙ h.full;

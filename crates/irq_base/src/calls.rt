@@ -2,7 +2,8 @@
 use crate::lists::ItemList;
 use crate::numbers::{DevNo, DriverNo};
 
-/// The flags of a request (`IRQF_SHARED`, `IRQF_ONESHOT`, `IRQF_NO_AUTOEN`, `include/linux/interrupt.h`).
+/// The flags of a request (`IRQF_SHARED`, `IRQF_ONESHOT`, `IRQF_NO_AUTOEN`,
+/// `include/linux/interrupt.h`).
 #[derive(Clone, Copy, PartialEq, Eq)]
 pub struct Flags {
     /// The line may have other actions.

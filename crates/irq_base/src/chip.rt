@@ -4,9 +4,9 @@ ghost use Rattle.irq_base.specs.Cell.{Cell, is_edge_cell, after_edge, after_high
 
 use crate::numbers::CpuNo;
 
-/// The chips of one line, from its device up to the processors, as one. Contracts see three parts of them: the
-/// signal cell, whether the interrupt is active, and the processor that it is aimed at. Each call changes what
-/// its clauses say and leaves the rest.
+/// The chips of one line, from its device up to the processors, as one. Contracts see three parts
+/// of them: the signal cell, whether the interrupt is active, and the processor that it is aimed
+/// at. Each call changes what its clauses say and leaves the rest.
 pub trait Chip {
     /// All that the chips keep of the line's signal.
     ghost cell: { Self → Cell };
@@ -43,8 +43,8 @@ pub trait Chip {
         ensures active { active self.new ≡ active self.old }
         ensures aimed { aimed self.new ≡ aimed self.old };
 
-    /// A processor takes the interrupt that is presented to it, as its entry code reads the number from the
-    /// controller before it calls `generic_handle_domain_irq` (`kernel/irq/irqdesc.c`).
+    /// A processor takes the interrupt that is presented to it, as its entry code reads the number
+    /// from the controller before it calls `generic_handle_domain_irq` (`kernel/irq/irqdesc.c`).
     fn accept(&mut self)
         ensures cell { cell self.new ≡ after_accept (cell self.old) }
         ensures active { active self.new ≡ active self.old }
@@ -62,7 +62,8 @@ pub trait Chip {
         ensures active { active self.new ≡ active self.old }
         ensures aimed { aimed self.new ≡ aimed self.old };
 
-    /// Sends the interrupt again, and answers whether the chips can (`irq_retrigger`). The mask is open.
+    /// Sends the interrupt again, and answers whether the chips can (`irq_retrigger`). The mask is
+    /// open.
     fn retrigger(&mut self) -> bool
         requires { (cell self.old).masked ≡ false }
         ensures answer { result ≡ can_retrigger (cell self.old) }
@@ -70,7 +71,8 @@ pub trait Chip {
         ensures active { active self.new ≡ active self.old }
         ensures aimed { aimed self.new ≡ aimed self.old };
 
-    /// Activates the interrupt in its domains (`irq_domain_activate_irq`, `kernel/irq/irqdomain.c`).
+    /// Activates the interrupt in its domains (`irq_domain_activate_irq`,
+    /// `kernel/irq/irqdomain.c`).
     fn activate(&mut self)
         ensures cell { cell self.new ≡ cell self.old }
         ensures active { active self.new ≡ true }
@@ -89,8 +91,8 @@ pub trait Chip {
         ensures active { active self.new ≡ active self.old }
         ensures aimed { aimed self.new ≡ cpu.0 };
 
-    /// Whether an interrupt is presented: the pending state behind the mask (`irq_get_irqchip_state` with
-    /// `IRQCHIP_STATE_PENDING`).
+    /// Whether an interrupt is presented: the pending state behind the mask
+    /// (`irq_get_irqchip_state` with `IRQCHIP_STATE_PENDING`).
     fn signal(&self) -> bool
         ensures { result ≡ signals (cell self.now) };
 }

@@ -32,8 +32,8 @@ pub enum Kind {
     Direct,
     /// The primary handler looks whether an ask is unserved, and wakes the thread, which serves.
     Check,
-    /// The default primary handler (`irq_default_primary_handler`, `kernel/irq/manage.c`) always wakes the
-    /// thread, which serves.
+    /// The default primary handler (`irq_default_primary_handler`, `kernel/irq/manage.c`) always
+    /// wakes the thread, which serves.
     Null,
     /// The handler never serves and never recognises its device.
     Stuck,

@@ -47,8 +47,9 @@ pub struct DomainDef {
 /// The most levels of a path.
 pub const LEVELS: usize = 8;
 
-/// The way of a line through its domains, leaf first: pairs of a domain's place and the hardware number
-/// there, at most eight (`parent_data` of `struct irq_data`). Contracts see the list of the pairs.
+/// The way of a line through its domains, leaf first: pairs of a domain's place and the hardware
+/// number there, at most eight (`parent_data` of `struct irq_data`). Contracts see the list of the
+/// pairs.
 #[derive(Clone, Copy)]
 pub struct Path {
     levels: [(usize, u32); LEVELS],

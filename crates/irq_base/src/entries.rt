@@ -46,7 +46,8 @@ pub enum TakeAnswer {
     Off,
 }
 
-/// What the rule on spurious interrupts makes of a round (`note_interrupt`, `kernel/irq/spurious.c`).
+/// What the rule on spurious interrupts makes of a round (`note_interrupt`,
+/// `kernel/irq/spurious.c`).
 #[derive(Clone, Copy, PartialEq, Eq)]
 pub enum Note {
     /// Nothing was unhandled lately, or the round waits to be judged by what threads do.
@@ -165,8 +166,8 @@ pub enum Entry {
         dev: DevNo,
         served: u32,
     },
-    /// `irq_finalize_oneshot`. `kept`: the thread was woken again, and its bit stays. `unmask`: the chip's mask
-    /// is opened.
+    /// `irq_finalize_oneshot`. `kept`: the thread was woken again, and its bit stays. `unmask`: the
+    /// chip's mask is opened.
     Finish {
         dev: DevNo,
         kept: bool,

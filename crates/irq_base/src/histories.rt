@@ -8,11 +8,11 @@ use crate::packed::Packed;
 use std::alloc::Global;
 use std::marker::Model;
 
-/// What the holds of a line's lock left behind. Contracts see its entries, the oldest first, and `spare`, how
-/// many more fit without memory.
+/// What the holds of a line's lock left behind. Contracts see its entries, the oldest first, and
+/// `spare`, how many more fit without memory.
 ///
-/// An entry takes eight bytes, but for those with a number that no board has, which stand in a list of their
-/// own: a processor above 31, a driver or a device above 65,535.
+/// An entry takes eight bytes, but for those with a number that no board has, which stand in a list
+/// of their own: a processor above 31, a driver or a device above 65,535.
 #[derive(Drop)]
 pub struct History {
     words: Vec<Packed>,
@@ -109,7 +109,8 @@ impl History {
     }
 }
 
-/// The word of the next wide entry. Its place fits: an entry takes twenty bytes, and a list at most 2^63 - 1.
+/// The word of the next wide entry. Its place fits: an entry takes twenty bytes, and a list at most
+/// 2^63 - 1.
 fn next_wide(wide: &[Entry]) -> Packed
     ensures wide { is_wide result ≡ true }
     ensures place { place_of result ≡ length wide.now }

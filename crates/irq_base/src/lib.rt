@@ -1,9 +1,9 @@
-//! The words of the interrupt layer: what a line is made of, what its drivers ask of it, and the entries of
-//! its history.
+//! The words of the interrupt layer: what a line is made of, what its drivers ask of it, and the
+//! entries of its history.
 //!
-//! Everything here is plain data, but for the lists, which contracts see as lists. One entry stands for one
-//! hold of a line's descriptor lock (`raw_spin_lock` of `struct irq_desc`, `include/linux/irqdesc.h`), and
-//! `History` is what those holds left behind, the oldest first.
+//! Everything here is plain data, but for the lists, which contracts see as lists. One entry stands
+//! for one hold of a line's descriptor lock (`raw_spin_lock` of `struct irq_desc`,
+//! `include/linux/irqdesc.h`), and `History` is what those holds left behind, the oldest first.
 #![tactic(auto)]
 
 pub mod calls;

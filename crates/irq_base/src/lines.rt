@@ -44,7 +44,8 @@ pub struct LineDef {
     pub retriggers: bool,
     /// Disabling masks the chip at once (`IRQ_DISABLE_UNLAZY`).
     pub unlazy: bool,
-    /// An affinity call takes effect at the next interrupt (`irqd_can_move_in_process_context` is false).
+    /// An affinity call takes effect at the next interrupt (`irqd_can_move_in_process_context` is
+    /// false).
     pub later: bool,
     /// The processors that may take the line at first: bit c stands for processor c.
     pub mask: u32,

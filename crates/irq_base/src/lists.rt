@@ -5,7 +5,8 @@ use crate::memory::NoMemory;
 use std::alloc::Global;
 use std::marker::Model;
 
-/// A list of plain items, to which items are added at the end. Contracts see it as the list of its items.
+/// A list of plain items, to which items are added at the end. Contracts see it as the list of its
+/// items.
 #[derive(Drop)]
 pub struct ItemList<T> {
     items: Vec<T>,

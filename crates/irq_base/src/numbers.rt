@@ -1,6 +1,8 @@
-//! The numbers by which a board names its parts. Each is a type of its own, so that none is taken for another.
+//! The numbers by which a board names its parts. Each is a type of its own, so that none is taken
+//! for another.
 
-/// The number of an interrupt line, 1 to 65,535 (`irq` of `struct irq_data`, `include/linux/irq.h`).
+/// The number of an interrupt line, 1 to 65,535 (`irq` of `struct irq_data`,
+/// `include/linux/irq.h`).
 #[derive(Clone, Copy, PartialEq, Eq, PartialOrd, Ord, Hash)]
 pub struct LineNo(pub u32);
 
@@ -12,6 +14,7 @@ pub struct CpuNo(pub u32);
 #[derive(Clone, Copy, PartialEq, Eq, PartialOrd, Ord, Hash)]
 pub struct DriverNo(pub u32);
 
-/// The number of a device, 1 to 65,535 (`dev_id` of `struct irqaction`, `include/linux/interrupt.h`).
+/// The number of a device, 1 to 65,535 (`dev_id` of `struct irqaction`,
+/// `include/linux/interrupt.h`).
 #[derive(Clone, Copy, PartialEq, Eq, PartialOrd, Ord, Hash)]
 pub struct DevNo(pub u32);

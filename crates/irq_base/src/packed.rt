@@ -6,8 +6,9 @@ use crate::entries::Entry;
 use crate::numbers::DevNo;
 use crate::parts::{Parts, is_narrow};
 
-/// One entry, or the place of one. From its low end the word has a tag of 5 bits, a code of 8, a first number of
-/// 16 and a second of 32. With the tag 31 all else is the place in the list of wide entries.
+/// One entry, or the place of one. From its low end the word has a tag of 5 bits, a code of 8, a
+/// first number of 16 and a second of 32. With the tag 31 all else is the place in the list of wide
+/// entries.
 #[derive(Clone, Copy)]
 pub struct Packed(u64);
 

@@ -20,7 +20,8 @@ pub struct LineReport {
     pub history: History,
 }
 
-/// One report a line. Contracts see the list of them, and `spare`, how many more fit without memory.
+/// One report a line. Contracts see the list of them, and `spare`, how many more fit without
+/// memory.
 #[derive(Drop)]
 pub struct Reports {
     reports: Vec<LineReport>,

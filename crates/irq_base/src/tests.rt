@@ -126,8 +126,8 @@ fn paths_actors_and_refusals(rt: HostRuntime) {
     assert!(rt; NoMemory::from(std::alloc::AllocError) == NoMemory);
 }
 
-/// The numbers of a packed entry at their least, at their greatest, just past it, and as great as can be: driver
-/// and device, processor, and what takes a whole word.
+/// The numbers of a packed entry at their least, at their greatest, just past it, and as great as
+/// can be: driver and device, processor, and what takes a whole word.
 fn numbers(row: usize) -> (u32, u32, u32) {
     match row {
         0 => (0, 0, 0),

@@ -1,4 +1,5 @@
--- The text of a log says one thing: its rows tell one list of histories, or one of them is the first malformed one.
+-- The text of a log says one thing: its rows tell one list of histories, or one of them is the
+-- first malformed one.
 use Rattle.std.proofs.Common.{◌≡◌, ℕ, zero, suc, ◌-◌, ◌<◌, ◌≤◌, ◌⊎◌, inl, inr, Bool, true, false, not, cond, Some, List, [], ◌∷◌, map, take, refl, sym, ap, subst, ◌∙◌, arith}
 use Rattle.std.specs.List.{slice_get, AllZip, All}
 use Rattle.std.proofs.lemmas.Bool.{cases_lt}

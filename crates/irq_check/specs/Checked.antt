@@ -24,21 +24,25 @@ abbrev pub with_log : List ℕ → Result BoardSeen BoardFault → Result (Board
 with_log log (Ok b) = Ok (b, log)
 with_log log (Err fault) = Err fault
 
--- the board of an input's first part, beside the log; or the first fault: there is no log, or the board's text has one
+-- the board of an input's first part, beside the log; or the first fault: there is no log, or the
+-- board's text has one
 abbrev pub board_and_log : Option (List ℕ × List ℕ) → Result (BoardSeen × List ℕ) BoardFault
 board_and_log None = Err (whole faults.NoLog)
 board_and_log (Some (text, log)) = with_log log (board_of_text text)
 
 -- the board and the text of the log that an input states, or its first fault
 abbrev pub checked : List ℕ → Result (BoardSeen × List ℕ) BoardFault
-checked input = if nat_lt longest_input (length input) then Err (whole faults.TooLong) else board_and_log (parts_of input)
+checked input =
+    if nat_lt longest_input (length input) then Err (whole faults.TooLong)
+    else board_and_log (parts_of input)
 
 -- the text of the log says these histories, and this is the verdict on them
 abbrev pub HasVerdict : BoardSeen → List ℕ → Verdict → Type 0
-HasVerdict b log verdict = (logs : List HistorySeen) × IsLogOf b.lines log (Ok logs) × IsVerdict b logs verdict
+HasVerdict b log verdict =
+    (logs : List HistorySeen) × IsLogOf b.lines log (Ok logs) × IsVerdict b logs verdict
 
--- what is said of the text of a log: that row of it is the first malformed one; or it has none, and its histories are
--- judged
+-- what is said of the text of a log: that row of it is the first malformed one; or it has none, and
+-- its histories are judged
 abbrev pub ChecksLog : BoardSeen → List ℕ → Answer → Type 0
 ChecksLog b log answers.Lawful = HasVerdict b log verdicts.Lawful
 ChecksLog b log (answers.Unlawful line entry) = HasVerdict b log (verdicts.Unlawful line entry)

@@ -30,20 +30,26 @@ is_read_fault _ = false
 -- fault, and was read to its end or one byte past the longest input
 abbrev pub ReadsInput : Option (List ℕ) → Option (List ℕ) → Result Answer InputRefused → Type 0
 ReadsInput (Some bytes) now (Ok answer) = IsChecked bytes answer × (now ≡ Some [])
-ReadsInput (Some bytes) now (Err (refusals.Fault fault)) = (checked bytes ≡ Err fault) × (now ≡ Some (left_after bytes))
+ReadsInput (Some bytes) now (Err (refusals.Fault fault)) =
+    (checked bytes ≡ Err fault) × (now ≡ Some (left_after bytes))
 ReadsInput _ _ _ = Unit {0}
 
 -- the same of the whole call
 abbrev pub Reads : Option (List ℕ) → Option (List ℕ) → CheckEnd → Type 0
 Reads (Some bytes) now (ends.Answered answer) = IsChecked bytes answer × (now ≡ Some [])
-Reads (Some bytes) now ends.WriteFault = ((answer : Answer) × IsChecked bytes answer) × (now ≡ Some [])
-Reads (Some bytes) now (ends.Fault fault) = (checked bytes ≡ Err fault) × (now ≡ Some (left_after bytes))
+Reads (Some bytes) now ends.WriteFault =
+    ((answer : Answer) × IsChecked bytes answer) × (now ≡ Some [])
+Reads (Some bytes) now (ends.Fault fault) =
+    (checked bytes ≡ Err fault) × (now ≡ Some (left_after bytes))
 Reads _ _ _ = Unit {0}
 
--- the output gained the whole row of what is said of the input; after a fault of the output a beginning of it
+-- the output gained the whole row of what is said of the input; after a fault of the output a
+-- beginning of it
 abbrev pub SaysOrNot : Option (List ℕ) → Option (List ℕ) → Option (List ℕ) → CheckEnd → Type 0
-SaysOrNot told before now (ends.Answered answer) = IsSaid told answer × WritesAll before now (answer_text answer) writes.Done
-SaysOrNot told before now ends.WriteFault = (answer : Answer) × IsSaid told answer × WritesAll before now (answer_text answer) writes.Failed
+SaysOrNot told before now (ends.Answered answer) =
+    IsSaid told answer × WritesAll before now (answer_text answer) writes.Done
+SaysOrNot told before now ends.WriteFault =
+    (answer : Answer) × IsSaid told answer × WritesAll before now (answer_text answer) writes.Failed
 SaysOrNot told before now _ = Unit {0}
 
 abbrev pub is_answered : CheckEnd → Bool

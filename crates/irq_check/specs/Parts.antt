@@ -16,7 +16,8 @@ onto_board row (Some (board, log)) = Some (row ++ board, log)
 -- what stands before the first row that is `---`, and what follows that row
 abbrev pub split_at_dashes : List (List ℕ) → Option (List ℕ × List ℕ)
 split_at_dashes [] = None
-split_at_dashes (row ∷ rows) = if is_dashes row then Some ([], concat rows) else onto_board row (split_at_dashes rows)
+split_at_dashes (row ∷ rows) =
+    if is_dashes row then Some ([], concat rows) else onto_board row (split_at_dashes rows)
 
 abbrev pub parts_of : List ℕ → Option (List ℕ × List ℕ)
 parts_of input = split_at_dashes (rows_of input)

@@ -10,8 +10,8 @@ use text_row::TextRow;
 pub enum Answer {
     /// Each row is one of a log, and the history of each line is legal.
     Lawful,
-    /// Each row is one of a log. This line is the first of the board whose history isn't legal, and the entry of this
-    /// number of it, counted from 1, is the first that wasn't due.
+    /// Each row is one of a log. This line is the first of the board whose history isn't legal, and
+    /// the entry of this number of it, counted from 1, is the first that wasn't due.
     Unlawful { line: LineNo, entry: u32 },
     /// This row of the log, counted from 1, is the first that isn't one of a log.
     Malformed { row: u32 },

@@ -1,9 +1,9 @@
-//! What `genirq check` does: it reads an input, which is the text of a board, a row `---` and a log of that board, and
-//! says whether the log is lawful.
+//! What `genirq check` does: it reads an input, which is the text of a board, a row `---` and a log
+//! of that board, and says whether the log is lawful.
 //!
-//! The board's text ends before the first text line that is exactly `---`, and all that follows that line is the log.
-//! A log whose rows are not all rows of entries is malformed; one that can be read is lawful if the
-//! history of each line is legal. What a board has is no fault of its log.
+//! The board's text ends before the first text line that is exactly `---`, and all that follows
+//! that line is the log. A log whose rows are not all rows of entries is malformed; one that can be
+//! read is lawful if the history of each line is legal. What a board has is no fault of its log.
 #![tactic(auto)]
 
 pub mod answers;

@@ -15,8 +15,8 @@ ask 1
 free 1
 ";
 
-/// Logs of the board behind its row `---`, and what is said of each: what is said, `=` and the log, in which `|` stands
-/// for a line feed.
+/// Logs of the board behind its row `---`, and what is said of each: what is said, `=` and the log,
+/// in which `|` stands for a line feed.
 const LOGS: &str = "\
 lawful=# irq 1 virq 1 intc:2|1 d1 request 1 - linked started no|1 d1 ask 1|1 c0 take line handle|1 c0 begin 1|1 c0 return 1 handled 1|1 c0 end leave asis quiet|1 d1 unlink 1 last|1 d1 hardclear|1 d1 freed 1|
 lawful=

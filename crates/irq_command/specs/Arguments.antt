@@ -1,4 +1,5 @@
--- The arguments of the program, as std gives them: a list, whose first is the program's name; or why there is none.
+-- The arguments of the program, as std gives them: a list, whose first is the program's name; or
+-- why there is none.
 use Rattle.std.specs.Prelude.{◌≡◌, ◌⊎◌, List, ℕ, [], ◌∷◌, drop, map, codes, Ok, Err, Result, string_bytes}
 use Rattle.std.specs.Global.{Global}
 use Rattle.std.specs.IoError.{error_kind}
@@ -42,4 +43,5 @@ IsNoForm args = (command : Command) → IsForm args command → ⊥
 
 -- how the program ends for arguments that give no words: they aren't text, or memory was refused
 abbrev pub IsRefusal : Arguments → Ending → Type 0
-IsRefusal args ending = (IsNotText args × (ending ≡ endings.Usage)) ⊎ ((IsNotText args → ⊥) × (ending ≡ endings.NoMemory wants.Making))
+IsRefusal args ending = (IsNotText args × (ending ≡ endings.Usage))
+    ⊎ ((IsNotText args → ⊥) × (ending ≡ endings.NoMemory wants.Making))

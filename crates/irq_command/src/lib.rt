@@ -1,4 +1,5 @@
-//! What the program does, from its arguments as they come to its status, over any reader and writers of std.
+//! What the program does, from its arguments as they come to its status, over any reader and
+//! writers of std.
 //!
 //! `run` puts a buffer before the output and nothing else between std and the top call; `command`
 //! is what it does over any ends. An argument that isn't UTF-8 is none of the forms of the command

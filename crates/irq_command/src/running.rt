@@ -35,8 +35,8 @@ pub struct Ended<R: Read + Drop, O: Write + Drop, E: Write + Drop> {
     pub error: StdSink<E>,
 }
 
-/// Runs the program over its arguments as they come, its input, its output, before which a buffer is put, and its
-/// error stream. All of the output is handed to the writer if the status is 0 or 1.
+/// Runs the program over its arguments as they come, its input, its output, before which a buffer
+/// is put, and its error stream. All of the output is handed to the writer if the status is 0 or 1.
 pub fn run<T: Threads + Wait + Sync, R: Read + Drop, O: Write + Drop, E: Write + Drop>(
     rt: &T,
     alloc: Global,

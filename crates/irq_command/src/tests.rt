@@ -35,7 +35,7 @@ line 1 intc 2
 device 1 1 direct
 driver 1
 request 1
----
+-- -
 1 d1 ask 1
 ";
 
@@ -45,8 +45,8 @@ const LOG: &str = "# irq 1 virq 1 intc:2
 
 const USAGE: &str = "usage: genirq run [--summary] | play [--summary] | check | gen N\n";
 
-/// Words after the program's name, the text of the input, the numbers of the read and the write that fail, and what
-/// is to come of it: the status, the output, and the row that is told.
+/// Words after the program's name, the text of the input, the numbers of the read and the write
+/// that fail, and what is to come of it: the status, the output, and the row that is told.
 #[derive(Clone, Copy)]
 struct Case {
     words: &'static [&'static str],
@@ -239,7 +239,8 @@ fn std_ends_give_their_status(rt: HostRuntime) -> Result<(), Fail> {
     Ok(())
 }
 
-/// A board with the most drivers, calls and picks: driver 1 requests the device and asks of it, the others ask.
+/// A board with the most drivers, calls and picks: driver 1 requests the device and asks of it, the
+/// others ask.
 fn board_at_its_limits(alloc: Global) -> Result<Vec<u8>, Fail> {
     let mut text = Vec::from_slice(
         alloc,
@@ -257,8 +258,8 @@ fn board_at_its_limits(alloc: Global) -> Result<Vec<u8>, Fail> {
     Ok(text)
 }
 
-/// Driver 1 makes its 256 calls first, and one interrupt serves its 255 asks; each of the 16,128 other asks has one of
-/// its own. An interrupt is four entries.
+/// Driver 1 makes its 256 calls first, and one interrupt serves its 255 asks; each of the 16,128
+/// other asks has one of its own. An interrupt is four entries.
 #[test]
 fn limits_want_no_more_memory_than_there_is(rt: HostRuntime) -> Result<(), Fail> {
     let alloc = rt.alloc();

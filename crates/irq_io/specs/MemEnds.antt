@@ -1,8 +1,8 @@
 -- What is seen of the ends in memory.
 use Rattle.std.specs.Prelude.{ℕ, List}
 
--- What is left of the content, the most bytes a read gives, the numbers of the reads that fail, and how many
--- reads and faults there were.
+-- What is left of the content, the most bytes a read gives, the numbers of the reads that fail, and
+-- how many reads and faults there were.
 pub record MemSourceSeen : Type 0 where
   pub left : List ℕ
   pub piece : ℕ
@@ -10,8 +10,8 @@ pub record MemSourceSeen : Type 0 where
   pub reads : ℕ
   pub faults : ℕ
 
--- What was written, how many bytes more it takes, the numbers of the writes and of the flushes that fail, and
--- how many writes, flushes and faults there were.
+-- What was written, how many bytes more it takes, the numbers of the writes and of the flushes that
+-- fail, and how many writes, flushes and faults there were.
 pub record MemSinkSeen : Type 0 where
   pub content : List ℕ
   pub room : ℕ

@@ -23,6 +23,7 @@ GotWithin room answer = IfGot answer (λ n. (1 ≤ n) × (n ≤ room))
 -- comes if nothing is left, and a fault takes nothing
 abbrev pub Reads : Option (List ℕ) → Option (List ℕ) → List ℕ → ReadAnswer → Type 0
 Reads None now buf answer = Unit {0}
-Reads (Some before) now buf (answers.Got n) = (now ≡ Some (drop n before)) × (take n buf ≡ take n before) × (n ≤ length before)
+Reads (Some before) now buf (answers.Got n) =
+    (now ≡ Some (drop n before)) × (take n buf ≡ take n before) × (n ≤ length before)
 Reads (Some before) now buf answers.End = (before ≡ []) × (now ≡ Some [])
 Reads (Some before) now buf answers.Failed = now ≡ Some before

@@ -1,5 +1,5 @@
--- Contents that an end tells or not, and lists that others begin with. Of an end that doesn't tell its content nothing is
--- said, not even that it goes on so: std's traits leave that open.
+-- Contents that an end tells or not, and lists that others begin with. Of an end that doesn't tell
+-- its content nothing is said, not even that it goes on so: std's traits leave that open.
 use Rattle.std.specs.Prelude.{◌≡◌, ℕ, List, [], ◌++◌, Option, Some, None}
 use Rattle.std.proofs.Common.{sym}
 use Rattle.std.proofs.lemmas.List.{append-nil}

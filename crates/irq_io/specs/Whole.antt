@@ -31,16 +31,19 @@ KeepsNone kept ends.Failed = Unit {0}
 -- were taken
 abbrev pub TakesUpTo : ℕ → Option (List ℕ) → Option (List ℕ) → List ℕ → Type 0
 TakesUpTo most None now bytes = Unit {0}
-TakesUpTo most (Some before) now bytes = (bytes ≡ take most before) × (now ≡ Some (drop most before))
+TakesUpTo most (Some before) now bytes =
+    (bytes ≡ take most before) × (now ≡ Some (drop most before))
 
 -- if the source tells what is left: what was taken is a beginning of it, of at most `most` bytes
 abbrev pub TakesAtMost : ℕ → Option (List ℕ) → Option (List ℕ) → Type 0
 TakesAtMost most None now = Unit {0}
 TakesAtMost most (Some before) now =
-    (taken : List ℕ) × (rest : List ℕ) × (length taken ≤ most) × (before ≡ taken ++ rest) × (now ≡ Some rest)
+    (taken : List ℕ) × (rest : List ℕ) × (length taken ≤ most) × (before ≡ taken ++ rest)
+    × (now ≡ Some rest)
 
 -- if the sink tells its content: it grew by the bytes, or after a fault by a beginning of them
 abbrev pub WritesAll : Option (List ℕ) → Option (List ℕ) → List ℕ → WriteEnd → Type 0
 WritesAll None now bytes end = Unit {0}
 WritesAll (Some before) now bytes ends.Done = now ≡ Some (before ++ bytes)
-WritesAll (Some before) now bytes ends.Failed = (taken : List ℕ) × IsBeginning taken bytes × (now ≡ Some (before ++ taken))
+WritesAll (Some before) now bytes ends.Failed =
+    (taken : List ℕ) × IsBeginning taken bytes × (now ≡ Some (before ++ taken))

@@ -13,9 +13,10 @@ use irq_base::NoMemory;
 use std::alloc::Global;
 use std::marker::Model;
 
-/// A sink into memory, which takes bytes while it has room. Its writes of the numbers `fails` and its flushes
-/// of the numbers `flush_fails`, each counted from 1, fail. What it took it has handed on. Contracts see
-/// `content`, the `room` that is left, both lists, and how many `writes`, `flushes` and `faults` there were.
+/// A sink into memory, which takes bytes while it has room. Its writes of the numbers `fails` and
+/// its flushes of the numbers `flush_fails`, each counted from 1, fail. What it took it has handed
+/// on. Contracts see `content`, the `room` that is left, both lists, and how many `writes`,
+/// `flushes` and `faults` there were.
 #[derive(Drop)]
 pub struct MemSink {
     content: Vec<u8>,
@@ -50,9 +51,9 @@ impl MemSink {
         MemSink::with_failing_flushes(alloc, fails, &[], room)
     }
 
-    /// The empty sink with that room, for which the memory is taken at once. `fails` are the numbers of the writes
-    /// that fail, `flush_fails` those of the flushes, each counted from 1. The only error is
-    /// `NoMemory`.
+    /// The empty sink with that room, for which the memory is taken at once. `fails` are the
+    /// numbers of the writes that fail, `flush_fails` those of the flushes, each counted from 1.
+    /// The only error is `NoMemory`.
     pub fn with_failing_flushes(
         alloc: Global,
         fails: &[u32],

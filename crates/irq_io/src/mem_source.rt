@@ -10,9 +10,9 @@ use irq_base::NoMemory;
 use std::alloc::Global;
 use std::marker::Model;
 
-/// A source over bytes in memory, which gives at most `piece` bytes a read, and whose reads of the numbers
-/// `fails`, counted from 1, fail. Contracts see what is `left`, `piece`, `fails`, and how many `reads` and
-/// `faults` there were.
+/// A source over bytes in memory, which gives at most `piece` bytes a read, and whose reads of the
+/// numbers `fails`, counted from 1, fail. Contracts see what is `left`, `piece`, `fails`, and how
+/// many `reads` and `faults` there were.
 #[derive(Drop)]
 pub struct MemSource {
     bytes: Vec<u8>,
@@ -35,8 +35,9 @@ impl Model for MemSource {
 }
 
 impl MemSource {
-    /// The source of these bytes. A read gives at most `piece` of them, which is at least 1. `fails` are the numbers
-    /// of the reads that fail, counted from 1. The only error is `NoMemory`.
+    /// The source of these bytes. A read gives at most `piece` of them, which is at least 1.
+    /// `fails` are the numbers of the reads that fail, counted from 1. The only error is
+    /// `NoMemory`.
     pub fn new(
         alloc: Global,
         bytes: &[u8],

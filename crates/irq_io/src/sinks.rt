@@ -37,7 +37,8 @@ pub trait Sink {
     /// The number of faults so far.
     ghost faults: { Self → ℕ };
 
-    /// Takes bytes from the front of those given, which must not be empty. How much it hands on is left open.
+    /// Takes bytes from the front of those given, which must not be empty. How much it hands on is
+    /// left open.
     fn write(&mut self, bytes: &[u8]) -> WriteAnswer
         requires { 0 < length bytes.now }
         ensures bound { TookWithin (length bytes.now) result }

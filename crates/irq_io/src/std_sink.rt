@@ -9,10 +9,11 @@ use crate::sinks::{FlushAnswer, Sink, WriteAnswer};
 use std::io::{BufWriter, Write};
 use std::marker::Model;
 
-/// A sink over a writer of std, with std's buffer in front of it. Each `Err` is a fault, also an interrupted write,
-/// and so is a write that takes nothing. It tells the content that the writer tells, then the buffer's: all of it is
-/// handed to std, and what the buffer still has is `kept` back. A flush that is done leaves the buffer empty, and so
-/// all in the writer. Contracts see the `writer` with its buffer, and `faults`.
+/// A sink over a writer of std, with std's buffer in front of it. Each `Err` is a fault, also an
+/// interrupted write, and so is a write that takes nothing. It tells the content that the writer
+/// tells, then the buffer's: all of it is handed to std, and what the buffer still has is `kept`
+/// back. A flush that is done leaves the buffer empty, and so all in the writer. Contracts see the
+/// `writer` with its buffer, and `faults`.
 #[derive(Drop)]
 pub struct StdSink<W: Write + Drop> {
     writer: BufWriter<W>,

@@ -8,8 +8,8 @@ use std::io::Read;
 use std::marker::Model;
 
 /// A source over a reader of std. Each `Err` is a fault, also an interrupted read. The source tells
-/// what the reader tells: a slice its bytes, and standard input nothing, since what an operating system gives no
-/// contract knows. Contracts see the `reader` and `faults`.
+/// what the reader tells: a slice its bytes, and standard input nothing, since what an operating
+/// system gives no contract knows. Contracts see the `reader` and `faults`.
 #[derive(Drop)]
 pub struct StdSource<R> {
     reader: R,

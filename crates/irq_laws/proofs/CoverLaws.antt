@@ -1,5 +1,5 @@
--- Each owed edge is somewhere: presented, kept, pending, in a software resend, or its device is still ahead in the
--- round.
+-- Each owed edge is somewhere: presented, kept, pending, in a software resend, or its device is
+-- still ahead in the round.
 use Rattle.std.proofs.Common.{◌≡◌, ◌⊎◌, inl, inr, Bool, true, false, not, ◌||◌, ◌&&◌, ◌==◌, cond, Some, None, is_some, List, [], ◌∷◌, reverse, refl, sym, ap, ◌∙◌, subst, arith}
 use Rattle.std.proofs.lemmas.Bool.{and_parts, and_from, or_cases, or_left, or_right}
 use Rattle.std.specs.List.{list_any}

@@ -58,7 +58,8 @@ end_shape def c past = shape_by def def.flow c past (note_of def past)
 
 -- ---- the records
 
--- the line's target takes what is signalled, or else what the software resends, outside its own flow
+-- the line's target takes what is signalled, or else what the software resends, outside its own
+-- flow
 pub record IsTakeDue (def : LineDef) (c : CpuNo) (way : Way) (answer : TakeAnswer) (past : List Entry) : Type 0 where
   pub not_of_flow : is_cpu c (flow def past) ≡ false
   pub of_target : is_cpu c (target def past) ≡ true

@@ -51,7 +51,8 @@ pub record IsDoneDue (d : DevNo) (past : List Entry) : Type 0 where
   pub returned : has_returned past d ≡ true
   pub all_done : (is_oneshot past && not (has_finished past d)) ≡ false
 
--- r: it runs, w: it is woken, t: its handler returned, o: the line is one-shot, f: the finish is there, h: a flow is in progress
+-- r: it runs, w: it is woken, t: its handler returned, o: the line is one-shot, f: the finish is
+-- there, h: a flow is in progress
 abbrev pub row : Bool → Bool → Bool → Bool → Bool → Bool → Entry → Entry → Entry → Entry → Option Entry
 row r w t o f h begins returns finishes ends =
     cond (not r) (cond w (Some begins) None) (cond (not t) (Some returns) (cond (o && not f) (cond h None (Some finishes)) (Some ends)))

@@ -35,7 +35,8 @@ freeing_holds (e ∷ past) f h = goes_on e past (λ r. refl) (freeing_holds past
 
 -- ---- who holds the mutex is within a free
 
--- the newest entry of `upto` unlinked a device that passes the test, and its driver's free isn't complete
+-- the newest entry of `upto` unlinked a device that passes the test, and its driver's free isn't
+-- complete
 abbrev pub owned : (DevNo → Bool) → (DriverNo → Bool) → List Entry → List Entry → Bool
 owned t f after (entries.Unlink driver dev (unlinks.Unlinked last) ∷ past) = t dev && not (f driver || list_any (is_freed_by driver) after)
 owned t f after _ = false

@@ -167,7 +167,8 @@ free_below def r d past n is =
     at_most true = omega arith
     at_most false = omega arith
 
--- a driver that is within a free after the entry of s, whose call was c: it was there before, or the entry is of that free
+-- a driver that is within a free after the entry of s, whose call was c: it was there before, or
+-- the entry is of that free
 pub free_before : (def : LineDef) (r s : DriverNo) (e : Entry) (past : List Entry) (c : Call) (n : ℕ) (d : DevNo) (m : ℕ) → is_by_driver r e ≡ same_driver r s → due_call def s past ≡ Some (c, n)
     → due_call def r (e ∷ past) ≡ Some (calls.Free d, suc m)
     → ((same_driver r s ≡ false) × (due_call def r past ≡ Some (calls.Free d, suc m))) ⊎ ((r ≡ s) × (calls.Free d ≡ c) × (m ≡ n) × (n ≡ 0 → nat_lt (suc m) (entries_of_call c (e ∷ [])) ≡ true))

@@ -1,4 +1,5 @@
--- Each entry keeps: a device that is neither linked nor being freed is at rest, and what this needs.
+-- Each entry keeps: a device that is neither linked nor being freed is at rest, and what this
+-- needs.
 use Rattle.std.proofs.Common.{◌≡◌, ℕ, ◌⊎◌, inl, inr, Bool, true, false, not, ◌||◌, ◌&&◌, cond, Some, List, [], ◌∷◌, refl, sym, ap, ◌∙◌, subst, arith}
 use Rattle.std.proofs.lemmas.Bool.{and_parts, and_from, and_left, and_right, or_cases, or_left, or_right, or_from, or_parts, false_from_ne_true, true_from_ne_false, not-true}
 use Rattle.std.specs.List.{list_any}

@@ -1,5 +1,5 @@
--- The mask in force has a processor of the machine, and what waits on an enabled line without a flow is handled
--- next.
+-- The mask in force has a processor of the machine, and what waits on an enabled line without a
+-- flow is handled next.
 use Rattle.std.proofs.Common.{◌≡◌, ◌⊎◌, inl, inr, Bool, true, false, not, ◌||◌, ◌&&◌, cond, Option, Some, None, is_some, List, [], ◌∷◌, reverse, refl, sym, ap, ◌∙◌, arith}
 use Rattle.std.proofs.lemmas.Bool.{and_parts, or_cases, or_from, false_from_ne_true}
 use Rattle.irq_base.specs.declared.numbers.CpuNo.{CpuNo}

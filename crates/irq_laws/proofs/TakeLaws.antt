@@ -41,7 +41,8 @@ marks_taken k r n s w = grind arith
 one_of_three : (g a c f : Bool) → one_if (g && (a || (c || f))) ≤ one_if a + one_if c + one_if f
 one_of_three g a c f = grind arith
 
--- the marks after an entry, less the takes by the line, are no more than before, with the edges that came
+-- the marks after an entry, less the takes by the line, are no more than before, with the edges
+-- that came
 abbrev pub MarksCounted : LineDef → Entry → List Entry → Type 0
 MarksCounted def e past =
     one_if (is_line_take e) + (one_if (is_sent def (e ∷ past)) + one_if (is_stored def (e ∷ past)))

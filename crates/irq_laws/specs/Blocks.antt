@@ -14,8 +14,9 @@ use Rattle.irq_model.specs.Due.{due_call, holds_mutex}
 use Rattle.irq_model.specs.Next.{next}
 use Rattle.irq_laws.specs.Kept.{freeing}
 
--- nothing; the end of the flow that is in progress (`__synchronize_hardirq`); the rest of the threads of all
--- devices (`synchronize_irq`); the request mutex; the rest of the thread of the device that is freed
+-- nothing; the end of the flow that is in progress (`__synchronize_hardirq`); the rest of the
+-- threads of all devices (`synchronize_irq`); the request mutex; the rest of the thread of the
+-- device that is freed
 pub data Block : Type 0 where
   Nothing : Block
   Flow : Block
@@ -31,12 +32,13 @@ block_of calls.Disable n = if n == 0 then Nothing else (if n == 1 then Flow else
 block_of calls.Sync n = if n == 0 then Flow else Threads
 block_of _ n = Nothing
 
--- it stands in the way: a flow is in progress; some device of the line is woken or in a run; the mutex is held;
--- the device that is freed is woken or in a run
+-- it stands in the way: a flow is in progress; some device of the line is woken or in a run; the
+-- mutex is held; the device that is freed is woken or in a run
 abbrev pub stands_in_way : LineDef → List Entry → Block → Bool
 stands_in_way def past Nothing = false
 stands_in_way def past Flow = has_flow def past
-stands_in_way def past Threads = list_any (λ x. is_woken past x.dev || is_running past x.dev) def.devices
+stands_in_way def past Threads =
+    list_any (λ x. is_woken past x.dev || is_running past x.dev) def.devices
 stands_in_way def past Mutex = holds_mutex past
 stands_in_way def past (Device d) = is_woken past d || is_running past d
 

@@ -1,5 +1,5 @@
--- The cell of a line, driven by the entries: what each of them does to it, in the order in which the flow
--- handlers and the calls do it. The newest entry comes first.
+-- The cell of a line, driven by the entries: what each of them does to it, in the order in which
+-- the flow handlers and the calls do it. The newest entry comes first.
 use Rattle.std.specs.Prelude.{ℕ, nat_lt, ◌≡◌, Bool, ◌&&◌, if◌then◌else◌, List, [], ◌∷◌, reverse}
 use Rattle.irq_base.specs.declared.lines.FlowKind.{FlowKind}
 use Rattle.irq_base.specs.declared.lines.FlowKind.TheVariants as flows
@@ -68,7 +68,8 @@ taken_on_eoi_level oneshot takes.Off c = after_eoi (after_mask c)
 abbrev pub taken : LineDef → FlowKind → Bool → TakeAnswer → Cell → Cell
 taken def flows.Level oneshot answer c = after_ack (after_mask c)
 taken def flows.Edge oneshot answer c = taken_on_edge_flow answer c
-taken def flows.Eoi oneshot answer c = if is_edge_line def then taken_on_eoi_edge answer c else taken_on_eoi_level oneshot answer c
+taken def flows.Eoi oneshot answer c =
+    if is_edge_line def then taken_on_eoi_edge answer c else taken_on_eoi_level oneshot answer c
 
 -- a call or a note that masks
 abbrev pub masked_if : Bool → Cell → Cell
@@ -80,28 +81,36 @@ unmasked_if b c = if b then after_unmask c else c
 abbrev pub retriggered_if : Bool → Cell → Cell
 retriggered_if b c = if b then after_retrigger c else c
 
--- the end of a flow: on the fast-EOI flow the end of interrupt first, and the chip sends again at last
+-- the end of a flow: on the fast-EOI flow the end of interrupt first, and the chip sends again at
+-- last
 abbrev pub ended : LineDef → FlowKind → Bool → Bool → Cell → Cell
-ended def flows.Eoi again unmask c = retriggered_if (is_edge_line def && again) (unmasked_if unmask (after_eoi c))
+ended def flows.Eoi again unmask c =
+    retriggered_if (is_edge_line def && again) (unmasked_if unmask (after_eoi c))
 ended def _ again unmask c = unmasked_if unmask c
 
--- a device asks, or a run that served it returned: an edge comes, or the level is what the devices make of it now
+-- a device asks, or a run that served it returned: an edge comes, or the level is what the devices
+-- make of it now
 abbrev pub asked : LineDef → List Entry → Cell → Cell
 asked def past c = if is_edge_line def then after_edge c else after_high (is_high def past) c
 
 abbrev pub served : LineDef → ℕ → List Entry → Cell → Cell
-served def count past c = if is_level_line def && nat_lt 0 count then after_high (is_high def past) c else c
+served def count past c =
+    if is_level_line def && nat_lt 0 count then after_high (is_high def past) c else c
 
 -- what the entry does after `past`
 abbrev pub driven : LineDef → Entry → List Entry → Cell → Cell
 driven def (entries.Ask driver dev) past c = asked def (entries.Ask driver dev ∷ past) c
-driven def (entries.Return cpu dev answer count) past c = served def count (entries.Return cpu dev answer count ∷ past) c
-driven def (entries.ThreadReturn dev count) past c = served def count (entries.ThreadReturn dev count ∷ past) c
-driven def (entries.Take cpu way answer) past c = taken def def.flow (is_oneshot past) answer (accepted way c)
+driven def (entries.Return cpu dev answer count) past c =
+    served def count (entries.Return cpu dev answer count ∷ past) c
+driven def (entries.ThreadReturn dev count) past c =
+    served def count (entries.ThreadReturn dev count ∷ past) c
+driven def (entries.Take cpu way answer) past c =
+    taken def def.flow (is_oneshot past) answer (accepted way c)
 driven def (entries.End cpu again unmask note) past c = ended def def.flow again unmask (masked_if (def.unlazy && is_kill (entries.End cpu again unmask note)) c)
 driven def (entries.Finish dev kept unmask) past c = unmasked_if unmask c
 driven def (entries.Disable driver) past c = masked_if def.unlazy c
-driven def (entries.Unlink driver dev answer) past c = masked_if (is_last_unlink (entries.Unlink driver dev answer)) c
+driven def (entries.Unlink driver dev answer) past c =
+    masked_if (is_last_unlink (entries.Unlink driver dev answer)) c
 driven def (entries.Request driver dev flags answer opened) past c =
     retriggered_if (is_chip_start (entries.Request driver dev flags answer opened)) (unmasked_if (is_start (entries.Request driver dev flags answer opened)) c)
 driven def (entries.Enable driver answer) past c =
@@ -113,7 +122,8 @@ abbrev pub cell_after : LineDef → List Entry → Cell
 cell_after def [] = fresh_cell def.trigger def.keeps def.recalls def.retriggers (serves def)
 cell_after def (e ∷ past) = driven def e past (cell_after def past)
 
--- the marks that are read off the entries are what the cell keeps, and it presents what the line signals
+-- the marks that are read off the entries are what the cell keeps, and it presents what the line
+-- signals
 pub record IsDrivenCell (def : LineDef) (h : List Entry) : Type 0 where
   pub keeps : cell_after def (reverse h) ≡ cell_of def (reverse h)
   pub presents : presents (cell_after def (reverse h)) ≡ signals def (reverse h)

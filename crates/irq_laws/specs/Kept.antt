@@ -1,5 +1,5 @@
--- What every entry keeps, beside the parts of the reasons: facts of a legal past, whose newest entry comes
--- first.
+-- What every entry keeps, beside the parts of the reasons: facts of a legal past, whose newest
+-- entry comes first.
 use Rattle.std.specs.Prelude.{◌≡◌, ℕ, suc, ◌+◌, ◌≤◌, Bool, true, false, ◌&&◌, if◌then◌else◌, Option, Some, None, List, [], ◌∷◌, nat_lt, length, drop, slice_get}
 use Rattle.std.specs.List.{list_any}
 use Rattle.irq_base.specs.declared.numbers.DevNo.{DevNo}
@@ -19,10 +19,12 @@ use Rattle.irq_model.specs.Due.{calls_by, entries_by, entries_of_call, due_call}
 use Rattle.irq_model.specs.Valid.{requests_dev, frees_dev}
 use Rattle.irq_model.specs.Reason.{is_called, is_being_freed, ClearedIsNotCalled, UnlinkedIsAtRest, UnfinishedIsAtWork, FlagsAgree, EnabledIsStarted, EdgeFlowMaskIsPending, EoiEdgeIsOpen, EdgePendingHasFlow, DroppedIsPending, LevelMaskIsHeld, EoiLevelMaskIsOneshot}
 
--- the handler that is at work is the one that was called and hasn't returned, in the round of the flow
+-- the handler that is at work is the one that was called and hasn't returned, in the round of the
+-- flow
 pub record KeepsRuns (def : LineDef) (past : List Entry) : Type 0 where
   pub called : (d : DevNo) → is_called past d ≡ true → at_work past ≡ Some d
-  pub working : (d : DevNo) → at_work past ≡ Some d → (is_called past d ≡ true) × (has_flow def past ≡ true) × (has_begun def past d ≡ true)
+  pub working : (d : DevNo) → at_work past ≡ Some d
+      → (is_called past d ≡ true) × (has_flow def past ≡ true) × (has_begun def past d ≡ true)
 
 -- the driver and the device of the last unlink, unless a free was completed after it
 abbrev pub freeing : List Entry → Option (DriverNo × DevNo)
@@ -33,26 +35,34 @@ freeing (_ ∷ past) = freeing past
 
 -- r unlinked d
 abbrev pub unlinks_of : DriverNo → DevNo → Entry → Bool
-unlinks_of r d (entries.Unlink driver dev answer) = (same_driver r driver && same_dev d dev) && is_unlinked_answer answer
+unlinks_of r d (entries.Unlink driver dev answer) =
+    (same_driver r driver && same_dev d dev) && is_unlinked_answer answer
 unlinks_of r d _ = false
 
 -- one free at a time, and its driver is within it
 pub record KeepsFrees (def : LineDef) (past : List Entry) : Type 0 where
-  pub one_driver : (r : DriverNo) (d : DevNo) → stands (unlinks_of r d) (is_freed_by r) past ≡ true → freeing past ≡ Some (r, d)
-  pub one_device : (d : DevNo) → is_being_freed past d ≡ true → (r : DriverNo) × (freeing past ≡ Some (r, d))
-  pub within : (r : DriverNo) (d : DevNo) (n : ℕ) → due_call def r past ≡ Some (calls.Free d, suc n) → freeing past ≡ Some (r, d)
+  pub one_driver : (r : DriverNo) (d : DevNo) → stands (unlinks_of r d) (is_freed_by r) past ≡ true
+      → freeing past ≡ Some (r, d)
+  pub one_device : (d : DevNo) → is_being_freed past d ≡ true
+      → (r : DriverNo) × (freeing past ≡ Some (r, d))
+  pub within : (r : DriverNo) (d : DevNo) (n : ℕ) → due_call def r past ≡ Some (calls.Free d, suc n)
+      → freeing past ≡ Some (r, d)
   -- what is being freed isn't linked
   pub unlinked : (r : DriverNo) (d : DevNo) → freeing past ≡ Some (r, d) → is_linked past d ≡ false
   -- past the hard clear of the free no handler of the device is at work
-  pub past_clear : (r : DriverNo) (d : DevNo) → due_call def r past ≡ Some (calls.Free d, 2) → is_called past d ≡ false
+  pub past_clear : (r : DriverNo) (d : DevNo) → due_call def r past ≡ Some (calls.Free d, 2)
+      → is_called past d ≡ false
   pub cleared : ClearedIsNotCalled def past
 
 pub record KeepsRest (def : LineDef) (past : List Entry) : Type 0 where
   -- a device that was ever linked, or is being freed, is a device of the line
-  pub named : (d : DevNo) → list_any (links_dev d) past ≡ true → list_any (is_device d) def.devices ≡ true
-  pub freed_named : (d : DevNo) → is_being_freed past d ≡ true → list_any (is_device d) def.devices ≡ true
+  pub named : (d : DevNo) → list_any (links_dev d) past ≡ true
+      → list_any (is_device d) def.devices ≡ true
+  pub freed_named : (d : DevNo) → is_being_freed past d ≡ true
+      → list_any (is_device d) def.devices ≡ true
   -- a device that was freed, and not linked since, is neither linked nor being freed
-  pub after_free : (d : DevNo) → stands (is_freed d) (links_dev d) past ≡ true → (is_linked past d ≡ false) × (is_being_freed past d ≡ false)
+  pub after_free : (d : DevNo) → stands (is_freed d) (links_dev d) past ≡ true
+      → (is_linked past d ≡ false) × (is_being_freed past d ≡ false)
   pub at_rest : UnlinkedIsAtRest def past
   pub at_work : UnfinishedIsAtWork def past
   pub flags : FlagsAgree def past
@@ -60,7 +70,9 @@ pub record KeepsRest (def : LineDef) (past : List Entry) : Type 0 where
 -- the calls that are complete, the last first, before those of `done`
 abbrev pub complete : List Call → List Call → List Entry → List Call
 complete done [] es = done
-complete done (c ∷ cs) es = if nat_lt (length es) (entries_of_call c es) then done else complete (c ∷ done) cs (drop (entries_of_call c es) es)
+complete done (c ∷ cs) es =
+    if nat_lt (length es) (entries_of_call c es) then done
+    else complete (c ∷ done) cs (drop (entries_of_call c es) es)
 
 abbrev pub complete_by : LineDef → DriverNo → List Entry → List Call
 complete_by def r past = complete [] (calls_by r def.calls) (entries_by r past)

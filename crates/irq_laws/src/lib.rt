@@ -1,6 +1,6 @@
-//! The laws of every legal history of an interrupt line, for every valid definition: sentences over the
-//! definitions alone, with no line of code. Each is the clause of a function with an empty body, so that crates
-//! above can call it or cite its lemma.
+//! The laws of every legal history of an interrupt line, for every valid definition: sentences over
+//! the definitions alone, with no line of code. Each is the clause of a function with an empty
+//! body, so that crates above can call it or cite its lemma.
 #![tactic(auto)]
 
 ghost use Rattle.std.specs.Prelude.{◌≡◌, ◌⊎◌, ℕ, true, not, List, reverse, IsSome, is_some, Some, None};
@@ -58,29 +58,29 @@ pub fn synchronised()
     ensures law { (def : LineDef) (h : List Entry) → IsValid def → IsLegal def h → IsSynchronised def h }
 {}
 
-/// A started line with linked devices is masked for a reason: it is disabled, or a flow is in progress, or on a
-/// level line a thread isn't finished.
+/// A started line with linked devices is masked for a reason: it is disabled, or a flow is in
+/// progress, or on a level line a thread isn't finished.
 #[tactic(auto, using(crate::proofs::ReasonLaws::has_reason))]
 pub fn has_reason()
     ensures law { (def : LineDef) (h : List Entry) → IsValid def → IsLegal def h → HasReason def h }
 {}
 
-/// Each owed edge is somewhere: presented, kept, pending, in a software resend, or its device is still ahead in the
-/// round.
+/// Each owed edge is somewhere: presented, kept, pending, in a software resend, or its device is
+/// still ahead in the round.
 #[tactic(auto, using(crate::proofs::CoverLaws::is_covered_law))]
 pub fn covers_owed()
     ensures law { (def : LineDef) (h : List Entry) → IsValid def → IsLegal def h → IsCovered def h }
 {}
 
-/// Takes are counted: an edge line takes no more interrupts by its signal than came, and no more software resends
-/// than starts asked for.
+/// Takes are counted: an edge line takes no more interrupts by its signal than came, and no more
+/// software resends than starts asked for.
 #[tactic(auto, using(crate::proofs::TakeLaws::takes_are_counted))]
 pub fn takes_are_counted()
     ensures law { (def : LineDef) (h : List Entry) → IsLegal def h → TakesAreCounted def h }
 {}
 
-/// Served when idle: on an enabled line without a flow, what is owed, or high with no thread unfinished, is handled
-/// next.
+/// Served when idle: on an enabled line without a flow, what is owed, or high with no thread
+/// unfinished, is handled next.
 #[tactic(auto, using(crate::proofs::ServedLaws::served_when_idle))]
 pub fn served_when_idle()
     ensures law { (def : LineDef) (h : List Entry) → IsValid def → IsLegal def h → IsServedWhenIdle def h }
@@ -98,8 +98,8 @@ pub fn no_standstill()
     ensures law { (def : LineDef) (h : List Entry) → IsValid def → IsLegal def h → ((a : Actor) → next def h a ≡ None) → IsSettled def h }
 {}
 
-/// Delivered: at rest no edge is owed on a line that isn't left disabled, and on a level line every linked device
-/// that works has all its asks served.
+/// Delivered: at rest no edge is owed on a line that isn't left disabled, and on a level line every
+/// linked device that works has all its asks served.
 #[tactic(auto, using(crate::proofs::RestLaws::settled_is_delivered))]
 pub fn settled_is_delivered()
     ensures law { (def : LineDef) (h : List Entry) → IsValid def → IsLegal def h → IsSettled def h → IsDelivered def h }
@@ -128,9 +128,9 @@ pub fn one_is_freed()
     ensures law { (def : LineDef) (past : List Entry) → IsValid def → IsLegalPast def past → OneIsFreed def past }
 {}
 
-/// The cell: masked, stored, sent, high and in service, as they are read off the entries, are what the signal cell
-/// of the line keeps when the entries drive it, each by the operations of its flow or its call; and what the line
-/// signals is what the cell presents.
+/// The cell: masked, stored, sent, high and in service, as they are read off the entries, are what
+/// the signal cell of the line keeps when the entries drive it, each by the operations of its flow
+/// or its call; and what the line signals is what the cell presents.
 #[tactic(auto, using(crate::proofs::CellKept::is_driven_cell))]
 pub fn driven_cell()
     ensures law { (def : LineDef) (h : List Entry) → IsValid def → IsLegal def h → IsDrivenCell def h }
@@ -164,14 +164,14 @@ pub fn drivers_move()
     ensures law { (def : LineDef) (h : List Entry) → IsValid def → IsLegal def h → ((line : LineNo) (d : DevNo) → next def h (actors.Thread line d) ≡ None) → ((c : CpuNo) → next def h (actors.Cpu c) ≡ None) → (r : DriverNo) → IsSome (due_call def r (reverse h)) → IsSome (next def h (actors.Driver r)) ⊎ FreeMoves def h }
 {}
 
-/// Quiet: on a settled line no flow is in progress, each handler that was called has returned, no thread is to run or
-/// in a run, and no free is under way.
+/// Quiet: on a settled line no flow is in progress, each handler that was called has returned, no
+/// thread is to run or in a run, and no free is under way.
 pub fn settled_is_quiet()
     ensures law { (def : LineDef) (h : List Entry) → IsValid def → IsLegal def h → IsSettled def h → IsQuiet def h }
 {}
 
-/// The log limit is no rule: with another limit the same is due of every actor after every history, so the same
-/// histories are legal.
+/// The log limit is no rule: with another limit the same is due of every actor after every history,
+/// so the same histories are legal.
 pub fn log_is_no_rule()
     ensures law { (def : LineDef) (n : ℕ) (h : List Entry) (a : Actor) → next (with_log def n) h a ≡ next def h a }
     ensures legal { (def : LineDef) (n : ℕ) (h : List Entry) → IsLegal def h → IsLegal (with_log def n) h }

@@ -49,9 +49,11 @@ pub record IsFull (old : LineSeen) (who : Actor) (len : ℕ) : Type 0 where
   pub told : len ≡ length old.entries
   pub log : length old.entries ≡ old.def.log
 
-abbrev pub Answers : LineSeen → Actor → Option SaidSeen → Result Stepped StepRefused → LineSeen → Type 0
+abbrev pub Answers : LineSeen → Actor → Option SaidSeen → Result Stepped StepRefused → LineSeen
+    → Type 0
 Answers old who said (Ok (stepped.Added entry)) new = AddsEntry old who said entry new
-Answers old who said (Ok (stepped.Run def part unserved)) new = WantsRun old who said (record { def = def; part = part; unserved = unserved }) × (new ≡ old)
+Answers old who said (Ok (stepped.Run def part unserved)) new =
+    WantsRun old who said (record { def = def; part = part; unserved = unserved }) × (new ≡ old)
 Answers old who said (Ok stepped.NotYet) new = (next old.def old.entries who ≡ None) × (new ≡ old)
 Answers old who said (Err (refusals.Full len)) new = IsFull old who len × (new ≡ old)
 Answers old who said (Err refusals.NoMemory) new = new ≡ old

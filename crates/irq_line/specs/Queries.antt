@@ -39,15 +39,18 @@ IsThreadDue line dev = IsSome (next line.def line.entries (actors.Thread line.de
 -- the device with the least number whose thread has an entry due; none if no thread has
 abbrev pub IsLowestThread : LineSeen → Option DevNo → Type 0
 IsLowestThread line None = (dev : DevNo) → IsThreadDue line dev → ⊥
-IsLowestThread line (Some lowest) = IsThreadDue line lowest × ((dev : DevNo) → IsThreadDue line dev → lowest.0 ≤ dev.0)
+IsLowestThread line (Some lowest) =
+    IsThreadDue line lowest × ((dev : DevNo) → IsThreadDue line dev → lowest.0 ≤ dev.0)
 
 -- whether a thread of some device of the line is woken or in a run
 abbrev pub are_threads_at_work : LineDef → List Entry → Bool
-are_threads_at_work def past = list_any (λ x. is_woken past x.dev || is_running past x.dev) def.devices
+are_threads_at_work def past =
+    list_any (λ x. is_woken past x.dev || is_running past x.dev) def.devices
 
 -- whether the thread of the device that is being freed is woken or in a run
 abbrev pub is_freed_at_work : LineDef → List Entry → Bool
-is_freed_at_work def past = list_any (λ x. is_being_freed past x.dev && (is_woken past x.dev || is_running past x.dev)) def.devices
+is_freed_at_work def past = list_any (λ x. is_being_freed past x.dev
+    && (is_woken past x.dev || is_running past x.dev)) def.devices
 
 -- what drivers' calls wait for
 abbrev pub blocks_at : LineDef → List Entry → Blocks

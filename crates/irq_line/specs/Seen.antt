@@ -4,7 +4,8 @@ use Rattle.irq_base.specs.declared.lines.LineDef.{LineDef}
 use Rattle.irq_model.specs.Legal.{IsLegal}
 use Rattle.irq_model.specs.Valid.{IsValid}
 
--- What is seen of a line: its definition, its entries, the oldest first, and how many more fit without memory.
+-- What is seen of a line: its definition, its entries, the oldest first, and how many more fit
+-- without memory.
 pub record LineSeen : Type 0 where
   pub def : LineDef
   pub entries : List Entry

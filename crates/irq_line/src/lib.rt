@@ -1,6 +1,7 @@
-//! What an interrupt line is for those above it: the boards that play many lines, the lock round a line, the threads
-//! that step it, and the judge of logs. They use a line by the trait `IrqLine` alone, so that any line may stand below
-//! them: one that looks everything up in its history, or one that keeps marks.
+//! What an interrupt line is for those above it: the boards that play many lines, the lock round a
+//! line, the threads that step it, and the judge of logs. They use a line by the trait `IrqLine`
+//! alone, so that any line may stand below them: one that looks everything up in its history, or
+//! one that keeps marks.
 #![tactic(auto)]
 
 ghost use Rattle.std.specs.Prelude.{◌≡◌, ◌↔◌, ℕ, IsTrue, Option, Some, None, Result, Err, reverse};

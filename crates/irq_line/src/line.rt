@@ -9,8 +9,9 @@ use crate::queries::Blocks;
 use callbacks::Said;
 use irq_base::{Actor, CpuNo, DevNo, History, LineDef, NoMemory};
 
-/// An interrupt line (`struct irq_desc`, `include/linux/irqdesc.h`). Contracts see what `seen` makes of it: its
-/// definition, its entries, the oldest first, and how many more fit without memory.
+/// An interrupt line (`struct irq_desc`, `include/linux/irqdesc.h`). Contracts see what `seen`
+/// makes of it: its definition, its entries, the oldest first, and how many more fit without
+/// memory.
 pub trait IrqLine: Drop {
     ghost seen: { Self → LineSeen };
 
@@ -55,8 +56,9 @@ pub trait IrqLine: Drop {
         ensures entries { result.entries ≡ (seen self).entries }
         ensures spare { result.spare ≡ (seen self).spare };
 
-    /// What holds of every line at every moment: its definition is valid, each entry is the one that was due of its
-    /// actor after those before it, and the history isn't longer than the definition allows.
+    /// What holds of every line at every moment: its definition is valid, each entry is the one
+    /// that was due of its actor after those before it, and the history isn't longer than the
+    /// definition allows.
     fn is_sound(&self)
         ensures { IsSound (seen self.now) };
 

@@ -6,8 +6,8 @@ use crate::line::IrqLine;
 use irq_base::{LineDef, NoMemory};
 use std::alloc::Global;
 
-/// A maker of lines. A line that looks everything up is made of a definition alone; one with a chip of its own needs
-/// the controllers of its path too, which its maker holds.
+/// A maker of lines. A line that looks everything up is made of a definition alone; one with a chip
+/// of its own needs the controllers of its path too, which its maker holds.
 pub trait MakesLine<L: IrqLine> {
     /// For which virqs and definitions it may be called.
     ghost makes: { Self → ℕ → LineDef → Type 0 };

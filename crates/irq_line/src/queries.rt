@@ -9,6 +9,7 @@ pub struct Blocks {
     pub threads: bool,
     /// A free is under way (`desc->request_mutex` is held): requests and frees wait for it.
     pub mutex: bool,
-    /// The device that is being freed is woken or in a run (`kthread_stop` of `__free_irq`): the free's end waits.
+    /// The device that is being freed is woken or in a run (`kthread_stop` of `__free_irq`): the
+    /// free's end waits.
     pub freed: bool,
 }

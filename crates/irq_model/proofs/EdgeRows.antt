@@ -49,7 +49,8 @@ pub coalescing_is_still :
     × (next coalescing_line coalescing_log (actors.Driver (driver 1)) ≡ None)
 coalescing_is_still = (refl, refl)
 
--- An edge that comes during the handler is taken busy by another processor, and handled in a second round.
+-- An edge that comes during the handler is taken busy by another processor, and handled in a second
+-- round.
 abbrev pub busy_latch_line : LineDef
 busy_latch_line = record latch {
   cpus = 2;
@@ -167,7 +168,8 @@ pub busy_lpi_is_still :
     × (next busy_lpi_line busy_lpi_log (actors.Driver (driver 1)) ≡ None)
 busy_lpi_is_still = (refl, refl, refl)
 
--- A message line over a vector: the first edge stays sent while the line is disabled, the second is stored.
+-- A message line over a vector: the first edge stays sent while the line is disabled, the second is
+-- stored.
 abbrev pub msi_line : LineDef
 msi_line = record msi {
   devices = device 1 kinds.Direct ∷ [];
@@ -201,7 +203,8 @@ pub msi_is_still :
     × (next msi_line msi_log (actors.Driver (driver 1)) ≡ None)
 msi_is_still = (refl, refl)
 
--- An affinity that takes effect later: the old target takes once more, and by that take the line moves.
+-- An affinity that takes effect later: the old target takes once more, and by that take the line
+-- moves.
 abbrev pub later_line : LineDef
 later_line = record latch {
   later = true;

@@ -58,7 +58,8 @@ pub retaken_is_still :
     × (next retaken_line retaken_log (actors.Driver (driver 1)) ≡ None)
 retaken_is_still = (refl, refl)
 
--- A small storm: the third unhandled end of the window kills the line; a further request opens it, and it is killed again.
+-- A small storm: the third unhandled end of the window kills the line; a further request opens it,
+-- and it is killed again.
 abbrev pub storm_line : LineDef
 storm_line = record level {
   window = 3;
@@ -154,7 +155,8 @@ enabled_storm_log =
 pub enabled_storm_is_legal : IsLegal enabled_storm_line enabled_storm_log
 enabled_storm_is_legal = (refl, (refl, (refl, (refl, (refl, (refl, (refl, (refl, (refl, (refl, (refl, (refl, (refl, (refl, (refl, (refl, tt))))))))))))))))
 
--- An unhandled interrupt more than 100 ms after the last begins the count of the unhandled anew, so that the first window doesn't kill.
+-- An unhandled interrupt more than 100 ms after the last begins the count of the unhandled anew, so
+-- that the first window doesn't kill.
 abbrev pub moment_late_line : LineDef
 moment_late_line = record level {
   window = 4;

@@ -41,8 +41,8 @@ shared_oneshot = record { shared = true; oneshot = true; noauto = false }
 abbrev pub shared_noauto : Flags
 shared_noauto = record { shared = true; oneshot = false; noauto = true }
 
--- an edge line of one processor, whose chip stores edges, takes them back when it is masked, and can send
--- them again
+-- an edge line of one processor, whose chip stores edges, takes them back when it is masked, and
+-- can send them again
 abbrev pub latch : LineDef
 latch =
     record {

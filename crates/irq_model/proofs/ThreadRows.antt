@@ -163,8 +163,8 @@ pub enabled_thread_is_still :
     × (next enabled_thread_line enabled_thread_log (actors.Thread line (dev 1)) ≡ None)
 enabled_thread_is_still = (refl, refl, refl)
 
--- One-shot with the fast-EOI flow: the take masks the line, and the thread's finish opens it. An ask that came while the
--- thread ran is taken then.
+-- One-shot with the fast-EOI flow: the take masks the line, and the thread's finish opens it. An
+-- ask that came while the thread ran is taken then.
 abbrev pub eoi_thread_line : LineDef
 eoi_thread_line = record eoi {
   devices = device 1 kinds.Null ∷ [];

@@ -10,8 +10,8 @@ use Rattle.irq_model.specs.Places.{since, before, count_of}
 use Rattle.irq_model.specs.Kinds.{is_ask, is_begin, is_return, is_thread_begin, is_thread_return}
 use Rattle.irq_model.specs.Lines.{kind_of, is_level_line}
 
--- the entry at which a serving run of the device begins: the handler's begin of a direct device, the
--- thread's of a device with a thread; a stuck device has no serving run
+-- the entry at which a serving run of the device begins: the handler's begin of a direct device,
+-- the thread's of a device with a thread; a stuck device has no serving run
 abbrev pub begins_serving : Kind → DevNo → Entry → Bool
 begins_serving kinds.Direct d e = is_begin d e
 begins_serving kinds.Check d e = is_thread_begin d e
@@ -35,4 +35,5 @@ unserved_asks def d past = unserved_by (kind_of def d) d past
 
 -- the signal of a level line is high: some device, linked or not, has an unserved ask
 abbrev pub is_high : LineDef → List Entry → Bool
-is_high def past = is_level_line def && list_any (λ x. nat_lt 0 (unserved_asks def x.dev past)) def.devices
+is_high def past =
+    is_level_line def && list_any (λ x. nat_lt 0 (unserved_asks def x.dev past)) def.devices

@@ -40,17 +40,20 @@ entries_of_call (calls.Moment at) es = 1
 -- the first call that isn't complete, and how many of its entries are there
 abbrev pub due_of : List Call → List Entry → Option (Call × ℕ)
 due_of [] es = None
-due_of (c ∷ cs) es = if nat_lt (length es) (entries_of_call c es) then Some (c, length es) else due_of cs (drop (entries_of_call c es) es)
+due_of (c ∷ cs) es =
+    if nat_lt (length es) (entries_of_call c es) then Some (c, length es)
+    else due_of cs (drop (entries_of_call c es) es)
 
 abbrev pub due_call : LineDef → DriverNo → List Entry → Option (Call × ℕ)
 due_call def r past = due_of (calls_by r def.calls) (entries_by r past)
 
 -- the newest entry of `upto` unlinked a device, and its driver's free isn't complete
 abbrev pub is_being_freed_at : List Entry → List Entry → Bool
-is_being_freed_at after (entries.Unlink driver dev (unlinks.Unlinked last) ∷ past) = not (list_any (is_freed_by driver) after)
+is_being_freed_at after (entries.Unlink driver dev (unlinks.Unlinked last) ∷ past) =
+    not (list_any (is_freed_by driver) after)
 is_being_freed_at after _ = false
 
--- the request mutex is held, from an unlink to its driver's end of the free: until then the device's thread may run, and
--- no request may be given its thread bit
+-- the request mutex is held, from an unlink to its driver's end of the free: until then the
+-- device's thread may run, and no request may be given its thread bit
 abbrev pub holds_mutex : List Entry → Bool
 holds_mutex past = some_place is_being_freed_at past

@@ -162,7 +162,8 @@ is_linked_request _ = false
 
 -- the request of d was linked
 abbrev pub links_dev : DevNo → Entry → Bool
-links_dev d (entries.Request driver dev flags answer opened) = same_dev d dev && is_linked_answer answer
+links_dev d (entries.Request driver dev flags answer opened) =
+    same_dev d dev && is_linked_answer answer
 links_dev d _ = false
 
 abbrev pub is_unlinked_answer : UnlinkAnswer → Bool

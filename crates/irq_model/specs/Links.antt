@@ -1,5 +1,5 @@
--- Which devices are linked, and how deep the line is disabled (`__setup_irq`, `__free_irq`, `__disable_irq`
--- and `__enable_irq` of `kernel/irq/manage.c`; `desc->action`, `desc->depth`).
+-- Which devices are linked, and how deep the line is disabled (`__setup_irq`, `__free_irq`,
+-- `__disable_irq` and `__enable_irq` of `kernel/irq/manage.c`; `desc->action`, `desc->depth`).
 use Rattle.std.specs.Prelude.{ℕ, ◌+◌, ◌-◌, Bool, true, false, ◌&&◌, ◌||◌, if◌then◌else◌, not, Option, Some, List, [], ◌∷◌, ◌++◌, filter, nat_lt}
 use Rattle.irq_base.specs.declared.numbers.DevNo.{DevNo}
 use Rattle.irq_base.specs.declared.calls.Flags.{Flags}
@@ -16,7 +16,8 @@ is_linked past d = stands (links_dev d) (unlinks_dev d) past
 -- the devices that were ever linked, in the order of their last such requests
 abbrev pub requested : List Entry → List DevNo
 requested [] = []
-requested (entries.Request driver dev flags links.Linked opened ∷ past) = filter (λ d. not (same_dev d dev)) (requested past) ++ dev ∷ []
+requested (entries.Request driver dev flags links.Linked opened ∷ past) =
+    filter (λ d. not (same_dev d dev)) (requested past) ++ dev ∷ []
 requested (_ ∷ past) = requested past
 
 -- the linked devices, in the order in which they are walked

@@ -10,17 +10,19 @@ use Rattle.irq_model.specs.Kinds.{is_take, is_handle, is_busy, is_off, is_disabl
 use Rattle.irq_model.specs.Lines.{is_level_line}
 use Rattle.irq_model.specs.Links.{is_oneshot}
 
--- a take that masks: each on the level flow, one that isn't handled on the edge flow; on the fast-EOI flow
--- one answered Off, and on a one-shot level line one that is handled
+-- a take that masks: each on the level flow, one that isn't handled on the edge flow; on the
+-- fast-EOI flow one answered Off, and on a one-shot level line one that is handled
 abbrev pub take_masks : LineDef → FlowKind → Entry → List Entry → Bool
 take_masks def flows.Level e past = is_take e
 take_masks def flows.Edge e past = is_busy e || is_off e
-take_masks def flows.Eoi e past = is_off e || (is_handle e && (is_level_line def && is_oneshot past))
+take_masks def flows.Eoi e past =
+    is_off e || (is_handle e && (is_level_line def && is_oneshot past))
 
 -- the newest entry masks: such a take, a disable or a kill on an unlazy line, a last unlink
 abbrev pub masks : LineDef → List Entry → Bool
 masks def [] = true
-masks def (e ∷ past) = take_masks def def.flow e past || ((def.unlazy && (is_disable e || is_kill e)) || is_last_unlink e)
+masks def (e ∷ past) = take_masks def def.flow e past
+    || ((def.unlazy && (is_disable e || is_kill e)) || is_last_unlink e)
 
 -- a start, or an end or a finish that says so
 abbrev pub unmasks : Entry → Bool

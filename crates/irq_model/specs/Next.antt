@@ -56,22 +56,26 @@ asks_of_thread def d past = unserved_asks def d (before (is_thread_begin d) past
 
 abbrev pub finish_unmasks : LineDef → DevNo → List Entry → Bool
 finish_unmasks def d past =
-    not (is_woken past d) && (not (is_disabled past) && (is_masked def past && not (is_other_unfinished def past d)))
+    not (is_woken past d)
+    && (not (is_disabled past) && (is_masked def past && not (is_other_unfinished def past d)))
 
--- after the thread's handler returned: on a one-shot line it gives its bit up, once no flow is in progress.
--- Why it waits: a thread may be done before the flow that woke it has come to its end. If it opened
--- the line then, the interrupt could come again, mask the line, and leave since the flow is in
--- progress; the line would stay masked (so says the comment of `irq_finalize_oneshot`).
+-- after the thread's handler returned: on a one-shot line it gives its bit up, once no flow is in
+-- progress. Why it waits: a thread may be done before the flow that woke it has come to its end. If
+-- it opened the line then, the interrupt could come again, mask the line, and leave since the flow
+-- is in progress; the line would stay masked (so says the comment of `irq_finalize_oneshot`).
 abbrev pub finish_or_done : LineDef → DevNo → List Entry → Option Entry
 finish_or_done def d past =
     if is_oneshot past && not (list_any (is_finish d) (since (is_thread_return d) past))
-    then (if has_flow def past then None else Some (entries.Finish d (is_woken past d) (finish_unmasks def d past)))
+    then (if has_flow def past then None
+    else Some (entries.Finish d (is_woken past d) (finish_unmasks def d past)))
     else Some (entries.Done d)
 
 abbrev pub next_of_thread : LineDef → DevNo → List Entry → Option Entry
 next_of_thread def d past =
     if not (is_running past d) then (if is_woken past d then Some (entries.ThreadBegin d) else None)
-    else (if not (list_any (is_thread_return d) (since (is_thread_begin d) past)) then Some (entries.ThreadReturn d (asks_of_thread def d past)) else finish_or_done def d past)
+    else (if not (list_any (is_thread_return d) (since (is_thread_begin d) past))
+    then Some (entries.ThreadReturn d (asks_of_thread def d past))
+    else finish_or_done def d past)
 
 -- ---- processors: in the flow (`handle_irq_event`, and the ends of the flow handlers)
 
@@ -96,18 +100,20 @@ abbrev pub end_edge : LineDef → CpuNo → List Entry → Note → Bool → Ent
 end_edge def c past note again = entries.End c again (again && is_masked def past) note
 
 abbrev pub end_level : LineDef → CpuNo → List Entry → Note → Bool → Entry
-end_level def c past note may_open = entries.End c false (may_open && (is_masked def past && not (is_some_unfinished def past))) note
+end_level def c past note may_open =
+    entries.End c false (may_open && (is_masked def past && not (is_some_unfinished def past))) note
 
--- the flow's end: the edge flow goes on with what is pending; the level flow opens the line unless a thread
--- still holds it; the fast-EOI flow does so on a one-shot level line, and on an edge line sends what is
--- pending again.
--- Why an edge line sends it again: this flow has no loop, and the controller has forgotten an edge that was taken while
--- the flow was in progress.
+-- the flow's end: the edge flow goes on with what is pending; the level flow opens the line unless
+-- a thread still holds it; the fast-EOI flow does so on a one-shot level line, and on an edge line
+-- sends what is pending again. Why an edge line sends it again: this flow has no loop, and the
+-- controller has forgotten an edge that was taken while the flow was in progress.
 abbrev pub end_by_flow : LineDef → FlowKind → CpuNo → List Entry → Note → Entry
-end_by_flow def flows.Edge c past note = end_edge def c past note (is_pending def past && not (is_off_now past note))
+end_by_flow def flows.Edge c past note =
+    end_edge def c past note (is_pending def past && not (is_off_now past note))
 end_by_flow def flows.Level c past note = end_level def c past note (not (is_off_now past note))
 end_by_flow def flows.Eoi c past note =
-    if is_edge_line def then entries.End c (is_pending def past && not (is_off_now past note)) false note
+    if is_edge_line def
+    then entries.End c (is_pending def past && not (is_off_now past note)) false note
     else end_level def c past note (not (is_off_now past note) && is_oneshot past)
 
 abbrev pub end_of : LineDef → CpuNo → List Entry → Entry
@@ -128,7 +134,9 @@ next_in_flow def c past None = begin_or_end def c past (first_left def past (lin
 -- on an edge line, and on the edge flow the line is masked, so that the same source can't come
 -- again and again until the first one goes on with it.
 abbrev pub take_answer : LineDef → List Entry → TakeAnswer
-take_answer def past = if has_flow def past then takes.Busy else (if is_disabled past || is_none_linked past then takes.Off else takes.Handle)
+take_answer def past =
+    if has_flow def past then takes.Busy
+    else (if is_disabled past || is_none_linked past then takes.Off else takes.Handle)
 
 -- the target takes what is signalled, or else what the software resends
 abbrev pub next_take : LineDef → CpuNo → List Entry → Option Entry
@@ -138,14 +146,17 @@ next_take def c past =
     else (if is_soft past then Some (entries.Take c ways.Resend (take_answer def past)) else None))
 
 abbrev pub next_of_cpu : LineDef → CpuNo → List Entry → Option Entry
-next_of_cpu def c past = if is_cpu c (flow def past) then Some (next_in_flow def c past (at_work past)) else next_take def c past
+next_of_cpu def c past =
+    if is_cpu c (flow def past) then Some (next_in_flow def c past (at_work past))
+    else next_take def c past
 
 -- ---- drivers (`kernel/irq/manage.c`)
 
 -- how a start sends again what is pending (`check_irq_resend`); a level shows by itself
 abbrev pub resend_of : LineDef → List Entry → Resend
 resend_of def past =
-    if is_edge_line def && is_pending def past then (if def.retriggers then resends.Chip else resends.Soft) else resends.No
+    if is_edge_line def && is_pending def past
+    then (if def.retriggers then resends.Chip else resends.Soft) else resends.No
 
 abbrev pub enable_answer : LineDef → List Entry → EnableAnswer
 enable_answer def past =
@@ -178,12 +189,15 @@ link_answer def d flags past =
 -- not to; a further one enables a line that the rule on spurious interrupts disabled
 abbrev pub opened_by_request : LineDef → Flags → List Entry → Opened
 opened_by_request def flags past =
-    if is_none_linked past then (if flags.noauto then opens.No else opens.Started (resend_of def past))
+    if is_none_linked past
+    then (if flags.noauto then opens.No else opens.Started (resend_of def past))
     else (if has_spurious_mark past then opened_by_enable (enable_answer def past) else opens.No)
 
 abbrev pub request_with : LineDef → DriverNo → DevNo → Flags → List Entry → LinkAnswer → Entry
-request_with def r d flags past links.Linked = entries.Request r d flags links.Linked (opened_by_request def flags past)
-request_with def r d flags past (links.Refused error) = entries.Request r d flags (links.Refused error) opens.No
+request_with def r d flags past links.Linked =
+    entries.Request r d flags links.Linked (opened_by_request def flags past)
+request_with def r d flags past (links.Refused error) =
+    entries.Request r d flags (links.Refused error) opens.No
 
 abbrev pub request_of : LineDef → DriverNo → DevNo → Flags → List Entry → Entry
 request_of def r d flags past = request_with def r d flags past (link_answer def d flags past)
@@ -194,11 +208,13 @@ is_only d [] = false
 is_only d (e ∷ ds) = same_dev d e && is_empty ds
 
 abbrev pub unlink_answer : DevNo → List Entry → UnlinkAnswer
-unlink_answer d past = if is_linked past d then unlinks.Unlinked (is_only d (linked past)) else unlinks.NotThere
+unlink_answer d past =
+    if is_linked past d then unlinks.Unlinked (is_only d (linked past)) else unlinks.NotThere
 
 abbrev pub affinity_answer : LineDef → ℕ → AffinityAnswer
 affinity_answer def mask =
-    if is_some (lowest_in def.cpus mask) then (if def.later then moves.Later else moves.Now) else moves.Refused errors.Inval
+    if is_some (lowest_in def.cpus mask) then (if def.later then moves.Later else moves.Now)
+    else moves.Refused errors.Inval
 
 -- `__synchronize_hardirq`: once no flow is in progress
 abbrev pub hard_clear_of : LineDef → DriverNo → List Entry → Option Entry
@@ -219,18 +235,21 @@ next_of_sync def r n past = if n == 0 then hard_clear_of def r past else synced_
 -- `disable_irq`
 abbrev pub next_of_disable : LineDef → DriverNo → ℕ → List Entry → Option Entry
 next_of_disable def r n past =
-    if n == 0 then Some (entries.Disable r) else (if n == 1 then hard_clear_of def r past else synced_of def r past)
+    if n == 0 then Some (entries.Disable r)
+    else (if n == 1 then hard_clear_of def r past else synced_of def r past)
 
--- `free_irq`. The hard clear stands before the thread's end, since a handler that is still at work may wake the thread
--- once more.
+-- `free_irq`. The hard clear stands before the thread's end, since a handler that is still at work
+-- may wake the thread once more.
 abbrev pub next_of_free : LineDef → DriverNo → DevNo → ℕ → List Entry → Option Entry
 next_of_free def r d n past =
-    if n == 0 then (if holds_mutex past then None else Some (entries.Unlink r d (unlink_answer d past)))
+    if n == 0
+    then (if holds_mutex past then None else Some (entries.Unlink r d (unlink_answer d past)))
     else (if n == 1 then hard_clear_of def r past else freed_of r d past)
 
 -- `request_threaded_irq`
 abbrev pub next_of_request : LineDef → DriverNo → DevNo → Flags → List Entry → Option Entry
-next_of_request def r d flags past = if holds_mutex past then None else Some (request_of def r d flags past)
+next_of_request def r d flags past =
+    if holds_mutex past then None else Some (request_of def r d flags past)
 
 -- the driver's due call, and how many of its entries are there
 abbrev pub next_of_call : LineDef → DriverNo → List Entry → Option (Call × ℕ) → Option Entry
@@ -242,7 +261,8 @@ next_of_call def r past (Some (calls.Disable, n)) = next_of_disable def r n past
 next_of_call def r past (Some (calls.DisableNosync, n)) = Some (entries.Disable r)
 next_of_call def r past (Some (calls.Enable, n)) = Some (entries.Enable r (enable_answer def past))
 next_of_call def r past (Some (calls.Sync, n)) = next_of_sync def r n past
-next_of_call def r past (Some (calls.Affinity mask, n)) = Some (entries.Affinity r mask (affinity_answer def mask))
+next_of_call def r past (Some (calls.Affinity mask, n)) =
+    Some (entries.Affinity r mask (affinity_answer def mask))
 next_of_call def r past (Some (calls.Moment at, n)) = Some (entries.Moment r at)
 
 -- ---- the table
@@ -250,7 +270,8 @@ next_of_call def r past (Some (calls.Moment at, n)) = Some (entries.Moment r at)
 -- the entry that is due for the actor, after a past whose newest entry comes first; none for a
 -- thread of another line
 abbrev pub next_past : LineDef → List Entry → Actor → Option Entry
-next_past def past (actors.Thread line d) = if same_line line def.line then next_of_thread def d past else None
+next_past def past (actors.Thread line d) =
+    if same_line line def.line then next_of_thread def d past else None
 next_past def past (actors.Cpu c) = next_of_cpu def c past
 next_past def past (actors.Driver r) = next_of_call def r past (due_call def r past)
 

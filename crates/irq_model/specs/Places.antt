@@ -1,5 +1,5 @@
--- Places of a list of entries. The newest entry comes first here, so that "the last ..", "since ..", "with
--- no .. after it" are read off from the front, and one more entry is one more head.
+-- Places of a list of entries. The newest entry comes first here, so that "the last ..", "since
+-- ..", "with no .. after it" are read off from the front, and one more entry is one more head.
 use Rattle.std.specs.Prelude.{ℕ, ◌+◌, Bool, false, not, ◌||◌, ◌&&◌, if◌then◌else◌, Option, Some, None, List, [], ◌∷◌}
 
 module _ {A : Type 0} where
@@ -46,7 +46,8 @@ module _ {A : Type 0} where
   -- the list up to the last such place, or nothing if none is
   abbrev pub last_place : (List A → List A → Bool) → List A → List A
   last_place P [] = []
-  last_place P (e ∷ past) = if P [] (e ∷ past) then (e ∷ past) else last_place (λ after upto. P (e ∷ after) upto) past
+  last_place P (e ∷ past) =
+      if P [] (e ∷ past) then (e ∷ past) else last_place (λ after upto. P (e ∷ after) upto) past
 
   -- at each entry, P of the entry and of what stands before it
   abbrev pub EachEntry : (A → List A → Type 0) → List A → Type 0

@@ -1,5 +1,5 @@
--- Why a started line is masked, and what each entry keeps so that there is a reason. Each part is a fact of
--- the past, whose newest entry comes first.
+-- Why a started line is masked, and what each entry keeps so that there is a reason. Each part is a
+-- fact of the past, whose newest entry comes first.
 use Rattle.std.specs.Prelude.{◌≡◌, Bool, true, false, not, ◌||◌, ◌&&◌, List, ◌∷◌, reverse}
 use Rattle.std.specs.List.{list_any}
 use Rattle.irq_base.specs.declared.numbers.DevNo.{DevNo}
@@ -25,10 +25,13 @@ is_called past d = stands (is_begin d) (is_return d) past
 abbrev pub is_being_freed : List Entry → DevNo → Bool
 is_being_freed past d = stands (unlinks_dev d) (is_freed d) past
 
--- the newest entry of `upto` unlinked d; its driver made a hard clear after it, and hasn't freed d yet
+-- the newest entry of `upto` unlinked d; its driver made a hard clear after it, and hasn't freed d
+-- yet
 abbrev pub is_cleared_at : DevNo → List Entry → List Entry → Bool
 is_cleared_at d after (entries.Unlink driver dev (unlinks.Unlinked last) ∷ past) =
-    same_dev d dev && (list_any (λ e. is_by_driver driver e && is_hard_clear e) after && not (list_any (is_freed_by driver) after))
+    same_dev d dev
+    && (list_any (λ e. is_by_driver driver e && is_hard_clear e) after
+    && not (list_any (is_freed_by driver) after))
 is_cleared_at d after _ = false
 
 -- d's free has its hard clear, and isn't complete
@@ -37,39 +40,48 @@ is_cleared past d = some_place (is_cleared_at d) past
 
 -- a line that isn't disabled is started, and something is linked
 abbrev pub EnabledIsStarted : LineDef → List Entry → Type 0
-EnabledIsStarted def past = depth past ≡ 0 → (is_started past ≡ true) × (is_none_linked past ≡ false)
+EnabledIsStarted def past =
+    depth past ≡ 0 → (is_started past ≡ true) × (is_none_linked past ≡ false)
 
 -- on the edge flow an enabled line is masked only within a flow that will go on
 abbrev pub EdgeFlowMaskIsPending : LineDef → List Entry → Type 0
-EdgeFlowMaskIsPending def past = is_edge_flow def.flow ≡ true → is_masked def past ≡ true → depth past ≡ 0 → (has_flow def past ≡ true) × (is_pending def past ≡ true)
+EdgeFlowMaskIsPending def past = is_edge_flow def.flow ≡ true → is_masked def past ≡ true
+    → depth past ≡ 0 → (has_flow def past ≡ true) × (is_pending def past ≡ true)
 
 -- on the fast-EOI flow an enabled edge line is never masked
 abbrev pub EoiEdgeIsOpen : LineDef → List Entry → Type 0
-EoiEdgeIsOpen def past = is_edge_line def ≡ true → is_eoi_flow def.flow ≡ true → depth past ≡ 0 → is_masked def past ≡ false
+EoiEdgeIsOpen def past = is_edge_line def ≡ true → is_eoi_flow def.flow ≡ true → depth past ≡ 0
+    → is_masked def past ≡ false
 
 -- on an enabled edge line only a flow leaves something pending
 abbrev pub EdgePendingHasFlow : LineDef → List Entry → Type 0
-EdgePendingHasFlow def past = is_edge_line def ≡ true → is_pending def past ≡ true → depth past ≡ 0 → has_flow def past ≡ true
+EdgePendingHasFlow def past =
+    is_edge_line def ≡ true → is_pending def past ≡ true → depth past ≡ 0 → has_flow def past ≡ true
 
 -- if a masked chip drops edges, a started line that is masked is pending
 abbrev pub DroppedIsPending : LineDef → List Entry → Type 0
-DroppedIsPending def past = is_edge_line def ≡ true → def.keeps ≡ false → is_masked def past ≡ true → is_started past ≡ true → is_pending def past ≡ true
+DroppedIsPending def past = is_edge_line def ≡ true → def.keeps ≡ false → is_masked def past ≡ true
+    → is_started past ≡ true → is_pending def past ≡ true
 
 -- an enabled level line is masked only for a flow or for a thread
 abbrev pub LevelMaskIsHeld : LineDef → List Entry → Type 0
-LevelMaskIsHeld def past = is_level_line def ≡ true → is_masked def past ≡ true → depth past ≡ 0 → (has_flow def past || is_some_unfinished def past) ≡ true
+LevelMaskIsHeld def past = is_level_line def ≡ true → is_masked def past ≡ true → depth past ≡ 0
+    → (has_flow def past || is_some_unfinished def past) ≡ true
 
 -- on the fast-EOI flow an enabled level line is masked only if it is one-shot
 abbrev pub EoiLevelMaskIsOneshot : LineDef → List Entry → Type 0
-EoiLevelMaskIsOneshot def past = is_level_line def ≡ true → is_eoi_flow def.flow ≡ true → is_masked def past ≡ true → depth past ≡ 0 → is_oneshot past ≡ true
+EoiLevelMaskIsOneshot def past = is_level_line def ≡ true → is_eoi_flow def.flow ≡ true
+    → is_masked def past ≡ true → depth past ≡ 0 → is_oneshot past ≡ true
 
 -- d's thread is in a run whose finish is still to come
 abbrev pub is_finishing : List Entry → DevNo → Bool
-is_finishing past d = is_running past d && not (list_any (is_finish d) (since (is_thread_begin d) past))
+is_finishing past d =
+    is_running past d && not (list_any (is_finish d) (since (is_thread_begin d) past))
 
 -- a thread bit stands only while the thread is woken or its finish is still to come
 abbrev pub UnfinishedIsAtWork : LineDef → List Entry → Type 0
-UnfinishedIsAtWork def past = (d : DevNo) → is_unfinished past d ≡ true → (is_woken past d || is_finishing past d) ≡ true
+UnfinishedIsAtWork def past =
+    (d : DevNo) → is_unfinished past d ≡ true → (is_woken past d || is_finishing past d) ≡ true
 
 -- a device that is neither linked nor being freed is at rest
 abbrev pub UnlinkedIsAtRest : LineDef → List Entry → Type 0
@@ -80,7 +92,8 @@ UnlinkedIsAtRest def past =
 -- at most one handler is at work, and it was called in the round of the flow that is there
 pub record OneIsCalled (def : LineDef) (past : List Entry) : Type 0 where
   pub one : (d e : DevNo) → is_called past d ≡ true → is_called past e ≡ true → d ≡ e
-  pub in_round : (d : DevNo) → is_called past d ≡ true → (has_flow def past ≡ true) × (has_begun def past d ≡ true)
+  pub in_round : (d : DevNo) → is_called past d ≡ true
+      → (has_flow def past ≡ true) × (has_begun def past d ≡ true)
 
 -- past its hard clear no handler of a device that is being freed is at work
 abbrev pub ClearedIsNotCalled : LineDef → List Entry → Type 0
@@ -94,14 +107,16 @@ pub record OneIsFreed (def : LineDef) (past : List Entry) : Type 0 where
 
 -- each device that is linked or being freed was linked one-shot exactly if the line is one-shot
 abbrev pub FlagsAgree : LineDef → List Entry → Type 0
-FlagsAgree def past = (d : DevNo) → (is_linked past d || is_being_freed past d) ≡ true → (linking_flags past d).oneshot ≡ is_oneshot past
+FlagsAgree def past = (d : DevNo) → (is_linked past d || is_being_freed past d) ≡ true
+    → (linking_flags past d).oneshot ≡ is_oneshot past
 
--- a started line with linked devices is masked for a reason: it is disabled, or a flow is in progress, or on
--- a level line a thread isn't finished
+-- a started line with linked devices is masked for a reason: it is disabled, or a flow is in
+-- progress, or on a level line a thread isn't finished
 abbrev pub HasReasonPast : LineDef → List Entry → Type 0
 HasReasonPast def past =
     is_started past ≡ true → is_masked def past ≡ true → is_none_linked past ≡ false
-    → (is_disabled past || (has_flow def past || (is_level_line def && is_some_unfinished def past))) ≡ true
+    → (is_disabled past
+    || (has_flow def past || (is_level_line def && is_some_unfinished def past))) ≡ true
 
 abbrev pub HasReason : LineDef → List Entry → Type 0
 HasReason def h = HasReasonPast def (reverse h)

@@ -1,5 +1,5 @@
--- The flow in progress and its rounds (`handle_irq_event`, `IRQD_IRQ_INPROGRESS` of `kernel/irq/handle.c`
--- and `chip.c`).
+-- The flow in progress and its rounds (`handle_irq_event`, `IRQD_IRQ_INPROGRESS` of
+-- `kernel/irq/handle.c` and `chip.c`).
 use Rattle.std.specs.Prelude.{Bool, false, not, ◌||◌, ◌&&◌, if◌then◌else◌, Option, Some, None, is_some, List, [], ◌∷◌}
 use Rattle.std.specs.List.{list_any}
 use Rattle.irq_base.specs.declared.numbers.CpuNo.{CpuNo}

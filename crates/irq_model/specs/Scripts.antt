@@ -12,9 +12,11 @@ use Rattle.irq_model.specs.Due.{calls_by, entries_by}
 -- the entries that a complete call makes
 abbrev pub MakesAll : Call → List Entry → Type 0
 MakesAll (calls.Ask d) (entries.Ask r dev ∷ []) = dev ≡ d
-MakesAll (calls.Request d flags) (entries.Request r dev given answer opened ∷ []) = (dev ≡ d) × (given ≡ flags)
+MakesAll (calls.Request d flags) (entries.Request r dev given answer opened ∷ []) =
+    (dev ≡ d) × (given ≡ flags)
 MakesAll (calls.Free d) (entries.Unlink r dev unlinks.NotThere ∷ []) = dev ≡ d
-MakesAll (calls.Free d) (entries.Unlink r dev (unlinks.Unlinked last) ∷ entries.HardClear s ∷ entries.Freed t freed ∷ []) = (dev ≡ d) × (freed ≡ d)
+MakesAll (calls.Free d) (entries.Unlink r dev (unlinks.Unlinked last) ∷ entries.HardClear s
+    ∷ entries.Freed t freed ∷ []) = (dev ≡ d) × (freed ≡ d)
 MakesAll calls.Disable (entries.Disable r ∷ entries.HardClear s ∷ entries.Synced t ∷ []) = Unit {0}
 MakesAll calls.DisableNosync (entries.Disable r ∷ []) = Unit {0}
 MakesAll calls.Enable (entries.Enable r answer ∷ []) = Unit {0}
@@ -30,7 +32,8 @@ MakesSome c es = (more : List Entry) × MakesAll c (es ++ more)
 -- the calls one after another, up to some point within one of them
 abbrev pub AreMadeBy : List Call → List Entry → Type 0
 AreMadeBy [] es = es ≡ []
-AreMadeBy (c ∷ cs) es = MakesSome c es ⊎ ((own rest : List Entry) × (es ≡ own ++ rest) × MakesAll c own × AreMadeBy cs rest)
+AreMadeBy (c ∷ cs) es = MakesSome c es
+    ⊎ ((own rest : List Entry) × (es ≡ own ++ rest) × MakesAll c own × AreMadeBy cs rest)
 
 abbrev pub FollowsScriptsPast : LineDef → List Entry → Type 0
 FollowsScriptsPast def past = (r : DriverNo) → AreMadeBy (calls_by r def.calls) (entries_by r past)

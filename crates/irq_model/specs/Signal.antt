@@ -21,7 +21,8 @@ signals def past =
     if is_edge_line def then is_sent def past
     else (is_high def past && (not (is_masked def past) && not (serves def && has_flow def past)))
 
--- the newest entry of `upto` put a mask in force: a change at once, or one that waited and was made by a take after it
+-- the newest entry of `upto` put a mask in force: a change at once, or one that waited and was made
+-- by a take after it
 abbrev pub puts_in_force : List Entry → List Entry → Bool
 puts_in_force after (entries.Affinity driver mask moves.Now ∷ past) = true
 puts_in_force after (entries.Affinity driver mask moves.Later ∷ past) = list_any is_take after
@@ -38,7 +39,8 @@ mask_in_force def past = mask_of def.mask (last_place puts_in_force past)
 -- the lowest of the n processors from c on that is in the mask
 abbrev pub lowest_from : ℕ → ℕ → ℕ → Option CpuNo
 lowest_from mask c zero = None
-lowest_from mask c (suc n) = if is_in_mask mask c then Some (record { 0 = c }) else lowest_from mask (c + 1) n
+lowest_from mask c (suc n) =
+    if is_in_mask mask c then Some (record { 0 = c }) else lowest_from mask (c + 1) n
 
 -- the lowest of the processors 0 to cpus - 1 that is in the mask
 abbrev pub lowest_in : ℕ → ℕ → Option CpuNo

@@ -1,5 +1,5 @@
--- The rule on spurious interrupts (`note_interrupt`, `kernel/irq/spurious.c`). It alone is a fold over the
--- history, as it is there. Times are the moments that drivers hand in.
+-- The rule on spurious interrupts (`note_interrupt`, `kernel/irq/spurious.c`). It alone is a fold
+-- over the history, as it is there. Times are the moments that drivers hand in.
 use Rattle.std.specs.Prelude.{ℕ, ◌+◌, ◌-◌, max, Bool, true, false, not, ◌&&◌, ◌==◌, if◌then◌else◌, List, [], ◌∷◌, nat_lt}
 use Rattle.std.specs.List.{list_any}
 use Rattle.irq_base.specs.declared.lines.LineDef.{LineDef}
@@ -37,7 +37,8 @@ pub record Noted : Type 0 where
 abbrev pub counted : ℕ → ℕ → Counts → Noted
 counted window limit c =
     if c.irqs_unhandled == 0 then record { note = notes.Quiet; counts = c }
-    else (if nat_lt (c.irq_count + 1) window then record { note = notes.Counted; counts = record c { irq_count = c.irq_count + 1 } }
+    else (if nat_lt (c.irq_count + 1) window
+    then record { note = notes.Counted; counts = record c { irq_count = c.irq_count + 1 } }
     else record {
       note = if nat_lt limit c.irqs_unhandled then notes.Killed else notes.Counted;
       counts = record c { irq_count = 0; irqs_unhandled = 0 };
@@ -45,13 +46,16 @@ counted window limit c =
 
 -- an unhandled end; one that comes long after the last begins the count anew
 abbrev pub unhandled : ℕ → Counts → Counts
-unhandled now c = record c { irqs_unhandled = (if nat_lt 100 (now - c.last_unhandled) then 1 else c.irqs_unhandled + 1); last_unhandled = now }
+unhandled now c = record c {
+  irqs_unhandled = (if nat_lt 100 (now - c.last_unhandled) then 1 else c.irqs_unhandled + 1);
+  last_unhandled = now;
+}
 
 abbrev pub judged : ℕ → ℕ → ℕ → Bool → Counts → Noted
 judged window limit now handled c = counted window limit (if handled then c else unhandled now c)
 
--- An end whose round woke threads alone: judged at the next by whether a thread has served since. Why deferred: at the end
--- nobody knows yet whether the thread will find the device in need.
+-- An end whose round woke threads alone: judged at the next by whether a thread has served since.
+-- Why deferred: at the end nobody knows yet whether the thread will find the device in need.
 abbrev pub judged_by_threads : ℕ → ℕ → ℕ → Counts → Noted
 judged_by_threads window limit now c =
     if c.threads_handled == c.last then judged window limit now false c
@@ -60,7 +64,9 @@ judged_by_threads window limit now c =
 -- the note of an end, by the union of the answers of its round, and what the line keeps after it
 abbrev pub noted : ℕ → ℕ → ℕ → Bool → Bool → Counts → Noted
 noted window limit now wake handled c =
-    if wake && not handled then (if c.deferred then judged_by_threads window limit now c else record { note = notes.Quiet; counts = record c { deferred = true } })
+    if wake && not handled
+    then (if c.deferred then judged_by_threads window limit now c
+    else record { note = notes.Quiet; counts = record c { deferred = true } })
     else judged window limit now handled (if wake then record c { deferred = false } else c)
 
 -- the greatest moment handed in
@@ -78,14 +84,18 @@ round_handles def past = list_any returns_handled (round def past)
 
 -- what an end makes of the counts
 abbrev pub noted_end : LineDef → List Entry → Counts → Noted
-noted_end def past c = noted def.window def.limit (now past) (round_wakes def past) (round_handles def past) c
+noted_end def past c =
+    noted def.window def.limit (now past) (round_wakes def past) (round_handles def past) c
 
 abbrev pub counts_of : LineDef → List Entry → Counts
 counts_of def [] = no_counts
 counts_of def (entries.ThreadReturn dev served ∷ past) =
-    let c = counts_of def past in (if nat_lt 0 served then record c { threads_handled = c.threads_handled + 1 } else c)
-counts_of def (entries.Request driver dev flags links.Linked opened ∷ past) = record (counts_of def past) { irq_count = 0; irqs_unhandled = 0 }
-counts_of def (entries.End cpu again unmask note ∷ past) = (noted_end def past (counts_of def past)).counts
+    let c = counts_of def past in (if nat_lt 0 served
+    then record c { threads_handled = c.threads_handled + 1 } else c)
+counts_of def (entries.Request driver dev flags links.Linked opened ∷ past) =
+    record (counts_of def past) { irq_count = 0; irqs_unhandled = 0 }
+counts_of def (entries.End cpu again unmask note ∷ past) =
+    (noted_end def past (counts_of def past)).counts
 counts_of def (_ ∷ past) = counts_of def past
 
 -- the note of an end that comes now

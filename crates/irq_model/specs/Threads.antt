@@ -1,5 +1,5 @@
--- What the threads of a line's devices do (`irq_thread`, `irq_finalize_oneshot` of `kernel/irq/manage.c`;
--- `IRQTF_RUNTHREAD`, `desc->threads_oneshot`, `desc->threads_active`).
+-- What the threads of a line's devices do (`irq_thread`, `irq_finalize_oneshot` of
+-- `kernel/irq/manage.c`; `IRQTF_RUNTHREAD`, `desc->threads_oneshot`, `desc->threads_active`).
 use Rattle.std.specs.Prelude.{ℕ, ◌+◌, Bool, not, ◌&&◌, List}
 use Rattle.std.specs.List.{list_any}
 use Rattle.irq_base.specs.declared.numbers.DevNo.{DevNo}
@@ -17,16 +17,18 @@ is_woken past d = stands (wakes d) (is_thread_begin d) past
 abbrev pub is_running : List Entry → DevNo → Bool
 is_running past d = stands (is_thread_begin d) (is_done d) past
 
--- the device's thread bit stands: it was linked one-shot, and since then a return woke its thread and no
--- finish gave the bit up
+-- the device's thread bit stands: it was linked one-shot, and since then a return woke its thread
+-- and no finish gave the bit up
 abbrev pub is_unfinished : List Entry → DevNo → Bool
-is_unfinished past d = (linking_flags past d).oneshot && stands (wakes d) (is_cleared_finish d) (since (links_dev d) past)
+is_unfinished past d = (linking_flags past d).oneshot
+    && stands (wakes d) (is_cleared_finish d) (since (links_dev d) past)
 
 abbrev pub is_some_unfinished : LineDef → List Entry → Bool
 is_some_unfinished def past = list_any (λ x. is_unfinished past x.dev) def.devices
 
 abbrev pub is_other_unfinished : LineDef → List Entry → DevNo → Bool
-is_other_unfinished def past d = list_any (λ x. not (same_dev d x.dev) && is_unfinished past x.dev) def.devices
+is_other_unfinished def past d =
+    list_any (λ x. not (same_dev d x.dev) && is_unfinished past x.dev) def.devices
 
 -- how many threads are woken, and how many are in a run
 abbrev pub active_count : LineDef → List Entry → ℕ

@@ -11,7 +11,8 @@ use Rattle.irq_model.specs.Links.{is_first_request}
 
 -- the newest entry of `upto` is a last unlink, and its driver's free was completed after it
 abbrev pub is_freed_last : List Entry → List Entry → Bool
-is_freed_last after (entries.Unlink driver dev (unlinks.Unlinked true) ∷ past) = list_any (is_freed_by driver) after
+is_freed_last after (entries.Unlink driver dev (unlinks.Unlinked true) ∷ past) =
+    list_any (is_freed_by driver) after
 is_freed_last after _ = false
 
 abbrev pub is_some_entry : List Entry → Bool
@@ -20,4 +21,5 @@ is_some_entry (e ∷ past) = true
 
 -- a first request stands, and no last unlink after the last of them was freed
 abbrev pub is_up : List Entry → Bool
-is_up past = is_some_entry (upto_place is_first_request past) && not (some_place is_freed_last (since_place is_first_request past))
+is_up past = is_some_entry (upto_place is_first_request past)
+    && not (some_place is_freed_last (since_place is_first_request past))

@@ -35,14 +35,16 @@ HasDistinctDevices (x ∷ xs) = (list_any (is_device x.dev) xs ≡ false) × Has
 abbrev pub HasOneOwner : List (DriverNo × Call) → DevNo → Type 0
 HasOneOwner cs d =
     (i j : ℕ) (a b : DriverNo × Call) → slice_get cs i ≡ Some a → slice_get cs j ≡ Some b
-    → (requests_dev d a.1 || frees_dev d a.1) ≡ true → (requests_dev d b.1 || frees_dev d b.1) ≡ true → a.0 ≡ b.0
+    → (requests_dev d a.1 || frees_dev d a.1) ≡ true
+    → (requests_dev d b.1 || frees_dev d b.1) ≡ true → a.0 ≡ b.0
 
 -- between two requests of d stands a free of it
 abbrev pub IsFreedBetween : List (DriverNo × Call) → DevNo → Type 0
 IsFreedBetween cs d =
     (i j : ℕ) (a b : DriverNo × Call) → i < j → slice_get cs i ≡ Some a → slice_get cs j ≡ Some b
     → requests_dev d a.1 ≡ true → requests_dev d b.1 ≡ true
-    → (k : ℕ) × (c : DriverNo × Call) × (i < k) × (k < j) × (slice_get cs k ≡ Some c) × (frees_dev d c.1 ≡ true)
+    → (k : ℕ) × (c : DriverNo × Call) × (i < k) × (k < j) × (slice_get cs k ≡ Some c)
+    × (frees_dev d c.1 ≡ true)
 
 pub record IsValid (def : LineDef) : Type 0 where
   pub some_cpu : 1 ≤ def.cpus

@@ -1,5 +1,5 @@
--- Interrupts that wait without a signal: pending (`IRQS_PENDING`, `kernel/irq/chip.c`) and a software resend
--- (`kernel/irq/resend.c`).
+-- Interrupts that wait without a signal: pending (`IRQS_PENDING`, `kernel/irq/chip.c`) and a
+-- software resend (`kernel/irq/resend.c`).
 use Rattle.std.specs.Prelude.{Bool, ◌||◌, ◌&&◌, List}
 use Rattle.irq_base.specs.declared.lines.LineDef.{LineDef}
 use Rattle.irq_base.specs.declared.entries.Entry.{Entry}

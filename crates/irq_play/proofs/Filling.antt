@@ -76,7 +76,8 @@ next_mapped (r ∷ rows) (p ∷ places) (suc i) row at = next_mapped rows places
 
 -- ---- a report more
 
--- so many of the board's lines have their reports, and the lines that are left are those of the rows that are left
+-- so many of the board's lines have their reports, and the lines that are left are those of the
+-- rows that are left
 pub record IsFilled (b : BoardSeen) (all left : List BoardLine) (i : ℕ) (reports : List LineReport) : Type 0 where
   pub told : map told_by reports ≡ map (history_among all) (take i b.lines)
   pub passed : ℕ

@@ -1,6 +1,6 @@
--- The headline: what holds of the histories of a board's lines when its play has come to its end, and of the reports that
--- hand them out. The moves of a play stand in the order in which they were made, the oldest first, and so do the entries of
--- a history; `Plays` has the newest move first.
+-- The headline: what holds of the histories of a board's lines when its play has come to its end,
+-- and of the reports that hand them out. The moves of a play stand in the order in which they were
+-- made, the oldest first, and so do the entries of a history; `Plays` has the newest move first.
 use Rattle.std.specs.Prelude.{◌≡◌, ◌≤◌, ℕ, IsSome, Some, List, [], ◌++◌, length, map, reverse, slice_get}
 use Rattle.irq_base.specs.declared.entries.Actor.{Actor}
 use Rattle.irq_base.specs.declared.entries.Entry.{Entry}
@@ -28,7 +28,8 @@ use Rattle.board_play.specs.Play.{Done, Full, IsChosen, Plays, choice}
 
 -- the line at a moment, after these entries
 pub record HoldsAt (def : LineDef) (h : List Entry) : Type 0 where
-  -- each owed edge is somewhere: presented, kept, pending, in a software resend, or its device is still ahead in the round
+  -- each owed edge is somewhere: presented, kept, pending, in a software resend, or its device is
+  -- still ahead in the round
   pub covered : IsCovered def h
   -- a started line with linked devices is masked only if it is disabled, or a flow is in progress,
   -- or on a level line a thread isn't finished
@@ -71,12 +72,14 @@ pub record LineHeadline (def : LineDef) (h : List Entry) : Type 0 where
 -- the fact holds of each line of the board that has a place in its layout
 abbrev pub EachMapped : BoardSeen → (LineRow → Type 0) → Type 0
 EachMapped b P =
-    (i : ℕ) (row : LineRow) (virq : ℕ) (path : List (ℕ × ℕ)) → slice_get b.lines i ≡ Some row → slice_get (layout_of b) i ≡ Some (placements.Mapped virq path) → P row
+    (i : ℕ) (row : LineRow) (virq : ℕ) (path : List (ℕ × ℕ)) → slice_get b.lines i ≡ Some row
+    → slice_get (layout_of b) i ≡ Some (placements.Mapped virq path) → P row
 
 -- and this of each line that the layout refuses
 abbrev pub EachRefused : BoardSeen → (LineRow → Type 0) → Type 0
 EachRefused b P =
-    (i : ℕ) (row : LineRow) (why : Unmapped) → slice_get b.lines i ≡ Some row → slice_get (layout_of b) i ≡ Some (placements.Refused why) → P row
+    (i : ℕ) (row : LineRow) (why : Unmapped) → slice_get b.lines i ≡ Some row
+    → slice_get (layout_of b) i ≡ Some (placements.Refused why) → P row
 
 -- a line's number and its entries
 abbrev pub LineHistory : Type 0
@@ -110,7 +113,8 @@ pub record Headline (b : BoardSeen) (g : List Move) (reports : List LineReport) 
   -- a refused line has no entry
   pub refused : EachRefused b (λ row. part row.line g ≡ [])
 
--- the board was played until an entry was due on a line whose history has the greatest length, `len`
+-- the board was played until an entry was due on a line whose history has the greatest length,
+-- `len`
 pub record FullLog (b : BoardSeen) (g : List Move) (reports : List LineReport) (line : LineNo) (len : ℕ) : Type 0 where
   pub play : Plays b b.picks (reverse g) (Full line)
   pub handed_out : map told_by reports ≡ histories_of b g

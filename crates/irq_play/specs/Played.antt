@@ -16,8 +16,8 @@ use Rattle.irq_play.specs.declared.ending.PlayedEnd.{PlayedEnd}
 use Rattle.irq_play.specs.declared.ending.PlayedEnd.TheVariants as ends
 use Rattle.irq_play.specs.declared.ending.Wanted.TheVariants as wants
 
--- The board was played to its end, the reports hand that play out, and it is what was printed: all of its report, or
--- after a fault a beginning of it.
+-- The board was played to its end, the reports hand that play out, and it is what was printed: all
+-- of its report, or after a fault a beginning of it.
 pub record IsPrinted (b : BoardSeen) (summary : Bool) (reports : List LineReport) (before now : Option (List ℕ)) (end : WriteEnd) : Type 0 where
   pub moves : List Move
   pub headline : Headline b moves reports
@@ -25,11 +25,16 @@ pub record IsPrinted (b : BoardSeen) (summary : Bool) (reports : List LineReport
 
 -- The same by how the play ended; nothing is said to be printed of one that didn't come to its end.
 -- Out of memory is free but for a step's: then the board was played up to it.
-abbrev pub PlaysBoard : BoardSeen → Bool → List LineReport → Option (List ℕ) → Option (List ℕ) → PlayedEnd → Type 0
-PlaysBoard b summary reports before now ends.Done = IsPrinted b summary reports before now writes.Done
-PlaysBoard b summary reports before now ends.WriteFault = IsPrinted b summary reports before now writes.Failed
-PlaysBoard b summary reports before now (ends.LogFull line len) = (moves : List Move) × FullLog b moves reports line len
-PlaysBoard b summary reports before now (ends.NoMemory wants.Step) = (moves : List Move) × CutShort b moves reports
+abbrev pub PlaysBoard : BoardSeen → Bool → List LineReport → Option (List ℕ) → Option (List ℕ)
+    → PlayedEnd → Type 0
+PlaysBoard b summary reports before now ends.Done =
+    IsPrinted b summary reports before now writes.Done
+PlaysBoard b summary reports before now ends.WriteFault =
+    IsPrinted b summary reports before now writes.Failed
+PlaysBoard b summary reports before now (ends.LogFull line len) =
+    (moves : List Move) × FullLog b moves reports line len
+PlaysBoard b summary reports before now (ends.NoMemory wants.Step) =
+    (moves : List Move) × CutShort b moves reports
 PlaysBoard b summary reports before now (ends.NoMemory wants.Making) = reports ≡ []
 
 -- A system in which the board was played, and so its play ended. If memory was refused it is as the

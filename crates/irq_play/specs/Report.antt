@@ -1,5 +1,5 @@
--- What is printed of a play: the layout, and then the moves as they were made; or the layout, a summary of each line, and
--- the total.
+-- What is printed of a play: the layout, and then the moves as they were made; or the layout, a
+-- summary of each line, and the total.
 use Rattle.std.specs.Prelude.{ℕ, Bool, true, false, List, ◌++◌, length, sum_by}
 use Rattle.std.specs.List.{flat_map}
 use Rattle.board_def.specs.Seen.{BoardSeen}

@@ -28,8 +28,8 @@ impl ReportRoom {
         Ok(ReportRoom { reports, empty })
     }
 
-    /// One report a line of the board, in its order: each line that takes part hands out its history; a line that the
-    /// layout refuses has an empty one.
+    /// One report a line of the board, in its order: each line that takes part hands out its
+    /// history; a line that the layout refuses has an empty one.
     pub fn fill<L: IrqLine>(self, board: &Board, mut lines: Vec<L>) -> Reports
         requires room { HasRoom (length board.now.lines) self }
         requires lines { AreOfBoard board.now (board_lines (map L.seen lines.items)) }
@@ -69,7 +69,8 @@ fn empty_histories(alloc: Global, n: usize) -> Result<Vec<History>, NoMemory>
     Ok(all)
 }
 
-/// The history of the last of the lines, if that is the line of the number, which goes; else the empty one.
+/// The history of the last of the lines, if that is the line of the number, which goes; else the
+/// empty one.
 fn take_history<L: IrqLine>(lines: &mut Vec<L>, number: LineNo, empty: History) -> History
     requires { IsEmptyHistory empty }
     ensures { TakesFirst (is_first number (from_last (map L.seen lines.old.items))) (from_last (map L.seen lines.old.items)) (from_last (map L.seen lines.new.items)) result.entries }

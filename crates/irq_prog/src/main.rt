@@ -1,4 +1,5 @@
-//! The program `genirq`: its arguments and standard streams, handed to the body, whose status it ends with.
+//! The program `genirq`: its arguments and standard streams, handed to the body, whose status it
+//! ends with.
 #![tactic(auto)]
 
 use irq_command::run;

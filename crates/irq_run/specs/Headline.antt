@@ -1,6 +1,7 @@
--- The headline: what holds of the histories of a board's lines when its run by threads has come to its end, and of the
--- reports that hand them out. The entries of a history stand in the order in which they were made, the oldest first.
--- Which histories a run gives is free, and nothing is said of the order between lines.
+-- The headline: what holds of the histories of a board's lines when its run by threads has come to
+-- its end, and of the reports that hand them out. The entries of a history stand in the order in
+-- which they were made, the oldest first. Which histories a run gives is free, and nothing is said
+-- of the order between lines.
 use Rattle.std.specs.Prelude.{◌≡◌, ℕ, IsSome, Some, List, [], length, map, slice_get}
 use Rattle.irq_base.specs.declared.entries.Actor.{Actor}
 use Rattle.irq_base.specs.declared.entries.Entry.{Entry}
@@ -28,7 +29,8 @@ pub record Headline (b : BoardSeen) (entries : Histories) (reports : List LineRe
   -- a refused line has no entry
   pub refused : EachRefused b (λ row. entries row.line ≡ [])
 
--- an entry is due on the line of that number, one of the board's, and its history has the greatest length, `len`
+-- an entry is due on the line of that number, one of the board's, and its history has the greatest
+-- length, `len`
 pub record IsFullLine (b : BoardSeen) (entries : Histories) (line : LineNo) (len : ℕ) : Type 0 where
   pub place : ℕ
   pub row : LineRow

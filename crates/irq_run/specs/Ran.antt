@@ -16,8 +16,8 @@ use Rattle.irq_run.specs.Report.{run_text}
 use Rattle.irq_run.specs.declared.ending.RunEnd.{RunEnd}
 use Rattle.irq_run.specs.declared.ending.RunEnd.TheVariants as ends
 
--- The board was run to its end, the reports hand that run out, and it is what was printed: all of its report, or after a
--- fault a beginning of it.
+-- The board was run to its end, the reports hand that run out, and it is what was printed: all of
+-- its report, or after a fault a beginning of it.
 pub record IsPrinted (b : BoardSeen) (summary : Bool) (reports : List LineReport) (before now : Option (List ℕ)) (end : WriteEnd) : Type 0 where
   pub entries : Histories
   pub headline : Headline b entries reports
@@ -28,14 +28,17 @@ abbrev pub IsRunFull : BoardSeen → List LineReport → LineNo → ℕ → Type
 IsRunFull b reports line len = (entries : Histories) × FullLog b entries reports line len
 
 -- by how the run ended; nothing is said to be printed of one that didn't come to its end
-abbrev pub RunsBoard : BoardSeen → Bool → List LineReport → Option (List ℕ) → Option (List ℕ) → RunEnd → Type 0
-RunsBoard b summary reports before now ends.Done = IsPrinted b summary reports before now writes.Done
-RunsBoard b summary reports before now ends.WriteFault = IsPrinted b summary reports before now writes.Failed
+abbrev pub RunsBoard : BoardSeen → Bool → List LineReport → Option (List ℕ) → Option (List ℕ)
+    → RunEnd → Type 0
+RunsBoard b summary reports before now ends.Done =
+    IsPrinted b summary reports before now writes.Done
+RunsBoard b summary reports before now ends.WriteFault =
+    IsPrinted b summary reports before now writes.Failed
 RunsBoard b summary reports before now (ends.LogFull line len) = IsRunFull b reports line len
 RunsBoard b summary reports before now ends.NoMemory = reports ≡ []
 
--- A system of the board's lines after a run, which was settled and so ended: whatever the threads did, each history is
--- legal, and the drivers' calls were made in the order of their scripts.
+-- A system of the board's lines after a run, which was settled and so ended: whatever the threads
+-- did, each history is legal, and the drivers' calls were made in the order of their scripts.
 pub record IsRun (b : BoardSeen) (s : SystemSeen) (end : PlayEnd) : Type 0 where
   pub board : s.board ≡ b
   pub layout : s.layout ≡ layout_of b

@@ -1,5 +1,6 @@
--- What is printed of a run: the layout, and then each line's entries in the order in which they were made, line by line
--- in the board's order; or the layout, a summary of each line, and the total.
+-- What is printed of a run: the layout, and then each line's entries in the order in which they
+-- were made, line by line in the board's order; or the layout, a summary of each line, and the
+-- total.
 use Rattle.std.specs.Prelude.{ℕ, Bool, true, false, List, ◌++◌, All}
 use Rattle.std.specs.List.{flat_map}
 use Rattle.irq_base.specs.declared.reporting.LineReport.{LineReport}

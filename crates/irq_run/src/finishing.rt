@@ -27,7 +27,8 @@ pub(crate) struct Printed {
     pub(crate) reports: Reports,
 }
 
-/// Takes the histories out of the lines of the run, and prints them after the layout, or a summary of them.
+/// Takes the histories out of the lines of the run, and prints them after the layout, or a summary
+/// of them.
 pub(crate) fn print_run<O: Sink, L: IrqLine>(
     board: &Board,
     summary: bool,
@@ -54,7 +55,8 @@ pub(crate) fn print_run<O: Sink, L: IrqLine>(
     Printed { end, reports }
 }
 
-/// Prints the histories after the layout, or the summary rows and the total, and has all of it handed on.
+/// Prints the histories after the layout, or the summary rows and the total, and has all of it
+/// handed on.
 fn write_lines<O: Sink>(
     row: &mut TextRow,
     summary: bool,

@@ -38,10 +38,11 @@ pub struct RanBoard {
     pub reports: Reports,
 }
 
-/// Lays the board's lines over its domains, puts each behind a lock, lets each of the board's actors step in a thread of
-/// its own until none can, and prints each line's entries, line by line, or with `summary` a summary of them. The
-/// board's picks are passed over. Handlers are called as they are due, and the gate before each turn of a worker. All
-/// memory is taken before the first row is printed.
+/// Lays the board's lines over its domains, puts each behind a lock, lets each of the board's
+/// actors step in a thread of its own until none can, and prints each line's entries, line by line,
+/// or with `summary` a summary of them. The board's picks are passed over. Handlers are called as
+/// they are due, and the gate before each turn of a worker. All memory is taken before the first
+/// row is printed.
 pub fn run_and_print<R: Threads + Wait + Sync, O: Sink, G: Gate + Sync, H: Handler + Sync>(
     rt: &R,
     alloc: Global,

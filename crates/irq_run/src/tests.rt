@@ -1,4 +1,5 @@
-//! Boards by hand, run by threads. On each line no two entries can come in another order than the one that is written.
+//! Boards by hand, run by threads. On each line no two entries can come in another order than the
+//! one that is written.
 use crate::{RanBoard, RunEnd, run_and_print};
 use board_text::read_board;
 use callbacks::{ByKind, Callbacks};

@@ -1,4 +1,5 @@
--- What one more entry makes of the due call: the place of the call, and how many of its entries are there.
+-- What one more entry makes of the due call: the place of the call, and how many of its entries are
+-- there.
 use Rattle.std.proofs.Common.{◌≡◌, ℕ, zero, suc, ◌+◌, ◌<◌, ◌≤◌, Bool, true, false, cond, subst, eq-eqb, option_map, Some, List, [], ◌∷◌, ◌++◌, length, drop, filter, slice_get, refl, sym, ap, ◌∙◌, arith, length-append}
 use Rattle.std.proofs.lemmas.Bool.Decides.{nat_tests}
 use Rattle.std.proofs.lemmas.List.{drop-append-le, drop_all, reverse-append}

@@ -8,7 +8,8 @@ use Rattle.irq_model.specs.Masks.{is_masked}
 use Rattle.irq_model.specs.Edges.{is_edge, ends_in_edge, was_open, is_sent_edge, is_taken, is_alive, is_sent, is_stored}
 use Rattle.irq_steps.proofs.Somewhere.{some_ext, some_none, some_or, some_cond}
 
--- E: it is an edge, K: it was kept, T: it was taken, W: the line was open since, m: masked before the entry, n: after it, t: the entry is a take
+-- E: it is an edge, K: it was kept, T: it was taken, W: the line was open since, m: masked before
+-- the entry, n: after it, t: the entry is a take
 abbrev pub shown : Bool → Bool → Bool → Bool
 shown r m W = not m || (not r && W)
 
@@ -102,7 +103,8 @@ none_stored def past is_open =
     some_ext _ (λ a u. false) past (λ a u is. seen (ends_in_edge def u) (def.keeps || not (is_masked def u)) (is_taken def a u) (was_open def a u) def.recalls (is_masked def (a ++ u)) (ap (is_masked def) is ∙ is_open))
     ∙ some_none past
 
--- an entry that is no take and no edge, and leaves the line masked or open as it was, leaves the edges as they were
+-- an entry that is no take and no edge, and leaves the line masked or open as it was, leaves the
+-- edges as they were
 pub sent_quiet : (def : LineDef) (e : Entry) (past : List Entry) → is_take e ≡ false → is_edge def e ≡ false → is_masked def (e ∷ past) ≡ is_masked def past
     → is_sent def (e ∷ past) ≡ is_sent def past
 sent_quiet def e past no_take no_edge same =

@@ -9,7 +9,8 @@ abbrev pub Laid : List Call → List Entry → ℕ → ℕ → Type 0
 Laid [] es zero k = (es ≡ []) × (k ≡ 0)
 Laid [] es (suc p) k = ⊥
 Laid (c ∷ cs) es zero k = (length es ≡ k) × (k < entries_of_call c es)
-Laid (c ∷ cs) es (suc p) k = (entries_of_call c es ≤ length es) × Laid cs (drop (entries_of_call c es) es) p k
+Laid (c ∷ cs) es (suc p) k =
+    (entries_of_call c es ≤ length es) × Laid cs (drop (entries_of_call c es) es) p k
 
 abbrev pub with_count : Option Call → ℕ → Option (Call × ℕ)
 with_count None k = None

@@ -1,5 +1,5 @@
--- A level line that was killed is disabled, and has no flow, until it is started; and so is one that answered a
--- take with Off masked and disabled.
+-- A level line that was killed is disabled, and has no flow, until it is started; and so is one
+-- that answered a take with Off masked and disabled.
 use Rattle.std.proofs.Common.{◌≡◌, ◌+◌, ◌≤◌, ◌⊎◌, inl, inr, Bool, true, false, not, ◌||◌, ◌&&◌, cond, List, [], ◌∷◌, refl, sym, ap, ◌∙◌, subst, arith}
 use Rattle.std.proofs.lemmas.Bool.{or_parts, or_left, false_from_ne_true, true_from_ne_false}
 use Rattle.irq_base.specs.declared.numbers.CpuNo.{CpuNo}
@@ -219,7 +219,8 @@ offs_past def past valid legal level =
 
 -- ---- the takes that were answered Busy
 
--- a flow is in progress on an open line of the level flow; none takes place on a line of the fast-EOI flow
+-- a flow is in progress on an open line of the level flow; none takes place on a line of the
+-- fast-EOI flow
 abbrev pub may_be_busy : LineDef → List Entry → Bool
 may_be_busy def past = not (is_eoi_flow def.flow) && (has_flow def past && not (is_masked def past))
 

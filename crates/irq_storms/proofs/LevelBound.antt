@@ -86,7 +86,8 @@ level_rounds def past legal counts =
     let n = counts.nothing in
     omega (arith, r, e, f, w, h, d, n)
 
--- the bound in the products of the number of devices n, of the calls and one more m, and of the window w
+-- the bound in the products of the number of devices n, of the calls and one more m, and of the
+-- window w
 spread : (n m w : ℕ) → (6 * n + 8) * m * (2 * w + 5) ≡ 12 * (n * (w * m)) + 30 * (n * m) + 16 * (w * m) + 40 * m
 spread n m w =
     let b = (6 * n + 8) * m in

@@ -1,5 +1,5 @@
--- A count that every entry keeps: the entries of one kind, with what is still owed to them, are at most those of
--- another.
+-- A count that every entry keeps: the entries of one kind, with what is still owed to them, are at
+-- most those of another.
 use Rattle.std.proofs.Common.{◌≡◌, ℕ, ◌+◌, ◌≤◌, Bool, List, [], ◌∷◌, arith}
 use Rattle.irq_base.specs.declared.lines.LineDef.{LineDef}
 use Rattle.irq_base.specs.declared.entries.Entry.{Entry}

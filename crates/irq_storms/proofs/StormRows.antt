@@ -1,5 +1,5 @@
--- Worked histories of a small level line: how their ends are judged, what the window allows, and that they are within
--- the bound.
+-- Worked histories of a small level line: how their ends are judged, what the window allows, and
+-- that they are within the bound.
 use Rattle.std.specs.Prelude.{◌≡◌, ◌≤◌, ℕ, List, [], ◌∷◌, reverse, length, take, refl, true, false, None}
 use Rattle.std.proofs.Common.{arith}
 use Rattle.irq_base.specs.declared.numbers.LineNo.{LineNo}
@@ -64,8 +64,9 @@ small kind =
       calls = (driver 1, calls.Request (dev 1) no_flags) ∷ (driver 1, calls.Ask (dev 1)) ∷ [];
     }
 
--- A storm that nobody serves. The two calls make an entry each; then each round has four entries and an end that is
--- judged nothing, and the third of these kills the line. No history of this line is longer.
+-- A storm that nobody serves. The two calls make an entry each; then each round has four entries
+-- and an end that is judged nothing, and the third of these kills the line. No history of this line
+-- is longer.
 abbrev pub longest_line : LineDef
 longest_line = small kinds.Stuck
 
@@ -102,7 +103,8 @@ longest_bound = refl
 pub longest_is_within : (length longest_log ≡ 14) × (length longest_log ≤ bound longest_line)
 longest_is_within = (refl, omega arith)
 
--- three ends are allowed after the request; after the second end one is left, and after the kill none
+-- three ends are allowed after the request; after the second end one is left, and after the kill
+-- none
 pub longest_window :
     (allowed longest_line (reverse (take 1 longest_log)) ≡ 3)
     × (allowed longest_line (reverse (take 10 longest_log)) ≡ 1)
@@ -111,8 +113,8 @@ pub longest_window :
     × (breaks longest_line (reverse longest_log) ≡ 1)
 longest_window = (refl, refl, refl, refl, refl)
 
--- Past 100 ms the next unhandled end begins the count anew: the rest of the window is allowed, and all of the next.
--- Just as many ends follow.
+-- Past 100 ms the next unhandled end begins the count anew: the rest of the window is allowed, and
+-- all of the next. Just as many ends follow.
 abbrev pub late_line : LineDef
 late_line = record longest_line { calls = (driver 1, calls.Request (dev 1) no_flags) ∷ (driver 1, calls.Ask (dev 1)) ∷ (driver 1, calls.Moment 101) ∷ [] }
 
@@ -164,8 +166,9 @@ pub late_window :
     × (allowed late_line (reverse late_log) ≡ 0)
 late_window = (refl, refl, refl, refl, refl, refl)
 
--- An end that only woke its thread is judged by the next: the second comes before the thread has served, the third
--- after it. Not all ends of the window are unhandled then, so the next window is allowed too.
+-- An end that only woke its thread is judged by the next: the second comes before the thread has
+-- served, the third after it. Not all ends of the window are unhandled then, so the next window is
+-- allowed too.
 abbrev pub woken_line : LineDef
 woken_line = record (small kinds.Check) { calls = (driver 1, calls.Request (dev 1) no_flags) ∷ (driver 1, calls.Ask (dev 1)) ∷ (driver 1, calls.Ask (dev 1)) ∷ [] }
 

@@ -1,5 +1,5 @@
--- What the rule on spurious interrupts makes of an end, and what its open window still allows (`note_interrupt`,
--- `kernel/irq/spurious.c`).
+-- What the rule on spurious interrupts makes of an end, and what its open window still allows
+-- (`note_interrupt`, `kernel/irq/spurious.c`).
 use Rattle.std.specs.Prelude.{ℕ, ◌+◌, ◌-◌, ◌*◌, Bool, true, false, not, ◌||◌, ◌&&◌, ◌==◌, if◌then◌else◌, List, [], ◌∷◌, nat_lt}
 use Rattle.irq_base.specs.declared.lines.LineDef.{LineDef}
 use Rattle.irq_base.specs.declared.entries.Entry.{Entry}
@@ -20,16 +20,19 @@ count_where p (e ∷ past) = if p e past then (count_where p past + 1) else coun
 
 -- ---- an end is judged, or left to the next one
 
--- what the rule makes of an end: handled, unhandled, or judged by what the threads do until the next
+-- what the rule makes of an end: handled, unhandled, or judged by what the threads do until the
+-- next
 pub data Judgement : Type 0 where
   Handled : Judgement
   Nothing : Judgement
   Deferred : Judgement
 
--- the judgement by the answers of the round; `deferred`: an end that only woke threads waits to be judged; `same`: no thread has served since
+-- the judgement by the answers of the round; `deferred`: an end that only woke threads waits to be
+-- judged; `same`: no thread has served since
 abbrev pub judged_as : Bool → Bool → Bool → Bool → Judgement
 judged_as wake handled deferred same =
-    if wake && not handled then (if deferred then (if same then Nothing else Handled) else Deferred) else (if handled then Handled else Nothing)
+    if wake && not handled then (if deferred then (if same then Nothing else Handled) else Deferred)
+    else (if handled then Handled else Nothing)
 
 -- the judgement of an end that comes now
 abbrev pub judgement : LineDef → List Entry → Judgement
@@ -77,18 +80,21 @@ ends_clearing def e past = is_end e && (round_wakes def past && round_handles de
 abbrev pub clearing_ends : LineDef → List Entry → ℕ
 clearing_ends def past = count_where (ends_clearing def) past
 
--- how often a storm may begin anew: the ends judged handled, and the starts, linked requests and moments
+-- how often a storm may begin anew: the ends judged handled, and the starts, linked requests and
+-- moments
 abbrev pub breaks : LineDef → List Entry → ℕ
 breaks def past = handled_ends def past + count_of is_renewal past
 
--- what ends judged handled take: a handled return of the round in progress, and threads that served since the last look
+-- what ends judged handled take: a handled return of the round in progress, and threads that served
+-- since the last look
 abbrev pub serving_marks : LineDef → List Entry → ℕ
 serving_marks def past =
     one_if (has_flow def past && round_handles def past) + one_if (not ((counts_of def past).threads_handled == (counts_of def past).last))
 
 -- ---- what the open window allows
 
--- the next unhandled end begins the count anew, or some end of the window wasn't counted as unhandled
+-- the next unhandled end begins the count anew, or some end of the window wasn't counted as
+-- unhandled
 abbrev pub is_forgiving : ℕ → Counts → Bool
 is_forgiving at c = nat_lt 100 (at - c.last_unhandled) || nat_lt c.irqs_unhandled c.irq_count
 
@@ -98,4 +104,5 @@ allowance window at c = if is_forgiving at c then 2 * window - c.irq_count else 
 
 -- none on a line that was killed, and not started since
 abbrev pub allowed : LineDef → List Entry → ℕ
-allowed def past = if stands is_kill is_start past then 0 else allowance def.window (now past) (counts_of def past)
+allowed def past =
+    if stands is_kill is_start past then 0 else allowance def.window (now past) (counts_of def past)

@@ -1,4 +1,5 @@
--- How many entries of each kind a history has at most: sentences about its entries and the line's definition.
+-- How many entries of each kind a history has at most: sentences about its entries and the line's
+-- definition.
 use Rattle.std.specs.Prelude.{◌≡◌, ◌+◌, ◌*◌, ◌≤◌, true, false, not, ◌&&◌, List, length, reverse}
 use Rattle.irq_base.specs.declared.numbers.DevNo.{DevNo}
 use Rattle.irq_base.specs.declared.lines.LineDef.{LineDef}
@@ -16,36 +17,43 @@ use Rattle.irq_model.specs.Bounds.{ask_calls, other_calls}
 use Rattle.irq_storms.specs.Tests.{is_any_begin, is_any_return, is_end, is_any_serving, serves_of, asks_served, all_served, total, is_by_any_driver, is_renewal}
 use Rattle.irq_storms.specs.Judged.{one_if, handled_ends, nothing_ends, deferred_ends, clearing_ends, breaks, serving_marks, allowed}
 
--- runs are counted: a round calls each device's handler once at most, and has one end at most; a thread runs no
--- more often than returns woke it
+-- runs are counted: a round calls each device's handler once at most, and has one end at most; a
+-- thread runs no more often than returns woke it
 pub record RunsAreCounted (def : LineDef) (h : List Entry) : Type 0 where
   pub begins : count_of is_any_begin (reverse h) ≤ length def.devices * count_of (begins_round def) (reverse h)
   pub returns : count_of is_any_return (reverse h) ≤ count_of is_any_begin (reverse h)
   pub ends : count_of is_end (reverse h) ≤ count_of (begins_round def) (reverse h)
-  pub thread_begins : (d : DevNo) → count_of (is_thread_begin d) (reverse h) ≤ count_of (wakes d) (reverse h)
-  pub thread_returns : (d : DevNo) → count_of (is_thread_return d) (reverse h) ≤ count_of (is_thread_begin d) (reverse h)
-  pub finishes : (d : DevNo) → count_of (is_finish d) (reverse h) ≤ count_of (is_thread_begin d) (reverse h)
-  pub dones : (d : DevNo) → count_of (is_done d) (reverse h) ≤ count_of (is_thread_begin d) (reverse h)
+  pub thread_begins : (d : DevNo)
+      → count_of (is_thread_begin d) (reverse h) ≤ count_of (wakes d) (reverse h)
+  pub thread_returns : (d : DevNo)
+      → count_of (is_thread_return d) (reverse h) ≤ count_of (is_thread_begin d) (reverse h)
+  pub finishes : (d : DevNo)
+      → count_of (is_finish d) (reverse h) ≤ count_of (is_thread_begin d) (reverse h)
+  pub dones : (d : DevNo)
+      → count_of (is_done d) (reverse h) ≤ count_of (is_thread_begin d) (reverse h)
 
--- calls are counted: a call that asks makes one entry, another at most three, of which one at most starts the line,
--- links a device or hands in a moment
+-- calls are counted: a call that asks makes one entry, another at most three, of which one at most
+-- starts the line, links a device or hands in a moment
 pub record CallsAreCounted (def : LineDef) (h : List Entry) : Type 0 where
   pub entries : count_of is_by_any_driver (reverse h) ≤ ask_calls def + 3 * other_calls def
   pub asks : count_of is_any_ask (reverse h) ≤ ask_calls def
   pub renewals : count_of is_renewal (reverse h) ≤ other_calls def
 
--- asks are counted: of each device, those that were served and those that weren't are all its asks, and a run that
--- served something has an ask of its own
+-- asks are counted: of each device, those that were served and those that weren't are all its asks,
+-- and a run that served something has an ask of its own
 pub record AsksAreCounted (def : LineDef) (h : List Entry) : Type 0 where
-  pub exact : (d : DevNo) → total (asks_served d) (reverse h) + unserved_asks def d (reverse h) ≡ count_of (is_ask d) (reverse h)
+  pub exact : (d : DevNo)
+      → total (asks_served d) (reverse h) + unserved_asks def d (reverse h)
+      ≡ count_of (is_ask d) (reverse h)
   pub runs : (d : DevNo) → count_of (serves_of d) (reverse h) + unserved_asks def d (reverse h) ≤ count_of (is_ask d) (reverse h)
   pub all : total all_served (reverse h) + total (λ x. unserved_asks def x.dev (reverse h)) def.devices ≡ count_of is_any_ask (reverse h)
   pub all_runs : count_of is_any_serving (reverse h) ≤ count_of is_any_ask (reverse h)
 
--- an edge line is counted: an end that goes on has a take of its own that was answered Busy, so each round has an ask
--- or a start of its own
+-- an edge line is counted: an end that goes on has a take of its own that was answered Busy, so
+-- each round has an ask or a start of its own
 pub record IsEdgeCounted (def : LineDef) (past : List Entry) : Type 0 where
-  pub agains : count_of is_again past + one_if (has_flow def past && is_pending def past) ≤ count_of is_busy past
+  pub agains : count_of is_again past + one_if (has_flow def past
+      && is_pending def past) ≤ count_of is_busy past
   pub rounds : count_of (begins_round def) past ≤ ask_calls def + other_calls def
   pub takes : count_of is_take past ≤ 2 * (ask_calls def + other_calls def)
 
@@ -67,15 +75,19 @@ pub record IsClosed (def : LineDef) (past : List Entry) : Type 0 where
 pub record IsLevelCounted (def : LineDef) (past : List Entry) : Type 0 where
   -- an end judged handled has a run of its own that served
   pub handled : handled_ends def past + serving_marks def past ≤ count_of is_any_serving past
-  -- only an end whose round both woke a thread and handled gives the deferred mark up, and it is judged handled
+  -- only an end whose round both woke a thread and handled gives the deferred mark up, and it is
+  -- judged handled
   pub deferred : deferred_ends def past ≤ clearing_ends def past + one_if (counts_of def past).deferred
   pub clearing : clearing_ends def past ≤ handled_ends def past
   pub shut : stands is_kill is_start past ≡ true → IsShut def past
-  -- between two breaks, before the first and after the last there are two windows of ends judged nothing at most
+  -- between two breaks, before the first and after the last there are two windows of ends judged
+  -- nothing at most
   pub nothing : nothing_ends def past + allowed def past ≤ 2 * def.window * (breaks def past + 1)
   pub breaks : breaks def past ≤ ask_calls def + other_calls def
   -- each take that was answered Busy or Off has a start of its own
-  pub busy : is_level_flow def.flow ≡ true → count_of is_busy past + one_if (has_flow def past && not (is_masked def past)) ≤ count_of is_start past
+  pub busy : is_level_flow def.flow ≡ true
+      → count_of is_busy past + one_if (has_flow def past
+      && not (is_masked def past)) ≤ count_of is_start past
   pub none_busy : is_eoi_flow def.flow ≡ true → count_of is_busy past ≡ 0
   pub off : count_of is_off past + one_if (stands is_start is_off past) ≤ count_of is_start past
   pub closed : stands is_start is_off past ≡ false → IsClosed def past

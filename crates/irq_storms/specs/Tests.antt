@@ -69,6 +69,7 @@ abbrev pub is_moment : Entry → Bool
 is_moment (entries.Moment driver at) = true
 is_moment _ = false
 
--- an entry of a driver from which a storm may begin anew: a start, a request that was linked, a moment
+-- an entry of a driver from which a storm may begin anew: a start, a request that was linked, a
+-- moment
 abbrev pub is_renewal : Entry → Bool
 is_renewal e = is_start e || (is_linked_request e || is_moment e)

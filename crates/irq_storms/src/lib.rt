@@ -1,6 +1,6 @@
-//! How long a legal history of an interrupt line can be: counts that every entry keeps, and a bound that is read off
-//! the line's definition. Each is the clause of a function with an empty body, so that crates above can call it or
-//! cite its lemma.
+//! How long a legal history of an interrupt line can be: counts that every entry keeps, and a bound
+//! that is read off the line's definition. Each is the clause of a function with an empty body, so
+//! that crates above can call it or cite its lemma.
 #![tactic(auto)]
 
 ghost use Rattle.std.specs.Prelude.{◌≡◌, ◌≤◌, None, List, length};
@@ -13,31 +13,32 @@ ghost use Rattle.irq_model.specs.Next.{next};
 ghost use Rattle.irq_model.specs.Valid.{IsValid};
 ghost use Rattle.irq_storms.specs.Storms.{RunsAreCounted, CallsAreCounted, AsksAreCounted, EdgeIsCounted, LevelIsCounted};
 
-/// Runs are counted: a round calls each device's handler once at most, and has one end at most; a thread runs no more
-/// often than returns woke it.
+/// Runs are counted: a round calls each device's handler once at most, and has one end at most; a
+/// thread runs no more often than returns woke it.
 pub fn runs_are_counted()
     ensures law { (def : LineDef) (h : List Entry) → IsValid def → IsLegal def h → RunsAreCounted def h }
 {}
 
-/// Calls are counted: a call that asks makes one entry, another at most three, of which one at most starts the line,
-/// links a device or hands in a moment.
+/// Calls are counted: a call that asks makes one entry, another at most three, of which one at most
+/// starts the line, links a device or hands in a moment.
 pub fn calls_are_counted()
     ensures law { (def : LineDef) (h : List Entry) → IsLegal def h → CallsAreCounted def h }
 {}
 
-/// Asks are counted: of each device, those that were served and those that weren't are all its asks, and a run that
-/// served something has an ask of its own.
+/// Asks are counted: of each device, those that were served and those that weren't are all its
+/// asks, and a run that served something has an ask of its own.
 pub fn asks_are_counted()
     ensures law { (def : LineDef) (h : List Entry) → IsValid def → IsLegal def h → AsksAreCounted def h }
 {}
 
-/// An edge line is counted: each round has an ask or a start of its own, and the takes are at most twice as many.
+/// An edge line is counted: each round has an ask or a start of its own, and the takes are at most
+/// twice as many.
 pub fn edge_is_counted()
     ensures law { (def : LineDef) (h : List Entry) → IsLegal def h → EdgeIsCounted def h }
 {}
 
-/// A level line is counted: its ends by the rule on spurious interrupts, and the takes that call no handler by the
-/// starts.
+/// A level line is counted: its ends by the rule on spurious interrupts, and the takes that call no
+/// handler by the starts.
 pub fn level_is_counted()
     ensures law { (def : LineDef) (h : List Entry) → IsValid def → IsLegal def h → LevelIsCounted def h }
 {}
@@ -47,7 +48,8 @@ pub fn within_bound()
     ensures law { (def : LineDef) (h : List Entry) → IsValid def → IsLegal def h → length h ≤ bound def }
 {}
 
-/// A legal history of every line, also of an edge line, has at most as many entries as the bound of a level line says.
+/// A legal history of every line, also of an edge line, has at most as many entries as the bound of
+/// a level line says.
 pub fn within_level_bound()
     ensures law { (def : LineDef) (h : List Entry) → IsValid def → IsLegal def h → length h ≤ level_bound def }
 {}

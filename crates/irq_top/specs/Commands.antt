@@ -1,5 +1,6 @@
--- What each command comes to, ending by ending. `told` is what the source told of its bytes, `left` what it has left of
--- them; `before` and `now` are what the output has; `reports` are the histories that are handed out.
+-- What each command comes to, ending by ending. `told` is what the source told of its bytes, `left`
+-- what it has left of them; `before` and `now` are what the output has; `reports` are the histories
+-- that are handed out.
 use Rattle.std.specs.Prelude.{◌≡◌, ℕ, Bool, true, Option, Some, None, Err, List, []}
 use Rattle.irq_base.specs.declared.reporting.LineReport.{LineReport}
 use Rattle.board_def.specs.Rules.{IsBoard}
@@ -22,11 +23,16 @@ use Rattle.irq_top.specs.declared.ending.Ending.TheVariants as endings
 
 -- a board was played: as the headline says if all is printed and after a fault of the output, and
 -- else until a log was full or a step needed memory
-abbrev pub PlaysAs : BoardSeen → Bool → List LineReport → Option (List ℕ) → Option (List ℕ) → Ending → Type 0
-PlaysAs b summary reports before now endings.Done = PlaysBoard b summary reports before now plays.Done
-PlaysAs b summary reports before now endings.WriteFault = PlaysBoard b summary reports before now plays.WriteFault
-PlaysAs b summary reports before now (endings.LogFull line len) = PlaysBoard b summary reports before now (plays.LogFull line len)
-PlaysAs b summary reports before now (endings.NoMemory wanted) = PlaysBoard b summary reports before now (plays.NoMemory wanted)
+abbrev pub PlaysAs : BoardSeen → Bool → List LineReport → Option (List ℕ) → Option (List ℕ) → Ending
+    → Type 0
+PlaysAs b summary reports before now endings.Done =
+    PlaysBoard b summary reports before now plays.Done
+PlaysAs b summary reports before now endings.WriteFault =
+    PlaysBoard b summary reports before now plays.WriteFault
+PlaysAs b summary reports before now (endings.LogFull line len) =
+    PlaysBoard b summary reports before now (plays.LogFull line len)
+PlaysAs b summary reports before now (endings.NoMemory wanted) =
+    PlaysBoard b summary reports before now (plays.NoMemory wanted)
 PlaysAs b summary reports before now _ = ⊥
 
 -- if the source told its bytes, all of them were read
@@ -48,22 +54,32 @@ pub record RefusesInput (told left : Option (List ℕ)) (reports : List LineRepo
   pub reports_are : reports ≡ []
 
 -- `play`: the board is played; or the source gave none; out of memory is free but for a step's
-abbrev pub Plays : Bool → Option (List ℕ) → Option (List ℕ) → List LineReport → Option (List ℕ) → Option (List ℕ) → Ending → Type 0
-Plays summary told left reports before now endings.Done = PlaysInput summary told left reports before now endings.Done
-Plays summary told left reports before now endings.WriteFault = PlaysInput summary told left reports before now endings.WriteFault
-Plays summary told left reports before now (endings.LogFull line len) = PlaysInput summary told left reports before now (endings.LogFull line len)
-Plays summary told left reports before now (endings.Board fault) = RefusesInput told left reports (refusals.Fault fault)
-Plays summary told left reports before now endings.ReadFault = RefusesInput told left reports refusals.ReadFault
-Plays summary told left reports before now (endings.NoMemory wants.Step) = PlaysInput summary told left reports before now (endings.NoMemory wants.Step)
+abbrev pub Plays : Bool → Option (List ℕ) → Option (List ℕ) → List LineReport → Option (List ℕ)
+    → Option (List ℕ) → Ending → Type 0
+Plays summary told left reports before now endings.Done =
+    PlaysInput summary told left reports before now endings.Done
+Plays summary told left reports before now endings.WriteFault =
+    PlaysInput summary told left reports before now endings.WriteFault
+Plays summary told left reports before now (endings.LogFull line len) =
+    PlaysInput summary told left reports before now (endings.LogFull line len)
+Plays summary told left reports before now (endings.Board fault) =
+    RefusesInput told left reports (refusals.Fault fault)
+Plays summary told left reports before now endings.ReadFault =
+    RefusesInput told left reports refusals.ReadFault
+Plays summary told left reports before now (endings.NoMemory wants.Step) =
+    PlaysInput summary told left reports before now (endings.NoMemory wants.Step)
 Plays summary told left reports before now (endings.NoMemory wants.Making) = reports ≡ []
 Plays summary told left reports before now _ = ⊥
 
 -- a board was run by threads: as the headline of a run says if all is printed and after a fault of
 -- the output, and else until a log was full
-abbrev pub RunsAs : BoardSeen → Bool → List LineReport → Option (List ℕ) → Option (List ℕ) → Ending → Type 0
+abbrev pub RunsAs : BoardSeen → Bool → List LineReport → Option (List ℕ) → Option (List ℕ) → Ending
+    → Type 0
 RunsAs b summary reports before now endings.Done = RunsBoard b summary reports before now runs.Done
-RunsAs b summary reports before now endings.WriteFault = RunsBoard b summary reports before now runs.WriteFault
-RunsAs b summary reports before now (endings.LogFull line len) = RunsBoard b summary reports before now (runs.LogFull line len)
+RunsAs b summary reports before now endings.WriteFault =
+    RunsBoard b summary reports before now runs.WriteFault
+RunsAs b summary reports before now (endings.LogFull line len) =
+    RunsBoard b summary reports before now (runs.LogFull line len)
 RunsAs b summary reports before now (endings.NoMemory wanted) = reports ≡ []
 RunsAs b summary reports before now _ = ⊥
 
@@ -76,12 +92,18 @@ pub record RunsInput (summary : Bool) (told left : Option (List ℕ)) (reports :
   pub ran : RunsAs board summary reports before now ending
 
 -- `run`: the board is run; or the source gave none; out of memory is free
-abbrev pub Runs : Bool → Option (List ℕ) → Option (List ℕ) → List LineReport → Option (List ℕ) → Option (List ℕ) → Ending → Type 0
-Runs summary told left reports before now endings.Done = RunsInput summary told left reports before now endings.Done
-Runs summary told left reports before now endings.WriteFault = RunsInput summary told left reports before now endings.WriteFault
-Runs summary told left reports before now (endings.LogFull line len) = RunsInput summary told left reports before now (endings.LogFull line len)
-Runs summary told left reports before now (endings.Board fault) = RefusesInput told left reports (refusals.Fault fault)
-Runs summary told left reports before now endings.ReadFault = RefusesInput told left reports refusals.ReadFault
+abbrev pub Runs : Bool → Option (List ℕ) → Option (List ℕ) → List LineReport → Option (List ℕ)
+    → Option (List ℕ) → Ending → Type 0
+Runs summary told left reports before now endings.Done =
+    RunsInput summary told left reports before now endings.Done
+Runs summary told left reports before now endings.WriteFault =
+    RunsInput summary told left reports before now endings.WriteFault
+Runs summary told left reports before now (endings.LogFull line len) =
+    RunsInput summary told left reports before now (endings.LogFull line len)
+Runs summary told left reports before now (endings.Board fault) =
+    RefusesInput told left reports (refusals.Fault fault)
+Runs summary told left reports before now endings.ReadFault =
+    RefusesInput told left reports refusals.ReadFault
 Runs summary told left reports before now (endings.NoMemory wanted) = reports ≡ []
 Runs summary told left reports before now _ = ⊥
 
@@ -93,13 +115,20 @@ pub record ChecksInput (told left : Option (List ℕ)) (reports : List LineRepor
 
 -- `check`: the log of the input is lawful; or unlawful, or malformed, as is said; or the input is
 -- refused
-abbrev pub Checks : Option (List ℕ) → Option (List ℕ) → List LineReport → Option (List ℕ) → Option (List ℕ) → Ending → Type 0
-Checks told left reports before now endings.Done = ChecksInput told left reports before now (checks.Answered answers.Lawful)
-Checks told left reports before now (endings.Unlawful line entry) = ChecksInput told left reports before now (checks.Answered (answers.Unlawful line entry))
-Checks told left reports before now (endings.Malformed row) = ChecksInput told left reports before now (checks.Answered (answers.Malformed row))
-Checks told left reports before now endings.WriteFault = ChecksInput told left reports before now checks.WriteFault
-Checks told left reports before now (endings.Board fault) = ChecksInput told left reports before now (checks.Fault fault)
-Checks told left reports before now endings.ReadFault = ChecksInput told left reports before now checks.ReadFault
+abbrev pub Checks : Option (List ℕ) → Option (List ℕ) → List LineReport → Option (List ℕ)
+    → Option (List ℕ) → Ending → Type 0
+Checks told left reports before now endings.Done =
+    ChecksInput told left reports before now (checks.Answered answers.Lawful)
+Checks told left reports before now (endings.Unlawful line entry) =
+    ChecksInput told left reports before now (checks.Answered (answers.Unlawful line entry))
+Checks told left reports before now (endings.Malformed row) =
+    ChecksInput told left reports before now (checks.Answered (answers.Malformed row))
+Checks told left reports before now endings.WriteFault =
+    ChecksInput told left reports before now checks.WriteFault
+Checks told left reports before now (endings.Board fault) =
+    ChecksInput told left reports before now (checks.Fault fault)
+Checks told left reports before now endings.ReadFault =
+    ChecksInput told left reports before now checks.ReadFault
 Checks told left reports before now (endings.NoMemory wants.Making) = reports ≡ []
 Checks told left reports before now _ = ⊥
 

@@ -32,17 +32,20 @@ status_of (endings.NoMemory wanted) = 7
 
 -- where a text has its fault, and which
 abbrev pub fault_row : BoardFault → List ℕ
-fault_row fault = codes "board: line " ++ decimal fault.at ++ codes ": " ++ fault_text fault.kind ++ codes "\n"
+fault_row fault =
+    codes "board: line " ++ decimal fault.at ++ codes ": " ++ fault_text fault.kind ++ codes "\n"
 
 -- whose log is full, and how many entries it has
 abbrev pub full_row : LineNo → ℕ → List ℕ
-full_row line len = codes "log full: line " ++ decimal line.0 ++ codes " at " ++ decimal len ++ codes " entries\n"
+full_row line len =
+    codes "log full: line " ++ decimal line.0 ++ codes " at " ++ decimal len ++ codes " entries\n"
 
 abbrev pub error_text : Ending → List ℕ
 error_text endings.Done = []
 error_text (endings.Unlawful line entry) = []
 error_text (endings.Malformed row) = []
-error_text endings.Usage = codes "usage: genirq run [--summary] | play [--summary] | check | gen N\n"
+error_text endings.Usage =
+    codes "usage: genirq run [--summary] | play [--summary] | check | gen N\n"
 error_text (endings.Board fault) = fault_row fault
 error_text endings.ReadFault = codes "read fault\n"
 error_text endings.WriteFault = codes "write fault\n"
@@ -95,8 +98,8 @@ abbrev pub is_printing : Ending → Bool
 is_printing endings.WriteFault = true
 is_printing ending = is_printed ending
 
--- The error sink gained the row, has handed it on and keeps nothing back; or its count of faults rose, and it gained a
--- beginning of the row.
+-- The error sink gained the row, has handed it on and keeps nothing back; or its count of faults
+-- rose, and it gained a beginning of the row.
 pub record Tells (row : List ℕ) (written_before written_now handed_on_now : Option (List ℕ)) (kept_now : List ℕ) (faults_before faults_now : ℕ) : Type 0 where
   pub end : WriteEnd
   pub content : WritesAll written_before written_now row end

@@ -20,7 +20,8 @@ is_read_fault _ = false
 -- byte past the longest text
 abbrev pub ReadsBoard : Option (List ℕ) → Option (List ℕ) → Result BoardSeen InputRefused → Type 0
 ReadsBoard (Some bytes) now (Ok board) = (board_of_text bytes ≡ Ok board) × (now ≡ Some [])
-ReadsBoard (Some bytes) now (Err (refusals.Fault fault)) = (board_of_text bytes ≡ Err fault) × (now ≡ Some (left_after bytes))
+ReadsBoard (Some bytes) now (Err (refusals.Fault fault)) =
+    (board_of_text bytes ≡ Err fault) × (now ≡ Some (left_after bytes))
 ReadsBoard _ _ _ = Unit {0}
 
 -- the board is stated by a text, which is what the source told

@@ -1,8 +1,9 @@
 //! Calls of the program by hand.
 
-/// Calls and what comes of each. A call begins with a row `$ WORDS: ` and what it shows. The rows of its input are set
-/// off by `> `, that on the error sink by `! `, and all others are those of the output. The last row has the status and
-/// how many entries the reports have together, with a dash where there are no reports.
+/// Calls and what comes of each. A call begins with a row `$ WORDS: ` and what it shows. The rows
+/// of its input are set off by `> `, that on the error sink by `! `, and all others are those of
+/// the output. The last row has the status and how many entries the reports have together, with a
+/// dash where there are no reports.
 pub(crate) const CALLS: &str = "\
 $ play: nothing is declared on the line
 > board 1
@@ -860,8 +861,8 @@ enable 12
 ask 14
 ";
 
-/// What its play prints of its lines 2 and 6. The first edge of line 6 is taken by processor 0, in whose take the waiting
-/// move is made, and the second by processor 3.
+/// What its play prints of its lines 2 and 6. The first edge of line 6 is taken by processor 0, in
+/// whose take the waiting move is made, and the second by processor 3.
 pub(crate) const OF_TWO_LINES: &str = "\
 2 d1 request 2 - linked started no
 2 d1 ask 2

@@ -14,9 +14,11 @@ use irq_run::RunEnd;
 pub enum Ending {
     /// The work was done, and all of it is printed; a log that was checked is lawful.
     Done,
-    /// The log that was checked isn't lawful: this entry of this line, counted from 1, is the first that wasn't due.
+    /// The log that was checked isn't lawful: this entry of this line, counted from 1, is the first
+    /// that wasn't due.
     Unlawful { line: LineNo, entry: u32 },
-    /// The log that was checked can't be read: this row, counted from 1, is the first malformed one.
+    /// The log that was checked can't be read: this row, counted from 1, is the first malformed
+    /// one.
     Malformed { row: u32 },
     /// The words of the command line are none of the forms.
     Usage,

@@ -23,7 +23,8 @@ pub enum InputRefused {
     NoMemory,
 }
 
-/// Reads the source to its end, or one byte past the longest text, and gives the board that the bytes state.
+/// Reads the source to its end, or one byte past the longest text, and gives the board that the
+/// bytes state.
 pub fn read_input<S: Source>(alloc: Global, src: &mut S) -> Result<Board, InputRefused>
     ensures content { ReadsBoard (S.left src.old) (S.left src.new) result }
     ensures stated { IfOk result (λ board. IsStated (S.left src.old) board) }

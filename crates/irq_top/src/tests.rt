@@ -37,8 +37,8 @@ const CUTS: [usize; 11] = [0, 22, 57, 68, 90, 103, 127, 153, 172, 187, 200];
 
 const USAGE: &str = "usage: genirq run [--summary] | play [--summary] | check | gen N\n";
 
-/// The sizes of the ends, and the numbers of the read, write and flush of the output, and of the write of the error
-/// row, that fail, counted from 1; 0 where none does.
+/// The sizes of the ends, and the numbers of the read, write and flush of the output, and of the
+/// write of the error row, that fail, counted from 1; 0 where none does.
 #[derive(Clone, Copy)]
 struct Ends {
     piece: usize,
@@ -158,7 +158,8 @@ impl Case {
         }
     }
 
-    /// Whether the call comes to what is written, and ends so; and where a play is printed, whether its log is lawful.
+    /// Whether the call comes to what is written, and ends so; and where a play is printed, whether
+    /// its log is lawful.
     fn is_met<R: Threads + Wait + Sync>(
         &self,
         rt: &R,
@@ -376,8 +377,8 @@ fn pieces_and_failing_reads(rt: HostRuntime) -> Result<(), Fail> {
     Ok(())
 }
 
-/// The last fault is that of the flush. At the third write the row on the error sink fails too; at last the sink is
-/// full.
+/// The last fault is that of the flush. At the third write the row on the error sink fails too; at
+/// last the sink is full.
 #[test]
 fn failing_writes(rt: HostRuntime) -> Result<(), Fail> {
     let alloc = rt.alloc();

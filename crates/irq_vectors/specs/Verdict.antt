@@ -10,9 +10,11 @@ use Rattle.irq_vectors.specs.declared.judging.Verdict.TheVariants as verdicts
 pub record IsFirstUndue (def : LineDef) (entries : List Entry) (number : ℕ) : Type 0 where
   pub counted_from_one : 1 ≤ number
   pub lawful_before : IsLegal def (take (number - 1) entries)
-  pub undue : (e : Entry) × (slice_get entries (number - 1) ≡ Some e) × ¬ IsDue def e (reverse (take (number - 1) entries))
+  pub undue : (e : Entry) × (slice_get entries (number - 1) ≡ Some e)
+      × ¬ IsDue def e (reverse (take (number - 1) entries))
 
--- lawful: each entry is due for its actor after those before it; unlawful: that entry is the first that isn't
+-- lawful: each entry is due for its actor after those before it; unlawful: that entry is the first
+-- that isn't
 abbrev pub IsVerdict : LineDef → List Entry → Verdict → Type 0
 IsVerdict def entries verdicts.Lawful = IsLegal def entries
 IsVerdict def entries (verdicts.Unlawful number) = IsFirstUndue def entries number

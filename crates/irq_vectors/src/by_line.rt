@@ -19,8 +19,9 @@ fn history_of(alloc: Global, entries: &[Entry]) -> Result<History, NoMemory>
     Ok(history)
 }
 
-/// Whether the entries of the line are lawful, or which is the first that isn't: the line takes the step of each
-/// entry's actor, with the answer of the device's handler where a run ends, and has to add that entry.
+/// Whether the entries of the line are lawful, or which is the first that isn't: the line takes the
+/// step of each entry's actor, with the answer of the device's handler where a run ends, and has to
+/// add that entry.
 ///
 /// # Errors
 ///

@@ -1,10 +1,11 @@
-//! Judges logs of single lines by the plain program of the due entry, and by a line beside it; and compares the line
-//! with the plain line in every order of a script.
+//! Judges logs of single lines by the plain program of the due entry, and by a line beside it; and
+//! compares the line with the plain line in every order of a script.
 //!
-//! Standard input has the name of a file a row. For each, standard output gets a row with the name and the
-//! verdict: `lawful`, or `unlawful N`, where entry N, counted from 1, is the first that isn't due. Where the line
-//! tells another verdict than the plain program, or none can be made, the program says so and ends. For a row
-//! `orders` and a name, it gets the name and whether the two lines are the same in every order.
+//! Standard input has the name of a file a row. For each, standard output gets a row with the name
+//! and the verdict: `lawful`, or `unlawful N`, where entry N, counted from 1, is the first that
+//! isn't due. Where the line tells another verdict than the plain program, or none can be made, the
+//! program says so and ends. For a row `orders` and a name, it gets the name and whether the two
+//! lines are the same in every order.
 #![tactic(auto)]
 
 mod by_line;

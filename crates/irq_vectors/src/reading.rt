@@ -1,8 +1,9 @@
 //! Reads the log of a line from the text of its file.
 //!
-//! The first row, the file's own verdict, is left unread. The second has the line's definition as pairs of a
-//! name and a value. A row `device DEV KIND` for each device and a row `call DRIVER CALL ..` for each call
-//! follow, then a row `entries`, and then a row for each entry, with the line's number first.
+//! The first row, the file's own verdict, is left unread. The second has the line's definition as
+//! pairs of a name and a value. A row `device DEV KIND` for each device and a row `call DRIVER CALL
+//! ..` for each call follow, then a row `entries`, and then a row for each entry, with the line's
+//! number first.
 ghost use Rattle.std.specs.Prelude.{◌≤◌, length, vec_len};
 
 use anyhow::{Context, Result, bail, ensure};
@@ -34,7 +35,8 @@ pub struct LineLog {
 ///
 /// # Errors
 ///
-/// Where a row is none of the format, or the line is larger than what is judged, and where memory is refused.
+/// Where a row is none of the format, or the line is larger than what is judged, and where memory
+/// is refused.
 pub fn read_log(alloc: Global, text: &str) -> Result<LineLog> {
     let rows: Vec<&str> = text.lines().collect(alloc)?;
     let middle = rows

@@ -1,6 +1,7 @@
 //! The words of the command line, and what they ask for.
 //!
-//! Each command has one list of words, which `words_of` of `specs/` defines; `read_command` says whose the words are.
+//! Each command has one list of words, which `words_of` of `specs/` defines; `read_command` says
+//! whose the words are.
 #![tactic(auto)]
 
 ghost use Rattle.std.specs.Prelude.{◌∷◌, [], codes, MatchOption, map};

@@ -1,5 +1,5 @@
-//! Plays one line of a form again and again, so that a step can be timed: `line_bench FORM ASKS TIMES`. Prints how many
-//! entries one play has.
+//! Plays one line of a form again and again, so that a step can be timed: `line_bench FORM ASKS
+//! TIMES`. Prints how many entries one play has.
 #![tactic(auto)]
 
 mod forms;

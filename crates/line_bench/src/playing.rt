@@ -30,7 +30,8 @@ pub fn play_times(
     Ok(entries)
 }
 
-/// Makes steps as long as there is one: the lowest thread, else the flow, else the taker, else the driver.
+/// Makes steps as long as there is one: the lowest thread, else the flow, else the taker, else the
+/// driver.
 fn play<L: IrqLine>(line: &mut L, handlers: &Callbacks<ByKind>) -> Result<(), StepRefused> {
     for _ in 0..MOST_ENTRIES {
         let actor = next_actor(line);

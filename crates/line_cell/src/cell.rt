@@ -4,9 +4,9 @@ ghost use Rattle.irq_base.specs.Cell.{fresh_cell};
 
 use irq_base::{Chip, CpuNo, Trigger};
 
-/// The plain chip (ours): a controller's input that presents one line's signal to the processors, as the local
-/// interrupt controllers of `struct irq_chip` do (`include/linux/irq.h`). It has five properties, which never change,
-/// and five marks.
+/// The plain chip (ours): a controller's input that presents one line's signal to the processors,
+/// as the local interrupt controllers of `struct irq_chip` do (`include/linux/irq.h`). It has five
+/// properties, which never change, and five marks.
 #[derive(Drop)]
 pub struct Cell {
     trigger: Trigger,
@@ -24,11 +24,13 @@ pub struct Cell {
 }
 
 impl Cell {
-    /// A chip to which nothing has been done: its mask is closed, it isn't active, and it is aimed at processor 0.
+    /// A chip to which nothing has been done: its mask is closed, it isn't active, and it is aimed
+    /// at processor 0.
     ///
-    /// `trigger`: whether it presents edges or a level; `keeps`: an edge that comes while it is masked is stored;
-    /// `recalls`: masking takes back into store what was sent; `retriggers`: it can be made to send an edge again;
-    /// `serves`: a level that was accepted isn't presented again before its end of interrupt.
+    /// `trigger`: whether it presents edges or a level; `keeps`: an edge that comes while it is
+    /// masked is stored; `recalls`: masking takes back into store what was sent; `retriggers`: it
+    /// can be made to send an edge again; `serves`: a level that was accepted isn't presented again
+    /// before its end of interrupt.
     pub fn new(trigger: Trigger, keeps: bool, recalls: bool, retriggers: bool, serves: bool) -> Cell
         ensures cell { ⟦<Cell as Chip>⟧.cell result ≡ fresh_cell trigger keeps recalls retriggers serves }
         ensures active { ⟦<Cell as Chip>⟧.active result ≡ false }

@@ -16,5 +16,6 @@ links_next (Some e) = is_linked_request e
 
 -- with room for one more entry no step is refused for memory but one that links an action
 abbrev pub WantsMemory : LineSeen → Actor → Result Stepped StepRefused → Type 0
-WantsMemory old who (Err refusals.NoMemory) = 1 ≤ old.spare → links_next (next old.def old.entries who) ≡ true
+WantsMemory old who (Err refusals.NoMemory) =
+    1 ≤ old.spare → links_next (next old.def old.entries who) ≡ true
 WantsMemory old who _ = Unit {0}

@@ -24,7 +24,8 @@ use line_state::LineState;
 use std::alloc::Global;
 use std::marker::Model;
 
-/// A definition, a history, and what that comes to: the state of the line and the places of its drivers.
+/// A definition, a history, and what that comes to: the state of the line and the places of its
+/// drivers.
 #[derive(Drop)]
 pub struct Line<C: Chip> {
     def: LineDef,
@@ -70,8 +71,8 @@ impl<C: Chip + Drop> Line<C> {
 }
 
 impl<C: Chip> Line<C> {
-    /// The chips. Their cell is the one that the entries drive, they are active exactly while the line is up, and they
-    /// are aimed at the line's target.
+    /// The chips. Their cell is the one that the entries drive, they are active exactly while the
+    /// line is up, and they are aimed at the line's target.
     pub fn chip(&self) -> &C
         ensures cell { C.cell result.now ≡ cell_after self.now.def (reverse self.now.entries) }
         ensures active { C.active result.now ≡ is_up (reverse self.now.entries) }

@@ -9,7 +9,8 @@ use irq_line::MakesLine;
 use line_cell::Cell;
 use std::alloc::Global;
 
-/// Makes a line of every valid definition, whatever its virq, over a plain cell that the definition describes.
+/// Makes a line of every valid definition, whatever its virq, over a plain cell that the definition
+/// describes.
 #[derive(Clone, Copy)]
 pub struct MakesCellLine;
 

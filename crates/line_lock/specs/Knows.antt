@@ -57,13 +57,15 @@ pub record Meets (line : LineNo) (old other new : Known) : Type 0 where
   -- what is seen of the other's actor is what the other knew as its own
   pub own : placed_of line other.actor new.seen ≡ other.mine
   -- of those who were met before, nothing new is seen
-  pub settled : (who : Actor) → is_among who old.given ≡ true → is_among who old.out ≡ false → placed line who new.seen ≡ placed line who old.seen
+  pub settled : (who : Actor) → is_among who old.given ≡ true → is_among who old.out ≡ false
+      → placed line who new.seen ≡ placed line who old.seen
 
 -- What holds of all that a pass ever knows.
 pub record IsKnown (line : LineNo) (k : Known) : Type 0 where
   -- its own entries are those of its actor in what it has seen; a first pass has none
   pub mine : k.mine ≡ placed_of line k.actor k.seen
   -- a first pass has seen no entry of an actor whom it gave no pass
-  pub strangers : (who : Actor) → k.actor ≡ None → is_among who k.given ≡ false → placed line who k.seen ≡ []
+  pub strangers : (who : Actor) → k.actor ≡ None → is_among who k.given ≡ false
+      → placed line who k.seen ≡ []
   -- who is out was given
   pub given : (who : Actor) → is_among who k.out ≡ true → is_among who k.given ≡ true

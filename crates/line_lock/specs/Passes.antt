@@ -17,8 +17,8 @@ pub record LockSeen : Type 0 where
   pub table : TableId
   pub def : LineDef
 
--- What is seen of a pass: of which lock it is, the definition, what it knows, and, while it has the turn, the history
--- that it holds.
+-- What is seen of a pass: of which lock it is, the definition, what it knows, and, while it has the
+-- turn, the history that it holds.
 pub record PassSeen : Type 0 where
   pub table : TableId
   pub def : LineDef
@@ -31,7 +31,8 @@ IsPassOf lock pass = (pass.table ≡ lock.table) × (pass.def ≡ lock.def)
 
 -- the history has one entry more than what was held, by the actor
 abbrev pub IsMore : LineNo → Option Actor → List Entry → List Entry → Type 0
-IsMore line who held history = (e : Entry) × (history ≡ held ++ e ∷ []) × (who ≡ Some (actor_of line e))
+IsMore line who held history =
+    (e : Entry) × (history ≡ held ++ e ∷ []) × (who ≡ Some (actor_of line e))
 
 -- the history is the one that was held, or has one entry more, by the actor
 abbrev pub Extends : LineNo → Option Actor → List Entry → List Entry → Type 0

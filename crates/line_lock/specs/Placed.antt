@@ -21,9 +21,11 @@ is_by line who e = same_actor who (actor_of line e)
 -- the entries of the actor in a list whose first entry has the place `at`
 abbrev pub placed_from : LineNo → Actor → ℕ → List Entry → List Placed
 placed_from line who at [] = []
-placed_from line who at (e ∷ rest) = cond (is_by line who e) (record { place = at; entry = e } ∷ placed_from line who (suc at) rest) (placed_from line who (suc at) rest)
+placed_from line who at (e ∷ rest) = cond (is_by line who e) (record { place = at; entry = e }
+    ∷ placed_from line who (suc at) rest) (placed_from line who (suc at) rest)
 
--- the actor's entries in the history, the oldest first, each with its place: how many entries stand before it
+-- the actor's entries in the history, the oldest first, each with its place: how many entries stand
+-- before it
 abbrev pub placed : LineNo → Actor → List Entry → List Placed
 placed line who history = placed_from line who 0 history
 

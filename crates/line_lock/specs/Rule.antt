@@ -1,5 +1,5 @@
--- The rule of the counted lock: what holds between any two steps of its two words, the turn and the count, of the slot
--- with the value, and of all passes.
+-- The rule of the counted lock: what holds between any two steps of its two words, the turn and the
+-- count, of the slot with the value, and of all passes.
 use Rattle.std.specs.Prelude.{◌≡◌, ◌≢◌, ◌⊎◌, ℕ, true, false, IfSome, Option, Some, None, List, [], ◌∷◌, length}
 use mathlib.Core.Option.{some, none}
 use lib.ListN.{get_elem?}
@@ -35,7 +35,8 @@ pub record IsFirst (line : LineNo) (v : View) : Type 0 where
 
 -- the first pass, at first
 abbrev pub first_view : LineDef → View
-first_view key = record { def = key; knows = nothing_known; turn = false; held = []; spent = false; last = None }
+first_view key =
+    record { def = key; knows = nothing_known; turn = false; held = []; spent = false; last = None }
 
 -- the first pass after it gave one to the actor, and the one that it gave
 abbrev pub left_view : View → Actor → View
@@ -54,21 +55,30 @@ spent_view = record { def = record { line = record { 0 = 0 }; flow = flows.Edge;
 
 -- The passes fit the history, and each actor has one pass.
 pub record Passes (key : LineDef) (history : List Entry) (views : List View) : Type 0 where
-  pub seats : (id : ℕ) (v : View) → get_elem? views id ≡ some v → v.spent ≡ false → Fits key history v
+  pub seats : (id : ℕ) (v : View) → get_elem? views id ≡ some v → v.spent ≡ false
+      → Fits key history v
   -- there is one first pass
   pub first : View
   pub at : get_elem? views 0 ≡ some first
   pub is_first : IsFirst key.line first
   -- each other pass that is still there has an actor, which is out
-  pub actors : (id : ℕ) (v : View) → get_elem? views id ≡ some v → v.spent ≡ false → id ≢ 0 → (who : Actor) × (v.knows.actor ≡ Some who) × (is_among who first.knows.out ≡ true)
+  pub actors : (id : ℕ) (v : View) → get_elem? views id ≡ some v → v.spent ≡ false → id ≢ 0
+      → (who : Actor) × (v.knows.actor ≡ Some who) × (is_among who first.knows.out ≡ true)
   -- each actor that is out has such a pass
-  pub back : (who : Actor) → is_among who first.knows.out ≡ true → (id : ℕ) × (v : View) × (get_elem? views id ≡ some v) × (v.spent ≡ false) × (v.knows.actor ≡ Some who)
+  pub back : (who : Actor) → is_among who first.knows.out ≡ true
+      → (id : ℕ) × (v : View) × (get_elem? views id ≡ some v) × (v.spent ≡ false)
+      × (v.knows.actor ≡ Some who)
   -- and one alone
-  pub differ : (i j : ℕ) (v w : View) (who : Actor) → get_elem? views i ≡ some v → get_elem? views j ≡ some w → v.spent ≡ false → w.spent ≡ false → v.knows.actor ≡ Some who → w.knows.actor ≡ Some who → i ≡ j
+  pub differ : (i j : ℕ) (v w : View) (who : Actor) → get_elem? views i ≡ some v
+      → get_elem? views j ≡ some w → v.spent ≡ false → w.spent ≡ false → v.knows.actor ≡ Some who
+      → w.knows.actor ≡ Some who → i ≡ j
   -- the history has no entry of an actor that wasn't given
-  pub strangers : (who : Actor) → is_among who first.knows.given ≡ false → placed key.line who history ≡ []
+  pub strangers : (who : Actor) → is_among who first.knows.given ≡ false
+      → placed key.line who history ≡ []
   -- the first pass has seen each entry of an actor that was given and isn't out
-  pub settled : (who : Actor) → is_among who first.knows.given ≡ true → is_among who first.knows.out ≡ false → placed key.line who history ≡ placed key.line who first.knows.seen
+  pub settled : (who : Actor) → is_among who first.knows.given ≡ true
+      → is_among who first.knows.out ≡ false
+      → placed key.line who history ≡ placed key.line who first.knows.seen
 
 module _ {T : Type 0} (def_of : T → LineDef) (entries_of : T → List Entry) where
   -- Nobody has the turn: the word is 0, and the value is at home.

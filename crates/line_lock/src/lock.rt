@@ -15,8 +15,8 @@ use std::alloc::{AllocFailed, Global};
 use std::marker::Model;
 use std::sync::Wait;
 
-/// Keeps one value, which threads take out and leave again, one at a time. Its count is the length of the value's
-/// history. Contracts see the definition of the value, which never changes.
+/// Keeps one value, which threads take out and leave again, one at a time. Its count is the length
+/// of the value's history. Contracts see the definition of the value, which never changes.
 #[derive(Drop)]
 pub struct CountedLock<T: Kept> {
     table: Table<Option<T>, View, LineDef, Counted<T>, Global>,
@@ -75,7 +75,8 @@ impl<T: Kept> CountedLock<T> {
         }
     }
 
-    /// Waits for the turn, and takes the value out. Until the pass leaves it again, no other pass has the turn.
+    /// Waits for the turn, and takes the value out. Until the pass leaves it again, no other pass
+    /// has the turn.
     pub fn hold<R: Wait>(&self, rt: &R, pass: &mut Pass<T>) -> T
         requires pass { IsPassOf self.now pass.old }
         requires idle { pass.old.turn ≡ false }

@@ -11,7 +11,8 @@ use std::marker::Model;
 /// history was when it last looked, and where its own entries stand in it. It can be neither copied
 /// nor cloned; when it is dropped, its actor is lost.
 ///
-/// A first pass has no actor: it gives passes to actors, and meets them again. The actors of two passes differ.
+/// A first pass has no actor: it gives passes to actors, and meets them again. The actors of two
+/// passes differ.
 #[derive(Drop)]
 pub struct Pass<T: Kept> {
     pub(crate) seat: Seated<T>,
@@ -46,7 +47,8 @@ impl<T: Kept> Pass<T> {
         self.front
     }
 
-    /// What holds of every pass at every moment: its own entries are exactly those of its actor in what it has seen.
+    /// What holds of every pass at every moment: its own entries are exactly those of its actor in
+    /// what it has seen.
     pub fn is_known(&self)
         ensures { IsKnown self.now.def.line self.now.knows }
     {

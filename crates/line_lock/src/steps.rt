@@ -259,8 +259,8 @@ pub fn wait_turn<T: Kept, R: Wait>(rt: &R, lock: &Words<T>, seat: &mut Seated<T>
     unreachable!()
 }
 
-/// Puts the value back, which has one entry more than what was held or none, and gives the turn back. `more`: whether
-/// it has one.
+/// Puts the value back, which has one entry more than what was held or none, and gives the turn
+/// back. `more`: whether it has one.
 pub fn put_back<T: Kept>(lock: &Words<T>, seat: &mut Seated<T>, value: T, more: bool)
     requires table { (seat.old.table_id ≡ lock.now.table_id) × (lock.now.table_id.words ≡ 2) }
     requires carried { seat.old.me.1 ≡ (0, None) ∷ [] }

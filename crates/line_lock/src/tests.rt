@@ -96,8 +96,8 @@ fn ask_often<R: Wait>(
     pass
 }
 
-/// Each pass has seen the history as it was when it last left the value, and a hold in which nothing is added counts
-/// nothing.
+/// Each pass has seen the history as it was when it last left the value, and a hold in which
+/// nothing is added counts nothing.
 #[test]
 fn a_pass_sees_what_stands_when_it_leaves(rt: HostRuntime) -> Result<(), Fail> {
     let Ok((lock, mut first)) = CountedLock::new(rt.alloc(), Log::new(rt.alloc())?) else {

@@ -10,7 +10,8 @@ pub struct Placed {
 
 /// What a pass knows.
 pub struct Known {
-    /// The history, as it was when this pass, or one that it was told of, last looked: a beginning of what it is now.
+    /// The history, as it was when this pass, or one that it was told of, last looked: a beginning
+    /// of what it is now.
     pub seen: LinkedList<Entry>,
     /// The entries of its actor.
     pub mine: LinkedList<Placed>,

@@ -27,11 +27,13 @@ linked_flags past = flags_by (linking_flags past) (linked past)
 
 -- what an entry makes of the actions
 abbrev pub actions_after : Entry → List (DevNo × Action) → List (DevNo × Action)
-actions_after (entries.Request driver dev flags links.Linked opened) t = t ++ (dev, action_by flags t) ∷ []
+actions_after (entries.Request driver dev flags links.Linked opened) t =
+    t ++ (dev, action_by flags t) ∷ []
 actions_after (entries.Unlink driver dev (unlinks.Unlinked last)) t = remove_entry (same_dev dev) t
 actions_after _ t = t
 
--- the linked devices with their actions: a one-shot one got the lowest thread bit that none had as it was linked
+-- the linked devices with their actions: a one-shot one got the lowest thread bit that none had as
+-- it was linked
 abbrev pub actions_of : List Entry → List (DevNo × Action)
 actions_of [] = []
 actions_of (e ∷ past) = actions_after e (actions_of past)
@@ -44,7 +46,8 @@ list_of def past = record {
   rounds = count_of (begins_round def) past;
 }
 
--- a linked request adds its action, an unlink takes one out, a begin marks its device, and a round begins with none
+-- a linked request adds its action, an unlink takes one out, a begin marks its device, and a round
+-- begins with none
 abbrev pub list_after : LineDef → Entry → ListSeen → ListSeen
 list_after def (entries.Request driver dev flags answer opened) l = after_link answer dev flags l
 list_after def (entries.Unlink driver dev (unlinks.Unlinked last)) l = after_unlink dev l

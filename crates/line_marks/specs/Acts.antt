@@ -39,8 +39,10 @@ moved s = record s { aim = after_move s.aim; aimed = aimed_by (after_move s.aim)
 
 -- the flow handler's beginning
 abbrev pub entered : LineDef → FlowKind → TakeAnswer → CpuNo → StateSeen → StateSeen
-entered def flows.Level answer cpu s = record s { desc = level_desc answer cpu s.desc; cell = level_cell s.cell }
-entered def flows.Edge answer cpu s = record s { desc = edge_desc answer cpu s.desc; cell = edge_cell answer s.cell }
+entered def flows.Level answer cpu s =
+    record s { desc = level_desc answer cpu s.desc; cell = level_cell s.cell }
+entered def flows.Edge answer cpu s =
+    record s { desc = edge_desc answer cpu s.desc; cell = edge_cell answer s.cell }
 entered def flows.Eoi answer cpu s = record s { desc = eoi_desc def.trigger answer cpu s.desc; cell = eoi_cell def.trigger s.desc.oneshot answer s.cell }
 
 -- a round begins
@@ -55,7 +57,9 @@ handling_from _ s = s
 
 -- the level after a run that served so many
 abbrev pub lowered : LineDef → ℕ → StateSeen → StateSeen
-lowered def n s = record s { cell = if is_level_line def && nat_lt 0 n then after_high (high_in s.asks) s.cell else s.cell }
+lowered def n s = record s {
+  cell = if is_level_line def && nat_lt 0 n then after_high (high_in s.asks) s.cell else s.cell;
+}
 
 -- ---- ends
 
@@ -72,8 +76,8 @@ abbrev pub killed_by : Note → StateSeen → StateSeen
 killed_by notes.Killed s = record s { desc = killed s.desc; cell = masked_if s.desc.unlazy s.cell }
 killed_by _ s = s
 
--- the flow handler's end: what it does, and what it makes of the descriptor and of the cell. `held`: some thread's bit
--- stands
+-- the flow handler's end: what it does, and what it makes of the descriptor and of the cell.
+-- `held`: some thread's bit stands
 abbrev pub left_by : LineDef → FlowKind → Bool → DescSeen → Left
 left_by def flows.Level held d = level_left held d
 left_by def flows.Edge held d = edge_left d
@@ -81,7 +85,8 @@ left_by def flows.Eoi held d = eoi_left def.trigger held d
 
 abbrev pub left_at : LineDef → FlowKind → Bool → StateSeen → StateSeen
 left_at def flows.Level held s = record s { desc = level_ended held s.desc; cell = unmasked_if (level_left held s.desc).unmask s.cell }
-left_at def flows.Edge held s = record s { desc = edge_ended s.desc; cell = unmasked_if (edge_left s.desc).unmask s.cell }
+left_at def flows.Edge held s =
+    record s { desc = edge_ended s.desc; cell = unmasked_if (edge_left s.desc).unmask s.cell }
 left_at def flows.Eoi held s =
     record s { desc = eoi_ended (eoi_left def.trigger held s.desc) s.desc; cell = eoi_ended_cell (eoi_left def.trigger held s.desc) s.cell }
 
@@ -91,7 +96,8 @@ gone_on def again s = if again && not (is_eoi_flow def.flow) then round_begun s 
 
 -- ---- requests and frees
 
--- the action is linked: its list, what the descriptor takes over, and the window of the rule begins anew
+-- the action is linked: its list, what the descriptor takes over, and the window of the rule begins
+-- anew
 abbrev pub linked_at : DevNo → Flags → StateSeen → StateSeen
 linked_at d flags s = record s {
   list = after_link links.Linked d flags s.list;
@@ -108,7 +114,8 @@ disabled_if first s = if first then record s { desc = record s.desc { depth = 1 
 
 -- what the request makes of the depth
 abbrev pub opened_to : Bool → Opened → StateSeen → StateSeen
-opened_to first (opens.Started resend) s = record s { desc = started_up resend s.desc; cell = cell_started resend s.cell }
+opened_to first (opens.Started resend) s =
+    record s { desc = started_up resend s.desc; cell = cell_started resend s.cell }
 opened_to first opens.Lowered s = record s { desc = record s.desc { depth = s.desc.depth - 1 } }
 opened_to first opens.No s = disabled_if first s
 opened_to first opens.Unbalanced s = s

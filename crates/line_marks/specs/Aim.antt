@@ -1,4 +1,5 @@
--- The affinity of a line and what its chip is aimed at, read off its past, and what an entry makes of them.
+-- The affinity of a line and what its chip is aimed at, read off its past, and what an entry makes
+-- of them.
 use Rattle.std.specs.Prelude.{ℕ, Option, Some, None, List, [], ◌∷◌}
 use Rattle.irq_base.specs.declared.entries.AffinityAnswer.TheVariants as moves
 use Rattle.irq_base.specs.declared.entries.Entry.{Entry}
@@ -8,7 +9,8 @@ use Rattle.irq_base.specs.declared.numbers.CpuNo.{CpuNo}
 use Rattle.irq_model.specs.Signal.{mask_in_force, target, lowest_in}
 use Rattle.affinity.specs.Seen.{AimSeen, after_set, after_move}
 
--- a mask that waits for the next take: the last that was to be put in force later, with no take and no change since
+-- a mask that waits for the next take: the last that was to be put in force later, with no take and
+-- no change since
 abbrev pub waiting_of : List Entry → Option ℕ
 waiting_of [] = None
 waiting_of (entries.Affinity driver mask moves.Later ∷ past) = Some mask
@@ -20,7 +22,8 @@ waiting_of (_ ∷ past) = waiting_of past
 abbrev pub aim_of : LineDef → List Entry → AimSeen
 aim_of def past = record { cpus = def.cpus; later = def.later; mask = mask_in_force def past; waiting = waiting_of past }
 
--- a change is put in force or waits; a take puts what waits in force (`irq_move_masked_irq`, `kernel/irq/migration.c`)
+-- a change is put in force or waits; a take puts what waits in force (`irq_move_masked_irq`,
+-- `kernel/irq/migration.c`)
 abbrev pub aim_after : Entry → AimSeen → AimSeen
 aim_after (entries.Affinity driver mask answer) a = after_set answer mask a
 aim_after (entries.Take cpu way answer) a = after_move a

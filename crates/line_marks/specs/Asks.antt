@@ -45,7 +45,10 @@ is_threaded _ = false
 abbrev pub asks_after : List (DevNo × Kind) → Entry → List (DevNo × AskRow) → List (DevNo × AskRow)
 asks_after kinds (entries.Ask driver dev) t = change asked t dev
 asks_after kinds (entries.Begin cpu dev) t = change (called (is_direct (kind_at kinds dev))) t dev
-asks_after kinds (entries.Return cpu dev answer n) t = change (served (is_direct (kind_at kinds dev))) t dev
-asks_after kinds (entries.ThreadBegin dev) t = change (begun (is_threaded (kind_at kinds dev))) t dev
-asks_after kinds (entries.ThreadReturn dev n) t = change (served (is_threaded (kind_at kinds dev))) t dev
+asks_after kinds (entries.Return cpu dev answer n) t =
+    change (served (is_direct (kind_at kinds dev))) t dev
+asks_after kinds (entries.ThreadBegin dev) t =
+    change (begun (is_threaded (kind_at kinds dev))) t dev
+asks_after kinds (entries.ThreadReturn dev n) t =
+    change (served (is_threaded (kind_at kinds dev))) t dev
 asks_after kinds _ t = t

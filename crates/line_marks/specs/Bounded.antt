@@ -7,7 +7,8 @@ use Rattle.ask_counts.specs.declared.rows.AskRow.{AskRow}
 use Rattle.line_marks.specs.Expected.{HasRounds, HasDepth}
 use Rattle.line_marks.specs.State.{StateSeen}
 
--- no count is above the number of entries, the depth not above it by more than the one of the beginning
+-- no count is above the number of entries, the depth not above it by more than the one of the
+-- beginning
 pub record IsFew (n : ℕ) (s : StateSeen) : Type 0 where
   pub depth : s.desc.depth ≤ n + 1
   pub rounds : s.list.rounds ≤ n

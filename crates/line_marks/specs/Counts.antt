@@ -1,4 +1,5 @@
--- The counts of the rule on spurious interrupts, read off a line's past, and what an entry makes of them.
+-- The counts of the rule on spurious interrupts, read off a line's past, and what an entry makes of
+-- them.
 use Rattle.std.specs.Prelude.{if◌then◌else◌, nat_lt, List}
 use Rattle.irq_base.specs.declared.entries.Entry.{Entry}
 use Rattle.irq_base.specs.declared.entries.Entry.TheVariants as entries

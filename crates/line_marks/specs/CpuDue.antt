@@ -47,7 +47,8 @@ abbrev pub end_with : CpuNo → Note → Left → Entry
 end_with c note left = entries.End c left.again left.unmask note
 
 abbrev pub end_by : LineDef → StateSeen → CpuNo → Entry
-end_by def s c = end_with c (note_by s) (left_by def def.flow (is_held s) (killed_if (note_by s) s.desc))
+end_by def s c =
+    end_with c (note_by s) (left_by def def.flow (is_held s) (killed_if (note_by s) s.desc))
 
 abbrev pub begin_or_end_by : LineDef → StateSeen → CpuNo → Option DevNo → Entry
 begin_or_end_by def s c None = end_by def s c
@@ -70,4 +71,5 @@ next_take_by s c =
     else (if s.desc.soft then Some (entries.Take c ways.Resend (take_by s)) else None))
 
 abbrev pub cpu_due : LineDef → StateSeen → CpuNo → Option Entry
-cpu_due def s c = if is_cpu c s.desc.flow then Some (in_flow_by def s c s.round.working) else next_take_by s c
+cpu_due def s c =
+    if is_cpu c s.desc.flow then Some (in_flow_by def s c s.round.working) else next_take_by s c

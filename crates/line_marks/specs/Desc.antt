@@ -30,11 +30,13 @@ desc_of def past = record {
 abbrev pub take_masks_with : LineDef → FlowKind → Bool → Entry → Bool
 take_masks_with def flows.Level oneshot e = is_take e
 take_masks_with def flows.Edge oneshot e = is_busy e || is_off e
-take_masks_with def flows.Eoi oneshot e = is_off e || (is_handle e && (is_level_line def && oneshot))
+take_masks_with def flows.Eoi oneshot e =
+    is_off e || (is_handle e && (is_level_line def && oneshot))
 
 -- such a take, a disable or a kill of an unlazy line, a last unlink
 abbrev pub masks_with : LineDef → DescSeen → Entry → Bool
-masks_with def d e = take_masks_with def def.flow d.oneshot e || (((is_disable e || is_kill e) && d.unlazy) || is_last_unlink e)
+masks_with def d e = take_masks_with def def.flow d.oneshot e
+    || (((is_disable e || is_kill e) && d.unlazy) || is_last_unlink e)
 
 -- the depth after the entry; `first`: nothing was linked before it
 abbrev pub depth_after : Bool → Entry → ℕ → ℕ
@@ -53,5 +55,7 @@ desc_after def first e d = record {
   oneshot = if is_linked_request e then (flags_in (Some e)).oneshot else d.oneshot;
   spurious = is_kill e || (not (is_linked_request e) && d.spurious);
   soft = is_soft_start e || (not (is_resend_take e) && d.soft);
-  flow = if is_handle e || (is_leave e || (is_again e && is_eoi_flow def.flow)) then cpu_of_handle (Some e) else d.flow;
+  flow =
+      if is_handle e || (is_leave e || (is_again e && is_eoi_flow def.flow))
+      then cpu_of_handle (Some e) else d.flow;
 }

@@ -24,14 +24,21 @@ use Rattle.line_marks.specs.State.{StateSeen}
 -- what a request that is linked makes of the depth
 abbrev pub opened_by : LineDef → Flags → StateSeen → Opened
 opened_by def flags s =
-    if is_bare s.list.actions then (if flags.noauto then opens.No else opens.Started (resend_by def.trigger s.desc s.cell))
-    else (if s.desc.spurious then opened_by_enable (enable_by (not (is_bare s.list.actions)) def.trigger s.desc s.cell) else opens.No)
+    if is_bare s.list.actions
+    then (if flags.noauto then opens.No
+    else opens.Started (resend_by def.trigger s.desc s.cell))
+    else (if s.desc.spurious
+    then opened_by_enable (enable_by (not (is_bare s.list.actions)) def.trigger s.desc s.cell)
+    else opens.No)
 
 abbrev pub request_to : LineDef → DriverNo → DevNo → Flags → StateSeen → LinkAnswer → Entry
-request_to def r d flags s links.Linked = entries.Request r d flags links.Linked (opened_by def flags s)
-request_to def r d flags s (links.Refused error) = entries.Request r d flags (links.Refused error) opens.No
+request_to def r d flags s links.Linked =
+    entries.Request r d flags links.Linked (opened_by def flags s)
+request_to def r d flags s (links.Refused error) =
+    entries.Request r d flags (links.Refused error) opens.No
 
--- what a call waits for: the flow's end, the rest of all threads, the rest of the device's thread, the mutex
+-- what a call waits for: the flow's end, the rest of all threads, the rest of the device's thread,
+-- the mutex
 abbrev pub clear_by : DriverNo → StateSeen → Option Entry
 clear_by r s = if is_some s.desc.flow then None else Some (entries.HardClear r)
 
@@ -43,17 +50,24 @@ freed_by r d s = if is_idle_at s.threads d then Some (entries.Freed r d) else No
 
 abbrev pub free_by : DriverNo → DevNo → ℕ → StateSeen → Option Entry
 free_by r d n s =
-    if n == 0 then (if is_some s.freeing then None else Some (entries.Unlink r d (unlink_by d s.list.actions)))
+    if n == 0
+    then (if is_some s.freeing then None
+    else Some (entries.Unlink r d (unlink_by d s.list.actions)))
     else (if n == 1 then clear_by r s else freed_by r d s)
 
 abbrev pub driver_due : LineDef → StateSeen → DriverNo → Option (Call × ℕ) → Option Entry
 driver_due def s r None = None
 driver_due def s r (Some (calls.Ask d, n)) = Some (entries.Ask r d)
-driver_due def s r (Some (calls.Request d flags, n)) = if is_some s.freeing then None else Some (request_to def r d flags s (answer_by (kind_at s.kinds d) flags s.list.actions))
+driver_due def s r (Some (calls.Request d flags, n)) =
+    if is_some s.freeing then None
+    else Some (request_to def r d flags s (answer_by (kind_at s.kinds d) flags s.list.actions))
 driver_due def s r (Some (calls.Free d, n)) = free_by r d n s
-driver_due def s r (Some (calls.Disable, n)) = if n == 0 then Some (entries.Disable r) else (if n == 1 then clear_by r s else synced_by r s)
+driver_due def s r (Some (calls.Disable, n)) =
+    if n == 0 then Some (entries.Disable r) else (if n == 1 then clear_by r s else synced_by r s)
 driver_due def s r (Some (calls.DisableNosync, n)) = Some (entries.Disable r)
-driver_due def s r (Some (calls.Enable, n)) = Some (entries.Enable r (enable_by (not (is_bare s.list.actions)) def.trigger s.desc s.cell))
+driver_due def s r (Some (calls.Enable, n)) =
+    Some (entries.Enable r (enable_by (not (is_bare s.list.actions)) def.trigger s.desc s.cell))
 driver_due def s r (Some (calls.Sync, n)) = if n == 0 then clear_by r s else synced_by r s
-driver_due def s r (Some (calls.Affinity mask, n)) = Some (entries.Affinity r mask (set_answer s.aim mask))
+driver_due def s r (Some (calls.Affinity mask, n)) =
+    Some (entries.Affinity r mask (set_answer s.aim mask))
 driver_due def s r (Some (calls.Moment at, n)) = Some (entries.Moment r at)

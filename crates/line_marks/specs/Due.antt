@@ -29,7 +29,9 @@ met_in (Some r) = r.met_by_thread
 -- on a one-shot line the run is finalized, once no flow is in progress
 abbrev pub after_return : StateSeen → DevNo → ThreadRow → Option Entry
 after_return s d r =
-    if s.desc.oneshot then (if is_some s.desc.flow then None else Some (entries.Finish d r.woken (finish_opens s r))) else Some (entries.Done d)
+    if s.desc.oneshot
+    then (if is_some s.desc.flow then None
+    else Some (entries.Finish d r.woken (finish_opens s r))) else Some (entries.Done d)
 
 abbrev pub due_at_stage : Stage → StateSeen → DevNo → ThreadRow → Option Entry
 due_at_stage stages.Idle s d r = if r.woken then Some (entries.ThreadBegin d) else None

@@ -1,5 +1,5 @@
--- What holds just before an entry that is due, and what its function asks for: its answers are those of the state, and
--- the counts have room.
+-- What holds just before an entry that is due, and what its function asks for: its answers are
+-- those of the state, and the counts have room.
 use Rattle.std.specs.Prelude.{◌≡◌, ◌<◌, ◌-◌, ◌^◌, true, false, not}
 use Rattle.irq_base.specs.declared.entries.Entry.{Entry}
 use Rattle.irq_base.specs.declared.entries.Entry.TheVariants as entries
@@ -32,7 +32,8 @@ HasDepth s = s.desc.depth < 2 ^ 32 - 1
 
 -- an enabled edge line on the fast-EOI flow is open
 abbrev pub IsOpen : LineDef → StateSeen → Type 0
-IsOpen def s = is_edge_line def ≡ true → is_eoi_flow def.flow ≡ true → s.desc.depth ≡ 0 → s.cell.masked ≡ false
+IsOpen def s =
+    is_edge_line def ≡ true → is_eoi_flow def.flow ≡ true → s.desc.depth ≡ 0 → s.cell.masked ≡ false
 
 -- what a request makes of the depth, by its answer
 abbrev pub opened_with : LineDef → Flags → StateSeen → LinkAnswer → Opened
@@ -47,9 +48,12 @@ IsExpected def (entries.End cpu again unmask note) s =
     × HasRounds s × HasDepth s × IsOpen def s
 IsExpected def (entries.ThreadReturn dev served) s = s.counts.counts.threads_handled < 2 ^ 32 - 1
 IsExpected def (entries.Disable driver) s = HasDepth s
-IsExpected def (entries.Enable driver answer) s = answer ≡ enable_by (not (is_bare s.list.actions)) def.trigger s.desc s.cell
+IsExpected def (entries.Enable driver answer) s =
+    answer ≡ enable_by (not (is_bare s.list.actions)) def.trigger s.desc s.cell
 IsExpected def (entries.Request driver dev flags answer opened) s =
-    (has dev s.list.actions ≡ false) × (answer ≡ link_answer_by (kind_at s.kinds dev) flags s.list.actions) × (opened ≡ opened_with def flags s answer)
+    (has dev s.list.actions ≡ false)
+    × (answer ≡ link_answer_by (kind_at s.kinds dev) flags s.list.actions)
+    × (opened ≡ opened_with def flags s answer)
 IsExpected def (entries.Unlink driver dev answer) s = answer ≡ unlink_by dev s.list.actions
 IsExpected def (entries.Affinity driver mask answer) s = answer ≡ set_answer s.aim mask
 IsExpected def _ s = Unit {0}

@@ -1,4 +1,5 @@
--- All that a line keeps of its history but the drivers' places, read off its past, and what an entry makes of it.
+-- All that a line keeps of its history but the drivers' places, read off its past, and what an
+-- entry makes of it.
 use Rattle.std.specs.Prelude.{◌≡◌, ℕ, Bool, false, ◌&&◌, if◌then◌else◌, nat_lt, Option, None, List}
 use Rattle.irq_base.specs.Cell.{Cell, fresh_cell, after_edge, after_high}
 use Rattle.irq_base.specs.declared.devices.Kind.{Kind}
@@ -95,14 +96,19 @@ high_in t = nat_lt 0 (how_many is_waiting t)
 -- what the entry does to the cell, given the descriptor before it, and whether some ask is unserved
 -- after it
 abbrev pub driven_by : LineDef → Entry → DescSeen → Bool → Cell → Cell
-driven_by def (entries.Ask driver dev) d high c = if is_edge_line def then after_edge c else after_high high c
-driven_by def (entries.Return cpu dev answer count) d high c = if is_level_line def && nat_lt 0 count then after_high high c else c
-driven_by def (entries.ThreadReturn dev count) d high c = if is_level_line def && nat_lt 0 count then after_high high c else c
-driven_by def (entries.Take cpu way answer) d high c = taken def def.flow d.oneshot answer (accepted way c)
+driven_by def (entries.Ask driver dev) d high c =
+    if is_edge_line def then after_edge c else after_high high c
+driven_by def (entries.Return cpu dev answer count) d high c =
+    if is_level_line def && nat_lt 0 count then after_high high c else c
+driven_by def (entries.ThreadReturn dev count) d high c =
+    if is_level_line def && nat_lt 0 count then after_high high c else c
+driven_by def (entries.Take cpu way answer) d high c =
+    taken def def.flow d.oneshot answer (accepted way c)
 driven_by def (entries.End cpu again unmask note) d high c = ended def def.flow again unmask (masked_if (is_kill (entries.End cpu again unmask note) && d.unlazy) c)
 driven_by def (entries.Finish dev kept unmask) d high c = unmasked_if unmask c
 driven_by def (entries.Disable driver) d high c = masked_if d.unlazy c
-driven_by def (entries.Unlink driver dev answer) d high c = masked_if (is_last_unlink (entries.Unlink driver dev answer)) c
+driven_by def (entries.Unlink driver dev answer) d high c =
+    masked_if (is_last_unlink (entries.Unlink driver dev answer)) c
 driven_by def (entries.Request driver dev flags answer opened) d high c =
     retriggered_if (is_chip_start (entries.Request driver dev flags answer opened)) (unmasked_if (is_start (entries.Request driver dev flags answer opened)) c)
 driven_by def (entries.Enable driver answer) d high c =

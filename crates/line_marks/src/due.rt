@@ -38,8 +38,8 @@ pub fn thread_due_is_told()
     ensures law { (def : LineDef) (past : List Entry) (d : DevNo) → IsValid def → IsLegalPast def past → next_past def past (actors.Thread def.line d) ≡ thread_due (state_of def past) d }
 {}
 
-/// Of a processor: in its flow the return of the handler at work, the next handler, or the end by the line's flow; else
-/// the take of what is presented or resent.
+/// Of a processor: in its flow the return of the handler at work, the next handler, or the end by
+/// the line's flow; else the take of what is presented or resent.
 #[tactic(auto, using(crate::proofs::CpuDueIs::cpu_due_is))]
 pub fn cpu_due_is_told()
     ensures law { (def : LineDef) (past : List Entry) (c : CpuNo) → IsValid def → IsLegalPast def past → next_past def past (actors.Cpu c) ≡ cpu_due def (state_of def past) c }
@@ -72,8 +72,8 @@ pub fn due_call_is_told()
         → (r : DriverNo) → due_call def r past ≡ due_call_in scripts r }
 {}
 
-/// An entry that is due is one that the functions of the state expect: its answers are those of the state, a device that
-/// is requested isn't linked, and each count has room for one more.
+/// An entry that is due is one that the functions of the state expect: its answers are those of the
+/// state, a device that is requested isn't linked, and each count has room for one more.
 #[tactic(auto, using(crate::proofs::ExpectedOf::expected))]
 pub fn due_is_expected()
     ensures law { (def : LineDef) (past : List Entry) → IsValid def → IsLegalPast def past → length past ≤ def.log

@@ -1,4 +1,5 @@
-//! Each part of a line's state follows its history: what it is after one more entry is what the entry makes of it.
+//! Each part of a line's state follows its history: what it is after one more entry is what the
+//! entry makes of it.
 ghost use Rattle.std.specs.Prelude.{◌≡◌, ℕ, true, false, List, ◌∷◌, Option, Some, is_some};
 ghost use Rattle.irq_base.specs.declared.calls.Call.{Call};
 ghost use Rattle.irq_base.specs.declared.entries.Actor.TheVariants as actors;
@@ -31,8 +32,8 @@ ghost use Rattle.line_marks.specs.Scripts.{IsAt, place_after, within_after};
 ghost use Rattle.line_marks.specs.Threads.{threads_of};
 ghost use Rattle.line_marks.specs.Up.{up_by, active_after};
 
-/// The descriptor: the depth, started, masked, pending, one-shot, the mark of the rule on spurious interrupts, the
-/// software resend and the flow in progress.
+/// The descriptor: the depth, started, masked, pending, one-shot, the mark of the rule on spurious
+/// interrupts, the software resend and the flow in progress.
 #[tactic(auto, using(crate::proofs::DescFollow::desc_follows))]
 pub fn desc_follows()
     ensures law { (def : LineDef) (e : Entry) (past : List Entry) → IsValid def → IsLegalPast def (e ∷ past) → desc_of def (e ∷ past) ≡ desc_after def (is_none_linked past) e (desc_of def past) }
@@ -44,7 +45,8 @@ pub fn list_follows()
     ensures law { (def : LineDef) (e : Entry) (past : List Entry) → IsValid def → list_of def (e ∷ past) ≡ list_after def e (list_of def past) }
 {}
 
-/// The list has the linked devices in the order in which they are walked, each with the flags with which it was linked.
+/// The list has the linked devices in the order in which they are walked, each with the flags with
+/// which it was linked.
 #[tactic(auto, using(crate::proofs::ActionsFollow::actions_are))]
 pub fn actions_are()
     ensures law { (def : LineDef) (past : List Entry) → IsValid def → IsLegalPast def past → flags_of (actions_of past) ≡ linked_flags past }
@@ -62,8 +64,8 @@ pub fn threads_follow()
     ensures law { (def : LineDef) (e : Entry) (past : List Entry) → IsValid def → IsLegalPast def (e ∷ past) → threads_of def (e ∷ past) ≡ threads_after (is_oneshot past) e (threads_of def past) }
 {}
 
-/// The asks: of each device those that are unserved, those since its serving run began, and what its handler and its
-/// thread met.
+/// The asks: of each device those that are unserved, those since its serving run began, and what
+/// its handler and its thread met.
 #[tactic(auto, using(crate::proofs::AsksFollow::asks_more))]
 pub fn asks_follow()
     ensures law { (def : LineDef) (e : Entry) (past : List Entry) → IsValid def → asks_of def (e ∷ past) ≡ asks_after (kinds_of def) e (asks_of def past) }
@@ -87,8 +89,8 @@ pub fn aimed_follows()
     ensures law { (def : LineDef) (e : Entry) (past : List Entry) → aimed_of def (e ∷ past) ≡ aimed_after e (aim_of def past) (aimed_of def past) }
 {}
 
-/// Whether the line's domains are active: a first request activates them, and the free of the last action gives them
-/// up.
+/// Whether the line's domains are active: a first request activates them, and the free of the last
+/// action gives them up.
 #[tactic(auto, using(crate::proofs::UpFollow::active_follows))]
 pub fn active_follows()
     ensures law { (def : LineDef) (e : Entry) (past : List Entry) → IsValid def → IsLegalPast def (e ∷ past) → is_up (e ∷ past) ≡ active_after (is_bare (actions_of past)) e (is_up past) }
@@ -100,7 +102,8 @@ pub fn up_is()
     ensures law { (def : LineDef) (past : List Entry) → IsValid def → IsLegalPast def past → is_up past ≡ up_by (is_none_linked past) (freeing past) }
 {}
 
-/// The round: the handler at work, whether some handler woke a thread or handled, and the greatest moment.
+/// The round: the handler at work, whether some handler woke a thread or handled, and the greatest
+/// moment.
 #[tactic(auto, using(crate::proofs::RoundsFollow::round_more))]
 pub fn rounds_follow()
     ensures law { (def : LineDef) (e : Entry) (past : List Entry) → round_of def (e ∷ past) ≡ round_after def e (round_of def past) }
@@ -124,7 +127,8 @@ pub fn freeing_holds_mutex()
     ensures law { (def : LineDef) (past : List Entry) → IsValid def → IsLegalPast def past → holds_mutex past ≡ is_some (freeing past) }
 {}
 
-/// The place of the driver that made the entry: an entry that completes its call goes to the next one.
+/// The place of the driver that made the entry: an entry that completes its call goes to the next
+/// one.
 #[tactic(auto, using(crate::proofs::ScriptsFollow::own_place))]
 pub fn places_follow()
     ensures law { (def : LineDef) (past : List Entry) (e : Entry) (r : DriverNo) (place within : ℕ) (c : Call) (n : ℕ) → next_past def past (actors.Driver r) ≡ Some e → is_by_driver r e ≡ true → due_call def r past ≡ Some (c, n) → IsAt def past r place within → IsAt def (e ∷ past) r (place_after (completes c e) place) (within_after (completes c e) within) }

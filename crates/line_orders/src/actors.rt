@@ -2,7 +2,8 @@
 use irq_base::{Actor, CpuNo, LineDef, NoMemory};
 use std::alloc::Global;
 
-/// The actors of the line, each once: the threads of its devices, the processors of its machine, and its drivers.
+/// The actors of the line, each once: the threads of its devices, the processors of its machine,
+/// and its drivers.
 pub(crate) fn actors_of(alloc: Global, def: &LineDef) -> Result<Vec<Actor>, NoMemory> {
     let mut actors = Vec::new(alloc);
     add_threads(&mut actors, def)?;

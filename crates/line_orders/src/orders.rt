@@ -26,8 +26,8 @@ enum Turn {
     Differ,
 }
 
-/// Whether the two lines of the definition tell the same in every order in which its actors can move, of at most so many
-/// moves together.
+/// Whether the two lines of the definition tell the same in every order in which its actors can
+/// move, of at most so many moves together.
 ///
 /// # Errors
 ///

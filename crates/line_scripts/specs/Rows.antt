@@ -7,8 +7,8 @@ use Rattle.irq_model.specs.Bounds.{is_ask_call}
 use Rattle.irq_model.specs.Kinds.{same_driver}
 use Rattle.irq_model.specs.Places.{count_of}
 
--- a driver's calls on the line in the order of its script, how many of them are complete, and how many entries the
--- next one has made
+-- a driver's calls on the line in the order of its script, how many of them are complete, and how
+-- many entries the next one has made
 pub record RowSeen : Type 0 where
   pub calls : List Call
   pub place : ℕ

@@ -14,7 +14,8 @@ use irq_base::{Call, CallList, DriverNo, NoMemory};
 use std::alloc::Global;
 use std::marker::Model;
 
-/// How far each driver is with its calls on the line. Contracts see a row for each driver that has calls there.
+/// How far each driver is with its calls on the line. Contracts see a row for each driver that has
+/// calls there.
 #[derive(Drop)]
 pub struct Scripts {
     rows: IndexMap<DriverNo, Row>,

@@ -9,8 +9,8 @@ use Rattle.line_lock.specs.Placed.{placed}
 use Rattle.line_lock.specs.declared.view.Known.{Known}
 use Rattle.line_lock.specs.declared.view.Placed.{Placed}
 
--- The pass `k` has met a pass of the actor `who`, which knew `other`: what `k` has seen of that actor is what the other
--- knew as its own.
+-- The pass `k` has met a pass of the actor `who`, which knew `other`: what `k` has seen of that
+-- actor is what the other knew as its own.
 pub record HasMet (line : LineNo) (k : Known) (who : Actor) (other : Known) : Type 0 where
   pub actor : other.actor ≡ Some who
   pub given : is_among who k.given ≡ true

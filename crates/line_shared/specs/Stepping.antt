@@ -17,8 +17,10 @@ use Rattle.line_lock.specs.declared.view.Known.{Known}
 -- that it has there. After every other answer what is seen is the history as it was, and the pass
 -- has no entry more.
 abbrev pub Gains : Known → List Entry → Result Stepped StepRefused → Known → Type 0
-Gains old history (Ok (stepped.Added e)) new = (new.seen ≡ history ++ e ∷ []) × (new.mine ≡ old.mine ++ record { place = length history; entry = e } ∷ [])
-Gains old history (Ok (stepped.Run def part unserved)) new = (new.seen ≡ history) × (new.mine ≡ old.mine)
+Gains old history (Ok (stepped.Added e)) new = (new.seen ≡ history ++ e ∷ [])
+    × (new.mine ≡ old.mine ++ record { place = length history; entry = e } ∷ [])
+Gains old history (Ok (stepped.Run def part unserved)) new =
+    (new.seen ≡ history) × (new.mine ≡ old.mine)
 Gains old history (Ok stepped.NotYet) new = (new.seen ≡ history) × (new.mine ≡ old.mine)
 Gains old history (Err refused) new = (new.seen ≡ history) × (new.mine ≡ old.mine)
 
@@ -29,7 +31,8 @@ pub record Steps (whole : LineDef) (who : Actor) (old : Known) (said : Option Sa
   pub after : LineSeen
   pub def : line.def ≡ whole
   pub sound : IsSound line
-  -- what the pass had seen is a beginning of its history, and its own entries are exactly those of its actor in it
+  -- what the pass had seen is a beginning of its history, and its own entries are exactly those of
+  -- its actor in it
   pub begins : BeginsWith line.entries old.seen
   pub mine : old.mine ≡ placed_of whole.line (Some who) line.entries
   -- the answer is the line's own

@@ -13,4 +13,5 @@ IsAsk c = c.1 ≡ calls.Ask (record { 0 = 3 })
 
 -- a request, and then asks
 abbrev pub IsScript : List (DriverNo × Call) → Type 0
-IsScript cs = (asks : List (DriverNo × Call)) × (cs ≡ the_request ∷ asks) × All IsAsk asks × (length asks ≤ 1000)
+IsScript cs = (asks : List (DriverNo × Call)) × (cs ≡ the_request ∷ asks) × All IsAsk asks
+    × (length asks ≤ 1000)

@@ -22,7 +22,8 @@ pub fn own_entries_stand()
     ensures law { (line : LineNo) (who : Actor) (history : List Entry) → All (StandsIn line who history) (placed line who history) }
 {}
 
-/// Whom a first pass meets, it has met: what it has seen of that actor is what the other knew as its own.
+/// Whom a first pass meets, it has met: what it has seen of that actor is what the other knew as
+/// its own.
 #[tactic(auto, using(crate::proofs::MetLaws::after_meeting))]
 pub fn met_is_known()
     ensures law { (line : LineNo) (k other new : Known) (who : Actor) → Meets line k other new → IsKnown line k → other.actor ≡ Some who → HasMet line new who other }
@@ -46,7 +47,8 @@ pub fn places_are_apart()
         → HasMet line k a first → HasMet line k b second → (a ≡ b → ⊥) → Contains first.mine x → Contains second.mine y → x.place ≡ y.place → ⊥ }
 {}
 
-/// Whoever has seen a free of a device never sees a later run of it without a request that linked it between.
+/// Whoever has seen a free of a device never sees a later run of it without a request that linked
+/// it between.
 #[tactic(auto, using(crate::proofs::FreeLaws::free_seen))]
 pub fn free_is_final()
     ensures law { (def : LineDef) (seen more rest : List Entry) (e : Entry) (d : DevNo)

@@ -76,7 +76,8 @@ impl<L: IrqLine> SharedLine<L> {
         self.lock.fork(pass, actor)
     }
 
-    /// Waits for the line, and has it make a step of the pass's actor: `IrqLine::step` on the history as it is then.
+    /// Waits for the line, and has it make a step of the pass's actor: `IrqLine::step` on the
+    /// history as it is then.
     ///
     /// # Errors
     ///

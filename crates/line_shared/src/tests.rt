@@ -1,4 +1,5 @@
-//! Passes over a plain line, in one thread and in several. The expected entries are worked out by hand.
+//! Passes over a plain line, in one thread and in several. The expected entries are worked out by
+//! hand.
 ghost use Rattle.std.specs.Prelude.{◌≡◌, ◌≤◌, false, IfOk, IsSome};
 ghost use Rattle.irq_model.specs.Valid.{IsValid};
 ghost use Rattle.line_lock.specs.Passes.{IsPassOf};
@@ -117,7 +118,8 @@ fn drive_both<R: Threads + Wait + Sync>(
     )
 }
 
-/// Makes the processor's steps, with the answers of the handlers, until none is due, but at most so many.
+/// Makes the processor's steps, with the answers of the handlers, until none is due, but at most so
+/// many.
 fn serve<R: Wait>(
     rt: &R,
     line: &SharedLine<PlainLine>,
@@ -159,8 +161,8 @@ fn made_by(line: &PlainLine, actor: Actor) -> usize {
     made
 }
 
-/// A request and an ask by a driver, and the take of a processor. The processor's pass has seen all three, and the line
-/// has these three.
+/// A request and an ask by a driver, and the take of a processor. The processor's pass has seen all
+/// three, and the line has these three.
 #[test]
 fn passes_see_what_the_others_did(rt: HostRuntime) -> Result<(), Fail> {
     let line = PlainLine::new(rt.alloc(), &definition(rt.alloc(), 1)?)?;
@@ -201,8 +203,8 @@ fn passes_see_what_the_others_did(rt: HostRuntime) -> Result<(), Fail> {
     Ok(())
 }
 
-/// Two drivers ask fifty times each, in threads of their own, and a processor serves in a third. The order is free; how
-/// many entries each driver makes isn't.
+/// Two drivers ask fifty times each, in threads of their own, and a processor serves in a third.
+/// The order is free; how many entries each driver makes isn't.
 #[test]
 fn threads_share_a_line(rt: HostRuntime) -> Result<(), Fail> {
     let line = PlainLine::new(rt.alloc(), &definition(rt.alloc(), 50)?)?;

@@ -27,9 +27,12 @@ abbrev pub unless_in_flow : StateSeen → Option CpuNo → Option CpuNo
 unless_in_flow s None = None
 unless_in_flow s (Some c) = if is_cpu c s.desc.flow then None else Some c
 
--- the processor of which a take is due: there is something to take, and the target isn't in the flow
+-- the processor of which a take is due: there is something to take, and the target isn't in the
+-- flow
 abbrev pub taker_of : StateSeen → Option CpuNo
-taker_of s = if signals s.cell || s.desc.soft then unless_in_flow s (lowest_in s.aim.cpus s.aim.mask) else None
+taker_of s =
+    if signals s.cell || s.desc.soft then unless_in_flow s (lowest_in s.aim.cpus s.aim.mask)
+    else None
 
 -- a run whose handler has returned may go on: the line isn't one-shot, or no flow is in progress
 abbrev pub may_go_on : DescSeen → Bool

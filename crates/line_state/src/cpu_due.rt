@@ -17,7 +17,8 @@ use irq_base::{
 };
 
 impl<C: Chip> LineState<C> {
-    /// The entry that is due of the processor, if there is one: in its flow the next of the round, else a take.
+    /// The entry that is due of the processor, if there is one: in its flow the next of the round,
+    /// else a take.
     pub fn due_of_cpu(&self, def: &LineDef, cpu: CpuNo) -> Option<Entry>
         ensures { result ≡ cpu_due def.now self.now.state cpu }
     {
@@ -38,8 +39,8 @@ impl<C: Chip> LineState<C> {
         }
     }
 
-    /// The handler that is at work returns; else the first that is left is called; else the round ends
-    /// (`__handle_irq_event_percpu`, `kernel/irq/handle.c`).
+    /// The handler that is at work returns; else the first that is left is called; else the round
+    /// ends (`__handle_irq_event_percpu`, `kernel/irq/handle.c`).
     fn due_in_flow(&self, def: &LineDef, cpu: CpuNo) -> Entry
         ensures { result ≡ in_flow_by def.now self.now.state cpu self.now.state.round.working }
     {
@@ -99,7 +100,8 @@ impl<C: Chip> LineState<C> {
         )
     }
 
-    /// What the flow handler will do at the round's end, after that note: a kill leaves the line disabled.
+    /// What the flow handler will do at the round's end, after that note: a kill leaves the line
+    /// disabled.
     fn left(&self, def: &LineDef, note: Note) -> Left
         ensures { result ≡ left_by def.now def.now.flow (is_held self.now.state) (killed_if note self.now.state.desc) }
     {
@@ -159,7 +161,8 @@ impl<C: Chip> LineState<C> {
         self.threads.held() > 0
     }
 
-    /// The take that is due of the processor: the target takes what is presented, or else what the software resends.
+    /// The take that is due of the processor: the target takes what is presented, or else what the
+    /// software resends.
     fn due_take(&self, cpu: CpuNo) -> Option<Entry>
         ensures { result ≡ next_take_by self.now.state cpu }
     {

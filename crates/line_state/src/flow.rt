@@ -56,7 +56,8 @@ impl<C: Chip> LineState<C> {
         }
     }
 
-    /// A mask that waits is put in force, and the chip is aimed (`irq_move_masked_irq`, `kernel/irq/migration.c`).
+    /// A mask that waits is put in force, and the chip is aimed (`irq_move_masked_irq`,
+    /// `kernel/irq/migration.c`).
     fn move_affinity(&mut self)
         requires { self.old.state.aim.cpus ≤ 32 }
         ensures { self.new.state ≡ moved self.old.state }
@@ -92,8 +93,8 @@ impl<C: Chip> LineState<C> {
         self.actions.begin_round();
     }
 
-    /// The end of a round: the note on spurious interrupts, the kill that it may make, and then what the flow handler
-    /// does after its last handler.
+    /// The end of a round: the note on spurious interrupts, the kill that it may make, and then
+    /// what the flow handler does after its last handler.
     pub(crate) fn end(&mut self, def: &LineDef)
         requires valid { IsValid def.now }
         requires rounds { HasRounds self.old.state }
@@ -107,7 +108,8 @@ impl<C: Chip> LineState<C> {
         self.go_on(def, left.again);
     }
 
-    /// The rule on spurious interrupts counts the round (`note_interrupt`, `kernel/irq/spurious.c`).
+    /// The rule on spurious interrupts counts the round (`note_interrupt`,
+    /// `kernel/irq/spurious.c`).
     fn note_round(&mut self) -> Note
         ensures note { result ≡ note_by self.old.state }
         ensures state { self.new.state ≡ noted_at self.old.state }

@@ -9,7 +9,8 @@ use irq_base::{DevNo, Kind, LineDef, NoMemory};
 use std::alloc::Global;
 use std::marker::Model;
 
-/// The kinds of a line's devices by their numbers. Contracts see the list of the numbers with the kinds.
+/// The kinds of a line's devices by their numbers. Contracts see the list of the numbers with the
+/// kinds.
 #[derive(Drop)]
 pub(crate) struct Kinds {
     rows: DeviceTable<Kind>,

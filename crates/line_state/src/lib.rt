@@ -1,5 +1,5 @@
-//! The state of one interrupt line, joined of its parts: descriptor, chips, affinity, actions, threads, asks, the round
-//! of the flow and the counts of the rule on spurious interrupts.
+//! The state of one interrupt line, joined of its parts: descriptor, chips, affinity, actions,
+//! threads, asks, the round of the flow and the counts of the rule on spurious interrupts.
 //!
 //! `LineState` says which entry is due of a thread, of a processor and of a driver's call, and is
 //! brought up to an entry by `apply`. It keeps no history: what it is after an entry follows from

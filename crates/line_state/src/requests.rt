@@ -15,8 +15,8 @@ use crate::state::LineState;
 use irq_base::{Chip, DevNo, DriverNo, Flags, LineDef, LinkAnswer, Opened, Trigger};
 
 impl<C: Chip> LineState<C> {
-    /// `__setup_irq`: if the request is linked, it starts or enables the line by `opened`. A refused
-    /// one changes nothing.
+    /// `__setup_irq`: if the request is linked, it starts or enables the line by `opened`. A
+    /// refused one changes nothing.
     pub(crate) fn request(
         &mut self,
         def: &LineDef,

@@ -5,7 +5,8 @@ ghost use Rattle.irq_model.specs.Kinds.{is_wake, is_handled};
 use irq_base::{Answer, DevNo};
 use std::marker::Model;
 
-/// What is kept of the handlers of a round (`__handle_irq_event_percpu`, `kernel/irq/handle.c`), and the time.
+/// What is kept of the handlers of a round (`__handle_irq_event_percpu`, `kernel/irq/handle.c`),
+/// and the time.
 #[derive(Drop)]
 pub(crate) struct Round {
     working: Option<DevNo>,

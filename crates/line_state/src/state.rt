@@ -21,9 +21,9 @@ use spurious::Counts;
 use std::alloc::Global;
 use std::marker::Model;
 
-/// All that a line keeps of its history but its drivers' places in their scripts (`struct irq_desc`,
-/// `include/linux/irqdesc.h`). Contracts see the state that the definitions read off a history, and how many more
-/// actions fit without memory.
+/// All that a line keeps of its history but its drivers' places in their scripts (`struct
+/// irq_desc`, `include/linux/irqdesc.h`). Contracts see the state that the definitions read off a
+/// history, and how many more actions fit without memory.
 #[derive(Drop)]
 pub struct LineState<C: Chip> {
     pub(crate) desc: Desc,
@@ -47,8 +47,8 @@ impl<C: Chip> Model for LineState<C> {
 }
 
 impl<C: Chip + Drop> LineState<C> {
-    /// The state of a line of that definition to which nothing has happened, over a chip to which nothing has been
-    /// done; the chip is aimed at the line's target. The only error is `NoMemory`.
+    /// The state of a line of that definition to which nothing has happened, over a chip to which
+    /// nothing has been done; the chip is aimed at the line's target. The only error is `NoMemory`.
     #[tactic(auto, using(crate::proofs::Targets::target_below))]
     pub fn new(alloc: Global, def: &LineDef, chip: C) -> Result<LineState<C>, NoMemory>
         requires valid { IsValid def.now }
@@ -134,8 +134,8 @@ impl<C: Chip> LineState<C> {
         self.threads.active()
     }
 
-    /// Who frees which device, if somebody does: the request mutex is held meanwhile (`request_mutex` of
-    /// `struct irq_desc`).
+    /// Who frees which device, if somebody does: the request mutex is held meanwhile
+    /// (`request_mutex` of `struct irq_desc`).
     pub fn freeing(&self) -> Option<(DriverNo, DevNo)>
         ensures { result ≡ self.now.state.freeing }
     {

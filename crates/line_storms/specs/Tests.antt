@@ -1,4 +1,5 @@
--- The line that the test takes: an edge line of one device, with one ask, whose log limit is its bound.
+-- The line that the test takes: an edge line of one device, with one ask, whose log limit is its
+-- bound.
 use Rattle.std.specs.Prelude.{true, false, [], ◌∷◌}
 use Rattle.irq_base.specs.declared.calls.Call.TheVariants as calls
 use Rattle.irq_base.specs.declared.devices.Kind.TheVariants as kinds
@@ -22,6 +23,7 @@ asked_line =
       window = 100000;
       limit = 99900;
       log = 28;
-      devices = record { dev = record { 0 = 3 }; line = record { 0 = 7 }; kind = kinds.Direct } ∷ [];
+      devices =
+          record { dev = record { 0 = 3 }; line = record { 0 = 7 }; kind = kinds.Direct } ∷ [];
       calls = (record { 0 = 1 }, calls.Ask (record { 0 = 3 })) ∷ [];
     }

@@ -82,8 +82,8 @@ fn is_as_named(list: &mut ActList, dev: DevNo, step: Step) -> Result<bool, NoMem
     }
 }
 
-/// Each row: a device and what happens, its thread bit after it, and the device of the first action that is left.
-/// Devices 70 and 5 are of the line; the others never begin.
+/// Each row: a device and what happens, its thread bit after it, and the device of the first action
+/// that is left. Devices 70 and 5 are of the line; the others never begin.
 #[test]
 fn steps(rt: HostRuntime) -> Result<(), Fail> {
     let inval = LinkAnswer::Refused(Errno::Inval);
@@ -126,7 +126,8 @@ fn steps(rt: HostRuntime) -> Result<(), Fail> {
         (70, gone, None, Some(8)),
         (70, Step::Unlink(UnlinkAnswer::NotThere), None, Some(8)),
         (8, gone, None, None),
-        // the bits that were given up are free again; one that was called isn't called again in the round
+        // the bits that were given up are free again; one that was called isn't called again in the
+        // round
         (70, Step::Request(Kind::Direct, BOTH, linked), Some(1), None),
         (70, Step::Round, Some(1), Some(5)),
         (5, Step::Begin, Some(2), Some(70)),

@@ -22,7 +22,8 @@ fn is_as_named(aim: &mut Aim, event: Event) -> bool {
     }
 }
 
-/// Each row: what happens, and the target after it. On a machine of two processors bits 2 and above count for nothing.
+/// Each row: what happens, and the target after it. On a machine of two processors bits 2 and above
+/// count for nothing.
 #[test]
 fn two_processors(rt: HostRuntime) {
     let refused = AffinityAnswer::Refused(Errno::Inval);

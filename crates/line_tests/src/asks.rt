@@ -40,8 +40,9 @@ fn happens(asks: &mut Asks, dev: DevNo, event: Event) {
     }
 }
 
-/// Each row: a device and what happens to it, then its unserved asks, those that its handler and its thread met, and
-/// whether the level is high. Device 5 is served by its handler, device 70 by its thread.
+/// Each row: a device and what happens to it, then its unserved asks, those that its handler and
+/// its thread met, and whether the level is high. Device 5 is served by its handler, device 70 by
+/// its thread.
 #[test]
 fn asks_and_runs(rt: HostRuntime) -> Result<(), Fail> {
     let definition = line(rt.alloc())?;

@@ -1,4 +1,5 @@
-//! Each call at its edges, through the bound, in rows that are worked out by hand from the rules of calls.
+//! Each call at its edges, through the bound, in rows that are worked out by hand from the rules of
+//! calls.
 use desc_state::Desc;
 use irq_base::{Chip, CpuNo, EnableAnswer, Resend, Trigger};
 use line_cell::Cell;
@@ -24,8 +25,8 @@ enum Answer {
     Enabled(EnableAnswer),
 }
 
-/// A call, its answer, and then the depth and whether the line is started, masked, pending and to be resent by the
-/// software.
+/// A call, its answer, and then the depth and whether the line is started, masked, pending and to
+/// be resent by the software.
 type Row = (Act, Answer, u32, [bool; 4]);
 
 fn answer_of<C: Chip>(desc: &mut Desc, chip: &mut C, trigger: Trigger, act: Act) -> Answer {

@@ -1,4 +1,5 @@
-//! Each flow through the bound, as rows that are worked out by hand from the rules of takes and ends.
+//! Each flow through the bound, as rows that are worked out by hand from the rules of takes and
+//! ends.
 use desc_state::Desc;
 use flow_handlers::{Left, edge, fasteoi, level};
 use irq_base::{Chip, CpuNo, FlowKind, TakeAnswer, Trigger};
@@ -14,7 +15,8 @@ enum State {
     Bare,
 }
 
-/// What happens between a take answered Handle and its end, and whether a thread holds the line then.
+/// What happens between a take answered Handle and its end, and whether a thread holds the line
+/// then.
 #[derive(Clone, Copy, PartialEq, Eq)]
 enum Meanwhile {
     Nothing,

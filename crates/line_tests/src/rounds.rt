@@ -59,9 +59,10 @@ fn is_as_named(counts: &mut Counts, now: u32, event: Event) -> bool {
     }
 }
 
-/// Windows of ten rounds of which eight may be unhandled. In the first list all are unhandled, and an action is linked
-/// after the line was killed. In the next two the time moves on after the fifth unhandled round: by 101 ms, so that
-/// their count begins anew, or by 100. Then runs of threads decide what a round that woke them was worth.
+/// Windows of ten rounds of which eight may be unhandled. In the first list all are unhandled, and
+/// an action is linked after the line was killed. In the next two the time moves on after the fifth
+/// unhandled round: by 101 ms, so that their count begins anew, or by 100. Then runs of threads
+/// decide what a round that woke them was worth.
 #[test]
 fn windows_of_ten(rt: HostRuntime) -> Result<(), Fail> {
     let quiet = Note::Quiet;

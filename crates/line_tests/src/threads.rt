@@ -39,8 +39,8 @@ fn is_as_named(threads: &mut Threads, dev: DevNo, step: Step) -> bool {
     }
 }
 
-/// Each row: a device and its step, then `threads_active`, the bits that stand, and the lowest device whose thread
-/// could step where returned runs may go on, and where they may not.
+/// Each row: a device and its step, then `threads_active`, the bits that stand, and the lowest
+/// device whose thread could step where returned runs may go on, and where they may not.
 #[test]
 fn runs(rt: HostRuntime) -> Result<(), Fail> {
     let definition = line(rt.alloc())?;

@@ -49,17 +49,27 @@ is_freed_between (c ∷ cs) = is_freed_after c.1 cs && is_freed_between cs
 
 abbrev pub fits_numbers : LineDef → Bool
 fits_numbers def =
-    nat_lt 0 def.cpus && (nat_lt def.cpus 33 && (nat_lt 0 def.window && (nat_lt def.window 1000001 && (nat_lt def.limit def.window && (nat_lt 0 def.log && (nat_lt def.log 100000001
-    && (nat_lt (length def.devices) 257 && (nat_lt (length def.calls) 16385 && is_some (lowest_in def.cpus def.mask)))))))))
+    nat_lt 0 def.cpus
+    && (nat_lt def.cpus 33
+    && (nat_lt 0 def.window
+    && (nat_lt def.window 1000001
+    && (nat_lt def.limit def.window
+    && (nat_lt 0 def.log && (nat_lt def.log 100000001
+    && (nat_lt (length def.devices) 257
+    && (nat_lt (length def.calls) 16385 && is_some (lowest_in def.cpus def.mask)))))))))
 
 abbrev pub fits_flow : LineDef → Bool
 fits_flow def =
-    (not (is_edge_flow def.flow) || is_edge_line def) && ((not (is_level_flow def.flow) || is_level_line def) && ((not (is_edge_line def) || (not def.unlazy || def.keeps))
-    && ((not (is_edge_line def) || (not (is_eoi_flow def.flow) || def.keeps)) && (not (is_edge_line def) || (not (is_eoi_flow def.flow) || def.retriggers)))))
+    (not (is_edge_flow def.flow) || is_edge_line def)
+    && ((not (is_level_flow def.flow) || is_level_line def)
+    && ((not (is_edge_line def) || (not def.unlazy || def.keeps))
+    && ((not (is_edge_line def) || (not (is_eoi_flow def.flow) || def.keeps))
+    && (not (is_edge_line def) || (not (is_eoi_flow def.flow) || def.retriggers)))))
 
 abbrev pub fits_lists : LineDef → Bool
 fits_lists def =
-    list_all (λ x. same_line x.line def.line) def.devices && (has_distinct def.devices && (list_all (λ c. names_one_of def.devices c.1) def.calls
+    list_all (λ x. same_line x.line def.line) def.devices
+    && (has_distinct def.devices && (list_all (λ c. names_one_of def.devices c.1) def.calls
     && (has_one_owner def.calls && is_freed_between def.calls)))
 
 abbrev pub fits : LineDef → Bool

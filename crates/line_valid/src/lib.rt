@@ -1,5 +1,5 @@
-//! Decides whether the definition of a line is valid, so that a definition that was read from outside can be made a
-//! line. It goes over all pairs of calls.
+//! Decides whether the definition of a line is valid, so that a definition that was read from
+//! outside can be made a line. It goes over all pairs of calls.
 #![tactic(auto)]
 
 pub mod calls;

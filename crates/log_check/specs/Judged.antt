@@ -9,7 +9,8 @@ use Rattle.irq_model.specs.Legal.{IsDue, IsLegal}
 pub record IsFirstUndue (def : LineDef) (entries : List Entry) (number : ℕ) : Type 0 where
   pub counted : 1 ≤ number
   pub before : IsLegal def (take (number - 1) entries)
-  pub undue : (e : Entry) × (slice_get entries (number - 1) ≡ Some e) × (IsDue def e (reverse (take (number - 1) entries)) → ⊥)
+  pub undue : (e : Entry) × (slice_get entries (number - 1) ≡ Some e)
+      × (IsDue def e (reverse (take (number - 1) entries)) → ⊥)
 
 -- nothing if the history is legal, else the number of its first entry that isn't due
 abbrev pub Judged : LineDef → List Entry → Option ℕ → Type 0

@@ -19,18 +19,21 @@ JudgedEmpty entries (Some number) = (1 ≤ length entries) × (number ≡ 1)
 
 -- a line that lies there
 abbrev pub JudgedLine : BoardSeen → LineRow → Placement → List Entry → Option ℕ → Type 0
-JudgedLine b row (placements.Mapped virq path) entries first = Judged (line_of_row b row) entries first
+JudgedLine b row (placements.Mapped virq path) entries first =
+    Judged (line_of_row b row) entries first
 JudgedLine b row (placements.Refused why) entries first = JudgedEmpty entries first
 
 -- the line at that place of the board, and the history at that place of the logs
 abbrev pub JudgedAt : BoardSeen → List HistorySeen → ℕ → Option ℕ → Type 0
 JudgedAt b logs i first =
     (row : LineRow) (placement : Placement) (history : HistorySeen)
-    → slice_get b.lines i ≡ Some row → slice_get (layout_of b) i ≡ Some placement → slice_get logs i ≡ Some history → JudgedLine b row placement history.entries first
+    → slice_get b.lines i ≡ Some row → slice_get (layout_of b) i ≡ Some placement
+    → slice_get logs i ≡ Some history → JudgedLine b row placement history.entries first
 
 -- lawful: each line's history is legal; unlawful: the first line, in the board's order, whose
 -- history isn't, and in that the first entry that isn't due
 abbrev pub IsVerdict : BoardSeen → List HistorySeen → Verdict → Type 0
 IsVerdict b logs verdicts.Lawful = (i : ℕ) → i < length b.lines → JudgedAt b logs i None
 IsVerdict b logs (verdicts.Unlawful line number) =
-    (i : ℕ) × (row : LineRow) × (slice_get b.lines i ≡ Some row) × (row.line ≡ line) × JudgedAt b logs i (Some number) × ((j : ℕ) → j < i → JudgedAt b logs j None)
+    (i : ℕ) × (row : LineRow) × (slice_get b.lines i ≡ Some row) × (row.line ≡ line)
+    × JudgedAt b logs i (Some number) × ((j : ℕ) → j < i → JudgedAt b logs j None)

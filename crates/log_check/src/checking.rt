@@ -16,15 +16,15 @@ use irq_base::{History, LineNo, Logs, NoMemory, Path};
 use irq_line::{IrqLine, MakesLine};
 use std::alloc::Global;
 
-/// The most entries of a line that is judged. The board's own limit doesn't bound a log that is judged: how long a
-/// history may grow is no rule of what is due.
+/// The most entries of a line that is judged. The board's own limit doesn't bound a log that is
+/// judged: how long a history may grow is no rule of what is due.
 const MOST_ENTRIES: u32 = 100_000_000;
 
 /// What is said of a board's logs.
 #[derive(Clone, Copy, PartialEq, Eq)]
 pub enum Verdict {
-    /// Each entry is the one that was due of its actor after those before it on its line, and no line that takes no
-    /// part has any.
+    /// Each entry is the one that was due of its actor after those before it on its line, and no
+    /// line that takes no part has any.
     Lawful,
     /// This entry of this line, counted from 1, is the first that isn't due, and no line before has
     /// one.

@@ -10,9 +10,9 @@ use callbacks::{ByKind, Callbacks, Said};
 use irq_base::{Actor, Entry, History, NoMemory};
 use irq_line::{IrqLine, StepRefused, Stepped};
 
-/// The number, counted from 1, of the first entry that isn't the one that is due of its actor after those before it;
-/// nothing if there is none. The line is one to which nothing has happened, and has room for so
-/// many entries.
+/// The number, counted from 1, of the first entry that isn't the one that is due of its actor after
+/// those before it; nothing if there is none. The line is one to which nothing has happened, and
+/// has room for so many entries.
 pub fn judge<L: IrqLine>(line: &mut L, history: &History) -> Result<Option<u32>, NoMemory>
     requires new { (L.seen line.old).entries ≡ [] }
     requires fits { length history.now.entries ≤ (L.seen line.old).def.log }

@@ -1,4 +1,5 @@
--- Entries, entry kind by entry kind: what is read of one is written so, and what is written of one is read.
+-- Entries, entry kind by entry kind: what is read of one is written so, and what is written of one
+-- is read.
 use Rattle.std.proofs.Common.{◌≡◌, ℕ, ◌<◌, Bool, true, false, Option, Some, None, List, [], ◌∷◌, ◌++◌, codes, decimal, refl, sym, ap, subst, ◌∙◌}
 use Rattle.std.proofs.lemmas.Bool.{false≢true}
 use Rattle.irq_base.specs.declared.entries.AffinityAnswer.{AffinityAnswer}

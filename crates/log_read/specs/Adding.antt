@@ -7,7 +7,8 @@ use Rattle.log_read.specs.LogOf.{LineEntry, IsRow, IsRowOn, is_passed_over}
 
 -- the line stands at that place of the board
 abbrev pub IsPlaceOf : List LineRow → LineNo → ℕ → Type 0
-IsPlaceOf lines line place = (row : LineRow) × (slice_get lines place ≡ Some row) × (row.line ≡ line)
+IsPlaceOf lines line place =
+    (row : LineRow) × (slice_get lines place ≡ Some row) × (row.line ≡ line)
 
 -- the history at that place has one entry more
 abbrev pub Adds : ℕ → Entry → List (List Entry) → List (List Entry) → Type 0
@@ -15,9 +16,11 @@ Adds place e old new = new ≡ slice_set old place (get_or old place [] ++ e ∷
 
 -- the row is that of an entry, which was added at its line's place
 abbrev pub AddsSaid : List LineRow → List ℕ → List (List Entry) → List (List Entry) → Type 0
-AddsSaid lines row old new = (said : LineEntry) × (place : ℕ) × IsRowOn lines row said × (is_passed_over row ≡ false) × IsPlaceOf lines said.0 place × Adds place said.1 old new
+AddsSaid lines row old new = (said : LineEntry) × (place : ℕ) × IsRowOn lines row said
+    × (is_passed_over row ≡ false) × IsPlaceOf lines said.0 place × Adds place said.1 old new
 
 -- nothing is wrong with the row, and what it says was added; or something is wrong with it
 abbrev pub Judges : List LineRow → List ℕ → Bool → List (List Entry) → List (List Entry) → Type 0
-Judges lines row true old new = ((is_passed_over row ≡ true) × (new ≡ old)) ⊎ AddsSaid lines row old new
+Judges lines row true old new =
+    ((is_passed_over row ≡ true) × (new ≡ old)) ⊎ AddsSaid lines row old new
 Judges lines row false old new = IsRow lines row → ⊥

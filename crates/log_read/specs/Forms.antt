@@ -56,13 +56,16 @@ abbrev pub TakesOpening : Opening → Words → Words → Opened → Type 0
 TakesOpening openings.No old new o = TakesAs Any no_words (λ u. opens.No) old new o
 TakesOpening openings.Unbalanced old new o = TakesAs Any no_words (λ u. opens.Unbalanced) old new o
 TakesOpening openings.Lowered old new o = TakesAs Any no_words (λ u. opens.Lowered) old new o
-TakesOpening openings.Started old new o = TakesAs Any (one resend_word) (λ r. opens.Started r) old new o
+TakesOpening openings.Started old new o =
+    TakesAs Any (one resend_word) (λ r. opens.Started r) old new o
 
 abbrev pub TakesEnabling : Opening → Words → Words → EnableAnswer → Type 0
 TakesEnabling openings.No old new o = left_of new ≡ None
-TakesEnabling openings.Unbalanced old new o = TakesAs Any no_words (λ u. enables.Unbalanced) old new o
+TakesEnabling openings.Unbalanced old new o =
+    TakesAs Any no_words (λ u. enables.Unbalanced) old new o
 TakesEnabling openings.Lowered old new o = TakesAs Any no_words (λ u. enables.Lowered) old new o
-TakesEnabling openings.Started old new o = TakesAs Any (one resend_word) (λ r. enables.Started r) old new o
+TakesEnabling openings.Started old new o =
+    TakesAs Any (one resend_word) (λ r. enables.Started r) old new o
 
 -- a refused request opened nothing
 abbrev pub IsLink : LinkAnswer × Opened → Type 0
@@ -73,8 +76,10 @@ abbrev pub link_said : LinkAnswer × Opened → List (List ℕ)
 link_said link = link_words link.0 link.1
 
 abbrev pub TakesLinking : Linking → Words → Words → LinkAnswer × Opened → Type 0
-TakesLinking linkings.Linked old new link = TakesAs Any opened_words (λ opened. (links.Linked, opened)) old new link
-TakesLinking linkings.Refused old new link = TakesAs Any (one error_word) (λ errno. (links.Refused errno, opens.No)) old new link
+TakesLinking linkings.Linked old new link =
+    TakesAs Any opened_words (λ opened. (links.Linked, opened)) old new link
+TakesLinking linkings.Refused old new link =
+    TakesAs Any (one error_word) (λ errno. (links.Refused errno, opens.No)) old new link
 
 -- a mask is only refused as invalid
 abbrev pub IsMoved : AffinityAnswer → Type 0
@@ -84,39 +89,51 @@ IsMoved (affinities.Refused errno) = errno ≡ errnos.Inval
 
 abbrev pub TakesMoving : Moving → Words → Words → AffinityAnswer → Type 0
 TakesMoving movings.Now old new answer = TakesAs Any no_words (λ u. affinities.Now) old new answer
-TakesMoving movings.Later old new answer = TakesAs Any no_words (λ u. affinities.Later) old new answer
-TakesMoving movings.Refused old new answer = TakesAs Any (text_words (codes "22")) (λ u. affinities.Refused errnos.Inval) old new answer
+TakesMoving movings.Later old new answer =
+    TakesAs Any no_words (λ u. affinities.Later) old new answer
+TakesMoving movings.Refused old new answer =
+    TakesAs Any (text_words (codes "22")) (λ u. affinities.Refused errnos.Inval) old new answer
 
 -- entries, by their verb
 
 abbrev pub TakesCpu : CpuNo → CpuVerb → Words → Words → Entry → Type 0
 TakesCpu cpu cpu_verbs.Take old new e = TakesAs (Both Any Any) (then (one way_word) (one take_word)) (λ p. entries.Take cpu p.0 p.1) old new e
-TakesCpu cpu cpu_verbs.Begin old new e = TakesAs IsSmall number_words (λ n. entries.Begin cpu (dev_no n)) old new e
+TakesCpu cpu cpu_verbs.Begin old new e =
+    TakesAs IsSmall number_words (λ n. entries.Begin cpu (dev_no n)) old new e
 TakesCpu cpu cpu_verbs.Return old new e =
     TakesAs (Both IsSmall (Both Any IsSmall)) (then number_words (then (one answer_word) number_words)) (λ p. entries.Return cpu (dev_no p.0) p.1.0 p.1.1) old new e
 TakesCpu cpu cpu_verbs.End old new e =
     TakesAs (Both Any (Both Any Any)) (then (one loop_word) (then (one mask_word) (one note_word))) (λ p. entries.End cpu p.0 p.1.0 p.1.1) old new e
 
 abbrev pub TakesThread : DevNo → ThreadVerb → Words → Words → Entry → Type 0
-TakesThread dev thread_verbs.Begin old new e = TakesAs Any no_words (λ u. entries.ThreadBegin dev) old new e
-TakesThread dev thread_verbs.Return old new e = TakesAs IsSmall number_words (λ n. entries.ThreadReturn dev n) old new e
+TakesThread dev thread_verbs.Begin old new e =
+    TakesAs Any no_words (λ u. entries.ThreadBegin dev) old new e
+TakesThread dev thread_verbs.Return old new e =
+    TakesAs IsSmall number_words (λ n. entries.ThreadReturn dev n) old new e
 TakesThread dev thread_verbs.Finish old new e = TakesAs (Both Any Any) (then (one bit_word) (one mask_word)) (λ p. entries.Finish dev p.0 p.1) old new e
 TakesThread dev thread_verbs.Done old new e = TakesAs Any no_words (λ u. entries.Done dev) old new e
 
 abbrev pub TakesDriver : DriverNo → DriverVerb → Words → Words → Entry → Type 0
-TakesDriver driver driver_verbs.Ask old new e = TakesAs IsSmall number_words (λ n. entries.Ask driver (dev_no n)) old new e
-TakesDriver driver driver_verbs.Disable old new e = TakesAs Any no_words (λ u. entries.Disable driver) old new e
-TakesDriver driver driver_verbs.HardClear old new e = TakesAs Any no_words (λ u. entries.HardClear driver) old new e
-TakesDriver driver driver_verbs.Synced old new e = TakesAs Any no_words (λ u. entries.Synced driver) old new e
-TakesDriver driver driver_verbs.Enable old new e = TakesAs Any enable_words (λ answer. entries.Enable driver answer) old new e
+TakesDriver driver driver_verbs.Ask old new e =
+    TakesAs IsSmall number_words (λ n. entries.Ask driver (dev_no n)) old new e
+TakesDriver driver driver_verbs.Disable old new e =
+    TakesAs Any no_words (λ u. entries.Disable driver) old new e
+TakesDriver driver driver_verbs.HardClear old new e =
+    TakesAs Any no_words (λ u. entries.HardClear driver) old new e
+TakesDriver driver driver_verbs.Synced old new e =
+    TakesAs Any no_words (λ u. entries.Synced driver) old new e
+TakesDriver driver driver_verbs.Enable old new e =
+    TakesAs Any enable_words (λ answer. entries.Enable driver answer) old new e
 TakesDriver driver driver_verbs.Request old new e =
     TakesAs (Both IsSmall (Both Any IsLink)) (then number_words (then (one flags_word) link_said)) (λ p. entries.Request driver (dev_no p.0) p.1.0 p.1.1.0 p.1.1.1) old new e
 TakesDriver driver driver_verbs.Unlink old new e =
     TakesAs (Both IsSmall Any) (then number_words (one unlink_word)) (λ p. entries.Unlink driver (dev_no p.0) p.1) old new e
-TakesDriver driver driver_verbs.Freed old new e = TakesAs IsSmall number_words (λ n. entries.Freed driver (dev_no n)) old new e
+TakesDriver driver driver_verbs.Freed old new e =
+    TakesAs IsSmall number_words (λ n. entries.Freed driver (dev_no n)) old new e
 TakesDriver driver driver_verbs.Affinity old new e =
     TakesAs (Both IsSmall IsMoved) (then number_words affinity_words) (λ p. entries.Affinity driver p.0 p.1) old new e
-TakesDriver driver driver_verbs.Moment old new e = TakesAs IsSmall number_words (λ n. entries.Moment driver n) old new e
+TakesDriver driver driver_verbs.Moment old new e =
+    TakesAs IsSmall number_words (λ n. entries.Moment driver n) old new e
 
 -- that one made the entry
 abbrev pub IsBy : Who → Entry → Type 0

@@ -19,4 +19,5 @@ left_of (words.More rest) = Some (words_of rest.now)
 
 -- the first word of the row, and those behind it
 abbrev pub CutsOff : List ℕ → List ℕ → Words → Type 0
-CutsOff row word after = (rest : List (List ℕ)) × (left_of after ≡ Some rest) × (words_of row ≡ word ∷ rest)
+CutsOff row word after =
+    (rest : List (List ℕ)) × (left_of after ≡ Some rest) × (words_of row ≡ word ∷ rest)

@@ -46,7 +46,8 @@ pub record IsRowOn (lines : List LineRow) (row : List ℕ) (said : LineEntry) : 
   pub formed : IsRowOf row said.0 said.1
   pub declared : has_line lines said.0 ≡ true
 
--- nothing is wrong with the row: it is passed over, or it is that of some entry of a line of the board
+-- nothing is wrong with the row: it is passed over, or it is that of some entry of a line of the
+-- board
 abbrev pub IsRow : List LineRow → List ℕ → Type 0
 IsRow lines row = (is_passed_over row ≡ true) ⊎ ((said : LineEntry) × IsRowOn lines row said)
 
@@ -58,8 +59,8 @@ saying rows = filter (λ row. not (is_passed_over row)) rows
 abbrev pub entries_on : List LineEntry → LineNo → List Entry
 entries_on said line = map (λ x. x.1) (filter (λ x. x.0.0 == line.0) said)
 
--- The rows say these histories, one for each line in the board's order: each row that isn't passed over is that of an
--- entry, and the entries of a line, in the order of the rows, are its history.
+-- The rows say these histories, one for each line in the board's order: each row that isn't passed
+-- over is that of an entry, and the entries of a line, in the order of the rows, are its history.
 pub record Tell (lines : List LineRow) (rows : List (List ℕ)) (histories : List (List Entry)) : Type 0 where
   pub said : List LineEntry
   pub each : AllZip (IsRowOn lines) (saying rows) said

@@ -3,12 +3,15 @@ use Rattle.std.specs.Prelude.{◌≡◌, ℕ, Option, Some, None, List, [], ◌�
 use Rattle.log_read.specs.Left.{left_of}
 use Rattle.log_read.specs.declared.words.Words.{Words}
 
--- `write` says how values are written, and `Fits` which of them are; `y` was read, as `make` makes it of a value.
+-- `write` says how values are written, and `Fits` which of them are; `y` was read, as `make` makes
+-- it of a value.
 pub record TakesAs {X Y : Type 0} (Fits : X → Type 0) (write : X → List (List ℕ)) (make : X → Y) (old new : Words) (y : Y) : Type 0 where
   -- what is read is written so, and the words behind it are left
-  pub sound : (rest : List (List ℕ)) → left_of new ≡ Some rest → (x : X) × Fits x × (y ≡ make x) × (left_of old ≡ Some (write x ++ rest))
+  pub sound : (rest : List (List ℕ)) → left_of new ≡ Some rest
+      → (x : X) × Fits x × (y ≡ make x) × (left_of old ≡ Some (write x ++ rest))
   -- what is written so is read
-  pub complete : (x : X) (rest : List (List ℕ)) → Fits x → left_of old ≡ Some (write x ++ rest) → (y ≡ make x) × (left_of new ≡ Some rest)
+  pub complete : (x : X) (rest : List (List ℕ)) → Fits x → left_of old ≡ Some (write x ++ rest)
+      → (y ≡ make x) × (left_of new ≡ Some rest)
 
 -- each value is written
 abbrev pub Any : {X : Type 0} → X → Type 0

@@ -1,9 +1,9 @@
 //! Logs are read: the text of a log becomes one history for each line of a board, or the first
 //! malformed row is named.
 //!
-//! A row is read word by word. What a piece of it is read as is written so, and what is written so is read; so exactly
-//! the rows of entries are read, whatever their numbers. A text of n bytes takes time in the order of n times the lines
-//! of the board, and memory for the histories alone.
+//! A row is read word by word. What a piece of it is read as is written so, and what is written so
+//! is read; so exactly the rows of entries are read, whatever their numbers. A text of n bytes
+//! takes time in the order of n times the lines of the board, and memory for the histories alone.
 #![tactic(auto)]
 
 mod answers;

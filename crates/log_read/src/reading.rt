@@ -15,8 +15,8 @@ use thiserror::Error;
 /// Why a text isn't read.
 #[derive(Clone, Copy, Debug, PartialEq, Eq, Error)]
 pub enum LogRefused {
-    /// This row, counted from 1, is the first that is neither passed over nor the row of an entry of a line of the
-    /// board.
+    /// This row, counted from 1, is the first that is neither passed over nor the row of an entry
+    /// of a line of the board.
     #[error("malformed {row}")]
     Malformed { row: u32 },
     /// Memory was needed and refused.
@@ -41,8 +41,9 @@ impl From<NoMemory> for LogRefused {
 ///
 /// # Errors
 ///
-/// `Malformed` with the first row, counted from 1 with those that are passed over, that isn't passed over and isn't
-/// the row of an entry of a line of the board. `NoMemory` if memory was refused.
+/// `Malformed` with the first row, counted from 1 with those that are passed over, that isn't
+/// passed over and isn't the row of an entry of a line of the board. `NoMemory` if memory was
+/// refused.
 pub fn read_log(alloc: Global, board: &Board, bytes: &[u8]) -> Result<Logs, LogRefused>
     requires { length bytes.now ≤ 67108864 }
     ensures log { IsLogOf board.now.lines bytes.now result }

@@ -38,7 +38,9 @@ abbrev pub standing_with : Standing → Entry → Standing
 standing_with s e =
     record {
       linked = if is_unlinking e then not (is_last_unlink e) else (s.linked || is_linked_request e);
-      raised = if resets s e then (if is_start e then 0 else 1) else (s.raised + one_if (is_deepening e));
+      raised =
+          if resets s e then (if is_start e then 0 else 1)
+          else (s.raised + one_if (is_deepening e));
       lowered = if resets s e then 0 else (s.lowered + one_if (is_lowering e));
     }
 
@@ -47,6 +49,10 @@ abbrev pub requested_standing : Standing → LinkAnswer → Opened → Standing
 requested_standing s answer opened =
     record {
       linked = s.linked || is_linked_answer answer;
-      raised = if (is_linked_answer answer && not s.linked) then (if is_started_opened opened then 0 else 1) else s.raised;
-      lowered = if (is_linked_answer answer && not s.linked) then 0 else (s.lowered + one_if (is_lowering_opened opened));
+      raised =
+          if (is_linked_answer answer && not s.linked)
+          then (if is_started_opened opened then 0 else 1) else s.raised;
+      lowered =
+          if (is_linked_answer answer && not s.linked) then 0
+          else (s.lowered + one_if (is_lowering_opened opened));
     }

@@ -13,7 +13,8 @@ use irq_base::{EnableAnswer, Entry, LinkAnswer, Note, Opened, UnlinkAnswer};
 pub(crate) struct Standing {
     /// A device is linked.
     pub(crate) linked: bool,
-    /// What the depth was raised to since it last got a value of its own: by the first request, or the last unlink.
+    /// What the depth was raised to since it last got a value of its own: by the first request, or
+    /// the last unlink.
     pub(crate) raised: u32,
     /// How often it was lowered since then.
     pub(crate) lowered: u32,

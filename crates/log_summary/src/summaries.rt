@@ -12,8 +12,8 @@ use crate::standing::Standing;
 use irq_base::{History, LineNo};
 use text_row::TextRow;
 
-/// Writes the summary row of the line: how many entries its history has, how many of each kind, and whether the
-/// line is left stopped, disabled or enabled. What the row held before is gone.
+/// Writes the summary row of the line: how many entries its history has, how many of each kind, and
+/// whether the line is left stopped, disabled or enabled. What the row held before is gone.
 pub fn summary_row(row: &mut TextRow, line: LineNo, history: &History)
     requires few { length history.now.entries ≤ 100000000 }
     requires lasts { TellsLasts history.now.entries }

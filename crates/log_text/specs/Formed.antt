@@ -15,7 +15,8 @@ abbrev pub HasSmallNumbers : Entry → Type 0
 HasSmallNumbers (entries.Ask driver dev) = IsSmall driver.0 × IsSmall dev.0
 HasSmallNumbers (entries.Take cpu way answer) = IsSmall cpu.0
 HasSmallNumbers (entries.Begin cpu dev) = IsSmall cpu.0 × IsSmall dev.0
-HasSmallNumbers (entries.Return cpu dev answer served) = IsSmall cpu.0 × IsSmall dev.0 × IsSmall served
+HasSmallNumbers (entries.Return cpu dev answer served) =
+    IsSmall cpu.0 × IsSmall dev.0 × IsSmall served
 HasSmallNumbers (entries.End cpu again unmask note) = IsSmall cpu.0
 HasSmallNumbers (entries.ThreadBegin dev) = IsSmall dev.0
 HasSmallNumbers (entries.ThreadReturn dev served) = IsSmall dev.0 × IsSmall served

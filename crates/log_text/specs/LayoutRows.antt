@@ -28,7 +28,8 @@ unmapped_word reasons.NoMask = codes "no-mask"
 
 -- the virq and the levels, leaf first; or why there are none
 abbrev pub placement_words : List DomainRow → Placement → List (List ℕ)
-placement_words domains (placements.Mapped virq path) = codes "virq" ∷ decimal virq ∷ map (level_word domains) path
+placement_words domains (placements.Mapped virq path) =
+    codes "virq" ∷ decimal virq ∷ map (level_word domains) path
 placement_words domains (placements.Refused why) = codes "refused" ∷ unmapped_word why ∷ []
 
 -- a path has at most eight levels
@@ -38,7 +39,8 @@ IsShort (placements.Refused why) = Unit {0}
 
 -- the row of a line that lies there
 abbrev pub layout_text : List DomainRow → LineNo → Placement → List ℕ
-layout_text domains line placement = row_of (codes "#" ∷ codes "irq" ∷ decimal line.0 ∷ placement_words domains placement)
+layout_text domains line placement =
+    row_of (codes "#" ∷ codes "irq" ∷ decimal line.0 ∷ placement_words domains placement)
 
 abbrev pub text_of_both : List DomainRow → Option LineRow → Option Placement → List ℕ
 text_of_both domains (Some row) (Some placement) = layout_text domains row.line placement

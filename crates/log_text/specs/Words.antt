@@ -93,7 +93,8 @@ or_dash (letter ∷ letters) = letter ∷ letters
 
 -- the letters of the flags that stand, or a dash for none
 abbrev pub flags_word : Flags → List ℕ
-flags_word flags = or_dash (letter_if flags.shared (codes "s") ++ letter_if flags.oneshot (codes "o") ++ letter_if flags.noauto (codes "n"))
+flags_word flags = or_dash (letter_if flags.shared (codes "s")
+    ++ letter_if flags.oneshot (codes "o") ++ letter_if flags.noauto (codes "n"))
 
 abbrev pub enable_words : EnableAnswer → List (List ℕ)
 enable_words enables.Unbalanced = codes "unbalanced" ∷ []

@@ -10,9 +10,10 @@ use board_def::{Board, Layout, Placement};
 use irq_base::Path;
 use text_row::TextRow;
 
-/// Writes the row of the line at that place of the board, counted from 0: `# irq LINE virq VIRQ`, and the name of
-/// each domain on its way with the line's number there, leaf first; or `# irq LINE refused` and why. It begins with
-/// `#`, so no reader of a log takes it for an entry. What the row held before is gone.
+/// Writes the row of the line at that place of the board, counted from 0: `# irq LINE virq VIRQ`,
+/// and the name of each domain on its way with the line's number there, leaf first; or `# irq LINE
+/// refused` and why. It begins with `#`, so no reader of a log takes it for an entry. What the row
+/// held before is gone.
 #[tactic(auto, using(crate::proofs::Levels::short_at, crate::proofs::Levels::row_is))]
 pub fn layout_row(row: &mut TextRow, layout: &Layout, board: &Board, i: usize)
     requires line { i < length board.now.lines }

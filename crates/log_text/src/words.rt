@@ -1,4 +1,5 @@
-//! The words for what an entry answers, each of at most nine letters, and for why a line has no place.
+//! The words for what an entry answers, each of at most nine letters, and for why a line has no
+//! place.
 ghost use Rattle.std.specs.Prelude.{◌≡◌, ◌≤◌, length};
 ghost use Rattle.log_text.specs.LayoutRows.{unmapped_word};
 ghost use Rattle.log_text.specs.Words.{way_word, take_word, answer_word, loop_word, mask_word, note_word, bit_word, resend_word, error_word, flags_word, unlink_word};

@@ -12,7 +12,8 @@ use Rattle.plain_line.specs.declared.looking.Looked.{Looked}
 
 -- takes are due of this processor, and of no other
 abbrev pub IsTakerAt : LineDef → List Entry → Option CpuNo → Type 0
-IsTakerAt def past taker = (cpu : CpuNo) → (taker ≡ Some cpu) ↔ IsTrue (is_some_take (next_past def past (actors.Cpu cpu)))
+IsTakerAt def past taker =
+    (cpu : CpuNo) → (taker ≡ Some cpu) ↔ IsTrue (is_some_take (next_past def past (actors.Cpu cpu)))
 
 -- an entry is due of the device's thread
 abbrev pub is_thread_due : LineDef → List Entry → DevNo → Bool
@@ -24,7 +25,8 @@ IsThreadDueAt def past dev = IsTrue (is_thread_due def past dev)
 -- the device with the least number whose thread has an entry due; none if no thread has
 abbrev pub IsLowestAt : LineDef → List Entry → Option DevNo → Type 0
 IsLowestAt def past None = (dev : DevNo) → IsThreadDueAt def past dev → ⊥
-IsLowestAt def past (Some lowest) = IsThreadDueAt def past lowest × ((dev : DevNo) → IsThreadDueAt def past dev → lowest.0 ≤ dev.0)
+IsLowestAt def past (Some lowest) =
+    IsThreadDueAt def past lowest × ((dev : DevNo) → IsThreadDueAt def past dev → lowest.0 ≤ dev.0)
 
 -- the lower of the two, or the first alone unless the second counts
 abbrev pub lower_of : Option DevNo → DevNo → Bool → Option DevNo

@@ -9,15 +9,16 @@ use crate::masks::is_masked;
 use irq_base::{Entry, LineDef, NoMemory};
 use std::alloc::Global;
 
-/// An entry at which an edge comes: an ask, a start that the chip resends, and on the fast-EOI flow an end that
-/// retriggers.
+/// An entry at which an edge comes: an ask, a start that the chip resends, and on the fast-EOI flow
+/// an end that retriggers.
 fn is_edge(def: &LineDef, e: Entry) -> bool
     ensures { result ≡ is_edge def.now e }
 {
     is_edge_line(def) && (is_any_ask(e) || is_chip_start(e) || (is_eoi_flow(def) && is_again(e)))
 }
 
-/// Whether the line is masked at each place: item `i` is of `past[i..]`, and the last one of the beginning.
+/// Whether the line is masked at each place: item `i` is of `past[i..]`, and the last one of the
+/// beginning.
 fn mask_table(alloc: Global, def: &LineDef, past: &[Entry]) -> Result<Vec<bool>, NoMemory>
     ensures { IfOk result (λ masked. IsMaskTable def.now past.now masked.items) }
 {

@@ -70,8 +70,8 @@ pub fn is_none_linked(alloc: Global, past: &[Entry]) -> Result<bool, NoMemory>
     Ok(linked(alloc, past)?.is_empty())
 }
 
-/// What one more entry makes of the linked devices: a request that is linked puts its device last, an unlink
-/// takes its device out.
+/// What one more entry makes of the linked devices: a request that is linked puts its device last,
+/// an unlink takes its device out.
 fn link_or_unlink(devices: &mut Vec<DevNo>, e: Entry) -> Result<(), NoMemory>
     ensures { OnOk result ((past : List Entry) → devices.old.items ≡ linked past → devices.new.items ≡ linked (e ∷ past)) }
 {
@@ -91,15 +91,16 @@ fn link_or_unlink(devices: &mut Vec<DevNo>, e: Entry) -> Result<(), NoMemory>
     Ok(())
 }
 
-/// How many entries stand after the last that gives the depth a value of its own: a first request, or a last
-/// unlink.
+/// How many entries stand after the last that gives the depth a value of its own: a first request,
+/// or a last unlink.
 #[tactic(auto, using(irq_model::proofs::Lists::since_from_upto))]
 fn since_reset(alloc: Global, past: &[Entry]) -> Result<usize, NoMemory>
     ensures since { IfOk result (λ k. since_place is_reset past.now ≡ take k past.now) }
     ensures upto { IfOk result (λ k. upto_place is_reset past.now ≡ drop k past.now) }
     ensures within { IfOk result (λ k. k ≤ length past.now) }
 {
-    // The linked devices up to each place, entry by entry: `linked` at each place would take the cube of the length.
+    // The linked devices up to each place, entry by entry: `linked` at each place would take the
+    // cube of the length.
     let mut devices = Vec::new(alloc);
     let mut place = past.len();
     for i in (0..past.len()).rev() {

@@ -100,8 +100,8 @@ fn end_level(def: &LineDef, c: CpuNo, past: &[Entry], note: Note, may_open: bool
     }
 }
 
-/// The flow's end: the edge flow goes on with what is pending; the level flow opens the line; the fast-EOI flow
-/// does so on a one-shot level line, and on an edge line sends what is pending again.
+/// The flow's end: the edge flow goes on with what is pending; the level flow opens the line; the
+/// fast-EOI flow does so on a one-shot level line, and on an edge line sends what is pending again.
 fn end_by_flow(
     alloc: Global,
     def: &LineDef,

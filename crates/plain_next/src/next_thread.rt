@@ -55,7 +55,8 @@ fn finish_unmasks(alloc: Global, def: &LineDef, d: DevNo, past: &[Entry]) -> Res
     )
 }
 
-/// After the thread's handler returned: on a one-shot line it gives its bit up, once no flow is in progress.
+/// After the thread's handler returned: on a one-shot line it gives its bit up, once no flow is in
+/// progress.
 fn finish_or_done(
     alloc: Global,
     def: &LineDef,

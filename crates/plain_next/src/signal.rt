@@ -31,8 +31,8 @@ fn has_take(entries: &[Entry]) -> bool
     entries.iter().any(|e| is_take(*e))
 }
 
-/// The newest entry of `upto` put a mask in force: a change at once, or one that waited and was made by a take
-/// after it.
+/// The newest entry of `upto` put a mask in force: a change at once, or one that waited and was
+/// made by a take after it.
 fn puts_in_force(after: &[Entry], upto: &[Entry]) -> bool
     ensures { result ≡ puts_in_force after.now upto.now }
 {

@@ -22,8 +22,8 @@ pub fn is_running(past: &[Entry], d: DevNo) -> bool
     stands(past, |e| is_thread_begin(d, e), |e| is_done(d, e))
 }
 
-/// The device's thread bit stands: it was linked one-shot, and since then a return woke its thread and no
-/// finish gave the bit up.
+/// The device's thread bit stands: it was linked one-shot, and since then a return woke its thread
+/// and no finish gave the bit up.
 fn is_unfinished(past: &[Entry], d: DevNo) -> bool
     ensures { result ≡ is_unfinished past.now d }
 {

@@ -1,5 +1,6 @@
--- The play of a line by the stated order: the picks first, then always the lowest actor that can move, until
--- none can, or the log is full (ours). The newest entry comes first here, as in the definitions of a line.
+-- The play of a line by the stated order: the picks first, then always the lowest actor that can
+-- move, until none can, or the log is full (ours). The newest entry comes first here, as in the
+-- definitions of a line.
 use Rattle.std.specs.Prelude.{◌≡◌, ◌<◌, IsSome, Option, Some, None, List, [], ◌∷◌, reverse, length}
 use Rattle.irq_base.specs.declared.lines.LineDef.{LineDef}
 use Rattle.irq_base.specs.declared.entries.Actor.{Actor}
@@ -26,7 +27,8 @@ abbrev pub with_picks : List Actor → Option Entry → Option (Entry × List Ac
 with_picks picks None = None
 with_picks picks (Some e) = Some (e, picks)
 
-abbrev pub or_choice : Option (Entry × List Actor) → Option (Entry × List Actor) → Option (Entry × List Actor)
+abbrev pub or_choice : Option (Entry × List Actor) → Option (Entry × List Actor)
+    → Option (Entry × List Actor)
 or_choice None other = other
 or_choice (Some move) other = Some move
 
@@ -34,13 +36,15 @@ or_choice (Some move) other = Some move
 -- picks of the lowest actor that can move
 abbrev pub choice : LineDef → List Entry → List Actor → Option (Entry × List Actor)
 choice def past [] = with_picks [] (first_move def past (actors_of def))
-choice def past (pick ∷ picks) = or_choice (with_picks picks (next_past def past pick)) (choice def past picks)
+choice def past (pick ∷ picks) =
+    or_choice (with_picks picks (next_past def past pick)) (choice def past picks)
 
 -- each entry was the next move, and there was room for it; `left` are the picks that are left
 abbrev pub IsChosen : LineDef → List Actor → List Entry → List Actor → Type 0
 IsChosen def picks [] left = left ≡ picks
 IsChosen def picks (e ∷ past) left =
-    (before : List Actor) × IsChosen def picks past before × (choice def past before ≡ Some (e, left)) × (length past < def.log)
+    (before : List Actor) × IsChosen def picks past before
+    × (choice def past before ≡ Some (e, left)) × (length past < def.log)
 
 -- there is no further move; or there is one, and the log has its greatest length
 abbrev pub IsEnd : LineDef → List Entry → List Actor → End → Type 0
@@ -49,4 +53,5 @@ IsEnd def past left Full = IsSome (choice def past left) × (length past ≡ def
 
 -- the history, the oldest entry first, is the play of the line with these picks, and so it ends
 abbrev pub Plays : LineDef → List Actor → List Entry → End → Type 0
-Plays def picks h end = (left : List Actor) × IsChosen def picks (reverse h) left × IsEnd def (reverse h) left end
+Plays def picks h end =
+    (left : List Actor) × IsChosen def picks (reverse h) left × IsEnd def (reverse h) left end

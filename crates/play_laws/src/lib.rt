@@ -1,5 +1,5 @@
-//! The play of a line by the stated order, and its laws, over the definitions alone. Each law is the clause of a
-//! function with an empty body, so that crates above can call it or cite its lemma.
+//! The play of a line by the stated order, and its laws, over the definitions alone. Each law is
+//! the clause of a function with an empty body, so that crates above can call it or cite its lemma.
 #![tactic(auto)]
 
 ghost use Rattle.std.specs.Prelude.{◌≡◌, None, List};
@@ -13,7 +13,8 @@ ghost use Rattle.irq_model.specs.Valid.{IsValid};
 ghost use Rattle.play_laws.specs.Actors.{actors_of, IsOneOf};
 ghost use Rattle.play_laws.specs.Play.{End, Done, Plays};
 
-/// A play is one function of the line's definition and the picks: at most one history and one end are its play.
+/// A play is one function of the line's definition and the picks: at most one history and one end
+/// are its play.
 pub fn play_is_one()
     ensures law { (def : LineDef) (picks : List Actor) (g h : List Entry) (a b : End) → Plays def picks g a → Plays def picks h b → (g ≡ h) × (a ≡ b) }
 {}

@@ -1,5 +1,6 @@
 -- Reverse maps: which call is refused, and what each makes of the map (`irq_domain_associate` and
--- `irq_domain_clear_mapping` of `kernel/irq/irqdomain.c`). A map is seen as the virq at each hardware number.
+-- `irq_domain_clear_mapping` of `kernel/irq/irqdomain.c`). A map is seen as the virq at each
+-- hardware number.
 use Rattle.std.specs.Prelude.{◌≡◌, ◌<◌, ◌^◌, ℕ, Bool, true, false, ◌&&◌, ◌==◌, if◌then◌else◌, nat_lt, is_some, Option, Some, None, List}
 use Rattle.std.specs.Ordering.{nat_cmp}
 use Rattle.std.specs.BTreeMap.{is_at}
@@ -33,7 +34,8 @@ is_associated associated.Taken = false
 is_associated associated.OutOfRange = false
 is_associated associated.NoMemory = false
 
--- the map after an association that was answered so: each other number is as before, and after a refusal all are
+-- the map after an association that was answered so: each other number is as before, and after a
+-- refusal all are
 abbrev pub after_associate : AssocAnswer → ℕ → ℕ → (ℕ → Option ℕ) → ℕ → Option ℕ
 after_associate answer virq hw at k = if is_associated answer && (k == hw) then Some virq else at k
 
@@ -49,7 +51,8 @@ after_dispose hw at k = if k == hw then None else at k
 -- the number isn't mapped and each below it is; none if all numbers of 32 bits are mapped
 abbrev pub IsLowestFree : (ℕ → Option ℕ) → Option ℕ → Type 0
 IsLowestFree at None = (k : ℕ) → k < 2 ^ 32 → is_some (at k) ≡ true
-IsLowestFree at (Some hw) = (at hw ≡ None) × (hw < 2 ^ 32) × ((k : ℕ) → k < hw → is_some (at k) ≡ true)
+IsLowestFree at (Some hw) =
+    (at hw ≡ None) × (hw < 2 ^ 32) × ((k : ℕ) → k < hw → is_some (at k) ≡ true)
 
 -- the virq at the number, of pairs of a number and its virq
 abbrev pub entry_at : List (ℕ × ℕ) → ℕ → Option ℕ

@@ -7,8 +7,8 @@ use irq_base::NoMemory;
 use std::alloc::Global;
 use std::marker::Model;
 
-/// A linear map: an array with a place for each hardware number below its size (`irq_domain_create_linear`,
-/// `include/linux/irqdomain.h`). Contracts see the list of the places.
+/// A linear map: an array with a place for each hardware number below its size
+/// (`irq_domain_create_linear`, `include/linux/irqdomain.h`). Contracts see the list of the places.
 #[derive(Drop)]
 pub struct LinearMap {
     virqs: Vec<Option<u32>>,

@@ -24,7 +24,8 @@ pub enum DisposeAnswer {
     NotThere,
 }
 
-/// A domain's reverse map. Contracts see the virq at each hardware number, and the size of a linear map.
+/// A domain's reverse map. Contracts see the virq at each hardware number, and the size of a linear
+/// map.
 pub trait Revmap {
     /// The virq at each hardware number that is mapped.
     ghost at: { Self → ℕ → Option ℕ };
@@ -32,8 +33,8 @@ pub trait Revmap {
     /// The size of a linear map, whose numbers are those below it; none for a tree.
     ghost size: { Self → Option ℕ };
 
-    /// Maps the hardware number to the virq, which is above 0 (`irq_domain_associate`, `kernel/irq/irqdomain.c`).
-    /// A refusal changes nothing; a linear map never takes memory.
+    /// Maps the hardware number to the virq, which is above 0 (`irq_domain_associate`,
+    /// `kernel/irq/irqdomain.c`). A refusal changes nothing; a linear map never takes memory.
     fn associate(&mut self, virq: u32, hw: u32) -> AssocAnswer
         requires { 0 < virq }
         ensures answer { IsAssociated (size self.old) (at self.old hw) hw result }

@@ -8,8 +8,8 @@ use std::alloc::Global;
 use std::collections::BTreeMap;
 use std::marker::Model;
 
-/// A tree, which has every hardware number (`irq_domain_create_tree`, `include/linux/irqdomain.h`). Contracts see
-/// the pairs of a number and its virq.
+/// A tree, which has every hardware number (`irq_domain_create_tree`, `include/linux/irqdomain.h`).
+/// Contracts see the pairs of a number and its virq.
 #[derive(Drop)]
 pub struct TreeMap {
     virqs: BTreeMap<u32, u32>,

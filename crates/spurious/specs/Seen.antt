@@ -18,7 +18,8 @@ after_note now wake handled c = record c { counts = (noted_at now wake handled c
 
 -- a thread has served
 abbrev pub after_thread : CountsSeen → CountsSeen
-after_thread c = record c { counts = record c.counts { threads_handled = c.counts.threads_handled + 1 } }
+after_thread c =
+    record c { counts = record c.counts { threads_handled = c.counts.threads_handled + 1 } }
 
 -- the window begins anew
 abbrev pub after_reset : CountsSeen → CountsSeen

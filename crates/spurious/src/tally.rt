@@ -89,7 +89,8 @@ impl Tally {
         tally.judged(window, limit, now, true)
     }
 
-    /// A round that was handled, or wasn't: one that comes long after the last unhandled one begins their count anew.
+    /// A round that was handled, or wasn't: one that comes long after the last unhandled one begins
+    /// their count anew.
     fn judged(self, window: u32, limit: u32, now: u32, handled: bool) -> Noted
         requires { IsWithin window self }
         ensures rule { IsNoted result (judged window limit now handled (rule_counts self)) }
@@ -111,7 +112,8 @@ impl Tally {
         tally.counted(window, limit)
     }
 
-    /// Counts the round, unless all of the window were handled. At the window's end the unhandled ones are judged.
+    /// Counts the round, unless all of the window were handled. At the window's end the unhandled
+    /// ones are judged.
     fn counted(self, window: u32, limit: u32) -> Noted
         requires counted { self.irq_count < window }
         requires unhandled { self.irqs_unhandled ≤ self.irq_count + 1 }

@@ -1,7 +1,7 @@
 //! A row of text in a place of its own, which is written again and again.
 //!
-//! Whoever prints rows keeps one `TextRow` and lends it for each. Clearing it sets its length alone, and writing
-//! takes no memory.
+//! Whoever prints rows keeps one `TextRow` and lends it for each. Clearing it sets its length
+//! alone, and writing takes no memory.
 #![tactic(auto)]
 
 ghost use Rattle.std.specs.Prelude.{◌≡◌, ◌+◌, ◌<◌, ◌≤◌, [], ◌∷◌, ◌++◌, length, decimal};

@@ -334,8 +334,8 @@ fn is_domain(statement: &Statement, domain: DomainWords) -> bool {
     }
 }
 
-/// Options of line 1 at the domain a and the number 4,294,967,295: whether `unlazy`, `later` and one of them again
-/// stands, and the mask.
+/// Options of line 1 at the domain a and the number 4,294,967,295: whether `unlazy`, `later` and
+/// one of them again stands, and the mask.
 const OPTIONS: [(&str, [bool; 3], Option<u32>); 6] = [
     ("line 1 a 4294967295", [false, false, false], None),
     ("line 1 a 4294967295 unlazy", [true, false, false], None),

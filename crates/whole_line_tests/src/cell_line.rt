@@ -78,7 +78,8 @@ const BOTH: Blocks = Blocks {
     freed: false,
 };
 
-/// The flow, the trigger, and whether the chip stores edges, takes them back and can send them again.
+/// The flow, the trigger, and whether the chip stores edges, takes them back and can send them
+/// again.
 #[derive(Clone, Copy)]
 struct Shape(FlowKind, Trigger, bool);
 
@@ -246,7 +247,8 @@ fn step<L: IrqLine>(line: &mut L, actor: Actor) -> Result<Stepped, StepRefused> 
     }
 }
 
-/// Makes the steps of the table, each of which must add its entry and leave what is told of the line as it says.
+/// Makes the steps of the table, each of which must add its entry and leave what is told of the
+/// line as it says.
 fn play<L: IrqLine>(rt: &impl Abort, line: &mut L, table: &[Row]) {
     for (i, row) in table.iter().enumerate() {
         let wanted = match row.1 {

@@ -1,4 +1,5 @@
-//! The plain line plays worked histories. The entries, and what is asked of the line after each, are written by hand.
+//! The plain line plays worked histories. The entries, and what is asked of the line after each,
+//! are written by hand.
 ghost use Rattle.std.specs.Prelude.{◌≡◌, IfOk, IsTrue};
 ghost use Rattle.irq_base.specs.Handlers.{answer_of};
 ghost use Rattle.irq_model.specs.Valid.{IsValid};
@@ -101,8 +102,8 @@ const BOTH: Blocks = Blocks {
     freed: false,
 };
 
-/// What is fixed of a line beside its devices and calls. `latches`: its chip stores edges, takes them back and can send
-/// them again.
+/// What is fixed of a line beside its devices and calls. `latches`: its chip stores edges, takes
+/// them back and can send them again.
 #[derive(Clone, Copy)]
 struct Shape {
     flow: FlowKind,
@@ -124,7 +125,8 @@ const LATCH: Shape = Shape {
     limit: 99_900,
 };
 
-/// Who steps, which entry is added (or none), and then: the lowest thread, the flow's processor, the taker, the blocks.
+/// Who steps, which entry is added (or none), and then: the lowest thread, the flow's processor,
+/// the taker, the blocks.
 #[derive(Clone, Copy)]
 struct Row(
     Actor,
@@ -203,7 +205,8 @@ fn step<L: IrqLine, H: Handler>(
     }
 }
 
-/// Makes the steps of the table, each of which must add its entry and leave what is asked of the line as it says.
+/// Makes the steps of the table, each of which must add its entry and leave what is asked of the
+/// line as it says.
 fn play<L: IrqLine, H: Handler>(
     rt: &impl Abort,
     line: &mut L,

@@ -44,7 +44,8 @@ pub record Sits (line : LockSeen) (who : Actor) (s : SeatSeen) : Type 0 where
 
 -- each pass is of its line, one after another from the first on
 abbrev pub AreSeated : List LockSeen → JobSeen → Type 0
-AreSeated lines j = (i : ℕ) (s : SeatSeen) → slice_get j.seats i ≡ Some s → IsSomeAnd (slice_get lines (j.first + i)) (λ l. Sits l j.actor s)
+AreSeated lines j = (i : ℕ) (s : SeatSeen) → slice_get j.seats i ≡ Some s
+    → IsSomeAnd (slice_get lines (j.first + i)) (λ l. Sits l j.actor s)
 
 -- an actor's own entries on a line, the newest first, and all its lines as it alone made them
 abbrev pub own_past : List Placed → List Entry
@@ -58,14 +59,18 @@ own_lines seats = map own_line seats
 
 -- a processor has a flow in progress on no line but that of its flow
 abbrev pub HasOneFlow : JobSeen → Type 0
-HasOneFlow j = (i : ℕ) (s : SeatSeen) → slice_get j.seats i ≡ Some s → (j.flow ≡ Some i → ⊥) → has_flow s.pass.def (own_past s.pass.knows.mine) ≡ false
+HasOneFlow j = (i : ℕ) (s : SeatSeen) → slice_get j.seats i ≡ Some s → (j.flow ≡ Some i → ⊥)
+    → has_flow s.pass.def (own_past s.pass.knows.mine) ≡ false
 
--- a thread has a pass of its device's line; a processor one of each line, and a flow on one at most; a driver one of each
--- line, on which its entries are those of its script up to its place
+-- a thread has a pass of its device's line; a processor one of each line, and a flow on one at
+-- most; a driver one of each line, on which its entries are those of its script up to its place
 abbrev pub IsManned : BoardSeen → List LockSeen → JobSeen → Actor → Type 0
-IsManned board lines j (actors.Thread line dev) = (length j.seats ≡ 1) × IsPlaceOf lines line (Some j.first)
-IsManned board lines j (actors.Cpu c) = (j.first ≡ 0) × (length j.seats ≡ length lines) × HasOneFlow j
-IsManned board lines j (actors.Driver r) = (j.first ≡ 0) × (length j.seats ≡ length lines) × IsUpTo board.calls (own_lines j.seats) r j.at × (j.at ≤ length board.calls)
+IsManned board lines j (actors.Thread line dev) =
+    (length j.seats ≡ 1) × IsPlaceOf lines line (Some j.first)
+IsManned board lines j (actors.Cpu c) =
+    (j.first ≡ 0) × (length j.seats ≡ length lines) × HasOneFlow j
+IsManned board lines j (actors.Driver r) = (j.first ≡ 0) × (length j.seats ≡ length lines)
+    × IsUpTo board.calls (own_lines j.seats) r j.at × (j.at ≤ length board.calls)
 
 pub record IsJob (board : BoardSeen) (lines : List LockSeen) (j : JobSeen) : Type 0 where
   pub seated : AreSeated lines j
@@ -73,9 +78,11 @@ pub record IsJob (board : BoardSeen) (lines : List LockSeen) (j : JobSeen) : Typ
 
 -- ---- all jobs
 
--- the actors that have a worker: the threads of the lines' devices that have one, the processors and the drivers
+-- the actors that have a worker: the threads of the lines' devices that have one, the processors
+-- and the drivers
 abbrev pub has_worker : List LockSeen → DeviceDef → Bool
-has_worker lines x = has_thread x.kind && list_any (λ (l : LockSeen). same_line x.line l.def.line) lines
+has_worker lines x =
+    has_thread x.kind && list_any (λ (l : LockSeen). same_line x.line l.def.line) lines
 
 abbrev pub workers_of : BoardSeen → List LockSeen → List Actor
 workers_of board lines = map (λ (x : DeviceDef). actors.Thread x.line x.dev) (filter (has_worker lines) board.devices) ++ (cpus_of board ++ drivers_of board)
@@ -87,8 +94,8 @@ works_on k j = nat_le j.first k && nat_lt k (j.first + length j.seats)
 abbrev pub actors_on : ℕ → List JobSeen → List Actor
 actors_on k jobs = map (λ (j : JobSeen). j.actor) (filter (works_on k) jobs)
 
--- a first pass is of its line, holds no turn, and has given passes to exactly the actors of the jobs that work on the line,
--- which are out
+-- a first pass is of its line, holds no turn, and has given passes to exactly the actors of the
+-- jobs that work on the line, which are out
 pub record IsFirst (line : LockSeen) (whom : List Actor) (p : PassSeen) : Type 0 where
   pub of_line : IsPassOf line p
   pub idle : p.turn ≡ false
@@ -99,9 +106,11 @@ pub record IsFirst (line : LockSeen) (whom : List Actor) (p : PassSeen) : Type 0
 -- one first pass a line
 pub record AreFirsts (lines : List LockSeen) (jobs : List JobSeen) (firsts : List PassSeen) : Type 0 where
   pub as_many : length firsts ≡ length lines
-  pub each : (k : ℕ) (p : PassSeen) → slice_get firsts k ≡ Some p → IsSomeAnd (slice_get lines k) (λ l. IsFirst l (actors_on k jobs) p)
+  pub each : (k : ℕ) (p : PassSeen) → slice_get firsts k ≡ Some p
+      → IsSomeAnd (slice_get lines k) (λ l. IsFirst l (actors_on k jobs) p)
 
--- the lines are the board's, each actor has its job, each job is as it should be, and nobody else has a pass
+-- the lines are the board's, each actor has its job, each job is as it should be, and nobody else
+-- has a pass
 pub record Fit (lines : List LockSeen) (s : JobsSeen) : Type 0 where
   pub defs : map (λ (l : LockSeen). l.def) lines ≡ defs_of s.board
   pub actors : map (λ (j : JobSeen). j.actor) s.jobs ≡ workers_of s.board lines

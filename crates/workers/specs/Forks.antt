@@ -41,8 +41,11 @@ is_within first end k = nat_le first k && nat_lt k end
 pub record Forks (lines : List LockSeen) (first end : ℕ) (who : Actor) (old new : List PassSeen) (seats : List SeatSeen) : Type 0 where
   pub as_many : length new ≡ length old
   pub count : first + length seats ≡ end
-  pub each : (i : ℕ) (s : SeatSeen) → slice_get seats i ≡ Some s → (l : LockSeen) × (p : PassSeen) × (slice_get lines (first + i) ≡ Some l) × (slice_get old (first + i) ≡ Some p) × IsForkOf l who p s
-  pub left : (k : ℕ) (p : PassSeen) → slice_get new k ≡ Some p → (q : PassSeen) × (slice_get old k ≡ Some q) × IsLeft (is_within first end k) who q p
+  pub each : (i : ℕ) (s : SeatSeen) → slice_get seats i ≡ Some s
+      → (l : LockSeen) × (p : PassSeen) × (slice_get lines (first + i) ≡ Some l)
+      × (slice_get old (first + i) ≡ Some p) × IsForkOf l who p s
+  pub left : (k : ℕ) (p : PassSeen) → slice_get new k ≡ Some p
+      → (q : PassSeen) × (slice_get old k ≡ Some q) × IsLeft (is_within first end k) who q p
 
 -- the lines are the board's
 abbrev pub AreBoards : BoardSeen → List LockSeen → Type 0
@@ -55,7 +58,8 @@ IsThere lines _ = Unit {0}
 
 -- an actor has passes of the lines from one place up to another
 abbrev pub IsSpan : List LockSeen → Actor → ℕ → ℕ → Type 0
-IsSpan lines (actors.Thread line dev) first end = IsPlaceOf lines line (Some first) × (end ≡ first + 1)
+IsSpan lines (actors.Thread line dev) first end =
+    IsPlaceOf lines line (Some first) × (end ≡ first + 1)
 IsSpan lines _ first end = (first ≡ 0) × (end ≡ length lines)
 
 -- there is one job more, of the actor, and it is as it should be

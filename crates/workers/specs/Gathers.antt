@@ -28,7 +28,8 @@ pub record IsHome (line : LockSeen) (p : PassSeen) : Type 0 where
 
 pub record AreHome (lines : List LockSeen) (firsts : List PassSeen) : Type 0 where
   pub as_many : length firsts ≡ length lines
-  pub each : (k : ℕ) (p : PassSeen) → slice_get firsts k ≡ Some p → IsSomeAnd (slice_get lines k) (λ l. IsHome l p)
+  pub each : (k : ℕ) (p : PassSeen) → slice_get firsts k ≡ Some p
+      → IsSomeAnd (slice_get lines k) (λ l. IsHome l p)
 
 -- the first pass met the job's pass of its line
 pub record HasMetOne (lines : List LockSeen) (j : JobSeen) (k : ℕ) (old new : PassSeen) : Type 0 where
@@ -42,12 +43,14 @@ pub record HasMetOne (lines : List LockSeen) (j : JobSeen) (k : ℕ) (old new : 
 
 -- the job has no pass of the line, and the first pass is as it was
 abbrev pub HasMetNone : JobSeen → ℕ → PassSeen → PassSeen → Type 0
-HasMetNone j k old new = ((place : ℕ) → place < length j.seats → k ≡ j.first + place → ⊥) × (new ≡ old)
+HasMetNone j k old new =
+    ((place : ℕ) → place < length j.seats → k ≡ j.first + place → ⊥) × (new ≡ old)
 
 -- the first passes met all passes of the job
 pub record IsMet (lines : List LockSeen) (j : JobSeen) (old new : List PassSeen) : Type 0 where
   pub home : AreHome lines new
-  pub each : (k : ℕ) (p : PassSeen) → slice_get new k ≡ Some p → (q : PassSeen) × (slice_get old k ≡ Some q) × (HasMetOne lines j k q p ⊎ HasMetNone j k q p)
+  pub each : (k : ℕ) (p : PassSeen) → slice_get new k ≡ Some p
+      → (q : PassSeen) × (slice_get old k ≡ Some q) × (HasMetOne lines j k q p ⊎ HasMetNone j k q p)
 
 -- ---- all of them
 
@@ -60,20 +63,24 @@ seen_lines firsts = map seen_line firsts
 
 -- the driver has no pass any more
 abbrev pub IsBack : List PassSeen → DriverNo → Type 0
-IsBack firsts r = (k : ℕ) (p : PassSeen) → slice_get firsts k ≡ Some p → (is_among (actors.Driver r) p.knows.given ≡ true) × (is_among (actors.Driver r) p.knows.out ≡ false)
+IsBack firsts r = (k : ℕ) (p : PassSeen) → slice_get firsts k ≡ Some p
+    → (is_among (actors.Driver r) p.knows.given ≡ true)
+    × (is_among (actors.Driver r) p.knows.out ≡ false)
 
 -- who is out on a line has one of these jobs, and was given a pass
 pub record AreOut (jobs : List JobSeen) (k : ℕ) (p : PassSeen) : Type 0 where
   pub given : (who : Actor) → is_among who p.knows.out ≡ true → is_among who p.knows.given ≡ true
   pub out : (who : Actor) → is_among who p.knows.out ≡ true → is_among who (actors_on k jobs) ≡ true
 
--- While these jobs are left: each is as it should be; whoever is out has one of them; and each driver that has none is
--- back, and its entries in what the first passes have seen are those of its script up to some place.
+-- While these jobs are left: each is as it should be; whoever is out has one of them; and each
+-- driver that has none is back, and its entries in what the first passes have seen are those of its
+-- script up to some place.
 pub record Gathers (board : BoardSeen) (lines : List LockSeen) (jobs : List JobSeen) (firsts : List PassSeen) : Type 0 where
   pub each : (i : ℕ) (j : JobSeen) → slice_get jobs i ≡ Some j → IsJob board lines j
   pub out : (k : ℕ) (p : PassSeen) → slice_get firsts k ≡ Some p → AreOut jobs k p
   pub drivers : (r : DriverNo) → has_driver board.drivers r ≡ true
-      → (is_among (actors.Driver r) (map (λ (j : JobSeen). j.actor) jobs) ≡ true) ⊎ (IsBack firsts r × ((place : ℕ) × IsUpTo board.calls (seen_lines firsts) r place))
+      → (is_among (actors.Driver r) (map (λ (j : JobSeen). j.actor) jobs) ≡ true)
+      ⊎ (IsBack firsts r × ((place : ℕ) × IsUpTo board.calls (seen_lines firsts) r place))
 
 -- nobody is out, so the lines can be taken out of their locks
 pub record IsFinal (line : LockSeen) (p : PassSeen) : Type 0 where
@@ -82,7 +89,8 @@ pub record IsFinal (line : LockSeen) (p : PassSeen) : Type 0 where
 
 pub record AreFinal (lines : List LockSeen) (firsts : List PassSeen) : Type 0 where
   pub as_many : length firsts ≡ length lines
-  pub each : (k : ℕ) (p : PassSeen) → slice_get firsts k ≡ Some p → IsSomeAnd (slice_get lines k) (λ l. IsFinal l p)
+  pub each : (k : ℕ) (p : PassSeen) → slice_get firsts k ≡ Some p
+      → IsSomeAnd (slice_get lines k) (λ l. IsFinal l p)
 
 abbrev pub AreSound : List LineSeen → Type 0
 AreSound lines = (i : ℕ) (x : LineSeen) → slice_get lines i ≡ Some x → IsSound x

@@ -16,11 +16,13 @@ use Rattle.workers.specs.declared.rounds.RoundsEnd.TheVariants as ends
 use Rattle.workers.specs.declared.turns.Turn.{Turn}
 use Rattle.workers.specs.declared.turns.Turn.TheVariants as turns
 
--- Nothing is due of the actor: of a thread or a processor on what each of its passes has seen; a driver is past all calls,
--- or nothing is due of it on what its pass of its current call's line has seen.
+-- Nothing is due of the actor: of a thread or a processor on what each of its passes has seen; a
+-- driver is past all calls, or nothing is due of it on what its pass of its current call's line has
+-- seen.
 abbrev pub IsAtRest : BoardSeen → JobSeen → Actor → Type 0
 IsAtRest board j (actors.Driver r) = (length board.calls ≤ j.at) ⊎ WaitsAt board j r
-IsAtRest board j who = (i : ℕ) (s : SeatSeen) → slice_get j.seats i ≡ Some s → IsIdle s.pass.def who s.pass.knows
+IsAtRest board j who =
+    (i : ℕ) (s : SeatSeen) → slice_get j.seats i ≡ Some s → IsIdle s.pass.def who s.pass.knows
 
 -- the job is as it should be, of the same actor, with passes of the same lines
 pub record WorksOn (board : BoardSeen) (lines : List LockSeen) (old new : JobSeen) : Type 0 where
@@ -50,7 +52,8 @@ pub record WorksJob (board : BoardSeen) (lines : List LockSeen) (old new : JobSe
 
 -- each job after a round
 abbrev pub KeepsJobs : BoardSeen → List LockSeen → List JobSeen → List JobSeen → Type 0
-KeepsJobs board lines old new = (k : ℕ) (d : JobSeen) → k < length old → WorksJob board lines (slice_index_or old k d) (slice_index_or new k d)
+KeepsJobs board lines old new = (k : ℕ) (d : JobSeen) → k < length old
+    → WorksJob board lines (slice_index_or old k d) (slice_index_or new k d)
 
 abbrev pub EachLeftSo : JobsSeen → Type 0
 EachLeftSo s = (i : ℕ) (j : JobSeen) → slice_get s.jobs i ≡ Some j → LeftIsSo s.board j j.left
@@ -75,14 +78,17 @@ pub record IsLowestFull (jobs : List JobSeen) (n : ℕ) (line : LineNo) (len : �
   pub job : JobSeen
   pub at : slice_get jobs place ≡ Some job
   pub left : job.left ≡ lefts.Full line len
-  pub lowest : (k : ℕ) (j : JobSeen) (other : LineNo) (m : ℕ) → k < n → slice_get jobs k ≡ Some j → j.left ≡ lefts.Full other m → line.0 ≤ other.0
+  pub lowest : (k : ℕ) (j : JobSeen) (other : LineNo) (m : ℕ) → k < n → slice_get jobs k ≡ Some j
+      → j.left ≡ lefts.Full other m → line.0 ≤ other.0
 
 -- what is said of the first jobs: all are idle, or that is the lowest full line, or none found a
 -- full line
 abbrev pub SumsUp : List JobSeen → ℕ → Left → Type 0
-SumsUp jobs n lefts.Idle = (k : ℕ) (j : JobSeen) → k < n → slice_get jobs k ≡ Some j → j.left ≡ lefts.Idle
+SumsUp jobs n lefts.Idle =
+    (k : ℕ) (j : JobSeen) → k < n → slice_get jobs k ≡ Some j → j.left ≡ lefts.Idle
 SumsUp jobs n (lefts.Full line len) = IsLowestFull jobs n line len
-SumsUp jobs n _ = (k : ℕ) (j : JobSeen) (other : LineNo) (m : ℕ) → k < n → slice_get jobs k ≡ Some j → j.left ≡ lefts.Full other m → ⊥
+SumsUp jobs n _ = (k : ℕ) (j : JobSeen) (other : LineNo) (m : ℕ) → k < n → slice_get jobs k ≡ Some j
+    → j.left ≡ lefts.Full other m → ⊥
 
 -- a step is due on the line with one of the jobs' passes, and the line has the greatest length
 pub record IsFullFor (s : JobsSeen) (line : LineNo) (len : ℕ) : Type 0 where
@@ -91,9 +97,11 @@ pub record IsFullFor (s : JobsSeen) (line : LineNo) (len : ℕ) : Type 0 where
   pub at : slice_get s.jobs place ≡ Some job
   pub is : IsFullOn job line len
   -- and no worker stopped at a full line with a lower number
-  pub lowest : (k : ℕ) (j : JobSeen) (other : LineNo) (m : ℕ) → slice_get s.jobs k ≡ Some j → j.left ≡ lefts.Full other m → line.0 ≤ other.0
+  pub lowest : (k : ℕ) (j : JobSeen) (other : LineNo) (m : ℕ) → slice_get s.jobs k ≡ Some j
+      → j.left ≡ lefts.Full other m → line.0 ≤ other.0
 
--- Quiet: nothing is due of any actor. Full: the lowest line at which a worker stopped, on which a step is due
+-- Quiet: nothing is due of any actor. Full: the lowest line at which a worker stopped, on which a
+-- step is due
 abbrev pub Ends : JobsSeen → RoundsEnd → Type 0
 Ends s ends.Quiet = (i : ℕ) (j : JobSeen) → slice_get s.jobs i ≡ Some j → IsAtRest s.board j j.actor
 Ends s (ends.Full line len) = IsFullFor s line len

@@ -10,8 +10,9 @@ pub record SeatSeen : Type 0 where
   pub pass : PassSeen
   pub rests : Bool
 
--- The job of an actor: its passes, of the line at the place `first` and of those behind it; at which of them a processor
--- has a flow in progress; how many of the board's calls a driver is past; and how the last round left it.
+-- The job of an actor: its passes, of the line at the place `first` and of those behind it; at
+-- which of them a processor has a flow in progress; how many of the board's calls a driver is past;
+-- and how the last round left it.
 pub record JobSeen : Type 0 where
   pub actor : Actor
   pub first : ℕ

@@ -10,8 +10,8 @@ use Rattle.line_lock.specs.Knows.{BeginsWith}
 use Rattle.line_lock.specs.Placed.{placed}
 use Rattle.line_lock.specs.declared.view.Known.{Known}
 
--- The entry was due of the actor after some history, in which the pass's own entries were those that it knew. It stands
--- at the end of what is seen, and is the pass's own there.
+-- The entry was due of the actor after some history, in which the pass's own entries were those
+-- that it knew. It stands at the end of what is seen, and is the pass's own there.
 pub record Gains (def : LineDef) (who : Actor) (old : Known) (e : Entry) (new : Known) : Type 0 where
   pub history : List Entry
   pub own : old.mine ≡ placed def.line who history
@@ -24,7 +24,8 @@ pub record Gains (def : LineDef) (who : Actor) (old : Known) (e : Entry) (new : 
 abbrev pub IsIdle : LineDef → Actor → Known → Type 0
 IsIdle def who k = next def k.seen who ≡ None
 
--- an entry is due of the actor on what is seen, which has the greatest length that the definition allows
+-- an entry is due of the actor on what is seen, which has the greatest length that the definition
+-- allows
 pub record IsFull (def : LineDef) (who : Actor) (k : Known) : Type 0 where
   pub due : IsSome (next def k.seen who)
   pub length : length k.seen ≡ def.log
@@ -32,7 +33,8 @@ pub record IsFull (def : LineDef) (who : Actor) (k : Known) : Type 0 where
 abbrev pub CameTo : LineDef → Actor → Known → Result (Option Entry) StepRefused → Known → Type 0
 CameTo def who old (Ok (Some e)) new = Gains def who old e new
 CameTo def who old (Ok None) new = IsIdle def who new × (new.mine ≡ old.mine)
-CameTo def who old (Err (refusals.Full len)) new = IsFull def who new × (len ≡ def.log) × (new.mine ≡ old.mine)
+CameTo def who old (Err (refusals.Full len)) new =
+    IsFull def who new × (len ≡ def.log) × (new.mine ≡ old.mine)
 CameTo def who old (Err refusals.NoMemory) new = new.mine ≡ old.mine
 
 -- what is seen afterwards begins with what was seen, and it came to that

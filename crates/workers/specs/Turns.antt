@@ -29,7 +29,8 @@ turn_of line (Ok None) = turns.NotYet
 turn_of line (Err (refusals.Full len)) = turns.Full line len
 turn_of line (Err refusals.NoMemory) = turns.NoMemory
 
--- a try with the pass at the place: the pass afterwards is as it should be, and all else is as it was
+-- a try with the pass at the place: the pass afterwards is as it should be, and all else is as it
+-- was
 pub record StepsSeat (lines : List LockSeen) (place : ℕ) (turn : Turn) (old new : JobSeen) : Type 0 where
   pub line : LockSeen
   pub seat : SeatSeen
@@ -43,9 +44,12 @@ pub record StepsSeat (lines : List LockSeen) (place : ℕ) (turn : Turn) (old ne
   pub tries : Tries line.def old.actor seat.pass.knows tried after.pass.knows
   pub rests : after.rests ≡ rests_after tried
 
--- at which pass a processor has a flow in progress, after it added the entry with the pass at the place
+-- at which pass a processor has a flow in progress, after it added the entry with the pass at the
+-- place
 abbrev pub flow_after : FlowKind → Entry → ℕ → Option ℕ → Option ℕ
-flow_after flow e place before = if is_handle e then Some place else (if is_leave e || (is_eoi_flow flow && is_again e) then None else before)
+flow_after flow e place before =
+    if is_handle e then Some place
+    else (if is_leave e || (is_eoi_flow flow && is_again e) then None else before)
 
 abbrev pub within_flow : Turn → Turn
 within_flow turns.NotYet = turns.Undecided
@@ -80,16 +84,19 @@ FullIsSo j _ = Unit {0}
 pub record StepsCpu (lines : List LockSeen) (place : ℕ) (turn : Turn) (old new : JobSeen) : Type 0 where
   pub keeps : KeepsSeats lines old new
   pub flow : HasOneFlow new
-  pub rests : turn ≡ turns.NotYet → (s : SeatSeen) → slice_get new.seats place ≡ Some s → s.rests ≡ true
+  pub rests : turn ≡ turns.NotYet → (s : SeatSeen) → slice_get new.seats place ≡ Some s
+      → s.rests ≡ true
   pub still : turn ≡ turns.NotYet → new.flow ≡ old.flow
-  pub others : (i : ℕ) (s : SeatSeen) → (i ≡ place → ⊥) → slice_get new.seats i ≡ Some s → slice_get old.seats i ≡ Some s
+  pub others : (i : ℕ) (s : SeatSeen) → (i ≡ place → ⊥) → slice_get new.seats i ≡ Some s
+      → slice_get old.seats i ≡ Some s
   pub full : FullIsSo new turn
 
 -- a processor's turn: if nothing was due, that is known of all its passes
 pub record TurnsCpu (lines : List LockSeen) (turn : Turn) (old new : JobSeen) : Type 0 where
   pub keeps : KeepsSeats lines old new
   pub flow : HasOneFlow new
-  pub rests : turn ≡ turns.NotYet → (i : ℕ) (s : SeatSeen) → slice_get new.seats i ≡ Some s → s.rests ≡ true
+  pub rests : turn ≡ turns.NotYet → (i : ℕ) (s : SeatSeen) → slice_get new.seats i ≡ Some s
+      → s.rests ≡ true
   pub full : FullIsSo new turn
 
 -- ---- drivers

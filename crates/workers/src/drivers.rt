@@ -38,7 +38,8 @@ impl<L: IrqLine> Job<L> {
         self.step_driver(rt, board, lines, call, place, handlers)
     }
 
-    /// A try of the driver of that call, its current one, on the line at the place, which is the call's.
+    /// A try of the driver of that call, its current one, on the line at the place, which is the
+    /// call's.
     fn step_driver<R: Wait, H: Handler>(
         &mut self,
         rt: &R,

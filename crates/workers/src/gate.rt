@@ -1,8 +1,8 @@
 //! What stands before each turn.
 use irq_base::Actor;
 
-/// What a worker passes before each of its turns, with no lock held. A turn is one try to make its actor's next step,
-/// the call of a handler included.
+/// What a worker passes before each of its turns, with no lock held. A turn is one try to make its
+/// actor's next step, the call of a handler included.
 pub trait Gate {
     /// Lets the actor pass to its turn of that number in this run, counted from 1.
     fn pass(&self, actor: Actor, turn: u64);

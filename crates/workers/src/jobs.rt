@@ -19,7 +19,8 @@ use line_shared::{Pass, SharedLine};
 use std::alloc::Global;
 use std::marker::Model;
 
-/// The jobs of all workers of a board, and the first pass of each line, which comes back to its line at the end.
+/// The jobs of all workers of a board, and the first pass of each line, which comes back to its
+/// line at the end.
 #[derive(Drop)]
 pub struct Jobs<'b, L: IrqLine> {
     pub(crate) board: &'b Board,

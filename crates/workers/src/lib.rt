@@ -1,8 +1,10 @@
-//! Rounds of threads over shared lines: each device's thread, each processor and each driver of a board has a worker.
+//! Rounds of threads over shared lines: each device's thread, each processor and each driver of a
+//! board has a worker.
 //!
-//! `share` puts each line of a board behind its lock and gives the actors their passes; `run_rounds` lets the workers step,
-//! until a round makes no step; `gather` takes the lines back. Each worker knows facts of its own job alone, and the rounds
-//! collect them. Nothing is claimed of time, of fairness, or that threads run beside each other.
+//! `share` puts each line of a board behind its lock and gives the actors their passes;
+//! `run_rounds` lets the workers step, until a round makes no step; `gather` takes the lines back.
+//! Each worker knows facts of its own job alone, and the rounds collect them. Nothing is claimed of
+//! time, of fairness, or that threads run beside each other.
 #![tactic(auto)]
 
 mod crew;

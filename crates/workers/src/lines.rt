@@ -60,7 +60,8 @@ impl<L: IrqLine> SharedLines<L> {
         device.kind.has_thread() && self.place_of(device.line).is_some()
     }
 
-    /// The places from which and up to which the actor has passes: a thread of its device's line, the others of each.
+    /// The places from which and up to which the actor has passes: a thread of its device's line,
+    /// the others of each.
     pub(crate) fn span_of(&self, actor: Actor) -> (usize, usize)
         requires { IsThere self.now actor }
         ensures { IsSpan self.now actor result.0 result.1 }

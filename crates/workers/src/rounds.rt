@@ -22,9 +22,9 @@ use std::thread::{self, Threads};
 const TURNS: usize = 65_536;
 
 /// A worker makes at most this part of a history's greatest length as steps in a round. So one that
-/// goes on by itself, as a processor that takes a level line again and again until the thread of its
-/// device has run, leaves room for those that wait for the next round. Threads are made anew for each
-/// round, so it isn't to be a small part.
+/// goes on by itself, as a processor that takes a level line again and again until the thread of
+/// its device has run, leaves room for those that wait for the next round. Threads are made anew
+/// for each round, so it isn't to be a small part.
 const SHARE: u32 = 16;
 
 /// The fewest steps that are the most of a round.
@@ -38,8 +38,8 @@ const LOOKS: usize = 64;
 pub enum RoundsEnd {
     /// A round made no step, since nothing was due of any actor on what it had seen.
     Quiet,
-    /// A step was due on that line, whose history has the greatest length; of several such lines it is the lowest. `len`:
-    /// that many entries.
+    /// A step was due on that line, whose history has the greatest length; of several such lines it
+    /// is the lowest. `len`: that many entries.
     Full { line: LineNo, len: u32 },
     /// Memory was needed and refused.
     NoMemory,
@@ -150,7 +150,8 @@ fn round<R: Threads + Wait + Sync, L: IrqLine + Send + Sync, G: Gate + Sync, H: 
     );
 }
 
-/// Rounds of all jobs, until one of them made no step, or a worker was refused. They work on the lines that the jobs fit.
+/// Rounds of all jobs, until one of them made no step, or a worker was refused. They work on the
+/// lines that the jobs fit.
 pub fn run_rounds<
     R: Threads + Wait + Sync,
     L: IrqLine + Send + Sync,

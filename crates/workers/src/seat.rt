@@ -54,7 +54,8 @@ impl<L: IrqLine> Seat<L> {
         tried
     }
 
-    /// Whether nothing is known to have happened on the line since the actor was found to have nothing due.
+    /// Whether nothing is known to have happened on the line since the actor was found to have
+    /// nothing due.
     fn is_still(&self, line: &SharedLine<L>) -> bool
         ensures { IsTrue result → self.now.rests ≡ true }
     {

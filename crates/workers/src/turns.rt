@@ -130,7 +130,8 @@ fn turn_of(line: LineNo, tried: Result<Option<Entry>, StepRefused>) -> Turn
     }
 }
 
-/// At which pass a processor has a flow in progress, after it added the entry with the pass at the place.
+/// At which pass a processor has a flow in progress, after it added the entry with the pass at the
+/// place.
 pub(crate) fn flow_after(
     flow: FlowKind,
     entry: &Entry,

@@ -1,12 +1,14 @@
-//! Each call at its edges, through the bound, for cells of the five kinds of controllers that can stand alone and of
-//! two that can't. The expected signals are worked out by hand from the rules of cells.
+//! Each call at its edges, through the bound, for cells of the five kinds of controllers that can
+//! stand alone and of two that can't. The expected signals are worked out by hand from the rules of
+//! cells.
 ghost use Rattle.std.specs.Prelude.{◌≡◌, true, false};
 ghost use Rattle.irq_base.specs.Cell.{is_edge_cell};
 
 use crate::cell::Cell;
 use irq_base::{Chip, CpuNo, Trigger};
 
-/// Whether it presents an edge that came while it was masked, once it is masked still, open, acknowledged.
+/// Whether it presents an edge that came while it was masked, once it is masked still, open,
+/// acknowledged.
 fn edge_while_masked<C: Chip>(chip: &mut C) -> [bool; 3]
     requires { is_edge_cell (C.cell chip.old) ≡ true }
     ensures { is_edge_cell (C.cell chip.new) ≡ true }
@@ -19,8 +21,8 @@ fn edge_while_masked<C: Chip>(chip: &mut C) -> [bool; 3]
     [masked, open, chip.signal()]
 }
 
-/// Whether it presents an edge that comes now that it is open; after it was accepted and ended; once it is masked;
-/// once it is open again; and once it was masked, acknowledged and opened.
+/// Whether it presents an edge that comes now that it is open; after it was accepted and ended;
+/// once it is masked; once it is open again; and once it was masked, acknowledged and opened.
 fn edge_while_open<C: Chip>(chip: &mut C) -> [bool; 5]
     requires { is_edge_cell (C.cell chip.old) ≡ true }
 {
@@ -47,7 +49,8 @@ fn sent_again<C: Chip>(chip: &mut C) -> [bool; 2] {
     [answer, chip.signal()]
 }
 
-/// Whether it presents a high level while it is masked; open; accepted; ended; acknowledged; and once it is low.
+/// Whether it presents a high level while it is masked; open; accepted; ended; acknowledged; and
+/// once it is low.
 fn level_calls<C: Chip>(chip: &mut C) -> [bool; 6]
     requires { is_edge_cell (C.cell chip.old) ≡ false }
 {

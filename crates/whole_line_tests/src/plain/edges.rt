@@ -107,8 +107,8 @@ const EDGE_DURING_THE_HANDLER: [Row; 13] = [
     Row(BY_CPU, None, None, None, None, NOTHING),
 ];
 
-/// An edge comes while the handler is at work, and another processor is its target: it takes it busy, and the flow calls
-/// the handler again.
+/// An edge comes while the handler is at work, and another processor is its target: it takes it
+/// busy, and the flow calls the handler again.
 #[test]
 fn edge_during_the_handler(rt: HostRuntime) -> Result<(), Fail> {
     let mut line = plain_line(rt.alloc(), TWO_CPUS, &[DIRECT], &MOVING)?;
@@ -209,8 +209,8 @@ const WOKEN_WHILE_RUNNING: [Row; 19] = [
     Row(BY_THREAD, Some(DONE), None, None, None, NOTHING),
 ];
 
-/// The thread is woken while it is in a run, keeps its bit at the finish, and runs once more. A handler was called for
-/// each return of the history, and for nothing else.
+/// The thread is woken while it is in a run, keeps its bit at the finish, and runs once more. A
+/// handler was called for each return of the history, and for nothing else.
 #[test]
 fn woken_while_running(rt: HostRuntime) -> Result<(), Fail> {
     let calls = Arc::new(rt.alloc(), AtomicU64::new(0))?;
@@ -308,7 +308,8 @@ const FREE_OVER_A_HANDLER: [Row; 15] = [
     Row(BY_DRIVER, Some(NOT_THERE), None, None, None, NOTHING),
 ];
 
-/// The device is freed while its handler is at work: the free waits for the flow, then for the thread that it woke.
+/// The device is freed while its handler is at work: the free waits for the flow, then for the
+/// thread that it woke.
 #[test]
 fn free_over_a_running_handler(rt: HostRuntime) -> Result<(), Fail> {
     let mut line = plain_line(rt.alloc(), LATCH, &[CHECK], &[REQUEST, ASK, FREE, FREE])?;

@@ -165,7 +165,8 @@ const TWO_THREADS: [Row; 18] = [
     Row(BY_SECOND, Some(SECOND_DONE), None, None, None, NOTHING),
 ];
 
-/// Two threads finish a one-shot line. Neither may finish during the flow, and the last of them opens the line.
+/// Two threads finish a one-shot line. Neither may finish during the flow, and the last of them
+/// opens the line.
 #[test]
 fn oneshot_with_two_threads(rt: HostRuntime) -> Result<(), Fail> {
     let mut line = plain_line(
@@ -281,7 +282,8 @@ const LAST_ROUND: [Row; 5] = [
     ),
 ];
 
-/// Nobody serves the line: the tenth unhandled round of a window of ten kills it, and a further request opens it.
+/// Nobody serves the line: the tenth unhandled round of a window of ten kills it, and a further
+/// request opens it.
 #[test]
 fn storm(rt: HostRuntime) -> Result<(), Fail> {
     let mut line = plain_line(
