@@ -35,7 +35,7 @@ line 1 intc 2
 device 1 1 direct
 driver 1
 request 1
--- -
+---
 1 d1 ask 1
 ";
 
