@@ -20,15 +20,17 @@ use Rattle.line_lock.specs.Placed.{placed}
 use Rattle.line_lock.specs.declared.view.Placed.{Placed}
 use Rattle.workers.specs.Fit.{Sits, IsPlaceOf, own_past, own_line, own_lines}
 use Rattle.workers.specs.Forks.{AreBoards}
+use Rattle.workers.specs.Room.{RoomAfter}
 use Rattle.workers.specs.Seen.{SeatSeen, JobSeen}
 use Rattle.workers.specs.Tries.{Gains, Tries, rests_after, IsIdle}
 use Rattle.workers.specs.Turns.{StepsSeat, KeepsSeats, IsDriven, WaitsAt, TurnsDriver, is_last}
 use Rattle.workers.specs.declared.turns.Turn.{Turn}
 use Rattle.workers.specs.declared.turns.Turn.TheVariants as turns
 use Rattle.workers.proofs.Driving.{AreAmong, passed_all, up_after, alike_after}
-use Rattle.workers.proofs.Flowing.{own_more, keeps_seats, seat_now, full_is_so, moved_is, not_yet_is, nothing_gained, keeps_on}
+use Rattle.workers.proofs.Flowing.{own_more, keeps_seats, seat_now, seat_there, full_is_so, moved_is, not_yet_is, nothing_gained, keeps_on}
 use Rattle.workers.proofs.Lists.{at_map, of_map, within}
 use Rattle.workers.proofs.Own.{own_are_seen, AreAlike, same_script}
+use Rattle.workers.proofs.Rooms.{room_after, room_as, room_from, same_room}
 
 same_defs : (seats : List SeatSeen) (lines : List LockSeen) → length seats ≡ length lines → ((i : ℕ) (s : SeatSeen) → slice_get seats i ≡ Some s → IsSomeAnd (slice_get lines i) (λ l. s.pass.def ≡ l.def))
     → map (λ (x : BoardLine). x.def) (own_lines seats) ≡ map (λ (l : LockSeen). l.def) lines
@@ -109,6 +111,7 @@ module _ (board : BoardSeen) (lines : List LockSeen) (boards : AreBoards board l
           within = let w = d.within in omega (arith, w, at_is);
           rests = λ is. inr (waits is);
           full = full_is_so lines place turn j mid s;
+          room = room_after lines place turn j mid d.seated s;
         }
       where
         same_mine : s.after.pass.knows.mine ≡ s.seat.pass.knows.mine
@@ -138,15 +141,10 @@ module _ (board : BoardSeen) (lines : List LockSeen) (boards : AreBoards board l
               seat = s.after;
               at_call = ap (λ (n : ℕ). slice_get board.calls n) at_is ∙ at_p;
               own = mine;
-              at_seat = ap (λ (ss : List SeatSeen). slice_get ss place) seats_are ∙ set_there j.seats place s.after s.seat s.at_seat;
+              at_seat = seat_there lines place turn j mid s;
               line = ap (λ (x : LineDef). x.line) s.sits.of_line.1 ∙ line_is;
               rests = subst (λ (x : LineDef). IsIdle x (actors.Driver r) s.after.pass.knows) (sym s.sits.of_line.1) (subst (λ (a : Actor). IsIdle s.line.def a s.after.pass.knows) d.actor idle);
             }
-          where
-            set_there : (xs : List SeatSeen) (k : ℕ) (y x : SeatSeen) → slice_get xs k ≡ Some x → slice_get (set xs k y) k ≡ Some y
-            set_there [] k y x at = cc
-            set_there (z ∷ zs) zero y x at = refl
-            set_there (z ∷ zs) (suc k) y x at = set_there zs k y x at
 
     pub driver_moved : (e : Entry) → turn ≡ turns.Moved e → (last : Bool) → is_last c.call e ≡ last → (new : JobSeen) → new ≡ record mid { at = cond last (mid.at + 1) mid.at } → TurnsDriver board lines r (turns.Moved e) j new
     driver_moved e is last is_l new now =
@@ -158,6 +156,7 @@ module _ (board : BoardSeen) (lines : List LockSeen) (boards : AreBoards board l
           within = let w = within board.calls j.at c at_p in let n = ap (λ (x : JobSeen). x.at) now in fits last n w;
           rests = λ h. cc;
           full = tt;
+          room = room_as (turns.Moved e) j mid new (ap (λ (x : JobSeen). x.seats) now) (subst (λ (t : Turn). RoomAfter t j mid) is (room_after lines place turn j mid d.seated s));
         }
       where
         same_seats : KeepsSeats lines j mid → KeepsSeats lines j (record mid { at = cond last (mid.at + 1) mid.at })
@@ -198,6 +197,7 @@ module _ (board : BoardSeen) (lines : List LockSeen) (boards : AreBoards board l
         within = e.within;
         rests = λ h. inl (let n = nothing_there board.calls q none in let a = ap (λ (x : JobSeen). x.at) is in omega (arith, n, a));
         full = tt;
+        room = same_room j now (ap (λ (x : JobSeen). x.seats) is);
       }
     where
       nothing_there : (cs : List ScriptCall) (k : ℕ) → slice_get cs k ≡ None → length cs ≤ k
@@ -208,4 +208,4 @@ module _ (board : BoardSeen) (lines : List LockSeen) (boards : AreBoards board l
   pub driver_turned : (turn : Turn) (new : JobSeen) (s : DriverNo) → s ≡ r → TurnsDriver board lines s turn now new → TurnsDriver board lines r turn j new
   driver_turned turn new s same t =
       subst (λ (x : DriverNo). TurnsDriver board lines x turn j new) same
-      (record { keeps = keeps_on lines j now new same_seats t.keeps; up_to = t.up_to; within = t.within; rests = t.rests; full = t.full })
+      (record { keeps = keeps_on lines j now new same_seats t.keeps; up_to = t.up_to; within = t.within; rests = t.rests; full = t.full; room = room_from turn j now new (same_room j now (ap (λ (x : JobSeen). x.seats) is)) t.room })

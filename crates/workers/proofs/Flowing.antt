@@ -3,28 +3,34 @@ use Rattle.std.proofs.Common.{◌≡◌, ℕ, zero, suc, ◌+◌, ◌<◌, ◌�
 use Rattle.std.proofs.Math.ListN.{length-set}
 use Rattle.std.proofs.lemmas.List.{reverse-append}
 use Rattle.irq_base.specs.declared.entries.Actor.{Actor}
+use Rattle.irq_base.specs.declared.entries.Actor.TheVariants as actors
 use Rattle.irq_base.specs.declared.entries.Entry.{Entry}
 use Rattle.irq_base.specs.declared.entries.Entry.TheVariants as entries
 use Rattle.irq_base.specs.declared.lines.FlowKind.{FlowKind}
 use Rattle.irq_base.specs.declared.lines.LineDef.{LineDef}
+use Rattle.irq_base.specs.declared.numbers.CpuNo.{CpuNo}
 use Rattle.irq_base.specs.declared.numbers.LineNo.{LineNo}
+use Rattle.irq_laws.proofs.Chosen.{the_same}
+use Rattle.irq_laws.proofs.OwnLaws.{due_is_own}
 use Rattle.irq_line.specs.declared.answers.StepRefused.{StepRefused}
 use Rattle.irq_line.specs.declared.answers.StepRefused.TheVariants as refusals
 use Rattle.irq_model.specs.Kinds.{is_handle}
 use Rattle.irq_model.specs.Lines.{is_eoi_flow}
 use Rattle.irq_model.specs.Places.{last_of}
-use Rattle.irq_model.specs.Rounds.{closes, cpu_of_handle, has_flow}
+use Rattle.irq_model.specs.Rounds.{closes, cpu_of_handle, flow, has_flow}
 use Rattle.line_lock.specs.Passes.{LockSeen}
 use Rattle.line_lock.specs.declared.view.Known.{Known}
 use Rattle.line_lock.specs.declared.view.Placed.{Placed}
-use Rattle.workers.specs.Fit.{Sits, AreSeated, own_past, HasOneFlow}
+use Rattle.workers.specs.Fit.{Sits, AreSeated, own_past, HasOneFlow, IsInFlow, HasItsFlow}
 use Rattle.workers.specs.Seen.{SeatSeen, JobSeen}
 use Rattle.workers.specs.Tries.{Gains, IsFull, Tries, rests_after}
 use Rattle.workers.specs.Turns.{turn_of, is_not_yet, StepsSeat, flow_after, KeepsSeats, FullIsSo, StepsCpu}
 use Rattle.workers.specs.declared.turns.Turn.{Turn}
 use Rattle.workers.specs.declared.turns.Turn.TheVariants as turns
-use Rattle.workers.proofs.Lists.{at_set, two}
+use Rattle.workers.proofs.InFlow.{flow_by, handle_cpu}
+use Rattle.workers.proofs.Lists.{at_set, set_there, two}
 use Rattle.workers.proofs.Manning.{map_more}
+use Rattle.workers.proofs.Rooms.{room_after, room_as}
 use Rattle.workers.proofs.Turning.{still_seated}
 
 -- one more entry of one's own
@@ -45,6 +51,16 @@ keeps_seats lines place turn old new seated s =
 pub seat_now : (lines : List LockSeen) (place : ℕ) (turn : Turn) (old new : JobSeen) (s : StepsSeat lines place turn old new) (i : ℕ) (t : SeatSeen) → slice_get new.seats i ≡ Some t → ((i ≡ place) × (t ≡ s.after)) ⊎ ((i ≡ place → ⊥) × (slice_get old.seats i ≡ Some t))
 seat_now lines place turn old new s i t at = at_set old.seats place s.after i t (ap (λ (j : JobSeen). slice_get j.seats i) (sym s.is) ∙ at)
 
+pub seat_there : (lines : List LockSeen) (place : ℕ) (turn : Turn) (old new : JobSeen) (s : StepsSeat lines place turn old new) → slice_get new.seats place ≡ Some s.after
+seat_there lines place turn old new s = ap (λ (j : JobSeen). slice_get j.seats place) s.is ∙ set_there old.seats place s.after s.seat s.at_seat
+
+-- a seat rests only if nothing was due
+never_rests : (tried : Result (Option Entry) StepRefused) → (tried ≡ Ok None → ⊥) → rests_after tried ≡ false
+never_rests (Ok (Some e)) not = refl
+never_rests (Ok None) not = absurd (not refl)
+never_rests (Err (refusals.Full len)) not = refl
+never_rests (Err refusals.NoMemory) not = refl
+
 pub full_is_so : (lines : List LockSeen) (place : ℕ) (turn : Turn) (old new : JobSeen) → StepsSeat lines place turn old new → FullIsSo new turn
 full_is_so lines place turn old new s = subst (λ (t : Turn). FullIsSo new t) (sym s.told) (by_tried s.tried s.tries)
   where
@@ -56,16 +72,11 @@ full_is_so lines place turn old new s = subst (λ (t : Turn). FullIsSo new t) (s
         record {
           place = place;
           seat = s.after;
-          at = ap (λ (j : JobSeen). slice_get j.seats place) s.is ∙ at_place_set old.seats place s.after s.seat s.at_seat;
+          at = seat_there lines place turn old new s;
           number = ap (λ (d : LineDef). d.line) def;
           is = subst (λ (d : LineDef). IsFull d new.actor s.after.pass.knows) (sym def) (subst (λ (a : Actor). IsFull s.line.def a s.after.pass.knows) (sym (ap (λ (j : JobSeen). j.actor) s.is)) t.came.0);
           log = t.came.1 ∙ ap (λ (d : LineDef). d.log) (sym def);
         }
-      where
-        at_place_set : (xs : List SeatSeen) (k : ℕ) (y x : SeatSeen) → slice_get xs k ≡ Some x → slice_get (set xs k y) k ≡ Some y
-        at_place_set [] k y x at = cc
-        at_place_set (z ∷ zs) zero y x at = refl
-        at_place_set (z ∷ zs) (suc k) y x at = at_place_set zs k y x at
     by_tried (Err refusals.NoMemory) t = tt
 
 -- ---- what was tried
@@ -113,7 +124,7 @@ flow_on def e past h c is_h is_c none = (
     last_before : List Entry → Option Entry
     last_before es = last_of (λ f. is_handle f || closes def f) es
 
-module _ (lines : List LockSeen) (place : ℕ) (old mid : JobSeen) (seated : AreSeated lines old) (one : HasOneFlow old) (free : (i : ℕ) → old.flow ≡ Some i → i ≡ place) where
+module _ (lines : List LockSeen) (place : ℕ) (old mid : JobSeen) (seated : AreSeated lines old) (one : HasOneFlow old) (its : HasItsFlow old) (free : (i : ℕ) → old.flow ≡ Some i → i ≡ place) where
   others_flow : (i : ℕ) (t : SeatSeen) → (i ≡ place → ⊥) → slice_get old.seats i ≡ Some t → has_flow t.pass.def (own_past t.pass.knows.mine) ≡ false
   others_flow i t other at = one i t at (λ is. other (free i is))
 
@@ -121,16 +132,22 @@ module _ (lines : List LockSeen) (place : ℕ) (old mid : JobSeen) (seated : Are
     seat_def : s.seat.pass.def ≡ s.line.def
     seat_def = (subst (λ (o : Option LockSeen). IsSomeAnd o (λ l. Sits l old.actor s.seat)) s.at_line (seated place s.seat s.at_seat)).of_line.1
 
+    seat_actor : s.seat.pass.knows.actor ≡ Some old.actor
+    seat_actor = (subst (λ (o : Option LockSeen). IsSomeAnd o (λ l. Sits l old.actor s.seat)) s.at_line (seated place s.seat s.at_seat)).actor
+
     -- when no entry was added
     pub cpu_rests : ((e : Entry) → turn ≡ turns.Moved e → ⊥) → StepsCpu lines place turn old mid
     cpu_rests not =
         record {
           keeps = keeps_seats lines place turn old mid seated s;
           flow = one_flow;
+          its = still_its;
+          moves = λ was is. due was (not_yet_is s.line.def.line s.tried (sym is ∙ s.told));
           rests = rests;
           still = λ is. ap (λ (j : JobSeen). j.flow) s.is;
           others = others;
           full = full_is_so lines place turn old mid s;
+          room = room_after lines place turn old mid seated s;
         }
       where
         one_flow : HasOneFlow mid
@@ -142,6 +159,32 @@ module _ (lines : List LockSeen) (place : ℕ) (old mid : JobSeen) (seated : Are
               ∙ one place s.seat s.at_seat (λ is. none (ap (λ (j : JobSeen). j.flow) s.is ∙ (is ∙ ap (λ (k : ℕ). Some k) (sym here.0))))))
           | inr other ↦ others_flow i t other.0 other.1
         ]
+
+        -- on the line of the flow something was due
+        due : old.flow ≡ Some place → s.tried ≡ Ok None → ⊥
+        due was none =
+            let f = its place was in
+            let same : f.1 ≡ s.seat = the_same f.1 s.seat (sym f.3 ∙ s.at_seat) in
+            s.flows (ap (λ (x : SeatSeen). x.rests) (sym same) ∙ f.4) f.0 (seat_actor ∙ ap (λ (a : Actor). Some a) f.2)
+            (subst (λ (d : LineDef). IsInFlow d f.0 s.seat.pass.knows) seat_def (subst (λ (x : SeatSeen). IsInFlow x.pass.def f.0 x.pass.knows) same f.5)) none
+
+        still_its : HasItsFlow mid
+        still_its i is =
+            let was : old.flow ≡ Some i = sym (ap (λ (j : JobSeen). j.flow) s.is) ∙ is in
+            let here : i ≡ place = free i was in
+            let at_place : old.flow ≡ Some place = was ∙ ap (λ (k : ℕ). Some k) here in
+            let f = its place at_place in
+            let same : f.1 ≡ s.seat = the_same f.1 s.seat (sym f.3 ∙ s.at_seat) in
+            let mine = nothing_gained s.line.def old.actor s.line.def.line s.seat.pass.knows s.after.pass.knows s.tried turn s.told not s.tries in
+            (
+              f.0,
+              s.after,
+              ap (λ (j : JobSeen). j.actor) s.is ∙ f.2,
+              ap (λ (k : ℕ). slice_get mid.seats k) here ∙ seat_there lines place turn old mid s,
+              s.rests ∙ never_rests s.tried (due at_place),
+              ap (λ (d : LineDef). flow d (own_past s.after.pass.knows.mine)) (s.sits.of_line.1 ∙ sym seat_def)
+              ∙ (ap (λ (ps : List Placed). flow s.seat.pass.def (own_past ps)) mine ∙ subst (λ (x : SeatSeen). IsInFlow x.pass.def f.0 x.pass.knows) same f.5),
+            )
 
         rests : turn ≡ turns.NotYet → (t : SeatSeen) → slice_get mid.seats place ≡ Some t → t.rests ≡ true
         rests is t at = elim (seat_now lines place turn old mid s place t at) [
@@ -164,10 +207,13 @@ module _ (lines : List LockSeen) (place : ℕ) (old mid : JobSeen) (seated : Are
           seated = subst (λ (j : JobSeen). AreSeated lines j) (sym is) k.seated;
         };
         flow = one_flow;
+        its = new_its;
+        moves = λ was h. cc;
         rests = λ h. cc;
         still = λ h. cc;
         others = others;
         full = tt;
+        room = room_as (turns.Moved e) old mid new (ap (λ (j : JobSeen). j.seats) is) (room_after lines place (turns.Moved e) old mid seated s);
       }
     where
       seat_at : (i : ℕ) (t : SeatSeen) → slice_get new.seats i ≡ Some t → ((i ≡ place) × (t ≡ s.after)) ⊎ ((i ≡ place → ⊥) × (slice_get old.seats i ≡ Some t))
@@ -196,6 +242,38 @@ module _ (lines : List LockSeen) (place : ℕ) (old mid : JobSeen) (seated : Are
       here_flow false true is_h is_c none = (flow_on s.seat.pass.def e (own_past s.seat.pass.knows.mine) false true is_h is_c refl).0 refl
       here_flow false false is_h is_c none = (flow_on s.seat.pass.def e (own_past s.seat.pass.knows.mine) false false is_h is_c refl).1 refl ∙ one place s.seat s.at_seat (λ was. none (flow_is false false is_h is_c ∙ was))
 
+      flow_now : (h c : Bool) → is_handle e ≡ h → closes s.seat.pass.def e ≡ c → flow s.after.pass.def (own_past s.after.pass.knows.mine)
+          ≡ cpu_of_handle (cond (h || c) (Some e) (last_of (λ f. is_handle f || closes s.seat.pass.def f) (own_past s.seat.pass.knows.mine)))
+      flow_now h c is_h is_c =
+          ap (λ (d : LineDef). flow d (own_past s.after.pass.knows.mine)) def_is ∙ (ap (λ (es : List Entry). flow s.seat.pass.def es) past_is ∙ flow_by s.seat.pass.def e (own_past s.seat.pass.knows.mine) h c is_h is_c)
+
+      -- the pass that was tried, with such a flow
+      its_at : (c : CpuNo) (i : ℕ) → i ≡ place → old.actor ≡ actors.Cpu c → flow s.after.pass.def (own_past s.after.pass.knows.mine) ≡ Some c
+          → (c : CpuNo) × (t : SeatSeen) × (new.actor ≡ actors.Cpu c) × (slice_get new.seats i ≡ Some t) × (t.rests ≡ false) × IsInFlow t.pass.def c t.pass.knows
+      its_at c i here actor its_flow = (
+        c,
+        s.after,
+        ap (λ (j : JobSeen). j.actor) is ∙ (ap (λ (j : JobSeen). j.actor) s.is ∙ actor),
+        ap (λ (j : JobSeen). slice_get j.seats i) is ∙ (ap (λ (k : ℕ). slice_get mid.seats k) here ∙ seat_there lines place (turns.Moved e) old mid s),
+        s.rests ∙ ap rests_after (moved_is s.line.def.line e s.tried s.told),
+        its_flow,
+      )
+
+      new_its : HasItsFlow new
+      new_its i at = by_tests (is_handle e) (closes s.seat.pass.def e) refl refl
+        where
+          by_tests : (h c : Bool) → is_handle e ≡ h → closes s.seat.pass.def e ≡ c → (c : CpuNo) × (t : SeatSeen) × (new.actor ≡ actors.Cpu c) × (slice_get new.seats i ≡ Some t) × (t.rests ≡ false) × IsInFlow t.pass.def c t.pass.knows
+          by_tests true c is_h is_c =
+              let f = handle_cpu s.line.def.line e is_h in
+              its_at f.0 i (the_same i place (sym at ∙ flow_is true c is_h is_c)) (sym (due_is_own s.line.def gains.history old.actor e gains.due) ∙ f.2) (flow_now true c is_h is_c ∙ f.1)
+          by_tests false true is_h is_c = let n : Some i ≡ None = sym at ∙ flow_is false true is_h is_c in cc
+          by_tests false false is_h is_c =
+              let was : old.flow ≡ Some i = sym (flow_is false false is_h is_c) ∙ at in
+              let here : i ≡ place = free i was in
+              let f = its i was in
+              let same : f.1 ≡ s.seat = the_same f.1 s.seat (sym f.3 ∙ (ap (λ (k : ℕ). slice_get old.seats k) here ∙ s.at_seat)) in
+              its_at f.0 i here f.2 (flow_now false false is_h is_c ∙ subst (λ (x : SeatSeen). IsInFlow x.pass.def f.0 x.pass.knows) same f.5)
+
       one_flow : HasOneFlow new
       one_flow i t at none = elim (seat_at i t at) [
         | inl here ↦
@@ -216,7 +294,6 @@ keeps_on lines a b c k l = record { actor = l.actor ∙ k.actor; first = l.first
 pub not_yet_from : (turn : Turn) → is_not_yet turn ≡ true → turn ≡ turns.NotYet
 not_yet_from (turns.Moved e) is = cc
 not_yet_from turns.NotYet is = refl
-not_yet_from turns.Undecided is = cc
 not_yet_from (turns.Full line len) is = cc
 not_yet_from turns.NoMemory is = cc
 

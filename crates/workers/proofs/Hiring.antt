@@ -79,20 +79,27 @@ module _ (board : BoardSeen) (lines : List LockSeen) (who : Actor) (first end : 
       nothing_made board.calls (own_lines seats) r
       (λ i x at. let s = of_map own_line seats i x at in ap (λ (y : BoardLine). y.past) (sym s.2) ∙ ap own_past (nothing_own i s.0 s.1))
 
-  manned : (j : JobSeen) → j.first ≡ first → j.seats ≡ seats → j.at ≡ 0 → (a : Actor) → IsSpan lines a first end → IsManned board lines j a
-  manned j from are at (actors.Thread line dev) span =
+  no_place : (i : ℕ) → None ≡ Some i → ⊥
+  no_place i is = cc
+
+  manned : (j : JobSeen) → j.first ≡ first → j.seats ≡ seats → j.flow ≡ None → j.at ≡ 0 → (a : Actor) → IsSpan lines a first end → IsManned board lines j a
+  manned j from are none at (actors.Thread line dev) span =
       (let n = f.count in let m = span.1 in let l = ap (λ (ss : List SeatSeen). length ss) are in omega (arith, n, m, l), subst (λ (k : ℕ). IsPlaceOf lines line (Some k)) (sym from) span.0)
-  manned j from are at (actors.Cpu c) span =
-      (from ∙ span.0, (let n = f.count in let z = span.0 in let e = span.1 in let l = ap (λ (ss : List SeatSeen). length ss) are in omega (arith, n, z, e, l)), λ i s there not. no_flow i s (ap (λ (ss : List SeatSeen). slice_get ss i) (sym are) ∙ there))
-  manned j from are at (actors.Driver r) span = (
+  manned j from are none at (actors.Cpu c) span = (
+    from ∙ span.0,
+    (let n = f.count in let z = span.0 in let e = span.1 in let l = ap (λ (ss : List SeatSeen). length ss) are in omega (arith, n, z, e, l)),
+    λ i s there not. no_flow i s (ap (λ (ss : List SeatSeen). slice_get ss i) (sym are) ∙ there),
+    λ i is. absurd (no_place i (sym none ∙ is)),
+  )
+  manned j from are none at (actors.Driver r) span = (
     from ∙ span.0,
     (let n = f.count in let z = span.0 in let e = span.1 in let l = ap (λ (ss : List SeatSeen). length ss) are in omega (arith, n, z, e, l)),
     subst (λ (n : ℕ). IsUpTo board.calls (own_lines j.seats) r n) (sym at) (subst (λ (ss : List SeatSeen). IsUpTo board.calls (own_lines ss) r 0) (sym are) (up_to r)),
     omega (arith, at),
   )
 
-  pub new_job : (j : JobSeen) → j.actor ≡ who → j.first ≡ first → j.seats ≡ seats → j.at ≡ 0 → IsSpan lines who first end → IsJob board lines j
-  new_job j actor from are at span = record { seated = seated j actor from are; manned = manned j from are at j.actor (subst (λ (a : Actor). IsSpan lines a first end) (sym actor) span) }
+  pub new_job : (j : JobSeen) → j.actor ≡ who → j.first ≡ first → j.seats ≡ seats → j.flow ≡ None → j.at ≡ 0 → IsSpan lines who first end → IsJob board lines j
+  new_job j actor from are none at span = record { seated = seated j actor from are; manned = manned j from are none at j.actor (subst (λ (a : Actor). IsSpan lines a first end) (sym actor) span) }
 
   -- ---- the first passes
 
@@ -202,7 +209,7 @@ hires_one lines here s board jobs firsts new who first end seats same is are spa
       job = j;
       jobs = grown ∙ ap (λ (x : JobsSeen). x.jobs ++ j ∷ []) is;
       actor = refl;
-      is = new_job s.board lines who first end firsts new seats forks j refl refl refl refl span;
+      is = new_job s.board lines who first end firsts new seats forks j refl refl refl refl refl span;
       firsts = subst (λ (js : List JobSeen). AreFirsts lines js new) (sym grown)
           (new_firsts s.board lines who first end firsts new seats forks jobs j refl refl refl
           (subst (λ (js : List JobSeen). AreFirsts lines js firsts) (ap (λ (x : JobsSeen). x.jobs) (sym is)) (subst (λ (ps : List PassSeen). AreFirsts lines s.jobs ps) (ap (λ (x : JobsSeen). x.firsts) (sym is)) are)));

@@ -7,9 +7,11 @@ pub mod Hiring
 pub mod Sharing
 pub mod Meeting
 pub mod Own
+pub mod InFlow
 pub mod Gathering
 pub mod Finishing
 pub mod Turning
+pub mod Rooms
 pub mod Flowing
 pub mod LastEntry
 pub mod Driving

@@ -41,6 +41,11 @@ module _ {A : Type 0} where
   at_set (z ∷ zs) (suc i) y zero x at = inr ((λ h. omega arith), at)
   at_set (z ∷ zs) (suc i) y (suc k) x at = elim (at_set zs i y k x at) [ inl here ↦ inl (ap suc here.0, here.1) | inr other ↦ inr ((λ h. other.0 (omega arith)), other.1) ]
 
+  pub set_there : (xs : List A) (k : ℕ) (y x : A) → slice_get xs k ≡ Some x → slice_get (set xs k y) k ≡ Some y
+  set_there [] k y x at = cc
+  set_there (z ∷ zs) zero y x at = refl
+  set_there (z ∷ zs) (suc k) y x at = set_there zs k y x at
+
   pub length_snoc : (xs : List A) (y : A) → length (xs ++ y ∷ []) ≡ length xs + 1
   length_snoc [] y = refl
   length_snoc (z ∷ zs) y = let l = length_snoc zs y in omega (arith, l)

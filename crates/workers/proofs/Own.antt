@@ -25,7 +25,7 @@ reverse-cons : {A : Type 0} (x : A) (xs : List A) → reverse (x ∷ xs) ≡ rev
 reverse-cons x xs = reverse-append (x ∷ []) xs
 
 -- a list that is filtered is so in either order
-filter-reverse : {A : Type 0} (p : A → Bool) (xs : List A) → filter p (reverse xs) ≡ reverse (filter p xs)
+pub filter-reverse : {A : Type 0} (p : A → Bool) (xs : List A) → filter p (reverse xs) ≡ reverse (filter p xs)
 filter-reverse p [] = refl
 filter-reverse p (x ∷ xs) = ap (filter p) (reverse-cons x xs) ∙ (filter_more p (reverse xs) x ∙ by_test (p x) (filter-reverse p xs))
   where

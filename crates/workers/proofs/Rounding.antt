@@ -12,7 +12,8 @@ use Rattle.irq_laws.proofs.Chosen.{the_same}
 use Rattle.board_play.specs.Lines.{defs_of}
 use Rattle.line_lock.specs.Passes.{LockSeen, PassSeen}
 use Rattle.workers.specs.Fit.{Sits, AreSeated, IsPlaceOf, IsManned, IsJob, works_on, actors_on, workers_of, IsFirst, AreFirsts, Fit}
-use Rattle.workers.specs.Rounds.{IsAtRest, WorksOn, ComesTo, TurnsJob, LeftIsSo, WorksJob, KeepsJobs, EachLeftSo, worse, IsLowestFull, SumsUp, Ends}
+use Rattle.workers.specs.Room.{RoomLeft, room_of_jobs}
+use Rattle.workers.specs.Rounds.{BusyIsSo, IsAtRest, WorksOn, ComesTo, TurnsJob, LeftIsSo, WorksJob, KeepsJobs, EachLeftSo, worse, IsLowestFull, SumsUp, Ends}
 use Rattle.workers.specs.Seen.{SeatSeen, JobSeen, JobsSeen}
 use Rattle.workers.specs.Tries.{IsIdle, rests_after}
 use Rattle.workers.specs.Turns.{StepsSeat, KeepsSeats, FullIsSo, TurnsCpu, IsDriven, TurnsDriver}
@@ -23,11 +24,11 @@ use Rattle.workers.specs.declared.turns.Turn.{Turn}
 use Rattle.workers.specs.declared.turns.Turn.TheVariants as turns
 use Rattle.workers.proofs.Flowing.{keeps_seats, seat_now, full_is_so, not_yet_is}
 use Rattle.workers.proofs.Lists.{within, there_or, two}
+use Rattle.workers.proofs.Rooms.{room_after, room_left, all_no_more, some_less}
 
 comes : (board : BoardSeen) (j : JobSeen) (turn : Turn) → (turn ≡ turns.NotYet → IsAtRest board j j.actor) → FullIsSo j turn → ComesTo board j turn
 comes board j (turns.Moved e) rest full = tt
 comes board j turns.NotYet rest full = rest refl
-comes board j turns.Undecided rest full = tt
 comes board j (turns.Full line len) rest full = full
 comes board j turns.NoMemory rest full = tt
 
@@ -51,6 +52,7 @@ module _ (board : BoardSeen) (lines : List LockSeen) (turn : Turn) (old new : Jo
       record {
         works = works k (actors.Thread line dev) is (let l = k.as_many in let o = m.0 in omega (arith, l, o), subst (λ (n : ℕ). IsPlaceOf lines line (Some n)) (sym k.first) m.1);
         came = comes board new turn rest (full_is_so lines 0 turn old new s);
+        room = room_after lines 0 turn old new job.seated s;
       }
     where
       k : KeepsSeats lines old new
@@ -73,8 +75,9 @@ module _ (board : BoardSeen) (lines : List LockSeen) (turn : Turn) (old new : Jo
   pub cpu_turned : (c : CpuNo) → old.actor ≡ actors.Cpu c → TurnsCpu lines turn old new → TurnsJob board lines turn old new
   cpu_turned c is t =
       record {
-        works = works t.keeps (actors.Cpu c) is (t.keeps.first ∙ m.0, t.keeps.as_many ∙ m.1, t.flow);
+        works = works t.keeps (actors.Cpu c) is (t.keeps.first ∙ m.0, t.keeps.as_many ∙ m.1, t.flow, t.its);
         came = comes board new turn rest t.full;
+        room = t.room;
       }
     where
       m : IsManned board lines old (actors.Cpu c)
@@ -97,6 +100,7 @@ module _ (board : BoardSeen) (lines : List LockSeen) (turn : Turn) (old new : Jo
       record {
         works = works t.keeps (actors.Driver r) is (t.keeps.first ∙ m.0, t.keeps.as_many ∙ m.1, t.up_to, t.within);
         came = comes board new turn (λ not. subst (λ (a : Actor). IsAtRest board new a) (sym (t.keeps.actor ∙ is)) (t.rests not)) t.full;
+        room = t.room;
       }
 
 -- ---- one turn after another
@@ -127,10 +131,10 @@ module _ (board : BoardSeen) (lines : List LockSeen) (now : JobSeen) (left : Lef
   left_so (lefts.Full line len) is = record { place = is.place; seat = is.seat; at = is.at; number = is.number; is = is.is; log = is.log }
   left_so lefts.NoMemory is = tt
 
-  pub left_at : (old new : JobSeen) → WorksOn board lines old now → LeftIsSo board now left → new ≡ record now { left = left } → WorksJob board lines old new
-  left_at old new w is same =
+  pub left_at : (old new : JobSeen) → WorksOn board lines old now → LeftIsSo board now left → RoomLeft left old now → new ≡ record now { left = left } → WorksJob board lines old new
+  left_at old new w is room same =
       subst (λ (j : JobSeen). WorksJob board lines old j) (sym same)
-      (record { works = record { actor = w.actor; first = w.first; as_many = w.as_many; job = record { seated = w.job.seated; manned = manned_left now.actor w.job.manned } }; left = left_so left is })
+      (record { works = record { actor = w.actor; first = w.first; as_many = w.as_many; job = record { seated = w.job.seated; manned = manned_left now.actor w.job.manned } }; left = left_so left is; room = room_left left old now (record now { left = left }) refl room })
 
 -- ---- all jobs
 
@@ -279,6 +283,36 @@ module _ (jobs : List JobSeen) (n : ℕ) (job : JobSeen) (at : slice_get jobs n 
   sums_more lefts.NoMemory lefts.Busy is f = none_more f (no_full lefts.Busy is (λ o k g. cc))
   sums_more lefts.NoMemory lefts.NoMemory is f = none_more f (no_full lefts.NoMemory is (λ o k g. cc))
 
+-- a step was made
+module _ (jobs : List JobSeen) (n : ℕ) (job : JobSeen) (at : slice_get jobs n ≡ Some job) where
+  busy_on : BusyIsSo jobs n lefts.Busy → BusyIsSo jobs (n + 1) lefts.Busy
+  busy_on (k, j, less, is_at, is) = (k, j, omega (arith, less), is_at, is)
+
+  busy_here : job.left ≡ lefts.Busy → BusyIsSo jobs (n + 1) lefts.Busy
+  busy_here is = (n, job, omega arith, at, is)
+
+  pub busy_more : (all l : Left) → job.left ≡ l → BusyIsSo jobs n all → BusyIsSo jobs (n + 1) (worse all l)
+  busy_more (lefts.Full a m) (lefts.Full b k) is f = by_test (nat_lt b.0 a.0)
+    where
+      by_test : (t : Bool) → BusyIsSo jobs (n + 1) (cond t (lefts.Full b k) (lefts.Full a m))
+      by_test true = tt
+      by_test false = tt
+  busy_more (lefts.Full a m) lefts.Idle is f = tt
+  busy_more (lefts.Full a m) lefts.Busy is f = tt
+  busy_more (lefts.Full a m) lefts.NoMemory is f = tt
+  busy_more lefts.Idle (lefts.Full b k) is f = tt
+  busy_more lefts.Busy (lefts.Full b k) is f = tt
+  busy_more lefts.NoMemory (lefts.Full b k) is f = tt
+  busy_more lefts.Idle lefts.Idle is f = tt
+  busy_more lefts.Idle lefts.Busy is f = busy_here is
+  busy_more lefts.Idle lefts.NoMemory is f = tt
+  busy_more lefts.Busy lefts.Idle is f = busy_on f
+  busy_more lefts.Busy lefts.Busy is f = busy_on f
+  busy_more lefts.Busy lefts.NoMemory is f = tt
+  busy_more lefts.NoMemory lefts.Idle is f = tt
+  busy_more lefts.NoMemory lefts.Busy is f = tt
+  busy_more lefts.NoMemory lefts.NoMemory is f = tt
+
 -- ---- how rounds end
 
 pub quiet : (s : JobsSeen) → EachLeftSo s → SumsUp s.jobs (length s.jobs) lefts.Idle → Ends s ends.Quiet
@@ -317,6 +351,12 @@ module _ (lines : List LockSeen) (s : JobsSeen) (fit : Fit lines s) (board : Boa
 
     pub round_left : EachLeftSo (record { board = board; jobs = after; firsts = firsts })
     round_left i j at = subst (λ (b : BoardSeen). LeftIsSo b j j.left) (ap (λ (x : JobsSeen). x.board) (sym is)) (left_after lines s.board s.jobs after long_s keeps_s i j at)
+
+    pub round_room : room_of_jobs after ≤ room_of_jobs s.jobs
+    round_room = all_no_more s.jobs after long_s (λ k d less. (keeps_s k d less).room)
+
+    pub round_busy : BusyIsSo after (length after) lefts.Busy → room_of_jobs after < room_of_jobs s.jobs
+    round_busy (k, j, less, at, is) = some_less s.jobs after k j long_s (λ k d less. (keeps_s k d less).room) at is
 
 pub whole_again : {A : Type 0} (n : ℕ) (xs ys : List A) → n ≡ length xs → take n (xs ++ drop (length xs) ys) ≡ xs
 whole_again n xs ys is = ap (λ (k : ℕ). take k (xs ++ drop (length xs) ys)) is ∙ front xs (drop (length xs) ys)

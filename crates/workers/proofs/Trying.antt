@@ -1,8 +1,11 @@
 -- One try of a worker: steps of the shared line until none of them needs an answer first.
 use Rattle.std.proofs.Common.{◌≡◌, ◌<◌, false, IsSome, Option, Some, None, Ok, Err, List, [], ◌∷◌, ◌++◌, length, refl, sym, ap, subst, ◌∙◌, append_assoc}
 use Rattle.irq_base.specs.declared.entries.Actor.{Actor}
+use Rattle.irq_base.specs.declared.entries.Actor.TheVariants as actors
 use Rattle.irq_base.specs.declared.entries.Entry.{Entry}
 use Rattle.irq_base.specs.declared.lines.LineDef.{LineDef}
+use Rattle.irq_base.specs.declared.numbers.CpuNo.{CpuNo}
+use Rattle.irq_model.specs.Legal.{IsLegal}
 use Rattle.irq_model.specs.Next.{next}
 use Rattle.callbacks.specs.Seen.{SaidSeen}
 use Rattle.irq_line.specs.declared.answers.StepRefused.{StepRefused}
@@ -10,10 +13,13 @@ use Rattle.irq_line.specs.declared.answers.StepRefused.TheVariants as refusals
 use Rattle.irq_line.specs.declared.answers.Stepped.TheVariants as stepped
 use Rattle.line_lock.specs.Knows.{BeginsWith}
 use Rattle.line_lock.specs.Passes.{LockSeen, PassSeen, IsPassOf}
+use Rattle.line_lock.specs.Placed.{placed}
 use Rattle.line_lock.specs.declared.view.Known.{Known}
 use Rattle.line_lock.proofs.Placing.{begins_self, begins_more}
 use Rattle.line_shared.specs.Stepping.{Steps}
+use Rattle.workers.specs.Fit.{IsInFlow}
 use Rattle.workers.specs.Tries.{IsIdle, Tries}
+use Rattle.workers.proofs.InFlow.{moves_within}
 
 -- what stays while answers are asked for
 pub record Waits (line : LockSeen) (old now : PassSeen) : Type 0 where
@@ -43,6 +49,7 @@ module _ (line : LockSeen) (who : Actor) (old mid new : PassSeen) (said : Option
         begins = more_begins line.def who old.knows mid.knows new.knows w.begins s.line.entries s.begins e s.gains.0;
         came = record {
           history = s.line.entries;
+          onto = begins_more s.line.entries mid.knows.seen old.knows.seen s.begins w.begins;
           own = sym w.mine ∙ s.mine;
           due = subst (λ (d : LineDef). next d s.line.entries who ≡ Some e) s.def s.answer.due;
           below = subst (λ (d : LineDef). length s.line.entries < d.log) s.def s.answer.below;
@@ -57,6 +64,13 @@ module _ (line : LockSeen) (who : Actor) (old mid new : PassSeen) (said : Option
         begins = same_begins line.def who old.knows mid.knows new.knows w.begins s.line.entries s.begins s.gains.0;
         came = (ap (λ (h : List Entry). next line.def h who) s.gains.0 ∙ subst (λ (d : LineDef). next d s.line.entries who ≡ None) s.def s.answer.0, s.gains.1 ∙ w.mine);
       }
+
+  -- within a flow something was due
+  pub flow_not_yet : Steps line.def who mid.knows said (Ok stepped.NotYet) new.knows → (c : CpuNo) → who ≡ actors.Cpu c → IsInFlow line.def c old.knows → ⊥
+  flow_not_yet s c same own =
+      moves_within line.def c s.line.entries old.knows.mine (subst (λ (d : LineDef). IsLegal d s.line.entries) s.def s.sound.legal)
+      (sym w.mine ∙ (s.mine ∙ ap (λ (a : Actor). placed line.def.line a s.line.entries) same)) own
+      (ap (λ (a : Actor). next line.def s.line.entries a) (sym same) ∙ subst (λ (d : LineDef). next d s.line.entries who ≡ None) s.def s.answer.0)
 
   pub tries_refused : (refused : StepRefused) → Steps line.def who mid.knows said (Err refused) new.knows → Tries line.def who old.knows (Err refused) new.knows
   tries_refused (refusals.Full len) s =

@@ -13,7 +13,7 @@ use Rattle.line_lock.specs.declared.view.Known.{Known}
 use Rattle.workers.specs.Fit.{Sits, AreSeated, numbers_of}
 use Rattle.workers.specs.Seen.{SeatSeen, JobSeen}
 use Rattle.workers.specs.Tries.{IsIdle, Tries, rests_after}
-use Rattle.workers.specs.Turns.{turn_of, StepsSeat}
+use Rattle.workers.specs.Turns.{turn_of, FlowMoves, StepsSeat}
 use Rattle.workers.specs.declared.turns.Turn.{Turn}
 use Rattle.workers.proofs.Lists.{at_map, at_set, there, there_or, within}
 
@@ -70,8 +70,8 @@ rests_idle def who old new (Err refusals.NoMemory) t is = cc
 
 pub steps_seat : (lines : List LockSeen) (j now : JobSeen) (place : ℕ) (a : AtPlace lines j place) (number : LineNo) (turn : Turn) (tried : Result (Option Entry) StepRefused) (after : SeatSeen)
     → turn ≡ turn_of number tried → number ≡ a.line.def.line → now ≡ record j { seats = slice_set j.seats place after } → IsPassOf a.line after.pass → after.pass.turn ≡ false → after.pass.knows.actor ≡ a.seat.pass.knows.actor → after.rests ≡ rests_after tried
-    → ((who : Actor) → a.seat.pass.knows.actor ≡ Some who → Tries a.line.def who a.seat.pass.knows tried after.pass.knows) → StepsSeat lines place turn j now
-steps_seat lines j now place a number turn tried after told its is of_line idle actor rests tries =
+    → ((who : Actor) → a.seat.pass.knows.actor ≡ Some who → Tries a.line.def who a.seat.pass.knows tried after.pass.knows) → (a.seat.rests ≡ false → FlowMoves a.line.def a.seat.pass.knows tried) → StepsSeat lines place turn j now
+steps_seat lines j now place a number turn tried after told its is of_line idle actor rests tries flows =
     let t = tries j.actor a.sits.actor in
     record {
       line = a.line;
@@ -85,6 +85,7 @@ steps_seat lines j now place a number turn tried after told its is of_line idle 
       sits = record { of_line = of_line; idle = idle; actor = actor ∙ a.sits.actor; rests = λ h. rests_idle a.line.def j.actor a.seat.pass.knows after.pass.knows tried t (sym rests ∙ h) };
       tries = t;
       rests = rests;
+      flows = flows;
     }
 
 -- ---- what a try keeps

@@ -4,17 +4,20 @@ use Rattle.std.specs.List.{list_any}
 use Rattle.irq_base.specs.Handlers.{has_thread}
 use Rattle.irq_base.specs.declared.devices.DeviceDef.{DeviceDef}
 use Rattle.irq_base.specs.declared.lines.FlowKind.{FlowKind}
+use Rattle.irq_base.specs.declared.lines.LineDef.{LineDef}
 use Rattle.irq_base.specs.declared.entries.Actor.{Actor}
 use Rattle.irq_base.specs.declared.entries.Actor.TheVariants as actors
 use Rattle.irq_base.specs.declared.entries.Entry.{Entry}
+use Rattle.irq_base.specs.declared.numbers.CpuNo.{CpuNo}
 use Rattle.irq_base.specs.declared.numbers.LineNo.{LineNo}
 use Rattle.irq_model.specs.Kinds.{same_line}
-use Rattle.irq_model.specs.Rounds.{has_flow}
+use Rattle.irq_model.specs.Rounds.{flow, has_flow}
 use Rattle.board_def.specs.Seen.{BoardSeen}
 use Rattle.board_play.specs.Kept.{IsUpTo}
 use Rattle.board_play.specs.Lines.{BoardLine, defs_of}
 use Rattle.board_play.specs.Order.{cpus_of, drivers_of}
 use Rattle.line_lock.specs.Passes.{LockSeen, PassSeen, IsPassOf}
+use Rattle.line_lock.specs.declared.view.Known.{Known}
 use Rattle.line_lock.specs.declared.view.Placed.{Placed}
 use Rattle.workers.specs.Seen.{SeatSeen, JobSeen, JobsSeen}
 use Rattle.workers.specs.Tries.{IsIdle}
@@ -62,13 +65,22 @@ abbrev pub HasOneFlow : JobSeen → Type 0
 HasOneFlow j = (i : ℕ) (s : SeatSeen) → slice_get j.seats i ≡ Some s → (j.flow ≡ Some i → ⊥)
     → has_flow s.pass.def (own_past s.pass.knows.mine) ≡ false
 
+-- by its own entries the processor has a flow in progress on the line
+abbrev pub IsInFlow : LineDef → CpuNo → Known → Type 0
+IsInFlow def c k = flow def (own_past k.mine) ≡ Some c
+
+-- on the line of its flow a processor has one in progress, and the seat doesn't rest
+abbrev pub HasItsFlow : JobSeen → Type 0
+HasItsFlow j = (i : ℕ) → j.flow ≡ Some i → (c : CpuNo) × (s : SeatSeen) × (j.actor ≡ actors.Cpu c)
+    × (slice_get j.seats i ≡ Some s) × (s.rests ≡ false) × IsInFlow s.pass.def c s.pass.knows
+
 -- a thread has a pass of its device's line; a processor one of each line, and a flow on one at
 -- most; a driver one of each line, on which its entries are those of its script up to its place
 abbrev pub IsManned : BoardSeen → List LockSeen → JobSeen → Actor → Type 0
 IsManned board lines j (actors.Thread line dev) =
     (length j.seats ≡ 1) × IsPlaceOf lines line (Some j.first)
 IsManned board lines j (actors.Cpu c) =
-    (j.first ≡ 0) × (length j.seats ≡ length lines) × HasOneFlow j
+    (j.first ≡ 0) × (length j.seats ≡ length lines) × HasOneFlow j × HasItsFlow j
 IsManned board lines j (actors.Driver r) = (j.first ≡ 0) × (length j.seats ≡ length lines)
     × IsUpTo board.calls (own_lines j.seats) r j.at × (j.at ≤ length board.calls)
 

@@ -1,5 +1,6 @@
 pub mod Seen
 pub mod Tries
+pub mod Room
 pub mod Fit
 pub mod Forks
 pub mod Gathers

@@ -6,6 +6,7 @@ use Rattle.irq_base.specs.declared.numbers.LineNo.{LineNo}
 use Rattle.board_def.specs.Seen.{BoardSeen}
 use Rattle.line_lock.specs.Passes.{LockSeen}
 use Rattle.workers.specs.Fit.{IsJob}
+use Rattle.workers.specs.Room.{RoomAfter, RoomLeft}
 use Rattle.workers.specs.Seen.{SeatSeen, JobSeen, JobsSeen}
 use Rattle.workers.specs.Tries.{IsIdle}
 use Rattle.workers.specs.Turns.{WaitsAt, IsFullOn}
@@ -39,6 +40,7 @@ ComesTo board j _ = Unit {0}
 pub record TurnsJob (board : BoardSeen) (lines : List LockSeen) (turn : Turn) (old new : JobSeen) : Type 0 where
   pub works : WorksOn board lines old new
   pub came : ComesTo board new turn
+  pub room : RoomAfter turn old new
 
 -- how a worker left its job
 abbrev pub LeftIsSo : BoardSeen → JobSeen → Left → Type 0
@@ -49,6 +51,7 @@ LeftIsSo board j _ = Unit {0}
 pub record WorksJob (board : BoardSeen) (lines : List LockSeen) (old new : JobSeen) : Type 0 where
   pub works : WorksOn board lines old new
   pub left : LeftIsSo board new new.left
+  pub room : RoomLeft new.left old new
 
 -- each job after a round
 abbrev pub KeepsJobs : BoardSeen → List LockSeen → List JobSeen → List JobSeen → Type 0
@@ -89,6 +92,12 @@ SumsUp jobs n lefts.Idle =
 SumsUp jobs n (lefts.Full line len) = IsLowestFull jobs n line len
 SumsUp jobs n _ = (k : ℕ) (j : JobSeen) (other : LineNo) (m : ℕ) → k < n → slice_get jobs k ≡ Some j
     → j.left ≡ lefts.Full other m → ⊥
+
+-- if what is said is that a step was made, one of the first jobs made one
+abbrev pub BusyIsSo : List JobSeen → ℕ → Left → Type 0
+BusyIsSo jobs n lefts.Busy =
+    (k : ℕ) × (j : JobSeen) × (k < n) × (slice_get jobs k ≡ Some j) × (j.left ≡ lefts.Busy)
+BusyIsSo jobs n _ = Unit {0}
 
 -- a step is due on the line with one of the jobs' passes, and the line has the greatest length
 pub record IsFullFor (s : JobsSeen) (line : LineNo) (len : ℕ) : Type 0 where

@@ -7,6 +7,8 @@ use Rattle.irq_base.specs.declared.entries.Entry.{Entry}
 use Rattle.irq_base.specs.declared.entries.Entry.TheVariants as entries
 use Rattle.irq_base.specs.declared.entries.UnlinkAnswer.TheVariants as unlinks
 use Rattle.irq_base.specs.declared.lines.FlowKind.{FlowKind}
+use Rattle.irq_base.specs.declared.lines.LineDef.{LineDef}
+use Rattle.irq_base.specs.declared.numbers.CpuNo.{CpuNo}
 use Rattle.irq_base.specs.declared.numbers.DriverNo.{DriverNo}
 use Rattle.irq_base.specs.declared.numbers.LineNo.{LineNo}
 use Rattle.irq_line.specs.declared.answers.StepRefused.{StepRefused}
@@ -16,8 +18,10 @@ use Rattle.irq_model.specs.Lines.{is_eoi_flow}
 use Rattle.board_def.specs.Seen.{BoardSeen}
 use Rattle.board_def.specs.declared.rows.ScriptCall.{ScriptCall}
 use Rattle.line_lock.specs.Passes.{LockSeen}
+use Rattle.line_lock.specs.declared.view.Known.{Known}
 use Rattle.board_play.specs.Kept.{IsUpTo}
-use Rattle.workers.specs.Fit.{Sits, AreSeated, HasOneFlow, own_lines}
+use Rattle.workers.specs.Fit.{Sits, AreSeated, HasOneFlow, IsInFlow, HasItsFlow, own_lines}
+use Rattle.workers.specs.Room.{RoomAfter}
 use Rattle.workers.specs.Seen.{SeatSeen, JobSeen}
 use Rattle.workers.specs.Tries.{IsIdle, IsFull, Tries, rests_after}
 use Rattle.workers.specs.declared.turns.Turn.{Turn}
@@ -28,6 +32,11 @@ turn_of line (Ok (Some e)) = turns.Moved e
 turn_of line (Ok None) = turns.NotYet
 turn_of line (Err (refusals.Full len)) = turns.Full line len
 turn_of line (Err refusals.NoMemory) = turns.NoMemory
+
+-- to a processor that has a flow in progress on the line no try answers that nothing is due
+abbrev pub FlowMoves : LineDef → Known → Result (Option Entry) StepRefused → Type 0
+FlowMoves def k tried = (c : CpuNo) → k.actor ≡ Some (actors.Cpu c) → IsInFlow def c k
+    → tried ≡ Ok None → ⊥
 
 -- a try with the pass at the place: the pass afterwards is as it should be, and all else is as it
 -- was
@@ -43,6 +52,7 @@ pub record StepsSeat (lines : List LockSeen) (place : ℕ) (turn : Turn) (old ne
   pub sits : Sits line old.actor after
   pub tries : Tries line.def old.actor seat.pass.knows tried after.pass.knows
   pub rests : after.rests ≡ rests_after tried
+  pub flows : seat.rests ≡ false → FlowMoves line.def seat.pass.knows tried
 
 -- at which pass a processor has a flow in progress, after it added the entry with the pass at the
 -- place
@@ -50,10 +60,6 @@ abbrev pub flow_after : FlowKind → Entry → ℕ → Option ℕ → Option ℕ
 flow_after flow e place before =
     if is_handle e then Some place
     else (if is_leave e || (is_eoi_flow flow && is_again e) then None else before)
-
-abbrev pub within_flow : Turn → Turn
-within_flow turns.NotYet = turns.Undecided
-within_flow turn = turn
 
 abbrev pub is_not_yet : Turn → Bool
 is_not_yet turns.NotYet = true
@@ -80,24 +86,29 @@ FullIsSo j (turns.Full line len) = IsFullOn j line len
 FullIsSo j _ = Unit {0}
 
 -- a processor's try: its flow is on one line at most; if nothing was due, that is known, and the
--- flow is as it was; the other passes are as they were
+-- flow is as it was; the other passes are as they were; on the line of its flow something was due
 pub record StepsCpu (lines : List LockSeen) (place : ℕ) (turn : Turn) (old new : JobSeen) : Type 0 where
   pub keeps : KeepsSeats lines old new
   pub flow : HasOneFlow new
+  pub its : HasItsFlow new
+  pub moves : old.flow ≡ Some place → turn ≡ turns.NotYet → ⊥
   pub rests : turn ≡ turns.NotYet → (s : SeatSeen) → slice_get new.seats place ≡ Some s
       → s.rests ≡ true
   pub still : turn ≡ turns.NotYet → new.flow ≡ old.flow
   pub others : (i : ℕ) (s : SeatSeen) → (i ≡ place → ⊥) → slice_get new.seats i ≡ Some s
       → slice_get old.seats i ≡ Some s
   pub full : FullIsSo new turn
+  pub room : RoomAfter turn old new
 
 -- a processor's turn: if nothing was due, that is known of all its passes
 pub record TurnsCpu (lines : List LockSeen) (turn : Turn) (old new : JobSeen) : Type 0 where
   pub keeps : KeepsSeats lines old new
   pub flow : HasOneFlow new
+  pub its : HasItsFlow new
   pub rests : turn ≡ turns.NotYet → (i : ℕ) (s : SeatSeen) → slice_get new.seats i ≡ Some s
       → s.rests ≡ true
   pub full : FullIsSo new turn
+  pub room : RoomAfter turn old new
 
 -- ---- drivers
 
@@ -140,3 +151,4 @@ pub record TurnsDriver (board : BoardSeen) (lines : List LockSeen) (r : DriverNo
   pub within : new.at ≤ length board.calls
   pub rests : turn ≡ turns.NotYet → (length board.calls ≤ new.at) ⊎ WaitsAt board new r
   pub full : FullIsSo new turn
+  pub room : RoomAfter turn old new

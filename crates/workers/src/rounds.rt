@@ -1,15 +1,17 @@
 //! Rounds: each job has a worker of its own in each of them.
-ghost use Rattle.std.specs.Prelude.{◌≡◌, ℕ, Some, All, length, slice_get};
+ghost use Rattle.std.specs.Prelude.{◌≡◌, ◌<◌, ◌≤◌, ℕ, Some, All, length, slice_get};
 ghost use Rattle.workers.specs.Fit.{Fit, IsJob};
 ghost use Rattle.workers.specs.Forks.{AreBoards};
-ghost use Rattle.workers.specs.Rounds.{EachLeftSo, Ends, KeepsJobs, SumsUp, worse, LeftIsSo, TurnsJob, WorksJob, WorksOn};
+ghost use Rattle.workers.specs.Room.{RoomLeft, room_of_jobs};
+ghost use Rattle.workers.specs.Rounds.{BusyIsSo, EachLeftSo, Ends, KeepsJobs, SumsUp, worse, LeftIsSo, TurnsJob, WorksJob, WorksOn};
 ghost use Rattle.workers.specs.Seen.{JobSeen};
+ghost use Rattle.workers.specs.declared.job.Left.TheVariants as lefts;
 
 use crate::gate::Gate;
 use crate::job::{Job, Left};
 use crate::jobs::Jobs;
 use crate::lines::SharedLines;
-use crate::turns::Turn;
+use crate::turns::{Turn, is_not_yet};
 use board_def::Board;
 use callbacks::{Callbacks, Handler};
 use irq_base::{Actor, LineNo};
@@ -17,9 +19,6 @@ use irq_line::IrqLine;
 use std::hint::spin_loop;
 use std::sync::Wait;
 use std::thread::{self, Threads};
-
-/// How many turns a worker has in a round at most, those in which it finds nothing among them.
-const TURNS: usize = 65_536;
 
 /// A worker makes at most this part of a history's greatest length as steps in a round. So one that
 /// goes on by itself, as a processor that takes a level line again and again until the thread of
@@ -29,6 +28,9 @@ const SHARE: u32 = 16;
 
 /// The fewest steps that are the most of a round.
 const LEAST: u32 = 16;
+
+/// The most steps of a round, whatever the histories' greatest length is.
+const MOST: u32 = 65_536;
 
 /// How often a worker that finds nothing looks again before it ends its part of a round.
 const LOOKS: usize = 64;
@@ -65,7 +67,48 @@ impl<L: IrqLine> Job<L> {
         }
     }
 
-    /// Turns of the actor, as long as there is something to do, but only so many steps.
+    /// One turn of the actor, once the gate lets it pass.
+    fn turn_at_gate<R: Wait, G: Gate, H: Handler>(
+        &mut self,
+        rt: &R,
+        board: &Board,
+        lines: &SharedLines<L>,
+        gate: &G,
+        handlers: &Callbacks<H>,
+    ) -> Turn
+        requires boards { AreBoards board.now lines.now }
+        requires job { IsJob board.now lines.now self.old }
+        ensures { TurnsJob board.now lines.now result self.old self.new }
+    {
+        self.turns = self.turns.saturating_add(1);
+        gate.pass(self.actor, self.turns);
+        self.turn(rt, board, lines, handlers)
+    }
+
+    /// Turns of the actor, until there is something to do in one, or it has looked so often.
+    fn look<R: Wait, G: Gate, H: Handler>(
+        &mut self,
+        rt: &R,
+        board: &Board,
+        lines: &SharedLines<L>,
+        gate: &G,
+        handlers: &Callbacks<H>,
+    ) -> Turn
+        requires boards { AreBoards board.now lines.now }
+        requires job { IsJob board.now lines.now self.old }
+        ensures { TurnsJob board.now lines.now result self.old self.new }
+    {
+        for _ in 0..LOOKS {
+            let turn = self.turn_at_gate(rt, board, lines, gate, handlers);
+            if !is_not_yet(turn) {
+                return turn;
+            }
+            spin_loop();
+        }
+        self.turn_at_gate(rt, board, lines, gate, handlers)
+    }
+
+    /// Steps of the actor, as long as there is something to do, but only so many.
     fn take_turns<R: Wait, G: Gate, H: Handler>(
         &mut self,
         rt: &R,
@@ -78,29 +121,14 @@ impl<L: IrqLine> Job<L> {
         requires job { IsJob board.now lines.now self.old }
         ensures works { WorksOn board.now lines.now self.old self.new }
         ensures left { LeftIsSo board.now self.new result }
+        ensures room { RoomLeft result self.old self.new }
     {
-        let most = (board.log() / SHARE).max(LEAST);
-        let mut steps: u32 = 0;
-        let mut looks = 0;
-        for _ in 0..TURNS {
-            self.turns = self.turns.saturating_add(1);
-            gate.pass(self.actor, self.turns);
-            match self.turn(rt, board, lines, handlers) {
-                Turn::Moved(_) => {
-                    steps = steps.saturating_add(1);
-                    looks = 0;
-                    if steps >= most {
-                        return Left::Busy;
-                    }
-                }
-                Turn::NotYet if looks >= LOOKS => {
-                    return if steps > 0 { Left::Busy } else { Left::Idle };
-                }
-                Turn::Undecided if looks >= LOOKS => return Left::Busy,
-                Turn::NotYet | Turn::Undecided => {
-                    looks += 1;
-                    spin_loop();
-                }
+        let most = (board.log() / SHARE).max(LEAST).min(MOST);
+        for steps in 0..most {
+            match self.look(rt, board, lines, gate, handlers) {
+                Turn::Moved(_) => {}
+                Turn::NotYet if steps > 0 => return Left::Busy,
+                Turn::NotYet => return Left::Idle,
                 Turn::Full { line, len } => return Left::Full { line, len },
                 Turn::NoMemory => return Left::NoMemory,
             }
@@ -151,7 +179,9 @@ fn round<R: Threads + Wait + Sync, L: IrqLine + Send + Sync, G: Gate + Sync, H: 
 }
 
 /// Rounds of all jobs, until one of them made no step, or a worker was refused. They work on the
-/// lines that the jobs fit.
+/// lines that the jobs fit. They come to an end: a round after which another comes left less room,
+/// as some pass has seen more than before, so there is at most one round more than the passes have
+/// entries to see until each has seen a history of the greatest length.
 pub fn run_rounds<
     R: Threads + Wait + Sync,
     L: IrqLine + Send + Sync,
@@ -168,8 +198,9 @@ pub fn run_rounds<
     ensures board { jobs.new.board ≡ jobs.old.board }
     ensures fit { Fit lines.now jobs.new }
     ensures end { Ends jobs.new result }
+    ensures room { room_of_jobs jobs.new.jobs ≤ room_of_jobs jobs.old.jobs }
 {
-    for _ in rt.forever() {
+    loop {
         match jobs.one_round(rt, lines, gate, handlers) {
             Left::Idle => return RoundsEnd::Quiet,
             Left::Busy => {}
@@ -177,7 +208,6 @@ pub fn run_rounds<
             Left::NoMemory => return RoundsEnd::NoMemory,
         }
     }
-    unreachable!()
 }
 
 impl<'b, L: IrqLine + Send + Sync> Jobs<'b, L> {
@@ -194,6 +224,8 @@ impl<'b, L: IrqLine + Send + Sync> Jobs<'b, L> {
         ensures fit { Fit lines.now self.new }
         ensures left { EachLeftSo self.new }
         ensures all { SumsUp self.new.jobs (length self.new.jobs) result }
+        ensures room { room_of_jobs self.new.jobs ≤ room_of_jobs self.old.jobs }
+        ensures busy { result ≡ lefts.Busy → room_of_jobs self.new.jobs < room_of_jobs self.old.jobs }
     {
         let jobs = self.jobs.as_mut_slice();
         round(rt, self.board, lines, jobs, gate, handlers);
@@ -204,7 +236,8 @@ impl<'b, L: IrqLine + Send + Sync> Jobs<'b, L> {
 /// How the workers left their jobs: full comes before out of memory, the lowest full line before
 /// the others, and that a step was made before that none was.
 fn left_of_all<L: IrqLine>(jobs: &[Job<L>]) -> Left
-    ensures { SumsUp jobs.now (length jobs.now) result }
+    ensures all { SumsUp jobs.now (length jobs.now) result }
+    ensures busy { BusyIsSo jobs.now (length jobs.now) result }
 {
     let mut all = Left::Idle;
     for i in 0..jobs.len() {

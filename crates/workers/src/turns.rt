@@ -1,7 +1,7 @@
 //! A worker's turns.
 ghost use Rattle.std.specs.Prelude.{◌≡◌, ◌<◌, ℕ, true, Some, length, slice_get};
-ghost use Rattle.workers.specs.Fit.{AreSeated, HasOneFlow};
-ghost use Rattle.workers.specs.Turns.{StepsSeat, StepsCpu, TurnsCpu, turn_of, flow_after, within_flow, is_not_yet};
+ghost use Rattle.workers.specs.Fit.{AreSeated, HasOneFlow, HasItsFlow};
+ghost use Rattle.workers.specs.Turns.{StepsSeat, StepsCpu, TurnsCpu, turn_of, flow_after, is_not_yet};
 
 use crate::job::Job;
 use crate::lines::SharedLines;
@@ -17,8 +17,6 @@ pub(crate) enum Turn {
     Moved(Entry),
     /// Nothing is due of the actor on what it has seen.
     NotYet,
-    /// Nothing is due on the line that it tried, and it may have something to do on others.
-    Undecided,
     /// A step is due on that line, whose history has the greatest length. `len`: that many entries.
     Full { line: LineNo, len: u32 },
     /// Memory was needed and refused.
@@ -59,6 +57,7 @@ impl<L: IrqLine> Job<L> {
         requires seated { AreSeated lines.now self.old }
         requires place { place < length self.old.seats }
         requires flow { HasOneFlow self.old }
+        requires its { HasItsFlow self.old }
         requires free { (i : ℕ) → self.old.flow ≡ Some i → i ≡ place }
         ensures { StepsCpu lines.now place result self.old self.new }
     {
@@ -70,8 +69,8 @@ impl<L: IrqLine> Job<L> {
         turn
     }
 
-    /// A processor's turn: on the line on which it has a flow in progress, else on the first on
-    /// which an entry of it is due.
+    /// A processor's turn: on the line on which it has a flow in progress, where something is due of
+    /// it, else on the first on which an entry of it is due.
     pub(crate) fn turn_cpu<R: Wait, H: Handler>(
         &mut self,
         rt: &R,
@@ -80,13 +79,11 @@ impl<L: IrqLine> Job<L> {
     ) -> Turn
         requires seated { AreSeated lines.now self.old }
         requires flow { HasOneFlow self.old }
+        requires its { HasItsFlow self.old }
         ensures { TurnsCpu lines.now result self.old self.new }
     {
         if let Some(place) = self.flow {
-            if place < self.seats.len() {
-                return within_flow(self.step_cpu(rt, lines, place, handlers));
-            }
-            return Turn::Undecided;
+            return self.step_cpu(rt, lines, place, handlers);
         }
         for place in 0..self.seats.len() {
             let turn = self.step_cpu(rt, lines, place, handlers);
@@ -98,18 +95,8 @@ impl<L: IrqLine> Job<L> {
     }
 }
 
-/// A processor that has nothing to do on the line of its flow may have something to do on others.
-fn within_flow(turn: Turn) -> Turn
-    ensures { result ≡ within_flow turn }
-{
-    match turn {
-        Turn::NotYet => Turn::Undecided,
-        turn => turn,
-    }
-}
-
 /// Whether nothing was due.
-fn is_not_yet(turn: Turn) -> bool
+pub(crate) fn is_not_yet(turn: Turn) -> bool
     ensures { result ≡ is_not_yet turn }
 {
     match turn {

@@ -1,9 +1,14 @@
-use Rattle.std.proofs.Common.{◌≡◌}
+use Rattle.std.proofs.Common.{◌≡◌, ◌≤◌}
 use Rattle.workers.specs.Fit.{Fit}
+use Rattle.workers.specs.Room.{room_of_jobs}
 use Rattle.workers.proofs.rounds.run_rounds.Given as goal
 
 abbrev pub invariant-loop : goal.invariant-loop
 invariant-loop g l = record {
   fit : Fit l.lines l.jobs;
   same : l.jobs.board ≡ l.fn.jobs.board;
+  room : room_of_jobs l.jobs.jobs ≤ room_of_jobs l.fn.jobs.jobs;
 }
+
+abbrev pub decreases-loop : goal.decreases-loop
+decreases-loop g l = room_of_jobs l.jobs.jobs

@@ -3,6 +3,7 @@ use Rattle.irq_base.specs.declared.entries.Actor.{Actor}
 use Rattle.line_lock.specs.Passes.{LockSeen, IsPassOf}
 use Rattle.workers.specs.Seen.{SeatSeen, JobSeen}
 use Rattle.workers.specs.Tries.{IsIdle, Tries}
+use Rattle.workers.specs.Turns.{FlowMoves}
 use Rattle.irq_laws.proofs.Chosen.{the_same}
 use Rattle.workers.proofs.Turning.{at_place, in_here, in_numbers, line_is, seat_is, number_is, steps_seat}
 use Rattle.workers.proofs.job.Job.try_seat.Goals as goal
@@ -58,3 +59,5 @@ returns g c =
     (subst (λ (x : LockSeen). IsPassOf x c.step-tried.new.self.pass) l e.line) e.idle (e.actor ∙ ap (λ (x : SeatSeen). x.pass.knows.actor) s) e.rests
     (λ who. subst (λ (x : SeatSeen). x.pass.knows.actor ≡ Some who → Tries a.line.def who x.pass.knows c.step-tried.result c.step-tried.new.self.pass.knows) s
     (subst (λ (x : LockSeen). c.index_mut-seat.result.now.pass.knows.actor ≡ Some who → Tries x.def who c.index_mut-seat.result.now.pass.knows c.step-tried.result c.step-tried.new.self.pass.knows) l (e.tries who)))
+    (subst (λ (x : SeatSeen). x.rests ≡ false → FlowMoves a.line.def x.pass.knows c.step-tried.result) s
+    (subst (λ (x : LockSeen). c.index_mut-seat.result.now.rests ≡ false → FlowMoves x.def c.index_mut-seat.result.now.pass.knows c.step-tried.result) l e.flows))

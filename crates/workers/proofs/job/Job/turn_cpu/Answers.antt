@@ -1,5 +1,6 @@
 use Rattle.std.proofs.Common.{sym, ◌∙◌}
 use Rattle.workers.proofs.Flowing.{keeps_on, not_yet_from, rests_more}
+use Rattle.workers.proofs.Rooms.{no_more_on, room_from}
 use Rattle.workers.proofs.job.Job.turn_cpu.Goals as goal
 
 pub loop-place-preserved : goal.loop-place-preserved
@@ -11,5 +12,6 @@ loop-place-preserved g c =
       keeps = keeps_on c.args.lines.now c.args.self.now c.loop-place.self c.step_cpu-turn.new.self old.keeps s.keeps;
       flow = s.flow;
       none = s.still not ∙ old.none;
+      room = no_more_on c.step_cpu-turn.result c.args.self.now c.loop-place.self c.step_cpu-turn.new.self old.room s.room;
       rests = rests_more c.args.lines.now c.loop-place.place c.step_cpu-turn.result c.loop-place.self c.step_cpu-turn.new.self not s old.rests;
     }

@@ -1,5 +1,5 @@
 use Rattle.std.proofs.Common.{◌≡◌, ◌++◌, take, drop, length, arith}
-use Rattle.workers.proofs.Rounding.{round_may, round_fit, round_left, whole_again}
+use Rattle.workers.proofs.Rounding.{round_may, round_fit, round_left, round_room, round_busy, whole_again}
 use Rattle.workers.proofs.jobs.Jobs.one_round.Goals as goal
 
 pub round-requires-clause-jobs : goal.round-requires-clause-jobs
@@ -17,3 +17,15 @@ returns-clause-left g c =
     let long : length c.round.new.jobs ≡ length c.as_mut_slice-jobs.result.now = c.round.auto.jobs in
     round_left c.args.lines.now c.args.self.now c.requires c.self.inside.board.now c.self.inside.jobs.items c.as_mut_slice-jobs.result.now c.round.new.jobs (take c.self.inside.jobs.len (c.round.new.jobs ++ drop (length c.round.new.jobs) c.self.inside.jobs.items)) c.self.inside.firsts.items c.self.view_is c.as_mut_slice-jobs.ensures.value long c.round.ensures
     (whole_again c.self.inside.jobs.len c.round.new.jobs c.self.inside.jobs.items (let e = c.as_mut_slice-jobs.ensures.len in omega (arith, long, e)))
+
+pub returns-clause-room : goal.returns-clause-room
+returns-clause-room g c =
+    let long : length c.round.new.jobs ≡ length c.as_mut_slice-jobs.result.now = c.round.auto.jobs in
+    round_room c.args.lines.now c.args.self.now c.requires c.self.inside.board.now c.self.inside.jobs.items c.as_mut_slice-jobs.result.now c.round.new.jobs (take c.self.inside.jobs.len (c.round.new.jobs ++ drop (length c.round.new.jobs) c.self.inside.jobs.items)) c.self.inside.firsts.items c.self.view_is c.as_mut_slice-jobs.ensures.value long c.round.ensures
+    (whole_again c.self.inside.jobs.len c.round.new.jobs c.self.inside.jobs.items (let e = c.as_mut_slice-jobs.ensures.len in omega (arith, long, e)))
+
+pub returns-clause-busy : goal.returns-clause-busy
+returns-clause-busy g c = λ is.
+    let long : length c.round.new.jobs ≡ length c.as_mut_slice-jobs.result.now = c.round.auto.jobs in
+    round_busy c.args.lines.now c.args.self.now c.requires c.self.inside.board.now c.self.inside.jobs.items c.as_mut_slice-jobs.result.now c.round.new.jobs (take c.self.inside.jobs.len (c.round.new.jobs ++ drop (length c.round.new.jobs) c.self.inside.jobs.items)) c.self.inside.firsts.items c.self.view_is c.as_mut_slice-jobs.ensures.value long c.round.ensures
+    (whole_again c.self.inside.jobs.len c.round.new.jobs c.self.inside.jobs.items (let e = c.as_mut_slice-jobs.ensures.len in omega (arith, long, e))) ?busy
