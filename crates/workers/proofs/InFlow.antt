@@ -38,8 +38,8 @@ by_actor line who n (e ∷ h) = by_test (is_by line who e) (by_actor line who (s
 -- ---- another actor's entry neither begins nor ends the flow in progress
 
 busy : (f o : Bool) → f ≡ true → takes.Handle ≡ cond f takes.Busy (cond o takes.Off takes.Handle) → ⊥
-busy true o yes is = cc
-busy false o yes is = cc
+busy true o there is = cc
+busy false o there is = cc
 
 and_false : (b : Bool) → (b && false) ≡ false
 and_false true = refl

@@ -1,4 +1,8 @@
-use Rattle.std.proofs.Common.{◌≡◌, ◌++◌, take, drop, length, arith}
+use Rattle.std.proofs.Common.{◌≡◌, List, ◌++◌, take, drop, length, subst, arith}
+use Rattle.workers.specs.Rounds.{BusyIsSo}
+use Rattle.workers.specs.Seen.{JobSeen}
+use Rattle.workers.specs.declared.job.Left.{Left}
+use Rattle.workers.specs.declared.job.Left.TheVariants as lefts
 use Rattle.workers.proofs.Rounding.{round_may, round_fit, round_left, round_room, round_busy, whole_again}
 use Rattle.workers.proofs.jobs.Jobs.one_round.Goals as goal
 
@@ -28,4 +32,5 @@ pub returns-clause-busy : goal.returns-clause-busy
 returns-clause-busy g c = λ is.
     let long : length c.round.new.jobs ≡ length c.as_mut_slice-jobs.result.now = c.round.auto.jobs in
     round_busy c.args.lines.now c.args.self.now c.requires c.self.inside.board.now c.self.inside.jobs.items c.as_mut_slice-jobs.result.now c.round.new.jobs (take c.self.inside.jobs.len (c.round.new.jobs ++ drop (length c.round.new.jobs) c.self.inside.jobs.items)) c.self.inside.firsts.items c.self.view_is c.as_mut_slice-jobs.ensures.value long c.round.ensures
-    (whole_again c.self.inside.jobs.len c.round.new.jobs c.self.inside.jobs.items (let e = c.as_mut_slice-jobs.ensures.len in omega (arith, long, e))) ?busy
+    (whole_again c.self.inside.jobs.len c.round.new.jobs c.self.inside.jobs.items (let e = c.as_mut_slice-jobs.ensures.len in omega (arith, long, e)))
+    (subst (λ (js : List JobSeen). BusyIsSo js (length js) lefts.Busy) c.as_slice.ensures.value (subst (λ (l : Left). BusyIsSo c.as_slice.result.now (length c.as_slice.result.now) l) is c.left_of_all.ensures.busy))
