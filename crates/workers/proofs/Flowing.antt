@@ -1,5 +1,5 @@
 -- A processor's tries keep that it has a flow in progress on one line at most.
-use Rattle.std.proofs.Common.{◌≡◌, ℕ, zero, suc, ◌+◌, ◌<◌, ◌⊎◌, inl, inr, Bool, true, false, ◌&&◌, ◌||◌, cond, IsSomeAnd, Option, Some, None, is_some, Result, Ok, Err, List, [], ◌∷◌, ◌++◌, length, map, reverse, set, slice_get, refl, sym, ap, ◌∙◌, subst, arith}
+use Rattle.std.proofs.Common.{◌≡◌, ℕ, ◌+◌, ◌<◌, ◌⊎◌, inl, inr, Bool, true, false, ◌&&◌, ◌||◌, cond, IsSomeAnd, Option, Some, None, is_some, Result, Ok, Err, List, [], ◌∷◌, ◌++◌, length, map, reverse, slice_get, refl, sym, ap, ◌∙◌, subst, arith}
 use Rattle.std.proofs.Math.ListN.{length-set}
 use Rattle.std.proofs.lemmas.List.{reverse-append}
 use Rattle.irq_base.specs.declared.entries.Actor.{Actor}
@@ -175,15 +175,14 @@ module _ (lines : List LockSeen) (place : ℕ) (old mid : JobSeen) (seated : Are
             let at_place : old.flow ≡ Some place = was ∙ ap (λ (k : ℕ). Some k) here in
             let f = its place at_place in
             let same : f.1 ≡ s.seat = the_same f.1 s.seat (sym f.3 ∙ s.at_seat) in
-            let mine = nothing_gained s.line.def old.actor s.line.def.line s.seat.pass.knows s.after.pass.knows s.tried turn s.told not s.tries in
-            (
+            let mine = nothing_gained s.line.def old.actor s.line.def.line s.seat.pass.knows s.after.pass.knows s.tried turn s.told not s.tries in (
               f.0,
               s.after,
               ap (λ (j : JobSeen). j.actor) s.is ∙ f.2,
               ap (λ (k : ℕ). slice_get mid.seats k) here ∙ seat_there lines place turn old mid s,
               s.rests ∙ never_rests s.tried (due at_place),
               ap (λ (d : LineDef). flow d (own_past s.after.pass.knows.mine)) (s.sits.of_line.1 ∙ sym seat_def)
-              ∙ (ap (λ (ps : List Placed). flow s.seat.pass.def (own_past ps)) mine ∙ subst (λ (x : SeatSeen). IsInFlow x.pass.def f.0 x.pass.knows) same f.5),
+                  ∙ (ap (λ (ps : List Placed). flow s.seat.pass.def (own_past ps)) mine ∙ subst (λ (x : SeatSeen). IsInFlow x.pass.def f.0 x.pass.knows) same f.5),
             )
 
         rests : turn ≡ turns.NotYet → (t : SeatSeen) → slice_get mid.seats place ≡ Some t → t.rests ≡ true

@@ -1,5 +1,5 @@
 -- How much more the passes of jobs can see, after a try, a turn and a round.
-use Rattle.std.proofs.Common.{◌≡◌, ℕ, zero, suc, ◌+◌, ◌-◌, ◌<◌, ◌≤◌, IsSomeAnd, Option, Some, None, Result, Ok, Err, List, [], ◌∷◌, ◌++◌, length, get_or, set, slice_get, refl, sym, ap, ◌∙◌, subst, arith, length-append}
+use Rattle.std.proofs.Common.{◌≡◌, ℕ, zero, suc, ◌<◌, ◌≤◌, IsSomeAnd, Option, Some, None, Result, Ok, Err, List, [], ◌∷◌, length, get_or, set, slice_get, sym, ap, ◌∙◌, subst, arith, length-append}
 use Rattle.irq_base.specs.declared.entries.Entry.{Entry}
 use Rattle.irq_base.specs.declared.lines.LineDef.{LineDef}
 use Rattle.irq_laws.proofs.Chosen.{the_same}

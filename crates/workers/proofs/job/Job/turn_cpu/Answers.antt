@@ -1,6 +1,6 @@
 use Rattle.std.proofs.Common.{sym, ◌∙◌}
 use Rattle.workers.proofs.Flowing.{keeps_on, not_yet_from, rests_more}
-use Rattle.workers.proofs.Rooms.{no_more_on, room_from}
+use Rattle.workers.proofs.Rooms.{no_more_on}
 use Rattle.workers.proofs.job.Job.turn_cpu.Goals as goal
 
 pub loop-place-preserved : goal.loop-place-preserved
