@@ -10,8 +10,9 @@ use Rattle.line_lock.specs.Knows.{BeginsWith}
 use Rattle.line_lock.specs.Placed.{placed}
 use Rattle.line_lock.specs.declared.view.Known.{Known}
 
--- The entry was due of the actor after some history, which began with what the pass had seen, and in
--- which the pass's own entries were those that it knew. It stands at the end of what is seen, and is the pass's own there.
+-- The entry was due of the actor after some history, which began with what the pass had seen, and
+-- in which the pass's own entries were those that it knew. It stands at the end of what is seen,
+-- and is the pass's own there.
 pub record Gains (def : LineDef) (who : Actor) (old : Known) (e : Entry) (new : Known) : Type 0 where
   pub history : List Entry
   pub onto : BeginsWith history old.seen

@@ -69,8 +69,8 @@ impl<L: IrqLine> Job<L> {
         turn
     }
 
-    /// A processor's turn: on the line on which it has a flow in progress, where something is due of
-    /// it, else on the first on which an entry of it is due.
+    /// A processor's turn: on the line on which it has a flow in progress, where something is
+    /// always due of it, else on the first on which an entry of it is due.
     pub(crate) fn turn_cpu<R: Wait, H: Handler>(
         &mut self,
         rt: &R,
