@@ -19,9 +19,10 @@ use Rattle.board_play.specs.Play.{first_move}
 use Rattle.irq_play.specs.Headline.{told_by}
 use Rattle.irq_play.specs.Reporting.{AreOfBoard, history_among}
 use Rattle.irq_play.specs.Summable.{IsSummable}
-use Rattle.irq_run.specs.Headline.{Headline}
+use Rattle.irq_run.specs.Headline.{Headline, IsFullLine}
 use Rattle.irq_run.specs.Ran.{IsRun, IsRunFull}
 use Rattle.irq_run.specs.Report.{HasRows}
+use Rattle.irq_run.proofs.Ample.{not_full}
 use Rattle.irq_run.proofs.FullAt.{full_line}
 use Rattle.irq_run.proofs.Kept.{all_end_well, all_keep_laws, refused_have_none}
 use Rattle.irq_run.proofs.Laid.{entries_in}
@@ -63,14 +64,16 @@ pub full_done : (b : BoardSeen) (s : SystemSeen) (line : LineNo) (len : ℕ) →
 full_done b s line len p lines are board reports is =
     let k = kept b s (plays.Full line len) p lines are in
     let first = subst (λ (c : BoardSeen). first_move c (board_lines s.lines) (actors_of c) ≡ Some p.ends.move) p.board p.ends.is in
-    let long = subst (λ (ls : List LineSeen). HasLength (find_line (board_lines ls) line) len) (sym are) p.ends.length in (
+    let long = subst (λ (ls : List LineSeen). HasLength (find_line (board_lines ls) line) len) (sym are) p.ends.length in
+    let full : IsFullLine b (entries_in (board_lines lines)) line len =
+    full_line b board (board_lines lines) k p.ends.move line len (ap (λ (ls : List LineSeen). first_move b (board_lines ls) (actors_of b)) are ∙ first) p.ends.of_line long
+    (p.ends.log ∙ ap (λ (c : BoardSeen). c.log) p.board) in (
       entries_in (board_lines lines),
       record {
         handed_out = is;
         mapped = all_keep_laws b board (board_lines lines) k;
         refused = refused_have_none b board (board_lines lines) k;
-        full =
-            full_line b board (board_lines lines) k p.ends.move line len (ap (λ (ls : List LineSeen). first_move b (board_lines ls) (actors_of b)) are ∙ first) p.ends.of_line long
-            (p.ends.log ∙ ap (λ (c : BoardSeen). c.log) p.board);
+        full = full;
+        scarce = not_full b board (board_lines lines) k line len full;
       },
     )

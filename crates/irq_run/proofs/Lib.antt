@@ -2,6 +2,7 @@ pub mod Laid
 pub mod Kept
 pub mod Resting
 pub mod FullAt
+pub mod Ample
 pub mod Reported
 pub mod Finished
 pub mod Fresh

@@ -11,7 +11,7 @@ use Rattle.irq_model.specs.Next.{next}
 use Rattle.board_def.specs.LineOf.{line_of_row}
 use Rattle.board_def.specs.Seen.{BoardSeen}
 use Rattle.board_def.specs.declared.rows.LineRow.{LineRow}
-use Rattle.irq_play.specs.Headline.{EachMapped, EachRefused, KeepsLaws, LineHeadline, LineHistory, told_by}
+use Rattle.irq_play.specs.Headline.{EachMapped, EachRefused, IsAmple, KeepsLaws, LineHeadline, LineHistory, told_by}
 
 -- what has happened on each line, by its number
 abbrev pub Histories : Type 0
@@ -47,3 +47,5 @@ pub record FullLog (b : BoardSeen) (entries : Histories) (reports : List LineRep
   pub mapped : EachMapped b (λ row. KeepsLaws (line_of_row b row) (entries row.line))
   pub refused : EachRefused b (λ row. entries row.line ≡ [])
   pub full : IsFullLine b entries line len
+  -- so this ending doesn't come if each line's log is ample
+  pub scarce : IsAmple b → ⊥

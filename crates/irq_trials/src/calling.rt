@@ -1,23 +1,26 @@
 //! Calls of the top call over ends in memory.
 use anyhow::{Context, Result};
-use callbacks::{ByKind, Callbacks};
+use callbacks::{ByKind, Callbacks, Handler};
+use irq_base::Reports;
 use irq_io::{StdSink, StdSource};
 use irq_top::irq_main;
 use std::alloc::Global;
 use std::io::BufWriter;
 use std::sync::Wait;
 use std::thread::Threads;
-use workers::NoGate;
+use workers::{Gate, NoGate};
 
 /// The room of a sink's buffer, in bytes.
 const BUFFER: usize = 4096;
 
-/// What a call left behind: its exit status, and what it wrote to its output and to its error sink.
+/// What a call left behind: its exit status, what it wrote to its output and to its error sink, and
+/// the histories that it handed out.
 #[derive(Drop)]
 pub struct Seen {
     pub status: u8,
     pub out: Vec<u8>,
     pub err: Vec<u8>,
+    pub reports: Reports,
 }
 
 /// Calls the program with these words and that input.
@@ -26,18 +29,29 @@ pub fn call(
     words: &[&str],
     input: &[u8],
 ) -> Result<Seen> {
+    call_with(rt, words, input, &NoGate, &Callbacks::new(ByKind))
+}
+
+/// The same under that gate, with those handlers.
+pub fn call_with<G: Gate + Sync, H: Handler + Sync>(
+    rt: &(impl AllocGlobal + Threads + Wait + Sync),
+    words: &[&str],
+    input: &[u8],
+    gate: &G,
+    handlers: &Callbacks<H>,
+) -> Result<Seen> {
     let alloc = rt.alloc();
     let mut src = StdSource::new(input);
     let mut out = StdSink::new(BufWriter::with_capacity(alloc, BUFFER, Vec::new(alloc))?);
     let mut err = StdSink::new(BufWriter::with_capacity(alloc, BUFFER, Vec::new(alloc))?);
-    let handlers = Callbacks::new(ByKind);
     let outcome = irq_main(
-        rt, alloc, words, &mut src, &mut out, &mut err, &NoGate, &handlers,
+        rt, alloc, words, &mut src, &mut out, &mut err, gate, handlers,
     );
     Ok(Seen {
         status: outcome.ending.status(),
         out: out.into_writer(),
         err: err.into_writer(),
+        reports: outcome.reports,
     })
 }
 

@@ -10,12 +10,15 @@ mod boards;
 mod calling;
 mod first_log;
 mod limits;
+mod meeting;
+mod runs;
 mod tally;
 mod vectors;
 
 use anyhow::{Context, Result, bail};
 use first_log::try_first_log;
 use limits::{LENGTHS, MACHINES, SCRIPTS, try_boards, try_limits, try_logs};
+use runs::try_runs;
 use std::rt::Files;
 use std::sync::Wait;
 use std::thread::Threads;
@@ -35,6 +38,7 @@ fn try_row(
         "lengths" => try_limits(rt, tally, &LENGTHS),
         "long boards" => try_boards(rt, tally),
         "long logs" => try_logs(rt, tally),
+        "runs" => try_runs(rt, tally),
         _ => match row.split_once(' ') {
             Some(("log", file)) => try_log(rt, tally, file),
             _ => bail!("no trial"),
