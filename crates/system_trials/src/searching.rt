@@ -128,7 +128,8 @@ impl<'b> Search<'b> {
         let Some(j) = self.driver_place(driver) else {
             return Ok(Asked::NotYet);
         };
-        let Some((i, call)) = self.current(driver, self.behind[j]) else {
+        let from = self.behind.get(j).copied().unwrap_or(0);
+        let Some((after, call)) = self.current(driver, from) else {
             return Ok(Asked::NotYet);
         };
         let Some(k) = self.place_of(call.line) else {
@@ -137,18 +138,19 @@ impl<'b> Search<'b> {
         let answer = self.step(k, Actor::Driver(driver))?;
         if let Asked::Moved(entry) = answer {
             if is_last_of(call.call, entry) {
-                self.behind[j] = i + 1;
+                let behind = self.behind.get_mut(j).context("no driver")?;
+                *behind = after;
             }
         }
         Ok(answer)
     }
 
-    /// The driver's first call from that place on whose line takes part.
+    /// The driver's first call from that place on whose line takes part, and the place behind it.
     fn current(&self, driver: DriverNo, from: usize) -> Option<(usize, ScriptCall)> {
         for i in from..self.board.calls_len() {
             let call = self.board.call(i)?;
             if call.driver == driver && self.place_of(call.line).is_some() {
-                return Some((i, call));
+                return Some((i + 1, call));
             }
         }
         None
@@ -156,14 +158,16 @@ impl<'b> Search<'b> {
 
     /// One step of the actor on the line at the place.
     fn step(&mut self, k: usize, actor: Actor) -> Result<Asked> {
-        let line = &mut self.lines[k];
+        let line = self.lines.get_mut(k).context("no line")?;
         let number = line.definition().line;
         let stepped = match line.step(actor, None) {
-            Ok(Stepped::Run {
-                def,
-                part,
-                unserved,
-            }) => line.step(
+            Ok(
+                Stepped::Run {
+                    def,
+                    part,
+                    unserved,
+                },
+            ) => line.step(
                 actor,
                 Some(Callbacks::new(ByKind).call(def, part, unserved)),
             ),
