@@ -1,5 +1,5 @@
 //! A plain search over all actors.
-use anyhow::{Context, Result, bail};
+use anyhow::{Context, Result, bail, ensure};
 use board_core::PlayEnd;
 use board_def::{Board, ScriptCall};
 use callbacks::{ByKind, Callbacks};
@@ -128,8 +128,8 @@ impl<'b> Search<'b> {
         let Some(j) = self.driver_place(driver) else {
             return Ok(Asked::NotYet);
         };
-        let from = self.behind.get(j).copied().unwrap_or(0);
-        let Some((after, call)) = self.current(driver, from) else {
+        ensure!(j < self.behind.len(), "no driver");
+        let Some((after, call)) = self.current(driver, self.behind[j]) else {
             return Ok(Asked::NotYet);
         };
         let Some(k) = self.place_of(call.line) else {
@@ -138,8 +138,8 @@ impl<'b> Search<'b> {
         let answer = self.step(k, Actor::Driver(driver))?;
         if let Asked::Moved(entry) = answer {
             if is_last_of(call.call, entry) {
-                let behind = self.behind.get_mut(j).context("no driver")?;
-                *behind = after;
+                ensure!(j < self.behind.len(), "no driver");
+                self.behind[j] = after;
             }
         }
         Ok(answer)
@@ -158,7 +158,8 @@ impl<'b> Search<'b> {
 
     /// One step of the actor on the line at the place.
     fn step(&mut self, k: usize, actor: Actor) -> Result<Asked> {
-        let line = self.lines.get_mut(k).context("no line")?;
+        ensure!(k < self.lines.len(), "no line");
+        let line = &mut self.lines[k];
         let number = line.definition().line;
         let stepped = match line.step(actor, None) {
             Ok(
