@@ -10,7 +10,6 @@ use plain_line::{MakesPlainLine, PlainLine};
 use std::alloc::Global;
 
 /// The system of the board over plain lines, to which nothing has happened.
-#[tactic(auto, using(crate::proofs::Makers::plain_makes))]
 pub fn make_system(alloc: Global, board: &Board) -> Result<System<'_, PlainLine>, NoMemory>
     ensures { IfOk result IsFresh }
 {
