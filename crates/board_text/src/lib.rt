@@ -16,6 +16,3 @@ pub mod stood;
 
 pub use board_words::{BoardFault, FaultKind};
 pub use reading::{BoardRefused, LONGEST_TEXT, read_board};
-
-#[cfg(test)]
-mod tests;

@@ -1,6 +1,8 @@
-//! Tests of texts: rows of a log and of its summary, and the statements of a board.
+//! Tests of texts: rows of a log and of its summary, the statements of a board and its whole text.
 #![tactic(auto)]
 
+#[cfg(test)]
+mod boards;
 #[cfg(test)]
 mod entry_rows;
 #[cfg(test)]

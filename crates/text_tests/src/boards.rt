@@ -2,8 +2,8 @@
 //!
 //! A table has a row for each text: what is told of it, `=` and the text, in which `|` stands for a
 //! line feed and `^` for a byte beyond ASCII. Rows that begin with `#` are headings.
-use crate::{BoardRefused, LONGEST_TEXT, read_board};
 use board_def::{Board, ScriptCall};
+use board_text::{BoardRefused, LONGEST_TEXT, read_board};
 use irq_base::{Actor, Call, CpuNo, DevNo, DeviceDef, DriverNo, Kind, LevelKind, LineNo, MapKind};
 use std::alloc::Global;
 use std::process::Abort;
