@@ -1,4 +1,2 @@
-pub mod OnePlay
-pub mod AtRest
 pub mod Listed
 pub mod Rest

@@ -1,4 +1,4 @@
--- If none of the line's actors has a due entry, as when a play is done, the line is settled.
+-- If none of the line's actors has a due entry, the line is settled.
 use Rattle.std.proofs.Common.{◌≡◌, Option, Some, None, List, reverse, refl}
 use Rattle.irq_base.specs.declared.lines.LineDef.{LineDef}
 use Rattle.irq_base.specs.declared.entries.Actor.{Actor}
@@ -9,8 +9,6 @@ use Rattle.irq_model.specs.Settled.{IsSettled}
 use Rattle.irq_model.specs.Valid.{IsValid}
 use Rattle.irq_laws.proofs.RestLaws.{no_standstill}
 use Rattle.play_laws.specs.Actors.{actors_of, IsOneOf}
-use Rattle.play_laws.specs.Play.{Done, Plays}
-use Rattle.play_laws.proofs.AtRest.{done_at_rest}
 use Rattle.play_laws.proofs.Listed.{mover_listed}
 
 pub others_rest : (def : LineDef) (h : List Entry) (a : Actor) → IsValid def → IsLegal def h → (IsOneOf a (actors_of def) → ⊥) → next def h a ≡ None
@@ -30,6 +28,3 @@ all_rest def h valid legal rest a = by_next (next def h a) refl
 
 pub rest_is_settled : (def : LineDef) (h : List Entry) → IsValid def → IsLegal def h → ((a : Actor) → IsOneOf a (actors_of def) → next def h a ≡ None) → IsSettled def h
 rest_is_settled def h valid legal rest = no_standstill def h valid legal (all_rest def h valid legal rest)
-
-pub done_is_settled : (def : LineDef) (picks : List Actor) (h : List Entry) → IsValid def → IsLegal def h → Plays def picks h Done → IsSettled def h
-done_is_settled def picks h valid legal plays = rest_is_settled def h valid legal (λ a own. done_at_rest def picks h a plays own)
