@@ -7,7 +7,7 @@ use Rattle.board_def.specs.Rules.{IsDomainRowAfter, IsLineAfter, IsDeviceAfter, 
 use Rattle.board_def.specs.Seen.{BoardSeen}
 use Rattle.domain_rules.proofs.EachAfters.{each_none}
 use Rattle.board_words.specs.Forms.{fault_of_words}
-use Rattle.board_words.specs.Lines.{text_lines, words_of, has_bad_byte}
+use Rattle.board_words.specs.TextLines.{text_lines, words_of, has_bad_byte}
 use Rattle.board_words.specs.Statements.{statement_of}
 use Rattle.board_words.specs.declared.faults.FaultKind.{FaultKind}
 use Rattle.board_words.specs.declared.faults.FaultKind.TheVariants as faults

@@ -3,7 +3,7 @@ use Rattle.std.specs.Prelude.{ℕ, ◌+◌, ◌*◌, Bool, false, not, ◌&&◌,
 use Rattle.std.specs.List.{list_any}
 use Rattle.board_def.specs.Seen.{BoardSeen}
 use Rattle.board_words.specs.Forms.{is, fault_of_words}
-use Rattle.board_words.specs.Lines.{text_lines, words_of, has_bad_byte}
+use Rattle.board_words.specs.TextLines.{text_lines, words_of, has_bad_byte}
 use Rattle.board_words.specs.Statements.{statement_of}
 use Rattle.board_words.specs.declared.faults.FaultKind.{FaultKind}
 use Rattle.board_words.specs.declared.faults.FaultKind.TheVariants as faults

@@ -5,7 +5,7 @@ use Rattle.board_def.specs.Rules.{IsBoard}
 use Rattle.board_def.specs.Seen.{BoardSeen}
 use Rattle.board_stated.specs.Stated.{board_of}
 use Rattle.board_stated.specs.TextOf.{board_unless, whole, fault_of_lines, longest_text, statements_of, board_of_text}
-use Rattle.board_words.specs.Lines.{text_lines}
+use Rattle.board_words.specs.TextLines.{text_lines}
 use Rattle.board_words.specs.declared.faults.BoardFault.{BoardFault}
 use Rattle.board_stated.proofs.Kept.{draft_is_board}
 use Rattle.board_stated.proofs.Settings.{log_range, log_kept}

@@ -1,7 +1,7 @@
 -- Reading text lines, one after another.
 use Rattle.std.proofs.Common.{◌≡◌, ℕ, ◌+◌, ◌≤◌, Bool, true, false, cond, Some, None, List, [], ◌∷◌, length, refl, ap, ◌∙◌, arith}
 use Rattle.board_stated.specs.TextOf.{fault_of_line, with_line, fault_or, first_fault, with_lines}
-use Rattle.board_words.specs.Lines.{text_lines, is_line_feed, onto_first}
+use Rattle.board_words.specs.TextLines.{text_lines, is_line_feed, onto_first}
 use Rattle.board_words.specs.declared.faults.FaultKind.{FaultKind}
 use Rattle.board_words.specs.declared.statements.Statement.{Statement}
 use Rattle.board_text.specs.Kept.{Keeps}

@@ -9,7 +9,7 @@ use Rattle.board_text.specs.Kept.{Agrees}
 use Rattle.board_text.specs.declared.reader.Reader.{Reader}
 use Rattle.board_text.specs.declared.stood.Stood.{Stood}
 use Rattle.board_words.specs.Forms.{fault_of_words}
-use Rattle.board_words.specs.Lines.{words_of, has_bad_byte}
+use Rattle.board_words.specs.TextLines.{words_of, has_bad_byte}
 use Rattle.board_words.specs.Seen.{are_none, is_header}
 use Rattle.board_words.specs.Statements.{statement_of}
 use Rattle.board_words.specs.declared.faults.FaultKind.{FaultKind}

@@ -1,13 +1,13 @@
 //! Reading a text to its end.
 ghost use Rattle.std.specs.Prelude.{◌≡◌, ◌≤◌, length};
 ghost use Rattle.std.specs.List.{list_any};
-ghost use Rattle.board_words.specs.Lines.{text_lines};
+ghost use Rattle.board_words.specs.TextLines.{text_lines};
 ghost use Rattle.board_stated.specs.TextOf.{board_of_text, has_words, fault_without_statement, whole};
 ghost use Rattle.board_text.specs.Given.{Gives, ReadsLines, ReadsText};
 
 use crate::reader::Reader;
 use board_def::Board;
-use board_words::{BoardFault, FaultKind, Lines, StatementRefused, Words, has_bad_byte};
+use board_words::{BoardFault, FaultKind, StatementRefused, TextLines, Words, has_bad_byte};
 use std::alloc::Global;
 use thiserror::Error;
 
@@ -54,7 +54,7 @@ fn read_text(alloc: Global, bytes: &[u8]) -> Result<Reader, BoardRefused>
 fn has_statement(bytes: &[u8]) -> bool
     ensures { result ≡ list_any has_words (text_lines bytes.now) }
 {
-    let mut lines = Lines::new(bytes);
+    let mut lines = TextLines::new(bytes);
     while let Some(line) = lines.next() {
         if !Words::of_line(line).is_empty() {
             return true;
@@ -67,7 +67,7 @@ fn has_statement(bytes: &[u8]) -> bool
 fn fault_without_statement(bytes: &[u8]) -> FaultKind
     ensures { result ≡ fault_without_statement (text_lines bytes.now) }
 {
-    let mut lines = Lines::new(bytes);
+    let mut lines = TextLines::new(bytes);
     match lines.next() {
         Some(line) if has_bad_byte(line) => FaultKind::BadByte,
         _ => FaultKind::NoHeader,
@@ -80,7 +80,7 @@ fn read_lines(alloc: Global, bytes: &[u8]) -> Result<Reader, BoardRefused>
     ensures { ReadsLines (text_lines bytes.now) result }
 {
     let mut reader = Reader::new(alloc);
-    let mut lines = Lines::new(bytes);
+    let mut lines = TextLines::new(bytes);
     let mut at: u32 = 1;
     while let Some(line) = lines.next() {
         match reader.read_line(alloc, line) {

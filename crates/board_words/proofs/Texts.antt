@@ -3,7 +3,7 @@ use Rattle.std.proofs.Common.{◌≡◌, ℕ, suc, ◌+◌, ◌<◌, ◌≤◌, 
 use Rattle.std.specs.List.{position, position_or_len}
 use Rattle.std.proofs.lemmas.Bool.Decides.{nat_tests}
 use Rattle.std.proofs.lemmas.List.{take_all, drop_all}
-use Rattle.board_words.specs.Lines.{text_lines, words_of, onto_first, is_line_feed, is_blank, is_hash, without_comment, split_at_blanks, is_within_word}
+use Rattle.board_words.specs.TextLines.{text_lines, words_of, onto_first, is_line_feed, is_blank, is_hash, without_comment, split_at_blanks, is_within_word}
 use Rattle.board_words.specs.Ends.{starts_word, ends_word}
 
 take_front : (b : ℕ) (bs : List ℕ) (n : ℕ) → take (1 + n) (b ∷ bs) ≡ b ∷ take n bs

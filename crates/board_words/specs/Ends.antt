@@ -1,6 +1,6 @@
 -- Where a word begins and ends.
 use Rattle.std.specs.Prelude.{ℕ, Bool, not, ◌||◌}
-use Rattle.board_words.specs.Lines.{is_blank, is_hash}
+use Rattle.board_words.specs.TextLines.{is_blank, is_hash}
 
 -- a word, or a comment, begins at the byte
 abbrev pub starts_word : ℕ → Bool

@@ -1,4 +1,4 @@
-pub mod Lines
+pub mod TextLines
 pub mod Ends
 pub mod Spelling
 pub mod Faults

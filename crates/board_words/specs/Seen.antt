@@ -1,12 +1,12 @@
 -- What readers have left.
 use Rattle.std.specs.Prelude.{ℕ, Bool, true, false, List, [], ◌∷◌, codes}
 use Rattle.std.specs.Str.{bytes_eq}
-use Rattle.board_words.specs.Lines.{text_lines, words_of}
-use Rattle.board_words.specs.declared.lines.Lines.{Lines}
+use Rattle.board_words.specs.TextLines.{text_lines, words_of}
+use Rattle.board_words.specs.declared.text_lines.TextLines.{TextLines}
 use Rattle.board_words.specs.declared.words.Words.{Words}
 
 -- the text lines that are left
-abbrev pub lines_left : Lines → List (List ℕ)
+abbrev pub lines_left : TextLines → List (List ℕ)
 lines_left lines = text_lines lines.rest.now
 
 -- the words that are left

@@ -9,19 +9,19 @@ mod calls;
 pub mod faults;
 mod keywords;
 mod kinds;
-pub mod lines;
 mod parts;
 mod places;
 pub mod reading;
 pub mod spelling;
 pub mod statements;
+pub mod text_lines;
 pub mod words;
 
 pub use faults::{BoardFault, FaultKind};
-pub use lines::{Lines, has_bad_byte};
 pub use reading::read_statement;
 pub use spelling::{name, number, pick};
 pub use statements::{
     CallWords, DomainWords, LineWords, PickList, PickWord, Picked, Statement, StatementRefused,
 };
+pub use text_lines::{TextLines, has_bad_byte};
 pub use words::Words;

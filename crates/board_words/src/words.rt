@@ -2,7 +2,7 @@
 ghost use Rattle.std.specs.Prelude.{◌≡◌, ◌≤◌, true, [], ◌∷◌, length, MatchOption};
 ghost use Rattle.std.specs.Str.{bytes_eq};
 ghost use Rattle.std.specs.List.{position_or_len};
-ghost use Rattle.board_words.specs.Lines.{words_of, is_blank};
+ghost use Rattle.board_words.specs.TextLines.{words_of, is_blank};
 ghost use Rattle.board_words.specs.Ends.{starts_word, ends_word};
 ghost use Rattle.board_words.specs.Seen.{words_left, are_none, is_header};
 ghost use Rattle.board_words.specs.Statements.{stands, stands_again};

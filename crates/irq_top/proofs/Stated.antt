@@ -7,7 +7,7 @@ use Rattle.std.proofs.lemmas.Bool.Decides.{nat_tests}
 use Rattle.irq_io.specs.Whole.{TakesUpTo}
 use Rattle.board_def.specs.Seen.{BoardSeen}
 use Rattle.board_words.specs.declared.faults.FaultKind.TheVariants as faults
-use Rattle.board_words.specs.Lines.{text_lines}
+use Rattle.board_words.specs.TextLines.{text_lines}
 use Rattle.board_stated.specs.TextOf.{board_of_text, board_unless, fault_of_lines, with_lines, whole, longest_text}
 use Rattle.board_words.specs.declared.faults.BoardFault.{BoardFault}
 use Rattle.irq_top.specs.declared.inputs.InputRefused.TheVariants as refusals

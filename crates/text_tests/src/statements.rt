@@ -1,8 +1,8 @@
 //! Statements by hand: what they say, and what is wrong with them. The texts of faults.
 use board_def::Name;
 use board_words::{
-    CallWords, DomainWords, FaultKind, LineWords, Lines, PickWord, Picked, Statement,
-    StatementRefused, Words, has_bad_byte, name, number, pick, read_statement,
+    CallWords, DomainWords, FaultKind, LineWords, PickWord, Picked, Statement, StatementRefused,
+    TextLines, Words, has_bad_byte, name, number, pick, read_statement,
 };
 use irq_base::{CpuNo, DevNo, DriverNo, Flags, Kind, LevelKind, LineNo, MapKind};
 use std::alloc::Global;
@@ -427,7 +427,7 @@ fn picks(rt: HostRuntime) -> Result<(), Fail> {
 
 #[test]
 fn text_lines_and_words(rt: HostRuntime) {
-    let mut lines = Lines::new(b"board 1 # it\n\n \t#\nend");
+    let mut lines = TextLines::new(b"board 1 # it\n\n \t#\nend");
     let want: [(&[u8], bool, bool); 4] = [
         (b"board 1 # it", false, true),
         (b"", true, false),
@@ -445,7 +445,7 @@ fn text_lines_and_words(rt: HostRuntime) {
         }
     }
     assert!(rt; lines.next().is_none());
-    let mut one = Lines::new(b"\n");
+    let mut one = TextLines::new(b"\n");
     assert!(rt; one.next().is_some() && one.next().is_none());
     let mut words = Words::of_line(b"\ta \x80\rb#c d");
     assert!(rt; words.next() == Some(b"a".as_slice()) && words.next() == Some(b"\x80".as_slice()));
@@ -505,7 +505,7 @@ fn large_texts(rt: HostRuntime) -> Result<(), Fail> {
         Ok(_) => assert!(rt; false),
     }
     let ends = vec![in rt.alloc(); b'\n'; 1_000_000]?;
-    let mut lines = Lines::new(&ends);
+    let mut lines = TextLines::new(&ends);
     for i in 0..1_000_000 {
         assert!(rt; lines.next().is_some(), "{i}");
     }

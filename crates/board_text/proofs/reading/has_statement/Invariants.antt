@@ -1,6 +1,6 @@
 use Rattle.std.proofs.Common.{◌≡◌, length}
 use Rattle.std.specs.List.{list_any}
-use Rattle.board_words.specs.Lines.{text_lines}
+use Rattle.board_words.specs.TextLines.{text_lines}
 use Rattle.board_words.specs.Seen.{lines_left}
 use Rattle.board_stated.specs.TextOf.{has_words}
 use Rattle.board_text.proofs.reading.has_statement.Given as goal

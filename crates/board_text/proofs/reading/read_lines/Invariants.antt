@@ -1,5 +1,5 @@
 use Rattle.std.proofs.Common.{length}
-use Rattle.board_words.specs.Lines.{text_lines}
+use Rattle.board_words.specs.TextLines.{text_lines}
 use Rattle.board_words.specs.Seen.{lines_left}
 use Rattle.board_text.proofs.LinesRead.{ReadSoFar}
 use Rattle.board_text.proofs.reading.read_lines.Given as goal

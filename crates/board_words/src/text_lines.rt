@@ -1,21 +1,21 @@
 //! Text lines.
 ghost use Rattle.std.specs.Prelude.{◌≡◌, ◌<◌, [], ◌∷◌, length, MatchOption};
 ghost use Rattle.std.specs.List.{position};
-ghost use Rattle.board_words.specs.Lines.{text_lines, has_bad_byte, is_line_feed, is_allowed};
+ghost use Rattle.board_words.specs.TextLines.{text_lines, has_bad_byte, is_line_feed, is_allowed};
 ghost use Rattle.board_words.specs.Seen.{lines_left};
 
 /// The text lines of a text that are left.
 #[derive(Clone, Copy)]
-pub struct Lines<'a> {
+pub struct TextLines<'a> {
     rest: &'a [u8],
 }
 
-impl<'a> Lines<'a> {
+impl<'a> TextLines<'a> {
     /// The text lines of the whole text.
-    pub fn new(text: &'a [u8]) -> Lines<'a>
+    pub fn new(text: &'a [u8]) -> TextLines<'a>
         ensures { lines_left result ≡ text_lines text.now }
     {
-        Lines { rest: text }
+        TextLines { rest: text }
     }
 
     /// The next text line, without its line feed.
