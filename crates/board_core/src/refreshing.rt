@@ -11,29 +11,6 @@ use irq_base::NoMemory;
 use irq_line::{Blocks, IrqLine};
 use std::alloc::Global;
 
-/// The part of the line among the ready actors.
-fn part_of<L: IrqLine>(line: &L) -> LinePart
-    ensures { IsPartOf (L.seen line.now) result }
-{
-    LinePart {
-        thread: line.lowest_thread(),
-        flow: line.in_flow(),
-        taker: line.taker(),
-        barriers: barriers_of(line.blocks()),
-    }
-}
-
-fn barriers_of(blocks: Blocks) -> Barriers
-    ensures { result ≡ barriers_of blocks }
-{
-    Barriers {
-        flow: blocks.flow,
-        threads: blocks.threads,
-        mutex: blocks.mutex,
-        device: blocks.freed,
-    }
-}
-
 /// The line and the driver at these places are asked again.
 pub(crate) fn refresh<L: IrqLine>(
     ready: &mut ReadyActors,
@@ -70,30 +47,6 @@ pub(crate) fn make_ready<L: IrqLine>(
     Ok(ready)
 }
 
-/// Each line is asked.
-fn ask_lines<L: IrqLine>(ready: &mut ReadyActors, lines: &[L])
-    requires { length ready.old.lines ≡ length lines.now }
-    ensures lines { HasLines (map L.seen lines.now) (length lines.now) ready.new }
-    ensures all { length ready.new.lines ≡ length ready.old.lines }
-    ensures drivers { ready.new.drivers ≡ ready.old.drivers }
-{
-    for k in 0..lines.len() {
-        ready.set_line(k, part_of(&lines[k]));
-    }
-}
-
-/// Each driver is asked.
-fn ask_scripts(ready: &mut ReadyActors, scripts: &[Script])
-    requires { length ready.old.drivers ≡ length scripts.now }
-    ensures drivers { HasDrivers scripts.now (length scripts.now) ready.new }
-    ensures all { length ready.new.drivers ≡ length ready.old.drivers }
-    ensures lines { ready.new.lines ≡ ready.old.lines }
-{
-    for j in 0..scripts.len() {
-        ready.set_driver(j, scripts[j].call());
-    }
-}
-
 /// The numbers of the lines.
 pub(crate) fn numbers_of_lines<L: IrqLine>(alloc: Global, lines: &[L]) -> Result<Vec<u32>, NoMemory>
     ensures { IfOk result (λ numbers. numbers.items ≡ numbers_of_lines (map L.seen lines.now)) }
@@ -117,4 +70,51 @@ pub(crate) fn numbers_of_drivers(alloc: Global, board: &Board) -> Result<Vec<u32
         numbers.push(driver.0)?;
     }
     Ok(numbers)
+}
+
+/// The part of the line among the ready actors.
+fn part_of<L: IrqLine>(line: &L) -> LinePart
+    ensures { IsPartOf (L.seen line.now) result }
+{
+    LinePart {
+        thread: line.lowest_thread(),
+        flow: line.in_flow(),
+        taker: line.taker(),
+        barriers: barriers_of(line.blocks()),
+    }
+}
+
+fn barriers_of(blocks: Blocks) -> Barriers
+    ensures { result ≡ barriers_of blocks }
+{
+    Barriers {
+        flow: blocks.flow,
+        threads: blocks.threads,
+        mutex: blocks.mutex,
+        device: blocks.freed,
+    }
+}
+
+/// Each line is asked.
+fn ask_lines<L: IrqLine>(ready: &mut ReadyActors, lines: &[L])
+    requires { length ready.old.lines ≡ length lines.now }
+    ensures lines { HasLines (map L.seen lines.now) (length lines.now) ready.new }
+    ensures all { length ready.new.lines ≡ length ready.old.lines }
+    ensures drivers { ready.new.drivers ≡ ready.old.drivers }
+{
+    for k in 0..lines.len() {
+        ready.set_line(k, part_of(&lines[k]));
+    }
+}
+
+/// Each driver is asked.
+fn ask_scripts(ready: &mut ReadyActors, scripts: &[Script])
+    requires { length ready.old.drivers ≡ length scripts.now }
+    ensures drivers { HasDrivers scripts.now (length scripts.now) ready.new }
+    ensures all { length ready.new.drivers ≡ length ready.old.drivers }
+    ensures lines { ready.new.lines ≡ ready.old.lines }
+{
+    for j in 0..scripts.len() {
+        ready.set_driver(j, scripts[j].call());
+    }
 }

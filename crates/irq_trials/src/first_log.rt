@@ -82,19 +82,6 @@ const ROWS: [Row; 10] = [
     },
 ];
 
-/// The rows, that at the place so many times and all others once.
-fn log_with(alloc: Global, place: usize, times: usize) -> Result<String> {
-    let mut log = String::new(alloc);
-    for (i, row) in ROWS.iter().enumerate() {
-        let count = if i == place { times } else { 1 };
-        for _ in 0..count {
-            log.push_str(row.row)?;
-            log.push('\n')?;
-        }
-    }
-    Ok(log)
-}
-
 /// Each row is taken away, and each is doubled.
 pub fn try_first_log(
     rt: &(impl Print + AllocGlobal + Threads + Wait + Sync),
@@ -111,4 +98,17 @@ pub fn try_first_log(
         }
     }
     Ok(())
+}
+
+/// The rows, that at the place so many times and all others once.
+fn log_with(alloc: Global, place: usize, times: usize) -> Result<String> {
+    let mut log = String::new(alloc);
+    for (i, row) in ROWS.iter().enumerate() {
+        let count = if i == place { times } else { 1 };
+        for _ in 0..count {
+            log.push_str(row.row)?;
+            log.push('\n')?;
+        }
+    }
+    Ok(log)
 }

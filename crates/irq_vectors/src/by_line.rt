@@ -9,16 +9,6 @@ use irq_line::MakesLine;
 use line_core::MakesCellLine;
 use std::alloc::Global;
 
-fn history_of(alloc: Global, entries: &[Entry]) -> Result<History, NoMemory>
-    ensures { IfOk result (λ history. history.entries ≡ entries.now) }
-{
-    let mut history = History::with_room(alloc, entries.len())?;
-    for entry in entries {
-        history.push(*entry);
-    }
-    Ok(history)
-}
-
 /// Whether the entries of the line are lawful, or which is the first that isn't: the line takes the
 /// step of each entry's actor, with the answer of the device's handler where a run ends, and has to
 /// add that entry.
@@ -39,4 +29,14 @@ pub fn judge_by_line(alloc: Global, def: &LineDef, entries: &[Entry]) -> Result<
         }),
         None => Ok(Verdict::Lawful),
     }
+}
+
+fn history_of(alloc: Global, entries: &[Entry]) -> Result<History, NoMemory>
+    ensures { IfOk result (λ history. history.entries ≡ entries.now) }
+{
+    let mut history = History::with_room(alloc, entries.len())?;
+    for entry in entries {
+        history.push(*entry);
+    }
+    Ok(history)
 }

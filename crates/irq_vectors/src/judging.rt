@@ -26,17 +26,6 @@ impl fmt::Display for Verdict {
     }
 }
 
-/// Whether the entry is the due one of its actor after that history.
-fn is_due(alloc: Global, def: &LineDef, history: &History, entry: Entry) -> Result<bool, NoMemory>
-    requires few { length history.now.entries ≤ 100000000 }
-    requires cpus { def.now.cpus ≤ 32 }
-    requires devices { length def.now.devices ≤ 256 }
-    ensures { IfOk result (λ due. IsTrue due ↔ IsDue def.now entry (reverse history.now.entries)) }
-{
-    let due = next_slow(alloc, def, history, entry.actor(def.line))?;
-    Ok(due == Some(entry))
-}
-
 /// Whether the entries of the line are lawful, or which is the first that isn't.
 ///
 /// # Errors
@@ -56,4 +45,15 @@ pub fn judge(alloc: Global, def: &LineDef, entries: &[Entry]) -> Result<Verdict,
         history.push(*entry);
     }
     Ok(Verdict::Lawful)
+}
+
+/// Whether the entry is the due one of its actor after that history.
+fn is_due(alloc: Global, def: &LineDef, history: &History, entry: Entry) -> Result<bool, NoMemory>
+    requires few { length history.now.entries ≤ 100000000 }
+    requires cpus { def.now.cpus ≤ 32 }
+    requires devices { length def.now.devices ≤ 256 }
+    ensures { IfOk result (λ due. IsTrue due ↔ IsDue def.now entry (reverse history.now.entries)) }
+{
+    let due = next_slow(alloc, def, history, entry.actor(def.line))?;
+    Ok(due == Some(entry))
 }

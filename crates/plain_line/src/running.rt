@@ -36,6 +36,24 @@ impl Running {
     }
 }
 
+/// The run that the entry ends, unless what was handed in is its answer.
+pub(crate) fn unanswered(
+    def: &LineDef,
+    past: &[Entry],
+    entry: Entry,
+    said: &Option<Said>,
+) -> Option<Running>
+    requires { length past.now ≤ 100000000 }
+    ensures some { IfSome result (λ run. (run_ended def.now past.now entry ≡ Some run) × (IsSaidFor said.now run → ⊥)) }
+    ensures none { result ≡ None → IfSome (run_ended def.now past.now entry) (IsSaidFor said.now) }
+{
+    let run = run_ended(def, past, entry)?;
+    if run.is_answered(said) {
+        return None;
+    }
+    Some(run)
+}
+
 /// The line's device of that number.
 fn device(def: &LineDef, dev: DevNo) -> DeviceDef
     ensures { result ≡ device_of def.now dev }
@@ -65,22 +83,4 @@ fn run_ended(def: &LineDef, past: &[Entry], entry: Entry) -> Option<Running>
         }),
         _ => None,
     }
-}
-
-/// The run that the entry ends, unless what was handed in is its answer.
-pub(crate) fn unanswered(
-    def: &LineDef,
-    past: &[Entry],
-    entry: Entry,
-    said: &Option<Said>,
-) -> Option<Running>
-    requires { length past.now ≤ 100000000 }
-    ensures some { IfSome result (λ run. (run_ended def.now past.now entry ≡ Some run) × (IsSaidFor said.now run → ⊥)) }
-    ensures none { result ≡ None → IfSome (run_ended def.now past.now entry) (IsSaidFor said.now) }
-{
-    let run = run_ended(def, past, entry)?;
-    if run.is_answered(said) {
-        return None;
-    }
-    Some(run)
 }
