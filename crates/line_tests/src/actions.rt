@@ -82,61 +82,67 @@ fn is_as_named(list: &mut ActList, dev: DevNo, step: Step) -> Result<bool, NoMem
     }
 }
 
+const INVAL: LinkAnswer = LinkAnswer::Refused(Errno::Inval);
+
+const BUSY: LinkAnswer = LinkAnswer::Refused(Errno::Busy);
+
+const LINKED: LinkAnswer = LinkAnswer::Linked;
+
+const GONE: Step = Step::Unlink(UnlinkAnswer::Unlinked { last: false });
+
+const LAST: Step = Step::Unlink(UnlinkAnswer::Unlinked { last: true });
+
 /// Each row: a device and what happens, its thread bit after it, and the device of the first action
 /// that is left. Devices 70 and 5 are of the line; the others never begin.
+const STEPS: [(u32, Step, Option<u64>, Option<u32>); 18] = [
+    (1, Step::Request(Kind::Direct, CONTRARY, INVAL), None, None),
+    (2, Step::Request(Kind::Null, PLAIN, INVAL), None, None),
+    // each one-shot action has the lowest bit that is free
+    (
+        70,
+        Step::Request(Kind::Direct, BOTH, LINKED),
+        Some(1),
+        Some(70),
+    ),
+    (4, Step::Request(Kind::Direct, SHARED, BUSY), None, Some(70)),
+    (
+        6,
+        Step::Request(Kind::Null, CONTRARY, INVAL),
+        None,
+        Some(70),
+    ),
+    (
+        5,
+        Step::Request(Kind::Null, BOTH, LINKED),
+        Some(2),
+        Some(70),
+    ),
+    (
+        8,
+        Step::Request(Kind::Check, BOTH, LINKED),
+        Some(4),
+        Some(70),
+    ),
+    // the walk, in the order of the list
+    (70, Step::Begin, Some(1), Some(5)),
+    (5, Step::Begin, Some(2), Some(8)),
+    (70, GONE, None, Some(8)),
+    (70, Step::Unlink(UnlinkAnswer::NotThere), None, Some(8)),
+    (8, GONE, None, None),
+    // the bits that were given up are free again; one that was called isn't called again in the
+    // round
+    (70, Step::Request(Kind::Direct, BOTH, LINKED), Some(1), None),
+    (70, Step::Round, Some(1), Some(5)),
+    (5, Step::Begin, Some(2), Some(70)),
+    (5, GONE, None, Some(70)),
+    (70, LAST, None, None),
+    (9, Step::Request(Kind::Direct, PLAIN, LINKED), None, Some(9)),
+];
+
 #[test]
 fn steps(rt: HostRuntime) -> Result<(), Fail> {
-    let inval = LinkAnswer::Refused(Errno::Inval);
-    let busy = LinkAnswer::Refused(Errno::Busy);
-    let linked = LinkAnswer::Linked;
-    let gone = Step::Unlink(UnlinkAnswer::Unlinked { last: false });
-    let last = Step::Unlink(UnlinkAnswer::Unlinked { last: true });
-    let table = [
-        (1, Step::Request(Kind::Direct, CONTRARY, inval), None, None),
-        (2, Step::Request(Kind::Null, PLAIN, inval), None, None),
-        // each one-shot action has the lowest bit that is free
-        (
-            70,
-            Step::Request(Kind::Direct, BOTH, linked),
-            Some(1),
-            Some(70),
-        ),
-        (4, Step::Request(Kind::Direct, SHARED, busy), None, Some(70)),
-        (
-            6,
-            Step::Request(Kind::Null, CONTRARY, inval),
-            None,
-            Some(70),
-        ),
-        (
-            5,
-            Step::Request(Kind::Null, BOTH, linked),
-            Some(2),
-            Some(70),
-        ),
-        (
-            8,
-            Step::Request(Kind::Check, BOTH, linked),
-            Some(4),
-            Some(70),
-        ),
-        // the walk, in the order of the list
-        (70, Step::Begin, Some(1), Some(5)),
-        (5, Step::Begin, Some(2), Some(8)),
-        (70, gone, None, Some(8)),
-        (70, Step::Unlink(UnlinkAnswer::NotThere), None, Some(8)),
-        (8, gone, None, None),
-        // the bits that were given up are free again; one that was called isn't called again in the
-        // round
-        (70, Step::Request(Kind::Direct, BOTH, linked), Some(1), None),
-        (70, Step::Round, Some(1), Some(5)),
-        (5, Step::Begin, Some(2), Some(70)),
-        (5, gone, None, Some(70)),
-        (70, last, None, None),
-        (9, Step::Request(Kind::Direct, PLAIN, linked), None, Some(9)),
-    ];
     let mut list = ActList::new(rt.alloc(), &line(rt.alloc())?)?;
-    for (i, row) in table.iter().enumerate() {
+    for (i, row) in STEPS.iter().enumerate() {
         let dev = DevNo(row.0);
         assert!(rt;
             is_as_named(&mut list, dev, row.1)?,

@@ -74,53 +74,55 @@ const UNBALANCED: Answer = Answer::Enabled(EnableAnswer::Unbalanced);
 
 const LOWERED: Answer = Answer::Enabled(EnableAnswer::Lowered);
 
+/// A lazy line on a latch.
+const LAZY_LATCH: [Row; 15] = [
+    (Act::EnableBare, UNBALANCED, 1, [false, true, false, false]),
+    (Act::Enable, STARTED, 0, [true, false, false, false]),
+    (Act::Enable, UNBALANCED, 0, [true, false, false, false]),
+    (
+        Act::Disable,
+        Answer::Nothing,
+        1,
+        [true, false, false, false],
+    ),
+    (Act::Pend, Answer::Nothing, 1, [true, false, true, false]),
+    (Act::Disable, Answer::Nothing, 2, [true, false, true, false]),
+    (Act::Enable, LOWERED, 1, [true, false, true, false]),
+    (Act::Enable, SENT, 0, [true, false, false, false]),
+    (Act::Mask, Answer::Nothing, 0, [true, true, false, false]),
+    (
+        Act::Unmask,
+        Answer::WasMasked(true),
+        0,
+        [true, false, false, false],
+    ),
+    (
+        Act::Unmask,
+        Answer::WasMasked(false),
+        0,
+        [true, false, false, false],
+    ),
+    (Act::Pend, Answer::Nothing, 0, [true, false, true, false]),
+    (Act::Kill, Answer::Nothing, 1, [true, false, true, false]),
+    (
+        Act::Shutdown,
+        Answer::Nothing,
+        1,
+        [false, true, true, false],
+    ),
+    (
+        Act::Startup,
+        Answer::Sent(Resend::Chip),
+        0,
+        [true, false, false, false],
+    ),
+];
+
 #[test]
 fn lazy_latch_line(rt: HostRuntime) {
-    let rows = [
-        (Act::EnableBare, UNBALANCED, 1, [false, true, false, false]),
-        (Act::Enable, STARTED, 0, [true, false, false, false]),
-        (Act::Enable, UNBALANCED, 0, [true, false, false, false]),
-        (
-            Act::Disable,
-            Answer::Nothing,
-            1,
-            [true, false, false, false],
-        ),
-        (Act::Pend, Answer::Nothing, 1, [true, false, true, false]),
-        (Act::Disable, Answer::Nothing, 2, [true, false, true, false]),
-        (Act::Enable, LOWERED, 1, [true, false, true, false]),
-        (Act::Enable, SENT, 0, [true, false, false, false]),
-        (Act::Mask, Answer::Nothing, 0, [true, true, false, false]),
-        (
-            Act::Unmask,
-            Answer::WasMasked(true),
-            0,
-            [true, false, false, false],
-        ),
-        (
-            Act::Unmask,
-            Answer::WasMasked(false),
-            0,
-            [true, false, false, false],
-        ),
-        (Act::Pend, Answer::Nothing, 0, [true, false, true, false]),
-        (Act::Kill, Answer::Nothing, 1, [true, false, true, false]),
-        (
-            Act::Shutdown,
-            Answer::Nothing,
-            1,
-            [false, true, true, false],
-        ),
-        (
-            Act::Startup,
-            Answer::Sent(Resend::Chip),
-            0,
-            [true, false, false, false],
-        ),
-    ];
     let mut desc = Desc::new(false);
     let mut chip = Cell::new(Trigger::Edge, true, true, true, false);
-    assert!(rt; are_as_said(&mut desc, &mut chip, Trigger::Edge, &rows));
+    assert!(rt; are_as_said(&mut desc, &mut chip, Trigger::Edge, &LAZY_LATCH));
     assert!(rt; desc.spurious() && chip.signal());
     desc.set_spurious(false);
     desc.set_oneshot(true);
@@ -132,45 +134,47 @@ fn lazy_latch_line(rt: HostRuntime) {
     assert!(rt; disabled && !desc.disabled());
 }
 
+/// A line whose chip can't send again.
+const SOFTLY_RESENT: [Row; 4] = [
+    (Act::Pend, Answer::Nothing, 1, [false, true, true, false]),
+    (
+        Act::Startup,
+        Answer::Sent(Resend::Soft),
+        0,
+        [true, false, false, true],
+    ),
+    (
+        Act::Startup,
+        Answer::Sent(Resend::No),
+        0,
+        [true, false, false, true],
+    ),
+    (
+        Act::Shutdown,
+        Answer::Nothing,
+        1,
+        [false, true, false, true],
+    ),
+];
+
+/// A level line, where disabling masks at once.
+const LEVEL: [Row; 5] = [
+    (Act::Pend, Answer::Nothing, 1, [false, true, true, false]),
+    (Act::Enable, STARTED, 0, [true, false, false, false]),
+    (Act::Disable, Answer::Nothing, 1, [true, true, false, false]),
+    (Act::Enable, STARTED, 0, [true, false, false, false]),
+    (Act::Kill, Answer::Nothing, 1, [true, true, false, false]),
+];
+
 #[test]
 fn other_lines(rt: HostRuntime) {
-    // a chip that can't send again
-    let rows = [
-        (Act::Pend, Answer::Nothing, 1, [false, true, true, false]),
-        (
-            Act::Startup,
-            Answer::Sent(Resend::Soft),
-            0,
-            [true, false, false, true],
-        ),
-        (
-            Act::Startup,
-            Answer::Sent(Resend::No),
-            0,
-            [true, false, false, true],
-        ),
-        (
-            Act::Shutdown,
-            Answer::Nothing,
-            1,
-            [false, true, false, true],
-        ),
-    ];
     let mut desc = Desc::new(false);
     let mut chip = Cell::new(Trigger::Edge, false, false, false, false);
-    assert!(rt; are_as_said(&mut desc, &mut chip, Trigger::Edge, &rows));
+    assert!(rt; are_as_said(&mut desc, &mut chip, Trigger::Edge, &SOFTLY_RESENT));
     assert!(rt; !desc.spurious() && !chip.signal());
     desc.set_soft(false);
     assert!(rt; !desc.soft());
-    // a level line, where disabling masks at once
-    let rows = [
-        (Act::Pend, Answer::Nothing, 1, [false, true, true, false]),
-        (Act::Enable, STARTED, 0, [true, false, false, false]),
-        (Act::Disable, Answer::Nothing, 1, [true, true, false, false]),
-        (Act::Enable, STARTED, 0, [true, false, false, false]),
-        (Act::Kill, Answer::Nothing, 1, [true, true, false, false]),
-    ];
     let mut desc = Desc::new(true);
     let mut chip = Cell::new(Trigger::Level, false, false, false, false);
-    assert!(rt; are_as_said(&mut desc, &mut chip, Trigger::Level, &rows));
+    assert!(rt; are_as_said(&mut desc, &mut chip, Trigger::Level, &LEVEL));
 }

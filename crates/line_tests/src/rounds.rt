@@ -59,57 +59,56 @@ fn is_as_named(counts: &mut Counts, now: u32, event: Event) -> bool {
     }
 }
 
+/// Each row: the number of its list, the time, and what happens.
+const ROUNDS: [(u32, u32, Event); 30] = [
+    // a storm, and another after a further action
+    (1, 0, Event::Nothing(9, Note::Counted)),
+    (1, 0, Event::Nothing(1, Note::Killed)),
+    (1, 0, Event::Nothing(3, Note::Counted)),
+    (1, 0, Event::Linked),
+    (1, 0, Event::Nothing(9, Note::Counted)),
+    (1, 0, Event::Nothing(1, Note::Killed)),
+    // more than 100 ms between two unhandled rounds
+    (2, 0, Event::Nothing(5, Note::Counted)),
+    (2, 101, Event::Nothing(14, Note::Counted)),
+    (2, 101, Event::Nothing(1, Note::Killed)),
+    // exactly 100 ms
+    (3, 0, Event::Nothing(5, Note::Counted)),
+    (3, 100, Event::Nothing(4, Note::Counted)),
+    (3, 100, Event::Nothing(1, Note::Killed)),
+    // eight unhandled of ten are allowed, nine aren't
+    (4, 0, Event::Handled(2, Note::Quiet)),
+    (4, 0, Event::Nothing(8, Note::Counted)),
+    (4, 0, Event::Handled(2, Note::Counted)),
+    (4, 0, Event::Handled(1, Note::Quiet)),
+    (4, 0, Event::Nothing(9, Note::Counted)),
+    (4, 0, Event::Handled(1, Note::Killed)),
+    // woken again before its thread has served: the second round counts
+    (5, 0, Event::Wake(1, Note::Quiet)),
+    (5, 0, Event::Wake(1, Note::Counted)),
+    (5, 0, Event::Served),
+    (5, 0, Event::Served),
+    (5, 0, Event::Wake(2, Note::Counted)),
+    // the thread has served in between: nothing is unhandled
+    (6, 0, Event::Wake(1, Note::Quiet)),
+    (6, 0, Event::Served),
+    (6, 0, Event::Wake(1, Note::Quiet)),
+    (6, 0, Event::Wake(1, Note::Counted)),
+    // a round that is handled too clears the mark
+    (6, 0, Event::Both(1, Note::Counted)),
+    (6, 0, Event::Wake(1, Note::Quiet)),
+    (6, 0, Event::Wake(1, Note::Counted)),
+];
+
 /// Windows of ten rounds of which eight may be unhandled. In the first list all are unhandled, and
 /// an action is linked after the line was killed. In the next two the time moves on after the fifth
 /// unhandled round: by 101 ms, so that their count begins anew, or by 100. Then runs of threads
 /// decide what a round that woke them was worth.
 #[test]
 fn windows_of_ten(rt: HostRuntime) -> Result<(), Fail> {
-    let quiet = Note::Quiet;
-    let counted = Note::Counted;
-    let killed = Note::Killed;
-    let table = [
-        // a storm, and another after a further action
-        (1, 0, Event::Nothing(9, counted)),
-        (1, 0, Event::Nothing(1, killed)),
-        (1, 0, Event::Nothing(3, counted)),
-        (1, 0, Event::Linked),
-        (1, 0, Event::Nothing(9, counted)),
-        (1, 0, Event::Nothing(1, killed)),
-        // more than 100 ms between two unhandled rounds
-        (2, 0, Event::Nothing(5, counted)),
-        (2, 101, Event::Nothing(14, counted)),
-        (2, 101, Event::Nothing(1, killed)),
-        // exactly 100 ms
-        (3, 0, Event::Nothing(5, counted)),
-        (3, 100, Event::Nothing(4, counted)),
-        (3, 100, Event::Nothing(1, killed)),
-        // eight unhandled of ten are allowed, nine aren't
-        (4, 0, Event::Handled(2, quiet)),
-        (4, 0, Event::Nothing(8, counted)),
-        (4, 0, Event::Handled(2, counted)),
-        (4, 0, Event::Handled(1, quiet)),
-        (4, 0, Event::Nothing(9, counted)),
-        (4, 0, Event::Handled(1, killed)),
-        // woken again before its thread has served: the second round counts
-        (5, 0, Event::Wake(1, quiet)),
-        (5, 0, Event::Wake(1, counted)),
-        (5, 0, Event::Served),
-        (5, 0, Event::Served),
-        (5, 0, Event::Wake(2, counted)),
-        // the thread has served in between: nothing is unhandled
-        (6, 0, Event::Wake(1, quiet)),
-        (6, 0, Event::Served),
-        (6, 0, Event::Wake(1, quiet)),
-        (6, 0, Event::Wake(1, counted)),
-        // a round that is handled too clears the mark
-        (6, 0, Event::Both(1, counted)),
-        (6, 0, Event::Wake(1, quiet)),
-        (6, 0, Event::Wake(1, counted)),
-    ];
     let mut list = 0;
     let mut counts = Counts::new(10, 8);
-    for (i, row) in table.iter().enumerate() {
+    for (i, row) in ROUNDS.iter().enumerate() {
         if row.0 != list {
             list = row.0;
             counts = Counts::new(10, 8);

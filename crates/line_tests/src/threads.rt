@@ -41,59 +41,60 @@ fn is_as_named(threads: &mut Threads, dev: DevNo, step: Step) -> bool {
 
 /// Each row: a device and its step, then `threads_active`, the bits that stand, and the lowest
 /// device whose thread could step where returned runs may go on, and where they may not.
+const STEPS: [(DevNo, Step, u32, u32, Option<DevNo>, Option<DevNo>); 21] = [
+    (HIGH, Step::Begin(false), 0, 0, None, None),
+    (HIGH, Step::Wake(true), 1, 1, Some(HIGH), Some(HIGH)),
+    // woken again: nothing more
+    (HIGH, Step::Wake(true), 1, 1, Some(HIGH), Some(HIGH)),
+    (LOW, Step::Wake(true), 2, 2, Some(LOW), Some(LOW)),
+    (LOW, Step::Begin(true), 2, 2, Some(LOW), Some(LOW)),
+    (
+        LOW,
+        Step::Finish(Finished::NotDue),
+        2,
+        2,
+        Some(LOW),
+        Some(LOW),
+    ),
+    (LOW, Step::Return(true), 2, 2, Some(LOW), Some(HIGH)),
+    (LOW, Step::Return(false), 2, 2, Some(LOW), Some(HIGH)),
+    // on a one-shot line it isn't done before it has finalized its interrupt
+    (LOW, Step::Done(true, false), 2, 2, Some(LOW), Some(HIGH)),
+    // woken while running: the bit is kept
+    (LOW, Step::Wake(true), 3, 2, Some(LOW), Some(HIGH)),
+    (
+        LOW,
+        Step::Finish(Finished::Kept),
+        3,
+        2,
+        Some(LOW),
+        Some(LOW),
+    ),
+    (LOW, Step::Begin(false), 3, 2, Some(LOW), Some(LOW)),
+    (LOW, Step::Done(true, true), 2, 2, Some(LOW), Some(LOW)),
+    (LOW, Step::Begin(true), 2, 2, Some(LOW), Some(LOW)),
+    (LOW, Step::Return(true), 2, 2, Some(LOW), Some(HIGH)),
+    (
+        LOW,
+        Step::Finish(Finished::Cleared),
+        2,
+        1,
+        Some(LOW),
+        Some(LOW),
+    ),
+    (LOW, Step::Done(true, true), 1, 1, Some(HIGH), Some(HIGH)),
+    // on a line that isn't one-shot a run is done once its handler has returned
+    (LOW, Step::Wake(false), 2, 1, Some(LOW), Some(LOW)),
+    (LOW, Step::Begin(true), 2, 1, Some(LOW), Some(LOW)),
+    (LOW, Step::Return(true), 2, 1, Some(LOW), Some(HIGH)),
+    (LOW, Step::Done(false, true), 1, 1, Some(HIGH), Some(HIGH)),
+];
+
 #[test]
 fn runs(rt: HostRuntime) -> Result<(), Fail> {
     let definition = line(rt.alloc())?;
     let mut threads = Threads::new(rt.alloc(), &definition)?;
-    let table = [
-        (HIGH, Step::Begin(false), 0, 0, None, None),
-        (HIGH, Step::Wake(true), 1, 1, Some(HIGH), Some(HIGH)),
-        // woken again: nothing more
-        (HIGH, Step::Wake(true), 1, 1, Some(HIGH), Some(HIGH)),
-        (LOW, Step::Wake(true), 2, 2, Some(LOW), Some(LOW)),
-        (LOW, Step::Begin(true), 2, 2, Some(LOW), Some(LOW)),
-        (
-            LOW,
-            Step::Finish(Finished::NotDue),
-            2,
-            2,
-            Some(LOW),
-            Some(LOW),
-        ),
-        (LOW, Step::Return(true), 2, 2, Some(LOW), Some(HIGH)),
-        (LOW, Step::Return(false), 2, 2, Some(LOW), Some(HIGH)),
-        // on a one-shot line it isn't done before it has finalized its interrupt
-        (LOW, Step::Done(true, false), 2, 2, Some(LOW), Some(HIGH)),
-        // woken while running: the bit is kept
-        (LOW, Step::Wake(true), 3, 2, Some(LOW), Some(HIGH)),
-        (
-            LOW,
-            Step::Finish(Finished::Kept),
-            3,
-            2,
-            Some(LOW),
-            Some(LOW),
-        ),
-        (LOW, Step::Begin(false), 3, 2, Some(LOW), Some(LOW)),
-        (LOW, Step::Done(true, true), 2, 2, Some(LOW), Some(LOW)),
-        (LOW, Step::Begin(true), 2, 2, Some(LOW), Some(LOW)),
-        (LOW, Step::Return(true), 2, 2, Some(LOW), Some(HIGH)),
-        (
-            LOW,
-            Step::Finish(Finished::Cleared),
-            2,
-            1,
-            Some(LOW),
-            Some(LOW),
-        ),
-        (LOW, Step::Done(true, true), 1, 1, Some(HIGH), Some(HIGH)),
-        // on a line that isn't one-shot a run is done once its handler has returned
-        (LOW, Step::Wake(false), 2, 1, Some(LOW), Some(LOW)),
-        (LOW, Step::Begin(true), 2, 1, Some(LOW), Some(LOW)),
-        (LOW, Step::Return(true), 2, 1, Some(LOW), Some(HIGH)),
-        (LOW, Step::Done(false, true), 1, 1, Some(HIGH), Some(HIGH)),
-    ];
-    for (i, row) in table.iter().enumerate() {
+    for (i, row) in STEPS.iter().enumerate() {
         assert!(rt;
             is_as_named(&mut threads, row.0, row.1),
             "the answer of row {i}"
