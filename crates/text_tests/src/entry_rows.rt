@@ -9,13 +9,49 @@ use log_text::entry_row;
 use std::process::Abort;
 use text_row::TextRow;
 
-fn flags(shared: bool, oneshot: bool, noauto: bool) -> Flags {
-    Flags {
-        shared,
-        oneshot,
-        noauto,
-    }
-}
+const PLAIN: Flags = Flags::NONE;
+
+const SHARED: Flags = Flags {
+    shared: true,
+    oneshot: false,
+    noauto: false,
+};
+
+const ONESHOT: Flags = Flags {
+    shared: false,
+    oneshot: true,
+    noauto: false,
+};
+
+const NOAUTO: Flags = Flags {
+    shared: false,
+    oneshot: false,
+    noauto: true,
+};
+
+const SHARED_ONESHOT: Flags = Flags {
+    shared: true,
+    oneshot: true,
+    noauto: false,
+};
+
+const SHARED_NOAUTO: Flags = Flags {
+    shared: true,
+    oneshot: false,
+    noauto: true,
+};
+
+const ONESHOT_NOAUTO: Flags = Flags {
+    shared: false,
+    oneshot: true,
+    noauto: true,
+};
+
+const ALL: Flags = Flags {
+    shared: true,
+    oneshot: true,
+    noauto: true,
+};
 
 // The entry's row is this, written over another row.
 fn expect(rt: &impl Abort, line: u32, entry: Entry, text: &str)
@@ -27,59 +63,84 @@ fn expect(rt: &impl Abort, line: u32, entry: Entry, text: &str)
     assert_eq!(rt; row.bytes(), text.as_bytes(), "for {text:?}");
 }
 
+/// Entries of a first log, and their rows.
+const FIRST_LOG: [(Entry, &str); 9] = [
+    (
+        Entry::Request {
+            driver: DriverNo(1),
+            dev: DevNo(1),
+            flags: PLAIN,
+            answer: LinkAnswer::Linked,
+            opened: Opened::Started { resend: Resend::No },
+        },
+        "1 d1 request 1 - linked started no\n",
+    ),
+    (
+        Entry::Ask {
+            driver: DriverNo(1),
+            dev: DevNo(1),
+        },
+        "1 d1 ask 1\n",
+    ),
+    (
+        Entry::Take {
+            cpu: CpuNo(0),
+            way: Way::Line,
+            answer: TakeAnswer::Handle,
+        },
+        "1 c0 take line handle\n",
+    ),
+    (
+        Entry::Begin {
+            cpu: CpuNo(0),
+            dev: DevNo(1),
+        },
+        "1 c0 begin 1\n",
+    ),
+    (
+        Entry::Return {
+            cpu: CpuNo(0),
+            dev: DevNo(1),
+            answer: Answer::Handled,
+            served: 1,
+        },
+        "1 c0 return 1 handled 1\n",
+    ),
+    (
+        Entry::End {
+            cpu: CpuNo(0),
+            again: false,
+            unmask: false,
+            note: Note::Quiet,
+        },
+        "1 c0 end leave asis quiet\n",
+    ),
+    (
+        Entry::Unlink {
+            driver: DriverNo(1),
+            dev: DevNo(1),
+            answer: UnlinkAnswer::Unlinked { last: true },
+        },
+        "1 d1 unlink 1 last\n",
+    ),
+    (
+        Entry::HardClear {
+            driver: DriverNo(1),
+        },
+        "1 d1 hardclear\n",
+    ),
+    (
+        Entry::Freed {
+            driver: DriverNo(1),
+            dev: DevNo(1),
+        },
+        "1 d1 freed 1\n",
+    ),
+];
+
 #[test]
 fn rows_of_a_first_log(rt: HostRuntime) {
-    let (driver, cpu, dev) = (DriverNo(1), CpuNo(0), DevNo(1));
-    for (entry, row) in [
-        (
-            Entry::Request {
-                driver,
-                dev,
-                flags: flags(false, false, false),
-                answer: LinkAnswer::Linked,
-                opened: Opened::Started { resend: Resend::No },
-            },
-            "1 d1 request 1 - linked started no\n",
-        ),
-        (Entry::Ask { driver, dev }, "1 d1 ask 1\n"),
-        (
-            Entry::Take {
-                cpu,
-                way: Way::Line,
-                answer: TakeAnswer::Handle,
-            },
-            "1 c0 take line handle\n",
-        ),
-        (Entry::Begin { cpu, dev }, "1 c0 begin 1\n"),
-        (
-            Entry::Return {
-                cpu,
-                dev,
-                answer: Answer::Handled,
-                served: 1,
-            },
-            "1 c0 return 1 handled 1\n",
-        ),
-        (
-            Entry::End {
-                cpu,
-                again: false,
-                unmask: false,
-                note: Note::Quiet,
-            },
-            "1 c0 end leave asis quiet\n",
-        ),
-        (
-            Entry::Unlink {
-                driver,
-                dev,
-                answer: UnlinkAnswer::Unlinked { last: true },
-            },
-            "1 d1 unlink 1 last\n",
-        ),
-        (Entry::HardClear { driver }, "1 d1 hardclear\n"),
-        (Entry::Freed { driver, dev }, "1 d1 freed 1\n"),
-    ] {
+    for (entry, row) in FIRST_LOG {
         expect(&rt, 1, entry, row);
     }
 }
@@ -157,55 +218,46 @@ fn rows_of_threads(rt: HostRuntime) {
     }
 }
 
+/// The flags of requests, what each opens, and their rows.
+const REQUESTS: [(Flags, Opened, &str); 8] = [
+    (PLAIN, Opened::No, "8 d20 request 101 - linked no\n"),
+    (
+        SHARED,
+        Opened::Unbalanced,
+        "8 d20 request 101 s linked unbalanced\n",
+    ),
+    (
+        ONESHOT,
+        Opened::Lowered,
+        "8 d20 request 101 o linked lowered\n",
+    ),
+    (NOAUTO, Opened::No, "8 d20 request 101 n linked no\n"),
+    (
+        SHARED_ONESHOT,
+        Opened::Started {
+            resend: Resend::Soft,
+        },
+        "8 d20 request 101 so linked started soft\n",
+    ),
+    (
+        SHARED_NOAUTO,
+        Opened::Started {
+            resend: Resend::Chip,
+        },
+        "8 d20 request 101 sn linked started chip\n",
+    ),
+    (
+        ONESHOT_NOAUTO,
+        Opened::No,
+        "8 d20 request 101 on linked no\n",
+    ),
+    (ALL, Opened::No, "8 d20 request 101 son linked no\n"),
+];
+
 #[test]
 fn rows_of_requests(rt: HostRuntime) {
     let (driver, dev) = (DriverNo(20), DevNo(101));
-    for (flags, opened, row) in [
-        (
-            flags(false, false, false),
-            Opened::No,
-            "8 d20 request 101 - linked no\n",
-        ),
-        (
-            flags(true, false, false),
-            Opened::Unbalanced,
-            "8 d20 request 101 s linked unbalanced\n",
-        ),
-        (
-            flags(false, true, false),
-            Opened::Lowered,
-            "8 d20 request 101 o linked lowered\n",
-        ),
-        (
-            flags(false, false, true),
-            Opened::No,
-            "8 d20 request 101 n linked no\n",
-        ),
-        (
-            flags(true, true, false),
-            Opened::Started {
-                resend: Resend::Soft,
-            },
-            "8 d20 request 101 so linked started soft\n",
-        ),
-        (
-            flags(true, false, true),
-            Opened::Started {
-                resend: Resend::Chip,
-            },
-            "8 d20 request 101 sn linked started chip\n",
-        ),
-        (
-            flags(false, true, true),
-            Opened::No,
-            "8 d20 request 101 on linked no\n",
-        ),
-        (
-            flags(true, true, true),
-            Opened::No,
-            "8 d20 request 101 son linked no\n",
-        ),
-    ] {
+    for (flags, opened, row) in REQUESTS {
         let linked = Entry::Request {
             driver,
             dev,
@@ -222,7 +274,7 @@ fn rows_of_requests(rt: HostRuntime) {
         let refused = Entry::Request {
             driver,
             dev,
-            flags: flags(true, false, false),
+            flags: SHARED,
             answer: LinkAnswer::Refused(errno),
             opened: Opened::No,
         };
@@ -258,105 +310,120 @@ fn rows_of_enables(rt: HostRuntime) {
     }
 }
 
+/// Entries of the other calls, and their rows.
+const OTHER_CALLS: [(Entry, &str); 7] = [
+    (
+        Entry::Unlink {
+            driver: DriverNo(2),
+            dev: DevNo(9),
+            answer: UnlinkAnswer::NotThere,
+        },
+        "8 d2 unlink 9 notthere\n",
+    ),
+    (
+        Entry::Unlink {
+            driver: DriverNo(2),
+            dev: DevNo(9),
+            answer: UnlinkAnswer::Unlinked { last: false },
+        },
+        "8 d2 unlink 9 more\n",
+    ),
+    (
+        Entry::Synced {
+            driver: DriverNo(2),
+        },
+        "8 d2 synced\n",
+    ),
+    (
+        Entry::Affinity {
+            driver: DriverNo(2),
+            mask: 3,
+            answer: AffinityAnswer::Now,
+        },
+        "8 d2 affinity 3 now\n",
+    ),
+    (
+        Entry::Affinity {
+            driver: DriverNo(2),
+            mask: 10,
+            answer: AffinityAnswer::Later,
+        },
+        "8 d2 affinity 10 later\n",
+    ),
+    (
+        Entry::Affinity {
+            driver: DriverNo(2),
+            mask: 0,
+            answer: AffinityAnswer::Refused(Errno::Inval),
+        },
+        "8 d2 affinity 0 refused 22\n",
+    ),
+    (
+        Entry::Moment {
+            driver: DriverNo(2),
+            at: 1000,
+        },
+        "8 d2 moment 1000\n",
+    ),
+];
+
 #[test]
 fn rows_of_other_calls(rt: HostRuntime) {
-    let (driver, dev) = (DriverNo(2), DevNo(9));
-    for (entry, row) in [
-        (
-            Entry::Unlink {
-                driver,
-                dev,
-                answer: UnlinkAnswer::NotThere,
-            },
-            "8 d2 unlink 9 notthere\n",
-        ),
-        (
-            Entry::Unlink {
-                driver,
-                dev,
-                answer: UnlinkAnswer::Unlinked { last: false },
-            },
-            "8 d2 unlink 9 more\n",
-        ),
-        (Entry::Synced { driver }, "8 d2 synced\n"),
-        (
-            Entry::Affinity {
-                driver,
-                mask: 3,
-                answer: AffinityAnswer::Now,
-            },
-            "8 d2 affinity 3 now\n",
-        ),
-        (
-            Entry::Affinity {
-                driver,
-                mask: 10,
-                answer: AffinityAnswer::Later,
-            },
-            "8 d2 affinity 10 later\n",
-        ),
-        (
-            Entry::Affinity {
-                driver,
-                mask: 0,
-                answer: AffinityAnswer::Refused(Errno::Inval),
-            },
-            "8 d2 affinity 0 refused 22\n",
-        ),
-        (Entry::Moment { driver, at: 1000 }, "8 d2 moment 1000\n"),
-    ] {
+    for (entry, row) in OTHER_CALLS {
         expect(&rt, 8, entry, row);
     }
 }
 
+/// Entries of the greatest numbers, and their rows.
+const GREATEST: [(Entry, &str); 5] = [
+    (
+        Entry::Request {
+            driver: DriverNo(u32::MAX),
+            dev: DevNo(u32::MAX),
+            flags: ALL,
+            answer: LinkAnswer::Linked,
+            opened: Opened::Started {
+                resend: Resend::Chip,
+            },
+        },
+        "4294967295 d4294967295 request 4294967295 son linked started chip\n",
+    ),
+    (
+        Entry::Return {
+            cpu: CpuNo(u32::MAX),
+            dev: DevNo(u32::MAX),
+            answer: Answer::Nothing,
+            served: u32::MAX,
+        },
+        "4294967295 c4294967295 return 4294967295 nothing 4294967295\n",
+    ),
+    (
+        Entry::ThreadReturn {
+            dev: DevNo(u32::MAX),
+            served: u32::MAX,
+        },
+        "4294967295 t4294967295 return 4294967295\n",
+    ),
+    (
+        Entry::Affinity {
+            driver: DriverNo(u32::MAX),
+            mask: u32::MAX,
+            answer: AffinityAnswer::Refused(Errno::Inval),
+        },
+        "4294967295 d4294967295 affinity 4294967295 refused 22\n",
+    ),
+    (
+        Entry::Moment {
+            driver: DriverNo(u32::MAX),
+            at: u32::MAX,
+        },
+        "4294967295 d4294967295 moment 4294967295\n",
+    ),
+];
+
 #[test]
 fn rows_of_the_greatest_numbers(rt: HostRuntime) {
-    let (driver, cpu, dev) = (DriverNo(u32::MAX), CpuNo(u32::MAX), DevNo(u32::MAX));
-    for (entry, row) in [
-        (
-            Entry::Request {
-                driver,
-                dev,
-                flags: flags(true, true, true),
-                answer: LinkAnswer::Linked,
-                opened: Opened::Started {
-                    resend: Resend::Chip,
-                },
-            },
-            "4294967295 d4294967295 request 4294967295 son linked started chip\n",
-        ),
-        (
-            Entry::Return {
-                cpu,
-                dev,
-                answer: Answer::Nothing,
-                served: u32::MAX,
-            },
-            "4294967295 c4294967295 return 4294967295 nothing 4294967295\n",
-        ),
-        (
-            Entry::ThreadReturn {
-                dev,
-                served: u32::MAX,
-            },
-            "4294967295 t4294967295 return 4294967295\n",
-        ),
-        (
-            Entry::Affinity {
-                driver,
-                mask: u32::MAX,
-                answer: AffinityAnswer::Refused(Errno::Inval),
-            },
-            "4294967295 d4294967295 affinity 4294967295 refused 22\n",
-        ),
-        (
-            Entry::Moment {
-                driver,
-                at: u32::MAX,
-            },
-            "4294967295 d4294967295 moment 4294967295\n",
-        ),
-    ] {
+    for (entry, row) in GREATEST {
         expect(&rt, u32::MAX, entry, row);
     }
 }
