@@ -19,6 +19,3 @@ pub use inputs::InputRefused;
 pub use laws::answer_is_one;
 pub use parts::cut_input;
 pub use printing::{CheckEnd, check_and_print};
-
-#[cfg(test)]
-mod tests;

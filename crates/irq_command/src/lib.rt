@@ -13,6 +13,3 @@ pub mod words;
 
 pub use commands::command;
 pub use running::{Ended, run};
-
-#[cfg(test)]
-mod tests;

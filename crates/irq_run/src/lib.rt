@@ -15,6 +15,3 @@ mod running;
 
 pub use ending::RunEnd;
 pub use running::{RanBoard, run_and_print};
-
-#[cfg(test)]
-mod tests;

@@ -19,8 +19,3 @@ pub use inputs::InputRefused;
 pub use irq_play::Wanted;
 pub use outcome::Outcome;
 pub use top::{end_early, irq_main};
-
-#[cfg(test)]
-mod calls;
-#[cfg(test)]
-mod tests;

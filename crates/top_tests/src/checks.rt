@@ -1,5 +1,5 @@
 //! Inputs by hand, and what is said of each.
-use crate::{CheckEnd, check_and_print};
+use irq_check::{CheckEnd, check_and_print};
 use irq_io::{MemSink, MemSource};
 use std::alloc::Global;
 use std::test::Fail;

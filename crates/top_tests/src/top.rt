@@ -1,10 +1,13 @@
 //! The top call over ends in memory. The texts and rows are written by hand.
-use crate::calls::{CALLS, MACHINE, OF_TWO_LINES};
-use crate::top::irq_main;
+use crate::calls::PLAYS;
+use crate::calls::checks::CHECKS;
+use crate::calls::machine::{MACHINE, MACHINE_CALLS, OF_TWO_LINES};
 use callbacks::{ByKind, Callbacks};
 use irq_base::{NoMemory, Reports};
 use irq_io::{MemSink, MemSource};
+use irq_top::irq_main;
 use std::alloc::Global;
+use std::process::Abort;
 use std::sync::Wait;
 use std::test::Fail;
 use std::thread::Threads;
@@ -203,18 +206,29 @@ fn is_lawful<R: Threads + Wait + Sync>(
     Ok(seen.is(0, None, b"lawful\n", b""))
 }
 
-#[test]
-fn calls_by_hand(rt: HostRuntime) -> Result<(), Fail> {
-    let alloc = rt.alloc();
+/// Makes each call of a table.
+fn expect_calls<R: Threads + Wait + Sync + Abort>(
+    rt: &R,
+    alloc: Global,
+    calls: &str,
+) -> Result<(), Fail> {
     let mut case = Case::new(alloc, "play: nothing yet")?;
-    for row in CALLS.lines() {
+    for row in calls.lines() {
         if let Some(head) = row.strip_prefix("$ ") {
             case = Case::new(alloc, head)?;
         } else if let Some(end) = row.strip_prefix("status ") {
-            assert!(rt; case.is_met(&rt, alloc, end)?, "{}", case.text.as_str());
+            assert!(rt; case.is_met(rt, alloc, end)?, "{}", case.text.as_str());
         } else {
             case.add(row)?;
         }
+    }
+    Ok(())
+}
+
+#[test]
+fn calls_by_hand(rt: HostRuntime) -> Result<(), Fail> {
+    for calls in [PLAYS, CHECKS, MACHINE_CALLS] {
+        expect_calls(&rt, rt.alloc(), calls)?;
     }
     Ok(())
 }

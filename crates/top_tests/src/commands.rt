@@ -1,6 +1,5 @@
 //! The body of `main` over ends in memory, each status once. The rows are written by hand.
-use crate::commands::command;
-use crate::running::run;
+use irq_command::{Ended, command, run};
 use irq_io::{MemSink, MemSource};
 use std::alloc::Global;
 use std::env::Args;
@@ -68,16 +67,74 @@ const PLAYED: Case = Case {
     err: "",
 };
 
-/// A fault of usage, by these words.
-fn misused(words: &'static [&'static str]) -> Case {
+/// A fault of usage.
+const MISUSED: Case = Case {
+    words: &[],
+    status: 2,
+    out: "",
+    err: USAGE,
+    ..PLAYED
+};
+
+/// Arguments that there is no memory for.
+const NO_MEMORY: Case = Case {
+    status: 7,
+    out: "",
+    err: "out of memory\n",
+    ..PLAYED
+};
+
+const CASES: [Case; 10] = [
+    PLAYED,
+    MISUSED,
     Case {
-        words,
-        status: 2,
-        out: "",
-        err: USAGE,
+        words: &["player"],
+        ..MISUSED
+    },
+    Case {
+        words: &["play", ""],
+        ..MISUSED
+    },
+    Case {
+        words: &["run"],
         ..PLAYED
-    }
-}
+    },
+    Case {
+        words: &["check"],
+        text: UNLAWFUL,
+        status: 1,
+        out: "unlawful 1 1\n",
+        ..PLAYED
+    },
+    Case {
+        text: "board 1\ncat\n",
+        status: 3,
+        out: "",
+        err: "board: line 2: unknown word\n",
+        ..PLAYED
+    },
+    Case {
+        read: 1,
+        status: 4,
+        out: "",
+        err: "read fault\n",
+        ..PLAYED
+    },
+    Case {
+        write: 1,
+        status: 5,
+        out: "",
+        err: "write fault\n",
+        ..PLAYED
+    },
+    Case {
+        text: LONG_BOARD,
+        status: 6,
+        out: "",
+        err: "log full: line 1 at 1 entries\n",
+        ..PLAYED
+    },
+];
 
 fn arguments(alloc: Global, words: &[&str]) -> Result<Args, Fail> {
     let mut args = Vec::new(alloc);
@@ -104,72 +161,15 @@ fn ends_so<R: Threads + Wait + Sync>(
 
 #[test]
 fn each_status_has_its_row(rt: HostRuntime) -> Result<(), Fail> {
-    let cases = [
-        PLAYED,
-        misused(&[]),
-        misused(&["player"]),
-        misused(&["play", ""]),
-        Case {
-            words: &["run"],
-            ..PLAYED
-        },
-        Case {
-            words: &["check"],
-            text: UNLAWFUL,
-            status: 1,
-            out: "unlawful 1 1\n",
-            ..PLAYED
-        },
-        Case {
-            text: "board 1\ncat\n",
-            status: 3,
-            out: "",
-            err: "board: line 2: unknown word\n",
-            ..PLAYED
-        },
-        Case {
-            read: 1,
-            status: 4,
-            out: "",
-            err: "read fault\n",
-            ..PLAYED
-        },
-        Case {
-            write: 1,
-            status: 5,
-            out: "",
-            err: "write fault\n",
-            ..PLAYED
-        },
-        Case {
-            text: LONG_BOARD,
-            status: 6,
-            out: "",
-            err: "log full: line 1 at 1 entries\n",
-            ..PLAYED
-        },
-    ];
-    for case in &cases {
+    for case in &CASES {
         let args = arguments(rt.alloc(), case.words)?;
         assert!(rt; ends_so(&rt, rt.alloc(), Ok(args), case)?);
     }
     // An argument that isn't UTF-8, and arguments that there is no memory for.
     let not_text = Error::from(ErrorKind::InvalidData);
-    assert!(rt; ends_so(&rt, rt.alloc(), Err(not_text), &misused(&[]))?);
-    let no_memory = Case {
-        status: 7,
-        out: "",
-        err: "out of memory\n",
-        ..PLAYED
-    };
-    assert!(rt;
-        ends_so(
-            &rt,
-            rt.alloc(),
-            Err(Error::from(ErrorKind::OutOfMemory)),
-            &no_memory
-        )?
-    );
+    assert!(rt; ends_so(&rt, rt.alloc(), Err(not_text), &MISUSED)?);
+    let refused = Error::from(ErrorKind::OutOfMemory);
+    assert!(rt; ends_so(&rt, rt.alloc(), Err(refused), &NO_MEMORY)?);
     Ok(())
 }
 
@@ -193,33 +193,30 @@ impl Write for Broken {
     }
 }
 
+/// What a play over these ends leaves.
+fn play<T: Threads + Wait + Sync, R: Read + Drop, O: Write + Drop, E: Write + Drop>(
+    rt: &T,
+    alloc: Global,
+    input: R,
+    output: O,
+    error: E,
+) -> Result<Ended<R, O, E>, Fail> {
+    let args = arguments(alloc, &["play"])?;
+    Ok(run(rt, alloc, Ok(args), input, output, error))
+}
+
 #[test]
 fn std_ends_give_their_status(rt: HostRuntime) -> Result<(), Fail> {
     let alloc = rt.alloc();
-    let words = ["play"];
     let (out, err) = (Vec::new(alloc), Vec::new(alloc));
-    let played = run(
-        &rt,
-        alloc,
-        Ok(arguments(alloc, &words)?),
-        BOARD.as_bytes(),
-        out,
-        err,
-    );
+    let played = play(&rt, alloc, BOARD.as_bytes(), out, err)?;
     assert_eq!(rt; played.status, 0);
     let printed = played.output.map(|out| out.into_writer());
     assert!(rt; printed.is_some_and(|out: Vec<u8>| out.as_slice() == LOG.as_bytes()));
     assert!(rt; played.error.into_writer().is_empty());
 
     let err = Vec::new(alloc);
-    let full = run(
-        &rt,
-        alloc,
-        Ok(arguments(alloc, &words)?),
-        BOARD.as_bytes(),
-        Broken,
-        err,
-    );
+    let full = play(&rt, alloc, BOARD.as_bytes(), Broken, err)?;
     assert_eq!(rt; full.status, 5);
     assert_eq!(rt;
         full.error.into_writer().as_slice(),
@@ -227,14 +224,7 @@ fn std_ends_give_their_status(rt: HostRuntime) -> Result<(), Fail> {
     );
 
     let out = Vec::new(alloc);
-    let unread = run(
-        &rt,
-        alloc,
-        Ok(arguments(alloc, &words)?),
-        Broken,
-        out,
-        Broken,
-    );
+    let unread = play(&rt, alloc, Broken, out, Broken)?;
     assert_eq!(rt; unread.status, 4);
     Ok(())
 }
@@ -265,14 +255,7 @@ fn limits_want_no_more_memory_than_there_is(rt: HostRuntime) -> Result<(), Fail>
     let alloc = rt.alloc();
     let text = board_at_its_limits(alloc)?;
     let (out, err) = (Vec::new(alloc), Vec::new(alloc));
-    let played = run(
-        &rt,
-        alloc,
-        Ok(arguments(alloc, &["play"])?),
-        text.as_slice(),
-        out,
-        err,
-    );
+    let played = play(&rt, alloc, text.as_slice(), out, err)?;
     assert_eq!(rt; played.status, 0);
     let entries = played
         .outcome

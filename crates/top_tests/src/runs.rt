@@ -1,10 +1,10 @@
 //! Boards by hand, run by threads. On each line no two entries can come in another order than the
 //! one that is written.
-use crate::{RanBoard, RunEnd, run_and_print};
 use board_text::read_board;
 use callbacks::{ByKind, Callbacks};
 use irq_base::LineNo;
 use irq_io::MemSink;
+use irq_run::{RanBoard, RunEnd, run_and_print};
 use std::alloc::Global;
 use std::sync::Wait;
 use std::test::Fail;
