@@ -3,4 +3,3 @@ pub mod Knows
 pub mod Rule
 pub mod Steps
 pub mod Passes
-pub mod Tests

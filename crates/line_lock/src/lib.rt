@@ -16,6 +16,3 @@ pub use kept::Kept;
 pub use lock::{CountedLock, LockRefused};
 pub use pass::Pass;
 pub use view::{Known, Placed};
-
-#[cfg(test)]
-mod tests;

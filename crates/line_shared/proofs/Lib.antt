@@ -1,4 +1,3 @@
 pub mod Stepped
 pub mod MetLaws
 pub mod FreeLaws
-pub mod TestScripts

@@ -7,6 +7,3 @@ pub mod laws;
 pub mod shared;
 
 pub use shared::{Pass, ShareRefused, SharedLine};
-
-#[cfg(test)]
-mod tests;

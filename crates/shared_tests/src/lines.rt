@@ -3,15 +3,15 @@
 ghost use Rattle.std.specs.Prelude.{◌≡◌, ◌≤◌, false, IfOk, IsSome};
 ghost use Rattle.irq_model.specs.Valid.{IsValid};
 ghost use Rattle.line_lock.specs.Passes.{IsPassOf};
-ghost use Rattle.line_shared.specs.Tests.{IsScript};
+ghost use Rattle.shared_tests.specs.Scripts.{IsScript};
 
-use crate::shared::{Pass, ShareRefused, SharedLine};
 use callbacks::{ByKind, Callbacks};
 use irq_base::{
     Actor, Call, CallList, CpuNo, DevNo, DeviceDef, DeviceList, DriverNo, Entry, Flags, FlowKind,
     Kind, LineDef, LineNo, LinkAnswer, NoMemory, Opened, Resend, TakeAnswer, Trigger, Way,
 };
 use irq_line::{IrqLine, Stepped};
+use line_shared::{Pass, ShareRefused, SharedLine};
 use plain_line::PlainLine;
 use std::alloc::Global;
 use std::sync::Wait;
@@ -29,7 +29,7 @@ const DRIVER: DriverNo = DriverNo(1);
 const OTHER: DriverNo = DriverNo(2);
 
 /// A request by the driver, and then asks of both drivers in turn.
-#[tactic(auto, using(crate::proofs::TestScripts::no_asks, crate::proofs::TestScripts::more_asks, crate::proofs::TestScripts::whole_script))]
+#[tactic(auto, using(crate::proofs::ValidScripts::no_asks, crate::proofs::ValidScripts::more_asks, crate::proofs::ValidScripts::whole_script))]
 fn script(alloc: Global, rounds: u32) -> Result<CallList, NoMemory>
     requires { rounds ≤ 500 }
     ensures { IfOk result IsScript }
@@ -50,7 +50,7 @@ fn script(alloc: Global, rounds: u32) -> Result<CallList, NoMemory>
 }
 
 /// A latch line with one device, and that script.
-#[tactic(auto, using(crate::proofs::TestScripts::valid_script))]
+#[tactic(auto, using(crate::proofs::ValidScripts::valid_script))]
 fn definition(alloc: Global, rounds: u32) -> Result<LineDef, NoMemory>
     requires { rounds ≤ 500 }
     ensures { IfOk result IsValid }

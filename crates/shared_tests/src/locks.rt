@@ -1,15 +1,13 @@
 //! A history without rules in a lock, taken out and left in one thread and in two.
 ghost use Rattle.std.specs.Prelude.{◌≡◌, ◌≤◌, false, length, IfOk, [], IsSome};
 ghost use Rattle.line_lock.specs.Passes.{IsPassOf, Extends};
-ghost use Rattle.line_lock.specs.Tests.{by_driver};
+ghost use Rattle.shared_tests.specs.Drivers.{by_driver};
 
-use crate::kept::Kept;
-use crate::lock::{CountedLock, LockRefused};
-use crate::pass::Pass;
 use irq_base::{
     Actor, CallList, DevNo, DeviceList, DriverNo, Entry, FlowKind, History, LineDef, LineNo,
     NoMemory, Trigger,
 };
+use line_lock::{CountedLock, Kept, LockRefused, Pass};
 use std::alloc::Global;
 use std::sync::Wait;
 use std::test::Fail;

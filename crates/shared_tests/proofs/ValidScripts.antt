@@ -11,7 +11,7 @@ use Rattle.irq_base.specs.declared.lines.Trigger.TheVariants as triggers
 use Rattle.irq_base.specs.declared.numbers.DevNo.{DevNo}
 use Rattle.irq_base.specs.declared.numbers.DriverNo.{DriverNo}
 use Rattle.irq_model.specs.Valid.{IsValid, HasOneOwner, IsFreedBetween, requests_dev, frees_dev, names_one_of}
-use Rattle.line_shared.specs.Tests.{the_request, IsAsk, IsScript}
+use Rattle.shared_tests.specs.Scripts.{the_request, IsAsk, IsScript}
 
 -- a call of the script that is at a later place asks
 later_asks : (asks : List (DriverNo × Call)) (k : ℕ) (c : DriverNo × Call) → All IsAsk asks → slice_get asks k ≡ Some c → IsAsk c

@@ -1,4 +1,4 @@
--- What the tests keep in a lock.
+-- Who takes what the tests keep in a lock.
 use Rattle.std.specs.Prelude.{Option, Some}
 use Rattle.irq_base.specs.declared.entries.Actor.{Actor}
 use Rattle.irq_base.specs.declared.entries.Actor.TheVariants as actors
