@@ -55,6 +55,3 @@ fn add_root(board: &mut Board, name: &[u8], chip: LevelKind) -> Result<(), NoMem
         },
     })
 }
-
-#[cfg(test)]
-mod tests;

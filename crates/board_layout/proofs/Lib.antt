@@ -1,3 +1,2 @@
 pub mod Numbering
 pub mod Placing
-mod TestBoards

@@ -4,6 +4,3 @@
 pub mod laying;
 
 pub use laying::lay;
-
-#[cfg(test)]
-mod tests;

@@ -8,6 +8,3 @@
 pub mod making;
 
 pub use making::MakesChainLine;
-
-#[cfg(test)]
-mod tests;

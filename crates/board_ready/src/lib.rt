@@ -17,6 +17,3 @@ mod tree;
 pub use found::{first_is_first, lowest_thread_is_lowest};
 pub use parts::{Barriers, CurrentCall, LinePart, Mover, ReadyThread, WaitFor};
 pub use ready::ReadyActors;
-
-#[cfg(test)]
-mod tests;

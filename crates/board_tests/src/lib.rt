@@ -1,7 +1,16 @@
-//! Tests of the domains below a board: hierarchies, and the chips of whole paths.
+//! Tests of boards: the domains below them, who can move, boards made from a number, layouts, and
+//! lines over the chips of their paths.
 #![tactic(auto)]
 
 #[cfg(test)]
 mod chains;
 #[cfg(test)]
+mod generated;
+#[cfg(test)]
 mod hierarchies;
+#[cfg(test)]
+mod layouts;
+#[cfg(test)]
+mod lines;
+#[cfg(test)]
+mod ready;

@@ -4,7 +4,7 @@ ghost use Rattle.irq_base.specs.Cell.{fresh_cell};
 ghost use Rattle.irq_base.specs.declared.lines.Trigger.TheVariants as triggers;
 ghost use Rattle.board_lines.specs.Chips.{HasChips, cell_of_line};
 
-use crate::MakesChainLine;
+use board_lines::MakesChainLine;
 use chip_msi::Message;
 use domain_chain::Chain;
 use domain_hier::{AllocAnswer, Hierarchy};

@@ -1,8 +1,8 @@
 use Rattle.std.proofs.Common.{◌≡◌, ◌<◌, ◌≤◌, false, length, refl, arith}
 use Rattle.board_def.specs.declared.rows.LineRow.{LineRow}
 use Rattle.board_def.proofs.Grows.{grows_line}
-use Rattle.board_layout.proofs.TestBoards.{below_next, all_before, few_entries}
-use Rattle.board_layout.proofs.tests.add_line.Goals as goal
+use Rattle.board_tests.proofs.TestBoards.{below_next, all_before, few_entries}
+use Rattle.board_tests.proofs.layouts.add_line.Goals as goal
 
 pub add_line-requires : goal.add_line-requires
 add_line-requires c =

@@ -1,6 +1,6 @@
 //! Boards as another program draws them.
-use crate::generate;
 use board_def::{Board, ScriptCall};
+use board_gen::generate;
 use irq_base::{Call, NoMemory};
 
 fn asks_on(board: &Board, line: u32) -> usize {

@@ -2,8 +2,8 @@ use Rattle.std.proofs.Common.{◌≡◌, Some, [], ◌∷◌, ◌++◌, ap, ◌�
 use Rattle.domain_hier.specs.Hierarchies.{HierarchySeen}
 use Rattle.domain_hier.specs.PathsInUse.{in_use, placed}
 use Rattle.domain_rules.specs.Layout.{path_of}
-use Rattle.board_lines.specs.declared.tests.TheConstants.{VECTOR, NEAR}
-use Rattle.board_lines.proofs.tests.near_vectors.Goals as goal
+use Rattle.board_tests.specs.declared.lines.TheConstants.{VECTOR, NEAR}
+use Rattle.board_tests.proofs.lines.near_vectors.Goals as goal
 
 two_lines : (h a b d e : HierarchySeen) → h ≡ record { domains = []; paths = [] } → a ≡ record h { domains = h.domains ++ VECTOR ∷ [] } → b ≡ record a { domains = a.domains ++ NEAR ∷ [] }
     → d ≡ record b { paths = placed b.paths (path_of b.domains (in_use b.paths) (1, 39)) } → e ≡ record d { paths = placed d.paths (path_of d.domains (in_use d.paths) (1, 40)) }

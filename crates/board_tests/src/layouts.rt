@@ -5,8 +5,8 @@ ghost use Rattle.board_def.specs.Names.{is_name};
 ghost use Rattle.board_def.specs.Rules.{IsNumber};
 ghost use Rattle.domain_rules.specs.Domains.{IsSize};
 
-use crate::lay;
 use board_def::{Board, DomainRow, Layout, LineRow, Name};
+use board_layout::lay;
 use domain_hier::Hierarchy;
 use irq_base::{DomainDef, LevelKind, LineNo, MapKind, NoMemory};
 use log_text::layout_row;

@@ -4,8 +4,8 @@ use Rattle.board_def.specs.declared.rows.DomainRow.{DomainRow}
 use Rattle.board_def.proofs.Grows.{grows_domain}
 use Rattle.board_def.proofs.Unnaming.{declared_def}
 use Rattle.board_def.proofs.NameBack.{name_back}
-use Rattle.board_layout.proofs.TestBoards.{new_name}
-use Rattle.board_layout.proofs.tests.add_domain.Goals as goal
+use Rattle.board_tests.proofs.TestBoards.{new_name}
+use Rattle.board_tests.proofs.layouts.add_domain.Goals as goal
 
 pub add_domain-requires : goal.add_domain-requires
 add_domain-requires c =

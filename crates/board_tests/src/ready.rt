@@ -2,8 +2,7 @@
 //! beside a plain search.
 ghost use Rattle.std.specs.Prelude.{◌≡◌, ◌<◌, length};
 
-use crate::parts::{Barriers, CurrentCall, LinePart, Mover, ReadyThread, WaitFor};
-use crate::ready::ReadyActors;
+use board_ready::{Barriers, CurrentCall, LinePart, Mover, ReadyActors, ReadyThread, WaitFor};
 use irq_base::{CpuNo, DevNo, NoMemory};
 use std::alloc::Global;
 use std::test::Fail;
