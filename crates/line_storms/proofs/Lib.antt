@@ -1,2 +1,1 @@
 pub mod NeverFull
-pub mod AskedLine

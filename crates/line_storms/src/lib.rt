@@ -45,6 +45,3 @@ pub fn step_within_bound<L: IrqLine>(
         Err(StepRefused::Full { .. }) => unreachable!(),
     }
 }
-
-#[cfg(test)]
-mod tests;

@@ -1,5 +1,5 @@
--- The line that the test takes: an edge line of one device, with one ask, whose log limit is its
--- bound.
+-- The line of a log that is long enough: an edge line of one device, with one ask, whose log limit
+-- is its bound.
 use Rattle.std.specs.Prelude.{true, false, [], ◌∷◌}
 use Rattle.irq_base.specs.declared.calls.Call.TheVariants as calls
 use Rattle.irq_base.specs.declared.devices.Kind.TheVariants as kinds

@@ -1,4 +1,4 @@
--- The test's line is valid, and its log is as long as its bound.
+-- The line of one ask is valid, and its log is as long as its bound.
 use Rattle.std.proofs.Common.{◌≡◌, ℕ, zero, suc, ◌≤◌, true, false, ◌||◌, Bool, Option, Some, None, [], ◌∷◌, refl, sym, ap, ◌∙◌, arith, All}
 use Rattle.std.specs.List.{slice_get}
 use Rattle.std.proofs.lemmas.List.Elements.{All-nil, All-cons}
@@ -7,7 +7,7 @@ use Rattle.irq_base.specs.declared.numbers.DevNo.{DevNo}
 use Rattle.irq_base.specs.declared.numbers.DriverNo.{DriverNo}
 use Rattle.irq_model.specs.Bounds.{bound}
 use Rattle.irq_model.specs.Valid.{IsValid, requests_dev, frees_dev, names_one_of}
-use Rattle.line_storms.specs.Tests.{asked_line}
+use Rattle.whole_line_tests.specs.AskedLine.{asked_line}
 
 -- its one call is no request and no free
 no_request : {P : Type 0} (d : DevNo) (i : ℕ) (a : DriverNo × Call) → slice_get asked_line.calls i ≡ Some a → (requests_dev d a.1 || frees_dev d a.1) ≡ true → P

@@ -1,13 +1,13 @@
 //! A step of a line of the repository comes, though its log is no longer than its bound.
 ghost use Rattle.std.specs.Prelude.{◌≡◌, IfOk};
-ghost use Rattle.line_storms.specs.Tests.{asked_line};
+ghost use Rattle.whole_line_tests.specs.AskedLine.{asked_line};
 
-use crate::step_within_bound;
 use irq_base::{
     Actor, Call, CallList, CpuNo, DevNo, DeviceDef, DeviceList, DriverNo, Entry, FlowKind, Kind,
     LineDef, LineNo, NoMemory, Trigger,
 };
 use irq_line::Stepped;
+use line_storms::step_within_bound;
 use plain_line::PlainLine;
 use std::alloc::Global;
 use std::process::Abort;
