@@ -84,6 +84,3 @@ fn generated(number: &str) -> Option<Command>
     let n = number_of(number.as_bytes())?;
     Some(Command::Gen { n })
 }
-
-#[cfg(test)]
-mod tests;

@@ -1,8 +1,11 @@
-//! Tests of texts: rows of a log and of its summary, the statements of a board and its whole text.
+//! Tests of texts: rows of a log and of its summary, the statements of a board and its whole text,
+//! and the words of the command line.
 #![tactic(auto)]
 
 #[cfg(test)]
 mod boards;
+#[cfg(test)]
+mod commands;
 #[cfg(test)]
 mod entry_rows;
 #[cfg(test)]

@@ -1,5 +1,5 @@
 //! Lists of words by hand.
-use crate::{Command, read_command};
+use irq_words::{Command, read_command};
 use std::test::Fail;
 
 /// What words are no command's.
