@@ -15,6 +15,3 @@ pub use boxed::{Boxed, Handling};
 pub use by_kind::ByKind;
 pub use handler::{Callbacks, Handler};
 pub use said::Said;
-
-#[cfg(test)]
-mod tests;

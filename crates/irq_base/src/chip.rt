@@ -96,6 +96,3 @@ pub trait Chip {
     fn signal(&self) -> bool
         ensures { result ≡ signals (cell self.now) };
 }
-
-#[cfg(test)]
-mod tests;

@@ -35,6 +35,3 @@ pub use lists::ItemList;
 pub use memory::NoMemory;
 pub use numbers::{CpuNo, DevNo, DriverNo, LineNo};
 pub use reporting::{LineReport, Logs, Reports};
-
-#[cfg(test)]
-mod tests;

@@ -2,9 +2,7 @@
 ghost use Rattle.std.specs.Prelude.{◌≡◌, true, false};
 ghost use Rattle.irq_base.specs.Cell.{Cell, is_edge_cell};
 
-use crate::chip::Chip;
-use crate::lines::Trigger;
-use crate::numbers::CpuNo;
+use irq_base::{Chip, CpuNo, Trigger};
 
 /// The signal cell as it stands, and what else contracts see of a chip.
 #[derive(Clone, Copy)]

@@ -2,9 +2,7 @@
 ghost use Rattle.std.specs.Prelude.{◌≡◌};
 ghost use Rattle.irq_base.specs.Handlers.{answer_of};
 
-use crate::boxed::Boxed;
-use crate::by_kind::ByKind;
-use crate::handler::{Callbacks, Handler};
+use callbacks::{Boxed, ByKind, Callbacks, Handler};
 use irq_base::{Answer, DevNo, DeviceDef, Kind, LineNo, Part};
 use std::alloc::{AllocError, Global};
 use std::sync::Arc;
