@@ -123,7 +123,7 @@ pub enum AffinityAnswer {
     Refused(Errno),
 }
 
-/// One hold of a line's descriptor lock.
+/// One hold of a line's lock in this model; Linux makes some of these steps without its lock.
 #[derive(Clone, Copy, PartialEq, Eq)]
 pub enum Entry {
     /// A device asks for service.

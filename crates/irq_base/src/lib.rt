@@ -2,8 +2,9 @@
 //! entries of its history.
 //!
 //! Everything here is plain data, but for the lists, which contracts see as lists. One entry stands
-//! for one hold of a line's descriptor lock (`raw_spin_lock` of `struct irq_desc`,
-//! `include/linux/irqdesc.h`), and `History` is what those holds left behind, the oldest first.
+//! for one hold of a line's lock in this model (`lock` of `struct irq_desc`,
+//! `include/linux/irqdesc.h`; Linux calls handlers, wakes threads and waits for them without it).
+//! `History` is what those holds left behind, the oldest first.
 #![tactic(auto)]
 
 pub mod calls;

@@ -34,7 +34,8 @@ pub record HoldsAt (def : LineDef) (h : List Entry) : Type 0 where
   -- a started line with linked devices is masked only if it is disabled, or a flow is in progress,
   -- or on a level line a thread isn't finished
   pub has_reason : HasReason def h
-  -- if the line is enabled and no flow is in progress, what is owed or high is handled next
+  -- if the line is enabled and no flow is in progress, an owed edge is handled next, and so is a
+  -- high level that no unfinished thread holds
   pub served_when_idle : IsServedWhenIdle def h
 
 -- a line's history, at its end or not
