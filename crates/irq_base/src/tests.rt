@@ -211,9 +211,9 @@ fn driver_entry(kind: usize, code: u32, numbers: (u32, u32, u32)) -> Entry {
 }
 
 /// The entries of the table: each kind with each small answer, over four rows of numbers.
-fn table_entry(i: usize) -> Entry {
-    let (kind, code) = (i % 18, (i / 18 % 6) as u32);
-    let row = numbers(i / 108);
+fn table_entry(place: usize) -> Entry {
+    let (kind, code) = (place % 18, (place / 18 % 6) as u32);
+    let row = numbers(place / 108);
     if kind < 8 {
         cpu_entry(kind, code, row)
     } else {
