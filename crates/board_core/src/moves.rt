@@ -95,12 +95,12 @@ fn place_at(order: &[u16], at: usize) -> Option<usize>
 }
 
 /// The entry at the cursor of the line at the place.
-fn move_at<L: IrqLine>(lines: &[L], k: usize, cursor: u32) -> Option<(LineNo, Entry)>
-    requires { k < length lines.now }
-    ensures entry { result ≡ move_at (slice_get (map L.seen lines.now) k) cursor }
+fn move_at<L: IrqLine>(lines: &[L], place: usize, cursor: u32) -> Option<(LineNo, Entry)>
+    requires { place < length lines.now }
+    ensures entry { result ≡ move_at (slice_get (map L.seen lines.now) place) cursor }
     ensures short { IfSome result (λ m. cursor < 100000000) }
 {
-    let line = &lines[k];
+    let line = &lines[place];
     line.is_sound();
     let entry = line.history().get(cursor as usize)?;
     Some((line.definition().line, entry))

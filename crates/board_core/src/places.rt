@@ -12,31 +12,31 @@ use irq_line::{IrqLine, StepRefused};
 pub(crate) fn step_place<L: IrqLine, H: Handler>(
     lines: &mut Vec<L>,
     order: &mut Vec<u16>,
-    k: usize,
+    place: usize,
     actor: Actor,
     handlers: &Callbacks<H>,
 ) -> Result<Option<Entry>, StepRefused>
-    requires place { k < length lines.old.items }
-    requires few { k < 65536 }
-    ensures { SteppedAt (map L.seen lines.old.items) order.old.items k actor result (map L.seen lines.new.items) order.new.items }
+    requires place { place < length lines.old.items }
+    requires few { place < 65536 }
+    ensures { SteppedAt (map L.seen lines.old.items) order.old.items place actor result (map L.seen lines.new.items) order.new.items }
 {
     if order.reserve(1).is_err() {
         return Err(StepRefused::NoMemory);
     }
-    let line = &mut lines[k];
+    let line = &mut lines[place];
     let stepped = step_heard(line, actor, handlers);
     line.is_sound();
-    tell(order, k, &stepped);
+    tell(order, place, &stepped);
     stepped
 }
 
 /// The order tells what was added.
-fn tell(order: &mut Vec<u16>, k: usize, stepped: &Result<Option<Entry>, StepRefused>)
-    requires few { k < 65536 }
+fn tell(order: &mut Vec<u16>, place: usize, stepped: &Result<Option<Entry>, StepRefused>)
+    requires few { place < 65536 }
     requires room { vec_len order.old + 1 ≤ vec_capacity order.old }
-    ensures { order.new.items ≡ told stepped.now order.old.items k }
+    ensures { order.new.items ≡ told stepped.now order.old.items place }
 {
     if let Ok(Some(_)) = stepped {
-        order.push_reserved(k as u16);
+        order.push_reserved(place as u16);
     }
 }

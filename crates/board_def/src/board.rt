@@ -184,38 +184,38 @@ impl Board {
     }
 
     /// The domain at the place, counted from 0; none from their number on.
-    pub fn domain(&self, i: usize) -> Option<DomainRow>
-        ensures { result ≡ slice_get self.now.domains i }
+    pub fn domain(&self, place: usize) -> Option<DomainRow>
+        ensures { result ≡ slice_get self.now.domains place }
     {
-        self.domains.get(i)
+        self.domains.get(place)
     }
 
     /// The line at the place, counted from 0; none from their number on.
-    pub fn line(&self, i: usize) -> Option<LineRow>
-        ensures { result ≡ slice_get self.now.lines i }
+    pub fn line(&self, place: usize) -> Option<LineRow>
+        ensures { result ≡ slice_get self.now.lines place }
     {
-        self.lines.get(i)
+        self.lines.get(place)
     }
 
     /// The device at the place, counted from 0; none from their number on.
-    pub fn device(&self, i: usize) -> Option<DeviceDef>
-        ensures { result ≡ slice_get self.now.devices i }
+    pub fn device(&self, place: usize) -> Option<DeviceDef>
+        ensures { result ≡ slice_get self.now.devices place }
     {
-        self.devices.get(i)
+        self.devices.get(place)
     }
 
     /// The driver at the place, counted from 0; none from their number on.
-    pub fn driver(&self, i: usize) -> Option<DriverNo>
-        ensures { result ≡ slice_get self.now.drivers i }
+    pub fn driver(&self, place: usize) -> Option<DriverNo>
+        ensures { result ≡ slice_get self.now.drivers place }
     {
-        self.drivers.get(i)
+        self.drivers.get(place)
     }
 
     /// The call at the place in the scripts, counted from 0; none from their length on.
-    pub fn call(&self, i: usize) -> Option<ScriptCall>
-        ensures { result ≡ slice_get self.now.calls i }
+    pub fn call(&self, place: usize) -> Option<ScriptCall>
+        ensures { result ≡ slice_get self.now.calls place }
     {
-        self.calls.get(i).copied()
+        self.calls.get(place).copied()
     }
 
     /// The drivers' scripts, one after another.

@@ -95,12 +95,12 @@ fn add_calls(defs: &mut Vec<LineDef>, board: &Board) -> Result<(), NoMemory>
 fn place_device(
     defs: &mut Vec<LineDef>,
     board: &Board,
-    i: usize,
+    index: usize,
     device: DeviceDef,
 ) -> Result<(), NoMemory>
-    requires there { slice_get board.now.devices i ≡ Some device }
-    requires before { defs.old.items ≡ line_defs_of (with_parts board.now (take i board.now.devices) []) }
-    ensures { OnOk result (defs.new.items ≡ line_defs_of (with_parts board.now (take (i + 1) board.now.devices) [])) }
+    requires there { slice_get board.now.devices index ≡ Some device }
+    requires before { defs.old.items ≡ line_defs_of (with_parts board.now (take index board.now.devices) []) }
+    ensures { OnOk result (defs.new.items ≡ line_defs_of (with_parts board.now (take (index + 1) board.now.devices) [])) }
 {
     board.is_board();
     if let Some(place) = board.place_of_line(device.line) {
@@ -113,12 +113,12 @@ fn place_device(
 fn place_call(
     defs: &mut Vec<LineDef>,
     board: &Board,
-    i: usize,
+    index: usize,
     call: ScriptCall,
 ) -> Result<(), NoMemory>
-    requires there { slice_get board.now.calls i ≡ Some call }
-    requires before { defs.old.items ≡ line_defs_of (with_parts board.now board.now.devices (take i board.now.calls)) }
-    ensures { OnOk result (defs.new.items ≡ line_defs_of (with_parts board.now board.now.devices (take (i + 1) board.now.calls))) }
+    requires there { slice_get board.now.calls index ≡ Some call }
+    requires before { defs.old.items ≡ line_defs_of (with_parts board.now board.now.devices (take index board.now.calls)) }
+    ensures { OnOk result (defs.new.items ≡ line_defs_of (with_parts board.now board.now.devices (take (index + 1) board.now.calls))) }
 {
     board.is_board();
     if let Some(place) = board.place_of_line(call.line) {

@@ -71,10 +71,10 @@ impl<K: Copy + Eq + Hash + Drop, T: Keyed<K> + Copy + Drop> Table<K, T> {
     }
 
     /// The row at the place, counted from 0; none from the length on.
-    pub fn get(&self, i: usize) -> Option<T>
-        ensures { result ≡ slice_get self.now i }
+    pub fn get(&self, place: usize) -> Option<T>
+        ensures { result ≡ slice_get self.now place }
     {
-        let (_, row) = self.rows.get_index(i)?;
+        let (_, row) = self.rows.get_index(place)?;
         Some(*row)
     }
 

@@ -9,15 +9,15 @@ pub(crate) struct Draws {
 }
 
 impl Draws {
-    /// A number below `m`.
-    pub(crate) fn draw(&mut self, m: u32) -> u32
-        requires { 0 < m }
+    /// A number below the bound.
+    pub(crate) fn draw(&mut self, bound: u32) -> u32
+        requires { 0 < bound }
         ensures x { self.new.x ≡ next_x self.old.x }
-        ensures drawn { result ≡ drawn m self.new.x }
-        ensures below { result < m }
+        ensures drawn { result ≡ drawn bound self.new.x }
+        ensures below { result < bound }
     {
         let next = (1_664_525 * u64::from(self.x) + 1_013_904_223) % 4_294_967_296;
         self.x = next as u32;
-        self.x / 65_536 % m
+        self.x / 65_536 % bound
     }
 }

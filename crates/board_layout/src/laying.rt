@@ -42,14 +42,14 @@ fn domains_of(alloc: Global, board: &Board) -> Result<Hierarchy, NoMemory>
 }
 
 // Adds the domain at that place after those before it.
-fn add_domain(domains: &mut Hierarchy, board: &Board, i: usize) -> Result<(), NoMemory>
-    requires within { i < length board.now.domains }
-    requires before { domains.old.domains ≡ take i (defs_of board.now.domains) }
-    ensures domains { OnOk result (domains.new.domains ≡ take (i + 1) (defs_of board.now.domains)) }
+fn add_domain(domains: &mut Hierarchy, board: &Board, place: usize) -> Result<(), NoMemory>
+    requires within { place < length board.now.domains }
+    requires before { domains.old.domains ≡ take place (defs_of board.now.domains) }
+    ensures domains { OnOk result (domains.new.domains ≡ take (place + 1) (defs_of board.now.domains)) }
     ensures paths { OnOk result (domains.new.paths ≡ domains.old.paths) }
 {
     board.is_board();
-    let Some(row) = board.domain(i) else {
+    let Some(row) = board.domain(place) else {
         return Err(NoMemory);
     };
     domains.add_domain(row.def)?;
@@ -61,14 +61,14 @@ fn lay_line(
     domains: &mut Hierarchy,
     layout: &mut Layout,
     board: &Board,
-    i: usize,
+    place: usize,
 ) -> Result<(), NoMemory>
-    requires within { i < length board.now.lines }
-    requires before { IsLaid board.now i domains.old layout.old }
-    ensures { OnOk result (IsLaid board.now (i + 1) domains.new layout.new) }
+    requires within { place < length board.now.lines }
+    requires before { IsLaid board.now place domains.old layout.old }
+    ensures { OnOk result (IsLaid board.now (place + 1) domains.new layout.new) }
 {
     board.is_board();
-    let Some(row) = board.line(i) else {
+    let Some(row) = board.line(place) else {
         return Err(NoMemory);
     };
     let placement = place_line(domains, layout, row)?;

@@ -41,10 +41,10 @@ fn are_digits(word: &[u8]) -> bool
     true
 }
 
-fn is_digit(b: u8) -> bool
-    ensures { result ≡ is_digit b }
+fn is_digit(byte: u8) -> bool
+    ensures { result ≡ is_digit byte }
 {
-    (b'0'..=b'9').contains(&b)
+    (b'0'..=b'9').contains(&byte)
 }
 
 fn has_leading_zero(word: &[u8]) -> bool
@@ -103,16 +103,16 @@ fn are_name_bytes(word: &[u8]) -> bool
     true
 }
 
-fn is_letter(b: u8) -> bool
-    ensures { result ≡ is_letter b }
+fn is_letter(byte: u8) -> bool
+    ensures { result ≡ is_letter byte }
 {
-    (b'a'..=b'z').contains(&b)
+    (b'a'..=b'z').contains(&byte)
 }
 
-fn is_name_byte(b: u8) -> bool
-    ensures { result ≡ is_name_byte b }
+fn is_name_byte(byte: u8) -> bool
+    ensures { result ≡ is_name_byte byte }
 {
-    is_letter(b) || is_digit(b) || b == b'_'
+    is_letter(byte) || is_digit(byte) || byte == b'_'
 }
 
 /// The pick that the word spells.

@@ -62,8 +62,8 @@ pub fn has_bad_byte(line: &[u8]) -> bool
 }
 
 /// Whether the byte is a tab, a carriage return, or printable.
-fn is_allowed(b: u8) -> bool
-    ensures { result ≡ is_allowed b }
+fn is_allowed(byte: u8) -> bool
+    ensures { result ≡ is_allowed byte }
 {
-    b == b'\t' || b == b'\r' || (b' '..=b'~').contains(&b)
+    byte == b'\t' || byte == b'\r' || (b' '..=b'~').contains(&byte)
 }

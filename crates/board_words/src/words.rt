@@ -121,8 +121,8 @@ fn word_end(line: &[u8]) -> usize
 }
 
 /// Whether the byte divides words.
-fn is_blank(b: u8) -> bool
-    ensures { result ≡ is_blank b }
+fn is_blank(byte: u8) -> bool
+    ensures { result ≡ is_blank byte }
 {
-    b == b' ' || b == b'\t' || b == b'\r'
+    byte == b' ' || byte == b'\t' || byte == b'\r'
 }

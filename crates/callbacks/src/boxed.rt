@@ -15,23 +15,23 @@ pub type Handling = Box<dyn Fn(DeviceDef, Part, u32) -> Answer + Sync>;
 /// do. Whoever makes the box hands it in.
 #[derive(Drop)]
 pub struct Boxed {
-    f: Handling,
-    ghost callable: { Handling.IsAlwaysCallable f },
-    ghost by_kind: { (d : DeviceDef) (p : Part) (n : ℕ) (a : Answer) → Handling.post f d p n a → a ≡ answer_of d.kind p n },
+    handling: Handling,
+    ghost callable: { Handling.IsAlwaysCallable handling },
+    ghost by_kind: { (d : DeviceDef) (p : Part) (n : ℕ) (a : Answer) → Handling.post handling d p n a → a ≡ answer_of d.kind p n },
 }
 
 impl Boxed {
     /// Keeps the function.
-    pub fn new(f: Handling) -> Boxed
-        requires callable { Handling.IsAlwaysCallable f }
-        requires by_kind { (d : DeviceDef) (p : Part) (n : ℕ) (a : Answer) → Handling.post f d p n a → a ≡ answer_of d.kind p n }
+    pub fn new(handling: Handling) -> Boxed
+        requires callable { Handling.IsAlwaysCallable handling }
+        requires by_kind { (d : DeviceDef) (p : Part) (n : ℕ) (a : Answer) → Handling.post handling d p n a → a ≡ answer_of d.kind p n }
     {
-        Boxed { f }
+        Boxed { handling }
     }
 }
 
 impl Handler for Boxed {
     fn answer(&self, def: DeviceDef, part: Part, unserved: u32) -> Answer {
-        (self.f)(def, part, unserved)
+        (self.handling)(def, part, unserved)
     }
 }

@@ -107,11 +107,11 @@ impl Path {
     }
 
     /// The pair at the place, counted from 0, the leaf's; none from the path's length on.
-    pub fn get(&self, i: usize) -> Option<(usize, u32)>
-        ensures { result ≡ slice_get self.now i }
+    pub fn get(&self, place: usize) -> Option<(usize, u32)>
+        ensures { result ≡ slice_get self.now place }
     {
-        if i < self.len {
-            Some(self.levels[i])
+        if place < self.len {
+            Some(self.levels[place])
         } else {
             None
         }

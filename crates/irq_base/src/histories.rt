@@ -62,16 +62,16 @@ impl History {
     }
 
     /// Adds the entry at the end of a history with room for it. It takes no memory.
-    pub fn push(&mut self, e: Entry)
+    pub fn push(&mut self, entry: Entry)
         requires { 1 ≤ self.old.spare }
-        ensures entries { self.new.entries ≡ self.old.entries ++ e ∷ [] }
+        ensures entries { self.new.entries ≡ self.old.entries ++ entry ∷ [] }
         ensures spare { self.old.spare ≤ self.new.spare + 1 }
     {
-        match Packed::pack(e) {
+        match Packed::pack(entry) {
             Some(word) => self.words.push_reserved(word),
             None => {
                 let word = next_wide(&self.wide);
-                self.wide.push_reserved(e);
+                self.wide.push_reserved(entry);
                 self.words.push_reserved(word);
             }
         }
@@ -92,10 +92,10 @@ impl History {
     }
 
     /// The entry at the place, counted from 0; none from the length on.
-    pub fn get(&self, i: usize) -> Option<Entry>
-        ensures { result ≡ slice_get self.now.entries i }
+    pub fn get(&self, place: usize) -> Option<Entry>
+        ensures { result ≡ slice_get self.now.entries place }
     {
-        let word = *self.words.get(i)?;
+        let word = *self.words.get(place)?;
         Some(word.unpack(&self.wide))
     }
 

@@ -54,10 +54,10 @@ impl<T: Copy> ItemList<T> {
     }
 
     /// The item at the place, counted from 0; none from the length on.
-    pub fn get(&self, i: usize) -> Option<T>
-        ensures { result ≡ slice_get self.now i }
+    pub fn get(&self, place: usize) -> Option<T>
+        ensures { result ≡ slice_get self.now place }
     {
-        self.items.get(i).copied()
+        self.items.get(place).copied()
     }
 
     /// The same list once more, in memory of its own. The only error is `NoMemory`.

@@ -63,13 +63,13 @@ impl Packed {
     }
 
     /// The word of an entry whose numbers are small enough; none of any other.
-    pub fn pack(e: Entry) -> Option<Packed>
-        ensures narrow { is_some result ≡ is_narrow e }
+    pub fn pack(entry: Entry) -> Option<Packed>
+        ensures narrow { is_some result ≡ is_narrow entry }
         ensures tag { IfSome result (λ w. is_wide w ≡ false) }
-        ensures back { IfSome result (λ w. (wide : List Entry) → unpack wide w ≡ e) }
+        ensures back { IfSome result (λ w. (wide : List Entry) → unpack wide w ≡ entry) }
     {
-        if is_narrow(e) {
-            return Some(Packed::of_parts(Parts::of_entry(e)));
+        if is_narrow(entry) {
+            return Some(Packed::of_parts(Parts::of_entry(entry)));
         }
         None
     }

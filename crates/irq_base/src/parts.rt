@@ -73,14 +73,14 @@ impl Parts {
 
     /// The parts that stand for the entry.
     #[tactic(auto, unfolding(crate::specs::Packed::entry_of, crate::specs::Packed::cpu_entry, crate::specs::Packed::thread_entry))]
-    pub fn of_entry(e: Entry) -> Parts
-        requires { is_narrow e ≡ true }
+    pub fn of_entry(entry: Entry) -> Parts
+        requires { is_narrow entry ≡ true }
         ensures tag { result.tag < 31 }
         ensures code { result.code < 256 }
         ensures first { result.first < 65536 }
-        ensures entry { entry_of result ≡ e }
+        ensures entry { entry_of result ≡ entry }
     {
-        match e {
+        match entry {
             Entry::Take { cpu, way, answer } => Parts::new(TAKE, take_code(way, answer), cpu.0, 0),
             Entry::Begin { cpu, dev } => Parts::new(BEGIN, 0, cpu.0, dev.0),
             Entry::Return {
@@ -101,21 +101,21 @@ impl Parts {
                 Parts::new(FINISH, finish_code(kept, unmask), dev.0, 0)
             }
             Entry::Done { dev } => Parts::new(DONE, 0, dev.0, 0),
-            _ => Parts::of_driver(e),
+            _ => Parts::of_driver(entry),
         }
     }
 
     #[tactic(auto, unfolding(crate::specs::Packed::driver_entry))]
-    fn of_driver(e: Entry) -> Parts
-        requires driver { is_of_driver e ≡ true }
-        requires narrow { is_narrow e ≡ true }
+    fn of_driver(entry: Entry) -> Parts
+        requires driver { is_of_driver entry ≡ true }
+        requires narrow { is_narrow entry ≡ true }
         ensures from { 8 ≤ result.tag }
         ensures below { result.tag < 31 }
         ensures code { result.code < 256 }
         ensures first { result.first < 65536 }
-        ensures entry { driver_entry result ≡ e }
+        ensures entry { driver_entry result ≡ entry }
     {
-        match e {
+        match entry {
             Entry::Ask { driver, dev } => Parts::new(ASK, 0, driver.0, dev.0),
             Entry::Disable { driver } => Parts::new(DISABLE, 0, driver.0, 0),
             Entry::HardClear { driver } => Parts::new(HARD_CLEAR, 0, driver.0, 0),
@@ -257,22 +257,11 @@ impl Parts {
     }
 }
 
-#[tactic(auto, unfolding(crate::specs::Packed::flags_at))]
-fn flags_at(n: u32) -> Flags
-    ensures { result ≡ flags_at n }
-{
-    Flags {
-        shared: flag_at(n % 2),
-        oneshot: flag_at(n / 2 % 2),
-        noauto: flag_at(n / 4),
-    }
-}
-
 /// Whether the numbers of the entry fit into the parts of a word.
-pub fn is_narrow(e: Entry) -> bool
-    ensures { result ≡ is_narrow e }
+pub fn is_narrow(entry: Entry) -> bool
+    ensures { result ≡ is_narrow entry }
 {
-    match e {
+    match entry {
         Entry::Take { cpu, .. } | Entry::End { cpu, .. } => is_narrow_cpu(cpu),
         Entry::Begin { cpu, dev } | Entry::Return { cpu, dev, .. } => {
             is_narrow_cpu(cpu) && is_narrow_dev(dev)
@@ -291,6 +280,17 @@ pub fn is_narrow(e: Entry) -> bool
         | Entry::Enable { driver, .. }
         | Entry::Affinity { driver, .. }
         | Entry::Moment { driver, .. } => is_narrow_driver(driver),
+    }
+}
+
+#[tactic(auto, unfolding(crate::specs::Packed::flags_at))]
+fn flags_at(n: u32) -> Flags
+    ensures { result ≡ flags_at n }
+{
+    Flags {
+        shared: flag_at(n % 2),
+        oneshot: flag_at(n / 2 % 2),
+        noauto: flag_at(n / 4),
     }
 }
 

@@ -86,10 +86,10 @@ impl Reports {
     }
 
     /// The report at the place, counted from 0; none from the length on.
-    pub fn get(&self, i: usize) -> Option<&LineReport>
-        ensures { option_copied result ≡ slice_get self.now.reports i }
+    pub fn get(&self, place: usize) -> Option<&LineReport>
+        ensures { option_copied result ≡ slice_get self.now.reports place }
     {
-        self.reports.get(i)
+        self.reports.get(place)
     }
 }
 
@@ -142,18 +142,18 @@ impl Logs {
     }
 
     /// The history at the place, counted from 0; none from the length on.
-    pub fn get(&self, i: usize) -> Option<&History>
-        ensures { option_copied result ≡ slice_get self.now i }
+    pub fn get(&self, place: usize) -> Option<&History>
+        ensures { option_copied result ≡ slice_get self.now place }
     {
-        self.histories.get(i)
+        self.histories.get(place)
     }
 
     /// The history at a place below the length, to be written. All others stay.
-    pub fn history_mut(&mut self, i: usize) -> &mut History
-        requires { i < length self.old }
-        ensures* writes_back { sem 𝓛 (Lends logs_row history_row self.entry result (slice_set self.old i)) }
-        ensures value { slice_get self.old i ≡ Some result.now }
+    pub fn history_mut(&mut self, place: usize) -> &mut History
+        requires { place < length self.old }
+        ensures* writes_back { sem 𝓛 (Lends logs_row history_row self.entry result (slice_set self.old place)) }
+        ensures value { slice_get self.old place ≡ Some result.now }
     {
-        &mut self.histories[i]
+        &mut self.histories[place]
     }
 }

@@ -43,6 +43,28 @@ impl Form {
     }
 }
 
+/// The definition of such a line with so many asks.
+pub fn definition(alloc: Global, form: Form, asks: u32) -> Result<LineDef, NoMemory> {
+    let edge = form == Form::Edge;
+    Ok(LineDef {
+        line: LINE,
+        flow: form.flow(),
+        trigger: if edge { Trigger::Edge } else { Trigger::Level },
+        keeps: edge,
+        recalls: edge,
+        retriggers: edge,
+        unlazy: false,
+        later: false,
+        mask: 1,
+        cpus: 1,
+        window: 100_000,
+        limit: 99_900,
+        log: 1_000_000,
+        devices: devices(alloc, form)?,
+        calls: calls(alloc, form, asks)?,
+    })
+}
+
 fn devices(alloc: Global, form: Form) -> Result<DeviceList, NoMemory> {
     let kind = if form == Form::Oneshot {
         Kind::Null
@@ -75,26 +97,4 @@ fn calls(alloc: Global, form: Form, asks: u32) -> Result<CallList, NoMemory> {
         calls.push((DRIVER, Call::Ask { dev }))?;
     }
     Ok(calls)
-}
-
-/// The definition of such a line with so many asks.
-pub fn definition(alloc: Global, form: Form, asks: u32) -> Result<LineDef, NoMemory> {
-    let edge = form == Form::Edge;
-    Ok(LineDef {
-        line: LINE,
-        flow: form.flow(),
-        trigger: if edge { Trigger::Edge } else { Trigger::Level },
-        keeps: edge,
-        recalls: edge,
-        retriggers: edge,
-        unlazy: false,
-        later: false,
-        mask: 1,
-        cpus: 1,
-        window: 100_000,
-        limit: 99_900,
-        log: 1_000_000,
-        devices: devices(alloc, form)?,
-        calls: calls(alloc, form, asks)?,
-    })
 }

@@ -5,19 +5,6 @@ ghost use Rattle.irq_model.specs.Kinds.{is_linked_request};
 use irq_base::{Chip, Entry, History, LinkAnswer, NoMemory};
 use line_state::LineState;
 
-/// Whether the entry links an action.
-fn is_linked_request(entry: &Entry) -> bool
-    ensures { result ≡ is_linked_request entry.now }
-{
-    matches!(
-        *entry,
-        Entry::Request {
-            answer: LinkAnswer::Linked,
-            ..
-        }
-    )
-}
-
 /// Makes room for the action of a request that is linked, and for one more entry. The room for the
 /// action comes first: if the other is refused, nothing of the history has changed.
 pub(crate) fn make_room<C: Chip>(
@@ -40,4 +27,17 @@ pub(crate) fn make_room<C: Chip>(
         history.reserve(1)?;
     }
     Ok(())
+}
+
+/// Whether the entry links an action.
+fn is_linked_request(entry: &Entry) -> bool
+    ensures { result ≡ is_linked_request entry.now }
+{
+    matches!(
+        *entry,
+        Entry::Request {
+            answer: LinkAnswer::Linked,
+            ..
+        }
+    )
 }

@@ -36,6 +36,23 @@ impl Running {
     }
 }
 
+/// The run that the entry ends, unless what was handed in is its answer.
+pub(crate) fn unanswered<C: Chip>(
+    def: &LineDef,
+    state: &LineState<C>,
+    entry: &Entry,
+    said: &Option<Said>,
+) -> Option<Running>
+    ensures some { IfSome result (λ run. (run_by def.now state.now.state entry.now ≡ Some run) × (IsSaidFor said.now run → ⊥)) }
+    ensures none { result ≡ None → IfSome (run_by def.now state.now.state entry.now) (IsSaidFor said.now) }
+{
+    let run = run_by(def, state, entry)?;
+    if run.is_answered(said) {
+        return None;
+    }
+    Some(run)
+}
+
 /// The line's device of that number.
 fn device<C: Chip>(def: &LineDef, state: &LineState<C>, dev: DevNo) -> DeviceDef
     ensures { result ≡ device_by def.now state.now.state dev }
@@ -64,21 +81,4 @@ fn run_by<C: Chip>(def: &LineDef, state: &LineState<C>, entry: &Entry) -> Option
         }),
         _ => None,
     }
-}
-
-/// The run that the entry ends, unless what was handed in is its answer.
-pub(crate) fn unanswered<C: Chip>(
-    def: &LineDef,
-    state: &LineState<C>,
-    entry: &Entry,
-    said: &Option<Said>,
-) -> Option<Running>
-    ensures some { IfSome result (λ run. (run_by def.now state.now.state entry.now ≡ Some run) × (IsSaidFor said.now run → ⊥)) }
-    ensures none { result ≡ None → IfSome (run_by def.now state.now.state entry.now) (IsSaidFor said.now) }
-{
-    let run = run_by(def, state, entry)?;
-    if run.is_answered(said) {
-        return None;
-    }
-    Some(run)
 }

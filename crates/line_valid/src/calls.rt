@@ -9,11 +9,11 @@ use irq_base::{Call, CallList, DevNo, DeviceList, DriverNo, LineDef};
 
 /// The call at that place.
 #[tactic(auto, using(irq_model::proofs::Lists::next_item))]
-fn call_at(calls: &CallList, i: usize) -> (DriverNo, Call)
-    requires { i < length calls.now }
-    ensures { drop i calls.now ≡ result ∷ drop (i + 1) calls.now }
+fn call_at(calls: &CallList, place: usize) -> (DriverNo, Call)
+    requires { place < length calls.now }
+    ensures { drop place calls.now ≡ result ∷ drop (place + 1) calls.now }
 {
-    match calls.get(i) {
+    match calls.get(place) {
         Some(call) => call,
         None => unreachable!(),
     }

@@ -7,18 +7,6 @@ ghost use Rattle.line_valid.specs.Deciding.{has_distinct};
 
 use irq_base::{DevNo, DeviceDef, DeviceList, LineDef};
 
-/// The device at that place.
-#[tactic(auto, using(irq_model::proofs::Lists::next_item))]
-fn device_at(devices: &DeviceList, i: usize) -> DeviceDef
-    requires { i < length devices.now }
-    ensures { drop i devices.now ≡ result ∷ drop (i + 1) devices.now }
-{
-    match devices.get(i) {
-        Some(device) => device,
-        None => unreachable!(),
-    }
-}
-
 /// Whether all devices are the line's own.
 pub(crate) fn all_on_line(def: &LineDef) -> bool
     ensures { result ≡ list_all (λ x. same_line x.line def.now.line) def.now.devices }
@@ -53,4 +41,16 @@ pub(crate) fn has_distinct(devices: &DeviceList) -> bool
         }
     }
     true
+}
+
+/// The device at that place.
+#[tactic(auto, using(irq_model::proofs::Lists::next_item))]
+fn device_at(devices: &DeviceList, place: usize) -> DeviceDef
+    requires { place < length devices.now }
+    ensures { drop place devices.now ≡ result ∷ drop (place + 1) devices.now }
+{
+    match devices.get(place) {
+        Some(device) => device,
+        None => unreachable!(),
+    }
 }

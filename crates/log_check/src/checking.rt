@@ -70,15 +70,18 @@ fn judge_at<L: IrqLine, M: MakesLine<L>>(
     layout: &Layout,
     logs: &Logs,
     maker: &M,
-    i: usize,
+    place: usize,
 ) -> Result<Option<u32>, NoMemory>
     requires makes { (virq : ℕ) (def : LineDef) → IsValid def → M.makes maker.now virq def }
     requires layout { layout.now ≡ layout_of board.now }
     requires few { All (λ h. length h.entries ≤ 100000000) logs.now }
-    ensures { IfOk result (λ first. JudgedAt board.now logs.now i first) }
+    ensures { IfOk result (λ first. JudgedAt board.now logs.now place first) }
 {
-    let (Some(row), Some(placement), Some(history)) = (board.line(i), layout.get(i), logs.get(i))
-    else {
+    let (Some(row), Some(placement), Some(history)) = (
+        board.line(place),
+        layout.get(place),
+        logs.get(place),
+    ) else {
         // there is no such line
         return Ok(None);
     };

@@ -252,8 +252,8 @@ fn two_lines(alloc: Global) -> Option<Board> {
     if made { Some(board) } else { None }
 }
 
-fn len_at(logs: &Logs, i: usize) -> usize {
-    logs.get(i).map_or(0, |history| history.len())
+fn len_at(logs: &Logs, place: usize) -> usize {
+    logs.get(place).map_or(0, |history| history.len())
 }
 
 fn lengths(alloc: Global, board: &Board, text: &[u8]) -> Result<(usize, usize), LogRefused> {

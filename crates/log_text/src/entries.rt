@@ -18,23 +18,23 @@ use text_row::TextRow;
 ///
 /// The format has no row for a refused request that opened the line, nor for a mask refused as
 /// busy.
-pub fn entry_row(row: &mut TextRow, line: LineNo, e: &Entry)
-    requires { IsPrintable e.now }
-    ensures { row.new ≡ entry_text line e.now }
+pub fn entry_row(row: &mut TextRow, line: LineNo, entry: &Entry)
+    requires { IsPrintable entry.now }
+    ensures { row.new ≡ entry_text line entry.now }
 {
     row.clear();
     row.push_number(line.0);
-    push_entry(row, e);
+    push_entry(row, entry);
     row.push(b'\n');
 }
 
 // Adds the words of the entry.
-fn push_entry(row: &mut TextRow, e: &Entry)
+fn push_entry(row: &mut TextRow, entry: &Entry)
     requires { length row.old ≤ 10 }
-    ensures text { row.new ≡ row.old ++ spaced (entry_words e.now) }
+    ensures text { row.new ≡ row.old ++ spaced (entry_words entry.now) }
     ensures short { length row.new ≤ 100 }
 {
-    match *e {
+    match *entry {
         Entry::Take { cpu, way, answer } => push_take(row, cpu, way, answer),
         Entry::Begin { cpu, dev } => push_begin(row, cpu, dev),
         Entry::Return {
@@ -53,18 +53,18 @@ fn push_entry(row: &mut TextRow, e: &Entry)
         Entry::ThreadReturn { dev, served } => push_thread_return(row, dev, served),
         Entry::Finish { dev, kept, unmask } => push_finish(row, dev, kept, unmask),
         Entry::Done { dev } => push_thread_verb(row, dev, b"done"),
-        _ => push_driver_entry(row, e),
+        _ => push_driver_entry(row, entry),
     }
 }
 
 // Adds the words of an entry that a driver made.
-fn push_driver_entry(row: &mut TextRow, e: &Entry)
+fn push_driver_entry(row: &mut TextRow, entry: &Entry)
     requires room { length row.old ≤ 10 }
-    requires driver { IsByDriver e.now }
-    ensures text { row.new ≡ row.old ++ spaced (entry_words e.now) }
+    requires driver { IsByDriver entry.now }
+    ensures text { row.new ≡ row.old ++ spaced (entry_words entry.now) }
     ensures short { length row.new ≤ 100 }
 {
-    match *e {
+    match *entry {
         Entry::Ask { driver, dev } => push_ask(row, driver, dev),
         Entry::Disable { driver } => push_driver_verb(row, driver, b"disable"),
         Entry::HardClear { driver } => push_driver_verb(row, driver, b"hardclear"),

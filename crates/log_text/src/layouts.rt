@@ -15,16 +15,16 @@ use text_row::TextRow;
 /// refused` and why. It begins with `#`, so no reader of a log takes it for an entry. What the row
 /// held before is gone.
 #[tactic(auto, using(crate::proofs::Levels::short_at, crate::proofs::Levels::row_is))]
-pub fn layout_row(row: &mut TextRow, layout: &Layout, board: &Board, i: usize)
-    requires line { i < length board.now.lines }
+pub fn layout_row(row: &mut TextRow, layout: &Layout, board: &Board, place: usize)
+    requires line { place < length board.now.lines }
     requires layout { layout.now ≡ layout_of board.now }
-    ensures { row.new ≡ layout_row_text board.now i }
+    ensures { row.new ≡ layout_row_text board.now place }
 {
     board.is_board();
-    let Some(line) = board.line(i) else {
+    let Some(line) = board.line(place) else {
         unreachable!();
     };
-    let Some(placement) = layout.get(i) else {
+    let Some(placement) = layout.get(place) else {
         unreachable!();
     };
     row.clear();

@@ -79,11 +79,11 @@ fn lowest_thread(alloc: Global, def: &LineDef, past: &[Entry]) -> Result<Option<
 
 /// The device at that place of the line's devices.
 #[tactic(auto, using(irq_model::proofs::Lists::next_item))]
-fn device_at(def: &LineDef, i: usize) -> DeviceDef
-    requires { i < length def.now.devices }
-    ensures { drop i def.now.devices ≡ result ∷ drop (i + 1) def.now.devices }
+fn device_at(def: &LineDef, place: usize) -> DeviceDef
+    requires { place < length def.now.devices }
+    ensures { drop place def.now.devices ≡ result ∷ drop (place + 1) def.now.devices }
 {
-    match def.devices.get(i) {
+    match def.devices.get(place) {
         Some(device) => device,
         None => unreachable!(),
     }

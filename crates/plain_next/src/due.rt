@@ -10,25 +10,58 @@ use crate::places::stands;
 use irq_base::{Call, CallList, DevNo, DriverNo, Entry, LineDef, NoMemory, UnlinkAnswer};
 use std::alloc::Global;
 
+/// The first call of the driver that isn't complete, and how many of its entries are there.
+pub fn due_call(
+    alloc: Global,
+    def: &LineDef,
+    driver: DriverNo,
+    past: &[Entry],
+) -> Result<Option<(Call, usize)>, NoMemory>
+    ensures { IfOk result (λ due. due ≡ due_call def.now driver past.now) }
+{
+    let entries = entries_by(alloc, driver, past)?;
+    Ok(due_of(&def.calls, driver, &entries))
+}
+
+/// The request mutex is held, from an unlink to its driver's end of the free.
+pub fn holds_mutex(past: &[Entry]) -> bool
+    ensures { result ≡ holds_mutex past.now }
+{
+    for i in 0..past.len() {
+        let (after, upto) = past.split_at(i);
+        if is_being_freed_at(after, upto) {
+            return true;
+        }
+    }
+    false
+}
+
+/// The device was unlinked, and its free isn't complete.
+pub fn is_being_freed(past: &[Entry], dev: DevNo) -> bool
+    ensures { result ≡ is_being_freed past.now dev }
+{
+    stands(past, |e| unlinks_dev(dev, e), |e| is_freed(dev, e))
+}
+
 /// The call at a place of the list, with its driver.
 #[tactic(auto, using(irq_model::proofs::Lists::next_item))]
-fn call_at(calls: &CallList, i: usize) -> (DriverNo, Call)
-    requires { i < length calls.now }
-    ensures { drop i calls.now ≡ result ∷ drop (i + 1) calls.now }
+fn call_at(calls: &CallList, place: usize) -> (DriverNo, Call)
+    requires { place < length calls.now }
+    ensures { drop place calls.now ≡ result ∷ drop (place + 1) calls.now }
 {
-    match calls.get(i) {
+    match calls.get(place) {
         Some(call) => call,
         None => unreachable!(),
     }
 }
 
 /// The driver's entries, the oldest first.
-fn entries_by(alloc: Global, r: DriverNo, past: &[Entry]) -> Result<Vec<Entry>, NoMemory>
-    ensures { IfOk result (λ entries. entries.items ≡ entries_by r past.now) }
+fn entries_by(alloc: Global, driver: DriverNo, past: &[Entry]) -> Result<Vec<Entry>, NoMemory>
+    ensures { IfOk result (λ entries. entries.items ≡ entries_by driver past.now) }
 {
     let mut entries = Vec::new(alloc);
     for i in (0..past.len()).rev() {
-        if is_by_driver(r, past[i]) {
+        if is_by_driver(driver, past[i]) {
             entries.push(past[i])?;
         }
     }
@@ -60,27 +93,15 @@ fn entries_of_call(call: Call, entries: &[Entry]) -> usize
     }
 }
 
-/// The first call of the driver that isn't complete, and how many of its entries are there.
-pub fn due_call(
-    alloc: Global,
-    def: &LineDef,
-    r: DriverNo,
-    past: &[Entry],
-) -> Result<Option<(Call, usize)>, NoMemory>
-    ensures { IfOk result (λ due. due ≡ due_call def.now r past.now) }
-{
-    let entries = entries_by(alloc, r, past)?;
-    Ok(due_of(&def.calls, r, &entries))
-}
-
-/// The same, given the driver's entries.
-fn due_of(calls: &CallList, r: DriverNo, entries: &[Entry]) -> Option<(Call, usize)>
-    ensures { result ≡ due_of (calls_by r calls.now) entries.now }
+/// The driver's first call that isn't complete, and how many of its entries are there, given the
+/// driver's entries.
+fn due_of(calls: &CallList, driver: DriverNo, entries: &[Entry]) -> Option<(Call, usize)>
+    ensures { result ≡ due_of (calls_by driver calls.now) entries.now }
 {
     let mut left = entries;
     for i in 0..calls.len() {
-        let (driver, call) = call_at(calls, i);
-        if r == driver {
+        let (other, call) = call_at(calls, i);
+        if driver == other {
             let needed = entries_of_call(call, left);
             if left.len() < needed {
                 return Some((call, left.len()));
@@ -92,10 +113,10 @@ fn due_of(calls: &CallList, r: DriverNo, entries: &[Entry]) -> Option<(Call, usi
 }
 
 /// A free of the driver is at its end among these.
-fn has_freed(entries: &[Entry], r: DriverNo) -> bool
-    ensures { result ≡ list_any (is_freed_by r) entries.now }
+fn has_freed(entries: &[Entry], driver: DriverNo) -> bool
+    ensures { result ≡ list_any (is_freed_by driver) entries.now }
 {
-    entries.iter().any(|e| is_freed_by(r, *e))
+    entries.iter().any(|e| is_freed_by(driver, *e))
 }
 
 /// The newest entry of `upto` unlinked a device, and its driver's free isn't complete.
@@ -112,24 +133,4 @@ fn is_being_freed_at(after: &[Entry], upto: &[Entry]) -> bool
         ) => !has_freed(after, driver),
         _ => false,
     }
-}
-
-/// The request mutex is held, from an unlink to its driver's end of the free.
-pub fn holds_mutex(past: &[Entry]) -> bool
-    ensures { result ≡ holds_mutex past.now }
-{
-    for i in 0..past.len() {
-        let (after, upto) = past.split_at(i);
-        if is_being_freed_at(after, upto) {
-            return true;
-        }
-    }
-    false
-}
-
-/// The device was unlinked, and its free isn't complete.
-pub fn is_being_freed(past: &[Entry], d: DevNo) -> bool
-    ensures { result ≡ is_being_freed past.now d }
-{
-    stands(past, |e| unlinks_dev(d, e), |e| is_freed(d, e))
 }

@@ -9,12 +9,26 @@ use crate::masks::is_masked;
 use irq_base::{Entry, LineDef, NoMemory};
 use std::alloc::Global;
 
+/// Some edge is presented to the processors.
+pub fn is_sent(alloc: Global, def: &LineDef, past: &[Entry]) -> Result<bool, NoMemory>
+    ensures { IfOk result (λ sent. sent ≡ is_sent def.now past.now) }
+{
+    let masked = mask_table(alloc, def, past)?;
+    for place in 0..past.len() {
+        if is_presented(def, past, &masked, place) {
+            return Ok(true);
+        }
+    }
+    Ok(false)
+}
+
 /// An entry at which an edge comes: an ask, a start that the chip resends, and on the fast-EOI flow
 /// an end that retriggers.
-fn is_edge(def: &LineDef, e: Entry) -> bool
-    ensures { result ≡ is_edge def.now e }
+fn is_edge(def: &LineDef, entry: Entry) -> bool
+    ensures { result ≡ is_edge def.now entry }
 {
-    is_edge_line(def) && (is_any_ask(e) || is_chip_start(e) || (is_eoi_flow(def) && is_again(e)))
+    is_edge_line(def)
+        && (is_any_ask(entry) || is_chip_start(entry) || (is_eoi_flow(def) && is_again(entry)))
 }
 
 /// Whether the line is masked at each place: item `i` is of `past[i..]`, and the last one of the
@@ -95,17 +109,4 @@ fn is_presented(def: &LineDef, past: &[Entry], masked: &[bool], place: usize) ->
     ensures { result ≡ (is_alive def.now (take place past.now) (drop place past.now) && is_sent_edge def.now (take place past.now) (drop place past.now)) }
 {
     is_alive(def, past, masked, place) && is_sent_edge(def, past, masked, place)
-}
-
-/// Some edge is presented to the processors.
-pub fn is_sent(alloc: Global, def: &LineDef, past: &[Entry]) -> Result<bool, NoMemory>
-    ensures { IfOk result (λ sent. sent ≡ is_sent def.now past.now) }
-{
-    let masked = mask_table(alloc, def, past)?;
-    for place in 0..past.len() {
-        if is_presented(def, past, &masked, place) {
-            return Ok(true);
-        }
-    }
-    Ok(false)
 }

@@ -9,46 +9,46 @@ use irq_base::{
 };
 
 /// A device asks for service.
-pub fn is_any_ask(e: Entry) -> bool
-    ensures { result ≡ is_any_ask e }
+pub fn is_any_ask(entry: Entry) -> bool
+    ensures { result ≡ is_any_ask entry }
 {
-    matches!(e, Entry::Ask { .. })
+    matches!(entry, Entry::Ask { .. })
 }
 
 /// The device asks for service.
-pub fn is_ask(d: DevNo, e: Entry) -> bool
-    ensures { result ≡ is_ask d e }
+pub fn is_ask(dev: DevNo, entry: Entry) -> bool
+    ensures { result ≡ is_ask dev entry }
 {
-    matches!(e, Entry::Ask { dev, .. } if d == dev)
+    matches!(entry, Entry::Ask { dev: other, .. } if dev == other)
 }
 
 /// The device's handler begins.
-pub fn is_begin(d: DevNo, e: Entry) -> bool
-    ensures { result ≡ is_begin d e }
+pub fn is_begin(dev: DevNo, entry: Entry) -> bool
+    ensures { result ≡ is_begin dev entry }
 {
-    matches!(e, Entry::Begin { dev, .. } if d == dev)
+    matches!(entry, Entry::Begin { dev: other, .. } if dev == other)
 }
 
 /// The device's handler returns.
-pub fn is_return(d: DevNo, e: Entry) -> bool
-    ensures { result ≡ is_return d e }
+pub fn is_return(dev: DevNo, entry: Entry) -> bool
+    ensures { result ≡ is_return dev entry }
 {
-    matches!(e, Entry::Return { dev, .. } if d == dev)
+    matches!(entry, Entry::Return { dev: other, .. } if dev == other)
 }
 
 /// A handler begins or returns.
-pub fn is_begin_or_return(e: Entry) -> bool
-    ensures { result ≡ is_begin_or_return e }
+pub fn is_begin_or_return(entry: Entry) -> bool
+    ensures { result ≡ is_begin_or_return entry }
 {
-    matches!(e, Entry::Begin { .. } | Entry::Return { .. })
+    matches!(entry, Entry::Begin { .. } | Entry::Return { .. })
 }
 
 /// A handler returns and wakes its thread.
-pub fn returns_wake(e: Entry) -> bool
-    ensures { result ≡ returns_wake e }
+pub fn returns_wake(entry: Entry) -> bool
+    ensures { result ≡ returns_wake entry }
 {
     matches!(
-        e,
+        entry,
         Entry::Return {
             answer: Answer::Wake,
             ..
@@ -57,11 +57,11 @@ pub fn returns_wake(e: Entry) -> bool
 }
 
 /// A handler returns and has handled.
-pub fn returns_handled(e: Entry) -> bool
-    ensures { result ≡ returns_handled e }
+pub fn returns_handled(entry: Entry) -> bool
+    ensures { result ≡ returns_handled entry }
 {
     matches!(
-        e,
+        entry,
         Entry::Return {
             answer: Answer::Handled,
             ..
@@ -70,60 +70,60 @@ pub fn returns_handled(e: Entry) -> bool
 }
 
 /// The device's handler returns and wakes its thread.
-pub fn wakes(d: DevNo, e: Entry) -> bool
-    ensures { result ≡ wakes d e }
+pub fn wakes(dev: DevNo, entry: Entry) -> bool
+    ensures { result ≡ wakes dev entry }
 {
-    matches!(e, Entry::Return { dev, answer: Answer::Wake, .. } if d == dev)
+    matches!(entry, Entry::Return { dev: other, answer: Answer::Wake, .. } if dev == other)
 }
 
 /// The device's thread handler begins.
-pub fn is_thread_begin(d: DevNo, e: Entry) -> bool
-    ensures { result ≡ is_thread_begin d e }
+pub fn is_thread_begin(dev: DevNo, entry: Entry) -> bool
+    ensures { result ≡ is_thread_begin dev entry }
 {
-    matches!(e, Entry::ThreadBegin { dev } if d == dev)
+    matches!(entry, Entry::ThreadBegin { dev: other } if dev == other)
 }
 
 /// The device's thread handler returns.
-pub fn is_thread_return(d: DevNo, e: Entry) -> bool
-    ensures { result ≡ is_thread_return d e }
+pub fn is_thread_return(dev: DevNo, entry: Entry) -> bool
+    ensures { result ≡ is_thread_return dev entry }
 {
-    matches!(e, Entry::ThreadReturn { dev, .. } if d == dev)
+    matches!(entry, Entry::ThreadReturn { dev: other, .. } if dev == other)
 }
 
 /// The device's thread finishes its one-shot run.
-pub fn is_finish(d: DevNo, e: Entry) -> bool
-    ensures { result ≡ is_finish d e }
+pub fn is_finish(dev: DevNo, entry: Entry) -> bool
+    ensures { result ≡ is_finish dev entry }
 {
-    matches!(e, Entry::Finish { dev, .. } if d == dev)
+    matches!(entry, Entry::Finish { dev: other, .. } if dev == other)
 }
 
 /// The device's thread gives its bit up.
-pub fn is_cleared_finish(d: DevNo, e: Entry) -> bool
-    ensures { result ≡ is_cleared_finish d e }
+pub fn is_cleared_finish(dev: DevNo, entry: Entry) -> bool
+    ensures { result ≡ is_cleared_finish dev entry }
 {
-    matches!(e, Entry::Finish { dev, kept: false, .. } if d == dev)
+    matches!(entry, Entry::Finish { dev: other, kept: false, .. } if dev == other)
 }
 
 /// The device's thread is done with its run.
-pub fn is_done(d: DevNo, e: Entry) -> bool
-    ensures { result ≡ is_done d e }
+pub fn is_done(dev: DevNo, entry: Entry) -> bool
+    ensures { result ≡ is_done dev entry }
 {
-    matches!(e, Entry::Done { dev } if d == dev)
+    matches!(entry, Entry::Done { dev: other } if dev == other)
 }
 
 /// A processor takes an interrupt.
-pub fn is_take(e: Entry) -> bool
-    ensures { result ≡ is_take e }
+pub fn is_take(entry: Entry) -> bool
+    ensures { result ≡ is_take entry }
 {
-    matches!(e, Entry::Take { .. })
+    matches!(entry, Entry::Take { .. })
 }
 
 /// A processor takes a software resend.
-pub fn is_resend_take(e: Entry) -> bool
-    ensures { result ≡ is_resend_take e }
+pub fn is_resend_take(entry: Entry) -> bool
+    ensures { result ≡ is_resend_take entry }
 {
     matches!(
-        e,
+        entry,
         Entry::Take {
             way: Way::Resend,
             ..
@@ -132,11 +132,11 @@ pub fn is_resend_take(e: Entry) -> bool
 }
 
 /// A take whose handlers are to run.
-pub fn is_handle(e: Entry) -> bool
-    ensures { result ≡ is_handle e }
+pub fn is_handle(entry: Entry) -> bool
+    ensures { result ≡ is_handle entry }
 {
     matches!(
-        e,
+        entry,
         Entry::Take {
             answer: TakeAnswer::Handle,
             ..
@@ -145,11 +145,11 @@ pub fn is_handle(e: Entry) -> bool
 }
 
 /// A take that found a flow in progress.
-pub fn is_busy(e: Entry) -> bool
-    ensures { result ≡ is_busy e }
+pub fn is_busy(entry: Entry) -> bool
+    ensures { result ≡ is_busy entry }
 {
     matches!(
-        e,
+        entry,
         Entry::Take {
             answer: TakeAnswer::Busy,
             ..
@@ -158,11 +158,11 @@ pub fn is_busy(e: Entry) -> bool
 }
 
 /// A take that found the line disabled, or nothing linked.
-pub fn is_off(e: Entry) -> bool
-    ensures { result ≡ is_off e }
+pub fn is_off(entry: Entry) -> bool
+    ensures { result ≡ is_off entry }
 {
     matches!(
-        e,
+        entry,
         Entry::Take {
             answer: TakeAnswer::Off,
             ..
@@ -171,25 +171,25 @@ pub fn is_off(e: Entry) -> bool
 }
 
 /// An end that goes on with what came meanwhile.
-pub fn is_again(e: Entry) -> bool
-    ensures { result ≡ is_again e }
+pub fn is_again(entry: Entry) -> bool
+    ensures { result ≡ is_again entry }
 {
-    matches!(e, Entry::End { again: true, .. })
+    matches!(entry, Entry::End { again: true, .. })
 }
 
 /// An end that leaves.
-pub fn is_leave(e: Entry) -> bool
-    ensures { result ≡ is_leave e }
+pub fn is_leave(entry: Entry) -> bool
+    ensures { result ≡ is_leave entry }
 {
-    matches!(e, Entry::End { again: false, .. })
+    matches!(entry, Entry::End { again: false, .. })
 }
 
 /// An end whose note disables the line.
-pub fn is_kill(e: Entry) -> bool
-    ensures { result ≡ is_kill e }
+pub fn is_kill(entry: Entry) -> bool
+    ensures { result ≡ is_kill entry }
 {
     matches!(
-        e,
+        entry,
         Entry::End {
             note: Note::Killed,
             ..
@@ -198,21 +198,21 @@ pub fn is_kill(e: Entry) -> bool
 }
 
 /// An end or a finish that unmasks.
-pub fn is_reopening(e: Entry) -> bool
-    ensures { result ≡ is_reopening e }
+pub fn is_reopening(entry: Entry) -> bool
+    ensures { result ≡ is_reopening entry }
 {
     matches!(
-        e,
+        entry,
         Entry::End { unmask: true, .. } | Entry::Finish { unmask: true, .. }
     )
 }
 
 /// A request that was linked.
-pub fn is_linked_request(e: Entry) -> bool
-    ensures { result ≡ is_linked_request e }
+pub fn is_linked_request(entry: Entry) -> bool
+    ensures { result ≡ is_linked_request entry }
 {
     matches!(
-        e,
+        entry,
         Entry::Request {
             answer: LinkAnswer::Linked,
             ..
@@ -221,25 +221,28 @@ pub fn is_linked_request(e: Entry) -> bool
 }
 
 /// The request of the device was linked.
-pub fn links_dev(d: DevNo, e: Entry) -> bool
-    ensures { result ≡ links_dev d e }
+pub fn links_dev(dev: DevNo, entry: Entry) -> bool
+    ensures { result ≡ links_dev dev entry }
 {
-    matches!(e, Entry::Request { dev, answer: LinkAnswer::Linked, .. } if d == dev)
+    matches!(entry, Entry::Request { dev: other, answer: LinkAnswer::Linked, .. } if dev == other)
 }
 
 /// The device was unlinked.
-pub fn unlinks_dev(d: DevNo, e: Entry) -> bool
-    ensures { result ≡ unlinks_dev d e }
+pub fn unlinks_dev(dev: DevNo, entry: Entry) -> bool
+    ensures { result ≡ unlinks_dev dev entry }
 {
-    matches!(e, Entry::Unlink { dev, answer: UnlinkAnswer::Unlinked { .. }, .. } if d == dev)
+    matches!(
+        entry,
+        Entry::Unlink { dev: other, answer: UnlinkAnswer::Unlinked { .. }, .. } if dev == other
+    )
 }
 
 /// An unlink that left nothing linked.
-pub fn is_last_unlink(e: Entry) -> bool
-    ensures { result ≡ is_last_unlink e }
+pub fn is_last_unlink(entry: Entry) -> bool
+    ensures { result ≡ is_last_unlink entry }
 {
     matches!(
-        e,
+        entry,
         Entry::Unlink {
             answer: UnlinkAnswer::Unlinked { last: true },
             ..
@@ -259,10 +262,10 @@ pub fn opened_by_enable(answer: EnableAnswer) -> Opened
 }
 
 /// What an enable, or the enable within a request, made of the depth.
-fn opened_of(e: Entry) -> Opened
-    ensures { result ≡ opened_of e }
+fn opened_of(entry: Entry) -> Opened
+    ensures { result ≡ opened_of entry }
 {
-    match e {
+    match entry {
         Entry::Enable { answer, .. } => opened_by_enable(answer),
         Entry::Request { opened, .. } => opened,
         _ => Opened::No,
@@ -270,18 +273,18 @@ fn opened_of(e: Entry) -> Opened
 }
 
 /// An entry that starts the line.
-pub fn is_start(e: Entry) -> bool
-    ensures { result ≡ is_start e }
+pub fn is_start(entry: Entry) -> bool
+    ensures { result ≡ is_start entry }
 {
-    matches!(opened_of(e), Opened::Started { .. })
+    matches!(opened_of(entry), Opened::Started { .. })
 }
 
 /// A start whose resend the chip makes.
-pub fn is_chip_start(e: Entry) -> bool
-    ensures { result ≡ is_chip_start e }
+pub fn is_chip_start(entry: Entry) -> bool
+    ensures { result ≡ is_chip_start entry }
 {
     matches!(
-        opened_of(e),
+        opened_of(entry),
         Opened::Started {
             resend: Resend::Chip
         }
@@ -289,11 +292,11 @@ pub fn is_chip_start(e: Entry) -> bool
 }
 
 /// A start whose resend the software makes.
-pub fn is_soft_start(e: Entry) -> bool
-    ensures { result ≡ is_soft_start e }
+pub fn is_soft_start(entry: Entry) -> bool
+    ensures { result ≡ is_soft_start entry }
 {
     matches!(
-        opened_of(e),
+        opened_of(entry),
         Opened::Started {
             resend: Resend::Soft
         }
@@ -301,43 +304,43 @@ pub fn is_soft_start(e: Entry) -> bool
 }
 
 /// A disable.
-pub fn is_disable(e: Entry) -> bool
-    ensures { result ≡ is_disable e }
+pub fn is_disable(entry: Entry) -> bool
+    ensures { result ≡ is_disable entry }
 {
-    matches!(e, Entry::Disable { .. })
+    matches!(entry, Entry::Disable { .. })
 }
 
 /// A disable, or an end whose note disables the line.
-pub fn is_deepening(e: Entry) -> bool
-    ensures { result ≡ is_deepening e }
+pub fn is_deepening(entry: Entry) -> bool
+    ensures { result ≡ is_deepening entry }
 {
-    is_disable(e) || is_kill(e)
+    is_disable(entry) || is_kill(entry)
 }
 
 /// An enable that lowers the depth.
-pub fn is_lowering(e: Entry) -> bool
-    ensures { result ≡ is_lowering e }
+pub fn is_lowering(entry: Entry) -> bool
+    ensures { result ≡ is_lowering entry }
 {
-    matches!(opened_of(e), Opened::Lowered | Opened::Started { .. })
+    matches!(opened_of(entry), Opened::Lowered | Opened::Started { .. })
 }
 
 /// The driver made the entry.
-pub fn is_by_driver(r: DriverNo, e: Entry) -> bool
-    ensures { result ≡ is_by_driver r e }
+pub fn is_by_driver(driver: DriverNo, entry: Entry) -> bool
+    ensures { result ≡ is_by_driver driver entry }
 {
-    matches!(e.actor(LineNo(0)), Actor::Driver(driver) if r == driver)
+    matches!(entry.actor(LineNo(0)), Actor::Driver(other) if driver == other)
 }
 
 /// The driver's free of a device is at its end.
-pub fn is_freed_by(r: DriverNo, e: Entry) -> bool
-    ensures { result ≡ is_freed_by r e }
+pub fn is_freed_by(driver: DriverNo, entry: Entry) -> bool
+    ensures { result ≡ is_freed_by driver entry }
 {
-    matches!(e, Entry::Freed { driver, .. } if r == driver)
+    matches!(entry, Entry::Freed { driver: other, .. } if driver == other)
 }
 
 /// The device's free is at its end.
-pub fn is_freed(d: DevNo, e: Entry) -> bool
-    ensures { result ≡ is_freed d e }
+pub fn is_freed(dev: DevNo, entry: Entry) -> bool
+    ensures { result ≡ is_freed dev entry }
 {
-    matches!(e, Entry::Freed { dev, .. } if d == dev)
+    matches!(entry, Entry::Freed { dev: other, .. } if dev == other)
 }

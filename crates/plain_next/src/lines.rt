@@ -38,23 +38,23 @@ pub fn serves(def: &LineDef) -> bool
 
 /// The device at a place of the list.
 #[tactic(auto, using(irq_model::proofs::Lists::next_item))]
-fn device_at(devices: &DeviceList, i: usize) -> DeviceDef
-    requires { i < length devices.now }
-    ensures { drop i devices.now ≡ result ∷ drop (i + 1) devices.now }
+fn device_at(devices: &DeviceList, place: usize) -> DeviceDef
+    requires { place < length devices.now }
+    ensures { drop place devices.now ≡ result ∷ drop (place + 1) devices.now }
 {
-    match devices.get(i) {
+    match devices.get(place) {
         Some(device) => device,
         None => unreachable!(),
     }
 }
 
 /// The kind of the device in the list; one that the list lacks never serves, as a stuck one.
-fn kind_in(devices: &DeviceList, d: DevNo) -> Kind
-    ensures { result ≡ kind_in devices.now d }
+fn kind_in(devices: &DeviceList, dev: DevNo) -> Kind
+    ensures { result ≡ kind_in devices.now dev }
 {
     for i in 0..devices.len() {
         let device = device_at(devices, i);
-        if d == device.dev {
+        if dev == device.dev {
             return device.kind;
         }
     }
@@ -62,18 +62,18 @@ fn kind_in(devices: &DeviceList, d: DevNo) -> Kind
 }
 
 /// The kind of the line's device.
-pub fn kind_of(def: &LineDef, d: DevNo) -> Kind
-    ensures { result ≡ kind_of def.now d }
+pub fn kind_of(def: &LineDef, dev: DevNo) -> Kind
+    ensures { result ≡ kind_of def.now dev }
 {
-    kind_in(&def.devices, d)
+    kind_in(&def.devices, dev)
 }
 
-/// Processor `c` is in the mask.
-pub fn is_in_mask(mask: u32, c: u32) -> bool
-    requires { c < 32 }
-    ensures { result ≡ is_in_mask mask c }
+/// The processor of that number is in the mask.
+pub fn is_in_mask(mask: u32, cpu: u32) -> bool
+    requires { cpu < 32 }
+    ensures { result ≡ is_in_mask mask cpu }
 {
-    (mask >> c) & 1 == 1
+    (mask >> cpu) & 1 == 1
 }
 
 /// Some device of the line passes the test.

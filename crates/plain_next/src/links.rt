@@ -14,10 +14,10 @@ use irq_base::{DevNo, Entry, Flags, LinkAnswer, NoMemory, UnlinkAnswer};
 use std::alloc::Global;
 
 /// The device was linked, and not unlinked since.
-pub fn is_linked(past: &[Entry], d: DevNo) -> bool
-    ensures { result ≡ is_linked past.now d }
+pub fn is_linked(past: &[Entry], dev: DevNo) -> bool
+    ensures { result ≡ is_linked past.now dev }
 {
-    stands(past, |e| links_dev(d, e), |e| unlinks_dev(d, e))
+    stands(past, |e| links_dev(dev, e), |e| unlinks_dev(dev, e))
 }
 
 /// Takes the device out of the list.
@@ -72,10 +72,10 @@ pub fn is_none_linked(alloc: Global, past: &[Entry]) -> Result<bool, NoMemory>
 
 /// What one more entry makes of the linked devices: a request that is linked puts its device last,
 /// an unlink takes its device out.
-fn link_or_unlink(devices: &mut Vec<DevNo>, e: Entry) -> Result<(), NoMemory>
-    ensures { OnOk result ((past : List Entry) → devices.old.items ≡ linked past → devices.new.items ≡ linked (e ∷ past)) }
+fn link_or_unlink(devices: &mut Vec<DevNo>, entry: Entry) -> Result<(), NoMemory>
+    ensures { OnOk result ((past : List Entry) → devices.old.items ≡ linked past → devices.new.items ≡ linked (entry ∷ past)) }
 {
-    match e {
+    match entry {
         Entry::Request {
             dev,
             answer: LinkAnswer::Linked,
@@ -146,20 +146,20 @@ pub fn is_disabled(alloc: Global, past: &[Entry]) -> Result<bool, NoMemory>
 }
 
 /// The flags of a request.
-fn flags_in(e: Option<Entry>) -> Flags
-    ensures { result ≡ flags_in e }
+fn flags_in(entry: Option<Entry>) -> Flags
+    ensures { result ≡ flags_in entry }
 {
-    match e {
+    match entry {
         Some(Entry::Request { flags, .. }) => flags,
         _ => Flags::NONE,
     }
 }
 
 /// The flags with which the device was last linked.
-pub fn linking_flags(past: &[Entry], d: DevNo) -> Flags
-    ensures { result ≡ linking_flags past.now d }
+pub fn linking_flags(past: &[Entry], dev: DevNo) -> Flags
+    ensures { result ≡ linking_flags past.now dev }
 {
-    flags_in(last_of(past, |e| links_dev(d, e)))
+    flags_in(last_of(past, |e| links_dev(dev, e)))
 }
 
 /// The last request that was linked has the flag ONESHOT (`IRQS_ONESHOT`).

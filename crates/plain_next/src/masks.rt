@@ -10,14 +10,32 @@ use crate::lines::is_level_line;
 use crate::links::is_oneshot;
 use irq_base::{Entry, FlowKind, LineDef};
 
+/// No unmasking entry stands after the last masking one; the beginning counts as masking.
+pub fn is_masked(def: &LineDef, past: &[Entry]) -> bool
+    ensures { result ≡ is_masked def.now past.now }
+{
+    let mut rest = past;
+    while let Some((e, older)) = rest.split_first() {
+        if masks(def, rest) {
+            return true;
+        }
+        if unmasks(*e) {
+            return false;
+        }
+        rest = older;
+    }
+    true
+}
+
 /// A take that masks, which depends on the flow.
-fn take_masks(def: &LineDef, e: Entry, past: &[Entry]) -> bool
-    ensures { result ≡ take_masks def.now def.now.flow e past.now }
+fn take_masks(def: &LineDef, entry: Entry, past: &[Entry]) -> bool
+    ensures { result ≡ take_masks def.now def.now.flow entry past.now }
 {
     match def.flow {
-        FlowKind::Level => is_take(e),
-        FlowKind::Edge => is_busy(e) || is_off(e),
-        FlowKind::Eoi => is_off(e) || (is_handle(e) && is_level_line(def) && is_oneshot(past)),
+        FlowKind::Level => is_take(entry),
+        FlowKind::Edge => is_busy(entry) || is_off(entry),
+        FlowKind::Eoi => is_off(entry)
+            || (is_handle(entry) && is_level_line(def) && is_oneshot(past)),
     }
 }
 
@@ -36,25 +54,8 @@ fn masks(def: &LineDef, past: &[Entry]) -> bool
 }
 
 /// A start, or an end or a finish that says so.
-fn unmasks(e: Entry) -> bool
-    ensures { result ≡ unmasks e }
+fn unmasks(entry: Entry) -> bool
+    ensures { result ≡ unmasks entry }
 {
-    is_start(e) || is_reopening(e)
-}
-
-/// No unmasking entry stands after the last masking one; the beginning counts as masking.
-pub fn is_masked(def: &LineDef, past: &[Entry]) -> bool
-    ensures { result ≡ is_masked def.now past.now }
-{
-    let mut rest = past;
-    while let Some((e, older)) = rest.split_first() {
-        if masks(def, rest) {
-            return true;
-        }
-        if unmasks(*e) {
-            return false;
-        }
-        rest = older;
-    }
-    true
+    is_start(entry) || is_reopening(entry)
 }

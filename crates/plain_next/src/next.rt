@@ -8,44 +8,15 @@ use crate::next_thread::next_of_thread;
 use irq_base::{Actor, DevNo, Entry, History, LineDef, LineNo, NoMemory};
 use std::alloc::Global;
 
-/// The entry at a place of the history, the oldest first.
-#[tactic(auto, using(irq_model::proofs::Lists::next_item))]
-fn entry_at(h: &History, i: usize) -> Entry
-    requires { i < length h.now.entries }
-    ensures { drop i h.now.entries ≡ result ∷ drop (i + 1) h.now.entries }
-{
-    match h.get(i) {
-        Some(e) => e,
-        None => unreachable!(),
-    }
-}
-
 /// The entries of the history, the newest first.
-pub fn newest_first(alloc: Global, h: &History) -> Result<Vec<Entry>, NoMemory>
-    ensures { IfOk result (λ past. past.items ≡ reverse h.now.entries) }
+pub fn newest_first(alloc: Global, history: &History) -> Result<Vec<Entry>, NoMemory>
+    ensures { IfOk result (λ past. past.items ≡ reverse history.now.entries) }
 {
-    let mut past = Vec::with_capacity(alloc, h.len())?;
-    for i in (0..h.len()).rev() {
-        past.push(entry_at(h, i))?;
+    let mut past = Vec::with_capacity(alloc, history.len())?;
+    for i in (0..history.len()).rev() {
+        past.push(entry_at(history, i))?;
     }
     Ok(past)
-}
-
-/// The entry that is due for the thread of the line's device; none for a thread of another line.
-fn next_of_line_thread(
-    alloc: Global,
-    def: &LineDef,
-    line: LineNo,
-    d: DevNo,
-    past: &[Entry],
-) -> Result<Option<Entry>, NoMemory>
-    requires { length past.now ≤ 100000000 }
-    ensures { IfOk result (λ entry. entry ≡ next_past def.now past.now (Actor.Thread line d)) }
-{
-    if line != def.line {
-        return Ok(None);
-    }
-    next_of_thread(alloc, def, d, past)
 }
 
 /// The entry that is due for the actor, after a past whose newest entry comes first.
@@ -81,14 +52,43 @@ pub fn next_past(
 pub fn next_slow(
     alloc: Global,
     def: &LineDef,
-    h: &History,
+    history: &History,
     actor: Actor,
 ) -> Result<Option<Entry>, NoMemory>
-    requires few { length h.now.entries ≤ 100000000 }
+    requires few { length history.now.entries ≤ 100000000 }
     requires cpus { def.now.cpus ≤ 32 }
     requires devices { length def.now.devices ≤ 256 }
-    ensures { IfOk result (λ x. x ≡ next def.now h.now.entries actor) }
+    ensures { IfOk result (λ x. x ≡ next def.now history.now.entries actor) }
 {
-    let past = newest_first(alloc, h)?;
+    let past = newest_first(alloc, history)?;
     next_past(alloc, def, &past, actor)
+}
+
+/// The entry at a place of the history, the oldest first.
+#[tactic(auto, using(irq_model::proofs::Lists::next_item))]
+fn entry_at(history: &History, place: usize) -> Entry
+    requires { place < length history.now.entries }
+    ensures { drop place history.now.entries ≡ result ∷ drop (place + 1) history.now.entries }
+{
+    match history.get(place) {
+        Some(e) => e,
+        None => unreachable!(),
+    }
+}
+
+/// The entry that is due for the thread of the line's device; none for a thread of another line.
+fn next_of_line_thread(
+    alloc: Global,
+    def: &LineDef,
+    line: LineNo,
+    dev: DevNo,
+    past: &[Entry],
+) -> Result<Option<Entry>, NoMemory>
+    requires { length past.now ≤ 100000000 }
+    ensures { IfOk result (λ entry. entry ≡ next_past def.now past.now (Actor.Thread line dev)) }
+{
+    if line != def.line {
+        return Ok(None);
+    }
+    next_of_thread(alloc, def, dev, past)
 }

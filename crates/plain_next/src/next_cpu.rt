@@ -23,11 +23,11 @@ use std::alloc::Global;
 // ---- in the flow
 
 /// The asks that were unserved as the handler began.
-pub fn asks_of_handler(def: &LineDef, d: DevNo, past: &[Entry]) -> u32
+pub fn asks_of_handler(def: &LineDef, dev: DevNo, past: &[Entry]) -> u32
     requires { length past.now ≤ 100000000 }
-    ensures { result ≡ asks_of_handler def.now d past.now }
+    ensures { result ≡ asks_of_handler def.now dev past.now }
 {
-    unserved_asks(def, d, before(past, |e| is_begin(d, e)))
+    unserved_asks(def, dev, before(past, |e| is_begin(dev, e)))
 }
 
 /// The answer of a handler that begins with that many unserved asks.
@@ -53,15 +53,15 @@ fn served_by_handler(kind: Kind, unserved: u32) -> u32
 }
 
 /// The return of the device's handler.
-fn return_of(def: &LineDef, c: CpuNo, d: DevNo, past: &[Entry]) -> Entry
+fn return_of(def: &LineDef, cpu: CpuNo, dev: DevNo, past: &[Entry]) -> Entry
     requires { length past.now ≤ 100000000 }
-    ensures { result ≡ return_of def.now c d past.now }
+    ensures { result ≡ return_of def.now cpu dev past.now }
 {
-    let kind = kind_of(def, d);
-    let unserved = asks_of_handler(def, d, past);
+    let kind = kind_of(def, dev);
+    let unserved = asks_of_handler(def, dev, past);
     Entry::Return {
-        cpu: c,
-        dev: d,
+        cpu,
+        dev,
         answer: primary_answer(kind, unserved),
         served: served_by_handler(kind, unserved),
     }
@@ -77,11 +77,11 @@ fn is_off_now(alloc: Global, past: &[Entry], note: Note) -> Result<bool, NoMemor
 }
 
 /// The end of an edge flow.
-fn end_edge(def: &LineDef, c: CpuNo, past: &[Entry], note: Note, again: bool) -> Entry
-    ensures { result ≡ end_edge def.now c past.now note again }
+fn end_edge(def: &LineDef, cpu: CpuNo, past: &[Entry], note: Note, again: bool) -> Entry
+    ensures { result ≡ end_edge def.now cpu past.now note again }
 {
     Entry::End {
-        cpu: c,
+        cpu,
         again,
         unmask: again && is_masked(def, past),
         note,
@@ -89,11 +89,11 @@ fn end_edge(def: &LineDef, c: CpuNo, past: &[Entry], note: Note, again: bool) ->
 }
 
 /// The end of a flow that may open the line, unless a thread still holds it.
-fn end_level(def: &LineDef, c: CpuNo, past: &[Entry], note: Note, may_open: bool) -> Entry
-    ensures { result ≡ end_level def.now c past.now note may_open }
+fn end_level(def: &LineDef, cpu: CpuNo, past: &[Entry], note: Note, may_open: bool) -> Entry
+    ensures { result ≡ end_level def.now cpu past.now note may_open }
 {
     Entry::End {
-        cpu: c,
+        cpu,
         again: false,
         unmask: may_open && is_masked(def, past) && !is_some_unfinished(def, past),
         note,
@@ -105,49 +105,49 @@ fn end_level(def: &LineDef, c: CpuNo, past: &[Entry], note: Note, may_open: bool
 fn end_by_flow(
     alloc: Global,
     def: &LineDef,
-    c: CpuNo,
+    cpu: CpuNo,
     past: &[Entry],
     note: Note,
 ) -> Result<Entry, NoMemory>
     requires { length past.now ≤ 100000000 }
-    ensures { IfOk result (λ entry. entry ≡ end_by_flow def.now def.now.flow c past.now note) }
+    ensures { IfOk result (λ entry. entry ≡ end_by_flow def.now def.now.flow cpu past.now note) }
 {
     let off = is_off_now(alloc, past, note)?;
     Ok(match def.flow {
-        FlowKind::Edge => end_edge(def, c, past, note, is_pending(def, past) && !off),
-        FlowKind::Level => end_level(def, c, past, note, !off),
+        FlowKind::Edge => end_edge(def, cpu, past, note, is_pending(def, past) && !off),
+        FlowKind::Level => end_level(def, cpu, past, note, !off),
         FlowKind::Eoi if is_edge_line(def) => Entry::End {
-            cpu: c,
+            cpu,
             again: is_pending(def, past) && !off,
             unmask: false,
             note,
         },
-        FlowKind::Eoi => end_level(def, c, past, note, !off && is_oneshot(past)),
+        FlowKind::Eoi => end_level(def, cpu, past, note, !off && is_oneshot(past)),
     })
 }
 
 /// The end of the flow's round.
-fn end_of(alloc: Global, def: &LineDef, c: CpuNo, past: &[Entry]) -> Result<Entry, NoMemory>
+fn end_of(alloc: Global, def: &LineDef, cpu: CpuNo, past: &[Entry]) -> Result<Entry, NoMemory>
     requires { length past.now ≤ 100000000 }
-    ensures { IfOk result (λ entry. entry ≡ end_of def.now c past.now) }
+    ensures { IfOk result (λ entry. entry ≡ end_of def.now cpu past.now) }
 {
-    end_by_flow(alloc, def, c, past, note_of(def, past))
+    end_by_flow(alloc, def, cpu, past, note_of(def, past))
 }
 
 /// The first device that is left is called, or else the round ends.
 fn begin_or_end(
     alloc: Global,
     def: &LineDef,
-    c: CpuNo,
+    cpu: CpuNo,
     past: &[Entry],
     left: Option<DevNo>,
 ) -> Result<Entry, NoMemory>
     requires { length past.now ≤ 100000000 }
-    ensures { IfOk result (λ entry. entry ≡ begin_or_end def.now c past.now left) }
+    ensures { IfOk result (λ entry. entry ≡ begin_or_end def.now cpu past.now left) }
 {
     match left {
-        Some(d) => Ok(Entry::Begin { cpu: c, dev: d }),
-        None => end_of(alloc, def, c, past),
+        Some(d) => Ok(Entry::Begin { cpu, dev: d }),
+        None => end_of(alloc, def, cpu, past),
     }
 }
 
@@ -155,18 +155,18 @@ fn begin_or_end(
 fn next_in_flow(
     alloc: Global,
     def: &LineDef,
-    c: CpuNo,
+    cpu: CpuNo,
     past: &[Entry],
     working: Option<DevNo>,
 ) -> Result<Entry, NoMemory>
     requires { length past.now ≤ 100000000 }
-    ensures { IfOk result (λ entry. entry ≡ next_in_flow def.now c past.now working) }
+    ensures { IfOk result (λ entry. entry ≡ next_in_flow def.now cpu past.now working) }
 {
     if let Some(d) = working {
-        return Ok(return_of(def, c, d, past));
+        return Ok(return_of(def, cpu, d, past));
     }
     let devices = linked(alloc, past)?;
-    begin_or_end(alloc, def, c, past, first_left(def, past, &devices))
+    begin_or_end(alloc, def, cpu, past, first_left(def, past, &devices))
 }
 
 // ---- taking an interrupt
@@ -186,11 +186,11 @@ fn take_answer(alloc: Global, def: &LineDef, past: &[Entry]) -> Result<TakeAnswe
 }
 
 /// The processor is that one.
-fn is_cpu(c: CpuNo, other: Option<CpuNo>) -> bool
-    ensures { result ≡ is_cpu c other }
+fn is_cpu(cpu: CpuNo, other: Option<CpuNo>) -> bool
+    ensures { result ≡ is_cpu cpu other }
 {
     match other {
-        Some(f) => c == f,
+        Some(f) => cpu == f,
         None => false,
     }
 }
@@ -199,14 +199,14 @@ fn is_cpu(c: CpuNo, other: Option<CpuNo>) -> bool
 fn next_take(
     alloc: Global,
     def: &LineDef,
-    c: CpuNo,
+    cpu: CpuNo,
     past: &[Entry],
 ) -> Result<Option<Entry>, NoMemory>
     requires few { length past.now ≤ 100000000 }
     requires cpus { def.now.cpus ≤ 32 }
-    ensures { IfOk result (λ entry. entry ≡ next_take def.now c past.now) }
+    ensures { IfOk result (λ entry. entry ≡ next_take def.now cpu past.now) }
 {
-    if !is_cpu(c, target(def, past)) {
+    if !is_cpu(cpu, target(def, past)) {
         return Ok(None);
     }
     let answer = take_answer(alloc, def, past)?;
@@ -217,26 +217,22 @@ fn next_take(
     } else {
         return Ok(None);
     };
-    Ok(Some(Entry::Take {
-        cpu: c,
-        way,
-        answer,
-    }))
+    Ok(Some(Entry::Take { cpu, way, answer }))
 }
 
 /// The entry that is due for the processor.
 pub fn next_of_cpu(
     alloc: Global,
     def: &LineDef,
-    c: CpuNo,
+    cpu: CpuNo,
     past: &[Entry],
 ) -> Result<Option<Entry>, NoMemory>
     requires few { length past.now ≤ 100000000 }
     requires cpus { def.now.cpus ≤ 32 }
-    ensures { IfOk result (λ entry. entry ≡ next_of_cpu def.now c past.now) }
+    ensures { IfOk result (λ entry. entry ≡ next_of_cpu def.now cpu past.now) }
 {
-    if is_cpu(c, flow(def, past)) {
-        return Ok(Some(next_in_flow(alloc, def, c, past, at_work(past))?));
+    if is_cpu(cpu, flow(def, past)) {
+        return Ok(Some(next_in_flow(alloc, def, cpu, past, at_work(past))?));
     }
-    next_take(alloc, def, c, past)
+    next_take(alloc, def, cpu, past)
 }

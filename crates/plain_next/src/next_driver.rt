@@ -19,6 +19,24 @@ use irq_base::{
 };
 use std::alloc::Global;
 
+/// The entry that is due for the driver.
+pub fn next_of_driver(
+    alloc: Global,
+    def: &LineDef,
+    driver: DriverNo,
+    past: &[Entry],
+) -> Result<Option<Entry>, NoMemory>
+    requires few { length past.now ≤ 100000000 }
+    requires cpus { def.now.cpus ≤ 32 }
+    requires devices { length def.now.devices ≤ 256 }
+    ensures { IfOk result (λ entry. entry ≡ next_of_call def.now driver past.now (due_call def.now driver past.now)) }
+{
+    match due_call(alloc, def, driver, past)? {
+        Some((call, n)) => next_of_call(alloc, def, driver, past, call, n),
+        None => Ok(None),
+    }
+}
+
 /// How a start sends again what is pending; a level shows by itself.
 fn resend_of(def: &LineDef, past: &[Entry]) -> Resend
     ensures { result ≡ resend_of def.now past.now }
@@ -69,11 +87,11 @@ fn is_mismatch(flags: Flags, past: &[Entry], devices: &[DevNo]) -> bool
 fn link_answer(
     alloc: Global,
     def: &LineDef,
-    d: DevNo,
+    dev: DevNo,
     flags: Flags,
     past: &[Entry],
 ) -> Result<LinkAnswer, NoMemory>
-    ensures { IfOk result (λ answer. answer ≡ link_answer def.now d flags past.now) }
+    ensures { IfOk result (λ answer. answer ≡ link_answer def.now dev flags past.now) }
 {
     let devices = linked(alloc, past)?;
     if flags.shared && flags.noauto {
@@ -85,7 +103,7 @@ fn link_answer(
     if flags.oneshot && devices.len() >= 64 {
         return Ok(LinkAnswer::Refused(Errno::Busy));
     }
-    if matches!(kind_of(def, d), Kind::Null) && !flags.oneshot {
+    if matches!(kind_of(def, dev), Kind::Null) && !flags.oneshot {
         return Ok(LinkAnswer::Refused(Errno::Inval));
     }
     Ok(LinkAnswer::Linked)
@@ -121,22 +139,22 @@ fn opened_by_request(
 fn request_of(
     alloc: Global,
     def: &LineDef,
-    r: DriverNo,
-    d: DevNo,
+    driver: DriverNo,
+    dev: DevNo,
     flags: Flags,
     past: &[Entry],
 ) -> Result<Entry, NoMemory>
     requires { length past.now ≤ 100000000 }
-    ensures { IfOk result (λ entry. entry ≡ request_of def.now r d flags past.now) }
+    ensures { IfOk result (λ entry. entry ≡ request_of def.now driver dev flags past.now) }
 {
-    let answer = link_answer(alloc, def, d, flags, past)?;
+    let answer = link_answer(alloc, def, dev, flags, past)?;
     let opened = match answer {
         LinkAnswer::Linked => opened_by_request(alloc, def, flags, past)?,
         LinkAnswer::Refused(_) => Opened::No,
     };
     Ok(Entry::Request {
-        driver: r,
-        dev: d,
+        driver,
+        dev,
         flags,
         answer,
         opened,
@@ -144,25 +162,25 @@ fn request_of(
 }
 
 /// The device is linked, and nothing else is.
-fn is_only(d: DevNo, devices: &[DevNo]) -> bool
-    ensures { result ≡ is_only d devices.now }
+fn is_only(dev: DevNo, devices: &[DevNo]) -> bool
+    ensures { result ≡ is_only dev devices.now }
 {
     match devices {
-        [only] => d == *only,
+        [only] => dev == *only,
         _ => false,
     }
 }
 
 /// What a free finds.
-fn unlink_answer(alloc: Global, d: DevNo, past: &[Entry]) -> Result<UnlinkAnswer, NoMemory>
-    ensures { IfOk result (λ answer. answer ≡ unlink_answer d past.now) }
+fn unlink_answer(alloc: Global, dev: DevNo, past: &[Entry]) -> Result<UnlinkAnswer, NoMemory>
+    ensures { IfOk result (λ answer. answer ≡ unlink_answer dev past.now) }
 {
-    if !is_linked(past, d) {
+    if !is_linked(past, dev) {
         return Ok(UnlinkAnswer::NotThere);
     }
     let devices = linked(alloc, past)?;
     Ok(UnlinkAnswer::Unlinked {
-        last: is_only(d, &devices),
+        last: is_only(dev, &devices),
     })
 }
 
@@ -181,59 +199,59 @@ fn affinity_answer(def: &LineDef, mask: u32) -> AffinityAnswer
 }
 
 /// The hard clear, once no flow is in progress.
-fn hard_clear_of(def: &LineDef, r: DriverNo, past: &[Entry]) -> Option<Entry>
-    ensures { result ≡ hard_clear_of def.now r past.now }
+fn hard_clear_of(def: &LineDef, driver: DriverNo, past: &[Entry]) -> Option<Entry>
+    ensures { result ≡ hard_clear_of def.now driver past.now }
 {
     if has_flow(def, past) {
         None
     } else {
-        Some(Entry::HardClear { driver: r })
+        Some(Entry::HardClear { driver })
     }
 }
 
 /// The end of a synchronization, once no thread is woken or in a run.
-fn synced_of(def: &LineDef, r: DriverNo, past: &[Entry]) -> Option<Entry>
+fn synced_of(def: &LineDef, driver: DriverNo, past: &[Entry]) -> Option<Entry>
     requires { length def.now.devices ≤ 256 }
-    ensures { result ≡ synced_of def.now r past.now }
+    ensures { result ≡ synced_of def.now driver past.now }
 {
     if active_count(def, past) == 0 {
-        Some(Entry::Synced { driver: r })
+        Some(Entry::Synced { driver })
     } else {
         None
     }
 }
 
 /// The end of a free, once the device's thread is at rest.
-fn freed_of(r: DriverNo, d: DevNo, past: &[Entry]) -> Option<Entry>
-    ensures { result ≡ freed_of r d past.now }
+fn freed_of(driver: DriverNo, dev: DevNo, past: &[Entry]) -> Option<Entry>
+    ensures { result ≡ freed_of driver dev past.now }
 {
-    if is_woken(past, d) || is_running(past, d) {
+    if is_woken(past, dev) || is_running(past, dev) {
         None
     } else {
-        Some(Entry::Freed { driver: r, dev: d })
+        Some(Entry::Freed { driver, dev })
     }
 }
 
 /// The next entry of a synchronization, of which `n` are there.
-fn next_of_sync(def: &LineDef, r: DriverNo, n: usize, past: &[Entry]) -> Option<Entry>
+fn next_of_sync(def: &LineDef, driver: DriverNo, n: usize, past: &[Entry]) -> Option<Entry>
     requires { length def.now.devices ≤ 256 }
-    ensures { result ≡ next_of_sync def.now r n past.now }
+    ensures { result ≡ next_of_sync def.now driver n past.now }
 {
     match n {
-        0 => hard_clear_of(def, r, past),
-        _ => synced_of(def, r, past),
+        0 => hard_clear_of(def, driver, past),
+        _ => synced_of(def, driver, past),
     }
 }
 
 /// The next entry of a disable, of which `n` are there.
-fn next_of_disable(def: &LineDef, r: DriverNo, n: usize, past: &[Entry]) -> Option<Entry>
+fn next_of_disable(def: &LineDef, driver: DriverNo, n: usize, past: &[Entry]) -> Option<Entry>
     requires { length def.now.devices ≤ 256 }
-    ensures { result ≡ next_of_disable def.now r n past.now }
+    ensures { result ≡ next_of_disable def.now driver n past.now }
 {
     match n {
-        0 => Some(Entry::Disable { driver: r }),
-        1 => hard_clear_of(def, r, past),
-        _ => synced_of(def, r, past),
+        0 => Some(Entry::Disable { driver }),
+        1 => hard_clear_of(def, driver, past),
+        _ => synced_of(def, driver, past),
     }
 }
 
@@ -241,25 +259,25 @@ fn next_of_disable(def: &LineDef, r: DriverNo, n: usize, past: &[Entry]) -> Opti
 fn next_of_free(
     alloc: Global,
     def: &LineDef,
-    r: DriverNo,
-    d: DevNo,
+    driver: DriverNo,
+    dev: DevNo,
     n: usize,
     past: &[Entry],
 ) -> Result<Option<Entry>, NoMemory>
-    ensures { IfOk result (λ entry. entry ≡ next_of_free def.now r d n past.now) }
+    ensures { IfOk result (λ entry. entry ≡ next_of_free def.now driver dev n past.now) }
 {
     match n {
         0 if holds_mutex(past) => Ok(None),
         0 => {
-            let answer = unlink_answer(alloc, d, past)?;
+            let answer = unlink_answer(alloc, dev, past)?;
             Ok(Some(Entry::Unlink {
-                driver: r,
-                dev: d,
+                driver,
+                dev,
                 answer,
             }))
         }
-        1 => Ok(hard_clear_of(def, r, past)),
-        _ => Ok(freed_of(r, d, past)),
+        1 => Ok(hard_clear_of(def, driver, past)),
+        _ => Ok(freed_of(driver, dev, past)),
     }
 }
 
@@ -267,25 +285,25 @@ fn next_of_free(
 fn next_of_request(
     alloc: Global,
     def: &LineDef,
-    r: DriverNo,
-    d: DevNo,
+    driver: DriverNo,
+    dev: DevNo,
     flags: Flags,
     past: &[Entry],
 ) -> Result<Option<Entry>, NoMemory>
     requires { length past.now ≤ 100000000 }
-    ensures { IfOk result (λ entry. entry ≡ next_of_request def.now r d flags past.now) }
+    ensures { IfOk result (λ entry. entry ≡ next_of_request def.now driver dev flags past.now) }
 {
     if holds_mutex(past) {
         return Ok(None);
     }
-    Ok(Some(request_of(alloc, def, r, d, flags, past)?))
+    Ok(Some(request_of(alloc, def, driver, dev, flags, past)?))
 }
 
 /// The next entry of the driver's due call, of which `n` are there.
 fn next_of_call(
     alloc: Global,
     def: &LineDef,
-    r: DriverNo,
+    driver: DriverNo,
     past: &[Entry],
     call: Call,
     n: usize,
@@ -293,42 +311,24 @@ fn next_of_call(
     requires few { length past.now ≤ 100000000 }
     requires cpus { def.now.cpus ≤ 32 }
     requires devices { length def.now.devices ≤ 256 }
-    ensures { IfOk result (λ entry. entry ≡ next_of_call def.now r past.now (Some (call, n))) }
+    ensures { IfOk result (λ entry. entry ≡ next_of_call def.now driver past.now (Some (call, n))) }
 {
     Ok(match call {
-        Call::Ask { dev } => Some(Entry::Ask { driver: r, dev }),
-        Call::Request { dev, flags } => next_of_request(alloc, def, r, dev, flags, past)?,
-        Call::Free { dev } => next_of_free(alloc, def, r, dev, n, past)?,
-        Call::Disable => next_of_disable(def, r, n, past),
-        Call::DisableNosync => Some(Entry::Disable { driver: r }),
+        Call::Ask { dev } => Some(Entry::Ask { driver, dev }),
+        Call::Request { dev, flags } => next_of_request(alloc, def, driver, dev, flags, past)?,
+        Call::Free { dev } => next_of_free(alloc, def, driver, dev, n, past)?,
+        Call::Disable => next_of_disable(def, driver, n, past),
+        Call::DisableNosync => Some(Entry::Disable { driver }),
         Call::Enable => Some(Entry::Enable {
-            driver: r,
+            driver,
             answer: enable_answer(alloc, def, past)?,
         }),
-        Call::Sync => next_of_sync(def, r, n, past),
+        Call::Sync => next_of_sync(def, driver, n, past),
         Call::Affinity { mask } => Some(Entry::Affinity {
-            driver: r,
+            driver,
             mask,
             answer: affinity_answer(def, mask),
         }),
-        Call::Moment { at } => Some(Entry::Moment { driver: r, at }),
+        Call::Moment { at } => Some(Entry::Moment { driver, at }),
     })
-}
-
-/// The entry that is due for the driver.
-pub fn next_of_driver(
-    alloc: Global,
-    def: &LineDef,
-    r: DriverNo,
-    past: &[Entry],
-) -> Result<Option<Entry>, NoMemory>
-    requires few { length past.now ≤ 100000000 }
-    requires cpus { def.now.cpus ≤ 32 }
-    requires devices { length def.now.devices ≤ 256 }
-    ensures { IfOk result (λ entry. entry ≡ next_of_call def.now r past.now (due_call def.now r past.now)) }
-{
-    match due_call(alloc, def, r, past)? {
-        Some((call, n)) => next_of_call(alloc, def, r, past, call, n),
-        None => Ok(None),
-    }
 }

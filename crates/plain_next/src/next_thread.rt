@@ -16,42 +16,47 @@ use irq_base::{DevNo, Entry, LineDef, NoMemory};
 use std::alloc::Global;
 
 /// The asks that were unserved as the thread's run began.
-pub fn asks_of_thread(def: &LineDef, d: DevNo, past: &[Entry]) -> u32
+pub fn asks_of_thread(def: &LineDef, dev: DevNo, past: &[Entry]) -> u32
     requires { length past.now ≤ 100000000 }
-    ensures { result ≡ asks_of_thread def.now d past.now }
+    ensures { result ≡ asks_of_thread def.now dev past.now }
 {
-    unserved_asks(def, d, before(past, |e| is_thread_begin(d, e)))
+    unserved_asks(def, dev, before(past, |e| is_thread_begin(dev, e)))
 }
 
 /// The thread's handler returned in this run.
-fn has_returned(past: &[Entry], d: DevNo) -> bool
-    ensures { result ≡ list_any (is_thread_return d) (since (is_thread_begin d) past.now) }
+fn has_returned(past: &[Entry], dev: DevNo) -> bool
+    ensures { result ≡ list_any (is_thread_return dev) (since (is_thread_begin dev) past.now) }
 {
-    since(past, |e| is_thread_begin(d, e))
+    since(past, |e| is_thread_begin(dev, e))
         .iter()
-        .any(|e| is_thread_return(d, *e))
+        .any(|e| is_thread_return(dev, *e))
 }
 
 /// The thread finished after its handler returned.
-fn has_finished(past: &[Entry], d: DevNo) -> bool
-    ensures { result ≡ list_any (is_finish d) (since (is_thread_return d) past.now) }
+fn has_finished(past: &[Entry], dev: DevNo) -> bool
+    ensures { result ≡ list_any (is_finish dev) (since (is_thread_return dev) past.now) }
 {
-    since(past, |e| is_thread_return(d, e))
+    since(past, |e| is_thread_return(dev, e))
         .iter()
-        .any(|e| is_finish(d, *e))
+        .any(|e| is_finish(dev, *e))
 }
 
 /// Whether a finish unmasks the line.
-fn finish_unmasks(alloc: Global, def: &LineDef, d: DevNo, past: &[Entry]) -> Result<bool, NoMemory>
+fn finish_unmasks(
+    alloc: Global,
+    def: &LineDef,
+    dev: DevNo,
+    past: &[Entry],
+) -> Result<bool, NoMemory>
     requires { length past.now ≤ 100000000 }
-    ensures { IfOk result (λ unmask. unmask ≡ finish_unmasks def.now d past.now) }
+    ensures { IfOk result (λ unmask. unmask ≡ finish_unmasks def.now dev past.now) }
 {
     let disabled = is_disabled(alloc, past)?;
     Ok(
-        !is_woken(past, d)
+        !is_woken(past, dev)
             && !disabled
             && is_masked(def, past)
-            && !is_other_unfinished(def, past, d),
+            && !is_other_unfinished(def, past, dev),
     )
 }
 
@@ -60,22 +65,22 @@ fn finish_unmasks(alloc: Global, def: &LineDef, d: DevNo, past: &[Entry]) -> Res
 fn finish_or_done(
     alloc: Global,
     def: &LineDef,
-    d: DevNo,
+    dev: DevNo,
     past: &[Entry],
 ) -> Result<Option<Entry>, NoMemory>
     requires { length past.now ≤ 100000000 }
-    ensures { IfOk result (λ entry. entry ≡ finish_or_done def.now d past.now) }
+    ensures { IfOk result (λ entry. entry ≡ finish_or_done def.now dev past.now) }
 {
-    if !is_oneshot(past) || has_finished(past, d) {
-        return Ok(Some(Entry::Done { dev: d }));
+    if !is_oneshot(past) || has_finished(past, dev) {
+        return Ok(Some(Entry::Done { dev }));
     }
     if has_flow(def, past) {
         return Ok(None);
     }
-    let unmask = finish_unmasks(alloc, def, d, past)?;
+    let unmask = finish_unmasks(alloc, def, dev, past)?;
     Ok(Some(Entry::Finish {
-        dev: d,
-        kept: is_woken(past, d),
+        dev,
+        kept: is_woken(past, dev),
         unmask,
     }))
 }
@@ -84,20 +89,20 @@ fn finish_or_done(
 pub fn next_of_thread(
     alloc: Global,
     def: &LineDef,
-    d: DevNo,
+    dev: DevNo,
     past: &[Entry],
 ) -> Result<Option<Entry>, NoMemory>
     requires { length past.now ≤ 100000000 }
-    ensures { IfOk result (λ entry. entry ≡ next_of_thread def.now d past.now) }
+    ensures { IfOk result (λ entry. entry ≡ next_of_thread def.now dev past.now) }
 {
-    if !is_running(past, d) {
-        return Ok(is_woken(past, d).then_some(Entry::ThreadBegin { dev: d }));
+    if !is_running(past, dev) {
+        return Ok(is_woken(past, dev).then_some(Entry::ThreadBegin { dev }));
     }
-    if !has_returned(past, d) {
+    if !has_returned(past, dev) {
         return Ok(Some(Entry::ThreadReturn {
-            dev: d,
-            served: asks_of_thread(def, d, past),
+            dev,
+            served: asks_of_thread(def, dev, past),
         }));
     }
-    finish_or_done(alloc, def, d, past)
+    finish_or_done(alloc, def, dev, past)
 }

@@ -6,22 +6,22 @@ ghost use Rattle.plain_next.specs.Tests.{Computes};
 
 use irq_base::Entry;
 
-/// Whether some `p` has no `q` after it.
+/// Whether some entry that sets has none that clears after it.
 pub fn stands<P: Fn(Entry) -> bool + Drop, Q: Fn(Entry) -> bool + Drop>(
     past: &[Entry],
-    p: P,
-    q: Q,
+    sets: P,
+    clears: Q,
 ) -> bool
-    requires p { P.IsAlwaysCallable p }
-    requires q { Q.IsAlwaysCallable q }
-    ensures { (x y : Entry → Bool) → Computes (P.post p) x → Computes (Q.post q) y → result ≡ stands x y past.now }
+    requires sets { P.IsAlwaysCallable sets }
+    requires clears { Q.IsAlwaysCallable clears }
+    ensures { (x y : Entry → Bool) → Computes (P.post sets) x → Computes (Q.post clears) y → result ≡ stands x y past.now }
 {
     let mut rest = past;
     while let Some((e, older)) = rest.split_first() {
-        if p(*e) {
+        if sets(*e) {
             return true;
         }
-        if q(*e) {
+        if clears(*e) {
             return false;
         }
         rest = older;
@@ -29,44 +29,44 @@ pub fn stands<P: Fn(Entry) -> bool + Drop, Q: Fn(Entry) -> bool + Drop>(
     false
 }
 
-/// What stands after the last `p`, or all if there is none.
-pub fn since<P: Fn(Entry) -> bool + Drop>(past: &[Entry], p: P) -> &[Entry]
-    requires { P.IsAlwaysCallable p }
-    ensures value { (x : Entry → Bool) → Computes (P.post p) x → result.now ≡ since x past.now }
+/// What stands after the last entry that passes the test, or all if there is none.
+pub fn since<P: Fn(Entry) -> bool + Drop>(past: &[Entry], test: P) -> &[Entry]
+    requires { P.IsAlwaysCallable test }
+    ensures value { (x : Entry → Bool) → Computes (P.post test) x → result.now ≡ since x past.now }
     ensures shorter { length result.now ≤ length past.now }
 {
     for (i, e) in past.iter().enumerate() {
-        if p(*e) {
+        if test(*e) {
             return &past[..i];
         }
     }
     past
 }
 
-/// What stands before the last `p`, or nothing if there is none.
-pub fn before<P: Fn(Entry) -> bool + Drop>(past: &[Entry], p: P) -> &[Entry]
-    requires { P.IsAlwaysCallable p }
-    ensures value { (x : Entry → Bool) → Computes (P.post p) x → result.now ≡ before x past.now }
+/// What stands before the last entry that passes the test, or nothing if there is none.
+pub fn before<P: Fn(Entry) -> bool + Drop>(past: &[Entry], test: P) -> &[Entry]
+    requires { P.IsAlwaysCallable test }
+    ensures value { (x : Entry → Bool) → Computes (P.post test) x → result.now ≡ before x past.now }
     ensures shorter { length result.now ≤ length past.now }
 {
     let mut rest = past;
     while let Some((e, older)) = rest.split_first() {
         rest = older;
-        if p(*e) {
+        if test(*e) {
             break;
         }
     }
     rest
 }
 
-/// The last `p`.
-pub fn last_of<P: Fn(Entry) -> bool + Drop>(past: &[Entry], p: P) -> Option<Entry>
-    requires { P.IsAlwaysCallable p }
-    ensures { (x : Entry → Bool) → Computes (P.post p) x → result ≡ last_of x past.now }
+/// The last entry that passes the test.
+pub fn last_of<P: Fn(Entry) -> bool + Drop>(past: &[Entry], test: P) -> Option<Entry>
+    requires { P.IsAlwaysCallable test }
+    ensures { (x : Entry → Bool) → Computes (P.post test) x → result ≡ last_of x past.now }
 {
     let mut rest = past;
     while let Some((e, older)) = rest.split_first() {
-        if p(*e) {
+        if test(*e) {
             return Some(*e);
         }
         rest = older;
@@ -74,17 +74,17 @@ pub fn last_of<P: Fn(Entry) -> bool + Drop>(past: &[Entry], p: P) -> Option<Entr
     None
 }
 
-/// How many are `p`.
-pub fn count_of<P: Fn(Entry) -> bool + Drop>(past: &[Entry], p: P) -> u32
-    requires callable { P.IsAlwaysCallable p }
+/// How many entries pass the test.
+pub fn count_of<P: Fn(Entry) -> bool + Drop>(past: &[Entry], test: P) -> u32
+    requires callable { P.IsAlwaysCallable test }
     requires few { length past.now ≤ 100000000 }
-    ensures value { (x : Entry → Bool) → Computes (P.post p) x → result ≡ count_of x past.now }
+    ensures value { (x : Entry → Bool) → Computes (P.post test) x → result ≡ count_of x past.now }
     ensures within { result ≤ length past.now }
 {
     let mut rest = past;
     let mut count = 0;
     while let Some((e, older)) = rest.split_first() {
-        if p(*e) {
+        if test(*e) {
             count += 1;
         }
         rest = older;

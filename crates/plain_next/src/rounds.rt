@@ -7,23 +7,6 @@ use crate::lines::is_eoi_flow;
 use crate::places::{last_of, since};
 use irq_base::{CpuNo, DevNo, Entry, LineDef};
 
-/// An end that closes the flow: each on the fast-EOI flow, one that leaves on the others.
-fn closes(def: &LineDef, e: Entry) -> bool
-    ensures { result ≡ closes def.now e }
-{
-    is_leave(e) || (is_eoi_flow(def) && is_again(e))
-}
-
-/// The processor of a take.
-fn cpu_of_handle(e: Option<Entry>) -> Option<CpuNo>
-    ensures { result ≡ cpu_of_handle e }
-{
-    match e {
-        Some(Entry::Take { cpu, .. }) => Some(cpu),
-        _ => None,
-    }
-}
-
 /// The processor of the last take that is handled, unless an end that closes follows it.
 pub fn flow(def: &LineDef, past: &[Entry]) -> Option<CpuNo>
     ensures { result ≡ flow def.now past.now }
@@ -38,25 +21,11 @@ pub fn has_flow(def: &LineDef, past: &[Entry]) -> bool
     flow(def, past).is_some()
 }
 
-/// A take that is handled, or an end that goes on within the flow.
-fn begins_round(def: &LineDef, e: Entry) -> bool
-    ensures { result ≡ begins_round def.now e }
-{
-    is_handle(e) || (is_again(e) && !is_eoi_flow(def))
-}
-
 /// The entries of the round so far.
 pub fn round<'a>(def: &LineDef, past: &'a [Entry]) -> &'a [Entry]
     ensures { result.now ≡ round def.now past.now }
 {
     since(past, |e| begins_round(def, e))
-}
-
-/// The device's handler was called in this round.
-fn has_begun(def: &LineDef, past: &[Entry], d: DevNo) -> bool
-    ensures { result ≡ has_begun def.now past.now d }
-{
-    round(def, past).iter().any(|e| is_begin(d, *e))
 }
 
 /// The first linked device that is still to be called.
@@ -73,19 +42,50 @@ pub fn first_left(def: &LineDef, past: &[Entry], linked: &[DevNo]) -> Option<Dev
     None
 }
 
-/// The device of a begin.
-fn dev_of_begin(e: Option<Entry>) -> Option<DevNo>
-    ensures { result ≡ dev_of_begin e }
-{
-    match e {
-        Some(Entry::Begin { dev, .. }) => Some(dev),
-        _ => None,
-    }
-}
-
 /// The device whose handler is at work: that of the last begin, unless a return stands after it.
 pub fn at_work(past: &[Entry]) -> Option<DevNo>
     ensures { result ≡ at_work past.now }
 {
     dev_of_begin(last_of(past, is_begin_or_return))
+}
+
+/// An end that closes the flow: each on the fast-EOI flow, one that leaves on the others.
+fn closes(def: &LineDef, entry: Entry) -> bool
+    ensures { result ≡ closes def.now entry }
+{
+    is_leave(entry) || (is_eoi_flow(def) && is_again(entry))
+}
+
+/// The processor of a take.
+fn cpu_of_handle(entry: Option<Entry>) -> Option<CpuNo>
+    ensures { result ≡ cpu_of_handle entry }
+{
+    match entry {
+        Some(Entry::Take { cpu, .. }) => Some(cpu),
+        _ => None,
+    }
+}
+
+/// A take that is handled, or an end that goes on within the flow.
+fn begins_round(def: &LineDef, entry: Entry) -> bool
+    ensures { result ≡ begins_round def.now entry }
+{
+    is_handle(entry) || (is_again(entry) && !is_eoi_flow(def))
+}
+
+/// The device's handler was called in this round.
+fn has_begun(def: &LineDef, past: &[Entry], dev: DevNo) -> bool
+    ensures { result ≡ has_begun def.now past.now dev }
+{
+    round(def, past).iter().any(|e| is_begin(dev, *e))
+}
+
+/// The device of a begin.
+fn dev_of_begin(entry: Option<Entry>) -> Option<DevNo>
+    ensures { result ≡ dev_of_begin entry }
+{
+    match entry {
+        Some(Entry::Begin { dev, .. }) => Some(dev),
+        _ => None,
+    }
 }

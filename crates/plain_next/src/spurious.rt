@@ -51,28 +51,36 @@ impl Model for NotedEnd {
     ghost inverse = { λ n. record { note = n.note; counts = n.counts } };
 }
 
-/// One more end of the window.
-fn counted(window: u32, limit: u32, c: SpuriousCounts) -> NotedEnd
-    requires { c.irq_count ≤ 100000000 }
-    ensures { result ≡ counted window limit c }
+/// The note of an end that comes now.
+pub fn note_of(def: &LineDef, past: &[Entry]) -> Note
+    requires { length past.now ≤ 100000000 }
+    ensures { result ≡ note_of def.now past.now }
 {
-    if c.irqs_unhandled == 0 {
+    noted_end(def, past, counts_of(def, past)).note
+}
+
+/// One more end of the window.
+fn counted(window: u32, limit: u32, kept: SpuriousCounts) -> NotedEnd
+    requires { kept.irq_count ≤ 100000000 }
+    ensures { result ≡ counted window limit kept }
+{
+    if kept.irqs_unhandled == 0 {
         return NotedEnd {
             note: Note::Quiet,
-            counts: c,
+            counts: kept,
         };
     }
-    if c.irq_count + 1 < window {
+    if kept.irq_count + 1 < window {
         let counts = SpuriousCounts {
-            irq_count: c.irq_count + 1,
-            ..c
+            irq_count: kept.irq_count + 1,
+            ..kept
         };
         return NotedEnd {
             note: Note::Counted,
             counts,
         };
     }
-    let note = if c.irqs_unhandled > limit {
+    let note = if kept.irqs_unhandled > limit {
         Note::Killed
     } else {
         Note::Counted
@@ -80,53 +88,53 @@ fn counted(window: u32, limit: u32, c: SpuriousCounts) -> NotedEnd
     let counts = SpuriousCounts {
         irq_count: 0,
         irqs_unhandled: 0,
-        ..c
+        ..kept
     };
     NotedEnd { note, counts }
 }
 
 /// An unhandled end; one that comes long after the last begins the count anew.
-fn unhandled(now: u32, c: SpuriousCounts) -> SpuriousCounts
-    requires { c.irqs_unhandled ≤ 100000000 }
-    ensures { result ≡ unhandled now c }
+fn unhandled(now: u32, kept: SpuriousCounts) -> SpuriousCounts
+    requires { kept.irqs_unhandled ≤ 100000000 }
+    ensures { result ≡ unhandled now kept }
 {
-    let irqs_unhandled = if now.saturating_sub(c.last_unhandled) > 100 {
+    let irqs_unhandled = if now.saturating_sub(kept.last_unhandled) > 100 {
         1
     } else {
-        c.irqs_unhandled + 1
+        kept.irqs_unhandled + 1
     };
     SpuriousCounts {
         irqs_unhandled,
         last_unhandled: now,
-        ..c
+        ..kept
     }
 }
 
 /// An end, by whether it was handled.
-fn judged(window: u32, limit: u32, now: u32, handled: bool, c: SpuriousCounts) -> NotedEnd
-    requires count { c.irq_count ≤ 100000000 }
-    requires unhandled { c.irqs_unhandled ≤ 100000000 }
-    ensures { result ≡ judged window limit now handled c }
+fn judged(window: u32, limit: u32, now: u32, handled: bool, kept: SpuriousCounts) -> NotedEnd
+    requires count { kept.irq_count ≤ 100000000 }
+    requires unhandled { kept.irqs_unhandled ≤ 100000000 }
+    ensures { result ≡ judged window limit now handled kept }
 {
     if handled {
-        counted(window, limit, c)
+        counted(window, limit, kept)
     } else {
-        counted(window, limit, unhandled(now, c))
+        counted(window, limit, unhandled(now, kept))
     }
 }
 
 /// An end whose round woke threads alone: judged at the next by whether a thread has served since.
-fn judged_by_threads(window: u32, limit: u32, now: u32, c: SpuriousCounts) -> NotedEnd
-    requires count { c.irq_count ≤ 100000000 }
-    requires unhandled { c.irqs_unhandled ≤ 100000000 }
-    ensures { result ≡ judged_by_threads window limit now c }
+fn judged_by_threads(window: u32, limit: u32, now: u32, kept: SpuriousCounts) -> NotedEnd
+    requires count { kept.irq_count ≤ 100000000 }
+    requires unhandled { kept.irqs_unhandled ≤ 100000000 }
+    ensures { result ≡ judged_by_threads window limit now kept }
 {
-    if c.threads_handled == c.last {
-        return judged(window, limit, now, false, c);
+    if kept.threads_handled == kept.last {
+        return judged(window, limit, now, false, kept);
     }
     let served = SpuriousCounts {
-        last: c.threads_handled,
-        ..c
+        last: kept.threads_handled,
+        ..kept
     };
     judged(window, limit, now, true, served)
 }
@@ -138,28 +146,28 @@ fn noted(
     now: u32,
     wake: bool,
     handled: bool,
-    c: SpuriousCounts,
+    kept: SpuriousCounts,
 ) -> NotedEnd
-    requires count { c.irq_count ≤ 100000000 }
-    requires unhandled { c.irqs_unhandled ≤ 100000000 }
-    ensures { result ≡ noted window limit now wake handled c }
+    requires count { kept.irq_count ≤ 100000000 }
+    requires unhandled { kept.irqs_unhandled ≤ 100000000 }
+    ensures { result ≡ noted window limit now wake handled kept }
 {
     if !wake {
-        return judged(window, limit, now, handled, c);
+        return judged(window, limit, now, handled, kept);
     }
     if handled {
         let settled = SpuriousCounts {
             deferred: false,
-            ..c
+            ..kept
         };
         return judged(window, limit, now, true, settled);
     }
-    if c.deferred {
-        return judged_by_threads(window, limit, now, c);
+    if kept.deferred {
+        return judged_by_threads(window, limit, now, kept);
     }
     let counts = SpuriousCounts {
         deferred: true,
-        ..c
+        ..kept
     };
     NotedEnd {
         note: Note::Quiet,
@@ -195,26 +203,26 @@ fn round_handles(def: &LineDef, past: &[Entry]) -> bool
 }
 
 /// What an end makes of the counts.
-fn noted_end(def: &LineDef, past: &[Entry], c: SpuriousCounts) -> NotedEnd
-    requires count { c.irq_count ≤ 100000000 }
-    requires unhandled { c.irqs_unhandled ≤ 100000000 }
-    ensures { result ≡ noted_end def.now past.now c }
+fn noted_end(def: &LineDef, past: &[Entry], kept: SpuriousCounts) -> NotedEnd
+    requires count { kept.irq_count ≤ 100000000 }
+    requires unhandled { kept.irqs_unhandled ≤ 100000000 }
+    ensures { result ≡ noted_end def.now past.now kept }
 {
     let wake = round_wakes(def, past);
     let handled = round_handles(def, past);
-    noted(def.window, def.limit, now(past), wake, handled, c)
+    noted(def.window, def.limit, now(past), wake, handled, kept)
 }
 
 /// What one more entry makes of the counts.
-fn counts_after(def: &LineDef, e: Entry, past: &[Entry], c: SpuriousCounts) -> SpuriousCounts
+fn counts_after(def: &LineDef, entry: Entry, past: &[Entry], kept: SpuriousCounts) -> SpuriousCounts
     requires few { length past.now ≤ 100000000 }
-    requires counts { c ≡ counts_of def.now past.now }
-    ensures { result ≡ counts_of def.now (e ∷ past.now) }
+    requires counts { kept ≡ counts_of def.now past.now }
+    ensures { result ≡ counts_of def.now (entry ∷ past.now) }
 {
-    match e {
+    match entry {
         Entry::ThreadReturn { served, .. } if served > 0 => SpuriousCounts {
-            threads_handled: c.threads_handled + 1,
-            ..c
+            threads_handled: kept.threads_handled + 1,
+            ..kept
         },
         Entry::Request {
             answer: LinkAnswer::Linked,
@@ -222,10 +230,10 @@ fn counts_after(def: &LineDef, e: Entry, past: &[Entry], c: SpuriousCounts) -> S
         } => SpuriousCounts {
             irq_count: 0,
             irqs_unhandled: 0,
-            ..c
+            ..kept
         },
-        Entry::End { .. } => noted_end(def, past, c).counts,
-        _ => c,
+        Entry::End { .. } => noted_end(def, past, kept).counts,
+        _ => kept,
     }
 }
 
@@ -246,12 +254,4 @@ fn counts_of(def: &LineDef, past: &[Entry]) -> SpuriousCounts
         counts = counts_after(def, past[i], &past[i + 1..], counts);
     }
     counts
-}
-
-/// The note of an end that comes now.
-pub fn note_of(def: &LineDef, past: &[Entry]) -> Note
-    requires { length past.now ≤ 100000000 }
-    ensures { result ≡ note_of def.now past.now }
-{
-    noted_end(def, past, counts_of(def, past)).note
 }

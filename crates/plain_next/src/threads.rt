@@ -9,29 +9,29 @@ use crate::places::{since, stands};
 use irq_base::{DevNo, Entry, LineDef};
 
 /// The thread is to run: a return that woke it has no beginning of its run after it.
-pub fn is_woken(past: &[Entry], d: DevNo) -> bool
-    ensures { result ≡ is_woken past.now d }
+pub fn is_woken(past: &[Entry], dev: DevNo) -> bool
+    ensures { result ≡ is_woken past.now dev }
 {
-    stands(past, |e| wakes(d, e), |e| is_thread_begin(d, e))
+    stands(past, |e| wakes(dev, e), |e| is_thread_begin(dev, e))
 }
 
 /// The thread is in a run.
-pub fn is_running(past: &[Entry], d: DevNo) -> bool
-    ensures { result ≡ is_running past.now d }
+pub fn is_running(past: &[Entry], dev: DevNo) -> bool
+    ensures { result ≡ is_running past.now dev }
 {
-    stands(past, |e| is_thread_begin(d, e), |e| is_done(d, e))
+    stands(past, |e| is_thread_begin(dev, e), |e| is_done(dev, e))
 }
 
 /// The device's thread bit stands: it was linked one-shot, and since then a return woke its thread
 /// and no finish gave the bit up.
-fn is_unfinished(past: &[Entry], d: DevNo) -> bool
-    ensures { result ≡ is_unfinished past.now d }
+fn is_unfinished(past: &[Entry], dev: DevNo) -> bool
+    ensures { result ≡ is_unfinished past.now dev }
 {
-    linking_flags(past, d).oneshot
+    linking_flags(past, dev).oneshot
         && stands(
-            since(past, |e| links_dev(d, e)),
-            |e| wakes(d, e),
-            |e| is_cleared_finish(d, e),
+            since(past, |e| links_dev(dev, e)),
+            |e| wakes(dev, e),
+            |e| is_cleared_finish(dev, e),
         )
 }
 
@@ -43,10 +43,10 @@ pub fn is_some_unfinished(def: &LineDef, past: &[Entry]) -> bool
 }
 
 /// The bit of another device's thread stands.
-pub fn is_other_unfinished(def: &LineDef, past: &[Entry], d: DevNo) -> bool
-    ensures { result ≡ is_other_unfinished def.now past.now d }
+pub fn is_other_unfinished(def: &LineDef, past: &[Entry], dev: DevNo) -> bool
+    ensures { result ≡ is_other_unfinished def.now past.now dev }
 {
-    any_device(def, |other| d != other && is_unfinished(past, other))
+    any_device(def, |other| dev != other && is_unfinished(past, other))
 }
 
 /// How many threads are woken, and how many are in a run; one that is both counts twice.

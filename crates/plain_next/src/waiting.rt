@@ -7,20 +7,6 @@ use crate::lines::is_edge_line;
 use crate::places::stands;
 use irq_base::{Entry, LineDef};
 
-/// A take that leaves the interrupt pending: one answered Off, or on an edge line Busy.
-fn sets_pending(def: &LineDef, e: Entry) -> bool
-    ensures { result ≡ sets_pending def.now e }
-{
-    is_off(e) || (is_edge_line(def) && is_busy(e))
-}
-
-/// A take that is handled, an end that goes on, or a start.
-fn clears_pending(e: Entry) -> bool
-    ensures { result ≡ clears_pending e }
-{
-    is_handle(e) || is_again(e) || is_start(e)
-}
-
 /// An interrupt is pending (`IRQS_PENDING`).
 pub fn is_pending(def: &LineDef, past: &[Entry]) -> bool
     ensures { result ≡ is_pending def.now past.now }
@@ -33,4 +19,18 @@ pub fn is_soft(past: &[Entry]) -> bool
     ensures { result ≡ is_soft past.now }
 {
     stands(past, is_soft_start, is_resend_take)
+}
+
+/// A take that leaves the interrupt pending: one answered Off, or on an edge line Busy.
+fn sets_pending(def: &LineDef, entry: Entry) -> bool
+    ensures { result ≡ sets_pending def.now entry }
+{
+    is_off(entry) || (is_edge_line(def) && is_busy(entry))
+}
+
+/// A take that is handled, an end that goes on, or a start.
+fn clears_pending(entry: Entry) -> bool
+    ensures { result ≡ clears_pending entry }
+{
+    is_handle(entry) || is_again(entry) || is_start(entry)
 }

@@ -157,9 +157,9 @@ impl<'b> Search<'b> {
     }
 
     /// One step of the actor on the line at the place.
-    fn step(&mut self, k: usize, actor: Actor) -> Result<Asked> {
-        ensure!(k < self.lines.len(), "no line");
-        let line = &mut self.lines[k];
+    fn step(&mut self, place: usize, actor: Actor) -> Result<Asked> {
+        ensure!(place < self.lines.len(), "no line");
+        let line = &mut self.lines[place];
         let number = line.definition().line;
         let stepped = match line.step(actor, None) {
             Ok(

@@ -47,6 +47,38 @@ pub enum RoundsEnd {
     NoMemory,
 }
 
+/// Rounds of all jobs, until one of them made no step, or a worker was refused. They work on the
+/// lines that the jobs fit. They come to an end: a round after which another comes left less room,
+/// as some pass has seen more than before, so there is at most one round more than the passes have
+/// entries to see until each has seen a history of the greatest length.
+pub fn run_rounds<
+    R: Threads + Wait + Sync,
+    L: IrqLine + Send + Sync,
+    G: Gate + Sync,
+    H: Handler + Sync,
+>(
+    rt: &R,
+    lines: &SharedLines<L>,
+    jobs: &mut Jobs<'_, L>,
+    gate: &G,
+    handlers: &Callbacks<H>,
+) -> RoundsEnd
+    requires { Fit lines.now jobs.old }
+    ensures board { jobs.new.board ≡ jobs.old.board }
+    ensures fit { Fit lines.now jobs.new }
+    ensures end { Ends jobs.new result }
+    ensures room { room_of_jobs jobs.new.jobs ≤ room_of_jobs jobs.old.jobs }
+{
+    loop {
+        match jobs.one_round(rt, lines, gate, handlers) {
+            Left::Idle => return RoundsEnd::Quiet,
+            Left::Busy => {}
+            Left::Full { line, len } => return RoundsEnd::Full { line, len },
+            Left::NoMemory => return RoundsEnd::NoMemory,
+        }
+    }
+}
+
 impl<L: IrqLine> Job<L> {
     /// One turn of the actor.
     fn turn<R: Wait, H: Handler>(
@@ -176,38 +208,6 @@ fn round<R: Threads + Wait + Sync, L: IrqLine + Send + Sync, G: Gate + Sync, H: 
         count,
         &|_, job| job.work(rt, board, lines, gate, handlers),
     );
-}
-
-/// Rounds of all jobs, until one of them made no step, or a worker was refused. They work on the
-/// lines that the jobs fit. They come to an end: a round after which another comes left less room,
-/// as some pass has seen more than before, so there is at most one round more than the passes have
-/// entries to see until each has seen a history of the greatest length.
-pub fn run_rounds<
-    R: Threads + Wait + Sync,
-    L: IrqLine + Send + Sync,
-    G: Gate + Sync,
-    H: Handler + Sync,
->(
-    rt: &R,
-    lines: &SharedLines<L>,
-    jobs: &mut Jobs<'_, L>,
-    gate: &G,
-    handlers: &Callbacks<H>,
-) -> RoundsEnd
-    requires { Fit lines.now jobs.old }
-    ensures board { jobs.new.board ≡ jobs.old.board }
-    ensures fit { Fit lines.now jobs.new }
-    ensures end { Ends jobs.new result }
-    ensures room { room_of_jobs jobs.new.jobs ≤ room_of_jobs jobs.old.jobs }
-{
-    loop {
-        match jobs.one_round(rt, lines, gate, handlers) {
-            Left::Idle => return RoundsEnd::Quiet,
-            Left::Busy => {}
-            Left::Full { line, len } => return RoundsEnd::Full { line, len },
-            Left::NoMemory => return RoundsEnd::NoMemory,
-        }
-    }
 }
 
 impl<'b, L: IrqLine + Send + Sync> Jobs<'b, L> {

@@ -105,18 +105,6 @@ pub(crate) fn is_not_yet(turn: Turn) -> bool
     }
 }
 
-/// What a try on that line comes to as a turn.
-fn turn_of(line: LineNo, tried: Result<Option<Entry>, StepRefused>) -> Turn
-    ensures { result ≡ turn_of line tried }
-{
-    match tried {
-        Ok(Some(entry)) => Turn::Moved(entry),
-        Ok(None) => Turn::NotYet,
-        Err(StepRefused::Full { len }) => Turn::Full { line, len },
-        Err(StepRefused::NoMemory) => Turn::NoMemory,
-    }
-}
-
 /// At which pass a processor has a flow in progress, after it added the entry with the pass at the
 /// place.
 pub(crate) fn flow_after(
@@ -134,5 +122,17 @@ pub(crate) fn flow_after(
         } => Some(place),
         Entry::End { again, .. } if !again || flow == FlowKind::Eoi => None,
         _ => before,
+    }
+}
+
+/// What a try on that line comes to as a turn.
+fn turn_of(line: LineNo, tried: Result<Option<Entry>, StepRefused>) -> Turn
+    ensures { result ≡ turn_of line tried }
+{
+    match tried {
+        Ok(Some(entry)) => Turn::Moved(entry),
+        Ok(None) => Turn::NotYet,
+        Err(StepRefused::Full { len }) => Turn::Full { line, len },
+        Err(StepRefused::NoMemory) => Turn::NoMemory,
     }
 }

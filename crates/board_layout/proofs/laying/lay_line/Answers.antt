@@ -15,7 +15,7 @@ use Rattle.board_layout.proofs.laying.lay_line.Goals as goal
 pub place_line-requires-clause-there : goal.place_line-requires-clause-there
 place_line-requires-clause-there c =
     let b = c.args.board.now in
-    let there : c.in-Some.row.domain < length b.domains = (c.is_board.ensures.board.lines c.args.i c.in-Some.row (sym c.in-Some.ensures)).domain in
+    let there : c.in-Some.row.domain < length b.domains = (c.is_board.ensures.board.lines c.args.place c.in-Some.row (sym c.in-Some.ensures)).domain in
     let as_many : length (defs_of b.domains) ≡ length b.domains = length-map b.domains def_of in
     omega (arith, there, as_many, ap length c.requires.before.domains)
 
@@ -28,7 +28,7 @@ returns c =
     let p = c.in_ok-placement.placement in
     let is : p ≡ placement_of (defs_of b.domains) earlier leaf = c.in_ok-placement.ensures.placement ∙ ap (λ ds. placement_of ds earlier leaf) before.domains in
     let now : c.push.new.self ≡ earlier ++ p ∷ [] = c.in_ok-push.ensures.ok in
-    let at : slice_get (leaves_of b.lines) c.args.i ≡ Some leaf = slice_get-map leaf_of b.lines c.args.i ∙ ap (option_map leaf_of) (sym c.in-Some.ensures) in
+    let at : slice_get (leaves_of b.lines) c.args.place ≡ Some leaf = slice_get-map leaf_of b.lines c.args.place ∙ ap (option_map leaf_of) (sym c.in-Some.ensures) in
     let last : AllFall (p ∷ []) = subst (λ (x : Placement). AllFall (x ∷ [])) (sym is) (placement_falls (defs_of b.domains) earlier leaf (defs_allowed b.domains c.is_board.ensures.board.domains)) in
     let long : length c.push.new.self ≡ length earlier + 1 = ap length now ∙ length_push earlier p in
     record {
@@ -36,6 +36,6 @@ returns c =
       paths = c.in_ok-placement.ensures.paths ∙ ap paths_of (sym now);
       falls = subst (λ (ps : List Placement). AllFall ps) (sym now) (falls_more earlier p before.falls last);
       count = long ∙ ap (λ n. n + 1) before.count;
-      rest = ap (λ ps. ps ++ layout_after (defs_of b.domains) ps (drop (c.args.i + 1) (leaves_of b.lines))) now
-          ∙ (goes_on (defs_of b.domains) earlier (leaves_of b.lines) c.args.i leaf p is at ∙ before.rest);
+      rest = ap (λ ps. ps ++ layout_after (defs_of b.domains) ps (drop (c.args.place + 1) (leaves_of b.lines))) now
+          ∙ (goes_on (defs_of b.domains) earlier (leaves_of b.lines) c.args.place leaf p is at ∙ before.rest);
     }

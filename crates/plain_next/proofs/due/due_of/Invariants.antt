@@ -3,4 +3,4 @@ use Rattle.irq_model.specs.Due.{due_of, calls_by}
 use Rattle.plain_next.proofs.due.due_of.Given as goal
 
 abbrev pub invariant-loop-i : goal.invariant-loop-i
-invariant-loop-i l = due_of (calls_by l.r l.calls) l.entries ≡ due_of (calls_by l.r (drop l.i l.calls)) l.left
+invariant-loop-i l = due_of (calls_by l.driver l.calls) l.entries ≡ due_of (calls_by l.driver (drop l.i l.calls)) l.left

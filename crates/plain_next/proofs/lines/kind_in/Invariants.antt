@@ -3,4 +3,4 @@ use Rattle.irq_model.specs.Lines.{kind_in}
 use Rattle.plain_next.proofs.lines.kind_in.Given as goal
 
 abbrev pub invariant-loop-i : goal.invariant-loop-i
-invariant-loop-i l = kind_in l.devices l.d ≡ kind_in (drop l.i l.devices) l.d
+invariant-loop-i l = kind_in l.devices l.dev ≡ kind_in (drop l.i l.devices) l.dev

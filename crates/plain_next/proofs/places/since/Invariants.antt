@@ -6,4 +6,4 @@ use Rattle.plain_next.proofs.places.since.Given as goal
 
 abbrev pub invariant-loop-i : goal.invariant-loop-i
 invariant-loop-i g l =
-    (x : Entry → Bool) → Computes (goal.P-post g l.p) x → since x l.past ≡ take l.i l.past ++ since x (drop l.i l.past)
+    (x : Entry → Bool) → Computes (goal.P-post g l.test) x → since x l.past ≡ take l.i l.past ++ since x (drop l.i l.past)

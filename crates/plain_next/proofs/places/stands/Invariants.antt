@@ -6,7 +6,7 @@ use Rattle.plain_next.proofs.places.stands.Given as goal
 
 abbrev pub invariant-loop-e : goal.invariant-loop-e
 invariant-loop-e g l =
-    (x y : Entry → Bool) → Computes (goal.P-post g l.p) x → Computes (goal.Q-post g l.q) y → stands x y l.past ≡ stands x y l.rest
+    (x y : Entry → Bool) → Computes (goal.P-post g l.sets) x → Computes (goal.Q-post g l.clears) y → stands x y l.past ≡ stands x y l.rest
 
 abbrev pub decreases-loop-e : goal.decreases-loop-e
 decreases-loop-e g l = length l.rest

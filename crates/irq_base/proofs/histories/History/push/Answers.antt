@@ -8,6 +8,6 @@ returns-in-None-clause-entries c =
     let wide = c.self.inside.wide.items in
     let words = c.self.inside.words.items in
     ap (λ w. map (unpack w) c.push_reserved-in-None-2.new.self.items) c.push_reserved-in-None.ensures.items
-    ∙ (ap (λ ws. map (unpack (wide ++ c.args.e ∷ [])) ws) c.push_reserved-in-None-2.ensures.items
-    ∙ (unpacked-wide wide c.args.e c.next_wide-word.result words c.self.invariant c.next_wide-word.ensures.wide (omega arith)
-    ∙ ap (λ s. s.entries ++ c.args.e ∷ []) c.self.view_is))
+    ∙ (ap (λ ws. map (unpack (wide ++ c.args.entry ∷ [])) ws) c.push_reserved-in-None-2.ensures.items
+    ∙ (unpacked-wide wide c.args.entry c.next_wide-word.result words c.self.invariant c.next_wide-word.ensures.wide (omega arith)
+    ∙ ap (λ s. s.entries ++ c.args.entry ∷ []) c.self.view_is))
