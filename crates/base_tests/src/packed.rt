@@ -211,9 +211,9 @@ fn driver_entry(kind: usize, small: Small, numbers: (u32, u32, u32)) -> Entry {
 }
 
 /// The entries of the table: each kind with each row of small answers, over four rows of numbers.
-fn table_entry(i: usize) -> Entry {
-    let (kind, small) = (i % 18, SMALL[i / 18 % 6]);
-    let row = numbers(i / 108);
+fn table_entry(place: usize) -> Entry {
+    let (kind, small) = (place % 18, SMALL[place / 18 % 6]);
+    let row = numbers(place / 108);
     if kind < 8 {
         cpu_entry(kind, small, row)
     } else {

@@ -1,13 +1,16 @@
 //! Tries the top call from outside: logs with their verdicts, plays of boards, the first board's
-//! log with a row missing or twice, and the limits of the formats. What should come was worked out
-//! by hand or given, never by the program.
+//! log with a row missing or twice, the limits of the formats, logs as long as their bounds, and a
+//! board's text that is cut short. What should come was worked out by hand or given, never by the
+//! program.
 //!
 //! Each row of standard input names what to try: `log FILE`, or one of the groups of trials
 //! below. Standard output gets a row a trial, and at last how many there were.
 #![tactic(auto)]
 
 mod boards;
+mod bounds;
 mod calling;
+mod cuts;
 mod first_log;
 mod limits;
 mod meeting;
@@ -16,6 +19,8 @@ mod tally;
 mod vectors;
 
 use anyhow::{Context, Result, bail};
+use bounds::try_bounds;
+use cuts::try_cuts;
 use first_log::try_first_log;
 use limits::{LENGTHS, MACHINES, SCRIPTS, try_boards, try_limits, try_logs};
 use runs::try_runs;
@@ -36,6 +41,8 @@ fn try_row(
         "machines" => try_limits(rt, tally, &MACHINES),
         "scripts" => try_limits(rt, tally, &SCRIPTS),
         "lengths" => try_limits(rt, tally, &LENGTHS),
+        "bounds" => try_bounds(rt, tally),
+        "cuts" => try_cuts(rt, tally),
         "long boards" => try_boards(rt, tally),
         "long logs" => try_logs(rt, tally),
         "runs" => try_runs(rt, tally),

@@ -1,2 +1,1 @@
-mod SameEntries
 mod FirstUndue

@@ -1,3 +1,2 @@
-mod SameEntries
 mod Trying
 mod Lines

@@ -10,10 +10,10 @@ use Rattle.irq_base.specs.Who.{actor_of}
 use Rattle.irq_base.specs.contracts.entries.EntryPartialEq.TheImpl as entry_eq
 use Rattle.irq_base.specs.declared.entries.Entry.{Entry}
 use Rattle.irq_base.specs.declared.lines.LineDef.{LineDef}
+use Rattle.irq_base.proofs.SameEntries.{found_same}
 use Rattle.irq_line.specs.Seen.{LineSeen}
 use Rattle.irq_model.specs.Legal.{IsDue, IsLegal, IsLegalPast}
 use Rattle.irq_model.specs.Next.{next}
-use Rattle.log_check.proofs.SameEntries.{found_same}
 use Rattle.log_check.specs.Judged.{Tried, IsFirstUndue}
 
 pub tried : (old new : LineSeen) (e : Entry) (due : Option Entry) (t : Bool) → due ≡ next old.def old.entries (actor_of old.def.line e)

@@ -2,8 +2,8 @@ use Rattle.std.proofs.Common.{◌≡◌, ◌↔◌, ◌∙◌, ap, subst, revers
 use Rattle.irq_base.specs.declared.entries.Actor.{Actor}
 use Rattle.irq_base.specs.declared.entries.Entry.{Entry}
 use Rattle.irq_base.specs.Who.{actor_of}
+use Rattle.irq_base.proofs.SameEntries.{found_same}
 use Rattle.irq_model.specs.Next.{next_past}
-use Rattle.irq_vectors.proofs.SameEntries.{found_same}
 use Rattle.irq_vectors.proofs.judging.is_due.Goals as goal
 
 pub returns : goal.returns

@@ -1,5 +1,5 @@
 use Rattle.std.proofs.Common.{rules}
-use Rattle.kept_rows.proofs.SameEntries.{same_entries}
+use Rattle.irq_base.proofs.SameEntries.{same_entries}
 use Rattle.kept_rows.proofs.kept.KeptRow.is_of.Goals as goal
 
 pub returns-then-eq : goal.returns-then-eq

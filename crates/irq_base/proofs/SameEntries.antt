@@ -1,6 +1,7 @@
 -- Entries that `==` calls equal are the same.
-use Rattle.std.proofs.Common.{rules, ◌≡◌, true, nat_eq, ◌&&◌}
+use Rattle.std.proofs.Common.{rules, ◌≡◌, ◌↔◌, IsTrue, Bool, true, nat_eq, ◌&&◌, Option, Some, None}
 use Rattle.std.proofs.lemmas.Bool.{and_parts}
+use Rattle.std.specs.Option.{option_eq}
 use Rattle.irq_base.specs.declared.calls.Flags.{Flags}
 use Rattle.irq_base.specs.declared.entries.LinkAnswer.{LinkAnswer}
 use Rattle.irq_base.specs.declared.entries.Opened.{Opened}
@@ -10,6 +11,7 @@ use Rattle.irq_base.specs.contracts.calls.FlagsPartialEq.TheImpl as flags_eq
 use Rattle.irq_base.specs.contracts.entries.LinkAnswerPartialEq.TheImpl as link_eq
 use Rattle.irq_base.specs.contracts.entries.OpenedPartialEq.TheImpl as opened_eq
 use Rattle.irq_base.specs.contracts.entries.EntryPartialEq.TheImpl as entry_eq
+use Rattle.irq_base.specs.contracts.entries.EntryEq.TheImpl.Laws as entry_laws
 
 same_flags : (p q : Flags) → (flags_eq.eq-value).it p q ≡ true → p ≡ q
 same_flags p q h = search rules
@@ -72,3 +74,8 @@ same_entries (entries.Affinity a b c) (entries.Affinity v w x) h = search rules
 same_entries (entries.Affinity a b c) q h = cc
 same_entries (entries.Moment a b) (entries.Moment v w) h = search rules
 same_entries (entries.Moment a b) q h = cc
+
+-- the test whether an entry was found, and is that one
+pub found_same : (found : Option Entry) (p : Entry) (answer : Bool) → answer ≡ option_eq (entry_eq.eq-value).it found (Some p) → IsTrue answer ↔ (found ≡ Some p)
+found_same None p answer h = search rules
+found_same (Some q) p answer h = let laws = entry_laws.laws-law in search (rules, same_entries q p)
