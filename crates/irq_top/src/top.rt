@@ -66,17 +66,47 @@ pub fn irq_main<
     ensures tells { is_printed result.ending ≡ false → Tells (error_text result.ending) (E.written err.old) (E.written err.new) (E.handed_on err.new) (E.kept err.new) (E.faults err.old) (E.faults err.new) }
     ensures quiet { is_printed result.ending ≡ true → err.new ≡ err.old }
 {
-    let outcome = match read_command(words) {
+    let outcome = work(rt, alloc, words, src, out, gate, handlers);
+    if !is_printed(outcome.ending) {
+        tell(err, outcome.ending);
+    }
+    outcome
+}
+
+/// All but the row on the error sink.
+fn work<R: Threads + Wait + Sync, S: Source, O: Sink, G: Gate + Sync, H: Handler + Sync>(
+    rt: &R,
+    alloc: Global,
+    words: &[&str],
+    src: &mut S,
+    out: &mut O,
+    gate: &G,
+    handlers: &Callbacks<H>,
+) -> Outcome
+    ensures usage { (result.ending ≡ Ending.Usage) ↔ AsksNothing (map (λ w. w.now) words.now) }
+    ensures unread { result.ending ≡ Ending.Usage → src.new ≡ src.old }
+    ensures unasked { result.ending ≡ Ending.Usage → result.reports.reports ≡ [] }
+    ensures runs { (summary : Bool) → Asks (map (λ w. w.now) words.now) (commands.Run summary)
+        → Runs summary (S.left src.old) (S.left src.new) result.reports.reports (O.written out.old) (O.written out.new) result.ending }
+    ensures plays { (summary : Bool) → Asks (map (λ w. w.now) words.now) (commands.Play summary)
+        → Plays summary (S.left src.old) (S.left src.new) result.reports.reports (O.written out.old) (O.written out.new) result.ending }
+    ensures checks { Asks (map (λ w. w.now) words.now) commands.Check
+        → Checks (S.left src.old) (S.left src.new) result.reports.reports (O.written out.old) (O.written out.new) result.ending }
+    ensures generates { (n : ℕ) → Asks (map (λ w. w.now) words.now) (commands.Gen n)
+        → Generates n result.reports.reports (O.written out.old) (O.written out.new) result.ending × (src.new ≡ src.old) }
+    ensures read_fault { Counts (S.faults src.old) (S.faults src.new) (is_read_fault_end result.ending) }
+    ensures handed_on { is_printed result.ending ≡ true → O.handed_on out.new ≡ O.written out.new }
+    ensures emptied { is_printed result.ending ≡ true → O.kept out.new ≡ [] }
+    ensures write_fault { Counts (O.faults out.old) (O.faults out.new) (is_write_fault_end result.ending) }
+    ensures silent { is_printing result.ending ≡ false → out.new ≡ out.old }
+{
+    match read_command(words) {
         Some(Command::Run { summary }) => run(rt, alloc, summary, src, out, gate, handlers),
         Some(Command::Play { summary }) => play(alloc, summary, src, out, handlers),
         Some(Command::Check) => check(alloc, src, out),
         Some(Command::Gen { n }) => play_generated(alloc, n, out, handlers),
         None => Outcome::without_reports(alloc, Ending::Usage),
-    };
-    if !is_printed(outcome.ending) {
-        tell(err, outcome.ending);
     }
-    outcome
 }
 
 /// Whether all that there is to say is printed on the output.

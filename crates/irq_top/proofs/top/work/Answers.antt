@@ -2,7 +2,7 @@ use Rattle.std.proofs.Common.{ℕ, refl, subst}
 use Rattle.irq_words.specs.declared.Command.TheVariants as commands
 use Rattle.irq_top.specs.Commands.{Generates}
 use Rattle.irq_top.proofs.OneNumber.{one_number}
-use Rattle.irq_top.proofs.top.irq_main.Goals as goal
+use Rattle.irq_top.proofs.top.work.Goals as goal
 
 pub returns-in-Some-Gen-clause-generates : goal.returns-in-Some-Gen-clause-generates
 returns-in-Some-Gen-clause-generates g c = λ n asked.
