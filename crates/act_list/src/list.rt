@@ -168,6 +168,7 @@ impl ActList {
     }
 
     /// The device's handler is called.
+    #[inline(always)]
     pub fn begin(&mut self, dev: DevNo)
         ensures list { self.new.list ≡ after_begin dev self.old.list }
         ensures spare { self.new.spare ≡ self.old.spare }
@@ -185,6 +186,7 @@ impl ActList {
     }
 
     /// The first linked device whose handler wasn't called in the round; none if all were called.
+    #[inline(always)]
     pub fn first_left(&self) -> Option<DevNo>
         ensures { result ≡ first_left self.now.list.begun self.now.list.actions }
     {

@@ -9,6 +9,7 @@ use irq_line::{IrqLine, StepRefused};
 
 /// A step of the line at the place: what it adds, the order tells. It takes room in the order
 /// first, so that nothing is refused after the step.
+#[inline(always)]
 pub(crate) fn step_place<L: IrqLine, H: Handler>(
     lines: &mut Vec<L>,
     order: &mut Vec<u16>,

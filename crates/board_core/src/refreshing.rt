@@ -12,6 +12,7 @@ use irq_line::{Blocks, IrqLine};
 use std::alloc::Global;
 
 /// The line and the driver at these places are asked again.
+#[inline(always)]
 pub(crate) fn refresh<L: IrqLine>(
     ready: &mut ReadyActors,
     lines: &[L],
@@ -73,6 +74,7 @@ pub(crate) fn numbers_of_drivers(alloc: Global, board: &Board) -> Result<Vec<u32
 }
 
 /// The part of the line among the ready actors.
+#[inline(always)]
 fn part_of<L: IrqLine>(line: &L) -> LinePart
     ensures { IsPartOf (L.seen line.now) result }
 {

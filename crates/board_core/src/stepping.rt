@@ -8,6 +8,7 @@ use irq_line::{IrqLine, StepRefused, Stepped};
 
 /// Adds the entry that is due of the actor, if there is one. If it ends a run of a handler, that
 /// handler is called.
+#[inline(always)]
 pub(crate) fn step_heard<L: IrqLine, H: Handler>(
     line: &mut L,
     actor: Actor,

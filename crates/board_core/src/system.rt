@@ -322,6 +322,7 @@ impl<'b, L: IrqLine> System<'b, L> {
     }
 
     /// The lowest actor that can move, and where it steps.
+    #[inline(always)]
     fn lowest_stand(&self) -> Option<(Actor, Stand)>
         ensures { IsLowestStand self.now result }
     {
@@ -408,6 +409,7 @@ impl<'b, L: IrqLine> System<'b, L> {
     }
 
     /// A step of the actor at its place.
+    #[inline(always)]
     fn step_at<H: Handler>(&mut self, stand: Stand, actor: Actor, handlers: &Callbacks<H>) -> Turn
         requires { IsAt self.old actor stand }
         ensures { StepsBy self.old (move_of self.old actor) result self.new }
@@ -416,6 +418,7 @@ impl<'b, L: IrqLine> System<'b, L> {
     }
 
     /// A step of the actor at that place.
+    #[inline(always)]
     fn step_stand<H: Handler>(
         &mut self,
         stand: Stand,
@@ -435,6 +438,7 @@ impl<'b, L: IrqLine> System<'b, L> {
     }
 
     /// A step of the lowest actor that can move.
+    #[inline(always)]
     fn turn_lowest<H: Handler>(&mut self, handlers: &Callbacks<H>) -> Turn
         ensures { TurnsBy self.old (lowest_move self.old) result self.new }
     {

@@ -62,6 +62,7 @@ impl ReadyActors {
 
     /// Replaces the part of the line at that place. If it is the same, nothing else is looked at.
     #[tactic(auto, using(crate::proofs::Same::part_stands))]
+    #[inline(always)]
     pub fn set_line(&mut self, line: usize, part: LinePart)
         requires { line < length self.now.lines }
         ensures { self.new ≡ record self.old { lines = slice_set self.old.lines line part } }
@@ -72,6 +73,7 @@ impl ReadyActors {
     }
 
     /// Puts the part in the place of the line's, and the line into the sets where it belongs.
+    #[inline(always)]
     fn put_line(&mut self, line: usize, part: LinePart)
         requires { line < length self.now.lines }
         ensures { self.new ≡ record self.old { lines = slice_set self.old.lines line part } }

@@ -65,6 +65,7 @@ impl<R: Copy> DeviceTable<R> {
     }
 
     /// The value of the device, if it is one of the line's.
+    #[inline(always)]
     pub fn get(&self, dev: DevNo) -> Option<R>
         ensures { result ≡ at self.now dev }
     {
@@ -73,10 +74,19 @@ impl<R: Copy> DeviceTable<R> {
                 return Some(*row);
             }
         }
+        self.find(dev)
+    }
+
+    /// The same, wherever the device's row is.
+    #[inline(never)]
+    fn find(&self, dev: DevNo) -> Option<R>
+        ensures { result ≡ at self.now dev }
+    {
         self.rows.get(&dev).copied()
     }
 
     /// Sets the value of a device of the line; nothing changes if it isn't one.
+    #[inline(always)]
     pub fn set(&mut self, dev: DevNo, row: R)
         ensures { self.new ≡ put self.old dev row }
     {
@@ -110,6 +120,7 @@ impl<R: Copy> DeviceTable<R> {
     }
 
     /// Sets the value of the device, wherever it is.
+    #[inline(never)]
     fn set_found(&mut self, dev: DevNo, row: R)
         ensures { self.new ≡ put self.old dev row }
     {

@@ -13,6 +13,7 @@ use line_scripts::Scripts;
 use line_state::LineState;
 
 /// The entry that is due by the state, and for a driver by its place in its script.
+#[inline(always)]
 pub(crate) fn due_by<C: Chip>(
     def: &LineDef,
     state: &LineState<C>,
@@ -32,6 +33,7 @@ pub(crate) fn due_by<C: Chip>(
 }
 
 /// The entry that is due of a thread; none for a thread of another line.
+#[inline(always)]
 fn due_of_thread<C: Chip>(
     def: &LineDef,
     state: &LineState<C>,
@@ -47,6 +49,7 @@ fn due_of_thread<C: Chip>(
 }
 
 /// The entry that is due of a driver; none if its calls are complete.
+#[inline(always)]
 fn due_of_driver<C: Chip>(
     def: &LineDef,
     state: &LineState<C>,

@@ -4,6 +4,10 @@
 //! `Line` is a line over any chips. A step says which entry is due of an actor, adds it, and brings
 //! the state up to it; the queries after it read the state. Memory is taken when a line is made,
 //! for the history's room and for an action that is linked, and nowhere else.
+//!
+//! An entry, or a run to be answered, doesn't fit a register, and goes through memory at a call. So
+//! the parts of a step are `#[inline(always)]`, here and in the crates below and above: a step is
+//! one function to the machine.
 #![tactic(auto)]
 
 mod due;

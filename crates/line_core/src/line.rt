@@ -82,6 +82,7 @@ impl<C: Chip> Line<C> {
     }
 
     /// The entry that is due of the actor, if there is one.
+    #[inline(always)]
     fn due(&self, actor: Actor) -> Option<Entry>
         ensures { result ≡ next self.now.def self.now.entries actor }
     {
@@ -90,6 +91,7 @@ impl<C: Chip> Line<C> {
 
     /// Adds the entry, which is due of the actor, and brings the state up to it. If the entry links
     /// no action and the history has room, it takes no memory.
+    #[inline(always)]
     fn add(&mut self, actor: Actor, entry: Entry) -> Result<(), NoMemory>
         requires due { next self.old.def self.old.entries actor ≡ Some entry }
         requires below { length self.old.entries < self.old.def.log }
@@ -119,6 +121,7 @@ fn is_that(taker: Option<CpuNo>, cpu: CpuNo) -> bool
 }
 
 /// Whether the thread of the device that is being freed isn't at rest.
+#[inline(always)]
 fn freed_at_work<C: Chip>(state: &LineState<C>) -> bool
     ensures { result ≡ freed_in state.now.state.threads state.now.state.freeing }
 {
@@ -129,6 +132,7 @@ fn freed_at_work<C: Chip>(state: &LineState<C>) -> bool
 }
 
 /// What drivers' calls wait for, as the state says.
+#[inline(always)]
 fn blocks_by<C: Chip>(state: &LineState<C>) -> Blocks
     ensures { result ≡ blocks_by state.now.state }
 {
@@ -143,6 +147,7 @@ fn blocks_by<C: Chip>(state: &LineState<C>) -> Blocks
 impl<C: Chip + Drop> IrqLine for Line<C> {
     ghost seen = { λ l. l };
 
+    #[inline(always)]
     fn step(&mut self, actor: Actor, said: Option<Said>) -> Result<Stepped, StepRefused>
         ensures def { self.new.def ≡ self.old.def }
         ensures answer { Answers self.old actor said result self.new }
@@ -203,14 +208,17 @@ impl<C: Chip + Drop> IrqLine for Line<C> {
         self.state.in_flow()
     }
 
+    #[inline(always)]
     fn taker(&self) -> Option<CpuNo> {
         self.state.taker()
     }
 
+    #[inline(always)]
     fn lowest_thread(&self) -> Option<DevNo> {
         self.state.lowest_thread()
     }
 
+    #[inline(always)]
     fn blocks(&self) -> Blocks {
         blocks_by(&self.state)
     }

@@ -7,6 +7,7 @@ use irq_base::{Actor, DriverNo, Entry};
 use line_scripts::{Scripts, completes};
 
 /// A driver's entry moves its place.
+#[inline(always)]
 pub(crate) fn advance(scripts: &mut Scripts, actor: Actor, entry: &Entry)
     requires { CanMove actor scripts.old }
     ensures { Moves actor entry.now scripts.old scripts.new }
@@ -17,6 +18,7 @@ pub(crate) fn advance(scripts: &mut Scripts, actor: Actor, entry: &Entry)
 }
 
 /// Counts one more entry of the driver's due call.
+#[inline(always)]
 fn advance_driver(scripts: &mut Scripts, who: DriverNo, entry: &Entry)
     requires due { IsSome (call_of scripts.old who) }
     requires within { within_of scripts.old who + 1 < 2 ^ 32 }

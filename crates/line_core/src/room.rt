@@ -7,6 +7,7 @@ use line_state::LineState;
 
 /// Makes room for the action of a request that is linked, and for one more entry. The room for the
 /// action comes first: if the other is refused, nothing of the history has changed.
+#[inline(always)]
 pub(crate) fn make_room<C: Chip>(
     state: &mut LineState<C>,
     history: &mut History,

@@ -26,6 +26,7 @@ impl Model for Running {
 
 impl Running {
     /// Whether what was handed in is the run's answer.
+    #[inline(always)]
     fn is_answered(&self, said: &Option<Said>) -> bool
         ensures { IsTrue result ↔ IsSaidFor said.now self.now }
     {
@@ -37,6 +38,7 @@ impl Running {
 }
 
 /// The run that the entry ends, unless what was handed in is its answer.
+#[inline(always)]
 pub(crate) fn unanswered<C: Chip>(
     def: &LineDef,
     state: &LineState<C>,
@@ -54,6 +56,7 @@ pub(crate) fn unanswered<C: Chip>(
 }
 
 /// The line's device of that number.
+#[inline(always)]
 fn device<C: Chip>(def: &LineDef, state: &LineState<C>, dev: DevNo) -> DeviceDef
     ensures { result ≡ device_by def.now state.now.state dev }
 {
@@ -65,6 +68,7 @@ fn device<C: Chip>(def: &LineDef, state: &LineState<C>, dev: DevNo) -> DeviceDef
 }
 
 /// The run that the entry ends.
+#[inline(always)]
 fn run_by<C: Chip>(def: &LineDef, state: &LineState<C>, entry: &Entry) -> Option<Running>
     ensures { result ≡ run_by def.now state.now.state entry.now }
 {

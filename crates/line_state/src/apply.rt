@@ -12,6 +12,7 @@ use irq_base::{Chip, Entry, LineDef};
 impl<C: Chip> LineState<C> {
     /// Brings the state up to the entry, which was due in it. A request that is linked needs room
     /// for its action (`reserve`); nothing takes memory.
+    #[inline(always)]
     pub fn apply(&mut self, def: &LineDef, entry: Entry)
         requires valid { IsValid def.now }
         requires is_of { IsOf def.now self.old.state }

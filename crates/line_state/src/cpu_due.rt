@@ -19,6 +19,7 @@ use irq_base::{
 impl<C: Chip> LineState<C> {
     /// The entry that is due of the processor, if there is one: in its flow the next of the round,
     /// else a take.
+    #[inline(always)]
     pub fn due_of_cpu(&self, def: &LineDef, cpu: CpuNo) -> Option<Entry>
         ensures { result ≡ cpu_due def.now self.now.state cpu }
     {
@@ -41,6 +42,7 @@ impl<C: Chip> LineState<C> {
 
     /// The handler that is at work returns; else the first that is left is called; else the round
     /// ends (`__handle_irq_event_percpu`, `kernel/irq/handle.c`).
+    #[inline(always)]
     fn due_in_flow(&self, def: &LineDef, cpu: CpuNo) -> Entry
         ensures { result ≡ in_flow_by def.now self.now.state cpu self.now.state.round.working }
     {
@@ -51,6 +53,7 @@ impl<C: Chip> LineState<C> {
     }
 
     /// The return of the handler that is at work.
+    #[inline(always)]
     fn due_return(&self, cpu: CpuNo, dev: DevNo) -> Entry
         ensures { result ≡ return_by self.now.state cpu dev (met_by (at self.now.state.asks dev)) }
     {
@@ -66,6 +69,7 @@ impl<C: Chip> LineState<C> {
 
     /// The first linked device whose handler wasn't called in the round is called; if there is
     /// none, the round ends.
+    #[inline(always)]
     fn due_begin_or_end(&self, def: &LineDef, cpu: CpuNo) -> Entry
         ensures { result ≡ in_flow_by def.now self.now.state cpu None }
     {
@@ -163,6 +167,7 @@ impl<C: Chip> LineState<C> {
 
     /// The take that is due of the processor: the target takes what is presented, or else what the
     /// software resends.
+    #[inline(always)]
     fn due_take(&self, cpu: CpuNo) -> Option<Entry>
         ensures { result ≡ next_take_by self.now.state cpu }
     {
@@ -179,6 +184,7 @@ impl<C: Chip> LineState<C> {
     }
 
     /// The take that comes in this way, with its answer.
+    #[inline(always)]
     fn due_take_by(&self, cpu: CpuNo, way: Way) -> Entry
         ensures { result ≡ entries.Take cpu way (take_by self.now.state) }
     {
@@ -190,6 +196,7 @@ impl<C: Chip> LineState<C> {
     }
 
     /// What the flow handler answers.
+    #[inline(always)]
     fn take_answer(&self) -> TakeAnswer
         ensures { result ≡ take_by self.now.state }
     {

@@ -15,6 +15,7 @@ use irq_base::{Chip, CpuNo, FlowKind, LineDef, Note, TakeAnswer, Way};
 
 impl<C: Chip> LineState<C> {
     /// A take, by the line's flow. Whatever its answer, a waiting mask is put in force.
+    #[inline(always)]
     pub(crate) fn take(&mut self, def: &LineDef, cpu: CpuNo, way: Way)
         requires valid { IsValid def.now }
         requires few { self.old.state.aim.cpus ≤ 32 }
@@ -95,6 +96,7 @@ impl<C: Chip> LineState<C> {
 
     /// The end of a round: the note on spurious interrupts, the kill that it may make, and then
     /// what the flow handler does after its last handler.
+    #[inline(always)]
     pub(crate) fn end(&mut self, def: &LineDef)
         requires valid { IsValid def.now }
         requires rounds { HasRounds self.old.state }

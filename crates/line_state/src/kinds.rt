@@ -53,6 +53,7 @@ impl Kinds {
     }
 
     /// The kind of the device; a device that the line lacks is a stuck one.
+    #[inline(always)]
     pub(crate) fn get(&self, dev: DevNo) -> Kind
         ensures { result ≡ kind_at self.now dev }
     {

@@ -10,6 +10,7 @@ use irq_base::{Chip, DevNo, Entry};
 impl<C: Chip> LineState<C> {
     /// The entry that is due of the device's thread, if there is one (`irq_thread`,
     /// `kernel/irq/manage.c`).
+    #[inline(always)]
     pub fn due_of_thread(&self, dev: DevNo) -> Option<Entry>
         ensures { result ≡ thread_due self.now.state dev }
     {
@@ -28,6 +29,7 @@ impl<C: Chip> LineState<C> {
 
     /// On a one-shot line the thread gives its bit up, once no flow is in progress; then its run is
     /// over.
+    #[inline(always)]
     fn due_after_return(&self, dev: DevNo, row: ThreadRow) -> Option<Entry>
         requires { at self.now.state.threads dev ≡ Some row }
         ensures { result ≡ after_return self.now.state dev row }
