@@ -10,7 +10,8 @@ use irq_io::{ReadRefused, Source, read_up_to};
 use std::alloc::Global;
 use thiserror::Error;
 
-/// Why a source gave nothing to judge.
+/// Why a source gave no input: nothing to judge, or no board to a command that reads a board alone
+/// (`irq_top`).
 #[derive(Clone, Copy, Debug, PartialEq, Eq, Error)]
 pub enum InputRefused {
     /// What came has this as its first fault.

@@ -16,8 +16,8 @@ use Rattle.irq_play.specs.declared.ending.PlayedEnd.TheVariants as plays
 use Rattle.irq_play.specs.declared.ending.Wanted.TheVariants as wants
 use Rattle.irq_top.specs.declared.ending.Ending.{Ending}
 use Rattle.irq_top.specs.declared.ending.Ending.TheVariants as endings
-use Rattle.irq_top.specs.declared.inputs.InputRefused.{InputRefused}
-use Rattle.irq_top.specs.declared.inputs.InputRefused.TheVariants as refusals
+use Rattle.irq_check.specs.declared.inputs.InputRefused.{InputRefused}
+use Rattle.irq_check.specs.declared.inputs.InputRefused.TheVariants as refusals
 use Rattle.irq_top.specs.Commands.{Checks, IsReadToEnd, Plays, PlaysAs, Runs, RunsAs}
 use Rattle.irq_top.specs.Ending.{ending_of_check, ending_of_play, ending_of_refusal, is_printed, is_printing, is_read_fault_end, is_write_fault_end}
 use Rattle.irq_top.specs.Reading.{IsStated, ReadsBoard}

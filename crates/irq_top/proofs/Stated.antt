@@ -10,7 +10,7 @@ use Rattle.board_words.specs.declared.faults.FaultKind.TheVariants as faults
 use Rattle.board_words.specs.TextLines.{text_lines}
 use Rattle.board_stated.specs.TextOf.{board_of_text, board_unless, fault_of_lines, with_lines, whole, longest_text}
 use Rattle.board_words.specs.declared.faults.BoardFault.{BoardFault}
-use Rattle.irq_top.specs.declared.inputs.InputRefused.TheVariants as refusals
+use Rattle.irq_check.specs.declared.inputs.InputRefused.TheVariants as refusals
 use Rattle.irq_top.specs.Reading.{IsStated, ReadsBoard}
 
 first_of : {A : Type 0} (b : Bool) (x y : A) → b ≡ true → cond b x y ≡ x

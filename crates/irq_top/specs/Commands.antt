@@ -16,8 +16,8 @@ use Rattle.irq_play.specs.declared.ending.Wanted.TheVariants as wants
 use Rattle.irq_run.specs.Ran.{RunsBoard}
 use Rattle.irq_run.specs.declared.ending.RunEnd.TheVariants as runs
 use Rattle.irq_top.specs.Reading.{IsStated, ReadsBoard}
-use Rattle.irq_top.specs.declared.inputs.InputRefused.{InputRefused}
-use Rattle.irq_top.specs.declared.inputs.InputRefused.TheVariants as refusals
+use Rattle.irq_check.specs.declared.inputs.InputRefused.{InputRefused}
+use Rattle.irq_check.specs.declared.inputs.InputRefused.TheVariants as refusals
 use Rattle.irq_top.specs.declared.ending.Ending.{Ending}
 use Rattle.irq_top.specs.declared.ending.Ending.TheVariants as endings
 

@@ -3,8 +3,8 @@ use Rattle.std.specs.Prelude.{◌≡◌, ℕ, ◌+◌, Bool, true, false, Option
 use Rattle.board_def.specs.Seen.{BoardSeen}
 use Rattle.irq_io.specs.Told.{IsTold}
 use Rattle.board_stated.specs.TextOf.{board_of_text, longest_text}
-use Rattle.irq_top.specs.declared.inputs.InputRefused.{InputRefused}
-use Rattle.irq_top.specs.declared.inputs.InputRefused.TheVariants as refusals
+use Rattle.irq_check.specs.declared.inputs.InputRefused.{InputRefused}
+use Rattle.irq_check.specs.declared.inputs.InputRefused.TheVariants as refusals
 
 -- what is left of a source of which at most one byte more was read than a board's text may have
 abbrev pub left_after : List ℕ → List ℕ

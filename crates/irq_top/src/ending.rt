@@ -2,10 +2,9 @@
 ghost use Rattle.std.specs.Prelude.{◌≡◌};
 ghost use Rattle.irq_top.specs.Ending.{status_of};
 
-use crate::inputs::InputRefused;
 use board_text::BoardFault;
 use irq_base::LineNo;
-use irq_check::{Answer, CheckEnd};
+use irq_check::{Answer, CheckEnd, InputRefused};
 use irq_play::{PlayedEnd, Wanted};
 use irq_run::RunEnd;
 

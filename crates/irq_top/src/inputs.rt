@@ -4,24 +4,10 @@ ghost use Rattle.irq_io.specs.Faults.{Counts};
 ghost use Rattle.irq_top.specs.Reading.{IsStated, ReadsBoard, is_read_fault};
 
 use board_def::Board;
-use board_text::{BoardFault, BoardRefused, LONGEST_TEXT, read_board};
+use board_text::{BoardRefused, LONGEST_TEXT, read_board};
+use irq_check::InputRefused;
 use irq_io::{ReadRefused, Source, read_up_to};
 use std::alloc::Global;
-use thiserror::Error;
-
-/// Why a source gave no board.
-#[derive(Clone, Copy, Debug, PartialEq, Eq, Error)]
-pub enum InputRefused {
-    /// What came has this as its first fault.
-    #[error("board: {0}")]
-    Fault(BoardFault),
-    /// A read failed.
-    #[error("read fault")]
-    ReadFault,
-    /// Memory was needed and refused.
-    #[error("out of memory")]
-    NoMemory,
-}
 
 /// Reads the source to its end, or one byte past the longest text, and gives the board that the
 /// bytes state.

@@ -15,7 +15,7 @@ pub mod outcome;
 pub mod top;
 
 pub use ending::Ending;
-pub use inputs::InputRefused;
+pub use irq_check::InputRefused;
 pub use irq_play::Wanted;
 pub use outcome::Outcome;
 pub use top::{end_early, irq_main};
