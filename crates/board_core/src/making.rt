@@ -42,7 +42,8 @@ fn make_line<L: IrqLine, M: MakesLine<L>>(
     def: &LineDef,
     maker: &M,
 ) -> Result<Option<L>, NoMemory>
-    requires makes { (virq : ℕ) (path : List (ℕ × ℕ)) → placement ≡ Some (placements.Mapped virq path) → M.makes maker.now virq def.now }
+    requires makes { (virq : ℕ) (path : List (ℕ × ℕ))
+        → placement ≡ Some (placements.Mapped virq path) → M.makes maker.now virq def.now }
     ensures { IfOk result (λ made. IsNewLine def.now placement (option_map L.seen made)) }
 {
     match placement {

@@ -19,7 +19,8 @@ pub(crate) fn step_place<L: IrqLine, H: Handler>(
 ) -> Result<Option<Entry>, StepRefused>
     requires place { place < length lines.old.items }
     requires few { place < 65536 }
-    ensures { SteppedAt (map L.seen lines.old.items) order.old.items place actor result (map L.seen lines.new.items) order.new.items }
+    ensures { SteppedAt (map L.seen lines.old.items) order.old.items place actor result
+        (map L.seen lines.new.items) order.new.items }
 {
     if order.reserve(1).is_err() {
         return Err(StepRefused::NoMemory);

@@ -27,7 +27,8 @@ pub(crate) fn place_scripts<L: IrqLine>(
     requires numbers { driver_numbers.now ≡ numbers_of_drivers board.now.drivers }
     requires drivers { drivers_of scripts.old.items ≡ board.now.drivers }
     requires room { HaveRoom (board_lines (map L.seen lines.now)) scripts.old.items }
-    ensures { OnOk result (ArePlaced (board_lines (map L.seen lines.now)) scripts.old.items scripts.new.items) }
+    ensures { OnOk result
+        (ArePlaced (board_lines (map L.seen lines.now)) scripts.old.items scripts.new.items) }
 {
     for k in 0..lines.len() {
         let own = own_scripts(alloc, board, &lines[k], driver_numbers)?;
@@ -55,7 +56,8 @@ fn own_scripts<L: IrqLine>(
     driver_numbers: &[u32],
 ) -> Result<Vec<Script>, NoMemory>
     requires { driver_numbers.now ≡ numbers_of_drivers board.now.drivers }
-    ensures { IfOk result (λ own. AreOwn board.now.drivers (board_line (L.seen line.now)) own.items) }
+    ensures { IfOk result
+        (λ own. AreOwn board.now.drivers (board_line (L.seen line.now)) own.items) }
 {
     line.is_sound();
     let def = line.definition();
@@ -74,7 +76,9 @@ fn own_scripts<L: IrqLine>(
 fn tell(own: &mut Vec<Script>, board: &Board, driver_numbers: &[u32], line: LineNo, entry: Entry)
     requires numbers { driver_numbers.now ≡ numbers_of_drivers board.now.drivers }
     requires drivers { drivers_of own.old.items ≡ board.now.drivers }
-    ensures { (x : BoardLine) → x.def.line ≡ line → IsDue x.def entry x.past → AreOwn board.now.drivers x own.old.items → AreOwn board.now.drivers (with_entry entry x) own.new.items }
+    ensures { (x : BoardLine) → x.def.line ≡ line → IsDue x.def entry x.past
+        → AreOwn board.now.drivers x own.old.items
+        → AreOwn board.now.drivers (with_entry entry x) own.new.items }
 {
     board.is_board();
     let script = place_of_actor(board, driver_numbers, entry.actor(line));
@@ -101,7 +105,8 @@ fn line_scripts(
     driver_numbers: &[u32],
 ) -> Result<Vec<Script>, NoMemory>
     requires { driver_numbers.now ≡ numbers_of_drivers board.now.drivers }
-    ensures { IfOk result (λ own. AreOwn board.now.drivers (record { def = def.now; past = [] }) own.items) }
+    ensures { IfOk result
+        (λ own. AreOwn board.now.drivers (record { def = def.now; past = [] }) own.items) }
 {
     board.is_board();
     let mut own = empty_scripts(alloc, board)?;

@@ -53,7 +53,8 @@ impl Script {
 
     /// Adds the call at the end.
     pub fn push(&mut self, step: Step) -> Result<(), NoMemory>
-        ensures ok { OnOk result (self.new ≡ record self.old { steps = self.old.steps ++ step ∷ [] }) }
+        ensures ok { OnOk result
+            (self.new ≡ record self.old { steps = self.old.steps ++ step ∷ [] }) }
     {
         self.steps.push(step)?;
         Ok(())

@@ -236,7 +236,9 @@ impl<'b, L: IrqLine> System<'b, L> {
     /// that take no part are passed over. None if all are complete, or the driver isn't the
     /// board's.
     pub fn due_call(&self, driver: DriverNo) -> Option<DueCall>
-        ensures { result ≡ call_on (current_line self.now.board.calls (board_lines self.now.lines) driver) driver }
+        ensures { result
+            ≡ call_on
+            (current_line self.now.board.calls (board_lines self.now.lines) driver) driver }
     {
         self.board.is_board();
         let Some(j) = place_of(&self.driver_numbers, driver.0) else {
@@ -375,7 +377,8 @@ impl<'b, L: IrqLine> System<'b, L> {
         handlers: &Callbacks<H>,
     ) -> Turn
         requires { IsCurrentOn self.old line actor }
-        ensures { StepsBy self.old (due_on (find_line (board_lines self.old.lines) line) actor) result self.new }
+        ensures { StepsBy self.old (due_on (find_line (board_lines self.old.lines) line) actor)
+            result self.new }
     {
         let Some(stand) = self.stand_on(line, actor) else {
             return Turn::NotYet;
@@ -426,7 +429,8 @@ impl<'b, L: IrqLine> System<'b, L> {
         handlers: &Callbacks<H>,
     ) -> Turn
         requires { CanStepAt self.old actor stand }
-        ensures { StepsBy self.old (due_on (slice_get (board_lines self.old.lines) stand.line) actor) result self.new }
+        ensures { StepsBy self.old
+            (due_on (slice_get (board_lines self.old.lines) stand.line) actor) result self.new }
     {
         self.board.is_board();
         let k = stand.line;
@@ -453,8 +457,10 @@ impl<'b, L: IrqLine> System<'b, L> {
         ensures board { self.new.board ≡ self.old.board }
         ensures layout { self.new.layout ≡ self.old.layout }
         ensures end { Ends self.new result }
-        ensures play { (picks : List Actor) → IsUnderway self.old picks [] → IsPlay self.new picks result }
-        ensures lines { (picks : List Actor) → IsUnderway self.old picks [] → board_lines self.new.lines ≡ lines_of self.new.board (reverse self.new.log) }
+        ensures play { (picks : List Actor) → IsUnderway self.old picks []
+            → IsPlay self.new picks result }
+        ensures lines { (picks : List Actor) → IsUnderway self.old picks []
+            → board_lines self.new.lines ≡ lines_of self.new.board (reverse self.new.log) }
     {
         loop {
             match self.turn_lowest(handlers) {
@@ -473,7 +479,8 @@ impl<'b, L: IrqLine> System<'b, L> {
         ensures board { self.new.board ≡ self.old.board }
         ensures layout { self.new.layout ≡ self.old.layout }
         ensures play { IsPlay self.new picks.now result }
-        ensures lines { board_lines self.new.lines ≡ lines_of self.new.board (reverse self.new.log) }
+        ensures lines { board_lines self.new.lines
+            ≡ lines_of self.new.board (reverse self.new.log) }
     {
         for pick in picks {
             match self.turn(*pick, handlers) {

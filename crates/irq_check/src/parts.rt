@@ -8,7 +8,8 @@ use log_read::cut_row;
 /// What stands before the first text line that is exactly `---`, and what follows that line;
 /// nothing if there is none.
 pub fn cut_input(input: &[u8]) -> Option<(&[u8], &[u8])>
-    ensures { MatchOption result (parts_of input.now ≡ None) (λ p. parts_of input.now ≡ Some (p.0.now, p.1.now)) }
+    ensures { MatchOption result (parts_of input.now ≡ None)
+        (λ p. parts_of input.now ≡ Some (p.0.now, p.1.now)) }
 {
     let mut before = 0;
     let mut rest = input;

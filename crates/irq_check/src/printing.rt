@@ -50,7 +50,8 @@ pub fn check_and_print<S: Source, O: Sink>(alloc: Global, src: &mut S, out: &mut
 
 /// Prints the answer's row, and hands it on.
 fn print_answer<O: Sink>(out: &mut O, answer: Answer) -> WriteEnd
-    ensures content { WritesAll (O.written out.old) (O.written out.new) (answer_text answer) result }
+    ensures content { WritesAll (O.written out.old) (O.written out.new)
+        (answer_text answer) result }
     ensures handed { HandsOn (O.handed_on out.new) (O.written out.new) result }
     ensures emptied { KeepsNone (O.kept out.new) result }
     ensures cause { Counts (O.faults out.old) (O.faults out.new) (writing_failed result) }

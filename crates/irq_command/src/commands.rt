@@ -32,27 +32,36 @@ pub fn command<R: Threads + Wait + Sync, S: Source, O: Sink, E: Sink>(
     err: &mut E,
 ) -> Outcome
     ensures form { (asked : Command) → IsForm args asked → result.ending ≡ Ending.Usage → ⊥ }
-    ensures usage { IsNoForm args → (result.ending ≡ Ending.Usage) ⊎ (result.ending ≡ Ending.NoMemory Wanted.Making) }
+    ensures usage { IsNoForm args
+        → (result.ending ≡ Ending.Usage) ⊎ (result.ending ≡ Ending.NoMemory Wanted.Making) }
     ensures not_text { IsNotText args → result.ending ≡ Ending.Usage }
     ensures unread { IsNoForm args → src.new ≡ src.old }
     ensures unasked { IsNoForm args → result.reports.reports ≡ [] }
 
     ensures runs { (summary : Bool) → IsForm args (commands.Run summary)
-        → Runs summary (S.left src.old) (S.left src.new) result.reports.reports (O.written out.old) (O.written out.new) result.ending }
+        → Runs summary (S.left src.old) (S.left src.new) result.reports.reports (O.written out.old)
+        (O.written out.new) result.ending }
     ensures plays { (summary : Bool) → IsForm args (commands.Play summary)
-        → Plays summary (S.left src.old) (S.left src.new) result.reports.reports (O.written out.old) (O.written out.new) result.ending }
+        → Plays summary (S.left src.old) (S.left src.new) result.reports.reports (O.written out.old)
+        (O.written out.new) result.ending }
     ensures checks { IsForm args commands.Check
-        → Checks (S.left src.old) (S.left src.new) result.reports.reports (O.written out.old) (O.written out.new) result.ending }
+        → Checks (S.left src.old) (S.left src.new) result.reports.reports (O.written out.old)
+        (O.written out.new) result.ending }
     ensures generates { (n : ℕ) → IsForm args (commands.Gen n)
-        → Generates n result.reports.reports (O.written out.old) (O.written out.new) result.ending × (src.new ≡ src.old) }
-    ensures read_fault { Counts (S.faults src.old) (S.faults src.new) (is_read_fault_end result.ending) }
+        → Generates n result.reports.reports (O.written out.old) (O.written out.new) result.ending
+        × (src.new ≡ src.old) }
+    ensures read_fault { Counts (S.faults src.old) (S.faults src.new)
+        (is_read_fault_end result.ending) }
 
     ensures handed_on { is_printed result.ending ≡ true → O.handed_on out.new ≡ O.written out.new }
     ensures emptied { is_printed result.ending ≡ true → O.kept out.new ≡ [] }
-    ensures write_fault { Counts (O.faults out.old) (O.faults out.new) (is_write_fault_end result.ending) }
+    ensures write_fault { Counts (O.faults out.old) (O.faults out.new)
+        (is_write_fault_end result.ending) }
     ensures silent { is_printing result.ending ≡ false → out.new ≡ out.old }
 
-    ensures tells { is_printed result.ending ≡ false → Tells (error_text result.ending) (E.written err.old) (E.written err.new) (E.handed_on err.new) (E.kept err.new) (E.faults err.old) (E.faults err.new) }
+    ensures tells { is_printed result.ending ≡ false
+        → Tells (error_text result.ending) (E.written err.old) (E.written err.new)
+        (E.handed_on err.new) (E.kept err.new) (E.faults err.old) (E.faults err.new) }
     ensures quiet { is_printed result.ending ≡ true → err.new ≡ err.old }
 {
     match words_of(alloc, args) {
@@ -70,24 +79,34 @@ fn with_words<R: Threads + Wait + Sync, S: Source, O: Sink, E: Sink>(
     out: &mut O,
     err: &mut E,
 ) -> Outcome
-    ensures form { (asked : Command) → Asks (map string_bytes words.now) asked → result.ending ≡ Ending.Usage → ⊥ }
-    ensures usage { AsksNothing (map string_bytes words.now) → (result.ending ≡ Ending.Usage) ⊎ (result.ending ≡ Ending.NoMemory Wanted.Making) }
+    ensures form { (asked : Command) → Asks (map string_bytes words.now) asked
+        → result.ending ≡ Ending.Usage → ⊥ }
+    ensures usage { AsksNothing (map string_bytes words.now)
+        → (result.ending ≡ Ending.Usage) ⊎ (result.ending ≡ Ending.NoMemory Wanted.Making) }
     ensures unread { AsksNothing (map string_bytes words.now) → src.new ≡ src.old }
     ensures unasked { AsksNothing (map string_bytes words.now) → result.reports.reports ≡ [] }
     ensures runs { (summary : Bool) → Asks (map string_bytes words.now) (commands.Run summary)
-        → Runs summary (S.left src.old) (S.left src.new) result.reports.reports (O.written out.old) (O.written out.new) result.ending }
+        → Runs summary (S.left src.old) (S.left src.new) result.reports.reports (O.written out.old)
+        (O.written out.new) result.ending }
     ensures plays { (summary : Bool) → Asks (map string_bytes words.now) (commands.Play summary)
-        → Plays summary (S.left src.old) (S.left src.new) result.reports.reports (O.written out.old) (O.written out.new) result.ending }
+        → Plays summary (S.left src.old) (S.left src.new) result.reports.reports (O.written out.old)
+        (O.written out.new) result.ending }
     ensures checks { Asks (map string_bytes words.now) commands.Check
-        → Checks (S.left src.old) (S.left src.new) result.reports.reports (O.written out.old) (O.written out.new) result.ending }
+        → Checks (S.left src.old) (S.left src.new) result.reports.reports (O.written out.old)
+        (O.written out.new) result.ending }
     ensures generates { (n : ℕ) → Asks (map string_bytes words.now) (commands.Gen n)
-        → Generates n result.reports.reports (O.written out.old) (O.written out.new) result.ending × (src.new ≡ src.old) }
-    ensures read_fault { Counts (S.faults src.old) (S.faults src.new) (is_read_fault_end result.ending) }
+        → Generates n result.reports.reports (O.written out.old) (O.written out.new) result.ending
+        × (src.new ≡ src.old) }
+    ensures read_fault { Counts (S.faults src.old) (S.faults src.new)
+        (is_read_fault_end result.ending) }
     ensures handed_on { is_printed result.ending ≡ true → O.handed_on out.new ≡ O.written out.new }
     ensures emptied { is_printed result.ending ≡ true → O.kept out.new ≡ [] }
-    ensures write_fault { Counts (O.faults out.old) (O.faults out.new) (is_write_fault_end result.ending) }
+    ensures write_fault { Counts (O.faults out.old) (O.faults out.new)
+        (is_write_fault_end result.ending) }
     ensures silent { is_printing result.ending ≡ false → out.new ≡ out.old }
-    ensures tells { is_printed result.ending ≡ false → Tells (error_text result.ending) (E.written err.old) (E.written err.new) (E.handed_on err.new) (E.kept err.new) (E.faults err.old) (E.faults err.new) }
+    ensures tells { is_printed result.ending ≡ false
+        → Tells (error_text result.ending) (E.written err.old) (E.written err.new)
+        (E.handed_on err.new) (E.kept err.new) (E.faults err.old) (E.faults err.new) }
     ensures quiet { is_printed result.ending ≡ true → err.new ≡ err.old }
 {
     match lend(alloc, words) {

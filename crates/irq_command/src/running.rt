@@ -47,28 +47,53 @@ pub fn run<T: Threads + Wait + Sync, R: Read + Drop, O: Write + Drop, E: Write +
 ) -> Ended<R, O, E>
     ensures status { result.status ≡ status_of result.outcome.ending }
     ensures buffer { result.output ≡ None → result.outcome.ending ≡ Ending.NoMemory Wanted.Making }
-    ensures form { (asked : Command) → IsForm args asked → result.outcome.ending ≡ Ending.Usage → ⊥ }
-    ensures usage { IsNoForm args → (result.outcome.ending ≡ Ending.Usage) ⊎ (result.outcome.ending ≡ Ending.NoMemory Wanted.Making) }
-    ensures not_text { IsNotText args → IsSome result.output → result.outcome.ending ≡ Ending.Usage }
+    ensures form { (asked : Command) → IsForm args asked
+        → result.outcome.ending ≡ Ending.Usage → ⊥ }
+    ensures usage { IsNoForm args
+        → (result.outcome.ending ≡ Ending.Usage)
+        ⊎ (result.outcome.ending ≡ Ending.NoMemory Wanted.Making) }
+    ensures not_text { IsNotText args → IsSome result.output
+        → result.outcome.ending ≡ Ending.Usage }
     ensures unread { IsNoForm args → result.input.reader ≡ input }
     ensures unasked { IsNoForm args → result.outcome.reports.reports ≡ [] }
 
     ensures runs { (summary : Bool) → IsForm args (commands.Run summary)
-        → IfSome result.output (λ out. Runs summary (R.remaining input) (R.remaining result.input.reader) result.outcome.reports.reports (O.contents output) (writer_contents O.contents out.writer) result.outcome.ending) }
+        → IfSome result.output
+        (λ out. Runs summary (R.remaining input) (R.remaining result.input.reader)
+        result.outcome.reports.reports (O.contents output)
+        (writer_contents O.contents out.writer) result.outcome.ending) }
     ensures plays { (summary : Bool) → IsForm args (commands.Play summary)
-        → IfSome result.output (λ out. Plays summary (R.remaining input) (R.remaining result.input.reader) result.outcome.reports.reports (O.contents output) (writer_contents O.contents out.writer) result.outcome.ending) }
+        → IfSome result.output
+        (λ out. Plays summary (R.remaining input) (R.remaining result.input.reader)
+        result.outcome.reports.reports (O.contents output)
+        (writer_contents O.contents out.writer) result.outcome.ending) }
     ensures checks { IsForm args commands.Check
-        → IfSome result.output (λ out. Checks (R.remaining input) (R.remaining result.input.reader) result.outcome.reports.reports (O.contents output) (writer_contents O.contents out.writer) result.outcome.ending) }
+        → IfSome result.output
+        (λ out. Checks (R.remaining input) (R.remaining result.input.reader)
+        result.outcome.reports.reports (O.contents output)
+        (writer_contents O.contents out.writer) result.outcome.ending) }
     ensures generates { (n : ℕ) → IsForm args (commands.Gen n)
-        → IfSome result.output (λ out. Generates n result.outcome.reports.reports (O.contents output) (writer_contents O.contents out.writer) result.outcome.ending) × (result.input.reader ≡ input) }
+        → IfSome result.output
+        (λ out. Generates n result.outcome.reports.reports (O.contents output)
+        (writer_contents O.contents out.writer) result.outcome.ending)
+        × (result.input.reader ≡ input) }
     ensures read_fault { Counts 0 result.input.faults (is_read_fault_end result.outcome.ending) }
 
-    ensures emptied { is_printed result.outcome.ending ≡ true → IfSome result.output (λ out. writer_buffer out.writer ≡ []) }
-    ensures write_fault { IfSome result.output (λ out. Counts 0 out.faults (is_write_fault_end result.outcome.ending)) }
-    ensures silent { is_printing result.outcome.ending ≡ false → IfSome result.output (λ out. (writer_inner out.writer ≡ output) × (writer_buffer out.writer ≡ [])) }
+    ensures emptied { is_printed result.outcome.ending ≡ true
+        → IfSome result.output (λ out. writer_buffer out.writer ≡ []) }
+    ensures write_fault { IfSome result.output
+        (λ out. Counts 0 out.faults (is_write_fault_end result.outcome.ending)) }
+    ensures silent { is_printing result.outcome.ending ≡ false
+        → IfSome result.output
+        (λ out. (writer_inner out.writer ≡ output) × (writer_buffer out.writer ≡ [])) }
 
-    ensures tells { is_printed result.outcome.ending ≡ false → Tells (error_text result.outcome.ending) (E.contents error) (writer_contents E.contents result.error.writer) (writer_contents E.contents result.error.writer) (writer_buffer result.error.writer) 0 result.error.faults }
-    ensures quiet { is_printed result.outcome.ending ≡ true → (writer_inner result.error.writer ≡ error) × (writer_buffer result.error.writer ≡ []) }
+    ensures tells { is_printed result.outcome.ending ≡ false
+        → Tells (error_text result.outcome.ending) (E.contents error)
+        (writer_contents E.contents result.error.writer)
+        (writer_contents E.contents result.error.writer) (writer_buffer result.error.writer) 0
+        result.error.faults }
+    ensures quiet { is_printed result.outcome.ending ≡ true
+        → (writer_inner result.error.writer ≡ error) × (writer_buffer result.error.writer ≡ []) }
 {
     let mut input = StdSource::new(input);
     let mut error = StdSink::new(without_buffer(alloc, error));

@@ -37,7 +37,8 @@ pub(crate) fn print_play<O: Sink, L: IrqLine>(
 ) -> Printed
     requires played { IsPlayed board.now system PlayEnd.Done }
     requires room { HasRoom (length board.now.lines) room }
-    ensures printed { IsPrinted board.now false result.reports.reports (O.written out.old) (O.written out.new) result.end }
+    ensures printed { IsPrinted board.now false result.reports.reports (O.written out.old)
+        (O.written out.new) result.end }
     ensures handed { HandsOn (O.handed_on out.new) (O.written out.new) result.end }
     ensures emptied { KeepsNone (O.kept out.new) result.end }
     ensures cause { Counts (O.faults out.old) (O.faults out.new) (writing_failed result.end) }
@@ -57,7 +58,8 @@ pub(crate) fn print_summary<O: Sink, L: IrqLine>(
 ) -> Printed
     requires played { IsPlayed board.now system PlayEnd.Done }
     requires room { HasRoom (length board.now.lines) room }
-    ensures printed { IsPrinted board.now true result.reports.reports (O.written out.old) (O.written out.new) result.end }
+    ensures printed { IsPrinted board.now true result.reports.reports (O.written out.old)
+        (O.written out.new) result.end }
     ensures handed { HandsOn (O.handed_on out.new) (O.written out.new) result.end }
     ensures emptied { KeepsNone (O.kept out.new) result.end }
     ensures cause { Counts (O.faults out.old) (O.faults out.new) (writing_failed result.end) }
@@ -77,7 +79,8 @@ pub(crate) fn print_summary<O: Sink, L: IrqLine>(
 fn write_play<O: Sink, L: IrqLine>(board: &Board, system: &System<'_, L>, out: &mut O) -> WriteEnd
     requires layout { system.now.layout ≡ layout_of board.now }
     requires rows { All HasRow system.now.log }
-    ensures content { WritesAll (O.written out.old) (O.written out.new) (report_text board.now false system.now.log) result }
+    ensures content { WritesAll (O.written out.old) (O.written out.new)
+        (report_text board.now false system.now.log) result }
     ensures handed { HandsOn (O.handed_on out.new) (O.written out.new) result }
     ensures emptied { KeepsNone (O.kept out.new) result }
     ensures cause { Counts (O.faults out.old) (O.faults out.new) (writing_failed result) }
@@ -97,7 +100,8 @@ fn write_play<O: Sink, L: IrqLine>(board: &Board, system: &System<'_, L>, out: &
 fn write_totals<O: Sink>(row: &mut TextRow, reports: &Reports, out: &mut O) -> WriteEnd
     requires few { length reports.now.reports ≤ 64 }
     requires summable { All IsSummable reports.now.reports }
-    ensures content { WritesAll (O.written out.old) (O.written out.new) (totals_text (map told_by reports.now.reports)) result }
+    ensures content { WritesAll (O.written out.old) (O.written out.new)
+        (totals_text (map told_by reports.now.reports)) result }
     ensures handed { HandsOn (O.handed_on out.new) (O.written out.new) result }
     ensures emptied { KeepsNone (O.kept out.new) result }
     ensures cause { Counts (O.faults out.old) (O.faults out.new) (writing_failed result) }

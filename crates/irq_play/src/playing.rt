@@ -43,7 +43,8 @@ pub fn play_and_print<O: Sink, H: Handler>(
     handlers: &Callbacks<H>,
     out: &mut O,
 ) -> PlayedBoard
-    ensures plays { PlaysBoard board.now summary result.reports.reports (O.written out.old) (O.written out.new) result.end }
+    ensures plays { PlaysBoard board.now summary result.reports.reports (O.written out.old)
+        (O.written out.new) result.end }
     ensures handed_on { result.end ≡ PlayedEnd.Done → O.handed_on out.new ≡ O.written out.new }
     ensures emptied { result.end ≡ PlayedEnd.Done → O.kept out.new ≡ [] }
     ensures write_fault { Counts (O.faults out.old) (O.faults out.new) (is_write_fault result.end) }
@@ -94,7 +95,8 @@ fn report_play<O: Sink, L: IrqLine>(
 ) -> PlayedBoard
     requires played { IsPlayed board.now system end }
     requires room { HasRoom (length board.now.lines) room }
-    ensures plays { PlaysBoard board.now summary result.reports.reports (O.written out.old) (O.written out.new) result.end }
+    ensures plays { PlaysBoard board.now summary result.reports.reports (O.written out.old)
+        (O.written out.new) result.end }
     ensures handed_on { result.end ≡ PlayedEnd.Done → O.handed_on out.new ≡ O.written out.new }
     ensures emptied { result.end ≡ PlayedEnd.Done → O.kept out.new ≡ [] }
     ensures write_fault { Counts (O.faults out.old) (O.faults out.new) (is_write_fault result.end) }
@@ -118,7 +120,8 @@ fn print_done<O: Sink, L: IrqLine>(
     requires played { IsPlayed board.now system PlayEnd.Done }
     requires room { HasRoom (length board.now.lines) room }
     ensures printing { IsTrue (is_printing result.end) }
-    ensures plays { PlaysBoard board.now summary result.reports.reports (O.written out.old) (O.written out.new) result.end }
+    ensures plays { PlaysBoard board.now summary result.reports.reports (O.written out.old)
+        (O.written out.new) result.end }
     ensures handed_on { result.end ≡ PlayedEnd.Done → O.handed_on out.new ≡ O.written out.new }
     ensures emptied { result.end ≡ PlayedEnd.Done → O.kept out.new ≡ [] }
     ensures write_fault { Counts (O.faults out.old) (O.faults out.new) (is_write_fault result.end) }

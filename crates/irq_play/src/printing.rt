@@ -24,7 +24,8 @@ pub fn print_layout<O: Sink>(
     layout: &Layout,
 ) -> WriteEnd
     requires { layout.now ≡ layout_of board.now }
-    ensures content { WritesAll (O.written out.old) (O.written out.new) (layout_rows board.now) result }
+    ensures content { WritesAll (O.written out.old) (O.written out.new)
+        (layout_rows board.now) result }
     ensures cause { Counts (O.faults out.old) (O.faults out.new) (writing_failed result) }
 {
     for i in 0..board.lines_len() {
@@ -40,7 +41,8 @@ pub fn print_layout<O: Sink>(
 /// Prints the rows of the moves that are left, the oldest first.
 pub fn print_moves<O: Sink, L: IrqLine>(out: &mut O, moves: &mut Moves<'_, L>) -> WriteEnd
     requires { All HasRow moves.old }
-    ensures content { WritesAll (O.written out.old) (O.written out.new) (moves_text moves.old) result }
+    ensures content { WritesAll (O.written out.old) (O.written out.new)
+        (moves_text moves.old) result }
     ensures cause { Counts (O.faults out.old) (O.faults out.new) (writing_failed result) }
 {
     let mut rows = KeptRows::new();

@@ -33,7 +33,8 @@ impl ReportRoom {
     pub fn fill<L: IrqLine>(self, board: &Board, mut lines: Vec<L>) -> Reports
         requires room { HasRoom (length board.now.lines) self }
         requires lines { AreOfBoard board.now (board_lines (map L.seen lines.items)) }
-        ensures { map told_by result.reports ≡ map (history_among (board_lines (map L.seen lines.items))) board.now.lines }
+        ensures { map told_by result.reports
+            ≡ map (history_among (board_lines (map L.seen lines.items))) board.now.lines }
     {
         board.is_board();
         let ReportRoom {
@@ -73,7 +74,9 @@ fn empty_histories(alloc: Global, n: usize) -> Result<Vec<History>, NoMemory>
 /// empty one.
 fn take_history<L: IrqLine>(lines: &mut Vec<L>, number: LineNo, empty: History) -> History
     requires { IsEmptyHistory empty }
-    ensures { TakesFirst (is_first number (from_last (map L.seen lines.old.items))) (from_last (map L.seen lines.old.items)) (from_last (map L.seen lines.new.items)) result.entries }
+    ensures { TakesFirst (is_first number (from_last (map L.seen lines.old.items)))
+        (from_last (map L.seen lines.old.items)) (from_last (map L.seen lines.new.items))
+        result.entries }
 {
     if !is_last(lines, number) {
         return empty;

@@ -15,7 +15,8 @@ use text_row::TextRow;
 pub fn print_totals<O: Sink>(out: &mut O, row: &mut TextRow, reports: &Reports) -> WriteEnd
     requires few { length reports.now.reports ≤ 64 }
     requires summable { All IsSummable reports.now.reports }
-    ensures content { WritesAll (O.written out.old) (O.written out.new) (totals_text (map told_by reports.now.reports)) result }
+    ensures content { WritesAll (O.written out.old) (O.written out.new)
+        (totals_text (map told_by reports.now.reports)) result }
     ensures cause { Counts (O.faults out.old) (O.faults out.new) (writing_failed result) }
 {
     match print_summaries(out, row, reports) {
@@ -29,7 +30,8 @@ pub fn print_totals<O: Sink>(out: &mut O, row: &mut TextRow, reports: &Reports) 
 /// Prints a row for each report.
 fn print_summaries<O: Sink>(out: &mut O, row: &mut TextRow, reports: &Reports) -> WriteEnd
     requires { All IsSummable reports.now.reports }
-    ensures content { WritesAll (O.written out.old) (O.written out.new) (summaries_text (map told_by reports.now.reports)) result }
+    ensures content { WritesAll (O.written out.old) (O.written out.new)
+        (summaries_text (map told_by reports.now.reports)) result }
     ensures cause { Counts (O.faults out.old) (O.faults out.new) (writing_failed result) }
 {
     for i in 0..reports.len() {

@@ -38,7 +38,8 @@ pub(crate) fn print_run<O: Sink, L: IrqLine>(
 ) -> Printed
     requires ran { IsRun board.now system PlayEnd.Done }
     requires room { HasRoom (length board.now.lines) room }
-    ensures printed { IsPrinted board.now summary result.reports.reports (O.written out.old) (O.written out.new) result.end }
+    ensures printed { IsPrinted board.now summary result.reports.reports (O.written out.old)
+        (O.written out.new) result.end }
     ensures handed { HandsOn (O.handed_on out.new) (O.written out.new) result.end }
     ensures emptied { KeepsNone (O.kept out.new) result.end }
     ensures cause { Counts (O.faults out.old) (O.faults out.new) (writing_failed result.end) }
@@ -66,7 +67,8 @@ fn write_lines<O: Sink>(
     requires few { length reports.now.reports ≤ 64 }
     requires summable { All IsSummable reports.now.reports }
     requires rows { All HasRows reports.now.reports }
-    ensures content { WritesAll (O.written out.old) (O.written out.new) (rows_text summary (map told_by reports.now.reports)) result }
+    ensures content { WritesAll (O.written out.old) (O.written out.new)
+        (rows_text summary (map told_by reports.now.reports)) result }
     ensures handed { HandsOn (O.handed_on out.new) (O.written out.new) result }
     ensures emptied { KeepsNone (O.kept out.new) result }
     ensures cause { Counts (O.faults out.old) (O.faults out.new) (writing_failed result) }

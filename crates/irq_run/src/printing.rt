@@ -14,7 +14,8 @@ use kept_rows::KeptRows;
 /// Prints the rows of each report's history, report by report.
 pub(crate) fn print_lines<O: Sink>(out: &mut O, reports: &Reports) -> WriteEnd
     requires { All HasRows reports.now.reports }
-    ensures content { WritesAll (O.written out.old) (O.written out.new) (lines_text (map told_by reports.now.reports)) result }
+    ensures content { WritesAll (O.written out.old) (O.written out.new)
+        (lines_text (map told_by reports.now.reports)) result }
     ensures cause { Counts (O.faults out.old) (O.faults out.new) (writing_failed result) }
 {
     let mut rows = KeptRows::new();
@@ -38,7 +39,8 @@ fn print_history<O: Sink>(
     history: &History,
 ) -> WriteEnd
     requires { All IsPrintable history.now.entries }
-    ensures content { WritesAll (O.written out.old) (O.written out.new) (history_text line history.now.entries) result }
+    ensures content { WritesAll (O.written out.old) (O.written out.new)
+        (history_text line history.now.entries) result }
     ensures cause { Counts (O.faults out.old) (O.faults out.new) (writing_failed result) }
 {
     for i in 0..history.len() {

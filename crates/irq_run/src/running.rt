@@ -52,7 +52,8 @@ pub fn run_and_print<R: Threads + Wait + Sync, O: Sink, G: Gate + Sync, H: Handl
     handlers: &Callbacks<H>,
     out: &mut O,
 ) -> RanBoard
-    ensures runs { RunsBoard board.now summary result.reports.reports (O.written out.old) (O.written out.new) result.end }
+    ensures runs { RunsBoard board.now summary result.reports.reports (O.written out.old)
+        (O.written out.new) result.end }
     ensures handed_on { result.end ≡ RunEnd.Done → O.handed_on out.new ≡ O.written out.new }
     ensures emptied { result.end ≡ RunEnd.Done → O.kept out.new ≡ [] }
     ensures write_fault { Counts (O.faults out.old) (O.faults out.new) (is_write_fault result.end) }
@@ -117,7 +118,8 @@ fn run_in_rounds<
     handlers: &Callbacks<H>,
 ) -> Result<Vec<L>, NoMemory>
     requires defs { map (λ (x : LineSeen). x.def) (map L.seen lines.items) ≡ defs_of board.now }
-    requires empty { (i : ℕ) (x : LineSeen) → slice_get (map L.seen lines.items) i ≡ Some x → x.entries ≡ [] }
+    requires empty { (i : ℕ) (x : LineSeen) → slice_get (map L.seen lines.items) i ≡ Some x
+        → x.entries ≡ [] }
     ensures { IfOk result (λ all. AreKept board.now (board_lines (map L.seen all.items))) }
 {
     let (shared, mut jobs) = share(alloc, board, lines)?;
@@ -137,7 +139,8 @@ fn report_run<O: Sink, L: IrqLine>(
     out: &mut O,
 ) -> RanBoard
     requires { IsRun board.now system end }
-    ensures runs { RunsBoard board.now summary result.reports.reports (O.written out.old) (O.written out.new) result.end }
+    ensures runs { RunsBoard board.now summary result.reports.reports (O.written out.old)
+        (O.written out.new) result.end }
     ensures handed_on { result.end ≡ RunEnd.Done → O.handed_on out.new ≡ O.written out.new }
     ensures emptied { result.end ≡ RunEnd.Done → O.kept out.new ≡ [] }
     ensures write_fault { Counts (O.faults out.old) (O.faults out.new) (is_write_fault result.end) }
@@ -164,7 +167,8 @@ fn print_done<O: Sink, L: IrqLine>(
     requires ran { IsRun board.now system PlayEnd.Done }
     requires room { HasRoom (length board.now.lines) room }
     ensures printing { IsTrue (is_printing result.end) }
-    ensures runs { RunsBoard board.now summary result.reports.reports (O.written out.old) (O.written out.new) result.end }
+    ensures runs { RunsBoard board.now summary result.reports.reports (O.written out.old)
+        (O.written out.new) result.end }
     ensures handed_on { result.end ≡ RunEnd.Done → O.handed_on out.new ≡ O.written out.new }
     ensures emptied { result.end ≡ RunEnd.Done → O.kept out.new ≡ [] }
     ensures write_fault { Counts (O.faults out.old) (O.faults out.new) (is_write_fault result.end) }

@@ -28,11 +28,14 @@ pub(crate) fn play<S: Source, O: Sink, H: Handler>(
     out: &mut O,
     handlers: &Callbacks<H>,
 ) -> Outcome
-    ensures plays { Plays summary (S.left src.old) (S.left src.new) result.reports.reports (O.written out.old) (O.written out.new) result.ending }
-    ensures read_fault { Counts (S.faults src.old) (S.faults src.new) (is_read_fault_end result.ending) }
+    ensures plays { Plays summary (S.left src.old) (S.left src.new) result.reports.reports
+        (O.written out.old) (O.written out.new) result.ending }
+    ensures read_fault { Counts (S.faults src.old) (S.faults src.new)
+        (is_read_fault_end result.ending) }
     ensures handed_on { is_printed result.ending ≡ true → O.handed_on out.new ≡ O.written out.new }
     ensures emptied { is_printed result.ending ≡ true → O.kept out.new ≡ [] }
-    ensures write_fault { Counts (O.faults out.old) (O.faults out.new) (is_write_fault_end result.ending) }
+    ensures write_fault { Counts (O.faults out.old) (O.faults out.new)
+        (is_write_fault_end result.ending) }
     ensures silent { is_printing result.ending ≡ false → out.new ≡ out.old }
 {
     match read_input(alloc, src) {
@@ -54,11 +57,14 @@ pub(crate) fn run<R: Threads + Wait + Sync, S: Source, O: Sink, G: Gate + Sync, 
     gate: &G,
     handlers: &Callbacks<H>,
 ) -> Outcome
-    ensures runs { Runs summary (S.left src.old) (S.left src.new) result.reports.reports (O.written out.old) (O.written out.new) result.ending }
-    ensures read_fault { Counts (S.faults src.old) (S.faults src.new) (is_read_fault_end result.ending) }
+    ensures runs { Runs summary (S.left src.old) (S.left src.new) result.reports.reports
+        (O.written out.old) (O.written out.new) result.ending }
+    ensures read_fault { Counts (S.faults src.old) (S.faults src.new)
+        (is_read_fault_end result.ending) }
     ensures handed_on { is_printed result.ending ≡ true → O.handed_on out.new ≡ O.written out.new }
     ensures emptied { is_printed result.ending ≡ true → O.kept out.new ≡ [] }
-    ensures write_fault { Counts (O.faults out.old) (O.faults out.new) (is_write_fault_end result.ending) }
+    ensures write_fault { Counts (O.faults out.old) (O.faults out.new)
+        (is_write_fault_end result.ending) }
     ensures silent { is_printing result.ending ≡ false → out.new ≡ out.old }
 {
     match read_input(alloc, src) {
@@ -80,10 +86,12 @@ fn run_board<R: Threads + Wait + Sync, O: Sink, G: Gate + Sync, H: Handler + Syn
     gate: &G,
     handlers: &Callbacks<H>,
 ) -> Outcome
-    ensures runs { RunsAs board.now summary result.reports.reports (O.written out.old) (O.written out.new) result.ending }
+    ensures runs { RunsAs board.now summary result.reports.reports (O.written out.old)
+        (O.written out.new) result.ending }
     ensures handed_on { is_printed result.ending ≡ true → O.handed_on out.new ≡ O.written out.new }
     ensures emptied { is_printed result.ending ≡ true → O.kept out.new ≡ [] }
-    ensures write_fault { Counts (O.faults out.old) (O.faults out.new) (is_write_fault_end result.ending) }
+    ensures write_fault { Counts (O.faults out.old) (O.faults out.new)
+        (is_write_fault_end result.ending) }
     ensures silent { is_printing result.ending ≡ false → out.new ≡ out.old }
 {
     let ran = run_and_print(rt, alloc, board, summary, gate, handlers, out);
@@ -100,10 +108,12 @@ pub(crate) fn play_generated<O: Sink, H: Handler>(
     out: &mut O,
     handlers: &Callbacks<H>,
 ) -> Outcome
-    ensures generates { Generates n result.reports.reports (O.written out.old) (O.written out.new) result.ending }
+    ensures generates { Generates n result.reports.reports (O.written out.old) (O.written out.new)
+        result.ending }
     ensures handed_on { is_printed result.ending ≡ true → O.handed_on out.new ≡ O.written out.new }
     ensures emptied { is_printed result.ending ≡ true → O.kept out.new ≡ [] }
-    ensures write_fault { Counts (O.faults out.old) (O.faults out.new) (is_write_fault_end result.ending) }
+    ensures write_fault { Counts (O.faults out.old) (O.faults out.new)
+        (is_write_fault_end result.ending) }
     ensures silent { is_printing result.ending ≡ false → out.new ≡ out.old }
 {
     match generate(alloc, n) {
@@ -120,10 +130,12 @@ fn play_board<O: Sink, H: Handler>(
     out: &mut O,
     handlers: &Callbacks<H>,
 ) -> Outcome
-    ensures plays { PlaysAs board.now summary result.reports.reports (O.written out.old) (O.written out.new) result.ending }
+    ensures plays { PlaysAs board.now summary result.reports.reports (O.written out.old)
+        (O.written out.new) result.ending }
     ensures handed_on { is_printed result.ending ≡ true → O.handed_on out.new ≡ O.written out.new }
     ensures emptied { is_printed result.ending ≡ true → O.kept out.new ≡ [] }
-    ensures write_fault { Counts (O.faults out.old) (O.faults out.new) (is_write_fault_end result.ending) }
+    ensures write_fault { Counts (O.faults out.old) (O.faults out.new)
+        (is_write_fault_end result.ending) }
     ensures silent { is_printing result.ending ≡ false → out.new ≡ out.old }
 {
     let played = play_and_print(alloc, board, summary, handlers, out);
@@ -135,11 +147,14 @@ fn play_board<O: Sink, H: Handler>(
 
 /// `check`: reads a board and a log of it, judges the log, and prints what is said of it.
 pub(crate) fn check<S: Source, O: Sink>(alloc: Global, src: &mut S, out: &mut O) -> Outcome
-    ensures checks { Checks (S.left src.old) (S.left src.new) result.reports.reports (O.written out.old) (O.written out.new) result.ending }
-    ensures read_fault { Counts (S.faults src.old) (S.faults src.new) (is_read_fault_end result.ending) }
+    ensures checks { Checks (S.left src.old) (S.left src.new) result.reports.reports
+        (O.written out.old) (O.written out.new) result.ending }
+    ensures read_fault { Counts (S.faults src.old) (S.faults src.new)
+        (is_read_fault_end result.ending) }
     ensures handed_on { is_printed result.ending ≡ true → O.handed_on out.new ≡ O.written out.new }
     ensures emptied { is_printed result.ending ≡ true → O.kept out.new ≡ [] }
-    ensures write_fault { Counts (O.faults out.old) (O.faults out.new) (is_write_fault_end result.ending) }
+    ensures write_fault { Counts (O.faults out.old) (O.faults out.new)
+        (is_write_fault_end result.ending) }
     ensures silent { is_printing result.ending ≡ false → out.new ≡ out.old }
 {
     Outcome::without_reports(alloc, Ending::from(check_and_print(alloc, src, out)))

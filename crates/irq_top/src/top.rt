@@ -49,21 +49,29 @@ pub fn irq_main<
     ensures unasked { result.ending ≡ Ending.Usage → result.reports.reports ≡ [] }
 
     ensures runs { (summary : Bool) → Asks (map (λ w. w.now) words.now) (commands.Run summary)
-        → Runs summary (S.left src.old) (S.left src.new) result.reports.reports (O.written out.old) (O.written out.new) result.ending }
+        → Runs summary (S.left src.old) (S.left src.new) result.reports.reports (O.written out.old)
+        (O.written out.new) result.ending }
     ensures plays { (summary : Bool) → Asks (map (λ w. w.now) words.now) (commands.Play summary)
-        → Plays summary (S.left src.old) (S.left src.new) result.reports.reports (O.written out.old) (O.written out.new) result.ending }
+        → Plays summary (S.left src.old) (S.left src.new) result.reports.reports (O.written out.old)
+        (O.written out.new) result.ending }
     ensures checks { Asks (map (λ w. w.now) words.now) commands.Check
-        → Checks (S.left src.old) (S.left src.new) result.reports.reports (O.written out.old) (O.written out.new) result.ending }
+        → Checks (S.left src.old) (S.left src.new) result.reports.reports (O.written out.old)
+        (O.written out.new) result.ending }
     ensures generates { (n : ℕ) → Asks (map (λ w. w.now) words.now) (commands.Gen n)
-        → Generates n result.reports.reports (O.written out.old) (O.written out.new) result.ending × (src.new ≡ src.old) }
-    ensures read_fault { Counts (S.faults src.old) (S.faults src.new) (is_read_fault_end result.ending) }
+        → Generates n result.reports.reports (O.written out.old) (O.written out.new) result.ending
+        × (src.new ≡ src.old) }
+    ensures read_fault { Counts (S.faults src.old) (S.faults src.new)
+        (is_read_fault_end result.ending) }
 
     ensures handed_on { is_printed result.ending ≡ true → O.handed_on out.new ≡ O.written out.new }
     ensures emptied { is_printed result.ending ≡ true → O.kept out.new ≡ [] }
-    ensures write_fault { Counts (O.faults out.old) (O.faults out.new) (is_write_fault_end result.ending) }
+    ensures write_fault { Counts (O.faults out.old) (O.faults out.new)
+        (is_write_fault_end result.ending) }
     ensures silent { is_printing result.ending ≡ false → out.new ≡ out.old }
 
-    ensures tells { is_printed result.ending ≡ false → Tells (error_text result.ending) (E.written err.old) (E.written err.new) (E.handed_on err.new) (E.kept err.new) (E.faults err.old) (E.faults err.new) }
+    ensures tells { is_printed result.ending ≡ false
+        → Tells (error_text result.ending) (E.written err.old) (E.written err.new)
+        (E.handed_on err.new) (E.kept err.new) (E.faults err.old) (E.faults err.new) }
     ensures quiet { is_printed result.ending ≡ true → err.new ≡ err.old }
 {
     let outcome = work(rt, alloc, words, src, out, gate, handlers);
@@ -87,17 +95,23 @@ fn work<R: Threads + Wait + Sync, S: Source, O: Sink, G: Gate + Sync, H: Handler
     ensures unread { result.ending ≡ Ending.Usage → src.new ≡ src.old }
     ensures unasked { result.ending ≡ Ending.Usage → result.reports.reports ≡ [] }
     ensures runs { (summary : Bool) → Asks (map (λ w. w.now) words.now) (commands.Run summary)
-        → Runs summary (S.left src.old) (S.left src.new) result.reports.reports (O.written out.old) (O.written out.new) result.ending }
+        → Runs summary (S.left src.old) (S.left src.new) result.reports.reports (O.written out.old)
+        (O.written out.new) result.ending }
     ensures plays { (summary : Bool) → Asks (map (λ w. w.now) words.now) (commands.Play summary)
-        → Plays summary (S.left src.old) (S.left src.new) result.reports.reports (O.written out.old) (O.written out.new) result.ending }
+        → Plays summary (S.left src.old) (S.left src.new) result.reports.reports (O.written out.old)
+        (O.written out.new) result.ending }
     ensures checks { Asks (map (λ w. w.now) words.now) commands.Check
-        → Checks (S.left src.old) (S.left src.new) result.reports.reports (O.written out.old) (O.written out.new) result.ending }
+        → Checks (S.left src.old) (S.left src.new) result.reports.reports (O.written out.old)
+        (O.written out.new) result.ending }
     ensures generates { (n : ℕ) → Asks (map (λ w. w.now) words.now) (commands.Gen n)
-        → Generates n result.reports.reports (O.written out.old) (O.written out.new) result.ending × (src.new ≡ src.old) }
-    ensures read_fault { Counts (S.faults src.old) (S.faults src.new) (is_read_fault_end result.ending) }
+        → Generates n result.reports.reports (O.written out.old) (O.written out.new) result.ending
+        × (src.new ≡ src.old) }
+    ensures read_fault { Counts (S.faults src.old) (S.faults src.new)
+        (is_read_fault_end result.ending) }
     ensures handed_on { is_printed result.ending ≡ true → O.handed_on out.new ≡ O.written out.new }
     ensures emptied { is_printed result.ending ≡ true → O.kept out.new ≡ [] }
-    ensures write_fault { Counts (O.faults out.old) (O.faults out.new) (is_write_fault_end result.ending) }
+    ensures write_fault { Counts (O.faults out.old) (O.faults out.new)
+        (is_write_fault_end result.ending) }
     ensures silent { is_printing result.ending ≡ false → out.new ≡ out.old }
 {
     match read_command(words) {
@@ -123,7 +137,8 @@ fn is_printed(ending: Ending) -> bool
 pub fn end_early<E: Sink>(alloc: Global, ending: Ending, err: &mut E) -> Outcome
     ensures ending { result.ending ≡ ending }
     ensures reports { result.reports.reports ≡ [] }
-    ensures tells { Tells (error_text ending) (E.written err.old) (E.written err.new) (E.handed_on err.new) (E.kept err.new) (E.faults err.old) (E.faults err.new) }
+    ensures tells { Tells (error_text ending) (E.written err.old) (E.written err.new)
+        (E.handed_on err.new) (E.kept err.new) (E.faults err.old) (E.faults err.new) }
 {
     tell(err, ending);
     Outcome::without_reports(alloc, ending)
@@ -131,7 +146,8 @@ pub fn end_early<E: Sink>(alloc: Global, ending: Ending, err: &mut E) -> Outcome
 
 /// Says on the error sink how the call ended.
 fn tell<E: Sink>(err: &mut E, ending: Ending)
-    ensures { Tells (error_text ending) (E.written err.old) (E.written err.new) (E.handed_on err.new) (E.kept err.new) (E.faults err.old) (E.faults err.new) }
+    ensures { Tells (error_text ending) (E.written err.old) (E.written err.new)
+        (E.handed_on err.new) (E.kept err.new) (E.faults err.old) (E.faults err.new) }
 {
     let mut row = TextRow::new();
     error_row(&mut row, ending);
@@ -140,7 +156,8 @@ fn tell<E: Sink>(err: &mut E, ending: Ending)
 
 /// Writes the row, and hands it on.
 fn tell_row<E: Sink>(err: &mut E, row: &[u8])
-    ensures { Tells row.now (E.written err.old) (E.written err.new) (E.handed_on err.new) (E.kept err.new) (E.faults err.old) (E.faults err.new) }
+    ensures { Tells row.now (E.written err.old) (E.written err.new) (E.handed_on err.new)
+        (E.kept err.new) (E.faults err.old) (E.faults err.new) }
 {
     if let WriteEnd::Done = write_all(err, row) {
         let _ = err.flush();

@@ -40,7 +40,8 @@ fn due_of_thread<C: Chip>(
     line: LineNo,
     dev: DevNo,
 ) -> Option<Entry>
-    ensures { result ≡ (if same_line line def.now.line then thread_due state.now.state dev else None) }
+    ensures { result
+        ≡ (if same_line line def.now.line then thread_due state.now.state dev else None) }
 {
     if line != def.line {
         return None;

@@ -52,7 +52,9 @@ impl<C: Chip + Drop> Line<C> {
     #[tactic(auto, using(crate::proofs::More::line_starts))]
     pub fn new(alloc: Global, def: &LineDef, chip: C) -> Result<Line<C>, NoMemory>
         requires valid { IsValid def.now }
-        requires cell { C.cell chip ≡ fresh_cell def.now.trigger def.now.keeps def.now.recalls def.now.retriggers (serves def.now) }
+        requires cell { C.cell chip
+            ≡ fresh_cell def.now.trigger def.now.keeps def.now.recalls def.now.retriggers
+            (serves def.now) }
         requires inactive { C.active chip ≡ false }
         ensures def { IfOk result (λ line. line.def ≡ def.now) }
         ensures empty { IfOk result (λ line. line.entries ≡ []) }
@@ -76,7 +78,8 @@ impl<C: Chip> Line<C> {
     pub fn chip(&self) -> &C
         ensures cell { C.cell result.now ≡ cell_after self.now.def (reverse self.now.entries) }
         ensures active { C.active result.now ≡ is_up (reverse self.now.entries) }
-        ensures aimed { target self.now.def (reverse self.now.entries) ≡ Some (record { 0 = C.aimed result.now }) }
+        ensures aimed { target self.now.def (reverse self.now.entries)
+            ≡ Some (record { 0 = C.aimed result.now }) }
     {
         self.state.chip()
     }

@@ -45,8 +45,11 @@ pub(crate) fn unanswered<C: Chip>(
     entry: &Entry,
     said: &Option<Said>,
 ) -> Option<Running>
-    ensures some { IfSome result (λ run. (run_by def.now state.now.state entry.now ≡ Some run) × (IsSaidFor said.now run → ⊥)) }
-    ensures none { result ≡ None → IfSome (run_by def.now state.now.state entry.now) (IsSaidFor said.now) }
+    ensures some { IfSome result
+        (λ run. (run_by def.now state.now.state entry.now ≡ Some run)
+        × (IsSaidFor said.now run → ⊥)) }
+    ensures none { result ≡ None
+        → IfSome (run_by def.now state.now.state entry.now) (IsSaidFor said.now) }
 {
     let run = run_by(def, state, entry)?;
     if run.is_answered(said) {

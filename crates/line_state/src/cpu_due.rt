@@ -107,7 +107,9 @@ impl<C: Chip> LineState<C> {
     /// What the flow handler will do at the round's end, after that note: a kill leaves the line
     /// disabled.
     fn left(&self, def: &LineDef, note: Note) -> Left
-        ensures { result ≡ left_by def.now def.now.flow (is_held self.now.state) (killed_if note self.now.state.desc) }
+        ensures { result
+            ≡ left_by def.now def.now.flow (is_held self.now.state)
+            (killed_if note self.now.state.desc) }
     {
         if note == Note::Killed {
             return Left {

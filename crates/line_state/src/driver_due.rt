@@ -108,7 +108,9 @@ impl<C: Chip> LineState<C> {
     /// What an enable would answer (`__enable_irq`).
     fn enable_answer(&self, def: &LineDef) -> EnableAnswer
         requires { IsOf def.now self.now.state }
-        ensures { result ≡ enable_by (not (is_bare self.now.state.list.actions)) def.now.trigger self.now.state.desc self.now.state.cell }
+        ensures { result
+            ≡ enable_by (not (is_bare self.now.state.list.actions)) def.now.trigger
+            self.now.state.desc self.now.state.cell }
     {
         if self.desc.depth() == 0 || self.actions.is_empty() {
             return EnableAnswer::Unbalanced;
@@ -186,7 +188,9 @@ impl<C: Chip> LineState<C> {
 
     /// `synchronize_irq`.
     fn due_of_sync(&self, driver: DriverNo, within: u32) -> Option<Entry>
-        ensures { result ≡ (if within == 0 then clear_by driver self.now.state else synced_by driver self.now.state) }
+        ensures { result
+            ≡ (if within == 0 then clear_by driver self.now.state
+            else synced_by driver self.now.state) }
     {
         match within {
             0 => self.due_clear(driver),

@@ -19,7 +19,8 @@ impl<C: Chip> LineState<C> {
     /// `__disable_irq`.
     pub(crate) fn disable(&mut self)
         requires { HasDepth self.old.state }
-        ensures { (def : LineDef) (driver : DriverNo) → self.new.state ≡ state_after def (entries.Disable driver) self.old.state }
+        ensures { (def : LineDef) (driver : DriverNo)
+            → self.new.state ≡ state_after def (entries.Disable driver) self.old.state }
     {
         self.desc.disable(&mut self.chip);
     }
@@ -36,7 +37,11 @@ impl<C: Chip> LineState<C> {
     /// The first step of `__free_irq`: the device leaves, and the last one shuts the line down.
     #[tactic(auto, using(crate::proofs::Unlinking::left_alone))]
     pub(crate) fn unlink(&mut self, driver: DriverNo, dev: DevNo)
-        ensures { (def : LineDef) → self.new.state ≡ state_after def (entries.Unlink driver dev (unlink_by dev self.old.state.list.actions)) self.old.state }
+        ensures { (def : LineDef)
+            → self.new.state
+            ≡ state_after def
+            (entries.Unlink driver dev (unlink_by dev self.old.state.list.actions))
+            self.old.state }
     {
         if let UnlinkAnswer::Unlinked { last } = self.actions.unlink(dev) {
             self.shut_if(last);
@@ -55,7 +60,8 @@ impl<C: Chip> LineState<C> {
     /// The last step of `__free_irq`: if nothing is linked, the interrupt is deactivated in its
     /// domains.
     pub(crate) fn freed(&mut self)
-        ensures { (def : LineDef) (driver : DriverNo) (dev : DevNo) → self.new.state ≡ state_after def (entries.Freed driver dev) self.old.state }
+        ensures { (def : LineDef) (driver : DriverNo) (dev : DevNo)
+            → self.new.state ≡ state_after def (entries.Freed driver dev) self.old.state }
     {
         self.freeing = None;
         if self.actions.is_empty() {
@@ -66,7 +72,10 @@ impl<C: Chip> LineState<C> {
     /// `irq_set_affinity`: if a mask is in force at once, the chip is aimed by it from now on.
     pub(crate) fn affinity(&mut self, mask: u32)
         requires { self.old.state.aim.cpus ≤ 32 }
-        ensures { (def : LineDef) (driver : DriverNo) → self.new.state ≡ state_after def (entries.Affinity driver mask (set_answer self.old.state.aim mask)) self.old.state }
+        ensures { (def : LineDef) (driver : DriverNo)
+            → self.new.state
+            ≡ state_after def (entries.Affinity driver mask (set_answer self.old.state.aim mask))
+            self.old.state }
     {
         if self.aim.set(mask) == AffinityAnswer::Now {
             self.aim_chip();
@@ -75,7 +84,8 @@ impl<C: Chip> LineState<C> {
 
     /// The time is handed in.
     pub(crate) fn moment(&mut self, at: u32)
-        ensures { (def : LineDef) (driver : DriverNo) → self.new.state ≡ state_after def (entries.Moment driver at) self.old.state }
+        ensures { (def : LineDef) (driver : DriverNo)
+            → self.new.state ≡ state_after def (entries.Moment driver at) self.old.state }
     {
         self.round.set_moment(at);
     }

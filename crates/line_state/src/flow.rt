@@ -20,7 +20,8 @@ impl<C: Chip> LineState<C> {
         requires valid { IsValid def.now }
         requires few { self.old.state.aim.cpus ≤ 32 }
         requires rounds { HasRounds self.old.state }
-        ensures { self.new.state ≡ state_after def.now (entries.Take cpu way (take_by self.old.state)) self.old.state }
+        ensures { self.new.state
+            ≡ state_after def.now (entries.Take cpu way (take_by self.old.state)) self.old.state }
     {
         self.arrive(way);
         let answer = self.enter(def, cpu);
@@ -102,7 +103,9 @@ impl<C: Chip> LineState<C> {
         requires rounds { HasRounds self.old.state }
         requires depth { HasDepth self.old.state }
         requires open { IsOpen def.now self.old.state }
-        ensures { (cpu : CpuNo) → self.new.state ≡ state_after def.now (end_by def.now self.old.state cpu) self.old.state }
+        ensures { (cpu : CpuNo)
+            → self.new.state
+            ≡ state_after def.now (end_by def.now self.old.state cpu) self.old.state }
     {
         let note = self.note_round();
         self.kill_by(note);
@@ -132,8 +135,10 @@ impl<C: Chip> LineState<C> {
     /// The flow handler after its last handler.
     fn leave(&mut self, def: &LineDef) -> Left
         requires { IsOpen def.now self.old.state }
-        ensures left { result ≡ left_by def.now def.now.flow (is_held self.old.state) self.old.state.desc }
-        ensures state { self.new.state ≡ left_at def.now def.now.flow (is_held self.old.state) self.old.state }
+        ensures left { result
+            ≡ left_by def.now def.now.flow (is_held self.old.state) self.old.state.desc }
+        ensures state { self.new.state
+            ≡ left_at def.now def.now.flow (is_held self.old.state) self.old.state }
     {
         let held = self.is_held();
         match def.flow {

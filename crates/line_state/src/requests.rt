@@ -26,9 +26,11 @@ impl<C: Chip> LineState<C> {
         answer: LinkAnswer,
         opened: Opened,
     )
-        requires expected { IsExpected def.now (entries.Request driver dev flags answer opened) self.old.state }
+        requires expected { IsExpected def.now (entries.Request driver dev flags answer opened)
+            self.old.state }
         requires room { is_linked_answer answer ≡ true → 1 ≤ self.old.spare }
-        ensures { self.new.state ≡ state_after def.now (entries.Request driver dev flags answer opened) self.old.state }
+        ensures { self.new.state
+            ≡ state_after def.now (entries.Request driver dev flags answer opened) self.old.state }
     {
         if answer == LinkAnswer::Linked {
             let first = self.actions.is_empty();
@@ -41,7 +43,8 @@ impl<C: Chip> LineState<C> {
     /// The action is linked; the mark of a storm goes, and the window of the rule begins anew.
     fn link(&mut self, dev: DevNo, flags: Flags)
         requires absent { has dev self.old.state.list.actions ≡ false }
-        requires answer { answer_by (kind_at self.old.state.kinds dev) flags self.old.state.list.actions ≡ links.Linked }
+        requires answer { answer_by (kind_at self.old.state.kinds dev) flags
+            self.old.state.list.actions ≡ links.Linked }
         requires room { 1 ≤ self.old.spare }
         ensures { self.new.state ≡ linked_at dev flags self.old.state }
     {
@@ -63,7 +66,8 @@ impl<C: Chip> LineState<C> {
 
     /// What the request makes of the depth.
     fn open(&mut self, trigger: Trigger, first: bool, opened: Opened)
-        requires resend { is_started_opened opened ≡ true → opened ≡ opens.Started (resend_by trigger self.old.state.desc self.old.state.cell) }
+        requires resend { is_started_opened opened ≡ true
+            → opened ≡ opens.Started (resend_by trigger self.old.state.desc self.old.state.cell) }
         requires depth { opened ≡ opens.Lowered → 1 ≤ self.old.state.desc.depth }
         ensures { self.new.state ≡ opened_to first opened self.old.state }
     {

@@ -19,7 +19,8 @@ impl<C: Chip> LineState<C> {
     pub(crate) fn ask(&mut self, def: &LineDef, dev: DevNo)
         requires is_of { IsOf def.now self.old.state }
         requires room { HasRoom (at self.old.state.asks dev) }
-        ensures { (driver : DriverNo) → self.new.state ≡ state_after def.now (entries.Ask driver dev) self.old.state }
+        ensures { (driver : DriverNo)
+            → self.new.state ≡ state_after def.now (entries.Ask driver dev) self.old.state }
     {
         self.asks.asked(dev);
         match def.trigger {
@@ -30,7 +31,8 @@ impl<C: Chip> LineState<C> {
 
     /// The device's handler is called.
     pub(crate) fn begin(&mut self, dev: DevNo)
-        ensures { (def : LineDef) (cpu : CpuNo) → self.new.state ≡ state_after def (entries.Begin cpu dev) self.old.state }
+        ensures { (def : LineDef) (cpu : CpuNo)
+            → self.new.state ≡ state_after def (entries.Begin cpu dev) self.old.state }
     {
         let serves = self.is_direct(dev);
         self.asks.called(dev, serves);
@@ -42,7 +44,9 @@ impl<C: Chip> LineState<C> {
     /// so.
     pub(crate) fn returned(&mut self, def: &LineDef, dev: DevNo, answer: Answer, served: u32)
         requires { IsOf def.now self.old.state }
-        ensures { (cpu : CpuNo) → self.new.state ≡ state_after def.now (entries.Return cpu dev answer served) self.old.state }
+        ensures { (cpu : CpuNo)
+            → self.new.state
+            ≡ state_after def.now (entries.Return cpu dev answer served) self.old.state }
     {
         let serves = self.is_direct(dev);
         self.asks.served(dev, serves);
@@ -66,7 +70,8 @@ impl<C: Chip> LineState<C> {
 
     /// The device's thread begins a run.
     pub(crate) fn thread_begin(&mut self, dev: DevNo)
-        ensures { (def : LineDef) → self.new.state ≡ state_after def (entries.ThreadBegin dev) self.old.state }
+        ensures { (def : LineDef)
+            → self.new.state ≡ state_after def (entries.ThreadBegin dev) self.old.state }
     {
         let serves = self.is_threaded(dev);
         self.threads.begin(dev);
@@ -77,7 +82,8 @@ impl<C: Chip> LineState<C> {
     pub(crate) fn thread_returned(&mut self, def: &LineDef, dev: DevNo, served: u32)
         requires is_of { IsOf def.now self.old.state }
         requires room { self.old.state.counts.counts.threads_handled < 2 ^ 32 - 1 }
-        ensures { self.new.state ≡ state_after def.now (entries.ThreadReturn dev served) self.old.state }
+        ensures { self.new.state
+            ≡ state_after def.now (entries.ThreadReturn dev served) self.old.state }
     {
         let serves = self.is_threaded(dev);
         self.threads.returned(dev);
@@ -90,7 +96,8 @@ impl<C: Chip> LineState<C> {
 
     /// Its run is finalized, which may open the line.
     pub(crate) fn finish(&mut self, dev: DevNo, unmask: bool)
-        ensures { (def : LineDef) (kept : Bool) → self.new.state ≡ state_after def (entries.Finish dev kept unmask) self.old.state }
+        ensures { (def : LineDef) (kept : Bool)
+            → self.new.state ≡ state_after def (entries.Finish dev kept unmask) self.old.state }
     {
         self.threads.finish(dev);
         if unmask {
@@ -100,7 +107,8 @@ impl<C: Chip> LineState<C> {
 
     /// Its run is over.
     pub(crate) fn done(&mut self, dev: DevNo)
-        ensures { (def : LineDef) → self.new.state ≡ state_after def (entries.Done dev) self.old.state }
+        ensures { (def : LineDef)
+            → self.new.state ≡ state_after def (entries.Done dev) self.old.state }
     {
         let oneshot = self.desc.oneshot();
         self.threads.done(dev, oneshot);
