@@ -112,8 +112,10 @@ impl Actions {
     /// What a request with these flags of a device of that kind is answered.
     pub(crate) fn answer(&self, kind: Kind, flags: Flags) -> LinkAnswer
         ensures answer { result ≡ answer_by kind flags self.now.actions }
-        ensures many { result ≡ answer_where (length self.now.actions == 64) kind flags self.now.actions }
-        ensures full { result ≡ answer_where (is_full self.now.actions) kind flags self.now.actions }
+        ensures many { result
+            ≡ answer_where (length self.now.actions == 64) kind flags self.now.actions }
+        ensures full { result
+            ≡ answer_where (is_full self.now.actions) kind flags self.now.actions }
     {
         if is_contrary(flags) {
             return LinkAnswer::Refused(Errno::Inval);

@@ -78,7 +78,8 @@ impl ActList {
     /// isn't linked or isn't one-shot.
     pub fn bit(&self, dev: DevNo) -> Option<u64>
         ensures bit { result ≡ bit_of (lookup (same_dev dev) self.now.list.actions) }
-        ensures oneshot { is_some result ≡ is_oneshot_in (lookup (same_dev dev) self.now.list.actions) }
+        ensures oneshot { is_some result
+            ≡ is_oneshot_in (lookup (same_dev dev) self.now.list.actions) }
         ensures one { IfSome result (λ b. count_ones b ≡ 1) }
     {
         self.actions.bit(dev)
@@ -87,8 +88,10 @@ impl ActList {
     /// What a request with these flags of a device of that kind is answered (`__setup_irq`).
     pub fn answer(&self, kind: Kind, flags: Flags) -> LinkAnswer
         ensures answer { result ≡ answer_by kind flags self.now.list.actions }
-        ensures many { result ≡ answer_where (length self.now.list.actions == 64) kind flags self.now.list.actions }
-        ensures full { result ≡ answer_where (is_full self.now.list.actions) kind flags self.now.list.actions }
+        ensures many { result
+            ≡ answer_where (length self.now.list.actions == 64) kind flags self.now.list.actions }
+        ensures full { result
+            ≡ answer_where (is_full self.now.list.actions) kind flags self.now.list.actions }
     {
         self.actions.answer(kind, flags)
     }
@@ -109,9 +112,13 @@ impl ActList {
     /// it would be linked and there was no room.
     pub fn link(&mut self, dev: DevNo, kind: Kind, flags: Flags) -> Result<LinkAnswer, NoMemory>
         requires { has dev self.old.list.actions ≡ false }
-        ensures answer { IfOk result (λ answer. answer ≡ answer_by kind flags self.old.list.actions) }
-        ensures list { IfOk result (λ answer. self.new.list ≡ after_link answer dev flags self.old.list) }
-        ensures bit { IfOk result (λ answer. answer ≡ links.Linked → flags.oneshot ≡ true → IsLowestFree self.old.list.actions (action_by flags self.old.list.actions).bit) }
+        ensures answer { IfOk result
+            (λ answer. answer ≡ answer_by kind flags self.old.list.actions) }
+        ensures list { IfOk result
+            (λ answer. self.new.list ≡ after_link answer dev flags self.old.list) }
+        ensures bit { IfOk result
+            (λ answer. answer ≡ links.Linked → flags.oneshot ≡ true
+            → IsLowestFree self.old.list.actions (action_by flags self.old.list.actions).bit) }
         ensures cause { OnErr result (answer_by kind flags self.old.list.actions ≡ links.Linked) }
         ensures refused { OnErr result (self.new.list ≡ self.old.list) }
         ensures room { 1 ≤ self.old.spare → IsOk result }
@@ -212,7 +219,8 @@ fn place_left(actions: &Actions, stamps: &DeviceTable<u32>, stamp: u32, from: us
     requires begun { AreBegun (stamped stamp stamps.now) (take from actions.now.actions) }
     ensures within { result ≤ length actions.now.actions }
     ensures begun { AreBegun (stamped stamp stamps.now) (take result actions.now.actions) }
-    ensures left { IfSome (slice_get actions.now.actions result) (λ e. begun_at (stamped stamp stamps.now) e.0 ≡ false) }
+    ensures left { IfSome (slice_get actions.now.actions result)
+        (λ e. begun_at (stamped stamp stamps.now) e.0 ≡ false) }
 {
     // The number of actions fits a usize, and so does each place.
     let _length = actions.len();

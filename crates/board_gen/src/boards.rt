@@ -43,7 +43,9 @@ fn add_root(board: &mut Board, name: &[u8], chip: LevelKind) -> Result<(), NoMem
     requires spelled { is_name name.now ≡ true }
     requires new { has_name board.old.domains (name_of name.now) ≡ false }
     requires root { is_root_kind chip ≡ true }
-    ensures { OnOk result (board.new ≡ record board.old { domains = board.old.domains ++ root_domain name.now chip ∷ [] }) }
+    ensures { OnOk result
+        (board.new
+        ≡ record board.old { domains = board.old.domains ++ root_domain name.now chip ∷ [] }) }
 {
     board.is_board();
     board.add_domain(DomainRow {

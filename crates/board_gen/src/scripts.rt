@@ -31,12 +31,16 @@ const SHARED_ONESHOT: Flags = Flags {
 /// Adds the script's calls.
 pub(crate) fn add_script(board: &mut Board, script: &Script) -> Result<(), NoMemory>
     requires devices { 0 < script.now.devices }
-    requires room { length board.old.calls + script.now.devices + script.now.devices + script.now.asks + 2 ≤ 16384 }
+    requires room { length
+        board.old.calls + script.now.devices + script.now.devices + script.now.asks + 2 ≤ 16384 }
     requires numbers { script.now.first + script.now.devices < 2 ^ 31 }
     requires scripted { IsScripted script.now board.old }
     requires unnamed { NamesNone script.now.first board.old }
-    ensures calls { OnOk result (board.new ≡ record board.old { calls = board.old.calls ++ script_calls script.now }) }
-    ensures count { OnOk result (length board.new.calls ≡ length board.old.calls + script.now.devices + script.now.devices + script.now.asks + 2) }
+    ensures calls { OnOk result
+        (board.new ≡ record board.old { calls = board.old.calls ++ script_calls script.now }) }
+    ensures count { OnOk result
+        (length board.new.calls
+        ≡ length board.old.calls + script.now.devices + script.now.devices + script.now.asks + 2) }
     ensures scripted { OnOk result (IsScripted script.now board.new) }
 {
     let half = script.asks / 2;
@@ -54,8 +58,10 @@ fn add_requests(board: &mut Board, script: &Script) -> Result<(), NoMemory>
     requires numbers { script.now.first + script.now.devices < 2 ^ 31 }
     requires scripted { IsScripted script.now board.old }
     requires unnamed { NamesNone script.now.first board.old }
-    ensures calls { OnOk result (board.new ≡ record board.old { calls = board.old.calls ++ requests script.now }) }
-    ensures count { OnOk result (length board.new.calls ≡ length board.old.calls + script.now.devices) }
+    ensures calls { OnOk result
+        (board.new ≡ record board.old { calls = board.old.calls ++ requests script.now }) }
+    ensures count { OnOk result
+        (length board.new.calls ≡ length board.old.calls + script.now.devices) }
     ensures scripted { OnOk result (IsScripted script.now board.new) }
 {
     for i in 0..script.devices {
@@ -79,7 +85,9 @@ fn add_asks(board: &mut Board, script: &Script, from: u32, to: u32) -> Result<()
     requires room { length board.old.calls + (to - from) ≤ 16384 }
     requires numbers { script.now.first + script.now.devices < 2 ^ 31 }
     requires scripted { IsScripted script.now board.old }
-    ensures calls { OnOk result (board.new ≡ record board.old { calls = board.old.calls ++ asks_from script.now from (to - from) }) }
+    ensures calls { OnOk result
+        (board.new
+        ≡ record board.old { calls = board.old.calls ++ asks_from script.now from (to - from) }) }
     ensures count { OnOk result (length board.new.calls ≡ length board.old.calls + (to - from)) }
     ensures scripted { OnOk result (IsScripted script.now board.new) }
 {
@@ -95,8 +103,10 @@ fn add_frees(board: &mut Board, script: &Script) -> Result<(), NoMemory>
     requires room { length board.old.calls + script.now.devices ≤ 16384 }
     requires numbers { script.now.first + script.now.devices < 2 ^ 31 }
     requires scripted { IsScripted script.now board.old }
-    ensures calls { OnOk result (board.new ≡ record board.old { calls = board.old.calls ++ frees script.now }) }
-    ensures count { OnOk result (length board.new.calls ≡ length board.old.calls + script.now.devices) }
+    ensures calls { OnOk result
+        (board.new ≡ record board.old { calls = board.old.calls ++ frees script.now }) }
+    ensures count { OnOk result
+        (length board.new.calls ≡ length board.old.calls + script.now.devices) }
     ensures scripted { OnOk result (IsScripted script.now board.new) }
 {
     for i in 0..script.devices {
@@ -112,8 +122,11 @@ fn add_call(board: &mut Board, script: &Script, call: Call) -> Result<(), NoMemo
     requires scripted { IsScripted script.now board.old }
     requires fits { fits_line board.old.devices (record { 0 = script.now.number }) call ≡ true }
     requires owner { is_bad_owner board.old.calls (record { 0 = script.now.number }) call ≡ false }
-    requires own { (d : DevNo) → script.now.first + script.now.devices ≤ d.0 → is_owning d (script_call script.now call) ≡ false }
-    ensures calls { OnOk result (board.new ≡ record board.old { calls = board.old.calls ++ script_call script.now call ∷ [] }) }
+    requires own { (d : DevNo) → script.now.first + script.now.devices ≤ d.0
+        → is_owning d (script_call script.now call) ≡ false }
+    ensures calls { OnOk result
+        (board.new
+        ≡ record board.old { calls = board.old.calls ++ script_call script.now call ∷ [] }) }
     ensures count { OnOk result (length board.new.calls ≡ length board.old.calls + 1) }
     ensures scripted { OnOk result (IsScripted script.now board.new) }
 {

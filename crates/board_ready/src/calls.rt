@@ -57,8 +57,13 @@ impl CallSets {
     /// Puts the driver where its call belongs, or takes it out there.
     pub fn put(&mut self, driver: usize, call: Option<CurrentCall>, to: bool)
         requires { driver < 64 }
-        ensures lines { (k r : ℕ) → k < 64 → r < 64 → has (on_line self.new k) r ≡ (if is_on k call && (r == driver) then to else has (on_line self.old k) r) }
-        ensures waiting { (w : WaitFor) (r : ℕ) → r < 64 → has (word_for w self.new.waiting) r ≡ (if is_waiting w call && (r == driver) then to else has (word_for w self.old.waiting) r) }
+        ensures lines { (k r : ℕ) → k < 64 → r < 64
+            → has (on_line self.new k) r
+            ≡ (if is_on k call && (r == driver) then to else has (on_line self.old k) r) }
+        ensures waiting { (w : WaitFor) (r : ℕ) → r < 64
+            → has (word_for w self.new.waiting) r
+            ≡ (if is_waiting w call && (r == driver) then to
+            else has (word_for w self.old.waiting) r) }
     {
         if let Some(call) = call {
             if call.line < LINES {
@@ -99,7 +104,9 @@ fn unless(barred: bool, word: u64) -> u64
 /// The driver put in among those that wait for that, or taken out.
 fn moved(waiting: Waiting, wait: WaitFor, driver: usize, to: bool) -> Waiting
     requires { driver < 64 }
-    ensures { (w : WaitFor) (r : ℕ) → r < 64 → has (word_for w result) r ≡ (if is_wait w wait && (r == driver) then to else has (word_for w waiting) r) }
+    ensures { (w : WaitFor) (r : ℕ) → r < 64
+        → has (word_for w result) r
+        ≡ (if is_wait w wait && (r == driver) then to else has (word_for w waiting) r) }
 {
     let mut waiting = waiting;
     match wait {

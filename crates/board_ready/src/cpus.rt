@@ -46,7 +46,9 @@ impl CpuLines {
     /// and above.
     pub fn put(&mut self, cpu: Option<CpuNo>, line: usize, to: bool)
         requires { line < 64 }
-        ensures { (c k : ℕ) → c < 32 → k < 64 → is_of self.new c k ≡ (if is_cpu c cpu && (k == line) then to else is_of self.old c k) }
+        ensures { (c k : ℕ) → c < 32 → k < 64
+            → is_of self.new c k
+            ≡ (if is_cpu c cpu && (k == line) then to else is_of self.old c k) }
     {
         if let Some(cpu) = cpu {
             if cpu.0 < CPUS {

@@ -11,7 +11,8 @@ ghost use Rattle.board_ready.specs.declared.parts.ReadyThread.{ReadyThread};
 /// finds none, none does.
 #[tactic(auto, using(crate::proofs::Lowest::first_some))]
 pub fn first_is_first()
-    ensures some { (p : ℕ → Bool) (n t : ℕ) → first_of p n ≡ Some t → (t < n) × (p t ≡ true) × ((i : ℕ) → i < t → p i ≡ false) }
+    ensures some { (p : ℕ → Bool) (n t : ℕ) → first_of p n ≡ Some t
+        → (t < n) × (p t ≡ true) × ((i : ℕ) → i < t → p i ≡ false) }
     ensures none { (p : ℕ → Bool) (n i : ℕ) → first_of p n ≡ None → i < n → p i ≡ false }
 {}
 
@@ -19,7 +20,10 @@ pub fn first_is_first()
 /// number; if it finds none, no line has one.
 #[tactic(auto, using(crate::proofs::Lowest::thread_some, crate::proofs::Lowest::thread_least, crate::proofs::Lowest::thread_none))]
 pub fn lowest_thread_is_lowest()
-    ensures there { (lines : List LinePart) (t : ReadyThread) → lowest_thread lines ≡ Some t → thread_of (slice_get lines t.line) ≡ Some t.dev }
-    ensures least { (lines : List LinePart) (t : ReadyThread) (k : ℕ) (d : DevNo) → lowest_thread lines ≡ Some t → thread_of (slice_get lines k) ≡ Some d → t.dev.0 ≤ d.0 }
-    ensures none { (lines : List LinePart) (k : ℕ) → lowest_thread lines ≡ None → thread_of (slice_get lines k) ≡ None }
+    ensures there { (lines : List LinePart) (t : ReadyThread) → lowest_thread lines ≡ Some t
+        → thread_of (slice_get lines t.line) ≡ Some t.dev }
+    ensures least { (lines : List LinePart) (t : ReadyThread) (k : ℕ) (d : DevNo)
+        → lowest_thread lines ≡ Some t → thread_of (slice_get lines k) ≡ Some d → t.dev.0 ≤ d.0 }
+    ensures none { (lines : List LinePart) (k : ℕ) → lowest_thread lines ≡ None
+        → thread_of (slice_get lines k) ≡ None }
 {}

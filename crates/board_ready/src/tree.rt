@@ -44,7 +44,8 @@ impl ThreadTree {
     #[tactic(auto, using(crate::proofs::Trees::leaf_stands))]
     pub fn set(&mut self, line: usize, thread: Option<DevNo>)
         requires { line < 64 }
-        ensures { (k : ℕ) → k < 64 → leaf self.new k ≡ (if k == line then thread_on line thread else leaf self.old k) }
+        ensures { (k : ℕ) → k < 64
+            → leaf self.new k ≡ (if k == line then thread_on line thread else leaf self.old k) }
     {
         let thread = placed(line, thread);
         if !is_same_thread(self.nodes[LINES + line], thread) {

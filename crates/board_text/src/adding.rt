@@ -131,8 +131,13 @@ fn line_of_device(board: &Board, dev: DevNo) -> LineNo
 /// Adds the picks, each as often as it says.
 #[tactic(auto, using(std::proofs::lemmas::List::drop_all))]
 fn add_picks(board: &mut Board, picks: &PickList) -> Result<(), NoMemory>
-    requires { IsBoard (record board.old { picks = board.old.picks ++ flat_map (actors_picked board.old.devices) picks.now }) }
-    ensures { OnOk result (board.new ≡ record board.old { picks = board.old.picks ++ flat_map (actors_picked board.old.devices) picks.now }) }
+    requires { IsBoard
+        (record board.old
+        { picks = board.old.picks ++ flat_map (actors_picked board.old.devices) picks.now }) }
+    ensures { OnOk result
+        (board.new
+        ≡ record board.old
+        { picks = board.old.picks ++ flat_map (actors_picked board.old.devices) picks.now }) }
 {
     for i in 0..picks.len() {
         if let Some(pick) = picks.get(i) {
@@ -146,7 +151,8 @@ fn add_picks(board: &mut Board, picks: &PickList) -> Result<(), NoMemory>
 /// Adds so many picks of the one actor.
 fn add_pick_times(board: &mut Board, actor: Actor, times: u32) -> Result<(), NoMemory>
     requires { IsBoard (record board.old { picks = board.old.picks ++ replicate times actor }) }
-    ensures { OnOk result (board.new ≡ record board.old { picks = board.old.picks ++ replicate times actor }) }
+    ensures { OnOk result
+        (board.new ≡ record board.old { picks = board.old.picks ++ replicate times actor }) }
 {
     for i in 0..times {
         board.add_pick(actor)?;

@@ -58,7 +58,8 @@ impl Owners {
 
     /// Whether the driver may not make the call after the calls so far.
     pub fn forbid(&self, driver: DriverNo, call: Call) -> bool
-        ensures { (calls : List ScriptCall) → Owns self.now calls → result ≡ is_bad_owner calls driver call }
+        ensures { (calls : List ScriptCall) → Owns self.now calls
+            → result ≡ is_bad_owner calls driver call }
     {
         match call {
             Call::Request { dev, .. } => match self.of(dev) {
@@ -75,7 +76,8 @@ impl Owners {
 
     /// Takes note of a call after the calls so far.
     pub fn note(&mut self, call: &ScriptCall) -> Result<(), NoMemory>
-        ensures { (calls : List ScriptCall) → Owns self.old calls → OnOk result (Owns self.new (calls ++ call.now ∷ [])) }
+        ensures { (calls : List ScriptCall) → Owns self.old calls
+            → OnOk result (Owns self.new (calls ++ call.now ∷ [])) }
     {
         match call.call {
             Call::Request { dev, .. } => self.note_owner(dev, call.driver, true),
@@ -86,7 +88,10 @@ impl Owners {
 
     /// Takes note of a request or a free by the driver.
     fn note_owner(&mut self, dev: DevNo, driver: DriverNo, requested: bool) -> Result<(), NoMemory>
-        ensures { OnOk result (self.new ≡ insert_entry same_dev self.old dev (owner_noted (owner_in dev self.old) driver requested)) }
+        ensures { OnOk result
+            (self.new
+            ≡ insert_entry same_dev self.old dev
+            (owner_noted (owner_in dev self.old) driver requested)) }
     {
         let driver = match self.of(dev) {
             Some(owner) => owner.driver,

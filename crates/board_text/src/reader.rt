@@ -64,7 +64,8 @@ impl Reader {
     /// Reads a text line. After a fault, or if memory was refused, the reader is of no more use.
     pub fn read_line(&mut self, alloc: Global, line: &[u8]) -> Result<(), StatementRefused>
         requires { IsKept self.old }
-        ensures { (past : List Statement) → Keeps past self.old → ReadsLine past line.now self.new result }
+        ensures { (past : List Statement) → Keeps past self.old
+            → ReadsLine past line.now self.new result }
     {
         if has_bad_byte(line) {
             return Err(StatementRefused::Fault(FaultKind::BadByte));
@@ -89,7 +90,8 @@ impl Reader {
     /// Whether the words are the first statement, and no header.
     #[tactic(auto, using(crate::proofs::ReadLines::header_same))]
     fn lacks_header(&self, words: Words<'_>) -> bool
-        ensures { (past : List Statement) → Agrees past self.now → result ≡ (is_empty past && not (begins_with_board (words_left words.entry))) }
+        ensures { (past : List Statement) → Agrees past self.now
+            → result ≡ (is_empty past && not (begins_with_board (words_left words.entry))) }
     {
         !self.stood.begun && !words.is_header()
     }
@@ -97,7 +99,8 @@ impl Reader {
     /// What is wrong with the statement after those so far.
     #[tactic(auto, using(crate::proofs::Drafts::not_there_read, crate::proofs::Drafts::parent_read, crate::proofs::Drafts::unlazy_read, crate::proofs::Drafts::mask_read, crate::proofs::Drafts::room_read))]
     fn fault_of(&self, statement: &Statement) -> Option<FaultKind>
-        ensures { (past : List Statement) → Agrees past self.now → result ≡ fault_after past statement.now }
+        ensures { (past : List Statement) → Agrees past self.now
+            → result ≡ fault_after past statement.now }
     {
         if self.is_out_of_order(statement) {
             return Some(FaultKind::OutOfOrder);
@@ -128,14 +131,16 @@ impl Reader {
 
     /// Whether it is of an earlier section, or isn't at its place within its section.
     fn is_out_of_order(&self, statement: &Statement) -> bool
-        ensures { (past : List Statement) → Agrees past self.now → result ≡ is_out_of_order past statement.now }
+        ensures { (past : List Statement) → Agrees past self.now
+            → result ≡ is_out_of_order past statement.now }
     {
         Section::of(statement).is_before(self.section) || is_misplaced(&self.board, statement)
     }
 
     /// Whether a setting, a domain's name or an option stands again.
     fn is_twice(&self, statement: &Statement) -> bool
-        ensures { (past : List Statement) → Agrees past self.now → result ≡ is_twice past statement.now }
+        ensures { (past : List Statement) → Agrees past self.now
+            → result ≡ is_twice past statement.now }
     {
         match statement {
             Statement::Domain(domain) => has_name(&self.board, domain.name) || domain.twice,
@@ -147,7 +152,8 @@ impl Reader {
 
     /// Whether it breaks the rule of ownership.
     fn has_bad_owner(&self, statement: &Statement) -> bool
-        ensures { (past : List Statement) → Agrees past self.now → result ≡ has_bad_owner (board_of past) statement.now }
+        ensures { (past : List Statement) → Agrees past self.now
+            → result ≡ has_bad_owner (board_of past) statement.now }
     {
         match statement {
             Statement::Call(call) => {
@@ -161,7 +167,8 @@ impl Reader {
     /// Adds a statement without a fault.
     fn add(&mut self, statement: &Statement) -> Result<(), NoMemory>
         requires { IsNext self.old statement.now }
-        ensures { (past : List Statement) → Agrees past self.old → OnOk result (Agrees (statement.now ∷ past) self.new) }
+        ensures { (past : List Statement) → Agrees past self.old
+            → OnOk result (Agrees (statement.now ∷ past) self.new) }
     {
         note_owner(&mut self.owners, &self.board, statement)?;
         add_statement(&mut self.board, statement)?;
@@ -199,7 +206,8 @@ fn has_flag_twice(call: CallWords) -> bool
 
 /// Takes note of the statement's call, if it is one.
 fn note_owner(owners: &mut Owners, board: &Board, statement: &Statement) -> Result<(), NoMemory>
-    ensures { Owns owners.old board.now.calls → OnOk result (Owns owners.new (with_statement statement.now board.now).calls) }
+    ensures { Owns owners.old board.now.calls
+        → OnOk result (Owns owners.new (with_statement statement.now board.now).calls) }
 {
     match statement {
         Statement::Call(call) => owners.note(&script_call(board, *call)),

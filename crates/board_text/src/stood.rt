@@ -39,7 +39,8 @@ impl Stood {
 
     /// These, and the statement after them.
     pub fn with(mut self, statement: &Statement) -> Stood
-        ensures { (past : List Statement) → self ≡ stood_after past → result ≡ stood_after (statement.now ∷ past) }
+        ensures { (past : List Statement) → self ≡ stood_after past
+            → result ≡ stood_after (statement.now ∷ past) }
     {
         self.begun = true;
         match statement {
@@ -57,7 +58,8 @@ impl Stood {
 
     /// Whether the statement is a header or a setting that stood before.
     pub fn has_setting(self, statement: &Statement) -> bool
-        ensures { (past : List Statement) → self ≡ stood_after past → result ≡ is_setting_again past statement.now }
+        ensures { (past : List Statement) → self ≡ stood_after past
+            → result ≡ is_setting_again past statement.now }
     {
         match statement {
             Statement::Board(_) => self.header,

@@ -16,7 +16,8 @@ use irq_base::{DevNo, Flags, LineNo};
 
 /// What a call says, by the words after its first.
 pub(crate) fn read_call(call: CallWord, words: Words<'_>) -> Result<CallWords, FaultKind>
-    ensures { result ≡ reads (forms.form_after (call_text call)) (said.call_of (call_text call)) words.entry }
+    ensures { result
+        ≡ reads (forms.form_after (call_text call)) (said.call_of (call_text call)) words.entry }
 {
     match call {
         CallWord::Request => request(words),
@@ -49,7 +50,8 @@ fn line(words: Words<'_>) -> Result<LineNo, FaultKind>
 
 /// What follows `request`.
 fn request(words: Words<'_>) -> Result<CallWords, FaultKind>
-    ensures { result ≡ reads (forms.form_after (call_text calls.Request)) said.request_words words.entry }
+    ensures { result
+        ≡ reads (forms.form_after (call_text calls.Request)) said.request_words words.entry }
 {
     let mut places = Places::new(words);
     let dev = DevNo(places.number(1, 65_535));
@@ -66,7 +68,9 @@ fn request(words: Words<'_>) -> Result<CallWords, FaultKind>
 
 /// What follows `affinity`.
 fn affinity(words: Words<'_>) -> Result<CallWords, FaultKind>
-    ensures { result ≡ reads (forms.form_after (call_text calls.Affinity)) (said.call_of (call_text calls.Affinity)) words.entry }
+    ensures { result
+        ≡ reads (forms.form_after (call_text calls.Affinity))
+        (said.call_of (call_text calls.Affinity)) words.entry }
 {
     let mut places = Places::new(words);
     let line = LineNo(places.number(1, 65_535));
@@ -77,7 +81,9 @@ fn affinity(words: Words<'_>) -> Result<CallWords, FaultKind>
 
 /// What follows `moment`.
 fn moment(words: Words<'_>) -> Result<CallWords, FaultKind>
-    ensures { result ≡ reads (forms.form_after (call_text calls.Moment)) (said.call_of (call_text calls.Moment)) words.entry }
+    ensures { result
+        ≡ reads (forms.form_after (call_text calls.Moment)) (said.call_of (call_text calls.Moment))
+        words.entry }
 {
     let mut places = Places::new(words);
     let line = LineNo(places.number(1, 65_535));

@@ -35,7 +35,8 @@ pub(crate) enum CallWord {
 
 /// The part that the word names.
 pub(crate) fn part_word(word: &[u8]) -> Option<PartWord>
-    ensures { MatchOption result (list_any (is word.now) part_texts ≡ false) (λ part. word.now ≡ part_text part) }
+    ensures { MatchOption result (list_any (is word.now) part_texts ≡ false)
+        (λ part. word.now ≡ part_text part) }
 {
     if is(word, b"board") {
         return Some(PartWord::Board);
@@ -66,7 +67,8 @@ pub(crate) fn part_word(word: &[u8]) -> Option<PartWord>
 
 /// The call that the word names.
 pub(crate) fn call_word(word: &[u8]) -> Option<CallWord>
-    ensures { MatchOption result (list_any (is word.now) call_texts ≡ false) (λ call. word.now ≡ call_text call) }
+    ensures { MatchOption result (list_any (is word.now) call_texts ≡ false)
+        (λ call. word.now ≡ call_text call) }
 {
     if is(word, b"request") {
         return Some(CallWord::Request);

@@ -10,7 +10,8 @@ use irq_base::{Kind, LevelKind};
 
 /// The kind of level that the word names.
 pub(crate) fn level_kind(word: &[u8]) -> Option<LevelKind>
-    ensures { MatchOption result (list_any (is word.now) level_kinds ≡ false) (λ kind. (list_any (is word.now) level_kinds ≡ true) × (kind ≡ said.level_kind word.now)) }
+    ensures { MatchOption result (list_any (is word.now) level_kinds ≡ false)
+        (λ kind. (list_any (is word.now) level_kinds ≡ true) × (kind ≡ said.level_kind word.now)) }
 {
     if is(word, b"latch") {
         return Some(LevelKind::Latch);
@@ -41,7 +42,9 @@ pub(crate) fn level_kind(word: &[u8]) -> Option<LevelKind>
 
 /// The kind of device that the word names.
 pub(crate) fn device_kind(word: &[u8]) -> Option<Kind>
-    ensures { MatchOption result (list_any (is word.now) device_kinds ≡ false) (λ kind. (list_any (is word.now) device_kinds ≡ true) × (kind ≡ said.device_kind word.now)) }
+    ensures { MatchOption result (list_any (is word.now) device_kinds ≡ false)
+        (λ kind. (list_any (is word.now) device_kinds ≡ true)
+        × (kind ≡ said.device_kind word.now)) }
 {
     if is(word, b"direct") {
         return Some(Kind::Direct);

@@ -16,7 +16,8 @@ use irq_base::{DevNo, DriverNo, LineNo};
 
 /// The one number of a statement that has nothing else.
 pub(crate) fn sole_number(words: Words<'_>, low: u32, high: u32) -> Result<u32, FaultKind>
-    ensures { result ≡ reads (forms.at (forms.number low high) forms.full) (said.number_at 0) words.entry }
+    ensures { result
+        ≡ reads (forms.at (forms.number low high) forms.full) (said.number_at 0) words.entry }
 {
     let mut places = Places::new(words);
     let number = places.number(low, high);
@@ -26,7 +27,9 @@ pub(crate) fn sole_number(words: Words<'_>, low: u32, high: u32) -> Result<u32, 
 
 /// What a statement on a part of the board says, by the words after its first.
 pub(crate) fn read_part(part: PartWord, words: Words<'_>) -> Result<Statement, FaultKind>
-    ensures { result ≡ reads (forms.form_after (part_text part)) (said.statement_after (part_text part)) words.entry }
+    ensures { result
+        ≡ reads (forms.form_after (part_text part)) (said.statement_after (part_text part))
+        words.entry }
 {
     match part {
         PartWord::Board => Ok(Statement::Board(sole_number(words, 1, 2)?)),
@@ -45,7 +48,8 @@ pub(crate) fn read_part(part: PartWord, words: Words<'_>) -> Result<Statement, F
 
 /// What follows `spurious`.
 fn spurious(words: Words<'_>) -> Result<Statement, FaultKind>
-    ensures { result ≡ reads forms.spurious_form (said.statement_after (part_text parts.Spurious)) words.entry }
+    ensures { result
+        ≡ reads forms.spurious_form (said.statement_after (part_text parts.Spurious)) words.entry }
 {
     let mut places = Places::new(words);
     let window = places.number(1, 1_000_000);
@@ -56,7 +60,9 @@ fn spurious(words: Words<'_>) -> Result<Statement, FaultKind>
 
 /// What follows `domain`.
 fn domain(words: Words<'_>) -> Result<Statement, FaultKind>
-    ensures { result ≡ reads (forms.form_after (part_text parts.Domain)) (said.statement_after (part_text parts.Domain)) words.entry }
+    ensures { result
+        ≡ reads (forms.form_after (part_text parts.Domain))
+        (said.statement_after (part_text parts.Domain)) words.entry }
 {
     let mut places = Places::new(words);
     let name = places.name();
@@ -74,7 +80,9 @@ fn domain(words: Words<'_>) -> Result<Statement, FaultKind>
 
 /// What follows `line`.
 fn line(words: Words<'_>) -> Result<Statement, FaultKind>
-    ensures { result ≡ reads (forms.form_after (part_text parts.Line)) (said.statement_after (part_text parts.Line)) words.entry }
+    ensures { result
+        ≡ reads (forms.form_after (part_text parts.Line))
+        (said.statement_after (part_text parts.Line)) words.entry }
 {
     let mut places = Places::new(words);
     let line = LineNo(places.number(1, 65_535));
@@ -95,14 +103,19 @@ fn line(words: Words<'_>) -> Result<Statement, FaultKind>
 
 /// Whether one of the three texts is among the words more than once.
 pub(crate) fn has_one_again(words: Words<'_>, one: &[u8], two: &[u8], three: &[u8]) -> bool
-    ensures { result ≡ (said.stands_again one.now (words_left words.entry) || (said.stands_again two.now (words_left words.entry) || said.stands_again three.now (words_left words.entry))) }
+    ensures { result
+        ≡ (said.stands_again one.now
+        (words_left words.entry) || (said.stands_again two.now
+        (words_left words.entry) || said.stands_again three.now (words_left words.entry))) }
 {
     words.has_again(one) || words.has_again(two) || words.has_again(three)
 }
 
 /// What follows `device`.
 fn device(words: Words<'_>) -> Result<Statement, FaultKind>
-    ensures { result ≡ reads (forms.form_after (part_text parts.Device)) (said.statement_after (part_text parts.Device)) words.entry }
+    ensures { result
+        ≡ reads (forms.form_after (part_text parts.Device))
+        (said.statement_after (part_text parts.Device)) words.entry }
 {
     let mut places = Places::new(words);
     let dev = DevNo(places.number(1, 65_535));

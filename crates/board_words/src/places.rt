@@ -56,7 +56,8 @@ impl<'a> Places<'a> {
     /// A number from `low` to `high`.
     pub(crate) fn number(&mut self, low: u32, high: u32) -> u32
         ensures takes { Takes (forms.number low high) self.old self.new }
-        ensures value { self.new.found ≡ None → result ≡ said.number_at 0 (words_left self.old.words) }
+        ensures value { self.new.found ≡ None
+            → result ≡ said.number_at 0 (words_left self.old.words) }
     {
         let Some(word) = self.words.next() else {
             self.note(FaultKind::WrongCount);
@@ -74,7 +75,8 @@ impl<'a> Places<'a> {
     /// A name.
     pub(crate) fn name(&mut self) -> Name
         ensures takes { Takes forms.name self.old self.new }
-        ensures value { self.new.found ≡ None → result ≡ said.name_at 0 (words_left self.old.words) }
+        ensures value { self.new.found ≡ None
+            → result ≡ said.name_at 0 (words_left self.old.words) }
     {
         let Some(word) = self.words.next() else {
             self.note(FaultKind::WrongCount);
@@ -92,7 +94,8 @@ impl<'a> Places<'a> {
     /// A kind of level.
     pub(crate) fn level_kind(&mut self) -> LevelKind
         ensures takes { Takes (forms.one_of forms.level_kinds) self.old self.new }
-        ensures value { self.new.found ≡ None → result ≡ said.level_kind (get_or (words_left self.old.words) 0 []) }
+        ensures value { self.new.found ≡ None
+            → result ≡ said.level_kind (get_or (words_left self.old.words) 0 []) }
     {
         let Some(word) = self.words.next() else {
             self.note(FaultKind::WrongCount);
@@ -110,7 +113,8 @@ impl<'a> Places<'a> {
     /// A kind of device.
     pub(crate) fn device_kind(&mut self) -> Kind
         ensures takes { Takes (forms.one_of forms.device_kinds) self.old self.new }
-        ensures value { self.new.found ≡ None → result ≡ said.device_kind (get_or (words_left self.old.words) 0 []) }
+        ensures value { self.new.found ≡ None
+            → result ≡ said.device_kind (get_or (words_left self.old.words) 0 []) }
     {
         let Some(word) = self.words.next() else {
             self.note(FaultKind::WrongCount);
@@ -141,9 +145,11 @@ impl<'a> Places<'a> {
 
     /// How a domain maps numbers. Behind a word that names no way nothing is read.
     pub(crate) fn map(&mut self) -> MapKind
-        ensures found { in_all self.old forms.map_form ≡ in_all self.new (forms.at (forms.one_of forms.level_kinds) forms.parents_form) }
+        ensures found { in_all self.old forms.map_form
+            ≡ in_all self.new (forms.at (forms.one_of forms.level_kinds) forms.parents_form) }
         ensures value { self.new.found ≡ None → result ≡ map_kind (words_left self.old.words) }
-        ensures words { self.new.found ≡ None → words_left self.new.words ≡ after_map (words_left self.old.words) }
+        ensures words { self.new.found ≡ None
+            → words_left self.new.words ≡ after_map (words_left self.old.words) }
     {
         let Some(word) = self.words.next() else {
             self.note(FaultKind::WrongCount);
@@ -187,7 +193,8 @@ impl<'a> Places<'a> {
     /// The options of a line, to the end: the number after the first `mask`.
     pub(crate) fn options(&mut self) -> Option<u32>
         ensures found { self.new.found ≡ in_all self.old forms.line_options }
-        ensures value { self.new.found ≡ None → result ≡ said.mask_after (words_left self.old.words) }
+        ensures value { self.new.found ≡ None
+            → result ≡ said.mask_after (words_left self.old.words) }
     {
         let mut mask = None;
         while !self.words.is_empty() {
@@ -200,7 +207,10 @@ impl<'a> Places<'a> {
     fn option(&mut self, mask: Option<u32>) -> Option<u32>
         requires { are_none (words_left self.old.words) ≡ false }
         ensures found { in_all self.old forms.line_options ≡ in_all self.new forms.line_options }
-        ensures value { self.new.found ≡ None → (self.old.found ≡ None) × (option_or result (said.mask_after (words_left self.new.words)) ≡ option_or mask (said.mask_after (words_left self.old.words))) }
+        ensures value { self.new.found ≡ None
+            → (self.old.found ≡ None)
+            × (option_or result (said.mask_after (words_left self.new.words))
+            ≡ option_or mask (said.mask_after (words_left self.old.words))) }
         ensures fewer { length (words_left self.new.words) < length (words_left self.old.words) }
     {
         if !self.option_word() {

@@ -52,7 +52,8 @@ fn is_unknown_moment(word: &[u8], has_moments: bool) -> bool
 /// What a statement other than picks says, by its first word and those after it.
 fn read_plain(word: &[u8], words: Words<'_>) -> Result<Statement, FaultKind>
     requires { forms.is word.now (codes "picks") ≡ false }
-    ensures { result ≡ reads (forms.form_after word.now) (said.statement_after word.now) words.entry }
+    ensures { result
+        ≡ reads (forms.form_after word.now) (said.statement_after word.now) words.entry }
 {
     if let Some(part) = part_word(word) {
         return read_part(part, words);
@@ -66,7 +67,8 @@ fn read_plain(word: &[u8], words: Words<'_>) -> Result<Statement, FaultKind>
 
 /// The picks that the words spell.
 fn read_picks(alloc: Global, words: Words<'_>) -> Result<Statement, StatementRefused>
-    ensures { Tells (forms.picks_form (words_left words.entry)) (statements.Picks (said.picks_of (words_left words.entry))) result }
+    ensures { Tells (forms.picks_form (words_left words.entry))
+        (statements.Picks (said.picks_of (words_left words.entry))) result }
 {
     if words.is_empty() {
         return Err(StatementRefused::Fault(FaultKind::WrongCount));

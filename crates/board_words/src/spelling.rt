@@ -58,7 +58,8 @@ fn has_leading_zero(word: &[u8]) -> bool
 
 /// The number that the digits spell, if it is no more than `high`.
 fn value_up_to(digits: &[u8], high: u32) -> Option<u32>
-    ensures { result ≡ (if nat_le (value_of digits.now) high then Some (value_of digits.now) else None) }
+    ensures { result
+        ≡ (if nat_le (value_of digits.now) high then Some (value_of digits.now) else None) }
 {
     let mut value: u64 = 0;
     for b in digits {

@@ -20,7 +20,8 @@ impl<'a> TextLines<'a> {
 
     /// The next text line, without its line feed.
     pub fn next(&mut self) -> Option<&'a [u8]>
-        ensures { MatchOption result ((lines_left self.old ≡ []) × (lines_left self.new ≡ [])) (λ line. lines_left self.old ≡ line.now ∷ lines_left self.new) }
+        ensures { MatchOption result ((lines_left self.old ≡ []) × (lines_left self.new ≡ []))
+            (λ line. lines_left self.old ≡ line.now ∷ lines_left self.new) }
     {
         let (line, rest) = split_line(self.rest)?;
         self.rest = rest;
@@ -31,7 +32,8 @@ impl<'a> TextLines<'a> {
 /// The first text line of a text, and what follows it.
 #[tactic(auto, using(crate::proofs::Texts::line_alone))]
 fn split_line(text: &[u8]) -> Option<(&[u8], &[u8])>
-    ensures { MatchOption result (text_lines text.now ≡ []) (λ x. text_lines text.now ≡ x.0.now ∷ text_lines x.1.now) }
+    ensures { MatchOption result (text_lines text.now ≡ [])
+        (λ x. text_lines text.now ≡ x.0.now ∷ text_lines x.1.now) }
 {
     if text.is_empty() {
         return None;

@@ -23,7 +23,8 @@ impl<'a> Words<'a> {
 
     /// The next word.
     pub fn next(&mut self) -> Option<&'a [u8]>
-        ensures { MatchOption result ((words_left self.old ≡ []) × (words_left self.new ≡ [])) (λ word. words_left self.old ≡ word.now ∷ words_left self.new) }
+        ensures { MatchOption result ((words_left self.old ≡ []) × (words_left self.new ≡ []))
+            (λ word. words_left self.old ≡ word.now ∷ words_left self.new) }
     {
         let (word, rest) = split_word(self.rest)?;
         self.rest = rest;
@@ -82,7 +83,8 @@ pub(crate) fn is(word: &[u8], text: &[u8]) -> bool
 
 /// The first word of a text line, and what follows it.
 fn split_word(line: &[u8]) -> Option<(&[u8], &[u8])>
-    ensures { MatchOption result (words_of line.now ≡ []) (λ x. words_of line.now ≡ x.0.now ∷ words_of x.1.now) }
+    ensures { MatchOption result (words_of line.now ≡ [])
+        (λ x. words_of line.now ≡ x.0.now ∷ words_of x.1.now) }
 {
     let (_, begun) = line.split_at(word_start(line));
     let end = word_end(begun);

@@ -33,7 +33,8 @@ impl RankSet {
     /// Puts the rank in, or takes it out.
     pub fn put(&mut self, rank: u32, to: bool)
         requires { rank < 256 }
-        ensures { (r : ℕ) → r < 256 → holds self.new r ≡ (if r == rank then to else holds self.old r) }
+        ensures { (r : ℕ) → r < 256
+            → holds self.new r ≡ (if r == rank then to else holds self.old r) }
     {
         let place = rank as usize / 64;
         let bit = 1u64 << (rank % 64);
@@ -60,7 +61,8 @@ impl RankSet {
 
 /// The bits of the first word, or of both if `with` says so.
 fn joined(first: u64, second: u64, with: bool) -> u64
-    ensures { (i : ℕ) → (bit_at result i == 1) ≡ ((bit_at first i == 1) || (with && (bit_at second i == 1))) }
+    ensures { (i : ℕ)
+        → (bit_at result i == 1) ≡ ((bit_at first i == 1) || (with && (bit_at second i == 1))) }
 {
     if with { first | second } else { first }
 }

@@ -25,7 +25,8 @@ pub enum Command {
 /// The command whose words these are, which follow the program's name; none if they are no
 /// command's.
 pub fn read_command(words: &[&str]) -> Option<Command>
-    ensures { MatchOption result (AsksNothing (map (λ w. w.now) words.now)) (Asks (map (λ w. w.now) words.now)) }
+    ensures { MatchOption result (AsksNothing (map (λ w. w.now) words.now))
+        (Asks (map (λ w. w.now) words.now)) }
 {
     match words {
         [word] => read_word(word),
@@ -48,7 +49,8 @@ fn read_word(word: &str) -> Option<Command>
 
 /// The command of two words.
 fn read_words(word: &str, option: &str) -> Option<Command>
-    ensures { MatchOption result (AsksNothing (word.now ∷ option.now ∷ [])) (Asks (word.now ∷ option.now ∷ [])) }
+    ensures { MatchOption result (AsksNothing (word.now ∷ option.now ∷ []))
+        (Asks (word.now ∷ option.now ∷ [])) }
 {
     match word {
         "run" => run_summarised(option),
@@ -59,7 +61,8 @@ fn read_words(word: &str, option: &str) -> Option<Command>
 }
 
 fn run_summarised(option: &str) -> Option<Command>
-    ensures { MatchOption result (AsksNothing (codes "run" ∷ option.now ∷ [])) (Asks (codes "run" ∷ option.now ∷ [])) }
+    ensures { MatchOption result (AsksNothing (codes "run" ∷ option.now ∷ []))
+        (Asks (codes "run" ∷ option.now ∷ [])) }
 {
     if option == "--summary" {
         Some(Command::Run { summary: true })
@@ -69,7 +72,8 @@ fn run_summarised(option: &str) -> Option<Command>
 }
 
 fn play_summarised(option: &str) -> Option<Command>
-    ensures { MatchOption result (AsksNothing (codes "play" ∷ option.now ∷ [])) (Asks (codes "play" ∷ option.now ∷ [])) }
+    ensures { MatchOption result (AsksNothing (codes "play" ∷ option.now ∷ []))
+        (Asks (codes "play" ∷ option.now ∷ [])) }
 {
     if option == "--summary" {
         Some(Command::Play { summary: true })
@@ -79,7 +83,8 @@ fn play_summarised(option: &str) -> Option<Command>
 }
 
 fn generated(number: &str) -> Option<Command>
-    ensures { MatchOption result (AsksNothing (codes "gen" ∷ number.now ∷ [])) (Asks (codes "gen" ∷ number.now ∷ [])) }
+    ensures { MatchOption result (AsksNothing (codes "gen" ∷ number.now ∷ []))
+        (Asks (codes "gen" ∷ number.now ∷ [])) }
 {
     let n = number_of(number.as_bytes())?;
     Some(Command::Gen { n })

@@ -84,7 +84,8 @@ impl<T: Kept> CountedLock<T> {
         ensures pass { IsPassOf self.now pass.new }
         ensures def { T.definition result ≡ self.now.def }
         ensures begins { BeginsWith (T.entries result) pass.old.knows.seen }
-        ensures mine { pass.old.knows.mine ≡ placed_of self.now.def.line pass.old.knows.actor (T.entries result) }
+        ensures mine { pass.old.knows.mine
+            ≡ placed_of self.now.def.line pass.old.knows.actor (T.entries result) }
         ensures knows { pass.new.knows ≡ pass.old.knows }
         ensures held { (pass.new.turn ≡ true) × (pass.new.held ≡ T.entries result) }
     {
@@ -100,7 +101,8 @@ impl<T: Kept> CountedLock<T> {
         requires actor { IsSome pass.old.knows.actor }
         requires def { T.definition value ≡ self.now.def }
         requires few { length (T.entries value) ≤ 100000000 }
-        requires extends { Extends self.now.def.line pass.old.knows.actor pass.old.held (T.entries value) }
+        requires extends { Extends self.now.def.line pass.old.knows.actor pass.old.held
+            (T.entries value) }
         ensures pass { IsPassOf self.now pass.new }
         ensures idle { pass.new.turn ≡ false }
         ensures knows { pass.new.knows ≡ looked self.now.def.line pass.old.knows (T.entries value) }

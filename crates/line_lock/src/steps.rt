@@ -129,7 +129,8 @@ pub fn ask_turn<T: Kept>(lock: &Words<T>, seat: &mut Seated<T>) -> bool
     requires idle { (seat.old.me.1 ≡ []) × (seat.old.me.0.spent ≡ false) }
     requires actor { (who : _) × (seat.old.me.0.knows.actor ≡ Some who) }
     ensures table { seat.new.table_id ≡ seat.old.table_id }
-    ensures took { MatchBool result (Took T.definition T.entries seat.old.me seat.new.me) (seat.new.me ≡ seat.old.me) }
+    ensures took { MatchBool result (Took T.definition T.entries seat.old.me seat.new.me)
+        (seat.new.me ≡ seat.old.me) }
 {
     lock.compare_exchange::<AsksTurn<T>>(seat, TURN, 0, 1) == 0
 }
@@ -163,7 +164,8 @@ pub fn put_in<T: Kept>(lock: &Words<T>, seat: &mut Seated<T>, value: T)
 pub fn count_more<T: Kept>(lock: &Words<T>, seat: &mut Seated<T>)
     requires table { (seat.old.table_id ≡ lock.now.table_id) × (lock.now.table_id.words ≡ 2) }
     requires turn { (seat.old.me.0.turn ≡ true) × (seat.old.me.0.spent ≡ false) }
-    requires added { (who : _) × (seat.old.me.0.knows.actor ≡ Some who) × Added T.definition T.entries who seat.old.me }
+    requires added { (who : _) × (seat.old.me.0.knows.actor ≡ Some who)
+        × Added T.definition T.entries who seat.old.me }
     ensures table { seat.new.table_id ≡ seat.old.table_id }
     ensures seen { Raises T.definition T.entries seat.old.me seat.new.me }
 {
@@ -199,7 +201,8 @@ fn split_as<T: Kept, A: Named>(lock: &Words<T>, seat: &mut Seated<T>, actor: Act
     requires idle { (seat.old.me.0.turn ≡ false) × (seat.old.me.0.spent ≡ false) }
     requires first { seat.old.me.0.knows.actor ≡ None }
     requires fresh { is_among actor seat.old.me.0.knows.given ≡ false }
-    ensures table { (seat.new.table_id ≡ seat.old.table_id) × (result.table_id ≡ seat.old.table_id) }
+    ensures table { (seat.new.table_id ≡ seat.old.table_id)
+        × (result.table_id ≡ seat.old.table_id) }
     ensures left { seat.new.me ≡ (left_view seat.old.me.0 actor, seat.old.me.1) }
     ensures right { result.me ≡ (right_view seat.old.me.0 actor, []) }
 {
@@ -212,7 +215,8 @@ pub fn split<T: Kept>(lock: &Words<T>, seat: &mut Seated<T>, actor: Actor) -> Se
     requires idle { (seat.old.me.0.turn ≡ false) × (seat.old.me.0.spent ≡ false) }
     requires first { seat.old.me.0.knows.actor ≡ None }
     requires fresh { is_among actor seat.old.me.0.knows.given ≡ false }
-    ensures table { (seat.new.table_id ≡ seat.old.table_id) × (result.table_id ≡ seat.old.table_id) }
+    ensures table { (seat.new.table_id ≡ seat.old.table_id)
+        × (result.table_id ≡ seat.old.table_id) }
     ensures left { seat.new.me ≡ (left_view seat.old.me.0 actor, seat.old.me.1) }
     ensures right { result.me ≡ (right_view seat.old.me.0 actor, []) }
 {
@@ -221,12 +225,15 @@ pub fn split<T: Kept>(lock: &Words<T>, seat: &mut Seated<T>, actor: Actor) -> Se
 
 /// Takes in what the other pass knows, and learns what comes of it.
 pub fn join<T: Kept>(lock: &Words<T>, seat: &mut Seated<T>, other: Seated<T>)
-    requires table { (seat.old.table_id ≡ lock.now.table_id) × (other.table_id ≡ lock.now.table_id) × (lock.now.table_id.words ≡ 2) }
-    requires idle { (seat.old.me.0.turn ≡ false) × (seat.old.me.0.spent ≡ false) × (other.me.0.turn ≡ false) × (other.me.0.spent ≡ false) × (other.me.1 ≡ []) }
+    requires table { (seat.old.table_id ≡ lock.now.table_id) × (other.table_id ≡ lock.now.table_id)
+        × (lock.now.table_id.words ≡ 2) }
+    requires idle { (seat.old.me.0.turn ≡ false) × (seat.old.me.0.spent ≡ false)
+        × (other.me.0.turn ≡ false) × (other.me.0.spent ≡ false) × (other.me.1 ≡ []) }
     requires first { seat.old.me.0.knows.actor ≡ None }
     requires actor { (who : _) × (other.me.0.knows.actor ≡ Some who) }
     ensures table { seat.new.table_id ≡ seat.old.table_id }
-    ensures met { Learns T.definition T.entries (met_view seat.old.me.0 other.me.0, seat.old.me.1) seat.new.me }
+    ensures met { Learns T.definition T.entries (met_view seat.old.me.0 other.me.0, seat.old.me.1)
+        seat.new.me }
 {
     lock.join_seat::<MeetsOne>(seat, other);
     lock.load::<LearnsLast<T>>(seat, TURN);
@@ -269,7 +276,9 @@ pub fn put_back<T: Kept>(lock: &Words<T>, seat: &mut Seated<T>, value: T, more: 
     requires def { T.definition value ≡ seat.old.me.0.def }
     requires few { length (T.entries value) ≤ 100000000 }
     requires same { IsFalse more → T.entries value ≡ seat.old.me.0.held }
-    requires added { IsTrue more → IsMore seat.old.me.0.def.line seat.old.me.0.knows.actor seat.old.me.0.held (T.entries value) }
+    requires added { IsTrue more
+        → IsMore seat.old.me.0.def.line seat.old.me.0.knows.actor seat.old.me.0.held
+        (T.entries value) }
     ensures table { seat.new.table_id ≡ seat.old.table_id }
     ensures seat { seat.new.me ≡ (idle (counted seat.old.me.0 (T.entries value)), []) }
 {

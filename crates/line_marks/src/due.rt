@@ -35,21 +35,30 @@ ghost use Rattle.line_marks.specs.State.{StateSeen, state_of, state_after};
 /// Of a thread of the line: its run begins, its handler returns, the run is finalized or is over.
 #[tactic(auto, using(crate::proofs::DueIs::thread_is))]
 pub fn thread_due_is_told()
-    ensures law { (def : LineDef) (past : List Entry) (d : DevNo) → IsValid def → IsLegalPast def past → next_past def past (actors.Thread def.line d) ≡ thread_due (state_of def past) d }
+    ensures law { (def : LineDef) (past : List Entry) (d : DevNo) → IsValid def
+        → IsLegalPast def past
+        → next_past def past (actors.Thread def.line d) ≡ thread_due (state_of def past) d }
 {}
 
 /// Of a processor: in its flow the return of the handler at work, the next handler, or the end by
 /// the line's flow; else the take of what is presented or resent.
 #[tactic(auto, using(crate::proofs::CpuDueIs::cpu_due_is))]
 pub fn cpu_due_is_told()
-    ensures law { (def : LineDef) (past : List Entry) (c : CpuNo) → IsValid def → IsLegalPast def past → next_past def past (actors.Cpu c) ≡ cpu_due def (state_of def past) c }
+    ensures law { (def : LineDef) (past : List Entry) (c : CpuNo) → IsValid def
+        → IsLegalPast def past
+        → next_past def past (actors.Cpu c) ≡ cpu_due def (state_of def past) c }
 {}
 
 /// Of a driver, by its due call and how many entries of it are there: all nine calls.
 #[tactic(auto, using(crate::proofs::DriversDueIs::driver_due_is, crate::proofs::DriversDueIs::driver_is))]
 pub fn driver_due_is_told()
-    ensures calls { (def : LineDef) (past : List Entry) (r : DriverNo) (o : Option (Call × ℕ)) → IsValid def → IsLegalPast def past → next_of_call def r past o ≡ driver_due def (state_of def past) r o }
-    ensures law { (def : LineDef) (past : List Entry) (r : DriverNo) → IsValid def → IsLegalPast def past → next_past def past (actors.Driver r) ≡ driver_due def (state_of def past) r (due_call def r past) }
+    ensures calls { (def : LineDef) (past : List Entry) (r : DriverNo) (o : Option (Call × ℕ))
+        → IsValid def → IsLegalPast def past
+        → next_of_call def r past o ≡ driver_due def (state_of def past) r o }
+    ensures law { (def : LineDef) (past : List Entry) (r : DriverNo) → IsValid def
+        → IsLegalPast def past
+        → next_past def past (actors.Driver r)
+        ≡ driver_due def (state_of def past) r (due_call def r past) }
 {}
 
 /// Of every actor, by the state and the places of the drivers' scripts.
@@ -58,8 +67,10 @@ pub fn due_is_told()
     ensures law { (def : LineDef) (past : List Entry) (scripts : List (DriverNo × RowSeen))
         → ((r : DriverNo) → calls_of scripts r ≡ calls_by r def.calls)
         → ((r : DriverNo) → IsAt def past r (place_of scripts r) (within_of scripts r))
-        → (a : Actor) → IsValid def → IsLegalPast def past → next_past def past a ≡ due_by def (state_of def past) scripts a }
-    ensures line { (def : LineDef) (h : List Entry) (s : StateSeen) (scripts : List (DriverNo × RowSeen)) (a : Actor)
+        → (a : Actor) → IsValid def → IsLegalPast def past
+        → next_past def past a ≡ due_by def (state_of def past) scripts a }
+    ensures line { (def : LineDef) (h : List Entry) (s : StateSeen)
+        (scripts : List (DriverNo × RowSeen)) (a : Actor)
         → IsLine def h s scripts → next def h a ≡ due_by def s scripts a }
 {}
 
@@ -76,28 +87,36 @@ pub fn due_call_is_told()
 /// state, a device that is requested isn't linked, and each count has room for one more.
 #[tactic(auto, using(crate::proofs::ExpectedOf::expected))]
 pub fn due_is_expected()
-    ensures law { (def : LineDef) (past : List Entry) → IsValid def → IsLegalPast def past → length past ≤ def.log
+    ensures law { (def : LineDef) (past : List Entry) → IsValid def → IsLegalPast def past
+        → length past ≤ def.log
         → (e : Entry) → IsDue def e past → IsExpected def e (state_of def past) }
 {}
 
 /// What a take makes of the state is what its parts make of it, one after another.
 #[tactic(auto, using(crate::proofs::Takes::take_is))]
 pub fn take_is_its_parts()
-    ensures law { (def : LineDef) (cpu : CpuNo) (way : Way) (answer : TakeAnswer) (s : StateSeen) → IsValid def
-        → state_after def (entries.Take cpu way answer) s ≡ handling_from answer (moved (entered def def.flow answer cpu (arrived way s))) }
+    ensures law { (def : LineDef) (cpu : CpuNo) (way : Way) (answer : TakeAnswer) (s : StateSeen)
+        → IsValid def
+        → state_after def (entries.Take cpu way answer) s
+        ≡ handling_from answer (moved (entered def def.flow answer cpu (arrived way s))) }
 {}
 
 /// So is what an end makes of it, if it is the end that is due by the state.
 #[tactic(auto, using(crate::proofs::Ends::end_is))]
 pub fn end_is_its_parts()
     ensures law { (def : LineDef) (c : CpuNo) (again unmask : Bool) (note : Note) (s : StateSeen)
-        → entries.End c again unmask note ≡ end_with c (note_by s) (left_by def def.flow (is_held s) (killed_if (note_by s) s.desc))
-        → state_after def (entries.End c again unmask note) s ≡ gone_on def again (left_at def def.flow (is_held s) (killed_by note (noted_at s))) }
+        → entries.End c again unmask note
+        ≡ end_with c (note_by s) (left_by def def.flow (is_held s) (killed_if (note_by s) s.desc))
+        → state_after def (entries.End c again unmask note) s
+        ≡ gone_on def again (left_at def def.flow (is_held s) (killed_by note (noted_at s))) }
 {}
 
 /// And what a linked request makes of it, if it opens the line as the state says.
 #[tactic(auto, using(crate::proofs::Linking::request_is))]
 pub fn request_is_its_parts()
-    ensures law { (def : LineDef) (r : DriverNo) (d : DevNo) (flags : Flags) (opened : Opened) (s : StateSeen) → opened ≡ opened_by def flags s
-        → state_after def (entries.Request r d flags links.Linked opened) s ≡ opened_to (is_bare s.list.actions) opened (activated_if (is_bare s.list.actions) (linked_at d flags s)) }
+    ensures law { (def : LineDef) (r : DriverNo) (d : DevNo) (flags : Flags) (opened : Opened)
+        (s : StateSeen) → opened ≡ opened_by def flags s
+        → state_after def (entries.Request r d flags links.Linked opened) s
+        ≡ opened_to (is_bare s.list.actions) opened
+        (activated_if (is_bare s.list.actions) (linked_at d flags s)) }
 {}

@@ -36,39 +36,47 @@ ghost use Rattle.line_marks.specs.Up.{up_by, active_after};
 /// interrupts, the software resend and the flow in progress.
 #[tactic(auto, using(crate::proofs::DescFollow::desc_follows))]
 pub fn desc_follows()
-    ensures law { (def : LineDef) (e : Entry) (past : List Entry) → IsValid def → IsLegalPast def (e ∷ past) → desc_of def (e ∷ past) ≡ desc_after def (is_none_linked past) e (desc_of def past) }
+    ensures law { (def : LineDef) (e : Entry) (past : List Entry) → IsValid def
+        → IsLegalPast def (e ∷ past)
+        → desc_of def (e ∷ past) ≡ desc_after def (is_none_linked past) e (desc_of def past) }
 {}
 
 /// The list of actions, those whose handler was called in the round, and the number of rounds.
 #[tactic(auto, using(crate::proofs::ListFollows::list_more))]
 pub fn list_follows()
-    ensures law { (def : LineDef) (e : Entry) (past : List Entry) → IsValid def → list_of def (e ∷ past) ≡ list_after def e (list_of def past) }
+    ensures law { (def : LineDef) (e : Entry) (past : List Entry) → IsValid def
+        → list_of def (e ∷ past) ≡ list_after def e (list_of def past) }
 {}
 
 /// The list has the linked devices in the order in which they are walked, each with the flags with
 /// which it was linked.
 #[tactic(auto, using(crate::proofs::ActionsFollow::actions_are))]
 pub fn actions_are()
-    ensures law { (def : LineDef) (past : List Entry) → IsValid def → IsLegalPast def past → flags_of (actions_of past) ≡ linked_flags past }
+    ensures law { (def : LineDef) (past : List Entry) → IsValid def → IsLegalPast def past
+        → flags_of (actions_of past) ≡ linked_flags past }
 {}
 
 /// The list is bare exactly if nothing is linked.
 #[tactic(auto, using(crate::proofs::ActionsFollow::bare_is))]
 pub fn bare_is()
-    ensures law { (def : LineDef) (past : List Entry) → IsValid def → IsLegalPast def past → is_bare (actions_of past) ≡ is_none_linked past }
+    ensures law { (def : LineDef) (past : List Entry) → IsValid def → IsLegalPast def past
+        → is_bare (actions_of past) ≡ is_none_linked past }
 {}
 
 /// The threads: of each device whether it is woken, where its run is, and whether its bit stands.
 #[tactic(auto, using(crate::proofs::ThreadsFollow::threads_follow))]
 pub fn threads_follow()
-    ensures law { (def : LineDef) (e : Entry) (past : List Entry) → IsValid def → IsLegalPast def (e ∷ past) → threads_of def (e ∷ past) ≡ threads_after (is_oneshot past) e (threads_of def past) }
+    ensures law { (def : LineDef) (e : Entry) (past : List Entry) → IsValid def
+        → IsLegalPast def (e ∷ past)
+        → threads_of def (e ∷ past) ≡ threads_after (is_oneshot past) e (threads_of def past) }
 {}
 
 /// The asks: of each device those that are unserved, those since its serving run began, and what
 /// its handler and its thread met.
 #[tactic(auto, using(crate::proofs::AsksFollow::asks_more))]
 pub fn asks_follow()
-    ensures law { (def : LineDef) (e : Entry) (past : List Entry) → IsValid def → asks_of def (e ∷ past) ≡ asks_after (kinds_of def) e (asks_of def past) }
+    ensures law { (def : LineDef) (e : Entry) (past : List Entry) → IsValid def
+        → asks_of def (e ∷ past) ≡ asks_after (kinds_of def) e (asks_of def past) }
 {}
 
 /// A device's kind is what the table of kinds has of it.
@@ -80,62 +88,77 @@ pub fn kinds_stand()
 /// The affinity: the mask in force and one that waits.
 #[tactic(auto, using(crate::proofs::AimFollow::aim_more))]
 pub fn aim_follows()
-    ensures law { (def : LineDef) (e : Entry) (past : List Entry) → aim_of def (e ∷ past) ≡ aim_after e (aim_of def past) }
+    ensures law { (def : LineDef) (e : Entry) (past : List Entry)
+        → aim_of def (e ∷ past) ≡ aim_after e (aim_of def past) }
 {}
 
 /// The processor that the chip is aimed at, which is the target.
 #[tactic(auto, using(crate::proofs::TargetFollow::aimed_more))]
 pub fn aimed_follows()
-    ensures law { (def : LineDef) (e : Entry) (past : List Entry) → aimed_of def (e ∷ past) ≡ aimed_after e (aim_of def past) (aimed_of def past) }
+    ensures law { (def : LineDef) (e : Entry) (past : List Entry)
+        → aimed_of def (e ∷ past) ≡ aimed_after e (aim_of def past) (aimed_of def past) }
 {}
 
 /// Whether the line's domains are active: a first request activates them, and the free of the last
 /// action gives them up.
 #[tactic(auto, using(crate::proofs::UpFollow::active_follows))]
 pub fn active_follows()
-    ensures law { (def : LineDef) (e : Entry) (past : List Entry) → IsValid def → IsLegalPast def (e ∷ past) → is_up (e ∷ past) ≡ active_after (is_bare (actions_of past)) e (is_up past) }
+    ensures law { (def : LineDef) (e : Entry) (past : List Entry) → IsValid def
+        → IsLegalPast def (e ∷ past)
+        → is_up (e ∷ past) ≡ active_after (is_bare (actions_of past)) e (is_up past) }
 {}
 
 /// The domains are active exactly while something is linked or a device is being freed.
 #[tactic(auto, using(crate::proofs::UpFollow::up_is))]
 pub fn up_is()
-    ensures law { (def : LineDef) (past : List Entry) → IsValid def → IsLegalPast def past → is_up past ≡ up_by (is_none_linked past) (freeing past) }
+    ensures law { (def : LineDef) (past : List Entry) → IsValid def → IsLegalPast def past
+        → is_up past ≡ up_by (is_none_linked past) (freeing past) }
 {}
 
 /// The round: the handler at work, whether some handler woke a thread or handled, and the greatest
 /// moment.
 #[tactic(auto, using(crate::proofs::RoundsFollow::round_more))]
 pub fn rounds_follow()
-    ensures law { (def : LineDef) (e : Entry) (past : List Entry) → round_of def (e ∷ past) ≡ round_after def e (round_of def past) }
+    ensures law { (def : LineDef) (e : Entry) (past : List Entry)
+        → round_of def (e ∷ past) ≡ round_after def e (round_of def past) }
 {}
 
 /// The counts of the rule on spurious interrupts.
 #[tactic(auto, using(crate::proofs::CountsFollow::tally_more))]
 pub fn tally_follows()
-    ensures law { (def : LineDef) (e : Entry) (past : List Entry) → tally_of def (e ∷ past) ≡ tally_after e (round_of def past) (tally_of def past) }
+    ensures law { (def : LineDef) (e : Entry) (past : List Entry)
+        → tally_of def (e ∷ past) ≡ tally_after e (round_of def past) (tally_of def past) }
 {}
 
 /// Who frees what.
 #[tactic(auto, using(crate::proofs::FreeingFollows::freeing_more))]
 pub fn freeing_follows()
-    ensures law { (e : Entry) (past : List Entry) → freeing (e ∷ past) ≡ freeing_after e (freeing past) }
+    ensures law { (e : Entry) (past : List Entry)
+        → freeing (e ∷ past) ≡ freeing_after e (freeing past) }
 {}
 
 /// The request mutex is held exactly while somebody frees.
 #[tactic(auto, using(crate::proofs::FreeingFollows::mutex_is))]
 pub fn freeing_holds_mutex()
-    ensures law { (def : LineDef) (past : List Entry) → IsValid def → IsLegalPast def past → holds_mutex past ≡ is_some (freeing past) }
+    ensures law { (def : LineDef) (past : List Entry) → IsValid def → IsLegalPast def past
+        → holds_mutex past ≡ is_some (freeing past) }
 {}
 
 /// The place of the driver that made the entry: an entry that completes its call goes to the next
 /// one.
 #[tactic(auto, using(crate::proofs::ScriptsFollow::own_place))]
 pub fn places_follow()
-    ensures law { (def : LineDef) (past : List Entry) (e : Entry) (r : DriverNo) (place within : ℕ) (c : Call) (n : ℕ) → next_past def past (actors.Driver r) ≡ Some e → is_by_driver r e ≡ true → due_call def r past ≡ Some (c, n) → IsAt def past r place within → IsAt def (e ∷ past) r (place_after (completes c e) place) (within_after (completes c e) within) }
+    ensures law { (def : LineDef) (past : List Entry) (e : Entry) (r : DriverNo) (place within : ℕ)
+        (c : Call) (n : ℕ) → next_past def past (actors.Driver r) ≡ Some e → is_by_driver r e ≡ true
+        → due_call def r past ≡ Some (c, n) → IsAt def past r place within
+        → IsAt def (e ∷ past) r (place_after (completes c e) place)
+        (within_after (completes c e) within) }
 {}
 
 /// The place of any other driver.
 #[tactic(auto, using(crate::proofs::ScriptsFollow::other_place))]
 pub fn places_stay()
-    ensures law { (def : LineDef) (past : List Entry) (e : Entry) (r : DriverNo) (place within : ℕ) → is_by_driver r e ≡ false → IsAt def past r place within → IsAt def (e ∷ past) r place within }
+    ensures law { (def : LineDef) (past : List Entry) (e : Entry) (r : DriverNo) (place within : ℕ)
+        → is_by_driver r e ≡ false → IsAt def past r place within
+        → IsAt def (e ∷ past) r place within }
 {}

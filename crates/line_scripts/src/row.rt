@@ -57,7 +57,8 @@ impl Row {
         requires due { IsSome (call_in self.old) }
         requires within { self.old.within + 1 < 2 ^ 32 }
         ensures calls { self.new.calls ≡ self.old.calls }
-        ensures place { self.new.place ≡ (if completes then self.old.place + 1 else self.old.place) }
+        ensures place { self.new.place
+            ≡ (if completes then self.old.place + 1 else self.old.place) }
         ensures within { self.new.within ≡ (if completes then 0 else self.old.within + 1) }
     {
         if completes {

@@ -53,9 +53,13 @@ impl Scripts {
     /// Adds a call at the end of the driver's, of which none has begun.
     fn add(&mut self, alloc: Global, who: DriverNo, call: Call) -> Result<(), NoMemory>
         requires { place_of self.old who ≡ 0 }
-        ensures own { OnOk result (row_of self.new who ≡ record (row_of self.old who) { calls = calls_of self.old who ++ call ∷ [] }) }
-        ensures others { OnOk result ((r : DriverNo) → same_driver r who ≡ false → row_of self.new r ≡ row_of self.old r) }
-        ensures asks { OnOk result (asks_left self.new ≡ asks_left self.old + (if is_ask_call call then 1 else 0)) }
+        ensures own { OnOk result
+            (row_of self.new who
+            ≡ record (row_of self.old who) { calls = calls_of self.old who ++ call ∷ [] }) }
+        ensures others { OnOk result
+            ((r : DriverNo) → same_driver r who ≡ false → row_of self.new r ≡ row_of self.old r) }
+        ensures asks { OnOk result
+            (asks_left self.new ≡ asks_left self.old + (if is_ask_call call then 1 else 0)) }
     {
         if let Some(row) = self.rows.get_mut(&who) {
             return row.push(call);
@@ -79,11 +83,17 @@ impl Scripts {
         requires due { IsSome (call_of self.old who) }
         requires within { within_of self.old who + 1 < 2 ^ 32 }
         ensures calls { (r : DriverNo) → calls_of self.new r ≡ calls_of self.old r }
-        ensures place { place_of self.new who ≡ (if completes then place_of self.old who + 1 else place_of self.old who) }
-        ensures within { within_of self.new who ≡ (if completes then 0 else within_of self.old who + 1) }
-        ensures other_places { (r : DriverNo) → same_driver r who ≡ false → place_of self.new r ≡ place_of self.old r }
-        ensures other_withins { (r : DriverNo) → same_driver r who ≡ false → within_of self.new r ≡ within_of self.old r }
-        ensures asks { asks_left self.new + (if completes && is_some_ask (call_of self.old who) then 1 else 0) ≡ asks_left self.old }
+        ensures place { place_of self.new who
+            ≡ (if completes then place_of self.old who + 1 else place_of self.old who) }
+        ensures within { within_of self.new who
+            ≡ (if completes then 0 else within_of self.old who + 1) }
+        ensures other_places { (r : DriverNo) → same_driver r who ≡ false
+            → place_of self.new r ≡ place_of self.old r }
+        ensures other_withins { (r : DriverNo) → same_driver r who ≡ false
+            → within_of self.new r ≡ within_of self.old r }
+        ensures asks { asks_left
+            self.new + (if completes && is_some_ask (call_of self.old who) then 1 else 0)
+            ≡ asks_left self.old }
     {
         // A call is due, so the driver has a row.
         let Some(row) = self.rows.get_mut(&who) else {

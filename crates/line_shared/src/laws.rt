@@ -19,32 +19,39 @@ ghost use Rattle.line_shared.specs.Meeting.{HasMet, StandsIn};
 
 /// A pass's own entries stand in what it has seen, each at its place, and its actor made them.
 pub fn own_entries_stand()
-    ensures law { (line : LineNo) (who : Actor) (history : List Entry) → All (StandsIn line who history) (placed line who history) }
+    ensures law { (line : LineNo) (who : Actor) (history : List Entry)
+        → All (StandsIn line who history) (placed line who history) }
 {}
 
 /// Whom a first pass meets, it has met: what it has seen of that actor is what the other knew as
 /// its own.
 #[tactic(auto, using(crate::proofs::MetLaws::after_meeting))]
 pub fn met_is_known()
-    ensures law { (line : LineNo) (k other new : Known) (who : Actor) → Meets line k other new → IsKnown line k → other.actor ≡ Some who → HasMet line new who other }
+    ensures law { (line : LineNo) (k other new : Known) (who : Actor) → Meets line k other new
+        → IsKnown line k → other.actor ≡ Some who → HasMet line new who other }
 {}
 
 /// Whom it met before stays met when it meets another, and the two actors differ.
 #[tactic(auto, using(crate::proofs::MetLaws::others_met))]
 pub fn met_stays_met()
-    ensures stays { (line : LineNo) (k other new : Known) (who a : Actor) (first : Known) → Meets line k other new → other.actor ≡ Some who → HasMet line k a first → HasMet line new a first }
-    ensures differ { (line : LineNo) (k other new : Known) (who a : Actor) (first : Known) → Meets line k other new → other.actor ≡ Some who → HasMet line k a first → a ≡ who → ⊥ }
+    ensures stays { (line : LineNo) (k other new : Known) (who a : Actor) (first : Known)
+        → Meets line k other new → other.actor ≡ Some who → HasMet line k a first
+        → HasMet line new a first }
+    ensures differ { (line : LineNo) (k other new : Known) (who a : Actor) (first : Known)
+        → Meets line k other new → other.actor ≡ Some who → HasMet line k a first → a ≡ who → ⊥ }
 {}
 
 /// And when it gives a pass to an actor that had none.
 pub fn met_stays_met_at_a_fork()
-    ensures law { (line : LineNo) (k other : Known) (who a : Actor) → is_among who k.given ≡ false → HasMet line k a other → HasMet line (forked k who) a other }
+    ensures law { (line : LineNo) (k other : Known) (who a : Actor) → is_among who k.given ≡ false
+        → HasMet line k a other → HasMet line (forked k who) a other }
 {}
 
 /// Whoever met passes of two actors knows that their entries have no place in common.
 pub fn places_are_apart()
     ensures law { (line : LineNo) (k first second : Known) (a b : Actor) (x y : Placed)
-        → HasMet line k a first → HasMet line k b second → (a ≡ b → ⊥) → Contains first.mine x → Contains second.mine y → x.place ≡ y.place → ⊥ }
+        → HasMet line k a first → HasMet line k b second → (a ≡ b → ⊥) → Contains first.mine x
+        → Contains second.mine y → x.place ≡ y.place → ⊥ }
 {}
 
 /// Whoever has seen a free of a device never sees a later run of it without a request that linked
@@ -53,5 +60,6 @@ pub fn places_are_apart()
 pub fn free_is_final()
     ensures law { (def : LineDef) (seen more rest : List Entry) (e : Entry) (d : DevNo)
         → IsValid def → IsLegal def (seen ++ (more ++ e ∷ rest))
-        → stands (is_freed d) (links_dev d) (reverse seen) ≡ true → is_run_of d e ≡ true → list_any (links_dev d) more ≡ true }
+        → stands (is_freed d) (links_dev d) (reverse seen) ≡ true → is_run_of d e ≡ true
+        → list_any (links_dev d) more ≡ true }
 {}

@@ -94,7 +94,8 @@ impl<L: IrqLine> SharedLine<L> {
         ensures pass { IsPassOf self.now pass.new }
         ensures idle { pass.new.turn ≡ false }
         ensures same_actor { pass.new.knows.actor ≡ pass.old.knows.actor }
-        ensures steps { (who : Actor) → pass.old.knows.actor ≡ Some who → Steps self.now.def who pass.old.knows said result pass.new.knows }
+        ensures steps { (who : Actor) → pass.old.knows.actor ≡ Some who
+            → Steps self.now.def who pass.old.knows said result pass.new.knows }
     {
         let Some(actor) = pass.actor() else {
             unreachable!()
@@ -146,9 +147,11 @@ fn step_held<L: IrqLine>(
 ) -> Result<Stepped, StepRefused>
     ensures def { (L.seen held.new.line.value).def ≡ (L.seen held.old.line.value).def }
     ensures sound { IsSound (L.seen held.old.line.value) × IsSound (L.seen held.new.line.value) }
-    ensures answer { Answers (L.seen held.old.line.value) actor said result (L.seen held.new.line.value) }
+    ensures answer { Answers (L.seen held.old.line.value) actor said result
+        (L.seen held.new.line.value) }
     ensures few { length (L.seen held.new.line.value).entries ≤ 100000000 }
-    ensures extends { Extends (L.seen held.old.line.value).def.line (Some actor) (L.seen held.old.line.value).entries (L.seen held.new.line.value).entries }
+    ensures extends { Extends (L.seen held.old.line.value).def.line (Some actor)
+        (L.seen held.old.line.value).entries (L.seen held.new.line.value).entries }
 {
     held.line.is_sound();
     let answer = held.line.step(actor, said);

@@ -46,8 +46,10 @@ fn adds<L: IrqLine>(line: &mut L, entry: Entry) -> Result<bool, NoMemory>
 fn step<L: IrqLine>(line: &mut L, actor: Actor) -> Result<Option<Entry>, NoMemory>
     requires { length (L.seen line.old).entries < (L.seen line.old).def.log }
     ensures def { (L.seen line.new).def ≡ (L.seen line.old).def }
-    ensures due { IfOk result (λ due. due ≡ next (L.seen line.old).def (L.seen line.old).entries actor) }
-    ensures added { IfOk result (λ due. IfSome due (λ e. (L.seen line.new).entries ≡ (L.seen line.old).entries ++ e ∷ [])) }
+    ensures due { IfOk result
+        (λ due. due ≡ next (L.seen line.old).def (L.seen line.old).entries actor) }
+    ensures added { IfOk result
+        (λ due. IfSome due (λ e. (L.seen line.new).entries ≡ (L.seen line.old).entries ++ e ∷ [])) }
 {
     match try_step(line, actor, None)? {
         Stepped::Added(entry) => Ok(Some(entry)),
@@ -68,8 +70,10 @@ fn end_run<L: IrqLine>(line: &mut L, actor: Actor, said: Said) -> Result<Option<
     requires below { length (L.seen line.old).entries < (L.seen line.old).def.log }
     requires run { run_of (L.seen line.old).def (L.seen line.old).entries actor ≡ Some said.run }
     ensures def { (L.seen line.new).def ≡ (L.seen line.old).def }
-    ensures due { IfOk result (λ due. due ≡ next (L.seen line.old).def (L.seen line.old).entries actor) }
-    ensures added { IfOk result (λ due. IfSome due (λ e. (L.seen line.new).entries ≡ (L.seen line.old).entries ++ e ∷ [])) }
+    ensures due { IfOk result
+        (λ due. due ≡ next (L.seen line.old).def (L.seen line.old).entries actor) }
+    ensures added { IfOk result
+        (λ due. IfSome due (λ e. (L.seen line.new).entries ≡ (L.seen line.old).entries ++ e ∷ [])) }
 {
     match try_step(line, actor, Some(said))? {
         Stepped::Added(entry) => Ok(Some(entry)),
@@ -83,7 +87,8 @@ fn end_run<L: IrqLine>(line: &mut L, actor: Actor, said: Said) -> Result<Option<
 fn try_step<L: IrqLine>(line: &mut L, actor: Actor, said: Option<Said>) -> Result<Stepped, NoMemory>
     requires below { length (L.seen line.old).entries < (L.seen line.old).def.log }
     ensures def { (L.seen line.new).def ≡ (L.seen line.old).def }
-    ensures answer { IfOk result (λ answer. Answers (L.seen line.old) actor said (Ok answer) (L.seen line.new)) }
+    ensures answer { IfOk result
+        (λ answer. Answers (L.seen line.old) actor said (Ok answer) (L.seen line.new)) }
 {
     match line.step(actor, said) {
         Ok(answer) => Ok(answer),

@@ -82,7 +82,9 @@ fn empty_logs(alloc: Global, board: &Board) -> Result<Logs, NoMemory>
 /// the text has no line feed.
 pub fn cut_row(text: &[u8]) -> Option<(&[u8], &[u8])>
     requires { 1 ≤ length text.now }
-    ensures rows { MatchOption result ((rows_of text.now ≡ text.now ∷ []) × (is_whole text.now ≡ false)) (λ x. rows_of text.now ≡ (x.0.now ++ codes "\n") ∷ rows_of x.1.now) }
+    ensures rows { MatchOption result
+        ((rows_of text.now ≡ text.now ∷ []) × (is_whole text.now ≡ false))
+        (λ x. rows_of text.now ≡ (x.0.now ++ codes "\n") ∷ rows_of x.1.now) }
     ensures shorter { MatchOption result (Unit {0}) (λ x. length x.1.now + 1 ≤ length text.now) }
 {
     match line_feed(text) {
@@ -102,7 +104,9 @@ fn line_feed(text: &[u8]) -> Option<usize>
 /// Answers whether nothing is wrong with it.
 fn add_row(logs: &mut Logs, board: &Board, row: &[u8]) -> Result<bool, NoMemory>
     requires { length logs.old ≡ length board.now.lines }
-    ensures { IfOk result (λ fine. Judges board.now.lines (row.now ++ codes "\n") fine (entries_of logs.old) (entries_of logs.new)) }
+    ensures { IfOk result
+        (λ fine. Judges board.now.lines (row.now ++ codes "\n") fine (entries_of logs.old)
+        (entries_of logs.new)) }
 {
     if begins_with_hash(row) {
         return Ok(true);
@@ -128,7 +132,8 @@ fn begins_with_hash(row: &[u8]) -> bool
 
 /// The place of the line among the board's.
 fn place_of(board: &Board, line: LineNo) -> Option<usize>
-    ensures { MatchOption result (has_line board.now.lines line ≡ false) (λ place. IsPlaceOf board.now.lines line place) }
+    ensures { MatchOption result (has_line board.now.lines line ≡ false)
+        (λ place. IsPlaceOf board.now.lines line place) }
 {
     for i in 0..board.lines_len() {
         if let Some(row) = board.line(i)

@@ -12,7 +12,9 @@ use irq_base::{Entry, LineNo};
 /// The line and the entry of a row, which stands here without its line feed; nothing if it isn't
 /// the row of any.
 pub(crate) fn read_row(row: &[u8]) -> Option<(LineNo, Entry)>
-    ensures { MatchOption result ((line : LineNo) (e : Entry) → IsRowOf (row.now ++ codes "\n") line e → ⊥) (λ read. IsRowOf (row.now ++ codes "\n") read.0 read.1) }
+    ensures { MatchOption result
+        ((line : LineNo) (e : Entry) → IsRowOf (row.now ++ codes "\n") line e → ⊥)
+        (λ read. IsRowOf (row.now ++ codes "\n") read.0 read.1) }
 {
     let mut words = Words::of_row(row);
     let line = LineNo(number(&mut words));

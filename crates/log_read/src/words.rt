@@ -60,7 +60,8 @@ impl<'a> Words<'a> {
     /// Takes what was read of a word; if it couldn't be read, something doesn't fit, and a stand-in
     /// is taken.
     pub(crate) fn fit<T: Drop>(&mut self, read: Option<T>, other: T) -> T
-        ensures { MatchOption read (left_of self.new ≡ None) (λ x. (result ≡ x) × (self.new ≡ self.old)) }
+        ensures { MatchOption read (left_of self.new ≡ None)
+            (λ x. (result ≡ x) × (self.new ≡ self.old)) }
     {
         match read {
             Some(x) => x,

@@ -106,7 +106,9 @@ fn is_sent_edge(def: &LineDef, past: &[Entry], masked: &[bool], place: usize) ->
 fn is_presented(def: &LineDef, past: &[Entry], masked: &[bool], place: usize) -> bool
     requires table { IsMaskTable def.now past.now masked.now }
     requires place { place < length past.now }
-    ensures { result ≡ (is_alive def.now (take place past.now) (drop place past.now) && is_sent_edge def.now (take place past.now) (drop place past.now)) }
+    ensures { result
+        ≡ (is_alive def.now (take place past.now) (drop place past.now) && is_sent_edge def.now
+        (take place past.now) (drop place past.now)) }
 {
     is_alive(def, past, masked, place) && is_sent_edge(def, past, masked, place)
 }

@@ -79,7 +79,8 @@ pub fn is_in_mask(mask: u32, cpu: u32) -> bool
 /// Some device of the line passes the test.
 pub fn any_device<T: Fn(DevNo) -> bool + Drop>(def: &LineDef, test: T) -> bool
     requires { T.IsAlwaysCallable test }
-    ensures { (x : DevNo → Bool) → Computes (T.post test) x → result ≡ list_any (λ device. x device.dev) def.now.devices }
+    ensures { (x : DevNo → Bool) → Computes (T.post test) x
+        → result ≡ list_any (λ device. x device.dev) def.now.devices }
 {
     for i in 0..def.devices.len() {
         if test(device_at(&def.devices, i).dev) {
@@ -93,7 +94,8 @@ pub fn any_device<T: Fn(DevNo) -> bool + Drop>(def: &LineDef, test: T) -> bool
 pub fn count_devices<T: Fn(DevNo) -> bool + Drop>(def: &LineDef, test: T) -> u32
     requires callable { T.IsAlwaysCallable test }
     requires few { length def.now.devices ≤ 256 }
-    ensures value { (x : DevNo → Bool) → Computes (T.post test) x → result ≡ count_of (λ device. x device.dev) def.now.devices }
+    ensures value { (x : DevNo → Bool) → Computes (T.post test) x
+        → result ≡ count_of (λ device. x device.dev) def.now.devices }
     ensures within { result ≤ 256 }
 {
     let mut count = 0;

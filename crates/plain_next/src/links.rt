@@ -29,7 +29,8 @@ fn take_out(devices: &mut Vec<DevNo>, dev: DevNo)
 
 /// Puts the device last in the list.
 fn put_last(devices: &mut Vec<DevNo>, dev: DevNo) -> Result<(), NoMemory>
-    ensures { OnOk result (devices.new.items ≡ filter (λ d. not (same_dev d dev)) devices.old.items ++ dev ∷ []) }
+    ensures { OnOk result
+        (devices.new.items ≡ filter (λ d. not (same_dev d dev)) devices.old.items ++ dev ∷ []) }
 {
     take_out(devices, dev);
     devices.push(dev)?;
@@ -73,7 +74,9 @@ pub fn is_none_linked(alloc: Global, past: &[Entry]) -> Result<bool, NoMemory>
 /// What one more entry makes of the linked devices: a request that is linked puts its device last,
 /// an unlink takes its device out.
 fn link_or_unlink(devices: &mut Vec<DevNo>, entry: Entry) -> Result<(), NoMemory>
-    ensures { OnOk result ((past : List Entry) → devices.old.items ≡ linked past → devices.new.items ≡ linked (entry ∷ past)) }
+    ensures { OnOk result
+        ((past : List Entry) → devices.old.items ≡ linked past
+        → devices.new.items ≡ linked (entry ∷ past)) }
 {
     match entry {
         Entry::Request {

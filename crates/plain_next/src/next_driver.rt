@@ -29,7 +29,8 @@ pub fn next_of_driver(
     requires few { length past.now ≤ 100000000 }
     requires cpus { def.now.cpus ≤ 32 }
     requires devices { length def.now.devices ≤ 256 }
-    ensures { IfOk result (λ entry. entry ≡ next_of_call def.now driver past.now (due_call def.now driver past.now)) }
+    ensures { IfOk result
+        (λ entry. entry ≡ next_of_call def.now driver past.now (due_call def.now driver past.now)) }
 {
     match due_call(alloc, def, driver, past)? {
         Some((call, n)) => next_of_call(alloc, def, driver, past, call, n),

@@ -14,7 +14,8 @@ pub fn stands<P: Fn(Entry) -> bool + Drop, Q: Fn(Entry) -> bool + Drop>(
 ) -> bool
     requires sets { P.IsAlwaysCallable sets }
     requires clears { Q.IsAlwaysCallable clears }
-    ensures { (x y : Entry → Bool) → Computes (P.post sets) x → Computes (Q.post clears) y → result ≡ stands x y past.now }
+    ensures { (x y : Entry → Bool) → Computes (P.post sets) x → Computes (Q.post clears) y
+        → result ≡ stands x y past.now }
 {
     let mut rest = past;
     while let Some((e, older)) = rest.split_first() {

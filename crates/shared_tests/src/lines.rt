@@ -108,8 +108,10 @@ fn drive_both<R: Threads + Wait + Sync>(
 ) -> ((Pass<PlainLine>, u32), (Pass<PlainLine>, u32))
     requires one { IsPassOf line.now one × (one.turn ≡ false) × IsSome one.knows.actor }
     requires two { IsPassOf line.now two × (two.turn ≡ false) × IsSome two.knows.actor }
-    ensures one { IsPassOf line.now result.0.0 × (result.0.0.turn ≡ false) × (result.0.0.knows.actor ≡ one.knows.actor) }
-    ensures two { IsPassOf line.now result.1.0 × (result.1.0.turn ≡ false) × (result.1.0.knows.actor ≡ two.knows.actor) }
+    ensures one { IsPassOf line.now result.0.0 × (result.0.0.turn ≡ false)
+        × (result.0.0.knows.actor ≡ one.knows.actor) }
+    ensures two { IsPassOf line.now result.1.0 × (result.1.0.turn ≡ false)
+        × (result.1.0.knows.actor ≡ two.knows.actor) }
 {
     thread::join(
         rt,

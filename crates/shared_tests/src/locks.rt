@@ -64,7 +64,8 @@ impl Log {
     fn ask(&mut self, driver: DriverNo)
         ensures def { self.new.def ≡ self.old.def }
         ensures few { length self.new.history.entries ≤ 1000 }
-        ensures extends { Extends self.old.def.line (by_driver driver) self.old.history.entries self.new.history.entries }
+        ensures extends { Extends self.old.def.line (by_driver driver) self.old.history.entries
+            self.new.history.entries }
     {
         if self.history.len() < 1000 && self.history.reserve(1).is_ok() {
             self.history.push(Entry::Ask {
@@ -83,8 +84,10 @@ fn ask_often<R: Wait>(
     driver: DriverNo,
     times: u32,
 ) -> Pass<Log>
-    requires pass { IsPassOf lock.now pass × (pass.turn ≡ false) × (pass.knows.actor ≡ by_driver driver) }
-    ensures pass { IsPassOf lock.now result × (result.turn ≡ false) × (result.knows.actor ≡ by_driver driver) }
+    requires pass { IsPassOf lock.now pass × (pass.turn ≡ false)
+        × (pass.knows.actor ≡ by_driver driver) }
+    ensures pass { IsPassOf lock.now result × (result.turn ≡ false)
+        × (result.knows.actor ≡ by_driver driver) }
 {
     for _ in 0..times {
         let mut log = lock.hold(rt, &mut pass);

@@ -210,7 +210,8 @@ fn definition(
     devices: &[DeviceDef],
     calls: &[(DriverNo, Call)],
 ) -> Result<LineDef, NoMemory>
-    requires { IsTrue (fits (row_line shape.0 shape.1 shape.2 3 2 100000 99900 devices.now calls.now)) }
+    requires { IsTrue
+        (fits (row_line shape.0 shape.1 shape.2 3 2 100000 99900 devices.now calls.now)) }
     ensures { IfOk result IsValid }
 {
     Ok(LineDef {

@@ -154,7 +154,10 @@ fn definition(
     devices: &[DeviceDef],
     calls: &[(DriverNo, Call)],
 ) -> Result<LineDef, NoMemory>
-    requires { IsTrue (fits (row_line shape.flow shape.trigger shape.latches shape.mask shape.cpus shape.window shape.limit devices.now calls.now)) }
+    requires { IsTrue
+        (fits
+        (row_line shape.flow shape.trigger shape.latches shape.mask shape.cpus shape.window
+        shape.limit devices.now calls.now)) }
     ensures { IfOk result IsValid }
 {
     Ok(LineDef {
@@ -183,7 +186,10 @@ fn plain_line(
     devices: &[DeviceDef],
     calls: &[(DriverNo, Call)],
 ) -> Result<PlainLine, NoMemory>
-    requires { IsTrue (fits (row_line shape.flow shape.trigger shape.latches shape.mask shape.cpus shape.window shape.limit devices.now calls.now)) }
+    requires { IsTrue
+        (fits
+        (row_line shape.flow shape.trigger shape.latches shape.mask shape.cpus shape.window
+        shape.limit devices.now calls.now)) }
 {
     let def = definition(alloc, shape, devices, calls)?;
     PlainLine::new(alloc, &def)

@@ -32,7 +32,10 @@ fn push_threads<L: IrqLine>(
     board: &Board,
     lines: &SharedLines<L>,
 ) -> Result<(), NoMemory>
-    ensures { OnOk result (crew.new.items ≡ crew.old.items ++ map (λ (x : DeviceDef). kinds.Thread x.line x.dev) (filter (has_worker lines.now) board.now.devices)) }
+    ensures { OnOk result
+        (crew.new.items
+        ≡ crew.old.items ++ map (λ (x : DeviceDef). kinds.Thread x.line x.dev)
+        (filter (has_worker lines.now) board.now.devices)) }
 {
     for i in 0..board.devices_len() {
         let Some(device) = board.device(i) else {
@@ -46,7 +49,9 @@ fn push_threads<L: IrqLine>(
 }
 
 fn push_cpus(crew: &mut Vec<Actor>, cpus: u32) -> Result<(), NoMemory>
-    ensures { OnOk result (crew.new.items ≡ crew.old.items ++ map (λ n. kinds.Cpu (record { 0 = n })) (count_up 0 cpus)) }
+    ensures { OnOk result
+        (crew.new.items
+        ≡ crew.old.items ++ map (λ n. kinds.Cpu (record { 0 = n })) (count_up 0 cpus)) }
 {
     for cpu in 0..cpus {
         crew.push(Actor::Cpu(CpuNo(cpu)))?;

@@ -76,8 +76,10 @@ fn next_call<L: IrqLine>(
 ) -> usize
     requires { from ≤ length calls.now }
     ensures within { (from ≤ result) × (result ≤ length calls.now) }
-    ensures passed { (k : ℕ) (c : ScriptCall) → from ≤ k → k < result → slice_get calls.now k ≡ Some c → c.driver ≡ driver → IsPlaceOf lines.now c.line None }
-    ensures own { (c : ScriptCall) → slice_get calls.now result ≡ Some c → (c.driver ≡ driver) × ((place : ℕ) × IsPlaceOf lines.now c.line (Some place)) }
+    ensures passed { (k : ℕ) (c : ScriptCall) → from ≤ k → k < result
+        → slice_get calls.now k ≡ Some c → c.driver ≡ driver → IsPlaceOf lines.now c.line None }
+    ensures own { (c : ScriptCall) → slice_get calls.now result ≡ Some c
+        → (c.driver ≡ driver) × ((place : ℕ) × IsPlaceOf lines.now c.line (Some place)) }
 {
     for at in from..calls.len() {
         let call = calls[at];
@@ -90,7 +92,8 @@ fn next_call<L: IrqLine>(
 
 /// Whether the call is the driver's, about one of the lines.
 fn is_own<L: IrqLine>(call: ScriptCall, lines: &SharedLines<L>, driver: DriverNo) -> bool
-    ensures yes { result ≡ true → (call.driver ≡ driver) × ((place : ℕ) × IsPlaceOf lines.now call.line (Some place)) }
+    ensures yes { result ≡ true
+        → (call.driver ≡ driver) × ((place : ℕ) × IsPlaceOf lines.now call.line (Some place)) }
     ensures no { result ≡ false → call.driver ≡ driver → IsPlaceOf lines.now call.line None }
 {
     call.driver == driver && lines.place_of(call.line).is_some()

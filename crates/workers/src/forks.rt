@@ -18,9 +18,12 @@ pub(crate) fn fork_all<L: IrqLine>(
     end: usize,
     actor: Actor,
 ) -> Result<Vec<Seat<L>>, NoMemory>
-    requires range { (first ≤ end) × (end ≤ length lines.now) × (length firsts.old.items ≡ length lines.now) }
-    requires can { (k : ℕ) (p : PassSeen) → slice_get firsts.old.items k ≡ Some p → IsSomeAnd (slice_get lines.now k) (λ l. CanFork l actor p) }
-    ensures { IfOk result (λ seats. Forks lines.now first end actor firsts.old.items firsts.new.items seats.items) }
+    requires range { (first ≤ end) × (end ≤ length lines.now)
+        × (length firsts.old.items ≡ length lines.now) }
+    requires can { (k : ℕ) (p : PassSeen) → slice_get firsts.old.items k ≡ Some p
+        → IsSomeAnd (slice_get lines.now k) (λ l. CanFork l actor p) }
+    ensures { IfOk result
+        (λ seats. Forks lines.now first end actor firsts.old.items firsts.new.items seats.items) }
 {
     let mut seats = Vec::new(alloc);
     for place in first..end {

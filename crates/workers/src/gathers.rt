@@ -42,9 +42,11 @@ pub fn gather<L: IrqLine>(
 /// The first passes meet the passes of all jobs, the last job's first.
 fn meet_all<L: IrqLine>(lines: &[SharedLine<L>], firsts: &mut Vec<Pass<L>>, mut jobs: Vec<Job<L>>)
     requires home { AreHome lines.now firsts.old.items }
-    requires seated { (i : ℕ) (j : JobSeen) → slice_get jobs.items i ≡ Some j → AreSeated lines.now j }
+    requires seated { (i : ℕ) (j : JobSeen) → slice_get jobs.items i ≡ Some j
+        → AreSeated lines.now j }
     ensures home { AreHome lines.now firsts.new.items }
-    ensures gathers { (board : BoardSeen) → Gathers board lines.now jobs.items firsts.old.items → Gathers board lines.now [] firsts.new.items }
+    ensures gathers { (board : BoardSeen) → Gathers board lines.now jobs.items firsts.old.items
+        → Gathers board lines.now [] firsts.new.items }
 {
     while let Some(job) = jobs.pop() {
         meet_job(lines, firsts, job);
@@ -76,7 +78,8 @@ fn finish_all<L: IrqLine>(
     mut firsts: Vec<Pass<L>>,
 ) -> Result<Vec<L>, NoMemory>
     requires { AreFinal lines.items firsts.items }
-    ensures lines { IfOk result (λ all. board_lines (map L.seen all.items) ≡ seen_lines firsts.items) }
+    ensures lines { IfOk result
+        (λ all. board_lines (map L.seen all.items) ≡ seen_lines firsts.items) }
     ensures sound { IfOk result (λ all. AreSound (map L.seen all.items)) }
 {
     let mut all = Vec::new(alloc);

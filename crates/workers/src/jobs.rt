@@ -45,7 +45,8 @@ pub fn share<'b, L: IrqLine>(
     lines: Vec<L>,
 ) -> Result<(SharedLines<L>, Jobs<'b, L>), NoMemory>
     requires defs { map (λ (x : LineSeen). x.def) (map L.seen lines.items) ≡ defs_of board.now }
-    requires empty { (i : ℕ) (x : LineSeen) → slice_get (map L.seen lines.items) i ≡ Some x → x.entries ≡ [] }
+    requires empty { (i : ℕ) (x : LineSeen) → slice_get (map L.seen lines.items) i ≡ Some x
+        → x.entries ≡ [] }
     ensures board { IfOk result (λ r. r.1.board ≡ board.now) }
     ensures fit { IfOk result (λ r. Fit r.0 r.1) }
 {
@@ -68,8 +69,11 @@ fn share_lines<L: IrqLine>(
     alloc: Global,
     all: Vec<L>,
 ) -> Result<(SharedLines<L>, Vec<Pass<L>>), NoMemory>
-    requires empty { (i : ℕ) (x : LineSeen) → slice_get (map L.seen all.items) i ≡ Some x → x.entries ≡ [] }
-    ensures defs { IfOk result (λ r. map (λ (l : LockSeen). l.def) r.0 ≡ map (λ (x : LineSeen). x.def) (map L.seen all.items)) }
+    requires empty { (i : ℕ) (x : LineSeen) → slice_get (map L.seen all.items) i ≡ Some x
+        → x.entries ≡ [] }
+    ensures defs { IfOk result
+        (λ r. map (λ (l : LockSeen). l.def) r.0
+        ≡ map (λ (x : LineSeen). x.def) (map L.seen all.items)) }
     ensures firsts { IfOk result (λ r. AreFirsts r.0 [] r.1.items) }
 {
     let mut lines = Vec::new(alloc);

@@ -46,7 +46,8 @@ impl<L: IrqLine> SharedLines<L> {
     /// The flow handler of the line that stands so many places behind the first one.
     pub(crate) fn flow_at(&self, first: usize, behind: usize) -> FlowKind
         requires { first + behind < length self.now }
-        ensures { (l : LockSeen) → slice_get self.now (first + behind) ≡ Some l → result ≡ l.def.flow }
+        ensures { (l : LockSeen) → slice_get self.now (first + behind) ≡ Some l
+            → result ≡ l.def.flow }
     {
         let flows = self.flows.as_slice();
         flows[first + behind]

@@ -225,7 +225,8 @@ impl<'b, L: IrqLine + Send + Sync> Jobs<'b, L> {
         ensures left { EachLeftSo self.new }
         ensures all { SumsUp self.new.jobs (length self.new.jobs) result }
         ensures room { room_of_jobs self.new.jobs ≤ room_of_jobs self.old.jobs }
-        ensures busy { result ≡ lefts.Busy → room_of_jobs self.new.jobs < room_of_jobs self.old.jobs }
+        ensures busy { result ≡ lefts.Busy
+            → room_of_jobs self.new.jobs < room_of_jobs self.old.jobs }
     {
         let jobs = self.jobs.as_mut_slice();
         round(rt, self.board, lines, jobs, gate, handlers);

@@ -40,12 +40,14 @@ impl<L: IrqLine> Seat<L> {
         requires line { IsPassOf line.now self.old.pass }
         requires idle { self.old.pass.turn ≡ false }
         requires actor { IsSome self.old.pass.knows.actor }
-        requires known { self.old.rests ≡ true → (who : Actor) → self.old.pass.knows.actor ≡ Some who → IsIdle line.now.def who self.old.pass.knows }
+        requires known { self.old.rests ≡ true → (who : Actor)
+            → self.old.pass.knows.actor ≡ Some who → IsIdle line.now.def who self.old.pass.knows }
         ensures line { IsPassOf line.now self.new.pass }
         ensures idle { self.new.pass.turn ≡ false }
         ensures actor { self.new.pass.knows.actor ≡ self.old.pass.knows.actor }
         ensures rests { self.new.rests ≡ rests_after result }
-        ensures tries { (who : Actor) → self.old.pass.knows.actor ≡ Some who → Tries line.now.def who self.old.pass.knows result self.new.pass.knows }
+        ensures tries { (who : Actor) → self.old.pass.knows.actor ≡ Some who
+            → Tries line.now.def who self.old.pass.knows result self.new.pass.knows }
         ensures flows { self.old.rests ≡ false → FlowMoves line.now.def self.old.pass.knows result }
     {
         if self.is_still(line) {
@@ -79,7 +81,8 @@ fn step_heard<L: IrqLine, R: Wait, H: Handler>(
     ensures line { IsPassOf line.now pass.new }
     ensures idle { pass.new.turn ≡ false }
     ensures actor { pass.new.knows.actor ≡ pass.old.knows.actor }
-    ensures tries { (who : Actor) → pass.old.knows.actor ≡ Some who → Tries line.now.def who pass.old.knows result pass.new.knows }
+    ensures tries { (who : Actor) → pass.old.knows.actor ≡ Some who
+        → Tries line.now.def who pass.old.knows result pass.new.knows }
     ensures flows { FlowMoves line.now.def pass.old.knows result }
 {
     let mut said = None;
