@@ -5,3 +5,4 @@ pub mod Who
 pub mod Forms
 pub mod LogOf
 pub mod Adding
+pub mod Recent

@@ -2,8 +2,10 @@
 //! malformed row is named.
 //!
 //! A row is read word by word. What a piece of it is read as is written so, and what is written so
-//! is read; so exactly the rows of entries are read, whatever their numbers. A text of n bytes
-//! takes time in the order of n times the lines of the board, and memory for the histories alone.
+//! is read; so exactly the rows of entries are read, whatever their numbers. The rows that were
+//! read last are kept with what they say, so one that comes again is compared, and not read again.
+//! A text of n bytes takes time in the order of n times the lines of the board, and memory for the
+//! histories alone.
 #![tactic(auto)]
 
 mod answers;
@@ -11,6 +13,7 @@ mod entries;
 mod kinds;
 mod numbers;
 pub mod reading;
+pub mod recent;
 mod rows;
 mod said;
 mod words;

@@ -6,9 +6,10 @@ ghost use Rattle.board_def.specs.declared.rows.LineRow.{LineRow};
 ghost use Rattle.log_read.specs.LogOf.{rows_of, is_whole, is_feed, is_passed_over, entries_of, IsLogOf, IsRow};
 ghost use Rattle.log_read.specs.Adding.{Adds, IsPlaceOf, Judges};
 
-use crate::rows::read_row;
+use crate::recent::RecentRows;
 use board_def::Board;
 use irq_base::{Entry, History, LineNo, Logs, NoMemory};
+use memchr::memchr;
 use std::alloc::Global;
 use thiserror::Error;
 
@@ -52,6 +53,7 @@ pub fn read_log(alloc: Global, board: &Board, bytes: &[u8]) -> Result<Logs, LogR
 {
     board.is_board();
     let mut logs = empty_logs(alloc, board)?;
+    let mut recent = RecentRows::new();
     let mut rest = bytes;
     let mut row: u32 = 0;
     while !rest.is_empty() {
@@ -59,7 +61,7 @@ pub fn read_log(alloc: Global, board: &Board, bytes: &[u8]) -> Result<Logs, LogR
         let Some((text, after)) = cut_row(rest) else {
             return Err(LogRefused::Malformed { row });
         };
-        if !add_row(&mut logs, board, text)? {
+        if !add_row(&mut logs, board, &mut recent, text)? {
             return Err(LogRefused::Malformed { row });
         }
         rest = after;
@@ -94,15 +96,21 @@ pub fn cut_row(text: &[u8]) -> Option<(&[u8], &[u8])>
 }
 
 /// The place of the first line feed.
+#[tactic(auto, using(crate::proofs::Places::feed_found))]
 fn line_feed(text: &[u8]) -> Option<usize>
     ensures { result ≡ position is_feed text.now }
 {
-    text.iter().position(|b| *b == b'\n')
+    memchr(b'\n', text)
 }
 
 /// Reads a row, which stands here without its line feed, and adds its entry to its line's history.
 /// Answers whether nothing is wrong with it.
-fn add_row(logs: &mut Logs, board: &Board, row: &[u8]) -> Result<bool, NoMemory>
+fn add_row(
+    logs: &mut Logs,
+    board: &Board,
+    recent: &mut RecentRows,
+    row: &[u8],
+) -> Result<bool, NoMemory>
     requires { length logs.old ≡ length board.now.lines }
     ensures { IfOk result
         (λ fine. Judges board.now.lines (row.now ++ codes "\n") fine (entries_of logs.old)
@@ -111,7 +119,7 @@ fn add_row(logs: &mut Logs, board: &Board, row: &[u8]) -> Result<bool, NoMemory>
     if begins_with_hash(row) {
         return Ok(true);
     }
-    let Some((line, entry)) = read_row(row) else {
+    let Some((line, entry)) = recent.read(row) else {
         return Ok(false);
     };
     let Some(place) = place_of(board, line) else {
