@@ -31,6 +31,7 @@ pub fn judge<L: IrqLine>(line: &mut L, history: &History) -> Result<Option<u32>,
 }
 
 /// Whether the entry is the one that is due of its actor; then the line has it.
+#[inline(always)]
 fn adds<L: IrqLine>(line: &mut L, entry: Entry) -> Result<bool, NoMemory>
     requires { length (L.seen line.old).entries < (L.seen line.old).def.log }
     ensures def { (L.seen line.new).def ≡ (L.seen line.old).def }
@@ -43,6 +44,7 @@ fn adds<L: IrqLine>(line: &mut L, entry: Entry) -> Result<bool, NoMemory>
 
 /// Adds the entry that is due of the actor, if there is one, and answers it. If it ends a run of a
 /// handler, the handler of the device's kind answers.
+#[inline(always)]
 fn step<L: IrqLine>(line: &mut L, actor: Actor) -> Result<Option<Entry>, NoMemory>
     requires { length (L.seen line.old).entries < (L.seen line.old).def.log }
     ensures def { (L.seen line.new).def ≡ (L.seen line.old).def }
@@ -66,6 +68,7 @@ fn step<L: IrqLine>(line: &mut L, actor: Actor) -> Result<Option<Entry>, NoMemor
 }
 
 /// Adds the entry that ends the run of which this is the answer.
+#[inline(always)]
 fn end_run<L: IrqLine>(line: &mut L, actor: Actor, said: Said) -> Result<Option<Entry>, NoMemory>
     requires below { length (L.seen line.old).entries < (L.seen line.old).def.log }
     requires run { run_of (L.seen line.old).def (L.seen line.old).entries actor ≡ Some said.run }
@@ -84,6 +87,7 @@ fn end_run<L: IrqLine>(line: &mut L, actor: Actor, said: Said) -> Result<Option<
 }
 
 /// `IrqLine::step` on a line whose history isn't full.
+#[inline(always)]
 fn try_step<L: IrqLine>(line: &mut L, actor: Actor, said: Option<Said>) -> Result<Stepped, NoMemory>
     requires below { length (L.seen line.old).entries < (L.seen line.old).def.log }
     ensures def { (L.seen line.new).def ≡ (L.seen line.old).def }
