@@ -87,8 +87,19 @@ impl KeptRow {
         ensures of { (self.new.line ≡ line) × (self.new.entry ≡ entry.now) }
     {
         if !self.is_of(line, entry) {
-            *self = KeptRow::made(line, entry);
+            self.make(line, entry);
         }
+    }
+
+    /// Makes it the row of that entry of that line. It stands apart, so that a row that is kept
+    /// costs no place for a new one.
+    #[inline(never)]
+    fn make(&mut self, line: LineNo, entry: &Entry)
+        requires { IsPrintable entry.now }
+        ensures kept { IsKept self.new }
+        ensures of { (self.new.line ≡ line) × (self.new.entry ≡ entry.now) }
+    {
+        *self = KeptRow::made(line, entry);
     }
 
     /// Whether it is the row of that entry of that line.
