@@ -1,6 +1,6 @@
 -- What every entry keeps while a driver's disable stands and nobody disturbs the line.
-use Rattle.std.proofs.Common.{◌≡◌, ℕ, suc, ◌+◌, ◌-◌, ◌<◌, ◌≤◌, ◌⊎◌, inl, inr, Bool, true, false, not, ◌||◌, ◌&&◌, cond, is_some, List, [], ◌∷◌, reverse, refl, sym, ap, ◌∙◌, subst, arith}
-use Rattle.std.proofs.lemmas.Bool.{lt-ltb, or_left, or_right, or_cases, or_from, or_parts, and_right, not-true}
+use Rattle.std.proofs.Common.{◌≡◌, ℕ, ◌+◌, ◌-◌, ◌<◌, ◌≤◌, ◌⊎◌, inl, inr, Bool, true, false, not, ◌||◌, ◌&&◌, cond, is_some, List, [], ◌∷◌, reverse, refl, sym, ap, ◌∙◌, subst, arith}
+use Rattle.std.proofs.lemmas.Bool.{lt-ltb, or_left, or_right, or_cases, or_from, or_parts, and_right}
 use Rattle.std.proofs.lemmas.List.{reverse-reverse}
 use Rattle.std.specs.List.{list_any}
 use Rattle.irq_base.specs.declared.numbers.DevNo.{DevNo}
@@ -15,10 +15,9 @@ use Rattle.irq_base.specs.declared.entries.TakeAnswer.TheVariants as takes
 use Rattle.irq_base.specs.declared.entries.LinkAnswer.{LinkAnswer}
 use Rattle.irq_base.specs.declared.entries.LinkAnswer.TheVariants as links
 use Rattle.irq_base.specs.declared.entries.UnlinkAnswer.TheVariants as unlinks
-use Rattle.irq_base.specs.declared.entries.Opened.{Opened}
 use Rattle.irq_base.specs.declared.entries.Opened.TheVariants as opens
-use Rattle.irq_model.specs.Places.{EachEntry, since, before, count_of}
-use Rattle.irq_model.specs.Kinds.{same_dev, same_driver, is_take, is_again, is_disable, is_kill, is_start, is_started_opened, is_lowering_opened, is_hard_clear, is_synced, is_linked_request}
+use Rattle.irq_model.specs.Places.{EachEntry, count_of}
+use Rattle.irq_model.specs.Kinds.{same_driver, is_take, is_again, is_disable, is_kill, is_start, is_started_opened, is_lowering_opened, is_hard_clear, is_synced}
 use Rattle.irq_model.specs.Lines.{is_edge_line}
 use Rattle.irq_model.specs.Links.{linked, is_none_linked, depth, is_disabled, is_reset, is_deepening, is_lowering}
 use Rattle.irq_model.specs.Rounds.{flow, has_flow}
@@ -26,7 +25,6 @@ use Rattle.irq_model.specs.Waiting.{is_pending, clears_pending}
 use Rattle.irq_model.specs.Threads.{is_woken, is_running}
 use Rattle.irq_model.specs.Next.{is_off_now}
 use Rattle.irq_model.specs.Legal.{IsDue, IsLegalPast}
-use Rattle.irq_model.specs.Laws.{IsSynchronised}
 use Rattle.irq_model.specs.Reason.{is_called}
 use Rattle.irq_model.specs.Valid.{IsValid}
 use Rattle.irq_model.specs.Spurious.{note_of}
@@ -35,13 +33,12 @@ use Rattle.irq_steps.proofs.ListSteps.{linked_refused, linked_not_there}
 use Rattle.irq_steps.proofs.DepthSteps.{raised, lowered, raised_more}
 use Rattle.irq_steps.proofs.WaitSteps.{pending_by_clearing}
 use Rattle.irq_steps.proofs.Same.{driver_from_same}
-use Rattle.irq_laws.specs.Kept.{Kept}
 use Rattle.irq_laws.proofs.Lists.{both_ways}
 use Rattle.irq_laws.proofs.KeptAlways.{kept}
 use Rattle.irq_laws.proofs.RunsKept.{handle_idle}
 use Rattle.irq_laws.proofs.RunLaws.{synchronised}
-use Rattle.irq_laws.proofs.ImpliesFlow.{again_by, has_a_flow, take_due, begin_due, return_due, end_due}
-use Rattle.irq_laws.proofs.ImpliesThread.{thread_begin_due, thread_return_due, finish_due, done_due}
+use Rattle.irq_laws.proofs.ImpliesFlow.{again_by, has_a_flow, take_due, return_due, end_due}
+use Rattle.irq_laws.proofs.ImpliesThread.{thread_begin_due, done_due}
 use Rattle.irq_laws.proofs.ImpliesDriver.{opened_with, request_due, hard_clear_due}
 use Rattle.sleep_laws.specs.Sleeping.{is_disable_by, is_synced_by, is_enable_by, disturbs, since_disable, before_disable, is_suspended, is_left_alone}
 use Rattle.sleep_laws.proofs.Waits.{is_hard_clear_by, cleared_before}

@@ -1,5 +1,5 @@
 -- A driver whose calls on the line are one disable and one enable disturbs nothing between the two.
-use Rattle.std.proofs.Common.{◌≡◌, ℕ, ◌==◌, Bool, true, false, not, ◌||◌, ◌&&◌, cond, Option, Some, None, List, [], ◌∷◌, ◌++◌, reverse, refl, sym, ap, ap₂, ◌∙◌, subst, arith}
+use Rattle.std.proofs.Common.{◌≡◌, ℕ, ◌==◌, Bool, true, false, not, ◌||◌, ◌&&◌, cond, Option, Some, List, [], ◌∷◌, ◌++◌, reverse, refl, ap, ap₂, ◌∙◌, subst, arith}
 use Rattle.std.proofs.lemmas.Bool.{or_parts, or_from, and_right}
 use Rattle.std.specs.List.{list_any}
 use Rattle.irq_base.specs.declared.numbers.DriverNo.{DriverNo}
@@ -8,13 +8,13 @@ use Rattle.irq_base.specs.declared.calls.Call.TheVariants as calls
 use Rattle.irq_base.specs.declared.lines.LineDef.{LineDef}
 use Rattle.irq_base.specs.declared.entries.Entry.{Entry}
 use Rattle.irq_base.specs.declared.entries.Entry.TheVariants as entries
-use Rattle.irq_model.specs.Places.{since, stands}
-use Rattle.irq_model.specs.Kinds.{same_driver, is_by_driver, is_any_ask}
+use Rattle.irq_model.specs.Places.{stands}
+use Rattle.irq_model.specs.Kinds.{same_driver, is_by_driver}
 use Rattle.irq_model.specs.Rounds.{has_flow}
 use Rattle.irq_model.specs.Threads.{active_count}
 use Rattle.irq_model.specs.Due.{calls_by, entries_by, due_of, due_call}
 use Rattle.irq_model.specs.Next.{enable_answer, next_of_call}
-use Rattle.irq_model.specs.Legal.{IsDue, IsLegal, IsLegalPast}
+use Rattle.irq_model.specs.Legal.{IsLegal, IsLegalPast}
 use Rattle.irq_steps.proofs.Same.{same_self_driver}
 use Rattle.irq_steps.proofs.DueSteps.{entries_more, entries_same}
 use Rattle.irq_laws.proofs.Chosen.{from_then, from_else, the_same}

@@ -1,6 +1,6 @@
 -- What the enable finds by which a driver ends its disable.
-use Rattle.std.proofs.Common.{◌≡◌, ℕ, ◌+◌, ◌-◌, ◌<◌, ◌≤◌, ◌==◌, ◌⊎◌, inl, inr, Bool, true, false, not, ◌||◌, ◌&&◌, cond, is_some, List, [], ◌∷◌, reverse, refl, sym, ap, ◌∙◌, subst, arith, eq-eqb}
-use Rattle.std.proofs.lemmas.Bool.{and_parts, and_from, or_parts, or_cases, ne_eqb, false_from_ne_true}
+use Rattle.std.proofs.Common.{◌≡◌, ℕ, ◌+◌, ◌-◌, ◌<◌, ◌==◌, Bool, true, false, ◌||◌, ◌&&◌, cond, is_some, List, [], ◌∷◌, reverse, refl, sym, ap, ◌∙◌, subst, arith, eq-eqb}
+use Rattle.std.proofs.lemmas.Bool.{and_from, or_parts, ne_eqb, false_from_ne_true}
 use Rattle.std.proofs.lemmas.List.{reverse-reverse}
 use Rattle.std.specs.List.{list_any}
 use Rattle.irq_base.specs.declared.devices.DeviceDef.{DeviceDef}
@@ -11,33 +11,30 @@ use Rattle.irq_base.specs.declared.entries.Entry.{Entry}
 use Rattle.irq_base.specs.declared.entries.Entry.TheVariants as entries
 use Rattle.irq_base.specs.declared.entries.EnableAnswer.{EnableAnswer}
 use Rattle.irq_base.specs.declared.entries.EnableAnswer.TheVariants as enables
-use Rattle.irq_base.specs.declared.entries.Opened.{Opened}
 use Rattle.irq_base.specs.declared.entries.Resend.{Resend}
 use Rattle.irq_base.specs.declared.entries.Resend.TheVariants as resends
-use Rattle.irq_model.specs.Places.{EachEntry, before, count_of}
+use Rattle.irq_model.specs.Places.{before, count_of}
 use Rattle.irq_model.specs.Kinds.{opened_by_enable, is_take, is_kill, is_start, is_started_opened, is_lowering_opened, is_chip_opened, is_soft_opened, is_chip_start, is_soft_start}
 use Rattle.irq_model.specs.Lines.{is_edge_line}
-use Rattle.irq_model.specs.Links.{is_empty, linked, is_none_linked, depth}
+use Rattle.irq_model.specs.Links.{is_empty, is_none_linked, depth}
 use Rattle.irq_model.specs.Asks.{is_high}
 use Rattle.irq_model.specs.Rounds.{has_flow}
 use Rattle.irq_model.specs.Waiting.{is_pending}
 use Rattle.irq_model.specs.Threads.{is_woken, is_running, is_unfinished, is_some_unfinished}
 use Rattle.irq_model.specs.Owed.{is_owed}
-use Rattle.irq_model.specs.Reason.{is_finishing}
-use Rattle.irq_model.specs.Next.{resend_of, enable_answer}
+use Rattle.irq_model.specs.Next.{resend_of}
 use Rattle.irq_model.specs.Legal.{IsDue, IsLegal, IsLegalPast}
 use Rattle.irq_model.specs.Laws.{IsHandledNext}
 use Rattle.irq_model.specs.Valid.{IsValid}
 use Rattle.irq_steps.proofs.RoundSteps.{flow_quiet}
 use Rattle.irq_steps.proofs.DepthSteps.{raised, lowered, raised_more}
 use Rattle.irq_laws.specs.Kept.{Kept}
-use Rattle.irq_laws.proofs.Lists.{both_ways}
 use Rattle.irq_laws.proofs.KeptAlways.{kept}
 use Rattle.irq_laws.proofs.ServedLaws.{served_when_idle}
 use Rattle.irq_laws.proofs.ImpliesDriver.{enable_due}
-use Rattle.sleep_laws.specs.Sleeping.{is_disable_by, is_enable_by, since_disable, before_disable, is_suspended, is_asleep, is_left_alone}
+use Rattle.sleep_laws.specs.Sleeping.{is_disable_by, is_enable_by, since_disable, before_disable, is_asleep}
 use Rattle.sleep_laws.specs.Slept.{IsAtRest, IsResume, IsReopening, ResumesAsItWas}
-use Rattle.sleep_laws.proofs.Held.{HeldOver, Held, held}
+use Rattle.sleep_laws.proofs.Held.{Held, held}
 use Rattle.sleep_laws.proofs.SleepLaws.{each_legal, rests}
 
 -- ---- the enable's answer

@@ -1,5 +1,5 @@
 -- Before its synced a driver has made its hard clear, in the same call.
-use Rattle.std.proofs.Common.{◌≡◌, ℕ, suc, ◌+◌, ◌<◌, ◌==◌, ◌⊎◌, inl, inr, Bool, true, false, cond, Option, Some, None, List, [], ◌∷◌, length, refl, sym, ap, ◌∙◌, subst, arith}
+use Rattle.std.proofs.Common.{◌≡◌, ℕ, ◌+◌, ◌<◌, ◌==◌, ◌⊎◌, inl, inr, Bool, true, false, cond, Option, Some, None, List, [], ◌∷◌, length, refl, sym, ap, ◌∙◌, subst, arith}
 use Rattle.std.proofs.lemmas.Bool.{ltb-true, eqb-false, or_left, or_right}
 use Rattle.std.specs.List.{list_any}
 use Rattle.irq_base.specs.declared.numbers.DriverNo.{DriverNo}
@@ -8,14 +8,14 @@ use Rattle.irq_base.specs.declared.calls.Call.TheVariants as calls
 use Rattle.irq_base.specs.declared.lines.LineDef.{LineDef}
 use Rattle.irq_base.specs.declared.entries.Entry.{Entry}
 use Rattle.irq_base.specs.declared.entries.Entry.TheVariants as entries
-use Rattle.irq_model.specs.Places.{since, last_of}
+use Rattle.irq_model.specs.Places.{since}
 use Rattle.irq_model.specs.Kinds.{same_driver, is_by_driver}
 use Rattle.irq_model.specs.Rounds.{has_flow}
 use Rattle.irq_model.specs.Due.{calls_by, entries_by, due_call}
 use Rattle.irq_model.specs.Next.{hard_clear_of, next_of_call}
 use Rattle.irq_model.specs.Legal.{IsDue, IsLegalPast}
 use Rattle.irq_steps.proofs.Same.{same_self_driver, driver_from_same}
-use Rattle.irq_laws.proofs.Chosen.{from_else, the_same}
+use Rattle.irq_laws.proofs.Chosen.{from_else}
 use Rattle.irq_laws.proofs.Progress.{standing, fresh, OneMore, one_more, no_more}
 use Rattle.irq_laws.proofs.ImpliesDriver.{IsSyncedDue, synced_due}
 use Rattle.sleep_laws.specs.Sleeping.{is_disable_by, since_disable}

@@ -1,5 +1,5 @@
 -- What a line keeps while a driver has it asleep, and what its enable finds.
-use Rattle.std.specs.Prelude.{◌≡◌, ◌+◌, ◌<◌, Bool, true, false, ◌||◌, List, ◌∷◌, reverse}
+use Rattle.std.specs.Prelude.{◌≡◌, ℕ, ◌+◌, ◌<◌, Bool, true, false, ◌||◌, List, ◌∷◌, reverse}
 use Rattle.std.specs.List.{list_any}
 use Rattle.irq_base.specs.declared.numbers.DevNo.{DevNo}
 use Rattle.irq_base.specs.declared.numbers.DriverNo.{DriverNo}
@@ -36,17 +36,21 @@ pub record IsAtRest (def : LineDef) (past : List Entry) : Type 0 where
   -- no thread is to run, or in a run
   pub no_thread : (d : DevNo) → (is_woken past d || is_running past d) ≡ false
 
--- what each moment of r's sleep keeps, if nobody has disturbed the line since r's disable
+-- P of each entry that comes while r has the line asleep, if nobody has disturbed it since r's
+-- disable, and of what stands before it
+abbrev pub WhileAsleep : DriverNo → (Entry → List Entry → Type 0) → List Entry → Type 0
+WhileAsleep r P h =
+    EachEntry (λ e past. is_asleep r past ≡ true → is_left_alone r past ≡ true
+    → P e past) (reverse h)
+
 pub record SleepsSoundly (def : LineDef) (r : DriverNo) (h : List Entry) : Type 0 where
   -- from r's synced on the line is disabled, and at rest
   pub rests : EachEntry (λ e past. is_asleep r (e ∷ past) ≡ true
       → is_left_alone r (e ∷ past) ≡ true → IsAtRest def (e ∷ past)) (reverse h)
   -- no handler is called, and no thread begins a run
-  pub still : EachEntry (λ e past. is_asleep r past ≡ true → is_left_alone r past ≡ true
-      → begins_run e ≡ false) (reverse h)
+  pub still : WhileAsleep r (λ e past. begins_run e ≡ false) h
   -- a processor that takes an interrupt finds the line off
-  pub off : EachEntry (λ e past. is_asleep r past ≡ true → is_left_alone r past ≡ true
-      → is_take e ≡ true → is_off e ≡ true) (reverse h)
+  pub off : WhileAsleep r (λ e past. is_take e ≡ true → is_off e ≡ true) h
   -- on an edge line an interrupt that was taken since the disable is left pending (`IRQS_PENDING`)
   pub pending : is_edge_line def ≡ true
       → EachEntry (λ e past. is_suspended r (e ∷ past) ≡ true → is_left_alone r (e ∷ past) ≡ true
@@ -68,25 +72,35 @@ pub record IsReopening (r : DriverNo) (e : Entry) (past : List Entry) : Type 0 w
   pub open_before : depth (before_disable r past) ≡ 0
   pub unkilled : list_any is_kill (since_disable r past) ≡ false
 
+-- P of each such enable, and of what stands before it
+abbrev pub AtResume : DriverNo → (Entry → List Entry → Type 0) → List Entry → Type 0
+AtResume r P h = EachEntry (λ e past. IsResume r e past → P e past) (reverse h)
+
+abbrev pub AtReopening : DriverNo → (Entry → List Entry → Type 0) → List Entry → Type 0
+AtReopening r P h = EachEntry (λ e past. IsReopening r e past → P e past) (reverse h)
+
+-- the ends that killed the line since r's disable
+abbrev pub kills_since_disable : DriverNo → List Entry → ℕ
+kills_since_disable r past = count_of is_kill (since_disable r past)
+
 pub record ResumesAsItWas (def : LineDef) (r : DriverNo) (h : List Entry) : Type 0 where
   -- as deep as before the disable, and one more for an end that killed the line meanwhile
-  pub restores : EachEntry (λ e past. IsResume r e past → is_none_linked past ≡ false
-      → depth (e ∷ past) ≡ depth (before_disable r past) + count_of is_kill (since_disable r past)) (reverse h)
+  pub restores : AtResume r (λ e past. is_none_linked past ≡ false
+      → depth (e ∷ past) ≡ depth (before_disable r past) + kills_since_disable r past) h
   -- The enable of a line with nothing linked changes nothing, so that one stays a disable deeper.
   -- 6.1 doesn't suspend such a line.
-  pub unlinked : EachEntry (λ e past. IsResume r e past → is_none_linked past ≡ true
-      → depth (e ∷ past) ≡ depth past) (reverse h)
+  pub unlinked : AtResume r (λ e past. is_none_linked past ≡ true
+      → depth (e ∷ past) ≡ depth past) h
   -- a line that was open is started again, and open
-  pub opens : EachEntry (λ e past. IsReopening r e past
-      → (is_start e ≡ true) × (depth (e ∷ past) ≡ 0)) (reverse h)
+  pub opens : AtReopening r (λ e past. (is_start e ≡ true) × (depth (e ∷ past) ≡ 0)) h
   -- on an edge line what was taken meanwhile is sent again, by the chip or by the software
   -- (`check_irq_resend`)
   pub resends : is_edge_line def ≡ true
-      → EachEntry (λ e past. IsReopening r e past → list_any is_take (since_disable r past) ≡ true
-      → (is_chip_start e || is_soft_start e) ≡ true) (reverse h)
+      → AtReopening r (λ e past. list_any is_take (since_disable r past) ≡ true
+      → (is_chip_start e || is_soft_start e) ≡ true) h
   -- After a sleep the next entry of the target is a take that is handled, if an edge is owed to
   -- some device, or if a device asks on a level line: nothing was lost.
-  pub owed : EachEntry (λ e past. IsReopening r e past → is_asleep r past ≡ true → (d : DevNo)
-      → is_owed def d (e ∷ past) ≡ true → IsHandledNext def (reverse (e ∷ past))) (reverse h)
-  pub high : EachEntry (λ e past. IsReopening r e past → is_asleep r past ≡ true
-      → is_high def (e ∷ past) ≡ true → IsHandledNext def (reverse (e ∷ past))) (reverse h)
+  pub owed : AtReopening r (λ e past. is_asleep r past ≡ true → (d : DevNo)
+      → is_owed def d (e ∷ past) ≡ true → IsHandledNext def (reverse (e ∷ past))) h
+  pub high : AtReopening r (λ e past. is_asleep r past ≡ true → is_high def (e ∷ past) ≡ true
+      → IsHandledNext def (reverse (e ∷ past))) h
