@@ -3,4 +3,5 @@ pub mod Held
 pub mod SleepLaws
 pub mod ResumeLaws
 pub mod LeftAlone
+pub mod Falls
 pub mod SleepRows

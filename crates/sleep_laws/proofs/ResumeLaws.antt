@@ -162,7 +162,7 @@ resends_at def r e past due mine w edge pends = cc
 
 -- ---- after a sleep
 
-none_any : (p : DeviceDef → Bool) (xs : List DeviceDef) → ((x : DeviceDef) → p x ≡ false) → list_any p xs ≡ false
+pub none_any : (p : DeviceDef → Bool) (xs : List DeviceDef) → ((x : DeviceDef) → p x ≡ false) → list_any p xs ≡ false
 none_any p [] h = refl
 none_any p (x ∷ xs) h = rw (h x, none_any p xs h) refl
 

@@ -23,6 +23,7 @@ use Rattle.irq_base.specs.declared.entries.Resend.TheVariants as resends
 use Rattle.irq_base.specs.declared.entries.EnableAnswer.TheVariants as enables
 use Rattle.irq_base.specs.declared.entries.Opened.TheVariants as opens
 use Rattle.irq_base.specs.declared.entries.LinkAnswer.TheVariants as links
+use Rattle.irq_base.specs.declared.entries.UnlinkAnswer.TheVariants as unlinks
 use Rattle.irq_model.specs.Legal.{IsLegal}
 use Rattle.irq_model.specs.Links.{depth}
 use Rattle.irq_model.specs.Next.{next}
@@ -286,6 +287,67 @@ pub linked_wakes :
     × (map (λ n. depth (first n linked_log)) (0 ∷ 1 ∷ 3 ∷ 4 ∷ []) ≡ 1 ∷ 2 ∷ 2 ∷ 0 ∷ [])
     × (is_left_alone (driver 9) (first 4 linked_log) ≡ false)
 linked_wakes = (refl, refl, refl)
+
+-- Another driver disables it meanwhile: one enable doesn't open it.
+abbrev pub disabled_line : LineDef
+disabled_line = record latch {
+  devices = device 1 kinds.Direct ∷ [];
+  calls =
+      (driver 1, calls.Request (dev 1) no_flags) ∷
+      (driver 2, calls.DisableNosync) ∷
+      (driver 9, calls.Disable) ∷
+      (driver 9, calls.Enable) ∷ [];
+}
+
+abbrev pub disabled_log : List Entry
+disabled_log =
+    entries.Request (driver 1) (dev 1) no_flags links.Linked (opens.Started resends.No) ∷
+    entries.Disable (driver 9) ∷
+    entries.HardClear (driver 9) ∷
+    entries.Synced (driver 9) ∷
+    entries.Disable (driver 2) ∷
+    entries.Enable (driver 9) enables.Lowered ∷ []
+
+pub disabled_is_legal : IsLegal disabled_line disabled_log
+disabled_is_legal = (refl, (refl, (refl, (refl, (refl, (refl, tt))))))
+
+pub disabled_stays_deeper :
+    (is_asleep (driver 9) (first 5 disabled_log) ≡ true)
+    × (is_left_alone (driver 9) (first 5 disabled_log) ≡ false)
+    × (map (λ n. depth (first n disabled_log)) (1 ∷ 2 ∷ 5 ∷ 6 ∷ []) ≡ 0 ∷ 1 ∷ 2 ∷ 1 ∷ [])
+disabled_stays_deeper = (refl, refl, refl)
+
+-- The last device is unlinked meanwhile: that gives the depth a value of its own, and the enable
+-- changes nothing.
+abbrev pub unlinked_line : LineDef
+unlinked_line = record latch {
+  devices = device 1 kinds.Direct ∷ [];
+  calls =
+      (driver 1, calls.Request (dev 1) no_flags) ∷
+      (driver 1, calls.Free (dev 1)) ∷
+      (driver 9, calls.Disable) ∷
+      (driver 9, calls.Enable) ∷ [];
+}
+
+abbrev pub unlinked_log : List Entry
+unlinked_log =
+    entries.Request (driver 1) (dev 1) no_flags links.Linked (opens.Started resends.No) ∷
+    entries.Disable (driver 9) ∷
+    entries.HardClear (driver 9) ∷
+    entries.Synced (driver 9) ∷
+    entries.Unlink (driver 1) (dev 1) (unlinks.Unlinked true) ∷
+    entries.HardClear (driver 1) ∷
+    entries.Freed (driver 1) (dev 1) ∷
+    entries.Enable (driver 9) enables.Unbalanced ∷ []
+
+pub unlinked_is_legal : IsLegal unlinked_line unlinked_log
+unlinked_is_legal = (refl, (refl, (refl, (refl, (refl, (refl, (refl, (refl, tt))))))))
+
+pub unlinked_stays_disabled :
+    (is_asleep (driver 9) (first 7 unlinked_log) ≡ true)
+    × (map (λ n. is_left_alone (driver 9) (first n unlinked_log)) (4 ∷ 5 ∷ 7 ∷ []) ≡ true ∷ false ∷ false ∷ [])
+    × (map (λ n. depth (first n unlinked_log)) (1 ∷ 2 ∷ 5 ∷ 8 ∷ []) ≡ 0 ∷ 1 ∷ 1 ∷ 1 ∷ [])
+unlinked_stays_disabled = (refl, refl, refl)
 
 -- An end kills the line, of a flow that was in progress at the disable: after the enable it is
 -- disabled, though it was open before.

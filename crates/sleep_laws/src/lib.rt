@@ -5,13 +5,18 @@
 //! theorems in `proofs/SleepRows.antt`.
 #![tactic(auto)]
 
-ghost use Rattle.std.specs.Prelude.{◌≡◌, true, List, [], ◌∷◌, reverse};
+ghost use Rattle.std.specs.Prelude.{◌≡◌, ℕ, true, List, [], ◌∷◌, reverse, IsSome, Some, None};
 ghost use Rattle.irq_base.specs.declared.calls.Call.TheVariants as calls;
 ghost use Rattle.irq_base.specs.declared.lines.LineDef.{LineDef};
+ghost use Rattle.irq_base.specs.declared.numbers.CpuNo.{CpuNo};
+ghost use Rattle.irq_base.specs.declared.numbers.DevNo.{DevNo};
 ghost use Rattle.irq_base.specs.declared.numbers.DriverNo.{DriverNo};
+ghost use Rattle.irq_base.specs.declared.numbers.LineNo.{LineNo};
+ghost use Rattle.irq_base.specs.declared.entries.Actor.TheVariants as actors;
 ghost use Rattle.irq_base.specs.declared.entries.Entry.{Entry};
-ghost use Rattle.irq_model.specs.Due.{calls_by};
+ghost use Rattle.irq_model.specs.Due.{calls_by, due_call};
 ghost use Rattle.irq_model.specs.Legal.{IsLegal};
+ghost use Rattle.irq_model.specs.Next.{next};
 ghost use Rattle.irq_model.specs.Valid.{IsValid};
 ghost use Rattle.sleep_laws.specs.Sleeping.{is_suspended, is_left_alone, others_only_ask};
 ghost use Rattle.sleep_laws.specs.Slept.{SleepsSoundly, ResumesAsItWas};
@@ -32,4 +37,10 @@ pub fn resumes_as_it_was()
 /// two, so a line is left alone as long as the other drivers only ask.
 pub fn left_alone()
     ensures law { (def : LineDef) (r : DriverNo) (h : List Entry) → IsLegal def h → calls_by r def.calls ≡ calls.Disable ∷ calls.Enable ∷ [] → is_suspended r (reverse h) ≡ true → others_only_ask r (reverse h) ≡ true → is_left_alone r (reverse h) ≡ true }
+{}
+
+/// Falling asleep never gets stuck: once no thread and no processor of the line may add an entry, a
+/// driver whose disable isn't complete may.
+pub fn falls_asleep()
+    ensures law { (def : LineDef) (h : List Entry) (r : DriverNo) (n : ℕ) → ((line : LineNo) (d : DevNo) → next def h (actors.Thread line d) ≡ None) → ((c : CpuNo) → next def h (actors.Cpu c) ≡ None) → due_call def r (reverse h) ≡ Some (calls.Disable, n) → IsSome (next def h (actors.Driver r)) }
 {}
