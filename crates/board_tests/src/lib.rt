@@ -1,5 +1,5 @@
-//! Tests of boards: the domains below them, who can move, boards made from a number, layouts, and
-//! lines over the chips of their paths.
+//! Tests of what lies below a board: allocations and what is freed, the messages of chains and of a
+//! line over one, and boards made from a number.
 #![tactic(auto)]
 
 #[cfg(test)]
@@ -9,8 +9,4 @@ mod generated;
 #[cfg(test)]
 mod hierarchies;
 #[cfg(test)]
-mod layouts;
-#[cfg(test)]
 mod lines;
-#[cfg(test)]
-mod ready;
