@@ -6,6 +6,10 @@
 #[cfg(test)]
 mod ends;
 #[cfg(test)]
+mod flaky;
+#[cfg(test)]
+mod handlers;
+#[cfg(test)]
 mod lines;
 #[cfg(test)]
 mod meeting;
