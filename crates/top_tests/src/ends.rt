@@ -84,7 +84,14 @@ fn comes_to<R: Threads + Wait + Sync>(
     let mut err = MemSink::new(alloc, &[ends.error], 100)?;
     let handlers = Callbacks::new(ByKind);
     let outcome = irq_main(
-        rt, alloc, &[word], &mut src, &mut out, &mut err, &NoGate, &handlers,
+        rt,
+        alloc,
+        &[word],
+        &mut src,
+        &mut out,
+        &mut err,
+        &NoGate,
+        &handlers,
     );
     let ended = outcome.ending.status() == wanted.status
         && entries_of(&outcome.reports) == wanted.entries;

@@ -66,7 +66,11 @@ fn said(unserved: u32) -> Option<Said> {
 fn asks<L: IrqLine>(line: &mut L, answer: Option<Said>) -> bool {
     matches!(
         line.step(CPU, answer),
-        Ok(Stepped::Run { def: DEVICE, part: Part::Primary, unserved: 1 })
+        Ok(Stepped::Run {
+            def: DEVICE,
+            part: Part::Primary,
+            unserved: 1
+        })
     )
 }
 

@@ -3,8 +3,8 @@
 use crate::meeting::{Meeting, Meets};
 use callbacks::{ByKind, Callbacks, Handler};
 use irq_base::{
-    Actor, Answer, CpuNo, DevNo, DriverNo, Entry, Flags, LineNo, LinkAnswer, NoMemory, Note, Opened,
-    Reports, Resend, TakeAnswer, Way,
+    Actor, Answer, CpuNo, DevNo, DriverNo, Entry, Flags, LineNo, LinkAnswer, NoMemory, Note,
+    Opened, Reports, Resend, TakeAnswer, Way,
 };
 use irq_io::{MemSink, MemSource};
 use irq_top::{Outcome, irq_main};
@@ -96,7 +96,14 @@ fn run<R: Threads + Wait + Sync, G: Gate + Sync, H: Handler + Sync>(
     let mut out = MemSink::new(alloc, &[], 10_000)?;
     let mut err = MemSink::new(alloc, &[], 100)?;
     Ok(irq_main(
-        rt, alloc, &["run"], &mut src, &mut out, &mut err, gate, handlers,
+        rt,
+        alloc,
+        &["run"],
+        &mut src,
+        &mut out,
+        &mut err,
+        gate,
+        handlers,
     ))
 }
 
