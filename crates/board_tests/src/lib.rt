@@ -1,12 +1,8 @@
-//! Tests of what lies below a board: allocations and what is freed, the messages of chains and of a
-//! line over one, and boards made from a number.
+//! Tests of messages, which no output shows: those of chains and of a message controller by itself,
+//! and that of a line over the chain of its path.
 #![tactic(auto)]
 
 #[cfg(test)]
 mod chains;
-#[cfg(test)]
-mod generated;
-#[cfg(test)]
-mod hierarchies;
 #[cfg(test)]
 mod lines;
