@@ -1,5 +1,5 @@
 -- What every claim keeps, and what the calls of the matrix come to.
-use Rattle.std.proofs.Common.{◌≡◌, ◌⊎◌, ℕ, zero, suc, ◌+◌, ◌-◌, ◌<◌, ◌≤◌, Bool, true, false, not, ◌||◌, cond, MatchBool, List, [], ◌∷◌, ◌++◌, refl, sym, ap, ◌∙◌, subst, inl, inr, add-one, append-nil, append_assoc, arith}
+use Rattle.std.proofs.Common.{◌≡◌, ◌⊎◌, ℕ, zero, suc, ◌+◌, ◌<◌, ◌≤◌, Bool, true, false, not, ◌||◌, MatchBool, List, [], ◌∷◌, ◌++◌, refl, sym, ap, ◌∙◌, subst, inl, inr, add-one, append-nil, append_assoc, arith}
 use Rattle.std.proofs.lemmas.Bool.{false≢true, cases_lt}
 use borrow.Author.Count.{below_more}
 use Rattle.atomic_table.specs.Seated.{TableId}
@@ -9,9 +9,9 @@ use Rattle.vector_matrix.specs.declared.view.Vector.{Vector}
 use Rattle.vector_matrix.specs.declared.view.View.{View}
 use Rattle.vector_matrix.specs.Claims.{ClaimSeen, claim_seen, IsWhole, Gains, FindsTaken, PassedBy, IsClaim}
 use Rattle.vector_matrix.specs.Rule.{first_view, left_view, right_view, met_view}
-use Rattle.vector_matrix.specs.Steps.{gaining, meeting, freeing, Claims, Frees, Learns}
-use Rattle.vector_matrix.specs.Vectors.{vector_of, same_vector, is_in, count_of, IsEachOnce, without, unless_in, others_below}
-use Rattle.vector_matrix.proofs.Listing.{from_same, one_same, one_other, count_push, count_both, in_counts, not_counts, is_in_from, not_in_from, in_one, in_first, in_second, in_alone, in_put, in_or_put, count_without, count_others, in_without}
+use Rattle.vector_matrix.specs.Steps.{gaining, meeting, freeing, Claims, Learns}
+use Rattle.vector_matrix.specs.Vectors.{vector_of, same_vector, is_in, count_of, without, unless_in, others_below}
+use Rattle.vector_matrix.proofs.Listing.{from_same, one_same, one_other, count_push, count_both, in_counts, not_counts, is_in_from, in_one, in_first, in_second, in_alone, in_put, in_or_put, count_without, count_others, in_without}
 
 -- ---- one vector is claimed
 

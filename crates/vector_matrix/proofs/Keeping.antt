@@ -1,18 +1,18 @@
 -- What the steps do to the claims, and that the rule is kept.
-use Rattle.std.proofs.Common.{◌≡◌, ◌≢◌, ◌⊎◌, ℕ, zero, suc, ◌+◌, ◌-◌, ◌<◌, ◌≤◌, Bool, true, false, not, ◌||◌, cond, List, [], ◌∷◌, ◌++◌, length, set, slice_index, sum_by, count_by, refl, sym, ap, ◌∙◌, subst, inl, inr, arith}
+use Rattle.std.proofs.Common.{◌≡◌, ◌≢◌, ℕ, ◌+◌, ◌<◌, ◌≤◌, Bool, true, false, not, cond, List, [], ◌∷◌, ◌++◌, length, set, slice_index, sum_by, count_by, refl, sym, ap, ◌∙◌, inl, inr, arith}
 use Rattle.std.proofs.lemmas.Bool.{false≢true}
 use Rattle.std.proofs.lemmas.List.Sums.{sum_by_push}
 use Rattle.std.proofs.lemmas.Nat.Bits.{bit_at-lt}
-use mathlib.Core.Option.{some, some-injective}
+use mathlib.Core.Option.{some}
 use lib.ListN.{get_elem?}
 use Rattle.atomic_table.specs.Table.{State}
 use Rattle.atomic_table.proofs.Lists.{at_set, set_else, at_snoc}
 use Rattle.vector_matrix.specs.declared.view.Vector.{Vector}
 use Rattle.vector_matrix.specs.declared.view.View.{View}
 use Rattle.vector_matrix.specs.Vectors.{is_in, count_of, IsEachOnce}
-use Rattle.vector_matrix.specs.Rule.{bit_of, is_there, held, holders, Holds, left_view, right_view, met_view, spent_view}
-use Rattle.vector_matrix.proofs.Adding.{set_there, total_set, total_least, total_two, total_one}
-use Rattle.vector_matrix.proofs.Listing.{count_both, in_counts, is_in_from, in_one}
+use Rattle.vector_matrix.specs.Rule.{bit_of, is_there, held, Holds, left_view, right_view, met_view, spent_view}
+use Rattle.vector_matrix.proofs.Adding.{total_set, total_least, total_two, total_one}
+use Rattle.vector_matrix.proofs.Listing.{count_both, is_in_from, in_one}
 
 -- 1 for a claim that is there
 one_there : View → ℕ

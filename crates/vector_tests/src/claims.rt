@@ -6,6 +6,7 @@ use std::test::Fail;
 use vector_matrix::{ClaimAnswer, Matrix};
 
 const FIRST: CpuNo = CpuNo(0);
+
 const LAST: CpuNo = CpuNo(31);
 
 /// The greatest and the smallest sizes: a claim past the last vector is full, and a processor's

@@ -3,9 +3,8 @@ ghost use Rattle.std.specs.Prelude.{◌≡◌, ◌<◌, ◌≤◌, false};
 ghost use Rattle.vector_matrix.specs.Claims.{IsClaimOf};
 
 use irq_base::CpuNo;
-use std::sync::Threads;
 use std::test::Fail;
-use std::thread;
+use std::thread::{self, Threads};
 use vector_matrix::{Claim, ClaimAnswer, Matrix};
 
 const FIRST: CpuNo = CpuNo(0);

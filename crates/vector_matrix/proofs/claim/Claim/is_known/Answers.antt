@@ -1,4 +1,4 @@
-use Rattle.std.proofs.Common.{◌≡◌, true, subst, ap, sym, ◌∙◌}
+use Rattle.std.proofs.Common.{◌≡◌, true, subst, ap, ◌∙◌}
 use Rattle.vector_matrix.specs.Claims.{ClaimSeen}
 use Rattle.vector_matrix.specs.Vectors.{is_in, IsEachOnce}
 use Rattle.vector_matrix.specs.declared.view.Vector.{Vector}

@@ -1,6 +1,6 @@
 use Rattle.std.proofs.Common.{◌≡◌, sym, ap, subst, ◌∙◌}
 use Rattle.atomic_table.specs.Seated.{TableId}
-use Rattle.vector_matrix.specs.Claims.{ClaimSeen, MatrixSeen, IsClaim}
+use Rattle.vector_matrix.specs.Claims.{ClaimSeen, IsClaim}
 use Rattle.vector_matrix.specs.Vectors.{is_in}
 use Rattle.vector_matrix.proofs.Claiming.{both_claim, none_shared}
 use Rattle.vector_matrix.proofs.matrix.Matrix.meet.Goals as goal
