@@ -1,5 +1,5 @@
 -- States that are added leave what holds as it was.
-use Rattle.std.proofs.Common.{◌≡◌, ◌≤◌, ◌<◌, ◌+◌, ℕ, suc, ◌⊎◌, inl, inr, Bool, Option, Some, List, [], ◌∷◌, ◌++◌, map, length, get_or, slice_get, refl, ap, sym, subst, ◌∙◌, arith, append_assoc}
+use Rattle.std.proofs.Common.{◌≡◌, ◌≤◌, ◌<◌, ◌+◌, ℕ, suc, ◌⊎◌, inl, inr, Bool, Option, Some, List, [], ◌∷◌, ◌++◌, map, length, slice_get, refl, ap, sym, subst, ◌∙◌, arith, append_assoc}
 use Rattle.std.proofs.lemmas.List.{length_push, map-append, append-nil}
 use Rattle.std.proofs.lemmas.Option.{slice_get_within, get_or_from_slice_get}
 use Rattle.state_search.specs.declared.firsts.First.{First}
@@ -7,7 +7,7 @@ use Rattle.state_search.specs.declared.states.Came.{Came}
 use Rattle.state_search.specs.Paths.{IsPath, IsEachOnce, path_by, paths_of, states_of}
 use Rattle.state_search.specs.Steps.{AreUnder, AreNotedUnder}
 use Rattle.state_search.proofs.Places.{one_at, push_cases, at_old, at_seam, map_at}
-use Rattle.state_search.proofs.Rooted.{paths_push, paths_long}
+use Rattle.state_search.proofs.Rooted.{paths_push}
 
 module _ {L : Type 0} (can : L → List L → Type 0) (node : List L → List ℕ) (i : ℕ) where
   module _ (ps : List (List L)) (u : AreUnder can node i ps) (p : List L) (here : slice_get ps i ≡ Some p) (l : L) (may : can l p)

@@ -1,6 +1,6 @@
 -- The induction of the search: each path leads to a state that was met at no greater length, or
 -- there is one that wasn't looked at and is nearer.
-use Rattle.std.proofs.Common.{◌≡◌, ◌≤◌, ◌<◌, ◌+◌, ℕ, suc, ◌⊎◌, inl, inr, Some, List, [], ◌∷◌, length, slice_get, refl, sym, arith}
+use Rattle.std.proofs.Common.{◌≡◌, ◌≤◌, ◌<◌, ℕ, suc, ◌⊎◌, inl, inr, Some, List, [], ◌∷◌, length, slice_get, refl, sym, arith}
 use Rattle.std.proofs.lemmas.Bool.{cases_lt}
 use Rattle.state_search.specs.Paths.{IsPath}
 use Rattle.state_search.specs.Steps.{AreUnder}

@@ -1,9 +1,9 @@
 -- One state is looked at.
-use Rattle.std.proofs.Common.{◌≡◌, ◌≤◌, ◌<◌, ◌+◌, ℕ, suc, zero, Bool, Option, Some, List, [], ◌∷◌, ◌++◌, map, length, slice_get, All, refl, ap, sym, subst, ◌∙◌, arith}
+use Rattle.std.proofs.Common.{◌≡◌, ◌≤◌, ◌<◌, ◌+◌, ℕ, suc, zero, Bool, Option, Some, List, [], ◌∷◌, ◌++◌, map, length, slice_get, refl, ap, sym, subst, ◌∙◌, arith}
 use Rattle.std.proofs.lemmas.Option.{slice_get_within, none-some}
 use Rattle.state_search.specs.declared.firsts.First.{First}
 use Rattle.state_search.specs.declared.states.Came.{Came}
-use Rattle.state_search.specs.Growing.{IsIn, ArePut, AreNoted}
+use Rattle.state_search.specs.Growing.{ArePut, AreNoted}
 use Rattle.state_search.specs.Paths.{IsPath, IsEachOnce, IsReached, AreSteps, paths_of, states_of}
 use Rattle.state_search.specs.Seen.{SearchSeen, search_seen}
 use Rattle.state_search.specs.Steps.{AreUnder, AreNotedUnder, IsUnder, IsStart}

@@ -1,5 +1,5 @@
 -- The labels of the next state are noted.
-use Rattle.std.proofs.Common.{◌≡◌, ◌≤◌, ◌<◌, ◌+◌, ℕ, ◌⊎◌, inl, inr, Bool, Some, List, ◌++◌, length, slice_get, sym, subst, arith}
+use Rattle.std.proofs.Common.{◌≡◌, ◌≤◌, ℕ, ◌⊎◌, inl, inr, Bool, Some, List, length, slice_get, sym, subst, arith}
 use Rattle.std.proofs.lemmas.Option.{slice_get_within}
 use Rattle.state_search.specs.declared.firsts.First.{First}
 use Rattle.state_search.specs.Growing.{AreNoted}

@@ -1,5 +1,5 @@
 -- The states that one state leads to are added one by one.
-use Rattle.std.proofs.Common.{◌≡◌, ◌≤◌, ◌<◌, ◌+◌, ℕ, inl, inr, ◌⊎◌, Bool, true, false, true≢false, Option, Some, List, [], ◌∷◌, ◌++◌, map, length, slice_get, refl, ap, sym, subst, ◌∙◌, arith, append_assoc}
+use Rattle.std.proofs.Common.{◌≡◌, ◌≤◌, ◌<◌, ◌+◌, ℕ, inl, inr, ◌⊎◌, true, false, true≢false, Option, Some, List, [], ◌∷◌, ◌++◌, length, slice_get, refl, ap, sym, subst, ◌∙◌, arith, append_assoc}
 use Rattle.std.proofs.lemmas.Bool.{cases_lt}
 use Rattle.std.proofs.lemmas.List.{map-append, append-nil}
 use Rattle.std.proofs.lemmas.Option.{none-some}
@@ -7,7 +7,7 @@ use Rattle.state_search.specs.declared.states.Came.{Came}
 use Rattle.state_search.specs.Growing.{IsIn, IsPut, ArePut}
 use Rattle.state_search.specs.Paths.{IsEachOnce, states_of}
 use Rattle.state_search.proofs.Kept.{same_row}
-use Rattle.state_search.proofs.Places.{same_some, one_at, push_cases, at_old, at_seam, map_at}
+use Rattle.state_search.proofs.Places.{one_at, push_cases, at_old, at_seam}
 
 module _ {L : Type 0} (from : ℕ) (found : List (L × List ℕ)) where
   pub put_none : (old : List (List ℕ × Option (Came L))) → ArePut from found 0 old old

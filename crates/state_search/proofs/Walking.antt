@@ -1,12 +1,12 @@
 -- From a state back to the first one.
-use Rattle.std.proofs.Common.{◌≡◌, ◌≤◌, ◌<◌, ◌+◌, ℕ, suc, ◌⊎◌, inl, inr, Option, Some, None, List, [], ◌∷◌, ◌++◌, length, get_or, slice_get, refl, ap, sym, subst, ◌∙◌, arith}
+use Rattle.std.proofs.Common.{◌≡◌, ◌≤◌, ◌<◌, ◌+◌, ℕ, ◌⊎◌, inl, inr, Option, Some, None, List, [], ◌∷◌, length, get_or, slice_get, ap, arith}
 use Rattle.std.proofs.lemmas.Bool.{cases_lt}
 use Rattle.std.proofs.lemmas.Option.{slice_get-get_or, slice_get_within, slice_get_past}
 use Rattle.std.specs.Option.{option_map}
 use Rattle.state_search.specs.declared.states.Came.{Came}
 use Rattle.state_search.specs.Paths.{path_by, paths_of}
 use Rattle.state_search.specs.Seen.{SearchSeen, cut_of}
-use Rattle.state_search.proofs.Places.{one_at, there}
+use Rattle.state_search.proofs.Places.{one_at}
 use Rattle.state_search.proofs.Rooted.{paths_long}
 
 module _ {L : Type 0} (es : List (List ℕ × Option (Came L))) where

@@ -1,5 +1,5 @@
 -- The places at which labels came first.
-use Rattle.std.specs.Prelude.{◌≡◌, ◌≤◌, ◌<◌, ◌==◌, ℕ, Bool, true, Option, Some, List, length, slice_get, All}
+use Rattle.std.specs.Prelude.{◌≡◌, ◌≤◌, ℕ, Bool, true, Option, Some, List, length, slice_get, All}
 use Rattle.state_search.specs.declared.firsts.First.{First}
 use Rattle.state_search.specs.Paths.{IsPath, IsBelow}
 

@@ -1,5 +1,5 @@
 -- What one state adds: the states after it, and the labels that come there first.
-use Rattle.std.specs.Prelude.{◌≡◌, ◌≤◌, ◌<◌, ◌⊎◌, ◌≢◌, ℕ, Bool, true, false, Option, Some, None, List, [], ◌∷◌, ◌++◌, length, map, slice_get}
+use Rattle.std.specs.Prelude.{◌≡◌, ◌<◌, ◌⊎◌, ◌≢◌, ℕ, Bool, true, false, Option, Some, List, [], ◌∷◌, ◌++◌, length, slice_get}
 use Rattle.state_search.specs.declared.firsts.First.{First}
 use Rattle.state_search.specs.declared.states.Came.{Came}
 use Rattle.state_search.specs.Firsts.{IsNoted, AreApart}

@@ -1,5 +1,5 @@
 -- What holds while a search goes on.
-use Rattle.std.specs.Prelude.{◌≡◌, ◌≤◌, ◌<◌, ◌+◌, ℕ, Bool, Option, Some, List, [], ◌∷◌, length, map, slice_get}
+use Rattle.std.specs.Prelude.{◌≡◌, ◌≤◌, ◌<◌, ◌+◌, ℕ, Bool, Some, List, [], ◌∷◌, length, map, slice_get}
 use Rattle.state_search.specs.declared.firsts.First.{First}
 use Rattle.state_search.specs.Firsts.{IsNotedAt, AreApart}
 use Rattle.state_search.specs.Paths.{IsPath}

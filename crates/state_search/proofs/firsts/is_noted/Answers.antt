@@ -1,4 +1,4 @@
-use Rattle.std.proofs.Common.{◌≡◌, ◌<◌, ◌≤◌, Some, true, false, true≢false, length, slice_get, refl, sym, ◌∙◌, arith}
+use Rattle.std.proofs.Common.{◌<◌, ◌≤◌, true≢false, length, refl, sym, ◌∙◌, arith}
 use Rattle.std.proofs.lemmas.Option.{slice_get_read}
 use Rattle.state_search.proofs.Labels.{none_more, none_noted}
 use Rattle.state_search.proofs.firsts.is_noted.Goals as goal

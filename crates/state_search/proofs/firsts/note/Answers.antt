@@ -1,4 +1,4 @@
-use Rattle.std.proofs.Common.{◌≡◌, ◌+◌, true, List, [], ◌∷◌, ◌++◌, length, refl, ap, sym, subst, ◌∙◌}
+use Rattle.std.proofs.Common.{◌≡◌, ◌+◌, true, refl, ap, sym, subst, ◌∙◌}
 use Rattle.state_search.specs.declared.firsts.First.{First}
 use Rattle.state_search.specs.Firsts.{IsNoted}
 use Rattle.state_search.specs.Growing.{AreNoted}

@@ -1,5 +1,4 @@
-use Rattle.std.proofs.Common.{◌≡◌, ◌≤◌, ◌<◌, true, false, true≢false, IfSome, length, ap, sym, subst, ◌∙◌, arith}
-use Rattle.state_search.specs.Seen.{cut_of}
+use Rattle.std.proofs.Common.{◌≡◌, ◌<◌, true≢false, IfSome, length, ap, sym, subst, ◌∙◌, arith}
 use Rattle.state_search.specs.Steps.{IsUnder}
 use Rattle.state_search.proofs.Ending.{searches, firsts}
 use Rattle.state_search.proofs.Looking.{starts}

@@ -1,6 +1,5 @@
-use Rattle.std.proofs.Common.{◌≡◌, ◌<◌, ◌-◌, Some, length, take, drop, refl, slice_get, ap, sym, ◌∙◌, arith}
+use Rattle.std.proofs.Common.{◌<◌, ◌-◌, Some, length, take, drop, refl, slice_get, ap, sym, ◌∙◌, arith}
 use Rattle.std.proofs.lemmas.Option.{slice_get_read}
-use Rattle.state_search.specs.Rows.{found_in}
 use Rattle.state_search.proofs.Finding.{found_at, found_long}
 use Rattle.state_search.proofs.found.Found.get.Goals as goal
 

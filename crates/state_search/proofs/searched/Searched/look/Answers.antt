@@ -1,4 +1,4 @@
-use Rattle.std.proofs.Common.{◌≡◌, ◌<◌, ◌≤◌, length, sym, subst, ◌∙◌, arith}
+use Rattle.std.proofs.Common.{◌<◌, ◌≤◌, length, sym, subst, ◌∙◌, arith}
 use Rattle.state_search.specs.Paths.{paths_of}
 use Rattle.state_search.proofs.Looking.{next_reached, looks_cut, looks_whole}
 use Rattle.state_search.proofs.Walking.{paths_len}

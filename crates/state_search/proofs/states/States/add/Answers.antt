@@ -1,6 +1,5 @@
-use Rattle.std.proofs.Common.{◌≡◌, ◌<◌, IfSome, List, [], ◌∷◌, ◌++◌, length, ap, sym, subst, ◌∙◌}
+use Rattle.std.proofs.Common.{◌≡◌, ◌<◌, IfSome, [], ◌∷◌, ◌++◌, length, ap, sym, subst, ◌∙◌}
 use Rattle.indexmap.proofs.CallerLemmas.{insert_entry-new}
-use Rattle.std.specs.Str.{bytes_eq}
 use Rattle.state_search.specs.Growing.{IsIn, AreRooted}
 use Rattle.state_search.specs.Paths.{states_of}
 use Rattle.state_search.specs.Rows.{rows_of}

@@ -1,7 +1,7 @@
-use Rattle.std.proofs.Common.{◌≡◌, true, false, subst, arith}
+use Rattle.std.proofs.Common.{◌≡◌, true, subst, arith}
 use Rattle.state_search.specs.declared.states.Came.{Came}
 use Rattle.state_search.specs.Growing.{IsPut}
-use Rattle.state_search.proofs.Putting.{put_next, put_full, put_long}
+use Rattle.state_search.proofs.Putting.{put_next, put_long}
 use Rattle.state_search.proofs.states.States.put_all.Goals as goal
 
 pub loop-i-preserved : goal.loop-i-preserved
