@@ -6,4 +6,4 @@ pub mod numbers;
 #[cfg(test)]
 mod number_tests;
 
-pub use numbers::{Move, Numbers};
+pub use numbers::{Numbers, Step};

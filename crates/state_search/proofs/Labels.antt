@@ -1,11 +1,11 @@
 -- Labels are noted one by one.
-use Rattle.std.proofs.Common.{◌≡◌, ◌≤◌, ◌<◌, ◌+◌, ℕ, zero, suc, inl, inr, ◌⊎◌, Bool, true, false, true≢false, Some, List, [], ◌∷◌, ◌++◌, length, slice_get, ap, sym, subst, ◌∙◌, arith, append_assoc}
+use Rattle.std.proofs.Common.{◌≡◌, ◌≤◌, ◌<◌, ◌+◌, ℕ, zero, suc, inl, inr, ◌⊎◌, Bool, true, false, true≢false, IsTrue, Option, Some, None, IfSome, IfNone, is_some, List, [], ◌∷◌, ◌++◌, length, slice_get, refl, ap, sym, subst, ◌∙◌, arith, append_assoc}
 use Rattle.std.proofs.lemmas.Bool.{cases_lt}
 use Rattle.std.proofs.lemmas.List.{append-nil}
 use Rattle.std.proofs.lemmas.Option.{none-some}
 use Rattle.std.specs.Cmp.{IsEquivalence}
 use Rattle.state_search.specs.declared.firsts.First.{First}
-use Rattle.state_search.specs.Firsts.{IsNoted, AreApart}
+use Rattle.state_search.specs.Firsts.{IsNoted, IsNotedAt, AreApart}
 use Rattle.state_search.specs.Growing.{AreNoted}
 use Rattle.state_search.proofs.Places.{one_at, push_cases, at_old, at_seam}
 
@@ -83,3 +83,9 @@ module _ {L : Type 0} (eq : L → L → Bool) (l : L) where
       within [] k f at = absurd (none-some f at)
       within (g ∷ fs) zero f at = omega arith
       within (g ∷ fs) (suc k) f at = let r : k < length fs = within fs k f at in omega (arith, r)
+
+  -- a look-up's answer as a test
+  pub noted_is : (fs : List (First L)) (r : Option ℕ) → IfSome r (λ n. IsNotedAt eq fs l (λ m. m ≡ n)) → IfNone r (IsNoted eq fs l → ⊥)
+      → (IsTrue (is_some r) → IsNoted eq fs l) × (IsNoted eq fs l → IsTrue (is_some r))
+  noted_is fs None s n = (λ h. absurd (true≢false (sym h)), λ x. absurd (n x))
+  noted_is fs (Some k) s n = (λ h. (s.0, s.1, s.2, s.3), λ x. refl)

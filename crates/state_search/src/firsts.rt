@@ -1,6 +1,6 @@
 //! Where labels came first.
-ghost use Rattle.std.specs.Prelude.{◌≡◌, ◌↔◌, ◌<◌, ◌^◌, IsTrue, OnOk, length};
-ghost use Rattle.state_search.specs.Firsts.{IsNoted};
+ghost use Rattle.std.specs.Prelude.{◌≡◌, ◌↔◌, IsTrue, IfSome, IfNone, OnOk, length};
+ghost use Rattle.state_search.specs.Firsts.{IsNoted, IsNotedAt};
 ghost use Rattle.state_search.specs.Growing.{AreNoted};
 
 use crate::found::Found;
@@ -15,16 +15,24 @@ pub struct First<L: Copy> {
     pub place: u32,
 }
 
+/// The place with which the label is noted, if it is.
+pub(crate) fn place_of<L: Copy + Eq>(firsts: &[First<L>], label: L) -> Option<u32>
+    ensures some { IfSome result (λ n. IsNotedAt L.eq firsts.now label (λ m. m ≡ n)) }
+    ensures none { IfNone result (IsNoted L.eq firsts.now label → ⊥) }
+{
+    for first in firsts {
+        if first.label == label {
+            return Some(first.place);
+        }
+    }
+    None
+}
+
 /// Whether the label is noted.
 fn is_noted<L: Copy + Eq>(firsts: &[First<L>], label: L) -> bool
     ensures { IsTrue result ↔ IsNoted L.eq firsts.now label }
 {
-    for first in firsts {
-        if first.label == label {
-            return true;
-        }
-    }
-    false
+    place_of(firsts, label).is_some()
 }
 
 /// Notes each label that was found and isn't noted yet, with the place. The only error is

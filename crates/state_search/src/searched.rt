@@ -1,10 +1,11 @@
 //! What a search found.
-ghost use Rattle.std.specs.Prelude.{◌≡◌, ◌≤◌, ◌<◌, ℕ, ◌+◌, [], true, false, IfOk, OnOk, IsTrue, ◌↔◌, length, reverse, slice_get, Some};
+ghost use Rattle.std.specs.Prelude.{◌≡◌, ◌≤◌, ◌<◌, ℕ, ◌+◌, [], true, false, IfOk, IfSome, IfNone, OnOk, IsTrue, ◌↔◌, length, reverse, slice_get, Some};
 ghost use Rattle.std.specs.Option.{option_map};
+ghost use Rattle.state_search.specs.Firsts.{IsNoted, IsNotedAt};
 ghost use Rattle.state_search.specs.Seen.{cut_of};
 ghost use Rattle.state_search.specs.Steps.{IsUnder, IsStart};
 
-use crate::firsts::{First, note};
+use crate::firsts::{First, note, place_of};
 use crate::found::Found;
 use crate::space::Space;
 use crate::states::States;
@@ -49,7 +50,7 @@ impl<L: Copy> Searched<L> {
     pub fn cut(&self) -> Option<usize>
         ensures { result ≡ cut_of self.now }
     {
-        if self.looked < self.states.len() {
+        if self.is_open() {
             Some(self.depth(self.looked))
         } else {
             None
@@ -105,12 +106,22 @@ impl<L: Copy> Searched<L> {
         self.firsts.as_slice()
     }
 
+    /// The place of the first state after whose path the label may come; none if it wasn't met.
+    pub fn first(&self, label: L) -> Option<u32>
+    where
+        L: Eq,
+        ensures some { IfSome result (λ n. IsNotedAt L.eq self.now.firsts label (λ m. m ≡ n)) }
+        ensures none { IfNone result (IsNoted L.eq self.now.firsts label → ⊥) }
+    {
+        place_of(self.firsts.as_slice(), label)
+    }
+
     /// A search that found the first state, and looked nowhere. The only error is `NoMemory`.
     pub(crate) fn start<S: Space<L>>(
         alloc: Global,
         space: &mut S,
     ) -> Result<Searched<L>, NoMemory>
-        ensures same { OnOk result (space.new ≡ space.old) }
+        ensures same { space.new ≡ space.old }
         ensures start { IfOk result (IsStart (S.node space.old)) }
     {
         let mut words = Vec::new(alloc);
@@ -146,7 +157,7 @@ impl<L: Copy> Searched<L> {
         requires few { length self.old.paths ≤ most }
         requires most { most ≤ 100000000 }
         requires under { IsUnder L.eq (S.can space.old) (S.node space.old) self.old }
-        ensures same { OnOk result (space.new ≡ space.old) }
+        ensures same { space.new ≡ space.old }
         ensures few { OnOk result (length self.new.paths ≤ most) }
         ensures under { OnOk result (IsUnder L.eq (S.can space.old) (S.node space.old) self.new) }
         ensures on { IfOk result (λ whole. whole ≡ true → self.new.looked ≡ self.old.looked + 1) }

@@ -20,7 +20,7 @@ pub fn search<L: Copy + Eq, S: Space<L>>(
 ) -> Result<Searched<L>, NoMemory>
     requires some { 1 ≤ most }
     requires most { most ≤ 100000000 }
-    ensures same { OnOk result (space.new ≡ space.old) }
+    ensures same { space.new ≡ space.old }
     ensures paths { IfOk result (λ found.
         Searches (S.can space.old) (S.node space.old) found.paths found.looked (cut_of found)) }
     ensures states { IfOk result (λ found. found.states ≡ map (S.node space.old) found.paths) }

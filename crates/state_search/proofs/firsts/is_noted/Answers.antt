@@ -1,27 +1,8 @@
-use Rattle.std.proofs.Common.{◌<◌, ◌≤◌, true≢false, length, refl, sym, ◌∙◌, arith}
-use Rattle.std.proofs.lemmas.Option.{slice_get_read}
-use Rattle.state_search.proofs.Labels.{none_more, none_noted}
+use Rattle.std.proofs.Common.{sym, ◌∙◌}
+use Rattle.state_search.proofs.Labels.{noted_is}
 use Rattle.state_search.proofs.firsts.is_noted.Goals as goal
-
-pub returns-then-eq : goal.returns-then-eq
-returns-then-eq g c =
-    let fs = c.args.firsts.now in
-    let i = c.loop-first.first-index in
-    let f = c.first-item.result in
-    let lt : i < length fs = omega arith in
-    (λ h. (i, f, slice_get_read fs (length fs) i f refl lt c.first-item.is, sym c.eq.ensures ∙ c.if-eq.true), λ h. refl)
-
-pub loop-first-preserved : goal.loop-first-preserved
-loop-first-preserved g c =
-    let fs = c.args.firsts.now in
-    let i = c.loop-first.first-index in
-    let f = c.first-item.result in
-    let lt : i < length fs = omega arith in
-    none_more g.L.PartialEq.eq c.args.label fs i f (slice_get_read fs (length fs) i f refl lt c.first-item.is) (sym c.eq.ensures ∙ c.if-eq.false) c.loop-first.invariant
 
 pub returns : goal.returns
 returns g c =
-    let fs = c.args.firsts.now in
-    let i = c.loop-first.first-index in
-    let all : length fs ≤ i = omega arith in
-    (λ h. absurd (true≢false (sym h)), λ x. absurd (none_noted g.L.PartialEq.eq c.args.label fs i all c.loop-first.invariant x))
+    let t = noted_is g.L.PartialEq.eq c.args.label c.args.firsts.now c.place_of.result c.place_of.ensures.some c.place_of.ensures.none in
+    (λ h. t.0 (sym c.is_some.ensures ∙ h), λ x. c.is_some.ensures ∙ t.1 x)

@@ -1,19 +1,9 @@
-use Rattle.std.proofs.Common.{◌≡◌, ◌≤◌, length, ap, sym, ◌∙◌, arith}
-use Rattle.std.proofs.lemmas.Option.{slice_get_past}
-use Rattle.std.specs.Option.{option_map}
-use Rattle.state_search.specs.Paths.{paths_of}
-use Rattle.state_search.specs.Seen.{cut_of}
-use Rattle.state_search.proofs.Walking.{paths_len}
+use Rattle.std.proofs.Common.{◌<◌, true≢false, length, refl, ap, subst, sym, ◌∙◌}
+use Rattle.state_search.proofs.Walking.{cut_none}
 use Rattle.state_search.proofs.searched.Searched.cut.Goals as goal
 
 pub depth-requires : goal.depth-requires
-depth-requires g c =
-    let long : length (paths_of c.self.inside.states) ≡ length c.args.self.now.paths = ap (λ s. length s.paths) c.self.view_is in
-    omega (arith, c.if-self-len.true, c.len.ensures, paths_len c.self.inside.states, long)
+depth-requires g c = subst (λ n. n < length c.args.self.now.paths) (ap (λ s. s.looked) (sym c.self.view_is)) (c.if-is_open.ensures.0 refl)
 
-pub returns-else-self-len : goal.returns-else-self-len
-returns-else-self-len g c =
-    let ps = paths_of c.self.inside.states in
-    let i = c.self.inside.looked in
-    let past : length ps ≤ i = omega (arith, c.if-self-len.false, c.len.ensures, paths_len c.self.inside.states) in
-    sym (ap (option_map length) (slice_get_past ps i past)) ∙ ap cut_of c.self.view_is
+pub returns-else-is_open : goal.returns-else-is_open
+returns-else-is_open g c = sym (cut_none c.args.self.now (λ lt. true≢false (sym (c.is_open.ensures.1 lt) ∙ c.if-is_open.false)))
