@@ -102,8 +102,15 @@ fn link_or_unlink(devices: &mut Vec<DevNo>, entry: Entry) -> Result<(), NoMemory
     Ok(())
 }
 
-/// How many entries stand after the last that gives the depth a value of its own: a first request,
-/// or a last unlink.
+/// The entry gives the depth a value of its own, given the devices that were linked before it: a
+/// last unlink, or a request with which nothing else was linked.
+fn is_reset(entry: Entry, devices: &[DevNo]) -> bool
+    ensures { (past : List Entry) → devices.now ≡ linked past → result ≡ is_reset (entry ∷ past) }
+{
+    is_last_unlink(entry) || (is_linked_request(entry) && devices.is_empty())
+}
+
+/// How many entries stand after the last that gives the depth a value of its own.
 #[tactic(auto, using(irq_model::proofs::Lists::since_from_upto))]
 fn since_reset(alloc: Global, past: &[Entry]) -> Result<usize, NoMemory>
     ensures since { IfOk result (λ k. since_place is_reset past.now ≡ take k past.now) }
@@ -115,8 +122,7 @@ fn since_reset(alloc: Global, past: &[Entry]) -> Result<usize, NoMemory>
     let mut devices = Vec::new(alloc);
     let mut place = past.len();
     for i in (0..past.len()).rev() {
-        let is_first_request = is_linked_request(past[i]) && devices.is_empty();
-        if is_last_unlink(past[i]) || is_first_request {
+        if is_reset(past[i], &devices) {
             place = i;
         }
         link_or_unlink(&mut devices, past[i])?;
