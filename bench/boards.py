@@ -1,5 +1,5 @@
 #!/usr/bin/env python3
-"""Writes boards at the limits of the format into a folder: long histories, many lines, and texts of picks, of calls, of
+"""boards.py [FOLDER]: writes boards at the limits of the format into a folder (/tmp/genirq-boards): long histories, many lines, and texts of picks, of calls, of
 comments, of one word. Boards for `run` stand among them where their lines end in the same states whatever the order."""
 import os
 import sys
@@ -72,4 +72,11 @@ def main(folder):
 
 
 if __name__ == "__main__":
-    main(sys.argv[1] if len(sys.argv) > 1 else "/tmp/genirq-boards")
+    WORDS = sys.argv[1:]
+    if WORDS == ["--help"]:
+        print(__doc__)
+    elif len(WORDS) > 1 or any(it.startswith("-") for it in WORDS):
+        print("usage: bench/boards.py [FOLDER]", file=sys.stderr)
+        sys.exit(2)
+    else:
+        main(WORDS[0] if WORDS else "/tmp/genirq-boards")

@@ -1,16 +1,8 @@
-//! Tests of boards: the domains below them, who can move, boards made from a number, layouts, and
-//! lines over the chips of their paths.
+//! Tests of messages, which no output shows: those of chains and of a message controller by itself,
+//! and that of a line over the chain of its path.
 #![tactic(auto)]
 
 #[cfg(test)]
 mod chains;
 #[cfg(test)]
-mod generated;
-#[cfg(test)]
-mod hierarchies;
-#[cfg(test)]
-mod layouts;
-#[cfg(test)]
 mod lines;
-#[cfg(test)]
-mod ready;

@@ -1,11 +1,13 @@
 //! Judges logs of single lines by the plain program of the due entry, and by a line beside it; and
 //! compares the line with the plain line in every order of a script.
 //!
-//! Standard input has the name of a file a row. For each, standard output gets a row with the name
-//! and the verdict: `lawful`, or `unlawful N`, where entry N, counted from 1, is the first that
-//! isn't due. Where the line tells another verdict than the plain program, or none can be made, the
-//! program says so and ends. For a row `orders` and a name, it gets the name and whether the two
-//! lines are the same in every order.
+//! Standard input has the name of a file a row. A file has the text of a board of one line, a row
+//! `---`, and the line's log.
+//!
+//! For each file, standard output gets a row with the name and the verdict: `lawful`, or `unlawful
+//! N`, where entry N, counted from 1, is the first that isn't due. Where the line tells another
+//! verdict than the plain program, or none can be made, the program says so and ends. For a row
+//! `orders` and a name, it gets the name and whether the two lines are the same in every order.
 #![tactic(auto)]
 
 mod by_line;
@@ -17,7 +19,7 @@ use anyhow::{Context, Result, ensure};
 use by_line::judge_by_line;
 use judging::{Verdict, judge};
 use line_valid::is_valid;
-use reading::{LineLog, read_log};
+use reading::{LineLog, read_line_log};
 use side_by_side::orders_of;
 use std::alloc::Global;
 use std::fs;
@@ -42,7 +44,7 @@ fn judge_log(alloc: Global, log: &LineLog) -> Result<Verdict> {
 /// The log of that file.
 fn read_file(rt: &(impl Files + AllocGlobal), name: &str) -> Result<LineLog> {
     let text = fs::read_to_string(rt, name).context(format_args!("reading {name}"))?;
-    read_log(rt.alloc(), text.as_str()).context(format_args!("in {name}"))
+    read_line_log(rt.alloc(), text.as_str()).context(format_args!("in {name}"))
 }
 
 fn main(rt: HostRuntime) -> Result<()> {

@@ -133,6 +133,3 @@ impl Chip for Cell {
         }
     }
 }
-
-#[cfg(test)]
-mod tests;

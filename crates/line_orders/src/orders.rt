@@ -99,8 +99,8 @@ fn next_turn<L: IrqLine, M: IrqLine>(
     actors: &[Actor],
     from: usize,
 ) -> Result<Turn, NoMemory> {
-    for (place, actor) in actors.iter().enumerate().skip(from) {
-        match pair.step(*actor)? {
+    for place in from..actors.len() {
+        match pair.step(actors[place])? {
             Both::Moved => return Ok(Turn::Moved(place)),
             Both::Rested => {}
             Both::Differ => return Ok(Turn::Differ),

@@ -49,8 +49,12 @@ impl<L: IrqLine, M: IrqLine> Pair<L, M> {
     pub(crate) fn kept_same(&self) -> bool {
         let history = self.line.history();
         let other = self.other.history();
+        for place in 0..history.len() {
+            if history.get(place) != other.get(place) {
+                return false;
+            }
+        }
         history.len() == other.len()
-            && (0..history.len()).all(|place| history.get(place) == other.get(place))
     }
 }
 

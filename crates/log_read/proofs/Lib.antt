@@ -5,5 +5,4 @@ mod Saying
 mod EachKind
 mod RowCutting
 mod Telling
-mod TestBoards
 mod Places

@@ -20,6 +20,3 @@ mod words;
 
 pub use numbers::number_of;
 pub use reading::{LogRefused, cut_row, read_log};
-
-#[cfg(test)]
-mod tests;

@@ -1,2 +1,3 @@
 pub mod MaskTable
+pub mod Passes
 pub mod Tests

@@ -5,8 +5,9 @@ ghost use Rattle.irq_model.specs.Kinds.{is_freed_by};
 ghost use Rattle.irq_model.specs.Reason.{is_being_freed};
 ghost use Rattle.irq_model.specs.Due.{calls_by, entries_by, begins_not_there, entries_of_call, due_of, due_call, is_being_freed_at, holds_mutex};
 
-use crate::kinds::{is_by_driver, is_freed, is_freed_by, unlinks_dev};
-use crate::places::stands;
+use crate::entry_tests::EntryTest;
+use crate::kinds::is_by_driver;
+use crate::places::{has, stands};
 use irq_base::{Call, CallList, DevNo, DriverNo, Entry, LineDef, NoMemory, UnlinkAnswer};
 use std::alloc::Global;
 
@@ -37,10 +38,11 @@ pub fn holds_mutex(past: &[Entry]) -> bool
 }
 
 /// The device was unlinked, and its free isn't complete.
+#[tactic(auto, unfolding(crate::specs::Passes::passes))]
 pub fn is_being_freed(past: &[Entry], dev: DevNo) -> bool
     ensures { result ≡ is_being_freed past.now dev }
 {
-    stands(past, |e| unlinks_dev(dev, e), |e| is_freed(dev, e))
+    stands(past, EntryTest::Unlinks(dev), EntryTest::Freed(dev))
 }
 
 /// The call at a place of the list, with its driver.
@@ -113,10 +115,11 @@ fn due_of(calls: &CallList, driver: DriverNo, entries: &[Entry]) -> Option<(Call
 }
 
 /// A free of the driver is at its end among these.
+#[tactic(auto, unfolding(crate::specs::Passes::passes))]
 fn has_freed(entries: &[Entry], driver: DriverNo) -> bool
     ensures { result ≡ list_any (is_freed_by driver) entries.now }
 {
-    entries.iter().any(|e| is_freed_by(driver, *e))
+    has(entries, EntryTest::FreedBy(driver))
 }
 
 /// The newest entry of `upto` unlinked a device, and its driver's free isn't complete.

@@ -8,6 +8,7 @@
 mod asks;
 mod due;
 mod edges;
+mod entry_tests;
 mod kinds;
 mod lines;
 mod links;

@@ -5,19 +5,18 @@ ghost use Rattle.irq_model.specs.Places.{since_place, upto_place};
 ghost use Rattle.irq_model.specs.Kinds.{same_dev};
 ghost use Rattle.irq_model.specs.Links.{is_linked, requested, linked, is_none_linked, is_reset, base, depth, is_disabled, flags_in, linking_flags, is_oneshot, has_spurious_mark};
 
-use crate::kinds::{
-    is_deepening, is_kill, is_last_unlink, is_linked_request, is_lowering, is_start, links_dev,
-    unlinks_dev,
-};
+use crate::entry_tests::EntryTest;
+use crate::kinds::{is_last_unlink, is_linked_request, is_start};
 use crate::places::{count_of, last_of, stands};
 use irq_base::{DevNo, Entry, Flags, LinkAnswer, NoMemory, UnlinkAnswer};
 use std::alloc::Global;
 
 /// The device was linked, and not unlinked since.
+#[tactic(auto, unfolding(crate::specs::Passes::passes))]
 pub fn is_linked(past: &[Entry], dev: DevNo) -> bool
     ensures { result ≡ is_linked past.now dev }
 {
-    stands(past, |e| links_dev(dev, e), |e| unlinks_dev(dev, e))
+    stands(past, EntryTest::Links(dev), EntryTest::Unlinks(dev))
 }
 
 /// Takes the device out of the list.
@@ -37,20 +36,29 @@ fn put_last(devices: &mut Vec<DevNo>, dev: DevNo) -> Result<(), NoMemory>
     Ok(())
 }
 
+/// What one more entry makes of the devices that were ever linked.
+fn request(devices: &mut Vec<DevNo>, entry: Entry) -> Result<(), NoMemory>
+    ensures { OnOk result
+        ((past : List Entry) → devices.old.items ≡ requested past
+        → devices.new.items ≡ requested (entry ∷ past)) }
+{
+    match entry {
+        Entry::Request {
+            dev,
+            answer: LinkAnswer::Linked,
+            ..
+        } => put_last(devices, dev),
+        _ => Ok(()),
+    }
+}
+
 /// The devices that were ever linked, in the order of their last such requests.
 fn requested(alloc: Global, past: &[Entry]) -> Result<Vec<DevNo>, NoMemory>
     ensures { IfOk result (λ devices. devices.items ≡ requested past.now) }
 {
     let mut devices = Vec::new(alloc);
     for i in (0..past.len()).rev() {
-        if let Entry::Request {
-            dev,
-            answer: LinkAnswer::Linked,
-            ..
-        } = past[i]
-        {
-            put_last(&mut devices, dev)?;
-        }
+        request(&mut devices, past[i])?;
     }
     Ok(devices)
 }
@@ -94,8 +102,15 @@ fn link_or_unlink(devices: &mut Vec<DevNo>, entry: Entry) -> Result<(), NoMemory
     Ok(())
 }
 
-/// How many entries stand after the last that gives the depth a value of its own: a first request,
-/// or a last unlink.
+/// The entry gives the depth a value of its own, given the devices that were linked before it: a
+/// last unlink, or a request with which nothing else was linked.
+fn is_reset(entry: Entry, devices: &[DevNo]) -> bool
+    ensures { (past : List Entry) → devices.now ≡ linked past → result ≡ is_reset (entry ∷ past) }
+{
+    is_last_unlink(entry) || (is_linked_request(entry) && devices.is_empty())
+}
+
+/// How many entries stand after the last that gives the depth a value of its own.
 #[tactic(auto, using(irq_model::proofs::Lists::since_from_upto))]
 fn since_reset(alloc: Global, past: &[Entry]) -> Result<usize, NoMemory>
     ensures since { IfOk result (λ k. since_place is_reset past.now ≡ take k past.now) }
@@ -107,8 +122,7 @@ fn since_reset(alloc: Global, past: &[Entry]) -> Result<usize, NoMemory>
     let mut devices = Vec::new(alloc);
     let mut place = past.len();
     for i in (0..past.len()).rev() {
-        let is_first_request = is_linked_request(past[i]) && devices.is_empty();
-        if is_last_unlink(past[i]) || is_first_request {
+        if is_reset(past[i], &devices) {
             place = i;
         }
         link_or_unlink(&mut devices, past[i])?;
@@ -130,14 +144,15 @@ fn base(past: &[Entry]) -> u32
 
 /// How deep the line is disabled: the base, plus the disables and kills since the last reset, less
 /// the lowerings.
+#[tactic(auto, unfolding(crate::specs::Passes::passes))]
 pub fn depth(alloc: Global, past: &[Entry]) -> Result<u32, NoMemory>
     requires { length past.now ≤ 100000000 }
     ensures { IfOk result (λ n. n ≡ depth past.now) }
 {
     let place = since_reset(alloc, past)?;
     let since = &past[..place];
-    let raised = base(&past[place..]) + count_of(since, is_deepening);
-    Ok(raised.saturating_sub(count_of(since, is_lowering)))
+    let raised = base(&past[place..]) + count_of(since, EntryTest::Deepening);
+    Ok(raised.saturating_sub(count_of(since, EntryTest::Lowering)))
 }
 
 /// The line is disabled.
@@ -159,22 +174,25 @@ fn flags_in(entry: Option<Entry>) -> Flags
 }
 
 /// The flags with which the device was last linked.
+#[tactic(auto, unfolding(crate::specs::Passes::passes))]
 pub fn linking_flags(past: &[Entry], dev: DevNo) -> Flags
     ensures { result ≡ linking_flags past.now dev }
 {
-    flags_in(last_of(past, |e| links_dev(dev, e)))
+    flags_in(last_of(past, EntryTest::Links(dev)))
 }
 
 /// The last request that was linked has the flag ONESHOT (`IRQS_ONESHOT`).
+#[tactic(auto, unfolding(crate::specs::Passes::passes))]
 pub fn is_oneshot(past: &[Entry]) -> bool
     ensures { result ≡ is_oneshot past.now }
 {
-    flags_in(last_of(past, is_linked_request)).oneshot
+    flags_in(last_of(past, EntryTest::LinkedRequest)).oneshot
 }
 
 /// A kill, with no linked request after it (`IRQS_SPURIOUS_DISABLED`).
+#[tactic(auto, unfolding(crate::specs::Passes::passes))]
 pub fn has_spurious_mark(past: &[Entry]) -> bool
     ensures { result ≡ has_spurious_mark past.now }
 {
-    stands(past, is_kill, is_linked_request)
+    stands(past, EntryTest::Kill, EntryTest::LinkedRequest)
 }

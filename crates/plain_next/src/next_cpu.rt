@@ -5,7 +5,7 @@ ghost use Rattle.irq_model.specs.Rounds.{is_cpu};
 ghost use Rattle.irq_model.specs.Next.{asks_of_handler, served_by_handler, return_of, is_off_now, end_edge, end_level, end_by_flow, end_of, begin_or_end, next_in_flow, take_answer, next_take, next_of_cpu};
 
 use crate::asks::unserved_asks;
-use crate::kinds::is_begin;
+use crate::entry_tests::EntryTest;
 use crate::lines::{is_edge_line, kind_of};
 use crate::links::{is_disabled, is_none_linked, is_oneshot, linked};
 use crate::masks::is_masked;
@@ -23,11 +23,12 @@ use std::alloc::Global;
 // ---- in the flow
 
 /// The asks that were unserved as the handler began.
+#[tactic(auto, unfolding(crate::specs::Passes::passes))]
 pub fn asks_of_handler(def: &LineDef, dev: DevNo, past: &[Entry]) -> u32
     requires { length past.now ≤ 100000000 }
     ensures { result ≡ asks_of_handler def.now dev past.now }
 {
-    unserved_asks(def, dev, before(past, |e| is_begin(dev, e)))
+    unserved_asks(def, dev, before(past, EntryTest::Begin(dev)))
 }
 
 /// The answer of a handler that begins with that many unserved asks.

@@ -1,7 +1,7 @@
 //! The rows of the table for drivers.
 ghost use Rattle.std.specs.Prelude.{◌≡◌, ◌≤◌, length, IfOk, Some};
 ghost use Rattle.std.specs.List.{list_any};
-ghost use Rattle.irq_model.specs.Next.{resend_of, enable_answer, flags_differ, link_answer, opened_by_request, request_of, is_only, unlink_answer, affinity_answer, hard_clear_of, synced_of, freed_of, next_of_sync, next_of_disable, next_of_free, next_of_request, next_of_call};
+ghost use Rattle.irq_model.specs.Next.{resend_of, enable_answer, flags_differ, same_flag, link_answer, opened_by_request, request_of, is_only, unlink_answer, affinity_answer, hard_clear_of, synced_of, freed_of, next_of_sync, next_of_disable, next_of_free, next_of_request, next_of_call};
 ghost use Rattle.irq_model.specs.Due.{due_call};
 ghost use Rattle.irq_model.specs.Links.{linking_flags};
 
@@ -68,11 +68,17 @@ fn enable_answer(alloc: Global, def: &LineDef, past: &[Entry]) -> Result<EnableA
     })
 }
 
+fn is_same_flag(new: bool, old: bool) -> bool
+    ensures { result ≡ same_flag new old }
+{
+    new == old
+}
+
 /// The new flags don't go with those of a linked action.
 fn flags_differ(new: Flags, old: Flags) -> bool
     ensures { result ≡ flags_differ new old }
 {
-    !new.shared || !old.shared || new.oneshot != old.oneshot
+    !new.shared || !old.shared || !is_same_flag(new.oneshot, old.oneshot)
 }
 
 /// The flags don't go with those of some linked action.

@@ -6,39 +6,40 @@ ghost use Rattle.irq_model.specs.Kinds.{is_finish, is_thread_begin, is_thread_re
 ghost use Rattle.irq_model.specs.Next.{asks_of_thread, finish_unmasks, finish_or_done, next_of_thread};
 
 use crate::asks::unserved_asks;
-use crate::kinds::{is_finish, is_thread_begin, is_thread_return};
+use crate::entry_tests::EntryTest;
 use crate::links::{is_disabled, is_oneshot};
 use crate::masks::is_masked;
-use crate::places::{before, since};
+use crate::places::{before, has, since};
 use crate::rounds::has_flow;
 use crate::threads::{is_other_unfinished, is_running, is_woken};
 use irq_base::{DevNo, Entry, LineDef, NoMemory};
 use std::alloc::Global;
 
 /// The asks that were unserved as the thread's run began.
+#[tactic(auto, unfolding(crate::specs::Passes::passes))]
 pub fn asks_of_thread(def: &LineDef, dev: DevNo, past: &[Entry]) -> u32
     requires { length past.now ≤ 100000000 }
     ensures { result ≡ asks_of_thread def.now dev past.now }
 {
-    unserved_asks(def, dev, before(past, |e| is_thread_begin(dev, e)))
+    unserved_asks(def, dev, before(past, EntryTest::ThreadBegin(dev)))
 }
 
 /// The thread's handler returned in this run.
+#[tactic(auto, unfolding(crate::specs::Passes::passes))]
 fn has_returned(past: &[Entry], dev: DevNo) -> bool
     ensures { result ≡ list_any (is_thread_return dev) (since (is_thread_begin dev) past.now) }
 {
-    since(past, |e| is_thread_begin(dev, e))
-        .iter()
-        .any(|e| is_thread_return(dev, *e))
+    let run = since(past, EntryTest::ThreadBegin(dev));
+    has(run, EntryTest::ThreadReturn(dev))
 }
 
 /// The thread finished after its handler returned.
+#[tactic(auto, unfolding(crate::specs::Passes::passes))]
 fn has_finished(past: &[Entry], dev: DevNo) -> bool
     ensures { result ≡ list_any (is_finish dev) (since (is_thread_return dev) past.now) }
 {
-    since(past, |e| is_thread_return(dev, e))
-        .iter()
-        .any(|e| is_finish(dev, *e))
+    let returned = since(past, EntryTest::ThreadReturn(dev));
+    has(returned, EntryTest::Finish(dev))
 }
 
 /// Whether a finish unmasks the line.

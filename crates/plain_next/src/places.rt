@@ -1,28 +1,22 @@
 //! Walks over a list of entries, the newest first.
-ghost use Rattle.std.specs.Prelude.{◌≡◌, ◌≤◌, Bool, length};
-ghost use Rattle.irq_base.specs.declared.entries.Entry.{Entry};
+ghost use Rattle.std.specs.Prelude.{◌≡◌, ◌≤◌, length};
+ghost use Rattle.std.specs.List.{list_any};
 ghost use Rattle.irq_model.specs.Places.{stands, since, before, count_of, last_of};
-ghost use Rattle.plain_next.specs.Tests.{Computes};
+ghost use Rattle.plain_next.specs.Passes.{passes};
 
+use crate::entry_tests::{EntryTest, passes};
 use irq_base::Entry;
 
 /// Whether some entry that sets has none that clears after it.
-pub fn stands<P: Fn(Entry) -> bool + Drop, Q: Fn(Entry) -> bool + Drop>(
-    past: &[Entry],
-    sets: P,
-    clears: Q,
-) -> bool
-    requires sets { P.IsAlwaysCallable sets }
-    requires clears { Q.IsAlwaysCallable clears }
-    ensures { (x y : Entry → Bool) → Computes (P.post sets) x → Computes (Q.post clears) y
-        → result ≡ stands x y past.now }
+pub fn stands(past: &[Entry], sets: EntryTest, clears: EntryTest) -> bool
+    ensures { result ≡ stands (passes sets) (passes clears) past.now }
 {
     let mut rest = past;
     while let Some((e, older)) = rest.split_first() {
-        if sets(*e) {
+        if passes(sets, *e) {
             return true;
         }
-        if clears(*e) {
+        if passes(clears, *e) {
             return false;
         }
         rest = older;
@@ -30,14 +24,27 @@ pub fn stands<P: Fn(Entry) -> bool + Drop, Q: Fn(Entry) -> bool + Drop>(
     false
 }
 
+/// Whether some entry passes the test.
+pub fn has(past: &[Entry], test: EntryTest) -> bool
+    ensures { result ≡ list_any (passes test) past.now }
+{
+    let mut rest = past;
+    while let Some((e, older)) = rest.split_first() {
+        if passes(test, *e) {
+            return true;
+        }
+        rest = older;
+    }
+    false
+}
+
 /// What stands after the last entry that passes the test, or all if there is none.
-pub fn since<P: Fn(Entry) -> bool + Drop>(past: &[Entry], test: P) -> &[Entry]
-    requires { P.IsAlwaysCallable test }
-    ensures value { (x : Entry → Bool) → Computes (P.post test) x → result.now ≡ since x past.now }
+pub fn since(past: &[Entry], test: EntryTest) -> &[Entry]
+    ensures value { result.now ≡ since (passes test) past.now }
     ensures shorter { length result.now ≤ length past.now }
 {
     for (i, e) in past.iter().enumerate() {
-        if test(*e) {
+        if passes(test, *e) {
             return &past[..i];
         }
     }
@@ -45,15 +52,14 @@ pub fn since<P: Fn(Entry) -> bool + Drop>(past: &[Entry], test: P) -> &[Entry]
 }
 
 /// What stands before the last entry that passes the test, or nothing if there is none.
-pub fn before<P: Fn(Entry) -> bool + Drop>(past: &[Entry], test: P) -> &[Entry]
-    requires { P.IsAlwaysCallable test }
-    ensures value { (x : Entry → Bool) → Computes (P.post test) x → result.now ≡ before x past.now }
+pub fn before(past: &[Entry], test: EntryTest) -> &[Entry]
+    ensures value { result.now ≡ before (passes test) past.now }
     ensures shorter { length result.now ≤ length past.now }
 {
     let mut rest = past;
     while let Some((e, older)) = rest.split_first() {
         rest = older;
-        if test(*e) {
+        if passes(test, *e) {
             break;
         }
     }
@@ -61,13 +67,12 @@ pub fn before<P: Fn(Entry) -> bool + Drop>(past: &[Entry], test: P) -> &[Entry]
 }
 
 /// The last entry that passes the test.
-pub fn last_of<P: Fn(Entry) -> bool + Drop>(past: &[Entry], test: P) -> Option<Entry>
-    requires { P.IsAlwaysCallable test }
-    ensures { (x : Entry → Bool) → Computes (P.post test) x → result ≡ last_of x past.now }
+pub fn last_of(past: &[Entry], test: EntryTest) -> Option<Entry>
+    ensures { result ≡ last_of (passes test) past.now }
 {
     let mut rest = past;
     while let Some((e, older)) = rest.split_first() {
-        if test(*e) {
+        if passes(test, *e) {
             return Some(*e);
         }
         rest = older;
@@ -76,16 +81,15 @@ pub fn last_of<P: Fn(Entry) -> bool + Drop>(past: &[Entry], test: P) -> Option<E
 }
 
 /// How many entries pass the test.
-pub fn count_of<P: Fn(Entry) -> bool + Drop>(past: &[Entry], test: P) -> u32
-    requires callable { P.IsAlwaysCallable test }
+pub fn count_of(past: &[Entry], test: EntryTest) -> u32
     requires few { length past.now ≤ 100000000 }
-    ensures value { (x : Entry → Bool) → Computes (P.post test) x → result ≡ count_of x past.now }
+    ensures value { result ≡ count_of (passes test) past.now }
     ensures within { result ≤ length past.now }
 {
     let mut rest = past;
     let mut count = 0;
     while let Some((e, older)) = rest.split_first() {
-        if test(*e) {
+        if passes(test, *e) {
             count += 1;
         }
         rest = older;

@@ -1,17 +1,17 @@
 //! The flow in progress and its rounds.
 ghost use Rattle.std.specs.Prelude.{◌≡◌};
-ghost use Rattle.irq_model.specs.Rounds.{closes, cpu_of_handle, flow, has_flow, begins_round, round, has_begun, first_left, dev_of_begin, at_work};
+ghost use Rattle.irq_model.specs.Rounds.{cpu_of_handle, flow, has_flow, round, has_begun, first_left, dev_of_begin, at_work};
 
-use crate::kinds::{is_again, is_begin, is_begin_or_return, is_handle, is_leave};
-use crate::lines::is_eoi_flow;
-use crate::places::{last_of, since};
+use crate::entry_tests::EntryTest;
+use crate::places::{has, last_of, since};
 use irq_base::{CpuNo, DevNo, Entry, LineDef};
 
 /// The processor of the last take that is handled, unless an end that closes follows it.
+#[tactic(auto, unfolding(crate::specs::Passes::passes))]
 pub fn flow(def: &LineDef, past: &[Entry]) -> Option<CpuNo>
     ensures { result ≡ flow def.now past.now }
 {
-    cpu_of_handle(last_of(past, |e| is_handle(e) || closes(def, e)))
+    cpu_of_handle(last_of(past, EntryTest::HandleOrClose(def.flow)))
 }
 
 /// A flow is in progress.
@@ -22,10 +22,11 @@ pub fn has_flow(def: &LineDef, past: &[Entry]) -> bool
 }
 
 /// The entries of the round so far.
+#[tactic(auto, unfolding(crate::specs::Passes::passes))]
 pub fn round<'a>(def: &LineDef, past: &'a [Entry]) -> &'a [Entry]
     ensures { result.now ≡ round def.now past.now }
 {
-    since(past, |e| begins_round(def, e))
+    since(past, EntryTest::BeginsRound(def.flow))
 }
 
 /// The first linked device that is still to be called.
@@ -43,17 +44,11 @@ pub fn first_left(def: &LineDef, past: &[Entry], linked: &[DevNo]) -> Option<Dev
 }
 
 /// The device whose handler is at work: that of the last begin, unless a return stands after it.
+#[tactic(auto, unfolding(crate::specs::Passes::passes))]
 pub fn at_work(past: &[Entry]) -> Option<DevNo>
     ensures { result ≡ at_work past.now }
 {
-    dev_of_begin(last_of(past, is_begin_or_return))
-}
-
-/// An end that closes the flow: each on the fast-EOI flow, one that leaves on the others.
-fn closes(def: &LineDef, entry: Entry) -> bool
-    ensures { result ≡ closes def.now entry }
-{
-    is_leave(entry) || (is_eoi_flow(def) && is_again(entry))
+    dev_of_begin(last_of(past, EntryTest::BeginOrReturn))
 }
 
 /// The processor of a take.
@@ -66,18 +61,12 @@ fn cpu_of_handle(entry: Option<Entry>) -> Option<CpuNo>
     }
 }
 
-/// A take that is handled, or an end that goes on within the flow.
-fn begins_round(def: &LineDef, entry: Entry) -> bool
-    ensures { result ≡ begins_round def.now entry }
-{
-    is_handle(entry) || (is_again(entry) && !is_eoi_flow(def))
-}
-
 /// The device's handler was called in this round.
+#[tactic(auto, unfolding(crate::specs::Passes::passes))]
 fn has_begun(def: &LineDef, past: &[Entry], dev: DevNo) -> bool
     ensures { result ≡ has_begun def.now past.now dev }
 {
-    round(def, past).iter().any(|e| is_begin(dev, *e))
+    has(round(def, past), EntryTest::Begin(dev))
 }
 
 /// The device of a begin.

@@ -6,9 +6,10 @@ ghost use Rattle.irq_model.specs.Signal.{signals, puts_in_force, mask_of, mask_i
 
 use crate::asks::is_high;
 use crate::edges::is_sent;
-use crate::kinds::is_take;
+use crate::entry_tests::EntryTest;
 use crate::lines::{is_edge_line, is_in_mask, serves};
 use crate::masks::is_masked;
+use crate::places::has;
 use crate::rounds::has_flow;
 use irq_base::{AffinityAnswer, CpuNo, Entry, LineDef, NoMemory};
 use std::alloc::Global;
@@ -25,10 +26,11 @@ pub fn signals(alloc: Global, def: &LineDef, past: &[Entry]) -> Result<bool, NoM
 }
 
 /// A processor took an interrupt among these.
+#[tactic(auto, unfolding(crate::specs::Passes::passes))]
 fn has_take(entries: &[Entry]) -> bool
     ensures { result ≡ list_any is_take entries.now }
 {
-    entries.iter().any(|e| is_take(*e))
+    has(entries, EntryTest::Take)
 }
 
 /// The newest entry of `upto` put a mask in force: a change at once, or one that waited and was

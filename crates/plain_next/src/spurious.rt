@@ -2,7 +2,8 @@
 ghost use Rattle.std.specs.Prelude.{◌≡◌, ◌≤◌, ◌∷◌, length};
 ghost use Rattle.irq_model.specs.Spurious.{counted, unhandled, judged, judged_by_threads, noted, now, round_wakes, round_handles, noted_end, counts_of, note_of};
 
-use crate::kinds::{returns_handled, returns_wake};
+use crate::entry_tests::EntryTest;
+use crate::places::has;
 use crate::rounds::round;
 use irq_base::{Entry, LineDef, LinkAnswer, Note};
 use std::marker::Model;
@@ -189,17 +190,19 @@ fn now(past: &[Entry]) -> u32
 }
 
 /// Some handler of the round woke its thread.
+#[tactic(auto, unfolding(crate::specs::Passes::passes))]
 fn round_wakes(def: &LineDef, past: &[Entry]) -> bool
     ensures { result ≡ round_wakes def.now past.now }
 {
-    round(def, past).iter().any(|e| returns_wake(*e))
+    has(round(def, past), EntryTest::ReturnsWake)
 }
 
 /// Some handler of the round handled.
+#[tactic(auto, unfolding(crate::specs::Passes::passes))]
 fn round_handles(def: &LineDef, past: &[Entry]) -> bool
     ensures { result ≡ round_handles def.now past.now }
 {
-    round(def, past).iter().any(|e| returns_handled(*e))
+    has(round(def, past), EntryTest::ReturnsHandled)
 }
 
 /// What an end makes of the counts.

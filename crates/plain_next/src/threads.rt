@@ -2,36 +2,39 @@
 ghost use Rattle.std.specs.Prelude.{◌≡◌, ◌≤◌, length};
 ghost use Rattle.irq_model.specs.Threads.{is_woken, is_running, is_unfinished, is_some_unfinished, is_other_unfinished, active_count};
 
-use crate::kinds::{is_cleared_finish, is_done, is_thread_begin, links_dev, wakes};
+use crate::entry_tests::EntryTest;
 use crate::lines::{any_device, count_devices};
 use crate::links::linking_flags;
 use crate::places::{since, stands};
 use irq_base::{DevNo, Entry, LineDef};
 
 /// The thread is to run: a return that woke it has no beginning of its run after it.
+#[tactic(auto, unfolding(crate::specs::Passes::passes))]
 pub fn is_woken(past: &[Entry], dev: DevNo) -> bool
     ensures { result ≡ is_woken past.now dev }
 {
-    stands(past, |e| wakes(dev, e), |e| is_thread_begin(dev, e))
+    stands(past, EntryTest::Wakes(dev), EntryTest::ThreadBegin(dev))
 }
 
 /// The thread is in a run.
+#[tactic(auto, unfolding(crate::specs::Passes::passes))]
 pub fn is_running(past: &[Entry], dev: DevNo) -> bool
     ensures { result ≡ is_running past.now dev }
 {
-    stands(past, |e| is_thread_begin(dev, e), |e| is_done(dev, e))
+    stands(past, EntryTest::ThreadBegin(dev), EntryTest::Done(dev))
 }
 
 /// The device's thread bit stands: it was linked one-shot, and since then a return woke its thread
 /// and no finish gave the bit up.
+#[tactic(auto, unfolding(crate::specs::Passes::passes))]
 fn is_unfinished(past: &[Entry], dev: DevNo) -> bool
     ensures { result ≡ is_unfinished past.now dev }
 {
     linking_flags(past, dev).oneshot
         && stands(
-            since(past, |e| links_dev(dev, e)),
-            |e| wakes(dev, e),
-            |e| is_cleared_finish(dev, e),
+            since(past, EntryTest::Links(dev)),
+            EntryTest::Wakes(dev),
+            EntryTest::ClearedFinish(dev),
         )
 }
 

@@ -1,14 +1,19 @@
-//! Tests of the program from its arguments down: the body of `main`, the top call, and runs and
-//! checks by themselves.
+//! Tests of what only a call of the program sees: ends that fail at their Nth call, arguments that
+//! can't be read, gates and handlers that hold threads, reports of a full log, and what a single
+//! line answers where it adds nothing. All else is tried from outside, by cases/.
 #![tactic(auto)]
 
 #[cfg(test)]
-mod calls;
+mod ends;
 #[cfg(test)]
-mod checks;
+mod flaky;
 #[cfg(test)]
-mod commands;
+mod handlers;
 #[cfg(test)]
-mod runs;
+mod lines;
 #[cfg(test)]
-mod top;
+mod meeting;
+#[cfg(test)]
+mod std_ends;
+#[cfg(test)]
+mod threads;

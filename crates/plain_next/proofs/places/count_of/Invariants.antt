@@ -1,12 +1,11 @@
-use Rattle.std.proofs.Common.{◌≡◌, ◌≤◌, ◌+◌, Bool, length}
-use Rattle.irq_base.specs.declared.entries.Entry.{Entry}
+use Rattle.std.proofs.Common.{◌≡◌, ◌≤◌, ◌+◌, length}
 use Rattle.irq_model.specs.Places.{count_of}
-use Rattle.plain_next.specs.Tests.{Computes}
+use Rattle.plain_next.specs.Passes.{passes}
 use Rattle.plain_next.proofs.places.count_of.Given as goal
 
 abbrev pub invariant-loop-e : goal.invariant-loop-e
-invariant-loop-e g l =
-    ((x : Entry → Bool) → Computes (goal.P-post g l.test) x → count_of x l.past ≡ l.count + count_of x l.rest) × (l.count + length l.rest ≤ length l.past)
+invariant-loop-e l =
+    (count_of (passes l.test) l.past ≡ l.count + count_of (passes l.test) l.rest) × (l.count + length l.rest ≤ length l.past)
 
 abbrev pub decreases-loop-e : goal.decreases-loop-e
-decreases-loop-e g l = length l.rest
+decreases-loop-e l = length l.rest

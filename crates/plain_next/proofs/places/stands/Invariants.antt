@@ -1,12 +1,10 @@
-use Rattle.std.proofs.Common.{◌≡◌, Bool, length}
-use Rattle.irq_base.specs.declared.entries.Entry.{Entry}
+use Rattle.std.proofs.Common.{◌≡◌, length}
 use Rattle.irq_model.specs.Places.{stands}
-use Rattle.plain_next.specs.Tests.{Computes}
+use Rattle.plain_next.specs.Passes.{passes}
 use Rattle.plain_next.proofs.places.stands.Given as goal
 
 abbrev pub invariant-loop-e : goal.invariant-loop-e
-invariant-loop-e g l =
-    (x y : Entry → Bool) → Computes (goal.P-post g l.sets) x → Computes (goal.Q-post g l.clears) y → stands x y l.past ≡ stands x y l.rest
+invariant-loop-e l = stands (passes l.sets) (passes l.clears) l.past ≡ stands (passes l.sets) (passes l.clears) l.rest
 
 abbrev pub decreases-loop-e : goal.decreases-loop-e
-decreases-loop-e g l = length l.rest
+decreases-loop-e l = length l.rest

@@ -1,0 +1,4 @@
+"""33 domains."""
+print("board 1")
+for n in range(1, 34):
+    print(f"domain d{n} tree latch")

@@ -1,0 +1,41 @@
+-- What a test on one entry says of it.
+use Rattle.std.specs.Prelude.{Bool, not, ◌&&◌, ◌||◌}
+use Rattle.irq_base.specs.Cell.{is_edge_trigger}
+use Rattle.irq_base.specs.declared.entries.Entry.{Entry}
+use Rattle.irq_model.specs.Asks.{begins_serving, ends_serving}
+use Rattle.irq_model.specs.Kinds.{is_ask, is_begin, is_begin_or_return, returns_wake, returns_handled, wakes, is_thread_begin, is_thread_return, is_finish, is_cleared_finish, is_done, is_take, is_resend_take, is_handle, is_busy, is_off, is_again, is_leave, is_kill, is_linked_request, links_dev, unlinks_dev, is_soft_start, is_freed, is_freed_by}
+use Rattle.irq_model.specs.Lines.{is_eoi_flow}
+use Rattle.irq_model.specs.Links.{is_deepening, is_lowering}
+use Rattle.irq_model.specs.Waiting.{clears_pending}
+use Rattle.plain_next.specs.declared.entry_tests.EntryTest.{EntryTest}
+use Rattle.plain_next.specs.declared.entry_tests.EntryTest.TheVariants as tests
+
+unfoldable pub passes : EntryTest → Entry → Bool
+passes (tests.Ask d) = is_ask d
+passes (tests.Begin d) = is_begin d
+passes tests.BeginOrReturn = is_begin_or_return
+passes (tests.BeginsServing kind d) = begins_serving kind d
+passes (tests.EndsServing kind d) = ends_serving kind d
+passes tests.ReturnsWake = returns_wake
+passes tests.ReturnsHandled = returns_handled
+passes (tests.Wakes d) = wakes d
+passes (tests.ThreadBegin d) = is_thread_begin d
+passes (tests.ThreadReturn d) = is_thread_return d
+passes (tests.Finish d) = is_finish d
+passes (tests.ClearedFinish d) = is_cleared_finish d
+passes (tests.Done d) = is_done d
+passes tests.Take = is_take
+passes tests.ResendTake = is_resend_take
+passes (tests.HandleOrClose flow) = λ e. is_handle e || (is_leave e || (is_eoi_flow flow && is_again e))
+passes (tests.BeginsRound flow) = λ e. is_handle e || (is_again e && not (is_eoi_flow flow))
+passes (tests.SetsPending trigger) = λ e. is_off e || (is_edge_trigger trigger && is_busy e)
+passes tests.ClearsPending = clears_pending
+passes tests.SoftStart = is_soft_start
+passes tests.Kill = is_kill
+passes tests.Deepening = is_deepening
+passes tests.Lowering = is_lowering
+passes tests.LinkedRequest = is_linked_request
+passes (tests.Links d) = links_dev d
+passes (tests.Unlinks d) = unlinks_dev d
+passes (tests.Freed d) = is_freed d
+passes (tests.FreedBy r) = is_freed_by r

@@ -1,0 +1,47 @@
+//! A space of numbers.
+ghost use Rattle.std.specs.Prelude.{◌≡◌, ◌∷◌, [], ◌≤◌, ◌<◌, ◌+◌, ◌^◌, ℕ, List};
+ghost use Rattle.search_tests.specs.Numbers.{CanStep, number};
+
+use irq_base::NoMemory;
+use state_search::{Found, Space};
+
+/// A step.
+#[derive(Clone, Copy, Debug, PartialEq, Eq)]
+pub enum Step {
+    /// Twice the number.
+    Double,
+    /// The number and one.
+    AddOne,
+}
+
+/// The numbers from 1 to the limit to which steps lead.
+#[derive(Drop)]
+pub struct Numbers {
+    /// The greatest number.
+    pub limit: u16,
+}
+
+impl Space<Step> for Numbers {
+    ghost can = { λ s step g. CanStep s.limit step g };
+
+    ghost node = { λ s g. number g ∷ [] };
+
+    fn first(&mut self, words: &mut Vec<u32>) -> Result<(), NoMemory> {
+        words.push(1)?;
+        Ok(())
+    }
+
+    fn steps(&mut self, words: &[u32], found: &mut Found<Step>) -> Result<(), NoMemory> {
+        let limit = u32::from(self.limit);
+        let Some(number) = words.first().copied() else {
+            return Ok(());
+        };
+        if number <= limit / 2 {
+            found.push(Step::Double, &[number + number])?;
+        }
+        if number < limit {
+            found.push(Step::AddOne, &[number + 1])?;
+        }
+        Ok(())
+    }
+}

@@ -1,6 +1,0 @@
-use Rattle.std.proofs.Common.{◌≡◌, false}
-use Rattle.line_lock.specs.Passes.{IsPassOf}
-use Rattle.shared_tests.proofs.lines.drive.Given as goal
-
-abbrev pub invariant-loop-made : goal.invariant-loop-made
-invariant-loop-made g l = IsPassOf l.line l.pass × (l.pass.turn ≡ false) × (l.pass.knows.actor ≡ l.fn.pass.knows.actor)

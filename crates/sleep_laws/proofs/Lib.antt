@@ -1,0 +1,7 @@
+pub mod Waits
+pub mod Held
+pub mod SleepLaws
+pub mod ResumeLaws
+pub mod LeftAlone
+pub mod Falls
+pub mod SleepRows

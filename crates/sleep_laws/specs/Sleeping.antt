@@ -1,0 +1,79 @@
+-- A line that one driver puts to sleep and opens again (`kernel/irq/pm.c`): it disables the line,
+-- waits for the handlers and the threads, and later enables it. Read off the entries; the newest
+-- comes first.
+use Rattle.std.specs.Prelude.{Bool, true, false, not, ◌||◌, ◌&&◌, List}
+use Rattle.std.specs.List.{list_any}
+use Rattle.irq_base.specs.Who.{actor_of}
+use Rattle.irq_base.specs.declared.numbers.DriverNo.{DriverNo}
+use Rattle.irq_base.specs.declared.entries.Actor.{Actor}
+use Rattle.irq_base.specs.declared.entries.Actor.TheVariants as actors
+use Rattle.irq_base.specs.declared.entries.Entry.{Entry}
+use Rattle.irq_base.specs.declared.entries.Entry.TheVariants as entries
+use Rattle.irq_model.specs.Places.{stands, since, before}
+use Rattle.irq_model.specs.Kinds.{same_driver, is_any_ask, is_disable, is_linked_request, is_unlinked_answer}
+
+-- ---- the sleeper's entries
+
+-- r disables the line (`suspend_device_irq` by `__disable_irq`)
+abbrev pub is_disable_by : DriverNo → Entry → Bool
+is_disable_by r (entries.Disable driver) = same_driver r driver
+is_disable_by r _ = false
+
+-- r has waited for the handlers and the threads (`suspend_device_irqs` by `synchronize_irq`)
+abbrev pub is_synced_by : DriverNo → Entry → Bool
+is_synced_by r (entries.Synced driver) = same_driver r driver
+is_synced_by r _ = false
+
+-- r enables the line (`resume_irq` by `__enable_irq`)
+abbrev pub is_enable_by : DriverNo → Entry → Bool
+is_enable_by r (entries.Enable driver answer) = same_driver r driver
+is_enable_by r _ = false
+
+-- what came after r's last disable, and what stood before it
+abbrev pub since_disable : DriverNo → List Entry → List Entry
+since_disable r past = since (is_disable_by r) past
+
+abbrev pub before_disable : DriverNo → List Entry → List Entry
+before_disable r past = before (is_disable_by r) past
+
+-- ---- asleep
+
+-- r's disable stands (`IRQS_SUSPENDED`)
+abbrev pub is_suspended : DriverNo → List Entry → Bool
+is_suspended r past = stands (is_disable_by r) (is_enable_by r) past
+
+-- and r has waited since: the line sleeps until r enables it
+abbrev pub is_asleep : DriverNo → List Entry → Bool
+is_asleep r past = is_suspended r past && list_any (is_synced_by r) (since_disable r past)
+
+-- ---- what others do meanwhile
+
+abbrev pub is_any_enable : Entry → Bool
+is_any_enable (entries.Enable driver answer) = true
+is_any_enable _ = false
+
+abbrev pub is_any_unlink : Entry → Bool
+is_any_unlink (entries.Unlink driver dev answer) = is_unlinked_answer answer
+is_any_unlink _ = false
+
+-- a driver disables or enables the line, or links or unlinks a device (`disable_irq`, `enable_irq`,
+-- `request_threaded_irq`, `free_irq`)
+abbrev pub disturbs : Entry → Bool
+disturbs e = is_disable e || (is_any_enable e || (is_linked_request e || is_any_unlink e))
+
+-- since r's disable nobody did any of these
+abbrev pub is_left_alone : DriverNo → List Entry → Bool
+is_left_alone r past = not (list_any disturbs (since_disable r past))
+
+abbrev pub is_other_driver : DriverNo → Actor → Bool
+is_other_driver r (actors.Driver s) = not (same_driver r s)
+is_other_driver r _ = false
+
+-- another driver made the entry, and it is no ask
+abbrev pub is_other_call : DriverNo → Entry → Bool
+is_other_call r e = is_other_driver r (actor_of (record { 0 = 0 }) e) && not (is_any_ask e)
+
+-- Since r's disable the other drivers have only asked. In 6.1 tasks are frozen before lines are
+-- suspended (`kernel/power/process.c`); devices go on.
+abbrev pub others_only_ask : DriverNo → List Entry → Bool
+others_only_ask r past = not (list_any (is_other_call r) (since_disable r past))

@@ -1,0 +1,13 @@
+pub mod Finding
+pub mod Places
+pub mod Rooted
+pub mod Inducing
+pub mod Grown
+pub mod Closing
+pub mod Noting
+pub mod Ending
+pub mod Looking
+pub mod Kept
+pub mod Putting
+pub mod Labels
+pub mod Walking

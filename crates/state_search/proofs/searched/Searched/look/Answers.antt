@@ -1,0 +1,48 @@
+use Rattle.std.proofs.Common.{◌<◌, ◌≤◌, length, sym, subst, ◌∙◌, arith}
+use Rattle.state_search.specs.Paths.{paths_of}
+use Rattle.state_search.proofs.Looking.{next_reached, looks_cut, looks_whole}
+use Rattle.state_search.proofs.Walking.{paths_len}
+use Rattle.state_search.proofs.searched.Searched.look.Goals as goal
+
+pub steps-requires-clause-reached : goal.steps-requires-clause-reached
+steps-requires-clause-reached g c =
+    let i = c.self.inside.looked in
+    let es = c.self.inside.states in
+    let few : length c.args.self.now.paths ≤ 100000000 = omega (arith, c.requires.few, c.requires.most) in
+    next_reached g.L.PartialEq.eq (g.S.Space.can c.args.space.now) (g.S.Space.node c.args.space.now) i es es c.self.inside.firsts.items c.self.inside.firsts.items c.clear.new.self c.args.self.now
+      c.self.view_is c.requires.under c.requires.open c.words.result.now c.words.ensures 100000000 few
+
+pub put_all-requires-clause-earlier : goal.put_all-requires-clause-earlier
+put_all-requires-clause-earlier g c =
+    let es = c.self.inside.states in
+    let lt : c.self.inside.looked < length (paths_of es) = subst (λ t. t.looked < length t.paths) (sym c.self.view_is) c.requires.open in
+    omega (arith, lt, paths_len es)
+
+pub put_all-requires-clause-few : goal.put_all-requires-clause-few
+put_all-requires-clause-few g c =
+    let es = c.self.inside.states in
+    let le : length (paths_of es) ≤ c.args.most = subst (λ t. length t.paths ≤ c.args.most) (sym c.self.view_is) c.requires.few in
+    omega (arith, le, paths_len es)
+
+pub returns-then-not-branch-clause-few : goal.returns-then-not-branch-clause-few
+returns-then-not-branch-clause-few g c = omega (arith, paths_len c.put_all.new.self, c.in_ok-put_all.ensures.few)
+
+pub returns-then-not-branch-clause-under : goal.returns-then-not-branch-clause-under
+returns-then-not-branch-clause-under g c =
+    let put = c.in_ok-put_all.ensures.put in
+    looks_cut g.L.PartialEq.eq (g.S.Space.can c.args.space.now) (g.S.Space.node c.args.space.now) c.self.inside.looked c.self.inside.states c.put_all.new.self c.self.inside.firsts.items
+      c.note.new.firsts.items c.steps.new.found c.args.self.now c.self.view_is c.requires.under c.requires.open c.words.result.now c.words.ensures c.in_ok-steps.ensures.steps c.in_ok-note.ensures
+      put.0 put.1
+
+pub returns-then-not-branch-clause-cut : goal.returns-then-not-branch-clause-cut
+returns-then-not-branch-clause-cut g c = λ h. paths_len c.put_all.new.self ∙ c.in_ok-put_all.ensures.full c.if-not-branch.true
+
+pub returns-clause-few : goal.returns-clause-few
+returns-clause-few g c = omega (arith, paths_len c.put_all.new.self, c.in_ok-put_all.ensures.few)
+
+pub returns-clause-under : goal.returns-clause-under
+returns-clause-under g c =
+    let put = c.in_ok-put_all.ensures.put in
+    looks_whole g.L.PartialEq.eq (g.S.Space.can c.args.space.now) (g.S.Space.node c.args.space.now) c.self.inside.looked c.self.inside.states c.put_all.new.self c.self.inside.firsts.items
+      c.note.new.firsts.items c.steps.new.found c.args.self.now c.self.view_is c.requires.under c.requires.open c.words.result.now c.words.ensures c.in_ok-steps.ensures.steps c.in_ok-note.ensures
+      put.0 put.1 (put.2 c.if-not-branch.false)

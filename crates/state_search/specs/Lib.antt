@@ -1,0 +1,6 @@
+pub mod Paths
+pub mod Rows
+pub mod Firsts
+pub mod Growing
+pub mod Seen
+pub mod Steps

@@ -1,0 +1,17 @@
+-- Rows of numbers, one after another in one list.
+use Rattle.std.specs.Prelude.{◌≤◌, ℕ, List, Vec, map, length, slice_range, All}
+use Rattle.state_search.specs.declared.found.Row.{Row}
+
+module _ {L : Type 0} where
+  -- each row's label with its numbers
+  abbrev pub found_in : List (Row L) → List ℕ → List (L × List ℕ)
+  found_in rows words = map (λ r. (r.label, slice_range words r.from r.to)) rows
+
+  -- each row lies within the list
+  abbrev pub AreWithin : List (Row L) → List ℕ → Type 0
+  AreWithin rows words = All (λ r. (r.from ≤ r.to) × (r.to ≤ length words)) rows
+
+-- the rows of a map from numbers
+module _ {V Z : Type 0} where
+  abbrev pub rows_of : List (Vec ℕ Z × V) → List (List ℕ × V)
+  rows_of es = map (λ e. (e.0.items, e.1)) es

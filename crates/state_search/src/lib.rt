@@ -1,0 +1,15 @@
+//! Breadth first search through a space of states.
+#![tactic(auto)]
+
+mod firsts;
+pub mod found;
+pub mod searching;
+pub mod searched;
+pub mod space;
+mod states;
+
+pub use firsts::First;
+pub use found::Found;
+pub use searching::search;
+pub use searched::Searched;
+pub use space::Space;

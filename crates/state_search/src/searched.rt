@@ -1,0 +1,176 @@
+//! What a search found.
+ghost use Rattle.std.specs.Prelude.{◌≡◌, ◌≤◌, ◌<◌, ℕ, ◌+◌, [], true, false, IfOk, IfSome, IfNone, OnOk, IsTrue, ◌↔◌, length, reverse, slice_get, Some};
+ghost use Rattle.std.specs.Option.{option_map};
+ghost use Rattle.state_search.specs.Firsts.{IsNoted, IsNotedAt};
+ghost use Rattle.state_search.specs.Seen.{cut_of};
+ghost use Rattle.state_search.specs.Steps.{IsUnder, IsStart};
+
+use crate::firsts::{First, note, place_of};
+use crate::found::Found;
+use crate::space::Space;
+use crate::states::States;
+use irq_base::NoMemory;
+use std::alloc::Global;
+use std::marker::Model;
+
+/// What a search found: the states in the order in which it met them, each with a shortest path,
+/// and the labels with the places at which they came first.
+#[derive(Drop)]
+pub struct Searched<L: Copy> {
+    states: States<L>,
+    firsts: Vec<First<L>>,
+    looked: usize,
+}
+
+impl<L: Copy> Model for Searched<L> {
+    ghost use Rattle.state_search.specs.Seen.{SearchSeen, search_seen};
+
+    ghost Value = { SearchSeen L };
+
+    ghost view = { λ s. search_seen s.states s.firsts.items s.looked };
+}
+
+impl<L: Copy> Searched<L> {
+    /// How many states were found.
+    pub fn len(&self) -> usize
+        ensures { result ≡ length self.now.paths }
+    {
+        self.states.len()
+    }
+
+    /// After how many of them, the first ones, it was looked at what comes next. They are all, if
+    /// the search wasn't cut.
+    pub fn looked(&self) -> usize
+        ensures { result ≡ self.now.looked }
+    {
+        self.looked
+    }
+
+    /// If the search was cut: the length of the paths from which on not all is known.
+    pub fn cut(&self) -> Option<usize>
+        ensures { result ≡ cut_of self.now }
+    {
+        if self.is_open() {
+            Some(self.depth(self.looked))
+        } else {
+            None
+        }
+    }
+
+    /// The numbers of the state at the place, if there is one.
+    pub fn state(&self, place: usize) -> Option<&[u32]>
+        ensures { option_map (λ words. words.now) result ≡ slice_get self.now.states place }
+    {
+        if place < self.states.len() {
+            Some(self.states.words(place))
+        } else {
+            None
+        }
+    }
+
+    /// The length of the path to the state at the place.
+    pub fn depth(&self, place: usize) -> usize
+        requires { place < length self.now.paths }
+        ensures { Some result ≡ option_map length (slice_get self.now.paths place) }
+    {
+        let mut steps = 0;
+        let mut at = place;
+        while let Some(came) = self.states.came(at) {
+            at = came.from as usize;
+            steps += 1;
+        }
+        steps
+    }
+
+    /// The path to the state at the place: its labels, the oldest first. The only error is
+    /// `NoMemory`.
+    pub fn path(&self, alloc: Global, place: usize) -> Result<Vec<L>, NoMemory>
+        requires { place < length self.now.paths }
+        ensures { IfOk result (λ path.
+            slice_get self.now.paths place ≡ Some (reverse path.items)) }
+    {
+        let mut path = Vec::new(alloc);
+        let mut at = place;
+        while let Some(came) = self.states.came(at) {
+            path.push(came.label)?;
+            at = came.from as usize;
+        }
+        path.reverse();
+        Ok(path)
+    }
+
+    /// The labels that may come, in the order of the places at which they came first.
+    pub fn firsts(&self) -> &[First<L>]
+        ensures { result.now ≡ self.now.firsts }
+    {
+        self.firsts.as_slice()
+    }
+
+    /// The place of the first state after whose path the label may come; none if it wasn't met.
+    pub fn first(&self, label: L) -> Option<u32>
+    where
+        L: Eq,
+        ensures some { IfSome result (λ n. IsNotedAt L.eq self.now.firsts label (λ m. m ≡ n)) }
+        ensures none { IfNone result (IsNoted L.eq self.now.firsts label → ⊥) }
+    {
+        place_of(self.firsts.as_slice(), label)
+    }
+
+    /// A search that found the first state, and looked nowhere. The only error is `NoMemory`.
+    pub(crate) fn start<S: Space<L>>(
+        alloc: Global,
+        space: &mut S,
+    ) -> Result<Searched<L>, NoMemory>
+        ensures same { space.new ≡ space.old }
+        ensures start { IfOk result (IsStart (S.node space.old)) }
+    {
+        let mut words = Vec::new(alloc);
+        space.first(&mut words)?;
+        let mut states = States::new(alloc);
+        states.add(alloc, words.as_slice(), None)?;
+        Ok(Searched {
+            states,
+            firsts: Vec::new(alloc),
+            looked: 0,
+        })
+    }
+
+    /// Whether there is a state after which it wasn't looked yet.
+    pub(crate) fn is_open(&self) -> bool
+        ensures { IsTrue result ↔ (self.now.looked < length self.now.paths) }
+    {
+        self.looked < self.states.len()
+    }
+
+    /// Looks at what comes after the next state. True if all the states there fit; else they are
+    /// cut at `most`. The only error is `NoMemory`.
+    pub(crate) fn look<S: Space<L>>(
+        &mut self,
+        alloc: Global,
+        space: &mut S,
+        found: &mut Found<L>,
+        most: usize,
+    ) -> Result<bool, NoMemory>
+    where
+        L: Eq,
+        requires open { self.old.looked < length self.old.paths }
+        requires few { length self.old.paths ≤ most }
+        requires most { most ≤ 100000000 }
+        requires under { IsUnder L.eq (S.can space.old) (S.node space.old) self.old }
+        ensures same { space.new ≡ space.old }
+        ensures few { OnOk result (length self.new.paths ≤ most) }
+        ensures under { OnOk result (IsUnder L.eq (S.can space.old) (S.node space.old) self.new) }
+        ensures on { IfOk result (λ whole. whole ≡ true → self.new.looked ≡ self.old.looked + 1) }
+        ensures cut { IfOk result (λ whole. whole ≡ false → length self.new.paths ≡ most) }
+    {
+        let place = self.looked as u32;
+        found.clear();
+        space.steps(self.states.words(self.looked), found)?;
+        note(&mut self.firsts, place, found)?;
+        if !self.states.put_all(alloc, place, found, most)? {
+            return Ok(false);
+        }
+        self.looked += 1;
+        Ok(true)
+    }
+}

@@ -1,0 +1,40 @@
+//! The search.
+ghost use Rattle.std.specs.Prelude.{◌≡◌, ◌≤◌, ℕ, IfOk, IfSome, OnOk, map, length};
+ghost use Rattle.state_search.specs.Firsts.{AreFirsts};
+ghost use Rattle.state_search.specs.Paths.{Searches};
+ghost use Rattle.state_search.specs.Seen.{cut_of};
+
+use crate::found::Found;
+use crate::searched::Searched;
+use crate::space::Space;
+use irq_base::NoMemory;
+use std::alloc::Global;
+
+/// Searches the space, breadth first, for at most `most` states. With more of them the search is
+/// cut: what comes after the first `looked` states was looked at, the rest wasn't. The only error
+/// is `NoMemory`.
+pub fn search<L: Copy + Eq, S: Space<L>>(
+    alloc: Global,
+    space: &mut S,
+    most: usize,
+) -> Result<Searched<L>, NoMemory>
+    requires some { 1 ≤ most }
+    requires most { most ≤ 100000000 }
+    ensures same { space.new ≡ space.old }
+    ensures paths { IfOk result (λ found.
+        Searches (S.can space.old) (S.node space.old) found.paths found.looked (cut_of found)) }
+    ensures states { IfOk result (λ found. found.states ≡ map (S.node space.old) found.paths) }
+    ensures firsts { IfOk result (λ found.
+        AreFirsts L.eq (S.can space.old) found.paths (cut_of found) found.firsts) }
+    ensures within { IfOk result (λ found. length found.paths ≤ most) }
+    ensures cut { IfOk result (λ found. IfSome (cut_of found) (λ _. length found.paths ≡ most)) }
+{
+    let mut searched = Searched::start(alloc, space)?;
+    let mut found = Found::new(alloc);
+    while searched.is_open() {
+        if !searched.look(alloc, space, &mut found, most)? {
+            return Ok(searched);
+        }
+    }
+    Ok(searched)
+}

@@ -1,0 +1,35 @@
+//! What is searched.
+ghost use Rattle.std.specs.Prelude.{◌≡◌, ℕ, [], ◌∷◌, List, OnOk};
+ghost use Rattle.state_search.specs.Paths.{IsPath, AreSteps, IsReached};
+
+use crate::found::Found;
+use irq_base::NoMemory;
+
+/// The greatest number of states that a search may be asked for.
+pub const MOST: usize = 100_000_000;
+
+/// Where a search goes: which labels may come after a path, and the state that a path leads to. A
+/// state is written as numbers. A path is its labels, the newest first.
+pub trait Space<L: Copy> {
+    /// The label may come after the path.
+    ghost can: { Self → L → List L → Type 0 };
+
+    /// The numbers of the state to which the path leads.
+    ghost node: { Self → List L → List ℕ };
+
+    /// Writes the numbers of the first state behind what stands in `words`, which is nothing. The
+    /// only error is `NoMemory`.
+    fn first(&mut self, words: &mut Vec<u32>) -> Result<(), NoMemory>
+        requires { words.old.items ≡ [] }
+        ensures same { self.new ≡ self.old }
+        ensures first { OnOk result (words.new.items ≡ node self.old []) };
+
+    /// What may come next in the state of these numbers, each with the numbers of the state after
+    /// it. The only error is `NoMemory`.
+    fn steps(&mut self, words: &[u32], found: &mut Found<L>) -> Result<(), NoMemory>
+        requires reached { IsReached (can self.old) (node self.old) 100000000 words.now }
+        requires empty { found.old ≡ [] }
+        ensures same { self.new ≡ self.old }
+        ensures steps { OnOk result ((g : List L) → IsPath (can self.old) g
+            → node self.old g ≡ words.now → AreSteps (can self.old) (node self.old) g found.new) };
+}

@@ -1,0 +1,150 @@
+//! The states that were found.
+ghost use Rattle.std.specs.Prelude.{◌≡◌, ◌<◌, ◌≤◌, ℕ, true, false, [], ◌∷◌, ◌++◌, ◌↔◌, IsTrue, IfSome, IfOk, OnOk, length, slice_get, Some};
+ghost use Rattle.state_search.specs.Growing.{IsIn, IsPut, ArePut};
+ghost use Rattle.state_search.specs.Paths.{path_by, paths_of, states_of};
+
+use crate::found::Found;
+use indexmap::IndexMap;
+use irq_base::NoMemory;
+use std::alloc::Global;
+use std::marker::Model;
+
+/// How a state was come to: from the state of which place, by which label.
+#[derive(Clone, Copy)]
+pub(crate) struct Came<L: Copy> {
+    pub(crate) from: u32,
+    pub(crate) label: L,
+}
+
+/// The states that were found, in their order, each once. A state is found by its numbers, which
+/// are compared whole. Contracts see the numbers of each, with how it was come to.
+#[derive(Drop)]
+pub(crate) struct States<L: Copy> {
+    rows: IndexMap<Vec<u32>, Option<Came<L>>>,
+}
+
+impl<L: Copy> Model for States<L> {
+    ghost use Rattle.std.specs.Prelude.{List, ℕ, Option};
+    ghost use Rattle.state_search.specs.declared.states.Came.{Came};
+
+    ghost Value = { List (List ℕ × Option (Came L)) };
+
+    ghost use Rattle.state_search.specs.Growing.{AreRooted};
+    ghost use Rattle.state_search.specs.Rows.{rows_of};
+
+    ghost view = { λ s. rows_of s.rows.entries };
+
+    ghost invariant = { λ s. AreRooted (rows_of s.rows.entries) };
+}
+
+impl<L: Copy> States<L> {
+    /// No state. It takes no memory yet.
+    pub(crate) fn new(alloc: Global) -> States<L>
+        ensures { result ≡ [] }
+    {
+        States {
+            rows: IndexMap::new(alloc),
+        }
+    }
+
+    /// How many states there are.
+    pub(crate) fn len(&self) -> usize
+        ensures { result ≡ length self.now }
+    {
+        self.rows.len()
+    }
+
+    /// The numbers of the state at the place.
+    pub(crate) fn words(&self, place: usize) -> &[u32]
+        requires { place < length self.now }
+        ensures { slice_get (states_of self.now) place ≡ Some result.now }
+    {
+        match self.rows.get_index(place) {
+            Some((words, _)) => words.as_slice(),
+            None => unreachable!(),
+        }
+    }
+
+    /// How the state at the place was come to; none if it is the first.
+    pub(crate) fn came(&self, place: usize) -> Option<Came<L>>
+        requires { place < length self.now }
+        ensures earlier { IfSome result (λ came. came.from < place) }
+        ensures path { slice_get (paths_of self.now) place ≡ Some (path_by (paths_of self.now) result) }
+    {
+        match self.rows.get_index(place) {
+            Some((_, came)) => *came,
+            None => unreachable!(),
+        }
+    }
+
+    /// Whether the state of these numbers was found.
+    pub(crate) fn has(&self, words: &[u32]) -> bool
+        ensures { IsTrue result ↔ IsIn (states_of self.now) words.now }
+    {
+        self.rows.contains_key(words)
+    }
+
+    /// Adds a state that wasn't found before, at the end. The only error is `NoMemory`.
+    pub(crate) fn add(
+        &mut self,
+        alloc: Global,
+        words: &[u32],
+        came: Option<Came<L>>,
+    ) -> Result<(), NoMemory>
+        requires new { IsIn (states_of self.old) words.now → ⊥ }
+        requires earlier { IfSome came (λ came. came.from < length self.old) }
+        ensures { OnOk result (self.new ≡ self.old ++ (words.now, came) ∷ []) }
+    {
+        let mut key = Vec::with_capacity(alloc, words.len())?;
+        key.extend_from_slice(words)?;
+        self.rows.insert(key, came)?;
+        Ok(())
+    }
+
+    /// Adds the state, if it wasn't found before. False if it would have to be added and there are
+    /// `most` states. The only error is `NoMemory`.
+    fn put(
+        &mut self,
+        alloc: Global,
+        words: &[u32],
+        came: Came<L>,
+        most: usize,
+    ) -> Result<bool, NoMemory>
+        requires earlier { came.from < length self.old }
+        ensures { IfOk result (λ fits. IsPut came words.now most self.old self.new fits) }
+    {
+        if self.has(words) {
+            return Ok(true);
+        }
+        if self.len() == most {
+            return Ok(false);
+        }
+        self.add(alloc, words, Some(came))?;
+        Ok(true)
+    }
+
+    /// Adds what was found after the state at `from`, each state once. False if there are `most`
+    /// states and one more would have to be added. The only error is `NoMemory`.
+    pub(crate) fn put_all(
+        &mut self,
+        alloc: Global,
+        from: u32,
+        found: &Found<L>,
+        most: usize,
+    ) -> Result<bool, NoMemory>
+        requires earlier { from < length self.old }
+        requires few { length self.old ≤ most }
+        ensures put { IfOk result (λ whole. (n : ℕ) × ArePut from found.now n self.old self.new
+            × (whole ≡ true → length found.now ≤ n)) }
+        ensures full { IfOk result (λ whole. whole ≡ false → length self.new ≡ most) }
+        ensures few { OnOk result (length self.new ≤ most) }
+    {
+        for i in 0..found.len() {
+            let (label, words) = found.get(i);
+            if !self.put(alloc, words, Came { from, label }, most)? {
+                return Ok(false);
+            }
+        }
+        Ok(true)
+    }
+}

@@ -1,0 +1,106 @@
+//! What a single line answers where it adds nothing: that nothing is due, that its log is full, and
+//! that it asks for the answer of a run, with no answer and with that of another run.
+use board_text::read_board;
+use callbacks::{ByKind, Callbacks, Said};
+use irq_base::{Actor, CpuNo, DevNo, DeviceDef, DriverNo, Kind, LineNo, NoMemory, Part};
+use irq_line::{IrqLine, MakesLine, StepRefused, Stepped};
+use line_core::MakesCellLine;
+use std::test::Fail;
+
+const BOARD: &str = "board 1
+log 6
+domain intc linear 4 latch
+line 1 intc 2
+device 1 1 check
+driver 1
+request 1
+ask 1
+free 1
+";
+
+const CPU: Actor = Actor::Cpu(CpuNo(0));
+
+const DRIVER: Actor = Actor::Driver(DriverNo(1));
+
+const THREAD: Actor = Actor::Thread(LineNo(1), DevNo(1));
+
+const DEVICE: DeviceDef = DeviceDef {
+    dev: DevNo(1),
+    line: LineNo(1),
+    kind: Kind::Check,
+};
+
+/// What is to come of a step.
+#[derive(Clone, Copy, PartialEq, Eq)]
+enum Wanted {
+    NotYet,
+    Adds,
+    /// The line asks for the primary's answer, with one unserved ask: first with no answer, then
+    /// with that of a run with none. With its own answer it adds an entry.
+    Runs,
+    Full,
+}
+
+/// The steps, in their order.
+const STEPS: [(Actor, Wanted); 12] = [
+    (CPU, Wanted::NotYet),
+    (THREAD, Wanted::NotYet),
+    (DRIVER, Wanted::Adds),
+    (DRIVER, Wanted::Adds),
+    (CPU, Wanted::Adds),
+    (CPU, Wanted::Adds),
+    (CPU, Wanted::Runs),
+    (THREAD, Wanted::Adds),
+    (CPU, Wanted::Full),
+    (DRIVER, Wanted::Full),
+    (THREAD, Wanted::Full),
+    (Actor::Driver(DriverNo(2)), Wanted::NotYet),
+];
+
+/// The handler's answer in a run with so many unserved asks.
+fn said(unserved: u32) -> Option<Said> {
+    Some(Callbacks::new(ByKind).call(DEVICE, Part::Primary, unserved))
+}
+
+/// Whether the line asks for the answer of the primary's run.
+fn asks<L: IrqLine>(line: &mut L, answer: Option<Said>) -> bool {
+    matches!(
+        line.step(CPU, answer),
+        Ok(Stepped::Run {
+            def: DEVICE,
+            part: Part::Primary,
+            unserved: 1
+        })
+    )
+}
+
+/// Whether the step comes to what is wanted.
+fn comes_to<L: IrqLine>(line: &mut L, actor: Actor, wanted: Wanted) -> bool {
+    let answer = if wanted == Wanted::Runs {
+        if !asks(line, None) || !asks(line, said(0)) {
+            return false;
+        }
+        said(1)
+    } else {
+        None
+    };
+    match line.step(actor, answer) {
+        Ok(Stepped::Added(_)) => wanted == Wanted::Adds || wanted == Wanted::Runs,
+        Ok(Stepped::NotYet) => wanted == Wanted::NotYet,
+        Err(StepRefused::Full { len }) => wanted == Wanted::Full && len == 6,
+        _ => false,
+    }
+}
+
+#[test]
+fn steps_that_add_nothing(rt: HostRuntime) -> Result<(), Fail> {
+    let defs = read_board(rt.alloc(), BOARD.as_bytes())?.line_defs(rt.alloc())?;
+    let [def] = defs.as_slice() else {
+        return Err(NoMemory.into());
+    };
+    let mut line = MakesCellLine.make(rt.alloc(), 1, def)?;
+    for (number, (actor, wanted)) in (1u32..).zip(STEPS) {
+        assert!(rt; comes_to(&mut line, actor, wanted), "step {number}");
+    }
+    Ok(())
+}

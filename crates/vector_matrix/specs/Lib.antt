@@ -1,0 +1,4 @@
+pub mod Vectors
+pub mod Claims
+pub mod Rule
+pub mod Steps

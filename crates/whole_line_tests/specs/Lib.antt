@@ -1,2 +1,0 @@
-pub mod AskedLine
-pub mod TestLines
