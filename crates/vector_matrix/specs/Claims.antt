@@ -9,7 +9,7 @@ use Rattle.vector_matrix.specs.declared.view.Vector.{Vector}
 use Rattle.vector_matrix.specs.declared.view.View.{View}
 use Rattle.vector_matrix.specs.Vectors.{vector_of, is_in, IsEachOnce, unless_in, others_below}
 
--- What is seen of a matrix: which one it is, and how many processors there are, and vectors of each.
+-- What is seen of a matrix: which one it is, how many processors it has, and vectors of each.
 pub record MatrixSeen : Type 0 where
   pub table : TableId
   pub cpus : ℕ
@@ -32,7 +32,7 @@ claim_seen table v =
 abbrev pub IsClaimOf : MatrixSeen → ClaimSeen → Type 0
 IsClaimOf matrix claim = claim.table ≡ matrix.table
 
--- it is the only claim
+-- it is the only claim that is there
 abbrev pub IsWhole : ClaimSeen → Type 0
 IsWhole claim = (claim.first ≡ true) × (claim.out ≡ 0)
 
@@ -45,15 +45,15 @@ abbrev pub gained : CpuNo → ClaimAnswer → List Vector
 gained cpu (answers.Got n) = vector_of cpu n ∷ []
 gained cpu answers.Full = []
 
--- how many of the processor's vectors were found taken, from the lowest on
+-- how many of the processor's vectors were found taken: those before what was got, or all
 abbrev pub passed : ℕ → ClaimAnswer → ℕ
 passed vectors (answers.Got n) = n
 passed vectors answers.Full = vectors
 
--- got one of so many vectors
-abbrev pub IsGot : ClaimAnswer → (ℕ → Type 0) → Type 0
-IsGot (answers.Got n) then = then n
-IsGot answers.Full then = Unit {0}
+-- if a vector was got, this holds of its number
+abbrev pub IfGot : ClaimAnswer → (ℕ → Type 0) → Type 0
+IfGot (answers.Got n) P = P n
+IfGot answers.Full P = Unit {0}
 
 -- The claim got the vector, which it didn't hold.
 pub record Gains (p : Vector) (old new : ClaimSeen) : Type 0 where

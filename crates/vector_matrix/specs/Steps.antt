@@ -10,6 +10,7 @@ use Rattle.vector_matrix.specs.Vectors.{is_in, IsEachOnce, without, unless_in}
 abbrev pub has : ℕ → ℕ → Bool
 has word n = bit_at word n == 1
 
+-- what a claim knows once it has got the vector, has met it, has given it back
 abbrev pub gaining : Vector → View → View
 gaining p v = record v { holds = v.holds ++ p ∷ [] }
 
@@ -22,9 +23,9 @@ freeing p v = record v { holds = without p v.holds; met = without p v.met }
 -- Set the vector's bit, and found it set before or clear.
 pub record Claims (p : Vector) (before : Me ℕ View) (set : Bool) (after : Me ℕ View) : Type 0 where
   pub becomes : after ≡ ((if set then meeting p before.0 else gaining p before.0), before.1)
-  -- what was clear is held by no claim
+  -- what was clear is held by no claim, so not by this one
   pub free : set ≡ false → is_in p before.0.holds ≡ false
-  -- what was set is held by the only claim
+  -- what was set is held by this one, if it is the only one
   pub whole : set ≡ true → before.0.first ≡ true → before.0.out ≡ 0 → is_in p before.0.holds ≡ true
 
 -- Cleared the vector's bit.

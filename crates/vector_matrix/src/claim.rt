@@ -17,9 +17,9 @@ pub enum ClaimAnswer {
 }
 
 /// What a thread claims vectors with. Contracts see what it holds, what it found taken (`met`),
-/// and, of the first claim of a matrix, how many of its forks are still out. It can be neither
-/// copied nor cloned. What it holds stays taken when it is dropped, and the first claim never is the
-/// only one again.
+/// and, of the first claim of a matrix, how many of its forks it hasn't met yet (`out`). It can be
+/// neither copied nor cloned. If a fork is dropped, what it holds stays taken, and the first claim
+/// is never the only one again.
 #[derive(Drop)]
 pub struct Claim {
     pub(crate) seat: Seated,

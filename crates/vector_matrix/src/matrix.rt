@@ -1,7 +1,7 @@
 //! The matrix.
-ghost use Rattle.std.specs.Prelude.{◌≡◌, ℕ, ◌+◌, ◌-◌, ◌<◌, ◌≤◌, true, false, not, ◌||◌, MatchBool, IfOk, [], ◌∷◌, ◌++◌, length, slice_index};
+ghost use Rattle.std.specs.Prelude.{◌≡◌, ℕ, ◌+◌, ◌-◌, ◌<◌, ◌≤◌, true, false, ◌||◌, MatchBool, IfOk, [], ◌∷◌, ◌++◌, length, slice_index};
 ghost use Rattle.std.specs.Mem.Slots.{slots_items, slots_len, IsFull};
-ghost use Rattle.vector_matrix.specs.Claims.{IsClaimOf, IsWhole, new_claim, gained, passed, IsGot, Gains, FindsTaken};
+ghost use Rattle.vector_matrix.specs.Claims.{IsClaimOf, IsWhole, new_claim, gained, passed, IfGot, Gains, FindsTaken};
 ghost use Rattle.vector_matrix.specs.Steps.{has};
 ghost use Rattle.vector_matrix.specs.Vectors.{vector_of, is_in, without, others_below};
 
@@ -78,7 +78,7 @@ impl Matrix {
         requires claim { IsClaimOf self.now claim.old }
         requires cpu { cpu.0 < self.now.cpus }
         // what is got is one of the processor's vectors, and it wasn't held
-        ensures got { IsGot result (λ n. (n < self.now.vectors)
+        ensures got { IfGot result (λ n. (n < self.now.vectors)
             × (is_in (vector_of cpu n) claim.old.holds ≡ false)) }
         // it holds what is got beside what it held; it met those before it that it doesn't hold
         ensures claim { claim.new ≡ record claim.old {
@@ -148,8 +148,8 @@ impl Matrix {
         join(&self.table.shared, &mut claim.seat, seat);
     }
 
-    /// Takes the matrix apart: a word for each of 32 processors, in which bit v is set exactly if the
-    /// only claim holds the processor's vector v.
+    /// Takes the matrix apart: a word for each of 32 processors, in which bit v is set exactly if
+    /// the only claim holds the processor's vector v.
     pub fn finish(self, claim: Claim) -> [u64; 32]
         requires claim { IsClaimOf self claim }
         requires whole { IsWhole claim }
@@ -171,7 +171,8 @@ fn words_of(closed: &Closed<u64, Global>, count: usize) -> [u64; 32]
     requires full { IsFull closed.now.words }
     requires count { (slots_len closed.now.words ≡ count)
         × (length (slots_items closed.now.words) ≡ count) }
-    ensures { (c : ℕ) → c < 32 → slice_index result c ≡ slice_index (slots_items closed.now.words) c }
+    ensures { (c : ℕ) → c < 32
+        → slice_index result c ≡ slice_index (slots_items closed.now.words) c }
 {
     let mut words = [0; CPUS];
     for at in 0..count {
