@@ -114,7 +114,8 @@ impl Threads {
         self.replace(dev, row, row.woken(oneshot));
     }
 
-    /// The thread begins a run (`irq_thread_fn`). Answers whether it could.
+    /// The thread begins a run: it finds that it is to run, and clears the mark
+    /// (`irq_wait_for_interrupt`). Answers whether it could.
     pub fn begin(&mut self, dev: DevNo) -> bool
         ensures could { result ≡ begins_at self.old dev }
         ensures rows { self.new ≡ change begun_row self.old dev }
@@ -151,8 +152,8 @@ impl Threads {
         row.finish()
     }
 
-    /// The run is over, and the thread waits (`irq_wait_for_interrupt`). `oneshot`: the line is
-    /// one-shot. Answers whether it could end.
+    /// The run is over, and counted off `threads_active` (`wake_threads_waitq`). `oneshot`: the
+    /// line is one-shot. Answers whether it could end.
     pub fn done(&mut self, dev: DevNo, oneshot: bool) -> bool
         ensures could { result ≡ ends_at oneshot self.old dev }
         ensures rows { self.new ≡ change (done_row oneshot) self.old dev }

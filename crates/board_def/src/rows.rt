@@ -31,8 +31,7 @@ pub struct LineRow {
     pub hw: u32,
     /// Disabling masks the chip at once (`IRQ_DISABLE_UNLAZY`, `include/linux/irq.h`).
     pub unlazy: bool,
-    /// An affinity call takes effect at the next interrupt (`irqd_can_move_in_process_context` is
-    /// false).
+    /// An affinity call takes effect at the next interrupt (`irq_can_move_pcntxt` is false).
     pub later: bool,
     /// The processors that may take it at first: bit c stands for processor c.
     pub mask: u32,

@@ -12,7 +12,7 @@ use irq_base::NoMemory;
 use std::alloc::Global;
 
 /// Lays the board's lines in its order, each by an allocation over its domains
-/// (`irq_domain_alloc_irqs_hierarchy`, `kernel/irq/irqdomain.c`). Answers the hierarchy, which has
+/// (`irq_domain_alloc_irqs_locked`, `kernel/irq/irqdomain.c`). Answers the hierarchy, which has
 /// exactly the paths of the lines that have a place, and where each line lies. The only error is
 /// `NoMemory`.
 pub fn lay(alloc: Global, board: &Board) -> Result<(Hierarchy, Layout), NoMemory>

@@ -3,7 +3,8 @@ use Rattle.std.specs.Prelude.{ℕ, ◌+◌, ◌*◌, Bool, true, false, ◌||◌
 use Rattle.chip_msi.specs.declared.message.Message.{Message}
 
 -- what is seen of the level of one message: its mask bit and its pending bit (the two of a PCI
--- device's MSI-X table, which `kernel/irq/msi.c` masks through `struct irq_chip`)
+-- device's MSI-X table; `mask_irq` of `kernel/irq/chip.c` calls the chip that sets the first, and
+-- `kernel/irq/msi.c` only demands that there is such a call)
 pub record LevelSeen : Type 0 where
   pub masked : Bool
   pub pending : Bool

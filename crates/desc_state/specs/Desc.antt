@@ -24,7 +24,8 @@ pub record DescSeen : Type 0 where
   pub oneshot : Bool
   -- `IRQS_SPURIOUS_DISABLED`
   pub spurious : Bool
-  -- the software is to send an interrupt again (`desc->irq` in `irqs_resend`)
+  -- the software is to send an interrupt again (the bit of `desc->irq_data.irq` in `irqs_resend`,
+  -- `kernel/irq/resend.c`)
   pub soft : Bool
   -- the processor whose flow is in progress (`IRQD_IRQ_INPROGRESS`)
   pub flow : Option CpuNo

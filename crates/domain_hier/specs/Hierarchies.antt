@@ -1,6 +1,6 @@
 -- Hierarchies of domains: what is seen of one, and what an allocation answers and leaves. Which
 -- path a line takes, and why it is refused, are the rules of layouts, over the paths in use
--- (`irq_domain_alloc_irqs_hierarchy`, `kernel/irq/irqdomain.c`).
+-- (`irq_domain_alloc_irqs_locked`, `irq_domain_insert_irq`, `kernel/irq/irqdomain.c`).
 use Rattle.std.specs.Prelude.{◌≡◌, ℕ, ◌-◌, ◌<◌, Bool, true, false, IfSome, is_some, Option, Some, None, List, [], ◌∷◌, length, map, slice_get}
 use Rattle.irq_base.specs.declared.domains.DomainDef.{DomainDef}
 use Rattle.domain_maps.specs.Numbers.{virq_at, sizes, size_of_kind, is_on}

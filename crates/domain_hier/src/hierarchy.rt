@@ -70,8 +70,8 @@ impl Hierarchy {
 
     /// Allocates the line with that number at that domain: it gets the lowest virq from 1 that
     /// isn't in use, and the lowest free number at each level above
-    /// (`irq_domain_alloc_irqs_hierarchy`, `kernel/irq/irqdomain.c`; which virq and which numbers
-    /// is ours). Any other answer changes nothing.
+    /// (`irq_domain_alloc_irqs_locked`, `kernel/irq/irqdomain.c`; which virq and which numbers is
+    /// ours). Any other answer changes nothing.
     pub fn alloc(&mut self, domain: usize, hw: u32) -> AllocAnswer
         requires there { domain < length self.old.domains }
         requires few { length (in_use self.old.paths) < 4294967295 }

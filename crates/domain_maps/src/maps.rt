@@ -68,8 +68,8 @@ impl DomainMaps {
     }
 
     /// Maps each level of the path to the virq, which is above 0, the root's first
-    /// (`irq_domain_alloc_irqs_hierarchy`, `kernel/irq/irqdomain.c`). If memory is refused, what
-    /// was written is given up again.
+    /// (`irq_domain_insert_irq`, `kernel/irq/irqdomain.c`, which begins with the line's own level).
+    /// If memory is refused, what was written is given up again.
     pub fn write(&mut self, path: &Path, virq: u32) -> Result<(), NoMemory>
         requires few { length path.now ≤ 8 }
         requires virq { 0 < virq }

@@ -1,5 +1,6 @@
 -- The layout of lines over domains: which hardware number each line has at each level of its path,
--- and its virq; or why it is refused (`irq_domain_alloc_irqs_hierarchy`, `kernel/irq/irqdomain.c`).
+-- and its virq; or why it is refused (`irq_domain_alloc_irqs_locked`, `kernel/irq/irqdomain.c`;
+-- which numbers, and what is refused, is ours).
 -- A line is asked for by the place of its domain and its own number there. The lines are laid in
 -- the order in which they are asked for.
 use Rattle.std.specs.Prelude.{ℕ, zero, suc, ◌+◌, Bool, true, false, ◌&&◌, ◌==◌, nat_le, is_none, Option, Some, None, List, [], ◌∷◌, ◌++◌, length, map, slice_get, if◌then◌else◌}

@@ -75,7 +75,7 @@ abbrev pub edge_ended : DescSeen → DescSeen
 edge_ended d =
     if goes_on d then record d { pending = false; masked = false } else record d { flow = None }
 
--- ---- `handle_fasteoi_irq`
+-- ---- `handle_fasteoi_irq` (what it does with edges is ours)
 
 -- on an edge line what can't be handled now is pending; on a level line it shows by itself, and a
 -- one-shot line stays masked while its handlers run

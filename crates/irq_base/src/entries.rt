@@ -131,7 +131,8 @@ pub enum Entry {
         driver: DriverNo,
         dev: DevNo,
     },
-    /// A processor takes an interrupt: the flow handler up to its first handler.
+    /// A processor takes an interrupt: the flow handler up to its first handler; of Busy and Off
+    /// the whole of it.
     Take {
         cpu: CpuNo,
         way: Way,
@@ -149,15 +150,16 @@ pub enum Entry {
         answer: Answer,
         served: u32,
     },
-    /// The flow handler after its last handler. `again`: it goes on with the interrupt that came
-    /// meanwhile. `unmask`: it opens the chip's mask.
+    /// The note (`note_interrupt`), and the flow handler after its last handler. `again`: it goes
+    /// on with the interrupt that came meanwhile. `unmask`: it opens the chip's mask.
     End {
         cpu: CpuNo,
         again: bool,
         unmask: bool,
         note: Note,
     },
-    /// A thread's handler is called (`irq_thread_fn`, `kernel/irq/manage.c`).
+    /// A thread finds that it is to run, and clears the mark (`irq_wait_for_interrupt`,
+    /// `kernel/irq/manage.c`).
     ThreadBegin {
         dev: DevNo,
     },
@@ -173,7 +175,7 @@ pub enum Entry {
         kept: bool,
         unmask: bool,
     },
-    /// The thread waits for its next wake.
+    /// The thread's run is counted off, and it waits for its next wake (`wake_threads_waitq`).
     Done {
         dev: DevNo,
     },

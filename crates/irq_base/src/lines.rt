@@ -7,7 +7,8 @@ use crate::memory::NoMemory;
 use crate::numbers::LineNo;
 use std::alloc::Global;
 
-/// What raises the line (`irqd_is_level_type`, `include/linux/irq.h`).
+/// What raises the line (the setting `IRQ_LEVEL`, `kernel/irq/settings.h`, for which
+/// `check_irq_resend` asks).
 #[derive(Clone, Copy, PartialEq, Eq)]
 pub enum Trigger {
     /// A change of the signal.
@@ -44,8 +45,7 @@ pub struct LineDef {
     pub retriggers: bool,
     /// Disabling masks the chip at once (`IRQ_DISABLE_UNLAZY`).
     pub unlazy: bool,
-    /// An affinity call takes effect at the next interrupt (`irqd_can_move_in_process_context` is
-    /// false).
+    /// An affinity call takes effect at the next interrupt (`irq_can_move_pcntxt` is false).
     pub later: bool,
     /// The processors that may take the line at first: bit c stands for processor c.
     pub mask: u32,

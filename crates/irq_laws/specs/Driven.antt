@@ -53,7 +53,8 @@ taken_on_edge_flow takes.Handle c = after_ack c
 taken_on_edge_flow takes.Busy c = after_mask (after_ack c)
 taken_on_edge_flow takes.Off c = after_mask (after_ack c)
 
--- `handle_fasteoi_irq` on an edge line, and on a level line, which may be one-shot
+-- `handle_fasteoi_irq` on an edge line (that it acknowledges is ours), and on a level line, which
+-- may be one-shot
 abbrev pub taken_on_eoi_edge : TakeAnswer → Cell → Cell
 taken_on_eoi_edge takes.Handle c = after_ack c
 taken_on_eoi_edge takes.Busy c = after_eoi (after_ack c)

@@ -105,8 +105,8 @@ end_level def c past note may_open =
 
 -- the flow's end: the edge flow goes on with what is pending; the level flow opens the line unless
 -- a thread still holds it; the fast-EOI flow does so on a one-shot level line, and on an edge line
--- sends what is pending again. Why an edge line sends it again: this flow has no loop, and the
--- controller has forgotten an edge that was taken while the flow was in progress.
+-- sends what is pending again (ours). Why an edge line sends it again: this flow has no loop, and
+-- the controller has forgotten an edge that was taken while the flow was in progress.
 abbrev pub end_by_flow : LineDef → FlowKind → CpuNo → List Entry → Note → Entry
 end_by_flow def flows.Edge c past note =
     end_edge def c past note (is_pending def past && not (is_off_now past note))
@@ -138,7 +138,8 @@ take_answer def past =
     if has_flow def past then takes.Busy
     else (if is_disabled past || is_none_linked past then takes.Off else takes.Handle)
 
--- the target takes what is signalled, or else what the software resends
+-- the target takes what is signalled, or else what the software resends (that the target takes the
+-- resend, and the signal first, is ours)
 abbrev pub next_take : LineDef → CpuNo → List Entry → Option Entry
 next_take def c past =
     if not (is_cpu c (target def past)) then None
@@ -158,6 +159,7 @@ resend_of def past =
     if is_edge_line def && is_pending def past
     then (if def.retriggers then resends.Chip else resends.Soft) else resends.No
 
+-- with nothing linked an enable is unbalanced (ours; `__enable_irq` looks at the depth alone)
 abbrev pub enable_answer : LineDef → List Entry → EnableAnswer
 enable_answer def past =
     if is_none_linked past || (depth past == 0) then enables.Unbalanced
@@ -177,6 +179,7 @@ abbrev pub is_null : Kind → Bool
 is_null kinds.Null = true
 is_null _ = false
 
+-- the first refusal is that of `request_threaded_irq`, which takes no lock
 abbrev pub link_answer : LineDef → DevNo → Flags → List Entry → LinkAnswer
 link_answer def d flags past =
     if flags.shared && flags.noauto then links.Refused errors.Inval

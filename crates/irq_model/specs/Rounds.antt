@@ -43,7 +43,8 @@ round def past = since (begins_round def) past
 abbrev pub has_begun : LineDef → List Entry → DevNo → Bool
 has_begun def past d = list_any (is_begin d) (round def past)
 
--- d's handler is still to be called in this round
+-- d's handler is still to be called in this round (6.1 closes the list as its last handler returns;
+-- here it is open until the end)
 abbrev pub is_ahead : LineDef → List Entry → DevNo → Bool
 is_ahead def past d = has_flow def past && (is_linked past d && not (has_begun def past d))
 

@@ -1,5 +1,5 @@
 -- When the line's domains are activated: from its first action to the free of its last
--- (`irq_domain_activate_irq`, `irq_domain_deactivate_irq` in `__setup_irq` and `__free_irq`).
+-- (`irq_activate` in `__setup_irq`, `irq_domain_deactivate_irq` in `__free_irq`).
 use Rattle.std.specs.Prelude.{Bool, true, false, not, ◌&&◌, List, [], ◌∷◌}
 use Rattle.std.specs.List.{list_any}
 use Rattle.irq_base.specs.declared.entries.Entry.{Entry}

@@ -33,7 +33,8 @@ abbrev pub arrived : Way → StateSeen → StateSeen
 arrived ways.Line s = record s { cell = after_accept s.cell }
 arrived ways.Resend s = record s { desc = record s.desc { soft = false } }
 
--- a waiting mask is put in force, and the chip is aimed (`irq_move_irq`, `include/linux/irq.h`)
+-- a waiting mask is put in force, and the chip is aimed (`irq_move_masked_irq`,
+-- `kernel/irq/migration.c`)
 abbrev pub moved : StateSeen → StateSeen
 moved s = record s { aim = after_move s.aim; aimed = aimed_by (after_move s.aim) }
 

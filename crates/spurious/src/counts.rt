@@ -74,7 +74,7 @@ impl Counts {
         self.tally.threads_handled
     }
 
-    /// A thread has served (`irq_thread`, `kernel/irq/manage.c`).
+    /// A thread has served (`irq_thread_fn`, `kernel/irq/manage.c`).
     pub fn thread_handled(&mut self)
         requires { self.old.counts.threads_handled < 2 ^ 32 - 1 }
         ensures { self.new ≡ after_thread self.old }
