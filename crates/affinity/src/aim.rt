@@ -29,7 +29,7 @@ impl Model for Aim {
 }
 
 impl Aim {
-    /// The aim of a line on a machine of so many processors, at most 32. `later`: a change waits
+    /// The aim of a line on a machine of `cpus` processors, at most 32. `later`: a change waits
     /// for the next interrupt (`irq_can_move_pcntxt` is false).
     pub fn new(cpus: u32, mask: u32, later: bool) -> Aim
         requires few { cpus ≤ 32 }

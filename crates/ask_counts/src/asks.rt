@@ -133,7 +133,7 @@ impl Asks {
     }
 }
 
-/// One if an ask of the row is unserved, else nought.
+/// 1 if an ask of the row is unserved, else 0.
 fn waiting_part(row: AskRow) -> u32
     ensures { result ≡ one_if (is_waiting row) }
 {

@@ -73,7 +73,7 @@ pub record IsScript (calls : List ScriptCall) (lines : List BoardLine) (s : Scri
       → slice_get lines x.place ≡ Some y
       → due_call y.def s.driver y.past ≡ Some (x.call.call, s.made)
 
--- the call that a driver is at, of which so many entries are there
+-- the call that a driver is at, and how many entries it has made
 abbrev pub due_at : Option Step → ℕ → Option DueCall
 due_at None made = None
 due_at (Some step) made =

@@ -127,7 +127,7 @@ impl Script {
     }
 }
 
-/// Whether the entry is the last of its call, of which so many stand before it.
+/// Whether the entry is the last of its call. `made`: how many entries of the call came before it.
 fn completes(call: Call, made: u32, entry: &Entry) -> bool
     ensures last { result ≡ completes call made entry.now }
     ensures few { result ≡ false → made < 2 }
@@ -159,7 +159,7 @@ fn is_not_there(entry: &Entry) -> bool
     }
 }
 
-/// What the call waits for, of which so many entries are there.
+/// What the call waits for next. `made`: how many entries it has made.
 fn wait_of(call: Call, made: u32) -> WaitFor
     ensures { result ≡ wait_for (block_of call made) }
 {

@@ -8,8 +8,8 @@ pub enum Turn {
     Moved { line: LineNo, entry: Entry },
     /// The actor can't move, and nothing changed.
     NotYet,
-    /// The actor could move, but its line's history has the log limit's length. `len`: that many
-    /// entries. Nothing changed.
+    /// The actor could move, but its line's history has the log limit's length. `len` is that
+    /// length. Nothing changed.
     Full { line: LineNo, len: u32 },
     /// Memory was needed and refused, and nothing changed.
     NoMemory,
@@ -21,7 +21,7 @@ pub enum PlayEnd {
     /// No actor can move any more.
     Done,
     /// The actor whose turn it is could move, but its line's history has the log limit's length.
-    /// `len`: that many entries.
+    /// `len` is that length.
     Full { line: LineNo, len: u32 },
     /// Memory was needed and refused.
     NoMemory,

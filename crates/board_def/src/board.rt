@@ -41,7 +41,7 @@ impl Model for Board {
 }
 
 impl Board {
-    /// A board of that many processors (1 to 32), that window (1 to 1,000,000) and limit (below the
+    /// A board of `cpus` processors (1 to 32), that window (1 to 1,000,000) and limit (below the
     /// window) of the spurious note, and that greatest length of a line's history (1 to 1,000,000),
     /// with nothing declared.
     pub fn new(alloc: Global, cpus: u32, window: u32, limit: u32, log: u32) -> Board

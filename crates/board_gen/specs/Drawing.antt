@@ -5,7 +5,7 @@ use Rattle.std.specs.Prelude.{ℕ, zero, suc, ◌+◌, ◌*◌, ◌/◌, ◌%◌
 abbrev pub next_x : ℕ → ℕ
 next_x x = (1664525 * x + 1013904223) % 4294967296
 
--- x after so many draws
+-- x after n draws
 abbrev pub x_after : ℕ → ℕ → ℕ
 x_after zero x = x
 x_after (suc k) x = next_x (x_after k x)

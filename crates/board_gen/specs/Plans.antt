@@ -16,7 +16,7 @@ pub record LinePlan : Type 0 where
 abbrev pub kind_of : ℕ → Kind
 kind_of n = if n == 0 then kinds.Direct else (if n == 1 then kinds.Check else kinds.Null)
 
--- the kinds of so many devices, a draw each, from x on
+-- the kinds of n devices, a draw each, from x on
 abbrev pub kinds_drawn : ℕ → ℕ → List Kind
 kinds_drawn count x = map (λ k. kind_of (draw k 3 x)) (range_with_len 1 count)
 
@@ -50,7 +50,7 @@ plan_more p =
       x = x_after (3 + device_count p.x) p.x;
     }
 
--- so many lines, from x on
+-- n lines, from x on
 abbrev pub planned : ℕ → ℕ → Planned
 planned zero x = record { plans = []; device = 1; x = x }
 planned (suc n) x = plan_more (planned n x)

@@ -95,7 +95,7 @@ actor_picked devices (picked.Thread dev) = actors.Thread (line_of_device devices
 actor_picked devices (picked.Cpu cpu) = actors.Cpu cpu
 actor_picked devices (picked.Driver driver) = actors.Driver driver
 
--- so many picks of the one actor
+-- n picks of the one actor
 abbrev pub actors_picked : List DeviceDef → PickWord → List Actor
 actors_picked devices p = replicate p.times (actor_picked devices p.who)
 

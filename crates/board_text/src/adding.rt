@@ -128,7 +128,7 @@ fn line_of_device(board: &Board, dev: DevNo) -> LineNo
     }
 }
 
-/// Adds the picks, each as often as it says.
+/// Adds the picks of a statement; one with `*N` counts N times.
 #[tactic(auto, using(std::proofs::lemmas::List::drop_all))]
 fn add_picks(board: &mut Board, picks: &PickList) -> Result<(), NoMemory>
     requires { IsBoard
@@ -148,7 +148,7 @@ fn add_picks(board: &mut Board, picks: &PickList) -> Result<(), NoMemory>
     Ok(())
 }
 
-/// Adds so many picks of the one actor.
+/// Adds the one actor as `times` picks.
 fn add_pick_times(board: &mut Board, actor: Actor, times: u32) -> Result<(), NoMemory>
     requires { IsBoard (record board.old { picks = board.old.picks ++ replicate times actor }) }
     ensures { OnOk result

@@ -43,7 +43,7 @@ abbrev pub after_star : List ℕ → Option (List ℕ)
 after_star [] = None
 after_star (b ∷ bs) = if is_star b then Some bs else after_star bs
 
--- so many picks: one if there is no number
+-- how many picks it counts for: one if there is no number
 abbrev pub times_of : Option (List ℕ) → Option ℕ
 times_of None = Some 1
 times_of (Some word) = number_between 1 65535 word

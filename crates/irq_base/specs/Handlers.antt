@@ -7,7 +7,7 @@ use Rattle.irq_base.specs.declared.devices.Part.TheVariants as parts
 use Rattle.irq_base.specs.declared.devices.Answer.{Answer}
 use Rattle.irq_base.specs.declared.devices.Answer.TheVariants as answers
 
--- the answer of a run that begins with that many unserved asks; a device without a thread never
+-- the answer of a run that begins with n unserved asks; a device without a thread never
 -- runs one
 abbrev pub answer_of : Kind → Part → ℕ → Answer
 answer_of kinds.Direct parts.Primary unserved =

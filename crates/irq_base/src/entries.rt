@@ -88,9 +88,9 @@ pub enum Opened {
     No,
     /// Its enable found nothing to lower.
     Unbalanced,
-    /// One less, and the line is still disabled.
+    /// The depth fell by one, and the line is still disabled.
     Lowered,
-    /// Nought: the line is started.
+    /// The depth became 0: the line is started.
     Started { resend: Resend },
 }
 

@@ -11,7 +11,7 @@ use Rattle.irq_check.specs.declared.printing.CheckEnd.TheVariants as ends
 use Rattle.irq_check.specs.AnswerText.{answer_text}
 use Rattle.irq_check.specs.Checked.{IsChecked, checked, longest_input}
 
--- what is left of a source of which at most one byte more was read than an input may have
+-- what is left of a source from which an input was read: as long as it may be, and one byte more
 abbrev pub left_after : List ℕ → List ℕ
 left_after bytes = drop (longest_input + 1) bytes
 

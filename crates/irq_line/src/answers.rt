@@ -21,8 +21,8 @@ pub enum Stepped {
 /// Why a step that was due wasn't made. Nothing changed.
 #[derive(Clone, Copy, Debug, PartialEq, Eq, Error)]
 pub enum StepRefused {
-    /// The history has the greatest length that the line's definition allows. `len`: that many
-    /// entries.
+    /// The history has the greatest length that the line's definition allows. `len` is that
+    /// length.
     #[error("the log is full with {len} entries")]
     Full { len: u32 },
     /// Memory was needed and refused.

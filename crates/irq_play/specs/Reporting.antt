@@ -43,7 +43,7 @@ TakesFirst false old new entries = (entries ≡ []) × (new ≡ old)
 abbrev pub IsEmptyHistory : HistorySeen → Type 0
 IsEmptyHistory h = h.entries ≡ []
 
--- there is room for so many reports, and an empty history for each
+-- there is room for n reports, and an empty history for each
 pub record HasRoom (n : ℕ) (room : ReportRoom) : Type 0 where
   pub none_yet : room.reports.reports ≡ []
   pub spare : n ≤ room.reports.spare

@@ -20,8 +20,8 @@ pub enum PlayedEnd {
     Done,
     /// The play came to its end, and a write or a flush of its report failed.
     WriteFault,
-    /// An entry was due on the line, whose history has the greatest length. `len`: that many
-    /// entries. Nothing is printed.
+    /// An entry was due on the line, whose history has the greatest length. `len` is that
+    /// length. Nothing is printed.
     LogFull { line: LineNo, len: u32 },
     /// Memory was needed and refused. Nothing is printed.
     NoMemory(Wanted),

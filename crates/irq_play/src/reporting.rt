@@ -70,8 +70,8 @@ fn empty_histories(alloc: Global, n: usize) -> Result<Vec<History>, NoMemory>
     Ok(all)
 }
 
-/// The history of the last of the lines, if that is the line of the number, which goes; else the
-/// empty one.
+/// Takes the last line away if it has this number, and answers its history; else answers the empty
+/// history.
 fn take_history<L: IrqLine>(lines: &mut Vec<L>, number: LineNo, empty: History) -> History
     requires { IsEmptyHistory empty }
     ensures { TakesFirst (is_first number (from_last (map L.seen lines.old.items)))

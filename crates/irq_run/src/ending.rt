@@ -10,8 +10,8 @@ pub enum RunEnd {
     Done,
     /// The run came to its end, and a write or a flush of its report failed.
     WriteFault,
-    /// An entry was due on the line, whose history has the greatest length. `len`: that many
-    /// entries. Nothing is printed.
+    /// An entry was due on the line, whose history has the greatest length. `len` is that
+    /// length. Nothing is printed.
     LogFull { line: LineNo, len: u32 },
     /// Memory was needed and refused. Nothing is printed.
     NoMemory,

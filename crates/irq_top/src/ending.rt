@@ -27,8 +27,8 @@ pub enum Ending {
     ReadFault,
     /// A write or a flush of the output failed.
     WriteFault,
-    /// A further entry was due on the line, whose history has its greatest length. `len`: that many
-    /// entries.
+    /// A further entry was due on the line, whose history has its greatest length. `len` is that
+    /// length.
     LogFull { line: LineNo, len: u32 },
     /// Memory was needed and refused: by a step of a play, or by anything else that isn't one.
     NoMemory(Wanted),

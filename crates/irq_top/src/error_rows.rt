@@ -38,7 +38,7 @@ fn push_fault(row: &mut TextRow, fault: BoardFault)
     row.push(b'\n');
 }
 
-/// Adds that the line's log is full with that many entries.
+/// Adds that the line's log is full, and how many entries it has.
 fn push_full_log(row: &mut TextRow, line: LineNo, len: u32)
     requires { length row.old ≤ 200 }
     ensures { row.new ≡ row.old ++ full_row line len }

@@ -24,8 +24,8 @@ use line_state::LineState;
 use std::alloc::Global;
 use std::marker::Model;
 
-/// A definition, a history, and what that comes to: the state of the line and the places of its
-/// drivers.
+/// A line: its definition and its history, and beside them what the history makes of it, the state
+/// of its parts and how far each driver is.
 #[derive(Drop)]
 pub struct Line<C: Chip> {
     def: LineDef,

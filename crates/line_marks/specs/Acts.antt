@@ -56,7 +56,7 @@ handling_from _ s = s
 
 -- ---- runs
 
--- the level after a run that served so many
+-- the level after a run, by how many asks it served
 abbrev pub lowered : LineDef → ℕ → StateSeen → StateSeen
 lowered def n s = record s {
   cell = if is_level_line def && nat_lt 0 n then after_high (high_in s.asks) s.cell else s.cell;

@@ -6,7 +6,7 @@ use Rattle.irq_base.specs.declared.numbers.DriverNo.{DriverNo}
 use Rattle.irq_model.specs.Due.{calls_by, entries_by}
 use Rattle.irq_steps.specs.Laid.{Laid}
 
--- the driver's entries make its calls up to the place, and so many of the next
+-- the driver's entries make its calls up to the place, and the first ones of the next call
 abbrev pub IsAt : LineDef → List Entry → DriverNo → ℕ → ℕ → Type 0
 IsAt def past r place within = Laid (calls_by r def.calls) (entries_by r past) place within
 

@@ -8,7 +8,7 @@ use std::alloc::Global;
 /// What comes of going through the orders.
 #[derive(Clone, Copy, PartialEq, Eq)]
 pub enum Orders {
-    /// The lines are the same in all of them. `count`: so many orders there are.
+    /// The lines are the same in all of them. `count`: how many orders there are.
     Same { count: u32 },
     /// The lines differ in one.
     Differ,
@@ -27,7 +27,7 @@ enum Turn {
 }
 
 /// Whether the two lines of the definition tell the same in every order in which its actors can
-/// move, of at most so many moves together.
+/// move, of at most `most` moves together.
 ///
 /// # Errors
 ///

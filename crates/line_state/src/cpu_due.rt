@@ -212,7 +212,7 @@ impl<C: Chip> LineState<C> {
     }
 }
 
-/// What the device's handler answers to so many unserved asks.
+/// What the device's handler answers if `unserved` of its asks are unserved.
 fn answer(kind: Kind, unserved: u32) -> Answer
     ensures { result ≡ answer_of kind parts.Primary unserved }
 {

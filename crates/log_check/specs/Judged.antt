@@ -5,7 +5,7 @@ use Rattle.irq_base.specs.declared.lines.LineDef.{LineDef}
 use Rattle.irq_line.specs.Seen.{LineSeen}
 use Rattle.irq_model.specs.Legal.{IsDue, IsLegal}
 
--- some entry has that number, counted from 1, and isn't due after those before it, all of which are
+-- the entry with this number, counted from 1, isn't due after those before it; each of those is
 pub record IsFirstUndue (def : LineDef) (entries : List Entry) (number : ℕ) : Type 0 where
   pub counted : 1 ≤ number
   pub before : IsLegal def (take (number - 1) entries)

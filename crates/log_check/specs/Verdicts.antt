@@ -17,7 +17,7 @@ abbrev pub JudgedEmpty : List Entry → Option ℕ → Type 0
 JudgedEmpty entries None = entries ≡ []
 JudgedEmpty entries (Some number) = (1 ≤ length entries) × (number ≡ 1)
 
--- a line that lies there
+-- a line of the board by where it lies: one that is mapped, or one that the layout refuses
 abbrev pub JudgedLine : BoardSeen → LineRow → Placement → List Entry → Option ℕ → Type 0
 JudgedLine b row (placements.Mapped virq path) entries first =
     Judged (line_of_row b row) entries first

@@ -26,6 +26,6 @@ summary_words line h =
 abbrev pub summary_text : LineNo → List Entry → List ℕ
 summary_text line h = row_of (summary_words line h)
 
--- the row of so many entries on all lines
+-- the row of the total: how many entries all lines have
 abbrev pub total_text : ℕ → List ℕ
 total_text n = row_of (codes "total" ∷ codes "entries" ∷ decimal n ∷ [])

@@ -31,7 +31,7 @@ pub fn asks_of_handler(def: &LineDef, dev: DevNo, past: &[Entry]) -> u32
     unserved_asks(def, dev, before(past, EntryTest::Begin(dev)))
 }
 
-/// The answer of a handler that begins with that many unserved asks.
+/// The answer of a handler that begins with `unserved` unserved asks.
 fn primary_answer(kind: Kind, unserved: u32) -> Answer
     ensures { result ≡ answer_of kind Part.Primary unserved }
 {

@@ -1,4 +1,4 @@
-//! A row of text in a place of its own, which is written again and again.
+//! A buffer for one row of text, which is written again and again.
 //!
 //! Whoever prints rows keeps one `TextRow` and lends it for each. Clearing it sets its length
 //! alone, and writing takes no memory.

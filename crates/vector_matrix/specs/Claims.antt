@@ -80,7 +80,7 @@ pub record IsMatrix (table : TableId) (told cpus vectors : ℕ) : Type 0 where
   pub few : cpus ≤ 32
   pub small : vectors ≤ 64
 
--- What every claim of a matrix with so many processors keeps.
+-- What every claim of a matrix with `cpus` processors keeps.
 pub record IsClaim (cpus : ℕ) (me : Me ℕ View) : Type 0 where
   pub there : me.0.spent ≡ false
   pub idle : me.1 ≡ []

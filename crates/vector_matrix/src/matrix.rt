@@ -40,7 +40,7 @@ impl Model for Matrix {
 }
 
 impl Matrix {
-    /// So many processors, 1 to 32, with so many vectors each, 1 to 64, and the first claim, which
+    /// A matrix of 1 to 32 processors with 1 to 64 vectors each, and the first claim, which
     /// holds none (`irq_alloc_matrix`). The only error is `NoMemory`.
     pub fn new(alloc: Global, cpus: u32, vectors: u32) -> Result<(Matrix, Claim), NoMemory>
         requires cpus { (1 ≤ cpus) × (cpus ≤ 32) }

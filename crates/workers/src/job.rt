@@ -11,8 +11,8 @@ pub(crate) enum Left {
     Idle,
     /// It made a step.
     Busy,
-    /// A step was due on that line, whose history has the greatest length. `len`: that many
-    /// entries.
+    /// A step was due on that line, whose history has the greatest length. `len` is that
+    /// length.
     Full { line: LineNo, len: u32 },
     /// Memory was needed and refused.
     NoMemory,

@@ -43,7 +43,7 @@ impl<L: IrqLine> SharedLines<L> {
         None
     }
 
-    /// The flow handler of the line that stands so many places behind the first one.
+    /// The flow handler of the line at the place `first` plus `behind`.
     pub(crate) fn flow_at(&self, first: usize, behind: usize) -> FlowKind
         requires { first + behind < length self.now }
         ensures { (l : LockSeen) → slice_get self.now (first + behind) ≡ Some l

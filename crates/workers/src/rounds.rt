@@ -41,7 +41,7 @@ pub enum RoundsEnd {
     /// A round made no step, since nothing was due of any actor on what it had seen.
     Quiet,
     /// A step was due on that line, whose history has the greatest length; of several such lines it
-    /// is the lowest. `len`: that many entries.
+    /// is the lowest. `len` is that length.
     Full { line: LineNo, len: u32 },
     /// Memory was needed and refused.
     NoMemory,
@@ -140,7 +140,7 @@ impl<L: IrqLine> Job<L> {
         self.turn_at_gate(rt, board, lines, gate, handlers)
     }
 
-    /// Steps of the actor, as long as there is something to do, but only so many.
+    /// Steps of the actor, as long as there is something to do, up to its part of the round.
     fn take_turns<R: Wait, G: Gate, H: Handler>(
         &mut self,
         rt: &R,

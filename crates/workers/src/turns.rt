@@ -17,7 +17,7 @@ pub(crate) enum Turn {
     Moved(Entry),
     /// Nothing is due of the actor on what it has seen.
     NotYet,
-    /// A step is due on that line, whose history has the greatest length. `len`: that many entries.
+    /// A step is due on that line, whose history has the greatest length. `len` is that length.
     Full { line: LineNo, len: u32 },
     /// Memory was needed and refused.
     NoMemory,
