@@ -2,7 +2,7 @@
 //! and the log of that line.
 ghost use Rattle.std.specs.Prelude.{◌≤◌, length, vec_len};
 
-use anyhow::{Context, Result, ensure};
+use anyhow::{Context, Result, bail, ensure};
 use board_def::Board;
 use board_text::read_board;
 use irq_base::{Entry, LineDef, Logs, NoMemory};
@@ -37,19 +37,24 @@ pub struct LineLog {
 pub fn read_line_log(alloc: Global, text: &str) -> Result<LineLog> {
     let (head, rows) = text.split_once("---\n").context("no row `---`")?;
     let board = board_of(alloc, head)?;
-    let logs = logs_of(alloc, &board, rows)?;
+    let logs = logs_of(alloc, &board, rows).context("no log")?;
     let def = line_of(alloc, &board)?;
     let entries = entries_of(alloc, &logs)?;
     sized(def, entries)
 }
 
 fn board_of(alloc: Global, text: &str) -> Result<Board> {
-    Ok(read_board(alloc, text.as_bytes())?)
+    match read_board(alloc, text.as_bytes()) {
+        Ok(board) => Ok(board),
+        Err(refused) => bail!("{refused}"),
+    }
 }
 
-fn logs_of(alloc: Global, board: &Board, rows: &str) -> Result<Logs> {
-    ensure!(rows.len() <= LONGEST_LOG, "the log is too long");
-    Ok(read_log(alloc, board, rows.as_bytes())?)
+fn logs_of(alloc: Global, board: &Board, rows: &str) -> Option<Logs> {
+    if rows.len() > LONGEST_LOG {
+        return None;
+    }
+    read_log(alloc, board, rows.as_bytes()).ok()
 }
 
 /// The line of the board.
@@ -73,9 +78,8 @@ fn entries_of(alloc: Global, logs: &Logs) -> Result<Vec<Entry>, NoMemory> {
 
 /// The line and its entries, if they aren't too many.
 fn sized(def: LineDef, entries: Vec<Entry>) -> Result<LineLog> {
-    let fits = def.cpus <= MOST_CPUS
-        && def.devices.len() <= MOST_DEVICES
-        && entries.len() <= MOST_ENTRIES;
-    ensure!(fits, "more than is judged");
+    ensure!(def.cpus <= MOST_CPUS, "too many processors");
+    ensure!(def.devices.len() <= MOST_DEVICES, "too many devices");
+    ensure!(entries.len() <= MOST_ENTRIES, "too many entries");
     Ok(LineLog { def, entries })
 }
