@@ -35,12 +35,17 @@ pub struct LineLog {
 /// Where a part of the text is none, the board hasn't one line alone, or it is larger than what is
 /// judged, and where memory is refused.
 pub fn read_line_log(alloc: Global, text: &str) -> Result<LineLog> {
-    let (head, rows) = text.split_once("---\n").context("no row `---`")?;
+    let (head, rows) = parts_of(text).context("no row `---`")?;
     let board = board_of(alloc, head)?;
     let logs = logs_of(alloc, &board, rows).context("no log")?;
     let def = line_of(alloc, &board)?;
     let entries = entries_of(alloc, &logs)?;
     sized(def, entries)
+}
+
+/// What stands before the first row `---`, and what follows it.
+fn parts_of(text: &str) -> Option<(&str, &str)> {
+    text.split_once("---\n")
 }
 
 fn board_of(alloc: Global, text: &str) -> Result<Board> {
