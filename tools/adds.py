@@ -24,7 +24,7 @@ def head_of(file):
 
 def naming(enum):
     """The files that name a variant of the enum, in the order of the crates: those of src/ and specs/, and those of proofs/."""
-    pattern = re.compile(rf"\b{enum}(?:::[A-Z]|\.TheVariants)")
+    pattern = re.compile(rf"\b{enum}(?:::[A-Z]|\.TheVariants)|\benum {enum}\b")
     found = [
         (crate, file)
         for crate in read_crates().values()
