@@ -1,9 +1,8 @@
 //! Searches through small spaces, whose states, paths and labels are worked out by hand.
 #![tactic(auto)]
 
-pub mod numbers;
-
 #[cfg(test)]
 mod number_tests;
+pub mod numbers;
 
 pub use numbers::{Numbers, Step};

@@ -26,10 +26,10 @@ module _ {L : Type 0} (can : L → List L → Type 0) (node : List L → List �
       apart = u.apart;
       rising = u.rising;
       near = λ k q r a b.
-        let n : length p ≤ length q = u.rising i (i + 1) p q (omega arith) here a in
-        let m : length r ≤ length p + 1 = u.near k p r here b in
-        omega (arith, n, m);
-      closed = λ j q lt a g l path same c. by j q lt a g l path same c (cases_lt j i)
+          let n : length p ≤ length q = u.rising i (i + 1) p q (omega arith) here a in
+          let m : length r ≤ length p + 1 = u.near k p r here b in
+          omega (arith, n, m);
+      closed = λ j q lt a g l path same c. by j q lt a g l path same c (cases_lt j i);
     }
       where
         by : (j : ℕ) (q : List L) → j < i + 1 → slice_get ps j ≡ Some q → (g : List L) (l : L) → IsPath can g → node g ≡ node q → can l g → (j < i) ⊎ (i ≤ j)
@@ -48,7 +48,7 @@ module _ {L : Type 0} (can : L → List L → Type 0) (node : List L → List �
     noted = λ j q lt a g l path same c. by j q lt a g l path same c (cases_lt j i);
     each = λ m f at. let e = n.each m f at in (e.0, e.1, e.2, omega (arith, e.3));
     apart = n.apart;
-    rising = n.rising
+    rising = n.rising;
   }
     where
       by : (j : ℕ) (q : List L) → j < i + 1 → slice_get ps j ≡ Some q → (g : List L) (l : L) → IsPath can g → node g ≡ node q → can l g → (j < i) ⊎ (i ≤ j)

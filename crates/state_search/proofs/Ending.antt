@@ -26,6 +26,7 @@ module _ {L : Type 0} (can : L → List L → Type 0) (node : List L → List �
       -- the cut, where there is one, is the length at i
       at_cut : (t : List L) → slice_get ps i ≡ Some t → length h < length t
       at_cut t at = subst (λ o. IsBelow (option_map length o) (length h)) at below
+
       far : (k : ℕ) (q : List L) → i ≤ k → slice_get ps k ≡ Some q → (i < length ps) ⊎ (length ps ≤ i) → length q ≤ length h → ⊥
       far k q ge at (inl lt) short =
           let t = there ps i lt in
@@ -33,9 +34,11 @@ module _ {L : Type 0} (can : L → List L → Type 0) (node : List L → List �
           let m : length h < length t.0 = at_cut t.0 t.1 in
           omega (arith, n, m, short)
       far k q ge at (inr past) short = omega (arith, slice_get_within ps k q at, ge, past)
+
       near : (m : IsMet can node ps h) → (i < length ps) ⊎ (length ps ≤ i) → (m.0 < i) ⊎ (i ≤ m.0) → IsLooked h
       near m c (inl lt) = (m.0, m.1, m.2, m.3, m.4, lt)
       near m c (inr ge) = absurd (far m.0 m.1 ge m.2 c m.4)
+
       by : (i < length ps) ⊎ (length ps ≤ i) → IsMet can node ps h ⊎ HasOpen can node i ps (length h) → IsLooked h
       by c (inl m) = near m c (cases_lt m.0 i)
       by c (inr o) = let n : length o.1 ≤ length h = omega (arith, o.4) in absurd (far o.0 o.1 o.2 o.3 c n)
@@ -68,16 +71,16 @@ module _ {L : Type 0} (can : L → List L → Type 0) (node : List L → List �
   searches = record {
     paths_are = all_from (IsPath can) ps u.paths_are;
     apart = λ j k x a b.
-      let p = map_from node ps j x a in
-      let q = map_from node ps k x b in
-      u.apart j k p.0 q.0 p.1 q.1 (p.2 ∙ sym q.2);
+        let p = map_from node ps j x a in
+        let q = map_from node ps k x b in
+        u.apart j k p.0 q.0 p.1 q.1 (p.2 ∙ sym q.2);
     least = all_from (λ p. (h : List L) → IsPath can h → node h ≡ node p → length p ≤ length h) ps least;
     rising = u.rising;
     within = u.within;
     whole = λ none. whole none (cases_lt i (length ps));
     all = λ h path below.
-      let m = looked h path below in
-      contains_from (map node (take i ps)) m.0 (node h) (map_at node (take i ps) m.0 m.1 (at_take i ps m.0 m.1 m.5 m.2) ∙ ap Some m.3)
+        let m = looked h path below in
+        contains_from (map node (take i ps)) m.0 (node h) (map_at node (take i ps) m.0 m.1 (at_take i ps m.0 m.1 m.5 m.2) ∙ ap Some m.3);
   }
     where
       whole : cut ≡ None → (i < length ps) ⊎ (length ps ≤ i) → i ≡ length ps
@@ -124,13 +127,13 @@ module _ {L : Type 0} (can : L → List L → Type 0) (node : List L → List �
     firsts = record {
       each = all_from (λ f. (p : List L) × (slice_get ps f.place ≡ Some p) × can f.label p
           × ((h : List L) (l : L) → IsPath can h → can l h → eq f.label l ≡ true → length p ≤ length h)) fs
-        (λ m f at. let e = n.each m f at in (e.0, e.1, e.2, λ h l path c same. nearest m f at e.0 e.1 h l path c same));
+          (λ m f at. let e = n.each m f at in (e.0, e.1, e.2, λ h l path c same. nearest m f at e.0 e.1 h l path c same));
       first = all_from (λ f. (k : ℕ) (p : List L) (l : L) → slice_get ps k ≡ Some p → can l p → eq f.label l ≡ true → f.place ≤ k) fs
-        (λ m f at k p l here c same. first m f at k p p l here refl (u.paths_are k p here) c same);
+          (λ m f at k p l here c same. first m f at k p p l here refl (u.paths_are k p here) c same);
       apart = n.apart;
       rising = n.rising;
       all = λ h l path below c.
-        let x = looked h path below in
-        let d = n.noted x.0 x.1 x.5 x.2 h l path (sym x.3) c in
-        (d.0, d.1, d.2, d.3)
+          let x = looked h path below in
+          let d = n.noted x.0 x.1 x.5 x.2 h l path (sym x.3) c in
+          (d.0, d.1, d.2, d.3);
     }

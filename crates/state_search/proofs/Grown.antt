@@ -70,12 +70,12 @@ module _ {L : Type 0} (can : L → List L → Type 0) (node : List L → List �
       apart = λ j k q r a b e. apart j k q r e (cases j q a) (cases k r b);
       rising = λ j k q r le a b. rising j k q r le (cases j q a) (cases k r b);
       near = λ k q r a b.
-        let n : length p ≡ length q = ap length (one_at (ps ++ (l ∷ p) ∷ []) i p q (kept i p here) a) in
-        let m : length r ≤ length p + 1 = near k r (cases k r b) in
-        omega (arith, n, m);
+          let n : length p ≡ length q = ap length (one_at (ps ++ (l ∷ p) ∷ []) i p q (kept i p here) a) in
+          let m : length r ≤ length p + 1 = near k r (cases k r b) in
+          omega (arith, n, m);
       closed = λ j q lt a g m path same c.
-        let d = u.closed j q lt (old j q lt (cases j q a)) g m path same c in
-        (d.0, d.1, kept d.0 d.1 d.2, d.3, d.4)
+          let d = u.closed j q lt (old j q lt (cases j q a)) g m path same c in
+          (d.0, d.1, kept d.0 d.1 d.2, d.3, d.4);
     }
 
     pub grow_noted : (eq : L → L → Bool) (fs : List (First L)) → AreNotedUnder eq can node i ps fs → AreNotedUnder eq can node i (ps ++ (l ∷ p) ∷ []) fs
@@ -83,7 +83,7 @@ module _ {L : Type 0} (can : L → List L → Type 0) (node : List L → List �
       noted = λ j q lt a g m path same c. n.noted j q lt (old j q lt (cases j q a)) g m path same c;
       each = λ m f at. let e = n.each m f at in (e.0, kept f.place e.0 e.1, e.2, e.3);
       apart = n.apart;
-      rising = n.rising
+      rising = n.rising;
     }
 
   -- what an added state must be
@@ -104,14 +104,16 @@ module _ {L : Type 0} (can : L → List L → Type 0) (node : List L → List �
         let by : path_by ps e.1 ≡ a.0 ∷ p = ap (path_by ps) a.3 ∙ ap (λ q. a.0 ∷ q) (get_or_from_slice_get ps i p [] here) in
         let is : paths_of (es ++ e ∷ []) ≡ ps ++ (a.0 ∷ p) ∷ [] = paths_push [] es e ∙ ap (λ t. ps ++ t ∷ []) by in
         let fresh : (k : ℕ) (q : List L) → slice_get ps k ≡ Some q → node q ≡ node (a.0 ∷ p) → ⊥ =
-          λ k q at same. new k (ap (λ t. slice_get t k) g.states ∙ (map_at node ps k q at ∙ ap Some (same ∙ a.2))) in
+        λ k q at same. new k (ap (λ t. slice_get t k) g.states ∙ (map_at node ps k q at ∙ ap Some (same ∙ a.2))) in
         let link : states_of (es ++ e ∷ []) ≡ map node (ps ++ (a.0 ∷ p) ∷ []) =
-          map-append (λ x. x.0) es (e ∷ []) ∙ ((λ j. g.states j ++ sym a.2 j ∷ []) ∙ sym (map-append node ps ((a.0 ∷ p) ∷ []))) in
-        (record {
-          under = subst (AreUnder can node i) (sym is) (grow_one ps g.under p here a.0 a.1 fresh);
-          noted = subst (λ t. AreNotedUnder eq can node i t fs) (sym is) (grow_noted ps g.under p here a.0 a.1 fresh eq fs g.noted);
-          states = link ∙ ap (map node) (sym is)
-        }, ap (λ t. slice_get t i) is ∙ at_old ps ((a.0 ∷ p) ∷ []) i p here)
+        map-append (λ x. x.0) es (e ∷ []) ∙ ((λ j. g.states j ++ sym a.2 j ∷ []) ∙ sym (map-append node ps ((a.0 ∷ p) ∷ []))) in (
+          record {
+            under = subst (AreUnder can node i) (sym is) (grow_one ps g.under p here a.0 a.1 fresh);
+            noted = subst (λ t. AreNotedUnder eq can node i t fs) (sym is) (grow_noted ps g.under p here a.0 a.1 fresh eq fs g.noted);
+            states = link ∙ ap (map node) (sym is);
+          },
+          ap (λ t. slice_get t i) is ∙ at_old ps ((a.0 ∷ p) ∷ []) i p here,
+        )
 
     -- many more
     pub grown_all : (es added : List (List ℕ × Option (Came L))) → AreGrown eq es fs → slice_get (paths_of es) i ≡ Some p
@@ -124,10 +126,10 @@ module _ {L : Type 0} (can : L → List L → Type 0) (node : List L → List �
         let P : List (List ℕ × Option (Came L)) → Type 0 = λ t. AreGrown eq t fs × (slice_get (paths_of t) i ≡ Some p) in
         let first : slice_get (states_of (es ++ e ∷ added)) (length es) ≡ Some e.0 = map_at (λ (x : List ℕ × Option (Came L)). x.0) (es ++ e ∷ added) (length es) e (at_seam es e added) in
         let new : (k : ℕ) → slice_get (states_of es) k ≡ Some e.0 → ⊥ =
-          λ k at.
-            let lt : k < length (states_of es) = slice_get_within (states_of es) k e.0 at in
-            let both : k ≡ length es = once k (length es) e.0 (ap (λ t. slice_get t k) (map-append (λ x. x.0) es (e ∷ added)) ∙ at_old (states_of es) (states_of (e ∷ added)) k e.0 at) first in
-            omega (arith, lt, both, long es) in
+        λ k at.
+        let lt : k < length (states_of es) = slice_get_within (states_of es) k e.0 at in
+        let both : k ≡ length es = once k (length es) e.0 (ap (λ t. slice_get t k) (map-append (λ x. x.0) es (e ∷ added)) ∙ at_old (states_of es) (states_of (e ∷ added)) k e.0 at) first in
+        omega (arith, lt, both, long es) in
         let one = grown_one es e g here (each 0 e refl) new in
         let assoc : (es ++ e ∷ []) ++ added ≡ es ++ e ∷ added = append_assoc es (e ∷ []) added in
         subst P assoc (grown_all (es ++ e ∷ []) added one.0 one.1 (λ k x at. each (suc k) x at) (subst (λ t. IsEachOnce (states_of t)) (sym assoc) once))

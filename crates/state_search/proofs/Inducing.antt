@@ -25,6 +25,7 @@ module _ {L : Type 0} (can : L → List L → Type 0) (node : List L → List �
         known m (inr ge) =
             let near : length m.1 < suc (length g) = omega (arith, m.4) in
             inr (m.0, m.1, ge, m.2, near)
+
         next : IsMet ps g ⊎ HasOpen i ps (length g) → IsMet ps (l ∷ g) ⊎ HasOpen i ps (suc (length g))
         next (inl m) = known m (cases_lt m.0 i)
         next (inr o) =

@@ -16,7 +16,7 @@ module _ {L : Type 0} (eq : L → L → Bool) (place : ℕ) (found : List (L × 
     grows = sym (append-nil old);
     each = λ k f at. absurd (none-some f at);
     all = λ m l words lt at. absurd (omega (arith, lt));
-    apart = λ h. h
+    apart = λ h. h;
   }
 
   at_next : (i m : ℕ) (l k : L) (ws words : List ℕ) → slice_get found i ≡ Some (l, ws) → m < i + 1 → i ≤ m → slice_get found m ≡ Some (k, words) → l ≡ k
@@ -31,7 +31,7 @@ module _ {L : Type 0} (eq : L → L → Bool) (place : ℕ) (found : List (L × 
       grows = n.grows;
       each = n.each;
       all = λ m k words lt at. by m k words lt at (cases_lt m i);
-      apart = n.apart
+      apart = n.apart;
     }
       where
         by : (m : ℕ) (k : L) (words : List ℕ) → m < i + 1 → slice_get found m ≡ Some (k, words) → (m < i) ⊎ (i ≤ m) → IsNoted eq mid k
@@ -44,17 +44,20 @@ module _ {L : Type 0} (eq : L → L → Bool) (place : ℕ) (found : List (L × 
       grows = ap (λ t. t ++ f ∷ []) n.grows ∙ append_assoc old n.added (f ∷ []);
       each = λ k g at. each k g (push_cases n.added f g k at);
       all = λ m k words lt at. by m k words lt at (cases_lt m i);
-      apart = λ h j k a b x y e. apart (n.apart h) j k a b (push_cases mid f a j x) (push_cases mid f b k y) e
+      apart = λ h j k a b x y e. apart (n.apart h) j k a b (push_cases mid f a j x) (push_cases mid f b k y) e;
     }
       where
         each : (k : ℕ) (g : First L) → (slice_get n.added k ≡ Some g) ⊎ ((k ≡ length n.added) × (f ≡ g)) → (g.place ≡ place) × (m : ℕ) × (words : List ℕ) × (slice_get found m ≡ Some (g.label, words))
         each k g (inl a) = n.each k g a
         each k g (inr a) = (ap (λ t. t.place) (sym a.1) ∙ at_place, i, ws, here ∙ ap (λ t. Some (t, ws)) (sym label ∙ ap (λ t. t.label) a.1))
+
         stays : (k : L) → IsNoted eq mid k → IsNoted eq (mid ++ f ∷ []) k
         stays k x = (x.0, x.1, at_old mid (f ∷ []) x.0 x.1 x.2, x.3)
+
         by : (m : ℕ) (k : L) (words : List ℕ) → m < i + 1 → slice_get found m ≡ Some (k, words) → (m < i) ⊎ (i ≤ m) → IsNoted eq (mid ++ f ∷ []) k
         by m k words lt at (inl less) = stays k (n.all m k words less at)
         by m k words lt at (inr ge) = (length mid, f, at_seam mid f [], ap (eq f.label) (sym (at_next i m l k ws words here lt ge at) ∙ sym label) ∙ laws.refl f.label)
+
         apart : AreApart eq mid → (j k : ℕ) (a b : First L) → (slice_get mid j ≡ Some a) ⊎ ((j ≡ length mid) × (f ≡ a)) → (slice_get mid k ≡ Some b) ⊎ ((k ≡ length mid) × (f ≡ b))
             → eq a.label b.label ≡ true → j ≡ k
         apart h j k a b (inl x) (inl y) e = h j k a b x y e

@@ -23,7 +23,7 @@ module _ {L : Type 0} (eq : L → L → Bool) (can : L → List L → Type 0) (n
     apart = λ j k p q a b same. (one j p a).0 ∙ sym (one k q b).0;
     rising = λ j k p q le a b. subst (λ p. length p ≤ length q) (one j p a).1 (omega arith);
     near = λ k p q a b. subst (λ q. length q ≤ length p + 1) (one k q b).1 (omega arith);
-    closed = λ j p lt at g l path same c. absurd (omega (arith, lt))
+    closed = λ j p lt at g l path same c. absurd (omega (arith, lt));
   }
     where
       one : (k : ℕ) (p : List L) → slice_get ([] ∷ []) k ≡ Some p → (k ≡ 0) × ([] ≡ p)
@@ -35,14 +35,14 @@ module _ {L : Type 0} (eq : L → L → Bool) (can : L → List L → Type 0) (n
     noted = λ j p lt at g l path same c. absurd (omega (arith, lt));
     each = λ m f at. absurd (none-some f at);
     apart = λ j k a b x y e. absurd (none-some a x);
-    rising = λ j k a b le x y. absurd (none-some a x)
+    rising = λ j k a b le x y. absurd (none-some a x);
   }
 
   pub starts : (s : SearchSeen L) → IsStart node s → IsUnder eq can node s
   starts s h = record {
     paths = subst (λ n. AreUnder can node n s.paths) (sym h.looked) (subst (AreUnder can node 0) (sym h.paths) begun);
     states = h.states ∙ ap (map node) (sym h.paths);
-    firsts = subst (λ n. AreNotedUnder eq can node n s.paths s.firsts) (sym h.looked) (subst (AreNotedUnder eq can node 0 s.paths) (sym h.firsts) (unnoted s.paths))
+    firsts = subst (λ n. AreNotedUnder eq can node n s.paths s.firsts) (sym h.looked) (subst (AreNotedUnder eq can node 0 s.paths) (sym h.firsts) (unnoted s.paths));
   }
 
   module _ (i : ℕ) (es es' : List (List ℕ × Option (Came L))) (fs gs : List (First L)) (found : List (L × List ℕ)) (n : ℕ)
@@ -58,14 +58,14 @@ module _ {L : Type 0} (eq : L → L → Bool) (can : L → List L → Type 0) (n
     grown : AreGrown can node i eq es' gs × (slice_get (paths_of es') i ≡ Some p)
     grown =
         let noted : AreNotedUnder eq can node i (paths_of es) gs =
-          noting.noted eq can node i (paths_of es) p here found (λ m l words at. (of_p m l words at).0) (length found) fs gs u.firsts d in
+        noting.noted eq can node i (paths_of es) p here found (λ m l words at. (of_p m l words at).0) (length found) fs gs u.firsts d in
         let g : AreGrown can node i eq es gs = record { under = u.paths; noted = noted; states = u.states } in
         let each : (k : ℕ) (e : List ℕ × Option (Came L)) → slice_get put.added k ≡ Some e → AddsStep can node i p e =
-          λ k e at. let x = put.each k e at in let y = of_p x.0 x.1 e.0 x.2 in (x.1, y.0, y.1, x.3) in
+        λ k e at. let x = put.each k e at in let y = of_p x.0 x.1 e.0 x.2 in (x.1, y.0, y.1, x.3) in
         let old : IsEachOnce (states_of es) = λ j k x a b.
-          let q = map_from node (paths_of es) j x (ap (λ t. slice_get t j) (sym u.states) ∙ a) in
-          let r = map_from node (paths_of es) k x (ap (λ t. slice_get t k) (sym u.states) ∙ b) in
-          u.paths.apart j k q.0 r.0 q.1 r.1 (q.2 ∙ sym r.2) in
+        let q = map_from node (paths_of es) j x (ap (λ t. slice_get t j) (sym u.states) ∙ a) in
+        let r = map_from node (paths_of es) k x (ap (λ t. slice_get t k) (sym u.states) ∙ b) in
+        u.paths.apart j k q.0 r.0 q.1 r.1 (q.2 ∙ sym r.2) in
         let once : IsEachOnce (states_of (es ++ put.added)) = subst (λ t. IsEachOnce (states_of t)) put.grows (put.apart old) in
         subst (λ t. AreGrown can node i eq t gs × (slice_get (paths_of t) i ≡ Some p)) (sym put.grows) (grown_all can node i eq gs p es put.added g here each once)
 
@@ -84,14 +84,14 @@ module _ {L : Type 0} (eq : L → L → Bool) (can : L → List L → Type 0) (n
     pub look_whole : length found ≤ n → IsUnder eq can node (search_seen es' gs (i + 1))
     look_whole le = record {
       paths = close can node i (paths_of es') p grown.1 grown.0.under (λ g l path same c.
-        let f = label_found g l path same c in
-        let is = put.all f.0 l f.1 (omega (arith, slice_get_within found f.0 (l, f.1) f.2, le)) f.2 in
-        let q = map_from node (paths_of es') is.0 f.1 (ap (λ t. slice_get t is.0) (sym grown.0.states) ∙ is.1) in
-        (is.0, q.0, q.1, q.2 ∙ sym (found_is g path same f.0 l f.1 f.2).1));
+          let f = label_found g l path same c in
+          let is = put.all f.0 l f.1 (omega (arith, slice_get_within found f.0 (l, f.1) f.2, le)) f.2 in
+          let q = map_from node (paths_of es') is.0 f.1 (ap (λ t. slice_get t is.0) (sym grown.0.states) ∙ is.1) in
+          (is.0, q.0, q.1, q.2 ∙ sym (found_is g path same f.0 l f.1 f.2).1));
       states = grown.0.states;
       firsts = close_noted can node i (paths_of es') p grown.1 eq gs grown.0.noted (λ g l path same c.
-        let f = label_found g l path same c in
-        d.all f.0 l f.1 (slice_get_within found f.0 (l, f.1) f.2) f.2)
+          let f = label_found g l path same c in
+          d.all f.0 l f.1 (slice_get_within found f.0 (l, f.1) f.2) f.2);
     }
 
   -- the same, of what is seen of the search

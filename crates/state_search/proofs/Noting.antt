@@ -35,5 +35,5 @@ module _ {L : Type 0} (eq : L → L → Bool) (can : L → List L → Type 0) (n
     noted = λ j q lt a g l path same c. let e = u.noted j q lt a g l path same c in (e.0, e.1, kept e.0 e.1 e.2, e.3, e.4);
     each = λ m f at. each m f (cases m f at);
     apart = d.apart u.apart;
-    rising = λ j k a b le x y. rising j k a b le (cases j a x) (cases k b y)
+    rising = λ j k a b le x y. rising j k a b le (cases j a x) (cases k b y);
   }

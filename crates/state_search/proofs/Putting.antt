@@ -16,7 +16,7 @@ module _ {L : Type 0} (from : ℕ) (found : List (L × List ℕ)) where
     grows = sym (append-nil old);
     each = λ k e at. absurd (none-some e at);
     all = λ m l words lt at. absurd (omega (arith, lt));
-    apart = λ h. h
+    apart = λ h. h;
   }
 
   -- what was below the next place is below this one, or at it
@@ -33,7 +33,7 @@ module _ {L : Type 0} (from : ℕ) (found : List (L × List ℕ)) where
       grows = put.grows;
       each = put.each;
       all = λ m k words lt at. by m k words lt at (cases_lt m i);
-      apart = put.apart
+      apart = put.apart;
     }
       where
         by : (m : ℕ) (k : L) (words : List ℕ) → m < i + 1 → slice_get found m ≡ Some (k, words) → (m < i) ⊎ (i ≤ m) → IsIn (states_of mid) words
@@ -48,23 +48,28 @@ module _ {L : Type 0} (from : ℕ) (found : List (L × List ℕ)) where
         grows = ap (λ t. t ++ (ws, Some came) ∷ []) put.grows ∙ append_assoc old put.added ((ws, Some came) ∷ []);
         each = λ k e at. each k e (push_cases put.added (ws, Some came) e k at);
         all = λ m k words lt at. by m k words lt at (cases_lt m i);
-        apart = λ h j k x a b. apart (put.apart h) j k x (cases j x a) (cases k x b)
+        apart = λ h j k x a b. apart (put.apart h) j k x (cases j x a) (cases k x b);
       }
         where
           split : states_of (mid ++ (ws, Some came) ∷ []) ≡ states_of mid ++ ws ∷ []
           split = map-append (λ (e : List ℕ × Option (Came L)). e.0) mid ((ws, Some came) ∷ [])
+
           each : (k : ℕ) (e : List ℕ × Option (Came L)) → (slice_get put.added k ≡ Some e) ⊎ ((k ≡ length put.added) × same_row (ws, Some came) e)
               → (m : ℕ) × (n : L) × (slice_get found m ≡ Some (n, e.0)) × (e.1 ≡ Some (record { from = from; label = n }))
           each k e (inl a) = put.each k e a
           each k e (inr a) = (i, l, here ∙ ap (λ t. Some (l, t.0)) a.1, ap (λ t. t.1) (sym a.1) ∙ ap Some is)
+
           stays : (words : List ℕ) → IsIn (states_of mid) words → IsIn (states_of (mid ++ (ws, Some came) ∷ [])) words
           stays words x = (x.0, ap (λ t. slice_get t x.0) split ∙ at_old (states_of mid) (ws ∷ []) x.0 words x.1)
+
           by : (m : ℕ) (k : L) (words : List ℕ) → m < i + 1 → slice_get found m ≡ Some (k, words) → (m < i) ⊎ (i ≤ m) → IsIn (states_of (mid ++ (ws, Some came) ∷ [])) words
           by m k words lt at (inl less) = stays words (put.all m k words less at)
           by m k words lt at (inr ge) =
               (length (states_of mid), ap (λ t. slice_get t (length (states_of mid))) split ∙ (at_seam (states_of mid) ws [] ∙ ap Some (at_next i m l k ws words here lt ge at)))
+
           cases : (j : ℕ) (x : List ℕ) → slice_get (states_of (mid ++ (ws, Some came) ∷ [])) j ≡ Some x → (slice_get (states_of mid) j ≡ Some x) ⊎ ((j ≡ length (states_of mid)) × (ws ≡ x))
           cases j x a = push_cases (states_of mid) ws x j (ap (λ t. slice_get t j) (sym split) ∙ a)
+
           apart : IsEachOnce (states_of mid) → (j k : ℕ) (x : List ℕ) → (slice_get (states_of mid) j ≡ Some x) ⊎ ((j ≡ length (states_of mid)) × (ws ≡ x))
               → (slice_get (states_of mid) k ≡ Some x) ⊎ ((k ≡ length (states_of mid)) × (ws ≡ x)) → j ≡ k
           apart h j k x (inl a) (inl b) = h j k x a b

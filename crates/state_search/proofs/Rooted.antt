@@ -48,8 +48,8 @@ module _ {L : Type 0} where
       let low : IfSome x.1 (λ c. c.from < length ps) = if_some_from (λ c. c.from < length ps) x.1 (λ c is. subst (λ n. c.from < n) here (r 0 x.0 c (ap (λ t. Some (x.0, t)) is))) in
       ap (λ n. slice_get qs n) here
       ∙ (paths_keep (ps ++ y ∷ []) es (length ps) y (at_seam ps y [])
-        ∙ (ap Some (sym (path_same ps qs x.1 low (λ k p a. paths_keep (ps ++ y ∷ []) es k p (at_old ps (y ∷ []) k p a))))
-          ∙ ap (λ t. Some (path_by qs t.1)) (same_some x e at)))
+      ∙ (ap Some (sym (path_same ps qs x.1 low (λ k p a. paths_keep (ps ++ y ∷ []) es k p (at_old ps (y ∷ []) k p a))))
+      ∙ ap (λ t. Some (path_by qs t.1)) (same_some x e at)))
   paths_at ps (x ∷ es) (suc k) e at r =
       let y = path_by ps x.1 in
       let one : length (ps ++ y ∷ []) ≡ length ps + 1 = length_push ps y in

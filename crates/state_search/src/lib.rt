@@ -3,13 +3,13 @@
 
 mod firsts;
 pub mod found;
-pub mod searching;
 pub mod searched;
+pub mod searching;
 pub mod space;
 mod states;
 
 pub use firsts::First;
 pub use found::Found;
-pub use searching::search;
 pub use searched::Searched;
+pub use searching::search;
 pub use space::Space;

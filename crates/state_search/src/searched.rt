@@ -117,10 +117,7 @@ impl<L: Copy> Searched<L> {
     }
 
     /// A search that found the first state, and looked nowhere. The only error is `NoMemory`.
-    pub(crate) fn start<S: Space<L>>(
-        alloc: Global,
-        space: &mut S,
-    ) -> Result<Searched<L>, NoMemory>
+    pub(crate) fn start<S: Space<L>>(alloc: Global, space: &mut S) -> Result<Searched<L>, NoMemory>
         ensures same { space.new ≡ space.old }
         ensures start { IfOk result (IsStart (S.node space.old)) }
     {

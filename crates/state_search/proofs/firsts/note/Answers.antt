@@ -22,13 +22,13 @@ loop-i-preserved g c =
       | then-not-is_noted+in_ok-push w ↦
           let f : First g.row.L.Denot = record { label = l; place = c.args.place } in
           let unseen : IsNoted eq mid l → ⊥ = λ x.
-            let yes : c.is_noted.result ≡ true = c.is_noted.ensures.1 (subst (λ t. IsNoted eq t l) (sym c.deref.ensures.value) x) in
-            let nope = w.if-not-is_noted.true in
-            cc in
+          let yes : c.is_noted.result ≡ true = c.is_noted.ensures.1 (subst (λ t. IsNoted eq t l) (sym c.deref.ensures.value) x) in
+          let nope = w.if-not-is_noted.true in
+          cc in
           subst (AreNoted eq c.args.place found (i + 1) old) (sym (ap (λ v. v.items) w.firsts-is ∙ w.in_ok-push.ensures.items))
-            (note_new eq c.args.place found i old mid c.loop-i.invariant l ws c.get-label.ensures g.met.L.Eq.laws f refl refl unseen)
+          (note_new eq c.args.place found i old mid c.loop-i.invariant l ws c.get-label.ensures g.met.L.Eq.laws f refl refl unseen)
       | else-not-is_noted w ↦
           let yes : c.is_noted.result ≡ true = w.if-not-is_noted.false in
           subst (AreNoted eq c.args.place found (i + 1) old) (sym (ap (λ v. v.items) w.firsts-is))
-            (note_known eq c.args.place found i old mid c.loop-i.invariant l ws c.get-label.ensures (subst (λ t. IsNoted eq t l) c.deref.ensures.value (c.is_noted.ensures.0 yes)))
+          (note_known eq c.args.place found i old mid c.loop-i.invariant l ws c.get-label.ensures (subst (λ t. IsNoted eq t l) c.deref.ensures.value (c.is_noted.ensures.0 yes)))
     ]

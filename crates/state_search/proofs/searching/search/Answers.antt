@@ -11,7 +11,7 @@ loop-alloc-init g c =
     record {
       same = c.in_ok-searched.ensures.same;
       few = omega (arith, ap length c.in_ok-searched.ensures.start.paths, c.requires.some);
-      under = starts g.L.PartialEq.eq (g.S.Space.can c.args.space.now) (g.S.Space.node c.args.space.now) s c.in_ok-searched.ensures.start
+      under = starts g.L.PartialEq.eq (g.S.Space.can c.args.space.now) (g.S.Space.node c.args.space.now) s c.in_ok-searched.ensures.start;
     }
 
 pub returns-then-not-branch-clause-paths : goal.returns-then-not-branch-clause-paths
@@ -35,7 +35,7 @@ pub returns-clause-firsts : goal.returns-clause-firsts
 returns-clause-firsts g c =
     let s = c.loop-alloc.searched in
     firsts (g.S.Space.can c.args.space.now) (g.S.Space.node c.args.space.now) s.looked s.paths c.loop-alloc.invariant.under.paths g.L.PartialEq.eq g.met.L.Eq.laws s.firsts
-      c.loop-alloc.invariant.under.firsts
+    c.loop-alloc.invariant.under.firsts
 
 pub returns-clause-cut : goal.returns-clause-cut
 returns-clause-cut g c =

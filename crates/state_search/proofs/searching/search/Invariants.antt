@@ -6,7 +6,7 @@ abbrev pub invariant-loop-alloc : goal.invariant-loop-alloc
 invariant-loop-alloc g l = record {
   same : l.space ≡ l.fn.space;
   few : length l.searched.paths ≤ l.most;
-  under : IsUnder g.L.PartialEq.eq (g.S.Space.can l.fn.space) (g.S.Space.node l.fn.space) l.searched
+  under : IsUnder g.L.PartialEq.eq (g.S.Space.can l.fn.space) (g.S.Space.node l.fn.space) l.searched;
 }
 
 abbrev pub decreases-loop-alloc : goal.decreases-loop-alloc

@@ -11,4 +11,4 @@ returns g c =
     let h : c.args.place < length rows = omega (arith, found_long rows ws, ap length c.self.view_is, c.requires) in
     ap (λ t. slice_get t c.args.place) (sym c.self.view_is)
     ∙ (found_at rows ws c.args.place r (slice_get_read rows (length rows) c.args.place r refl h c.index-row.ensures)
-      ∙ ap (λ w. Some (r.label, take (r.to - r.from) (drop r.from w))) (sym c.deref.ensures.value))
+    ∙ ap (λ w. Some (r.label, take (r.to - r.from) (drop r.from w))) (sym c.deref.ensures.value))

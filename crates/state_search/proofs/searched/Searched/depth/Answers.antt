@@ -24,7 +24,7 @@ loop-came-preserved g c =
     record {
       within = omega (arith, low, c.loop-came.invariant.within);
       low = omega (arith, low, c.loop-came.invariant.low);
-      steps = omega (arith, one, c.loop-came.invariant.steps)
+      steps = omega (arith, one, c.loop-came.invariant.steps);
     }
 
 pub returns : goal.returns

@@ -6,7 +6,7 @@ abbrev pub invariant-loop-came : goal.invariant-loop-came
 invariant-loop-came g l = record {
   within : l.at < length l.self-inside.states;
   low : l.steps + l.at ≤ l.place;
-  steps : l.steps + length (path_to l.self-inside.states l.at) ≡ length (path_to l.self-inside.states l.place)
+  steps : l.steps + length (path_to l.self-inside.states l.at) ≡ length (path_to l.self-inside.states l.place);
 }
 
 abbrev pub decreases-loop-came : goal.decreases-loop-came

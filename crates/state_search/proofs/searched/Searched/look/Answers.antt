@@ -10,7 +10,7 @@ steps-requires-clause-reached g c =
     let es = c.self.inside.states in
     let few : length c.args.self.now.paths ≤ 100000000 = omega (arith, c.requires.few, c.requires.most) in
     next_reached g.L.PartialEq.eq (g.S.Space.can c.args.space.now) (g.S.Space.node c.args.space.now) i es es c.self.inside.firsts.items c.self.inside.firsts.items c.clear.new.self c.args.self.now
-      c.self.view_is c.requires.under c.requires.open c.words.result.now c.words.ensures 100000000 few
+    c.self.view_is c.requires.under c.requires.open c.words.result.now c.words.ensures 100000000 few
 
 pub put_all-requires-clause-earlier : goal.put_all-requires-clause-earlier
 put_all-requires-clause-earlier g c =
@@ -31,8 +31,8 @@ pub returns-then-not-branch-clause-under : goal.returns-then-not-branch-clause-u
 returns-then-not-branch-clause-under g c =
     let put = c.in_ok-put_all.ensures.put in
     looks_cut g.L.PartialEq.eq (g.S.Space.can c.args.space.now) (g.S.Space.node c.args.space.now) c.self.inside.looked c.self.inside.states c.put_all.new.self c.self.inside.firsts.items
-      c.note.new.firsts.items c.steps.new.found c.args.self.now c.self.view_is c.requires.under c.requires.open c.words.result.now c.words.ensures c.in_ok-steps.ensures.steps c.in_ok-note.ensures
-      put.0 put.1
+    c.note.new.firsts.items c.steps.new.found c.args.self.now c.self.view_is c.requires.under c.requires.open c.words.result.now c.words.ensures c.in_ok-steps.ensures.steps c.in_ok-note.ensures
+    put.0 put.1
 
 pub returns-then-not-branch-clause-cut : goal.returns-then-not-branch-clause-cut
 returns-then-not-branch-clause-cut g c = λ h. paths_len c.put_all.new.self ∙ c.in_ok-put_all.ensures.full c.if-not-branch.true
@@ -44,5 +44,5 @@ pub returns-clause-under : goal.returns-clause-under
 returns-clause-under g c =
     let put = c.in_ok-put_all.ensures.put in
     looks_whole g.L.PartialEq.eq (g.S.Space.can c.args.space.now) (g.S.Space.node c.args.space.now) c.self.inside.looked c.self.inside.states c.put_all.new.self c.self.inside.firsts.items
-      c.note.new.firsts.items c.steps.new.found c.args.self.now c.self.view_is c.requires.under c.requires.open c.words.result.now c.words.ensures c.in_ok-steps.ensures.steps c.in_ok-note.ensures
-      put.0 put.1 (put.2 c.if-not-branch.false)
+    c.note.new.firsts.items c.steps.new.found c.args.self.now c.self.view_is c.requires.under c.requires.open c.words.result.now c.words.ensures c.in_ok-steps.ensures.steps c.in_ok-note.ensures
+    put.0 put.1 (put.2 c.if-not-branch.false)

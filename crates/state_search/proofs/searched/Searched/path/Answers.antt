@@ -20,8 +20,8 @@ loop-came-preserved g c =
     record {
       within = omega (arith, low, c.loop-came.invariant.within);
       path = c.loop-came.invariant.path
-        ∙ (ap (λ t. old ++ t) (path_back es c.loop-came.at came c.in-Some.ensures.path)
-          ∙ (sym (append_assoc old (came.label ∷ []) rest) ∙ ap (λ t. t ++ rest) (sym c.in_ok-push.ensures.items)))
+          ∙ (ap (λ t. old ++ t) (path_back es c.loop-came.at came c.in-Some.ensures.path)
+          ∙ (sym (append_assoc old (came.label ∷ []) rest) ∙ ap (λ t. t ++ rest) (sym c.in_ok-push.ensures.items)));
     }
 
 pub returns : goal.returns

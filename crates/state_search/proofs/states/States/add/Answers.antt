@@ -22,5 +22,5 @@ returns g c = added g c ∙ ap (λ t. t ++ (c.args.words.now, c.args.came) ∷ [
 pub invariant_of-self-2 : goal.invariant_of-self-2
 invariant_of-self-2 g c =
     subst AreRooted (sym (added g c))
-      (rooted_push (rows_of c.self.inside.rows.entries) c.args.words.now c.args.came c.self.invariant
-        (subst (λ t. IfSome c.args.came (λ k. k.from < length t)) (sym c.self.view_is) c.requires.earlier))
+    (rooted_push (rows_of c.self.inside.rows.entries) c.args.words.now c.args.came c.self.invariant
+    (subst (λ t. IfSome c.args.came (λ k. k.from < length t)) (sym c.self.view_is) c.requires.earlier))

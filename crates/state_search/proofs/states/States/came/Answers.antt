@@ -20,4 +20,4 @@ returns-clause-path g c =
     let v = c.in-Some.came.now in
     let es = c.self.inside.rows.entries in
     subst (λ t. slice_get (paths_of t) k ≡ Some (path_by (paths_of t) v)) c.self.view_is
-      (path_at (rows_of es) k (w.items, v) (row_at es k w v (sym c.in-Some.ensures.entry)) c.self.invariant)
+    (path_at (rows_of es) k (w.items, v) (row_at es k w v (sym c.in-Some.ensures.entry)) c.self.invariant)

@@ -6,6 +6,7 @@ use Rattle.state_search.proofs.states.States.has.Goals as goal
 
 pub returns : goal.returns
 returns g c =
-    let ws = c.args.words.now in
-    (λ h. subst (λ t. IsIn (states_of t) ws) c.self.view_is (has_yes c.self.inside.rows.entries ws (sym c.contains_key.ensures ∙ h)),
-     λ h. c.contains_key.ensures ∙ has_no c.self.inside.rows.entries ws (subst (λ t. IsIn (states_of t) ws) (sym c.self.view_is) h))
+    let ws = c.args.words.now in (
+      λ h. subst (λ t. IsIn (states_of t) ws) c.self.view_is (has_yes c.self.inside.rows.entries ws (sym c.contains_key.ensures ∙ h)),
+      λ h. c.contains_key.ensures ∙ has_no c.self.inside.rows.entries ws (subst (λ t. IsIn (states_of t) ws) (sym c.self.view_is) h),
+    )

@@ -17,5 +17,5 @@ loop-i-preserved g c =
     record {
       put = put_next c.args.from c.args.found.now c.loop-i.i c.args.self.now mid c.loop-i.invariant.put l ws c.get-label.ensures c.args.most new put;
       grows = omega (arith, c.loop-i.invariant.grows, long.0);
-      few = long.1
+      few = long.1;
     }

@@ -6,5 +6,5 @@ abbrev pub invariant-loop-i : goal.invariant-loop-i
 invariant-loop-i g l = record {
   put : ArePut l.from l.found l.i l.fn.self l.self;
   grows : length l.fn.self ≤ length l.self;
-  few : length l.self ≤ l.most
+  few : length l.self ≤ l.most;
 }
