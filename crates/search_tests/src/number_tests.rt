@@ -10,9 +10,12 @@
 //! | 7 | 9 | 4 | 8, raised |
 //! | 8 | 10 | 4 | 5, doubled |
 //! | 9 | 7 | 4 | 6, raised |
+ghost use Rattle.std.specs.Prelude.{◌≤◌};
+
 use crate::numbers::{Numbers, Step};
 use irq_base::NoMemory;
-use state_search::search;
+use state_search::{Searched, search};
+use std::alloc::Global;
 
 /// The numbers in the order of the search, and the lengths of their paths.
 const ORDER: [(u32, usize); 10] = [
@@ -28,52 +31,77 @@ const ORDER: [(u32, usize); 10] = [
     (7, 4),
 ];
 
-#[test]
-fn all_numbers(rt: HostRuntime) -> Result<(), NoMemory> {
+/// The first ten numbers, or as many as are asked for.
+fn searched(alloc: Global, most: usize) -> Result<Searched<Step>, NoMemory>
+    requires some { 1 ≤ most }
+    requires most { most ≤ 100000000 }
+{
     let mut space = Numbers { limit: 10 };
-    let found = search(rt.alloc(), &mut space, 10)?;
-    assert_eq!(rt; found.len(), 10);
-    assert_eq!(rt; found.looked(), 10);
-    assert_eq!(rt; found.cut(), None);
-    for place in 0..10 {
-        let (number, length) = ORDER[place];
-        assert!(rt; place < found.len());
-        assert_eq!(rt; found.depth(place), length, "place {place}");
-        let words = found.state(place).expect(&rt, "a state");
-        assert_eq!(rt; words, [number].as_slice(), "place {place}");
+    search(alloc, &mut space, most)
+}
+
+/// Whether the number stands at the place, with a path of that length.
+fn stands(found: &Searched<Step>, place: usize, number: u32, length: usize) -> bool {
+    if place >= found.len() {
+        return false;
+    }
+    match found.state(place) {
+        Some([word]) => *word == number && found.depth(place) == length,
+        _ => false,
+    }
+}
+
+/// Whether the search ended with so many states, after so many were looked at, and was cut so.
+fn ends(found: &Searched<Step>, len: usize, looked: usize, cut: Option<usize>) -> bool {
+    found.len() == len && found.looked() == looked && found.cut() == cut
+}
+
+#[test]
+fn numbers_in_order(rt: HostRuntime) -> Result<(), NoMemory> {
+    let found = searched(rt.alloc(), 10)?;
+    for (place, row) in ORDER.iter().enumerate() {
+        assert!(rt; stands(&found, place, row.0, row.1));
     }
     assert!(rt; found.state(10).is_none());
+    Ok(())
+}
+
+#[test]
+fn path_to_ten(rt: HostRuntime) -> Result<(), NoMemory> {
+    let found = searched(rt.alloc(), 10)?;
+    assert!(rt; 8 < found.len());
     let path = found.path(rt.alloc(), 8)?;
     let by_hand = [Step::Double, Step::Double, Step::AddOne, Step::Double];
-    assert_eq!(rt; path.as_slice(), by_hand.as_slice());
-    assert_eq!(rt; found.firsts().len(), 2);
-    assert_eq!(rt; found.first(Step::Double), Some(0));
-    assert_eq!(rt; found.first(Step::AddOne), Some(0));
+    assert!(rt; path.as_slice() == by_hand.as_slice());
     Ok(())
 }
 
-/// With six states 3 can't be looked at whole, since 6 comes after it; with nine 6 can't, since 7
-/// does.
+/// With one state nothing is known but 1; with six 3 can't be looked at whole, since 6 comes after
+/// it; with nine 6 can't, since 7 does.
 #[test]
-fn cut_numbers(rt: HostRuntime) -> Result<(), NoMemory> {
-    for (most, looked, cut) in [(1, 0, 0), (6, 3, 2), (9, 6, 3)] {
-        let mut space = Numbers { limit: 10 };
-        let found = search(rt.alloc(), &mut space, most)?;
-        assert_eq!(rt; found.len(), most);
-        assert_eq!(rt; found.looked(), looked, "of {most}");
-        assert_eq!(rt; found.cut(), Some(cut), "of {most}");
-    }
+fn cuts(rt: HostRuntime) -> Result<(), NoMemory> {
+    assert!(rt; ends(&searched(rt.alloc(), 1)?, 1, 0, Some(0)));
+    assert!(rt; ends(&searched(rt.alloc(), 6)?, 6, 3, Some(2)));
+    assert!(rt; ends(&searched(rt.alloc(), 9)?, 9, 6, Some(3)));
+    assert!(rt; ends(&searched(rt.alloc(), 10)?, 10, 10, None));
     Ok(())
 }
 
-/// Nothing comes after 1, and no label is met.
+#[test]
+fn labels(rt: HostRuntime) -> Result<(), NoMemory> {
+    let found = searched(rt.alloc(), 10)?;
+    assert!(rt; found.firsts().len() == 2);
+    assert!(rt; found.first(Step::Double) == Some(0));
+    assert!(rt; found.first(Step::AddOne) == Some(0));
+    Ok(())
+}
+
+/// Nothing comes after 1 up to 1, and no label is met.
 #[test]
 fn one_number(rt: HostRuntime) -> Result<(), NoMemory> {
     let mut space = Numbers { limit: 1 };
     let found = search(rt.alloc(), &mut space, 1)?;
-    assert_eq!(rt; found.len(), 1);
-    assert_eq!(rt; found.cut(), None);
-    assert_eq!(rt; found.first(Step::AddOne), None);
-    assert!(rt; found.firsts().is_empty());
+    assert!(rt; ends(&found, 1, 1, None));
+    assert!(rt; found.first(Step::AddOne).is_none());
     Ok(())
 }
