@@ -93,7 +93,7 @@ static void emit_linked(struct actor *driver, struct board_call *call, const cha
 static void make_request(struct actor *driver, struct board_call *call)
 {
 	struct board_device *device = call->device;
-	bool has_thread = device->kind == CHECK || device->kind == NO_PRIMARY;
+	bool has_thread = device->kind == DEVICE_CHECK || device->kind == DEVICE_NULL;
 	struct board_line *line = call->line;
 	unsigned long irqflags = 0;
 	char flags[4] = "";
@@ -116,7 +116,7 @@ static void make_request(struct actor *driver, struct board_call *call)
 	while (has_rule(RULE_REFUSE_LATER) && call->shared && call->noauto &&
 	       mutex_is_locked(&line->desc->request_mutex))
 		pass_gate(driver, GATE_MUTEX);
-	ret = request_threaded_irq(line->virq, device->kind == NO_PRIMARY ? NULL : board_primary,
+	ret = request_threaded_irq(line->virq, device->kind == DEVICE_NULL ? NULL : board_primary,
 				   has_thread ? board_thread : NULL, irqflags, device->name, device);
 	if (ret) {
 		device->thread.task = NULL;
@@ -270,7 +270,7 @@ static int run_driver(void *cookie)
 	struct board_call *call;
 
 	for (;;) {
-		pass_gate(driver, GATE_CALL);
+		pass_gate(driver, GATE_SCRIPT);
 		do {
 			call = &driver->calls[driver->pos];
 			if (!is_passed_over(call))
@@ -389,7 +389,7 @@ static bool step_processor(struct actor *cpu)
 
 static bool step_driver(struct actor *driver)
 {
-	if (driver->gate == GATE_CALL) {
+	if (driver->gate == GATE_SCRIPT) {
 		while (driver->pos < driver->call_count &&
 		       is_passed_over(&driver->calls[driver->pos]))
 			driver->pos++;

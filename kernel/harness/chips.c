@@ -167,17 +167,17 @@ static int chip_set_type(struct irq_data *data, unsigned int type)
 
 static bool is_root(enum domain_kind kind)
 {
-	return kind != MSI && kind != REMAP;
+	return kind != KIND_MSI && kind != KIND_REMAP;
 }
 
 static bool can_mask(enum domain_kind kind)
 {
-	return kind != VECTOR && kind != REMAP;
+	return kind != KIND_VECTOR && kind != KIND_REMAP;
 }
 
 static bool can_retrigger(enum domain_kind kind)
 {
-	return kind == LATCH || kind == LPI || kind == VECTOR;
+	return kind == KIND_LATCH || kind == KIND_LPI || kind == KIND_VECTOR;
 }
 
 /* What a domain's alloc is told: the line, and the number that it has to be. */
@@ -231,8 +231,8 @@ static int domain_alloc(struct irq_domain *domain, unsigned int virq, unsigned i
 		irq_domain_set_hwirq_and_chip(domain, virq, number, &of->chip, info->line);
 	else
 		irq_domain_set_info(domain, virq, number, &of->chip, info->line,
-				    of->kind == LEVEL ? handle_level_irq :
-				    of->kind == EOI || of->kind == LPI ? handle_fasteoi_irq :
+				    of->kind == KIND_LEVEL ? handle_level_irq :
+				    of->kind == KIND_EOI || of->kind == KIND_LPI ? handle_fasteoi_irq :
 				    handle_edge_irq, NULL, NULL);
 	return 0;
 }
@@ -297,7 +297,7 @@ static void make_child_chip(struct board_domain *of)
 	chip->irq_ack = child_ack;
 	chip->irq_eoi = irq_chip_eoi_parent;
 	chip->irq_set_affinity = irq_chip_set_affinity_parent;
-	if (of->kind == MSI) {
+	if (of->kind == KIND_MSI) {
 		chip->irq_mask = chip_mask;
 		chip->irq_unmask = chip_unmask;
 		chip->irq_mask_ack = child_mask_ack;
@@ -361,12 +361,12 @@ static void make_cell(struct board_line *line)
 		refuse(line, "no-mask");
 		return;
 	}
-	cell->edge = root->kind != LEVEL && root->kind != EOI;
-	cell->keeps = masks->kind == LATCH || masks->kind == LPI || masks->kind == MSI;
+	cell->edge = root->kind != KIND_LEVEL && root->kind != KIND_EOI;
+	cell->keeps = masks->kind == KIND_LATCH || masks->kind == KIND_LPI || masks->kind == KIND_MSI;
 	cell->recalls = masks == root && cell->keeps;
-	cell->serves = root->kind == EOI;
+	cell->serves = root->kind == KIND_EOI;
 	cell->masked = true;
-	line->fast_edges = root->kind == LPI;
+	line->fast_edges = root->kind == KIND_LPI;
 }
 
 /* The mask of the board is set at once, also where later changes have to wait. */

@@ -17,8 +17,13 @@
 #define MAX_PICKS	65536
 #define PATH_BYTES	320
 
-enum domain_kind { LATCH, PLAIN, LEVEL, EOI, LPI, VECTOR, MSI, REMAP, DOMAIN_KINDS };
-enum device_kind { DIRECT, CHECK, NO_PRIMARY, STUCK, DEVICE_KINDS };
+enum domain_kind {
+	KIND_LATCH, KIND_PLAIN, KIND_LEVEL, KIND_EOI, KIND_LPI, KIND_VECTOR,	/* roots */
+	KIND_MSI, KIND_REMAP,							/* children */
+	DOMAIN_KINDS
+};
+
+enum device_kind { DEVICE_DIRECT, DEVICE_CHECK, DEVICE_NULL, DEVICE_STUCK, DEVICE_KINDS };
 
 /* Rules of genirq that aren't the kernel's. A board's profile puts them on top. */
 enum rule {
@@ -28,8 +33,8 @@ enum rule {
 	RULE_REFUSE_LATER,	/* SHARED with NO_AUTOEN is refused once the mutex is free */
 	RULE_EMPTY_MASK,	/* a mask without a processor is refused on each line */
 	RULE_MOVE_EACH_TAKE,	/* a waiting move is made at the next take, whatever its answer */
-	RULE_FAST_EOI_RESEND,	/* a fast-EOI edge line resends what came during a flow */
-	RULE_FAST_EOI_OPEN,	/* a one-shot fast-EOI edge line isn't masked at a take */
+	RULE_FAST_EOI_RESEND,	/* a fast-KIND_EOI edge line resends what came during a flow */
+	RULE_FAST_EOI_OPEN,	/* a one-shot fast-KIND_EOI edge line isn't masked at a take */
 	RULES
 };
 
@@ -48,7 +53,7 @@ enum word {
 };
 
 enum gate {
-	GATE_CALL,	/* a driver before its next call */
+	GATE_SCRIPT,	/* a driver before its next call */
 	GATE_HARDCLEAR,	/* before it looks whether a flow is in progress */
 	GATE_SPIN,	/* one is */
 	GATE_SYNCED,	/* before it looks whether threads are at work */

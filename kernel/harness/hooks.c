@@ -86,7 +86,7 @@ static void before_request(struct actor *driver, struct irq_desc *desc)
 	driver->was_linked = desc->action;
 	driver->depth_before = desc->depth;
 	driver->had_spurious = desc->istate & IRQS_SPURIOUS_DISABLED;
-	if (device->kind == CHECK || device->kind == NO_PRIMARY) {
+	if (device->kind == DEVICE_CHECK || device->kind == DEVICE_NULL) {
 		device->thread.stopper = NULL;
 		set_actor_state(&device->thread, RUNS);	/* until it comes to its gate */
 	}
@@ -355,7 +355,7 @@ void harness_exit(struct irqaction *action, int answer)
 
 	if (!cpu)
 		return;
-	served = device->kind == DIRECT ? device->at_begin : 0;
+	served = device->kind == DEVICE_DIRECT ? device->at_begin : 0;
 	serve(device, served);
 	emit_row(cpu->line, "c%d return %d %s %u", cpu->no, device->no,
 		 answer == IRQ_WAKE_THREAD ? "wake" : answer == IRQ_HANDLED ? "handled" : "nothing",
@@ -371,16 +371,16 @@ irqreturn_t board_primary(int virq, void *cookie)
 	if (!current_of('c')) {
 		/* the poll of spurious.c, or the kernel's own tasklet: no entry of a log */
 		seen = device->open;
-		if (device->kind == DIRECT)
+		if (device->kind == DEVICE_DIRECT)
 			serve(device, seen);
 		emit("# outside of the log: line %d, handler %d, %u served", device->line->no, device->no,
-		     device->kind == DIRECT ? seen : 0);
+		     device->kind == DEVICE_DIRECT ? seen : 0);
 	}
 	if (!irqs_disabled())
 		emit("H handler %d with interrupts on", device->no);
-	if (device->kind == STUCK || !seen)
+	if (device->kind == DEVICE_STUCK || !seen)
 		return IRQ_NONE;
-	return device->kind == DIRECT ? IRQ_HANDLED : IRQ_WAKE_THREAD;
+	return device->kind == DEVICE_DIRECT ? IRQ_HANDLED : IRQ_WAKE_THREAD;
 }
 
 irqreturn_t board_thread(int virq, void *cookie)
@@ -528,7 +528,7 @@ static void take_line(struct board_line *line)
 
 	if (!cell->edge && cell->serves)
 		cell->in_service = true;
-	/* what a fast-EOI controller does when its interrupt number is read */
+	/* what a fast-KIND_EOI controller does when its interrupt number is read */
 	if (line->fast_edges)
 		cell->sent = false;
 	generic_handle_domain_irq(line->domain->domain, line->number);
