@@ -15,14 +15,14 @@ RULES = (
     "unlinked-enable", "depth-one", "unlazy-stays", "refuse-later", "empty-mask", "move-each-take", "fast-eoi-resend",
     "fast-eoi-open",
 )
-# The harness's words: what follows each of them. `line` and `device` are numbers of those.
+# The harness's words: what follows each of them. A `line` is the number of one.
 WORDS = {
     "profile": "rules", "rows": "number", "hz": "number", "domains": "", "nextfirst": "", "notefirst": "",
     "resendfirst": "", "maskfirst": "", "realsoft": "", "noaffinity": "", "noirqdebug": "", "oneshotsafe": "",
     "irqdisable": "", "onactivate": "line", "noautoen": "line", "polled": "line", "untyped": "line",
     "enforced": "line",
 }
-WORD_CALLS = {"poll": "", "busychip": "line number", "wake": "device"}
+WORD_CALLS = {"poll": "", "busychip": "line number"}
 
 
 class BadBoard(Exception):
@@ -269,7 +269,7 @@ class Board:
                 if need == "number":
                     self.number(at, it, 0 if word == "busychip" else 1, 1000000)
                 else:
-                    self.known(at, it, self.lines if need == "line" else self.devices, need)
+                    self.known(at, it, self.lines, need)
         self.words[word] = rest
 
     def row_limit(self):

@@ -1,24 +1,40 @@
 """The rows of the kernel and of genirq beside each other."""
+import functools
 import os
 import subprocess
 from collections import namedtuple
 
 from common import TOP, Failed
 
-GENIRQ = os.environ.get("GENIRQ") or f"{TOP}/genirq"
 KEPT = 5  # rows that are shown around the first differing one
 WIDTH = 46
 
 Result = namedtuple("Result", ("name", "kernel", "genirq", "place", "verdict", "fault"))
 
 
-def genirq(command, text):
+def run(program, command, text, error=subprocess.PIPE):
     """What a command of genirq prints, with its status and its row of standard error."""
     try:
-        ran = subprocess.run([GENIRQ, command], input=text, capture_output=True, text=True, check=False)
+        ran = subprocess.run([program, command], input=text, stdout=subprocess.PIPE, stderr=error, text=True, check=False)
     except OSError as fault:
         raise Failed(f"genirq can't be started: {fault}") from None
-    return ran.stdout, ran.returncode, ran.stderr.strip()
+    return ran.stdout, ran.returncode, (ran.stderr or "").strip()
+
+
+@functools.cache
+def find_genirq():
+    """The program: what GENIRQ names, or that of the repository, which the launcher builds where it isn't."""
+    named = os.environ.get("GENIRQ")
+    program = named or f"{TOP}/genirq"
+    _, status, _ = run(program, "play", "board 1\n", None)
+    if status:
+        raise Failed(f"{program} play ended with {status} on the smallest board: it isn't genirq, or can't be built")
+    return named or f"{TOP}/crates/irq_prog/out/irq_prog"
+
+
+def genirq(command, text):
+    """A command of genirq."""
+    return run(find_genirq(), command, text)
 
 
 def is_compared(row):
@@ -62,5 +78,6 @@ def tell(result):
     if result.place is None:
         print(f"agree   {result.name}, {len(result.kernel)} rows, {result.verdict}")
         return
-    print(f"differ  {result.name}, row {result.place + 1}; {result.verdict}" + (f"; {result.fault}" if result.fault else ""))
+    fault = f"; {result.fault}" if result.fault else ""
+    print(f"differ  {result.name}, row {result.place + 1}; {result.verdict}{fault}")
     print("\n".join(shown(result)), flush=True)

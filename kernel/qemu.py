@@ -74,7 +74,7 @@ def boot(boards, seconds, trace=False, profile=False):
                 file.write(f"%%% {name}\n{board.kernel_text(trace, profile)}\n")
         words = [
             qemu, "-machine", "pc", "-cpu", "qemu64", "-m", "1024", "-smp", f"{cpus},sockets={cpus}",
-            "-accel", "kvm", "-accel", "tcg,thread=single", "-kernel", BZIMAGES["harness"],
+            "-accel", "tcg,thread=single", "-kernel", BZIMAGES["harness"],
             "-initrd", f"{folder}/boards", "-append", "panic=-1 tsc=unstable", "-display", "none", "-vga", "none",
             "-nodefaults", "-no-reboot", "-debugcon", f"file:{folder}/out", "-device", "isa-debug-exit,iobase=0xf4",
         ]

@@ -32,7 +32,7 @@ class Maker:
         depth = 1 if parent is None else self.domains[parent][3] + 1
         can_mask = kind not in ("vector", "remap")
         masker = kind if can_mask else None if parent is None else self.domains[parent][4]
-        form = "tree" if self.chance(0.25) else f"linear {self.r.choice((1, 2, 4, 16, 64))}"
+        form = "tree" if self.chance(0.25) else f"linear {self.r.choice((1, 2)) if self.chance(0.08) else 16}"
         above = "" if parent is None else f" parent {self.domains[parent][0]}"
         self.domains.append((name, f"domain {name} {form} {kind}{above}", root, depth, masker))
 
@@ -41,8 +41,18 @@ class Maker:
         levels = self.domains[parent][2] in ("level", "eoi")
         self.add_domain("remap" if levels or self.chance(0.4) else "msi", parent)
 
+    def make_busy_domains(self):
+        """A root, mostly of edges, and often messages over it. The last domain can mask."""
+        kind = self.r.choice(("latch", "plain", "lpi", "vector", "latch", "plain", "lpi", "vector", "level", "eoi"))
+        self.domains.append(("root", f"domain root linear 16 {kind}", kind, 1, None if kind == "vector" else kind))
+        if kind == "vector" or kind not in ("level", "eoi") and self.chance(0.4):
+            self.domains.append(("top", "domain top tree msi parent root", kind, 2, "msi"))
+
     def make_domains(self):
         """Roots, and children over whatever is there."""
+        if self.shape == "busy":
+            self.make_busy_domains()
+            return
         wide = self.shape == "wide"
         for _ in range(self.r.randint(1, 4) if wide else self.r.randint(1, 2)):
             self.add_domain(self.r.choice(ROOTS), None)
@@ -55,8 +65,10 @@ class Maker:
 
     def make_lines(self):
         """Lines, some of them with numbers that are taken or too large."""
-        for number in range(1, 1 + {"wide": self.r.randint(3, 8), "busy": 1, "small": self.r.randint(1, 3)}[self.shape]):
-            name, _, _, _, masker = self.r.choice(self.domains)
+        most = {"wide": (3, 8), "busy": (1, 1), "small": (1, 3)}[self.shape]
+        for number in range(1, 1 + self.r.randint(*most)):
+            busy = self.shape == "busy"
+            name, _, _, _, masker = self.domains[-1] if busy else self.r.choice(self.domains)
             options = ""
             if masker not in ("plain", None) and self.chance(0.25):
                 options += " unlazy"
@@ -64,7 +76,7 @@ class Maker:
                 options += " later"
             if self.chance(0.3):
                 options += f" mask {self.r.randint(1, (1 << self.cpus) - 1)}"
-            hw = self.r.choice((0, 0, 0, 0, 1, 2, 3, 64, 4294967295)) if self.chance(0.3) else number - 1
+            hw = self.r.choice((0, 0, 0, 0, 1, 2, 3, 64, 4294967295)) if self.chance(0.2) and not busy else number
             self.lines.append(f"line {number} {name} {hw}{options}")
             self.styles[number] = self.r.choice(STYLES)
 
@@ -130,44 +142,62 @@ class Maker:
             yield f"driver {number}"
             yield from self.script(mine, 24 if self.shape == "wide" else 14)
 
-    def busy_call(self):
-        """A call on the one line of a busy board: many asks, and many changes of the target."""
+    def busy_calls(self):
+        """A call on the one line of a busy board, or an ask and a change of the target."""
         at = self.r.random()
+        ask = f"ask {self.r.choice(self.devices)[0]}"
+        aim = f"affinity 1 {1 << self.r.randrange(self.cpus)}"
         if at < 0.45:
-            return f"ask {self.r.choice(self.devices)[0]}"
+            return [ask, aim]
+        if at < 0.65:
+            return [aim, ask]
         if at < 0.8:
-            return f"affinity 1 {1 << self.r.randrange(self.cpus)}"
-        return self.r.choice(("disable_nosync 1", "enable 1", "enable 1", "sync 1", "disable 1"))
+            return [ask]
+        return [self.r.choice(("disable_nosync 1", "enable 1", "enable 1", "sync 1", "disable 1", aim))]
 
     def make_busy_drivers(self):
-        """Driver 1 links all devices at first; a second one calls beside it."""
+        """Driver 1 links all devices at first; others call beside it."""
         oneshot = self.chance(0.5) or any(kind == "null" for _, _, kind in self.devices)
         flags = " shared" * (len(self.devices) > 1 or self.chance(0.5)) + " oneshot" * oneshot
         yield "driver 1"
         yield from (f"request {device}{flags}" for device, _, _ in self.devices)
-        calls = [self.busy_call() for _ in range(self.r.randint(4, 20))]
+        calls = [call for _ in range(self.r.randint(4, 14)) for call in self.busy_calls()]
         for device, _, _ in self.devices:
             if self.chance(0.3):
                 calls.insert(self.r.randint(len(calls) // 2, len(calls)), f"free {device}")
         yield from calls
         for number in range(2, 2 + self.r.randint(0, 2)):
             yield f"driver {number}"
-            yield from (self.busy_call() for _ in range(self.r.randint(2, 9)))
+            for _ in range(self.r.randint(1, 5)):
+                yield from self.busy_calls()
+
+    def busy_picks(self, drivers, threads):
+        """Short turns: a driver's two calls, then a processor's one or two steps."""
+        yield f"d1*{len(self.devices) + 1}"
+        for _ in range(self.r.randint(10, 60)):
+            at = self.r.random()
+            if at < 0.4:
+                yield f"d{self.r.choice((1, 1, self.r.randint(1, drivers)))}*2"
+            elif at < 0.9 or not threads:
+                yield f"c{self.r.randrange(self.cpus)}" + "*2" * self.chance(0.3)
+            else:
+                yield f"t{self.r.choice(threads)}" + "*2" * self.chance(0.5)
+
+    def free_picks(self, drivers, threads):
+        """Anybody's step."""
+        for _ in range(self.r.randint(0, 90)):
+            at = self.r.random()
+            if at < 0.4:
+                yield f"d{self.r.randint(1, drivers)}"
+            elif at < 0.85 or not threads:
+                yield f"c{self.r.randrange(self.cpus)}"
+            else:
+                yield f"t{self.r.choice(threads)}"
 
     def picks(self, drivers):
         """Whose steps come first."""
         threads = [device for device, _, kind in self.devices if kind in ("check", "null")]
-        words = []
-        if self.shape == "busy":
-            words.append(f"d1*{len(self.devices) + self.r.randint(0, 2)}")
-        for _ in range(self.r.randint(20, 120) if self.shape == "busy" else self.r.randint(0, 90)):
-            at = self.r.random()
-            if at < 0.4:
-                words.append(f"d{self.r.randint(1, drivers)}")
-            elif at < 0.85 or not threads:
-                words.append(f"c{self.r.randrange(self.cpus)}")
-            else:
-                words.append(f"t{self.r.choice(threads)}")
+        words = list((self.busy_picks if self.shape == "busy" else self.free_picks)(drivers, threads))
         return ["picks " + " ".join(words)] if words else []
 
     def text(self):

@@ -242,10 +242,6 @@ static void make_call(struct actor *driver, struct board_call *call)
 	case CALL_POLL:
 		run_poll();
 		break;
-	case CALL_WAKE:
-		emit("# outside of the log: irq_wake_thread of device %d", call->device->no);
-		irq_wake_thread(line->virq, call->device);
-		break;
 	default:
 		break;
 	}
@@ -256,7 +252,7 @@ static void make_call(struct actor *driver, struct board_call *call)
 /* The words of the harness make no step of their own: they go with the call after them. */
 static bool is_word(struct board_call *call)
 {
-	return call->op == CALL_BUSY || call->op == CALL_POLL || call->op == CALL_WAKE;
+	return call->op == CALL_BUSY || call->op == CALL_POLL;
 }
 
 static bool is_passed_over(struct board_call *call)

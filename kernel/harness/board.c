@@ -23,8 +23,8 @@ static const char *const word_names[WORDS] = {
 };
 
 static const char *const call_names[CALL_OPS] = {
-	"request", "free", "ask", "wake", "disable", "disable_nosync", "enable", "sync",
-	"affinity", "moment", "busychip", "poll",
+	"request", "free", "ask", "disable", "disable_nosync", "enable", "sync", "affinity", "moment",
+	"busychip", "poll",
 };
 
 static char *next_word(char **text)
@@ -189,7 +189,7 @@ static void read_call(enum call_op op, char *text)
 	}
 	call = &driver->calls[driver->call_count++];
 	call->op = op;
-	if (op <= CALL_WAKE) {
+	if (op <= CALL_ASK) {
 		call->device = next_device(&text);
 		call->line = call->device->line;
 	} else if (op != CALL_POLL) {

@@ -16,7 +16,8 @@ static const struct irq_domain_ops plain_ops = { .map = plain_map };
 
 static struct irq_chip no_mask_chip = { .name = "nomask" };
 
-static int no_mask_alloc(struct irq_domain *domain, unsigned int virq, unsigned int count, void *arg)
+static int no_mask_alloc(struct irq_domain *domain, unsigned int virq, unsigned int count,
+			 void *arg)
 {
 	irq_domain_set_info(domain, virq, (unsigned long)arg, &no_mask_chip, NULL, handle_level_irq,
 			    NULL, NULL);

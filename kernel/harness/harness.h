@@ -151,7 +151,7 @@ struct board_device {
 };
 
 enum call_op {
-	CALL_REQUEST, CALL_FREE, CALL_ASK, CALL_WAKE,		/* of a device */
+	CALL_REQUEST, CALL_FREE, CALL_ASK,			/* of a device */
 	CALL_DISABLE, CALL_DISABLE_NOSYNC, CALL_ENABLE, CALL_SYNC,
 	CALL_AFFINITY, CALL_MOMENT, CALL_BUSY,			/* of a line */
 	CALL_POLL,
