@@ -121,6 +121,7 @@ static void resend_fast_eoi(struct board_line *line)
 	} else if ((desc->istate & IRQS_PENDING) && !irqd_irq_disabled(&desc->irq_data)) {
 		desc->istate &= ~IRQS_PENDING;
 		line->cell.sent = true;
+		line->sent_again = true;
 	}
 }
 

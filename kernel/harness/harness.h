@@ -133,6 +133,7 @@ struct board_line {
 	int target;
 	u32 busy_moves;			/* so many moves the chip answers with EBUSY */
 	int unmasks;			/* calls of irq_unmask since the end began */
+	bool sent_again;		/* at this end, by the rule on fast-EOI edge lines */
 	bool retriggered, scheduled;	/* in this call, by the chip or by software */
 	const char *note;
 	u32 now;			/* milliseconds */

@@ -259,6 +259,7 @@ static void end_walk(struct actor *cpu)
 {
 	cpu->ending = true;
 	cpu->line->unmasks = 0;
+	cpu->line->sent_again = false;
 }
 
 /* The kernel masked the line at the take since it is one-shot; genirq doesn't. */

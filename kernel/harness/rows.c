@@ -74,6 +74,7 @@ void emit_end(struct actor *cpu, bool again)
 {
 	struct board_line *line = cpu->line;
 
+	again |= line->sent_again;
 	emit_row(line, "c%d end %s %s %s", cpu->no, again ? "again" : "leave",
 		 line->unmasks ? "unmask" : "asis", line->note);
 	cpu->ending = false;
