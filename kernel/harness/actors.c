@@ -208,7 +208,7 @@ static void make_call(struct actor *driver, struct board_call *call)
 	if (line)
 		line->retriggered = line->scheduled = false;
 	if (has_word(WORD_REAL_SOFT))
-		set_cpus_allowed_ptr(current, cpumask_of(num_online_cpus() - 1));
+		set_cpus_allowed_ptr(current, cpumask_of(3));	/* qemu has 4 or more */
 	switch (call->op) {
 	case CALL_ASK:
 		make_ask(driver, call);

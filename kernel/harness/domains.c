@@ -47,34 +47,37 @@ static struct irq_domain *tree(const char *name)
 	return irq_domain_create_tree(irq_domain_alloc_named_fwnode(name), &plain_ops, NULL);
 }
 
-/* A virq as the number of places after the lowest free one; 0 and errors as they are. */
-static int from_first(int virq, int first)
-{
-	return virq > 0 ? virq - first + 1 : virq;
-}
-
-static void call_mappings(struct irq_domain *lin, struct irq_domain *high, int first)
-{
-	emit("# irq_create_mapping(linear 8, 2) = %d", from_first(irq_create_mapping(lin, 2), first));
-	emit("# irq_create_mapping(linear 8, 2) again = %d",
-	     from_first(irq_create_mapping(lin, 2), first));
-	emit("# irq_create_mapping(linear 8, 8) = %d", irq_create_mapping(lin, 8));
-	emit("# irq_create_mapping(tree, 200) = %d", from_first(irq_create_mapping(high, 200), first));
-	emit("# irq_create_mapping(tree, 4000000000) = %d",
-	     from_first(irq_create_mapping(high, 4000000000UL), first));
-}
-
-static void call_association(struct irq_domain *domain, const char *name, int number, int first)
+static int lowest_free(void)
 {
 	int virq = irq_alloc_desc(NUMA_NO_NODE);
 
-	emit("# irq_domain_associate(%s, %d, the mapped number %d) = %d", name,
-	     from_first(virq, first), number, irq_domain_associate(domain, virq, number));
-	emit("#   then irq_find_mapping(%s, %d) = %d", name, number,
-	     from_first(irq_find_mapping(domain, number), first));
+	irq_free_desc(virq);
+	return virq;
 }
 
-static void call_no_mask(int first)
+static void call_mapping(struct irq_domain *domain, const char *name, unsigned long number)
+{
+	int lowest = lowest_free(), mapped = irq_find_mapping(domain, number);
+	int virq = irq_create_mapping(domain, number);
+
+	emit("# irq_create_mapping(%s, %s): %s", name,
+	     number > 8 ? "a number" : number == 8 ? "8" : "2",
+	     !virq ? "0" :
+	     virq == mapped ? "the virq that is mapped" :
+	     virq == number % nr_irqs ? "the virq of the hint, number % nr_irqs" :
+	     virq == lowest ? "the lowest free virq" : "another virq");
+}
+
+static void call_association(struct irq_domain *domain, const char *name, unsigned long number)
+{
+	int virq = irq_alloc_desc(NUMA_NO_NODE), ret = irq_domain_associate(domain, virq, number);
+
+	emit("# irq_domain_associate(%s, a fresh virq, a mapped number) = %d", name, ret);
+	emit("#   then irq_find_mapping gives %s", irq_find_mapping(domain, number) == virq ?
+	     "the fresh virq" : "the virq that was mapped");
+}
+
+static void call_no_mask(void)
 {
 	struct fwnode_handle *node = irq_domain_alloc_named_fwnode("nomask");
 	struct irq_domain *domain;
@@ -82,9 +85,9 @@ static void call_no_mask(int first)
 
 	domain = irq_domain_create_hierarchy(NULL, 0, 4, node, &no_mask_ops, NULL);
 	virq = irq_domain_alloc_irqs(domain, 1, NUMA_NO_NODE, (void *)9);
-	emit("# irq_domain_alloc_irqs(linear 4, 9) = %d", from_first(virq, first));
-	emit("#   then irq_find_mapping(linear 4, 9) = %d",
-	     from_first(irq_find_mapping(domain, 9), first));
+	emit("# irq_domain_alloc_irqs(linear 4, 9) is %s", virq > 0 ? "a virq" : "refused");
+	emit("#   then irq_find_mapping gives %s",
+	     irq_find_mapping(domain, 9) == virq ? "that virq" : "none");
 	emit("# request_threaded_irq on a chip without irq_mask = %d",
 	     request_threaded_irq(virq, count_run, NULL, 0, "nomask", &handler_runs));
 	disable_irq(virq);
@@ -99,12 +102,16 @@ static void call_no_mask(int first)
 void call_domains(void)
 {
 	struct irq_domain *lin = linear("linear8", 8), *high = tree("tree");
-	int first = irq_alloc_desc(NUMA_NO_NODE);
+	unsigned long number = 1000UL * nr_irqs + lowest_free() + 5;
 
-	irq_free_desc(first);
-	emit("# virqs are counted from the lowest free one; nr_irqs is %d", nr_irqs);
-	call_mappings(lin, high, first);
-	call_association(lin, "linear 8", 2, first);
-	call_association(high, "tree", 200, first);
-	call_no_mask(first);
+	call_mapping(lin, "linear 8", 2);
+	call_mapping(lin, "linear 8", 2);
+	call_mapping(lin, "linear 8", 8);
+	call_mapping(high, "tree", number);
+	harness_floor = false;
+	call_mapping(high, "tree, an architecture without a floor", number + 1);
+	harness_floor = true;
+	call_association(lin, "linear 8", 2);
+	call_association(high, "tree", number);
+	call_no_mask();
 }

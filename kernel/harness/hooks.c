@@ -6,6 +6,7 @@
  */
 #include "harness.h"
 
+bool harness_floor = true;
 unsigned long harness_jiffies;
 unsigned int harness_hz = 1000;
 unsigned int harness_window = 100000;
@@ -561,4 +562,12 @@ void run_take(struct actor *cpu)
 		line->takes++;
 	}
 	emit_state(line);
+}
+
+/* ----------------------------------------------------------- irqdesc.c */
+
+/* The least virq that the architecture gives; x86 has one whatever is asked for. */
+unsigned int harness_lower_bound(unsigned int from)
+{
+	return harness_floor ? arch_dynirq_lower_bound(from) : from;
 }

@@ -1,7 +1,7 @@
 /* SPDX-License-Identifier: GPL-2.0 */
 /*
- * Included before the text of manage.c, handle.c, resend.c and spurious.c of
- * kernel/irq, and of the harness.
+ * Included before the text of manage.c, handle.c, resend.c, spurious.c and
+ * irqdesc.c of kernel/irq, and of the harness.
  *
  * A gate is a place at which an actor stops until it is told to go on. The
  * macros below put one where the kernel waits, and where it goes from one step
@@ -71,8 +71,10 @@ void harness_tasklet(struct tasklet_struct *tasklet);
 bool harness_resend_empty(unsigned long *map, int count);
 int harness_resend_pick(unsigned long *map, int count);
 struct irq_desc *harness_resend_desc(int virq);
+unsigned int harness_lower_bound(unsigned int from);
 void harness_mod_timer(struct timer_list *timer, unsigned long at);
 
+extern bool harness_floor;
 extern unsigned long harness_jiffies;
 extern unsigned int harness_hz;
 extern unsigned int harness_window;
@@ -120,6 +122,10 @@ do {									\
 #undef find_first_bit
 #define find_first_bit(map, count)	harness_resend_pick(map, count)
 #define irq_to_desc(virq)		harness_resend_desc(virq)
+#endif
+
+#ifdef HARNESS_IRQDESC
+#define arch_dynirq_lower_bound(from)	harness_lower_bound(from)
 #endif
 
 #ifdef HARNESS_SPURIOUS
