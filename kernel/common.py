@@ -1,6 +1,7 @@
 """What the scripts of this folder share: where things lie, what they say, and how they end."""
 import argparse
 import os
+import signal
 import sys
 
 HERE = os.path.dirname(os.path.realpath(__file__))
@@ -44,6 +45,13 @@ class Parser(argparse.ArgumentParser):
         sys.exit(2)
 
 
+def positive(word):
+    """A number from 1, of a word."""
+    if int(word) < 1:
+        raise ValueError(word)
+    return int(word)
+
+
 def script():
     """The name of the script that runs, as a user types it."""
     return f"kernel/{os.path.basename(sys.argv[0])}"
@@ -56,7 +64,10 @@ def say(text):
 
 def without_trace(main):
     """Calls main and gives its status; a fault is one row on standard error."""
+    signal.signal(signal.SIGTERM, lambda *_: sys.exit(143))  # so that what it started is stopped too
     try:
+        if sys.stdout is None:
+            raise Failed("write fault: the output is closed")
         status = main() or 0
         sys.stdout.flush()
         return status
@@ -67,7 +78,7 @@ def without_trace(main):
         os.dup2(os.open(os.devnull, os.O_WRONLY), 1)
         say("write fault: the output was closed")
     except OSError as fault:
-        say(f"fault: {fault}")
+        say(f"fault: {fault}" if fault.filename else f"write fault: {fault.strerror}")
     except KeyboardInterrupt:
         say("interrupted")
     return 1

@@ -26,9 +26,9 @@ def find_genirq():
     """The program: what GENIRQ names, or that of the repository, which the launcher builds where it isn't."""
     named = os.environ.get("GENIRQ")
     program = named or f"{TOP}/genirq"
-    _, status, _ = run(program, "play", "board 1\n", None)
-    if status:
-        raise Failed(f"{program} play ended with {status} on the smallest board: it isn't genirq, or can't be built")
+    out, status, _ = run(program, "play", "board 1\ndomain a tree latch\nline 1 a 0\n", None)
+    if status or out != "# irq 1 virq 1 a:0\n":
+        raise Failed(f"{program} play doesn't play a small board (status {status}): not genirq, or it can't be built")
     return named or f"{TOP}/crates/irq_prog/out/irq_prog"
 
 

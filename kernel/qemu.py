@@ -1,4 +1,5 @@
 """Boots the harness's kernel in qemu with boards, and cuts what it printed into boards."""
+import contextlib
 import os
 import shutil
 import subprocess
@@ -9,6 +10,9 @@ from boardtext import BadBoard, Board
 from common import BZIMAGES, BadInput, Failed, say
 
 DONE = 33  # qemu's status where the kernel wrote 0x10 to the port of isa-debug-exit
+
+BOOTS = 3  # so often a boot is tried that ends before the first board
+ENDS = {0: "a reset: the kernel stopped"}
 
 # What the kernel printed for one board. `rows` are the layout's, the log's and remarks, in order; `text` is all of it.
 Played = namedtuple("Played", ("name", "rows", "faults", "text"))
@@ -37,6 +41,9 @@ def read_boards(files):
         except BadBoard as fault:
             say(f"{file}: {fault}")
             faults += 1
+        except OSError as fault:
+            say(f"{file}: {fault.strerror}")
+            faults += 1
     if faults:
         raise BadInput(f"{faults} of {len(files)} boards can't be played")
     return boards
@@ -64,6 +71,36 @@ def played(name, rows):
     return Played(name, log, faults, "\n".join(rows) + "\n")
 
 
+def run_qemu(words, seconds, out):
+    """Runs qemu; its status, None where the time was over, what it said, and what the kernel printed."""
+    with contextlib.suppress(FileNotFoundError):
+        os.remove(out)
+    status, said = None, ""
+    try:
+        ended = subprocess.run(words, stdin=subprocess.DEVNULL, stdout=subprocess.PIPE, stderr=subprocess.STDOUT,
+                               timeout=seconds, check=False)
+        status, said = ended.returncode, ended.stdout.decode("latin-1").strip()
+    except subprocess.TimeoutExpired:
+        pass
+    except OSError as fault:
+        raise Failed(f"qemu can't be started: {fault}") from None
+    try:
+        with open(out, encoding="latin-1") as file:
+            return status, said, file.read()
+    except FileNotFoundError:
+        return status, said, ""
+
+
+def why_ended(status, seconds, said, text, count):
+    """The fault of a boot that didn't come to its end."""
+    done, name, rows = cut(text)
+    why = f"its time limit, {seconds} s" if status is None else ENDS.get(status, f"status {status}")
+    where = f"in board {name}" if name else f"after {len(done)} of {count} boards"
+    kernel = [row[2:] for row in text.split("\n") if row.startswith("K ")][-1:] if status == 0 else []
+    faults = played(name, rows).faults + kernel + [said] * (status is not None and said != "")
+    return Failed(f"qemu ended by {why}, {where}" + "".join(f"; {it}" for it in faults))
+
+
 def boot(boards, seconds, trace=False, profile=False):
     """Plays the boards, pairs of a name and a Board, in one boot of at most so many seconds."""
     qemu = find_qemu()
@@ -74,27 +111,15 @@ def boot(boards, seconds, trace=False, profile=False):
                 file.write(f"%%% {name}\n{board.kernel_text(trace, profile)}\n")
         words = [
             qemu, "-machine", "pc", "-cpu", "qemu64", "-m", "1024", "-smp", f"{cpus},sockets={cpus}",
-            "-accel", "tcg,thread=single", "-kernel", BZIMAGES["harness"],
-            "-initrd", f"{folder}/boards", "-append", "panic=-1 tsc=unstable", "-display", "none", "-vga", "none",
-            "-nodefaults", "-no-reboot", "-debugcon", f"file:{folder}/out", "-device", "isa-debug-exit,iobase=0xf4",
+            "-accel", "tcg,thread=single", "-kernel", BZIMAGES["harness"], "-initrd", f"{folder}/boards",
+            "-append", "panic=-1 tsc=unstable no_timer_check", "-display", "none", "-vga", "none", "-nodefaults",
+            "-no-reboot", "-debugcon", f"file:{folder}/out", "-device", "isa-debug-exit,iobase=0xf4",
         ]
-        late = False
-        try:
-            ended = subprocess.run(words, stdin=subprocess.DEVNULL, stdout=subprocess.PIPE, stderr=subprocess.STDOUT,
-                                   timeout=seconds, check=False)
-        except subprocess.TimeoutExpired:
-            late = True
-        except OSError as fault:
-            raise Failed(f"qemu can't be started: {fault}") from None
-        try:
-            with open(f"{folder}/out", encoding="latin-1") as file:
-                done, open_name, rest = cut(file.read())
-        except FileNotFoundError:
-            done, open_name, rest = [], None, []
-    if late or ended.returncode != DONE:
-        why = f"its time limit, {seconds} s" if late else f"status {ended.returncode}"
-        where = f"in board {open_name}" if open_name else f"after {len(done)} of {len(boards)} boards"
-        faults = played(open_name, rest).faults
-        said = "" if late else ended.stdout.decode("latin-1").strip()
-        raise Failed(f"qemu ended by {why}, {where}" + "".join(f"; {it}" for it in faults + [said] if it))
-    return done
+        for attempt in range(BOOTS):
+            status, said, text = run_qemu(words, seconds, f"{folder}/out")
+            if status == DONE:
+                return cut(text)[0]
+            if status != 0 or "\n=== " in text or attempt + 1 == BOOTS:
+                raise why_ended(status, seconds, said, text, len(boards))
+            say("the kernel stopped before its first board, as it may where the machine is very busy; once more")
+    return []

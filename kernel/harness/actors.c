@@ -441,6 +441,8 @@ static void start(struct actor *actor, int (*body)(void *), const char *name)
 	init_waitqueue_head(&actor->wait);
 	actor->state = RUNS;
 	actor->task = kthread_create(body, actor, "%s%d", name, actor->no);
+	/* one moves at a time, so one processor is the fastest */
+	set_cpus_allowed_ptr(actor->task, cpumask_of(0));
 	wake_up_process(actor->task);
 }
 

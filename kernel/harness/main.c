@@ -89,6 +89,7 @@ static void run_board(char *text)
 	new_board();
 	read_board(text);
 	noirqdebug = has_word(WORD_NO_DEBUG);
+	console_loglevel = the_board->trace ? CONSOLE_LOGLEVEL_DEBUG : LOGLEVEL_WARNING;
 	if (the_board->cpus > num_online_cpus())
 		emit("F the board has %d processors, the machine %d", the_board->cpus,
 		     num_online_cpus());
@@ -141,7 +142,10 @@ static int run_boards(void *unused)
 
 static int __init start_harness(void)
 {
-	wake_up_process(kthread_create(run_boards, NULL, "harness"));
+	struct task_struct *task = kthread_create(run_boards, NULL, "harness");
+
+	set_cpus_allowed_ptr(task, cpumask_of(0));
+	wake_up_process(task);
 	msleep(24 * 3600 * 1000);
 	return 0;
 }
