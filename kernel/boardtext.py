@@ -1,0 +1,286 @@
+"""Reads a board for the harness, and says what it is that the harness can't play.
+
+A board is what docs/BOARD.md says. Beside it the harness knows words that stand in comments, `#kernel WORD ..`, so
+that genirq passes them over; kernel/README.md lists them. Everything is looked at here, before anything boots.
+"""
+import re
+
+MAX_CPUS = 32
+DOMAIN_KINDS = ("latch", "plain", "level", "eoi", "lpi", "vector", "msi", "remap")
+CHILDREN = ("msi", "remap")
+DEVICE_KINDS = ("direct", "check", "null", "stuck")
+DEVICE_CALLS = ("request", "free", "ask")
+LINE_CALLS = ("disable", "disable_nosync", "enable", "sync", "affinity", "moment")
+RULES = (
+    "unlinked-enable", "depth-one", "unlazy-stays", "refuse-later", "empty-mask", "move-each-take", "fast-eoi-resend",
+    "fast-eoi-open",
+)
+# The harness's words: what follows each of them. A `line` is the number of one.
+WORDS = {
+    "profile": "rules", "rows": "number", "hz": "number", "domains": "", "nextfirst": "", "notefirst": "",
+    "resendfirst": "", "maskfirst": "", "realsoft": "", "noaffinity": "", "noirqdebug": "", "oneshotsafe": "",
+    "irqdisable": "", "onactivate": "line", "noautoen": "line", "polled": "line", "untyped": "line",
+    "enforced": "line",
+}
+WORD_CALLS = {"poll": "", "busychip": "line number"}
+
+
+class BadBoard(Exception):
+    """A fault of a board, or something that the harness can't play, with its text line."""
+
+    def __init__(self, at, text):
+        super().__init__(f"line {at}: {text}")
+
+
+class Board:
+    """A board as the harness gets it: statements without comments, and what was found in them."""
+
+    def __init__(self, text):
+        self.statements, self.words = [], {}
+        self.cpus, self.version, self.log, self.spurious = 1, None, 10000, False
+        self.kinds, self.parents, self.lines, self.devices, self.drivers = {}, {}, {}, {}, set()
+        self.owners, self.linked, self.picks, self.calls, self.section = {}, set(), 0, 0, 0
+        self.pure = []  # the text lines without the harness's words
+        for at, row in enumerate(text.split("\n"), 1):
+            self.read_row(at, row)
+        if self.version is None:
+            raise BadBoard(1, "no header")
+        if self.log * len(self.lines) > 4000000:
+            raise BadBoard(0, "log too large")
+
+    def read_row(self, at, row):
+        """One text line: its statement, and the harness's word in its comment."""
+        if re.search(r"[^\t\r\x20-\x7e]", row):
+            raise BadBoard(at, "bad byte")
+        text, _, comment = row.partition("#")
+        words = text.split()
+        if words:
+            self.read_statement(at, words)
+            self.statements.append(" ".join(words))
+        if comment.split()[:1] == ["kernel"]:
+            self.read_word(at, comment.split()[1:])
+            self.statements.append(" ".join(comment.split()[1:]))
+        self.pure.append(text)
+
+    def read_statement(self, at, words):
+        """A statement of docs/BOARD.md."""
+        word, rest = words[0], words[1:]
+        if self.version is None and word != "board":
+            raise BadBoard(at, "no header")
+        call = word in DEVICE_CALLS + LINE_CALLS and (word != "moment" or self.version == 2)
+        if not call and not hasattr(self, f"read_{word}_statement"):
+            raise BadBoard(at, f"unknown word: {word}")
+        section = {"board": 0, "cpus": 1, "spurious": 1, "log": 1, "domain": 2, "line": 3, "device": 4, "driver": 5,
+                   "picks": 6}.get(word, 5)
+        if section < self.section or call and not self.drivers:
+            raise BadBoard(at, f"out of order: {word}")
+        self.section = section
+        if call:
+            self.read_call(at, word, rest)
+        else:
+            getattr(self, f"read_{word}_statement")(at, rest)
+
+    # Words and numbers
+
+    @staticmethod
+    def count(at, words, least, most):
+        """Fails unless there are so many words."""
+        if not least <= len(words) <= most:
+            raise BadBoard(at, "wrong count")
+
+    @staticmethod
+    def number(at, word, least, most):
+        """The number of a word, in its range."""
+        if not re.fullmatch("0|[1-9][0-9]{0,9}", word) or not least <= int(word) <= most:
+            raise BadBoard(at, f"bad number: {word}")
+        return int(word)
+
+    def known(self, at, word, of, what):
+        """The number of a line, device or driver that was declared before."""
+        number = self.number(at, word, 1, 65535)
+        if number not in of:
+            raise BadBoard(at, f"not there: {what} {word}")
+        return number
+
+    def rising(self, at, word, of, most):
+        """The number of a new line, device or driver."""
+        number = self.number(at, word, 1, 65535)
+        if of and number <= max(of):
+            raise BadBoard(at, f"out of order: {word}")
+        if len(of) == most:
+            raise BadBoard(at, f"too many: {most} is the most")
+        return number
+
+    # Statements
+
+    def read_board_statement(self, at, rest):
+        """board V"""
+        self.count(at, rest, 1, 1)
+        if self.version is not None:
+            raise BadBoard(at, "twice: board")
+        self.version = self.number(at, rest[0], 1, 2)
+
+    def read_cpus_statement(self, at, rest):
+        """cpus N"""
+        self.count(at, rest, 1, 1)
+        self.cpus = self.number(at, rest[0], 1, MAX_CPUS)
+
+    def read_spurious_statement(self, at, rest):
+        """spurious W L"""
+        self.count(at, rest, 2, 2)
+        window = self.number(at, rest[0], 1, 1000000)
+        self.number(at, rest[1], 0, window - 1)
+
+    def read_log_statement(self, at, rest):
+        """log N"""
+        self.count(at, rest, 1, 1)
+        self.log = self.number(at, rest[0], 1, 1000000)
+
+    def read_domain_statement(self, at, rest):
+        """domain NAME linear SIZE KIND | tree KIND, and parent NAME"""
+        self.count(at, rest, 3, 6)
+        name, form, rest = rest[0], rest[1], rest[2:]
+        if not re.fullmatch("[a-z][a-z0-9_]{0,15}", name):
+            raise BadBoard(at, f"bad name: {name}")
+        if name in self.kinds:
+            raise BadBoard(at, f"twice: {name}")
+        if form not in ("linear", "tree"):
+            raise BadBoard(at, f"unknown word: {form}")
+        if form == "linear":
+            self.number(at, rest.pop(0), 1, 1024)
+        if not rest or rest[0] not in DOMAIN_KINDS:
+            raise BadBoard(at, f"unknown word: {' '.join(rest[:1])} is no kind of domain")
+        kind, rest = rest[0], rest[1:]
+        self.count(at, rest, 0, 2)
+        if rest and (len(rest) != 2 or rest[0] != "parent"):
+            raise BadBoard(at, f"unknown word: {rest[0]}")
+        parent = rest[1] if rest else None
+        if parent is not None and parent not in self.kinds:
+            raise BadBoard(at, f"not there: domain {parent}")
+        if (kind in CHILDREN) != (parent is not None) or len(self.kinds) == 32:
+            raise BadBoard(at, "too many: 32 domains are the most" if len(self.kinds) == 32 else "bad parent")
+        self.kinds[name], self.parents[name] = kind, parent
+        path = self.path(name)
+        if len(path) > 8 or kind == "msi" and self.kinds[path[-1]] in ("level", "eoi"):
+            raise BadBoard(at, "bad parent")
+
+    def path(self, name):
+        """The domains from one to its root."""
+        found = [name]
+        while self.parents[found[-1]] is not None:
+            found.append(self.parents[found[-1]])
+        return found
+
+    def read_line_statement(self, at, rest):
+        """line N DOMAIN NUMBER, and unlazy, later, mask M"""
+        self.count(at, rest, 3, 8)
+        number, name = self.rising(at, rest[0], self.lines, 64), rest[1]
+        if name not in self.kinds:
+            raise BadBoard(at, f"not there: domain {name}")
+        self.number(at, rest[2], 0, 4294967295)
+        self.lines[number], options, seen = name, rest[3:], set()
+        while options:
+            word = options.pop(0)
+            if word in seen:
+                raise BadBoard(at, f"twice: {word}")
+            seen.add(word)
+            if word == "mask":
+                self.count(at, options, 1, 4)
+                if not self.number(at, options.pop(0), 0, 4294967295) & ((1 << self.cpus) - 1):
+                    raise BadBoard(at, "bad mask")
+            elif word not in ("unlazy", "later"):
+                raise BadBoard(at, f"unknown word: {word}")
+        masks = [self.kinds[it] for it in self.path(name) if self.kinds[it] not in ("vector", "remap")]
+        if "unlazy" in seen and masks[:1] not in (["latch"], ["lpi"], ["msi"], ["level"], ["eoi"]):
+            raise BadBoard(at, "bad unlazy")
+
+    def read_device_statement(self, at, rest):
+        """device N LINE KIND"""
+        self.count(at, rest, 3, 3)
+        number = self.rising(at, rest[0], self.devices, 256)
+        line = self.known(at, rest[1], self.lines, "line")
+        if rest[2] not in DEVICE_KINDS:
+            raise BadBoard(at, f"unknown word: {rest[2]} is no kind of device")
+        self.devices[number] = (line, rest[2])
+
+    def read_driver_statement(self, at, rest):
+        """driver N"""
+        self.count(at, rest, 1, 1)
+        self.drivers.add(self.rising(at, rest[0], self.drivers, 64))
+
+    def read_picks_statement(self, at, rest):
+        """picks PICK .."""
+        self.count(at, rest, 1, 65536)
+        for pick in rest:
+            found = re.fullmatch(r"([cdt])(0|[1-9][0-9]{0,4})(?:\*([1-9][0-9]{0,4}))?", pick)
+            if not found or int(found[2]) > 65535 or int(found[3] or 1) > 65535:
+                raise BadBoard(at, f"bad name: {pick}")
+            number = int(found[2])
+            there = {"c": number < self.cpus, "d": number in self.drivers,
+                     "t": self.devices.get(number, (0, ""))[1] in ("check", "null")}
+            if not there[found[1]]:
+                raise BadBoard(at, f"not there: {pick}")
+            self.picks += int(found[3] or 1)
+        if self.picks > 65536:
+            raise BadBoard(at, "too many: 65536 picks are the most")
+
+    def read_call(self, at, word, rest):
+        """A call of a driver's script."""
+        self.calls += 1
+        if self.calls > 16384:
+            raise BadBoard(at, "too many: 16384 calls are the most")
+        if word in DEVICE_CALLS:
+            self.count(at, rest, 1, 4 if word == "request" else 1)
+            self.read_owner(at, word, self.known(at, rest[0], self.devices, "device"))
+            flags = rest[1:]
+            if len(set(flags)) < len(flags) or not set(flags) <= {"shared", "oneshot", "noauto"}:
+                raise BadBoard(at, f"unknown word or twice: {' '.join(flags)}")
+            return
+        self.count(at, rest, *((2, 2) if word in ("affinity", "moment") else (1, 1)))
+        self.known(at, rest[0], self.lines, "line")
+        if rest[1:]:
+            self.number(at, rest[1], 0, 4294967295)
+
+    def read_owner(self, at, word, device):
+        """The requests and frees of a device are one driver's, and a free stands between two requests."""
+        if word == "ask":
+            return
+        owner = max(self.drivers)
+        if self.owners.setdefault(device, owner) != owner or word == "request" and device in self.linked:
+            raise BadBoard(at, "bad owner")
+        (self.linked.add if word == "request" else self.linked.discard)(device)
+
+    # The harness's words
+
+    def read_word(self, at, words):
+        """#kernel WORD .."""
+        word, rest = (words + [""])[0], words[1:]
+        if word not in WORDS and word not in WORD_CALLS:
+            raise BadBoard(at, f"unknown word of the harness: {word}")
+        if word in WORD_CALLS and not self.drivers:
+            raise BadBoard(at, f"out of order: {word}")
+        needs = (WORDS.get(word) or WORD_CALLS.get(word) or "").split()
+        if needs == ["rules"]:
+            if not set(rest) <= set(RULES):
+                raise BadBoard(at, f"unknown rule: {' '.join(set(rest) - set(RULES))}")
+        else:
+            self.count(at, rest, len(needs), len(needs))
+            for need, it in zip(needs, rest):
+                if need == "number":
+                    self.number(at, it, 0 if word == "busychip" else 1, 1000000)
+                else:
+                    self.known(at, it, self.lines, need)
+        self.words[word] = rest
+
+    def row_limit(self):
+        """After how many rows the play stops; None if it doesn't."""
+        return int(self.words["rows"][0]) if "rows" in self.words else None
+
+    def pure_text(self):
+        """The board without the harness's words, for genirq."""
+        return "\n".join(self.pure)
+
+    def kernel_text(self, trace=False, profile=False):
+        """The board with the harness's words, as it goes into the kernel."""
+        first, rest = self.statements[:1], self.statements[1:]
+        return "\n".join(first + ["trace"] * trace + ["profile"] * profile + rest) + "\n"

@@ -1,0 +1,304 @@
+// SPDX-License-Identifier: GPL-2.0
+/*
+ * Reads a board. kernel/boardtext.py has looked at it before, so whatever isn't
+ * known here is a fault of the harness, and is told as one.
+ */
+#include <linux/vmalloc.h>
+#include "harness.h"
+
+static const char *const domain_kinds[DOMAIN_KINDS] = {
+	"latch", "plain", "level", "eoi", "lpi", "vector", "msi", "remap",
+};
+
+static const char *const device_kinds[DEVICE_KINDS] = { "direct", "check", "null", "stuck" };
+
+static const char *const rule_names[RULES] = {
+	"unlinked-enable", "depth-one", "unlazy-stays", "refuse-later", "empty-mask",
+	"move-each-take", "fast-eoi-resend", "fast-eoi-open",
+};
+
+static const char *const word_names[WORDS] = {
+	"nextfirst", "notefirst", "resendfirst", "maskfirst", "realsoft", "noaffinity", "noirqdebug",
+	"oneshotsafe", "irqdisable",
+};
+
+static const char *const call_names[CALL_OPS] = {
+	"request", "free", "ask", "disable", "disable_nosync", "enable", "sync", "affinity", "moment",
+	"busychip", "poll",
+};
+
+static char *next_word(char **text)
+{
+	char *word;
+
+	while ((word = strsep(text, " \t\r")) != NULL)
+		if (*word)
+			return word;
+	return "";
+}
+
+static void fault(const char *what, const char *word)
+{
+	emit("F %s: %s", what, word);
+}
+
+static u32 next_number(char **text)
+{
+	char *word = next_word(text);
+	u32 value = 0;
+
+	if (kstrtou32(word, 10, &value))
+		fault("not a number", word);
+	return value;
+}
+
+/* The place of the word in the list, or its length. */
+static int find_word(const char *const *list, int count, const char *word)
+{
+	int i;
+
+	for (i = 0; i < count; i++)
+		if (!strcmp(list[i], word))
+			break;
+	return i;
+}
+
+static struct board_domain *find_domain(const char *name)
+{
+	int i;
+
+	for (i = 0; i < the_board->domain_count; i++)
+		if (!strcmp(the_board->domains[i].name, name))
+			return &the_board->domains[i];
+	fault("no such domain", name);
+	return NULL;
+}
+
+static struct board_line *next_line(char **text)
+{
+	u32 no = next_number(text);
+	int i;
+
+	for (i = 0; i < the_board->line_count; i++)
+		if (the_board->lines[i].no == no)
+			return &the_board->lines[i];
+	fault("no such line", "");
+	return &the_board->lines[0];
+}
+
+static struct board_device *next_device(char **text)
+{
+	u32 no = next_number(text);
+	int i;
+
+	for (i = 0; i < the_board->device_count; i++)
+		if (the_board->devices[i].no == no)
+			return &the_board->devices[i];
+	fault("no such device", "");
+	return &the_board->devices[0];
+}
+
+static void read_domain(char *text)
+{
+	struct board_domain *domain = &the_board->domains[the_board->domain_count];
+	char *word;
+
+	strscpy(domain->name, next_word(&text), sizeof(domain->name));
+	domain->tree = !strcmp(next_word(&text), "tree");
+	if (!domain->tree)
+		domain->size = next_number(&text);
+	word = next_word(&text);
+	domain->kind = find_word(domain_kinds, DOMAIN_KINDS, word);
+	if (domain->kind == DOMAIN_KINDS)
+		fault("no such kind of domain", word);
+	if (*next_word(&text))
+		domain->parent = find_domain(next_word(&text));
+	the_board->domain_count++;
+}
+
+static void read_line(char *text)
+{
+	struct board_line *line = &the_board->lines[the_board->line_count++];
+	char *word;
+
+	line->no = next_number(&text);
+	line->domain = find_domain(next_word(&text));
+	line->number = next_number(&text);
+	line->mask = ~0u;
+	line->note = "quiet";
+	while (*(word = next_word(&text))) {
+		if (!strcmp(word, "unlazy"))
+			line->unlazy = true;
+		else if (!strcmp(word, "later"))
+			line->later = true;
+		else if (!strcmp(word, "mask"))
+			line->mask = next_number(&text);
+		else
+			fault("no such option", word);
+	}
+}
+
+static void read_device(char *text)
+{
+	struct board_device *device = &the_board->devices[the_board->device_count++];
+	char *word;
+
+	device->no = next_number(&text);
+	device->line = next_line(&text);
+	word = next_word(&text);
+	device->kind = find_word(device_kinds, DEVICE_KINDS, word);
+	if (device->kind == DEVICE_KINDS)
+		fault("no such kind of device", word);
+	scnprintf(device->name, sizeof(device->name), "device%d", device->no);
+}
+
+static void read_driver(char *text)
+{
+	struct actor *driver = &the_board->drivers[the_board->driver_count++];
+
+	driver->letter = 'd';
+	driver->no = next_number(&text);
+	driver->calls = vzalloc(array_size(MAX_CALLS, sizeof(struct board_call)));
+}
+
+static void read_picks(char *text)
+{
+	char *word, *star;
+
+	while (*(word = next_word(&text)) && the_board->pick_count < MAX_PICKS) {
+		struct board_pick *pick = &the_board->picks[the_board->pick_count++];
+
+		star = strchr(word, '*');
+		if (star)
+			*star++ = 0;
+		pick->letter = *word++;
+		pick->no = next_number(&word);
+		pick->times = star ? next_number(&star) : 1;
+	}
+}
+
+static void read_call(enum call_op op, char *text)
+{
+	struct actor *driver = &the_board->drivers[the_board->driver_count - 1];
+	struct board_call *call;
+	char *word;
+
+	if (!the_board->driver_count || driver->call_count == MAX_CALLS) {
+		fault("a call too many", call_names[op]);
+		return;
+	}
+	call = &driver->calls[driver->call_count++];
+	call->op = op;
+	if (op <= CALL_ASK) {
+		call->device = next_device(&text);
+		call->line = call->device->line;
+	} else if (op != CALL_POLL) {
+		call->line = next_line(&text);
+	}
+	if (op == CALL_AFFINITY || op == CALL_MOMENT || op == CALL_BUSY)
+		call->number = next_number(&text);
+	while (*(word = next_word(&text))) {
+		if (!strcmp(word, "shared"))
+			call->shared = true;
+		else if (!strcmp(word, "oneshot"))
+			call->oneshot = true;
+		else if (!strcmp(word, "noauto"))
+			call->noauto = true;
+		else
+			fault("no such flag", word);
+	}
+}
+
+static void read_profile(char *text)
+{
+	char *word = next_word(&text);
+	int rule;
+
+	if (!*word)
+		memset(the_board->rules, true, sizeof(the_board->rules));
+	for (; *word; word = next_word(&text)) {
+		rule = find_word(rule_names, RULES, word);
+		if (rule == RULES)
+			fault("no such rule", word);
+		else
+			the_board->rules[rule] = true;
+	}
+}
+
+/* Words of a line that boards don't have. */
+static bool read_line_word(const char *word, char *text)
+{
+	if (!strcmp(word, "onactivate"))
+		next_line(&text)->on_activate = true;
+	else if (!strcmp(word, "noautoen"))
+		next_line(&text)->no_autoen = true;
+	else if (!strcmp(word, "polled"))
+		next_line(&text)->polled = true;
+	else if (!strcmp(word, "untyped"))
+		next_line(&text)->untyped = true;
+	else if (!strcmp(word, "enforced"))
+		next_line(&text)->enforced = true;
+	else
+		return false;
+	return true;
+}
+
+/* Statements of a board's first section, and words beside them. */
+static bool read_setting(const char *word, char *text)
+{
+	int found = find_word(word_names, WORDS, word);
+
+	if (found < WORDS)
+		the_board->words[found] = true;
+	else if (!strcmp(word, "cpus"))
+		the_board->cpus = next_number(&text);
+	else if (!strcmp(word, "log"))
+		the_board->log = next_number(&text);
+	else if (!strcmp(word, "rows"))
+		the_board->rows = next_number(&text);
+	else if (!strcmp(word, "hz"))
+		harness_hz = next_number(&text);
+	else if (!strcmp(word, "trace"))
+		the_board->trace = true;
+	else if (!strcmp(word, "domains"))
+		the_board->domain_calls = true;
+	else if (!strcmp(word, "profile"))
+		read_profile(text);
+	else if (!strcmp(word, "spurious")) {
+		harness_window = next_number(&text);
+		harness_limit = next_number(&text);
+	} else
+		return false;
+	return true;
+}
+
+static void read_statement(char *text)
+{
+	char *word = next_word(&text);
+	int op = find_word(call_names, CALL_OPS, word);
+
+	if (!*word || !strcmp(word, "board"))
+		return;
+	if (op < CALL_OPS)
+		read_call(op, text);
+	else if (!strcmp(word, "domain"))
+		read_domain(text);
+	else if (!strcmp(word, "line"))
+		read_line(text);
+	else if (!strcmp(word, "device"))
+		read_device(text);
+	else if (!strcmp(word, "driver"))
+		read_driver(text);
+	else if (!strcmp(word, "picks"))
+		read_picks(text);
+	else if (!read_setting(word, text) && !read_line_word(word, text))
+		fault("no such word", word);
+}
+
+void read_board(char *text)
+{
+	char *line;
+
+	while ((line = strsep(&text, "\n")) != NULL)
+		read_statement(line);
+}

@@ -1,0 +1,239 @@
+/* SPDX-License-Identifier: GPL-2.0 */
+/*
+ * The board that is played, its actors, and what the files of the harness call
+ * in each other.
+ */
+#ifndef GENIRQ_HARNESS_H
+#define GENIRQ_HARNESS_H
+
+#include <linux/kernel.h>
+
+#define MAX_CPUS	32
+#define MAX_DOMAINS	32
+#define MAX_LINES	64
+#define MAX_DEVICES	256
+#define MAX_DRIVERS	64
+#define MAX_CALLS	(16384 + 4096)
+#define MAX_PICKS	65536
+#define PATH_BYTES	320
+
+enum domain_kind {
+	KIND_LATCH, KIND_PLAIN, KIND_LEVEL, KIND_EOI, KIND_LPI, KIND_VECTOR,	/* roots */
+	KIND_MSI, KIND_REMAP,							/* children */
+	DOMAIN_KINDS
+};
+
+enum device_kind { DEVICE_DIRECT, DEVICE_CHECK, DEVICE_NULL, DEVICE_STUCK, DEVICE_KINDS };
+
+/* Rules of genirq that aren't the kernel's. A board's profile puts them on top. */
+enum rule {
+	RULE_UNLINKED_ENABLE,	/* an enable while nothing is linked is unbalanced */
+	RULE_DEPTH_ONE,		/* the depth after the last unlink is 1 */
+	RULE_UNLAZY_STAYS,	/* the last free leaves unlazy as it is */
+	RULE_REFUSE_LATER,	/* SHARED with NO_AUTOEN is refused once the mutex is free */
+	RULE_EMPTY_MASK,	/* a mask without a processor is refused on each line */
+	RULE_MOVE_EACH_TAKE,	/* a waiting move is made at the next take, whatever its answer */
+	RULE_FAST_EOI_RESEND,	/* a fast-KIND_EOI edge line resends what came during a flow */
+	RULE_FAST_EOI_OPEN,	/* a one-shot fast-KIND_EOI edge line isn't masked at a take */
+	RULES
+};
+
+/* Words of a board that hold for the whole of it. */
+enum word {
+	WORD_NEXT_FIRST,	/* the walk reads its next action before the gate */
+	WORD_NOTE_FIRST,	/* the gate before the end stands after the note */
+	WORD_RESEND_FIRST,	/* a gate between the clear of the resend bit and the flow */
+	WORD_MASK_FIRST,	/* the chips have no irq_mask_ack */
+	WORD_REAL_SOFT,		/* the kernel's own tasklet makes the soft resends */
+	WORD_NO_AFFINITY,	/* the chips have no irq_set_affinity */
+	WORD_NO_DEBUG,		/* as booted with noirqdebug */
+	WORD_ONESHOT_SAFE,	/* the chips have IRQCHIP_ONESHOT_SAFE */
+	WORD_IRQ_DISABLE,	/* the chips have irq_disable and irq_enable */
+	WORDS
+};
+
+enum gate {
+	GATE_SCRIPT,	/* a driver before its next call */
+	GATE_HARDCLEAR,	/* before it looks whether a flow is in progress */
+	GATE_SPIN,	/* one is */
+	GATE_SYNCED,	/* before it looks whether threads are at work */
+	GATE_FREED,	/* before it gives the request mutex back */
+	GATE_MUTEX,	/* another has the request mutex */
+	GATE_IDLE,	/* a processor outside of a flow */
+	GATE_NEXT,	/* before it takes the next action of the walk, or ends */
+	GATE_RETURN,	/* in a primary handler */
+	GATE_RESEND,	/* between the clear of the resend bit and the flow */
+	GATE_BEGIN,	/* a thread before it looks whether it was woken */
+	GATE_THREAD,	/* in the thread function */
+	GATE_FINISH,	/* before irq_finalize_oneshot takes the lock */
+	GATE_WAIT,	/* it found a flow in progress */
+	GATE_DONE,	/* before threads_active is counted down */
+	GATES
+};
+
+enum actor_state { ABSENT, RUNS, AT_GATE, STOPS_THREAD, DEAD };
+
+struct actor {
+	char letter;			/* c, d or t */
+	int no;
+	enum actor_state state;
+	enum gate gate;
+	bool go;			/* it may pass its gate */
+	struct task_struct *task;
+	wait_queue_head_t wait;
+	struct board_line *line;	/* of the take, or of the call */
+	/* processors */
+	bool resend;			/* the take is a soft resend */
+	bool busy;			/* a flow was in progress at the take */
+	bool began;			/* the take was handled */
+	bool ending;			/* the walk is over */
+	bool note_gate;			/* the gate stands after the note */
+	struct board_device *handler;
+	/* drivers */
+	struct board_call *calls;
+	int call_count, pos;
+	bool unlinked;			/* the free took the device out of the list */
+	bool cleared;			/* and found no flow in progress */
+	bool syncs, was_there, was_linked, had_spurious;
+	unsigned int depth_before;
+	/* threads */
+	struct board_device *device;
+	struct actor *stopper;		/* the driver that waits for its end */
+};
+
+struct board_domain {
+	char name[20];
+	enum domain_kind kind;
+	u32 size;
+	bool tree;
+	struct board_domain *parent;
+	struct irq_domain *domain;
+	struct irq_chip chip;
+	u32 used[2 * MAX_LINES];	/* the numbers that are given */
+	int used_count;
+};
+
+/* What a line's chips keep of its signal. */
+struct cell {
+	bool edge, keeps, recalls, retriggers, serves;
+	bool masked, stored, sent, high, in_service;
+};
+
+struct board_line {
+	int no;
+	struct board_domain *domain;
+	u32 number, mask;
+	bool unlazy, later, fast_edges;
+	bool on_activate, no_autoen, polled, untyped, enforced;
+	bool refused, soft;
+	const char *why;
+	struct cell cell;
+	int virq;
+	struct irq_desc *desc;
+	int target;
+	u32 busy_moves;			/* so many moves the chip answers with EBUSY */
+	int unmasks;			/* calls of irq_unmask since the end began */
+	bool sent_again;		/* at this end, by the rule on fast-EOI edge lines */
+	bool retriggered, scheduled;	/* in this call, by the chip or by software */
+	const char *note;
+	u32 now;			/* milliseconds */
+	u32 entries, asks, takes, runs, threads, served;
+	char path[PATH_BYTES];
+};
+
+struct board_device {
+	int no;
+	struct board_line *line;
+	enum device_kind kind;
+	u32 open;			/* asks that aren't served */
+	u32 at_begin, at_thread_begin;
+	struct actor thread;
+	char name[12];
+};
+
+enum call_op {
+	CALL_REQUEST, CALL_FREE, CALL_ASK,			/* of a device */
+	CALL_DISABLE, CALL_DISABLE_NOSYNC, CALL_ENABLE, CALL_SYNC,
+	CALL_AFFINITY, CALL_MOMENT, CALL_BUSY,			/* of a line */
+	CALL_POLL,
+	CALL_OPS
+};
+
+struct board_call {
+	enum call_op op;
+	struct board_device *device;
+	struct board_line *line;
+	u32 number;
+	bool shared, oneshot, noauto;
+};
+
+struct board_pick {
+	char letter;
+	int no;
+	u32 times;
+};
+
+struct board {
+	int cpus, domain_count, line_count, device_count, driver_count, pick_count;
+	struct board_domain domains[MAX_DOMAINS];
+	struct board_line lines[MAX_LINES];
+	struct board_device devices[MAX_DEVICES];
+	struct actor processors[MAX_CPUS], drivers[MAX_DRIVERS];
+	struct board_pick *picks;
+	bool rules[RULES], words[WORDS];
+	bool trace, domain_calls;
+	int first_virq;			/* the lowest free one before the first line */
+	u32 total, rows, log;
+	u32 moves;			/* steps without a row */
+	struct board_line *full;	/* its log has no place for its next row */
+};
+
+extern struct board *the_board;
+extern wait_queue_head_t scheduler_wait;
+
+static inline bool has_rule(enum rule rule)
+{
+	return the_board->rules[rule];
+}
+
+static inline bool has_word(enum word word)
+{
+	return the_board->words[word];
+}
+
+/* rows.c */
+void register_output(void);
+__printf(1, 2) void emit(const char *format, ...);
+__printf(1, 2) void emit_trace(const char *format, ...);
+__printf(2, 3) void emit_row(struct board_line *line, const char *format, ...);
+void emit_state(struct board_line *line);
+void emit_end(struct actor *cpu, bool again);
+
+/* actors.c */
+struct actor *current_actor(void);
+void pass_gate(struct actor *actor, enum gate gate);
+void set_actor_state(struct actor *actor, enum actor_state state);
+void play_board(void);
+
+/* hooks.c */
+void run_take(struct actor *cpu);
+void run_poll(void);
+void forget_resends(void);
+irqreturn_t board_primary(int virq, void *cookie);
+irqreturn_t board_thread(int virq, void *cookie);
+
+/* chips.c */
+struct board_line *line_of(struct irq_desc *desc);
+bool has_signal(struct cell *cell);
+void raise_edge(struct cell *cell);
+void set_high(struct board_line *line);
+int make_domain(struct board_domain *domain);
+void make_line(struct board_line *line);
+
+/* board.c */
+void read_board(char *text);
+
+/* domains.c */
+void call_domains(void);
+
+#endif

@@ -1,0 +1,125 @@
+"""Boots the harness's kernel in qemu with boards, and cuts what it printed into boards."""
+import contextlib
+import os
+import shutil
+import subprocess
+import tempfile
+from collections import namedtuple
+
+from boardtext import BadBoard, Board
+from common import BZIMAGES, BadInput, Failed, say
+
+DONE = 33  # qemu's status where the kernel wrote 0x10 to the port of isa-debug-exit
+
+BOOTS = 3  # so often a boot is tried that ends before the first board
+ENDS = {0: "a reset: the kernel stopped"}
+
+# What the kernel printed for one board. `rows` are the layout's, the log's and remarks, in order; `text` is all of it.
+Played = namedtuple("Played", ("name", "rows", "faults", "text"))
+
+
+def find_qemu():
+    """The path of qemu, or a fault by name; likewise where the kernel isn't built."""
+    if not os.path.exists(BZIMAGES["harness"]):
+        raise Failed(f"no kernel built: {BZIMAGES['harness']} isn't there; call kernel/build")
+    return shutil.which("qemu-system-x86_64") or missing("qemu-system-x86_64")
+
+
+def missing(tool):
+    """Fails for want of a tool."""
+    raise Failed(f"no {tool} in PATH; kernel/build installs it")
+
+
+def read_boards(files):
+    """The boards of files, as pairs of a name and a Board. All faults are told before one of them fails it."""
+    boards, faults = [], 0
+    for file in files:
+        name = os.path.basename(file).removesuffix(".board")
+        try:
+            with open(file, encoding="latin-1", newline="\n") as text:
+                boards.append((name, Board(text.read())))
+        except BadBoard as fault:
+            say(f"{file}: {fault}")
+            faults += 1
+        except OSError as fault:
+            say(f"{file}: {fault.strerror}")
+            faults += 1
+    if faults:
+        raise BadInput(f"{faults} of {len(files)} boards can't be played")
+    return boards
+
+
+def cut(text):
+    """The boards of what the kernel printed; the last one may be unfinished, and is told beside them."""
+    boards, name, rows = [], None, []
+    for row in text.split("\n"):
+        if row == "=== end":
+            boards.append(played(name, rows))
+            name, rows = None, []
+        elif row.startswith("=== "):
+            name, rows = row[4:], []
+        elif name is not None:
+            rows.append(row)
+    return boards, name, rows
+
+
+def played(name, rows):
+    """One board of what the kernel printed."""
+    log = [row[2:] if row.startswith("R ") else row for row in rows if row.startswith(("R ", "# "))]
+    faults = [row[2:] for row in rows if row.startswith("F ")]
+    faults += [row[2:] for row in rows if row.startswith("K ") and ("BUG:" in row or "Oops" in row)]
+    return Played(name, log, faults, "\n".join(rows) + "\n")
+
+
+def run_qemu(words, seconds, out):
+    """Runs qemu; its status, None where the time was over, what it said, and what the kernel printed."""
+    with contextlib.suppress(FileNotFoundError):
+        os.remove(out)
+    status, said = None, ""
+    try:
+        ended = subprocess.run(words, stdin=subprocess.DEVNULL, stdout=subprocess.PIPE, stderr=subprocess.STDOUT,
+                               timeout=seconds, check=False)
+        status, said = ended.returncode, ended.stdout.decode("latin-1").strip()
+    except subprocess.TimeoutExpired:
+        pass
+    except OSError as fault:
+        raise Failed(f"qemu can't be started: {fault}") from None
+    try:
+        with open(out, encoding="latin-1") as file:
+            return status, said, file.read()
+    except FileNotFoundError:
+        return status, said, ""
+
+
+def why_ended(status, seconds, said, text, count):
+    """The fault of a boot that didn't come to its end."""
+    done, name, rows = cut(text)
+    why = f"its time limit, {seconds} s" if status is None else ENDS.get(status, f"status {status}")
+    where = f"in board {name}" if name else f"after {len(done)} of {count} boards"
+    kernel = [row[2:] for row in text.split("\n") if row.startswith("K ")][-1:] if status == 0 else []
+    faults = played(name, rows).faults + kernel + [said] * (status is not None and said != "")
+    return Failed(f"qemu ended by {why}, {where}" + "".join(f"; {it}" for it in faults))
+
+
+def boot(boards, seconds, trace=False, profile=False):
+    """Plays the boards, pairs of a name and a Board, in one boot of at most so many seconds."""
+    qemu = find_qemu()
+    cpus = max([4, *(board.cpus for _, board in boards)])
+    with tempfile.TemporaryDirectory(prefix="genirq-kernel-") as folder:
+        with open(f"{folder}/boards", "w", encoding="ascii") as file:
+            for name, board in boards:
+                file.write(f"%%% {name}\n{board.kernel_text(trace, profile)}\n")
+        words = [
+            qemu, "-machine", "pc", "-cpu", "qemu64", "-m", "1024", "-smp", f"{cpus},sockets={cpus}",
+            "-accel", "tcg,thread=single", "-kernel", BZIMAGES["harness"], "-initrd", f"{folder}/boards",
+            "-append", "panic=-1 tsc=unstable no_timer_check", "-display", "none", "-vga", "none", "-nodefaults",
+            "-no-reboot", "-debugcon", f"file:{folder}/out", "-device", "isa-debug-exit,iobase=0xf4",
+        ]
+        for attempt in range(BOOTS):
+            status, said, text = run_qemu(words, seconds, f"{folder}/out")
+            if status == DONE:
+                return cut(text)[0]
+            if status != 0 or "\n=== " in text or attempt + 1 == BOOTS:
+                raise why_ended(status, seconds, said, text, len(boards))
+            say("the kernel stopped before its first board, as it may where the machine is very busy; once more")
+    return []

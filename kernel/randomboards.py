@@ -1,0 +1,234 @@
+"""Random boards for the comparison: every kind of line, device, call, flag and domain, by a seed.
+
+Three shapes take turns. `wide` has 3 to 8 lines over paths of several levels and up to four drivers; `busy` has one
+line whose target changes while flows are in progress; `small` has 1 to 3 lines and a free script.
+"""
+import random
+
+ROOTS = ("latch", "plain", "level", "eoi", "lpi", "vector")
+STYLES = ("", "shared", "shared oneshot", "shared oneshot", "oneshot", "mix", "noauto")
+MOMENTS = (50, 100, 101, 200, 201, 300, 302, 1000)
+ROWS = 1200  # where a play stops; a level line that nobody serves has more
+
+
+class Maker:
+    """One random board in the making."""
+
+    def __init__(self, seed, index):
+        self.r = random.Random(seed * 1000003 + index)
+        self.shape = ("wide", "busy", "small")[index % 3]
+        self.cpus = self.r.choice((2, 2, 3)) if self.shape == "busy" else self.r.choice((1, 1, 2, 2, 3, 4, 8))
+        self.domains, self.lines, self.devices, self.styles = [], [], [], {}
+        self.moments = self.r.random() < 0.3
+
+    def chance(self, part):
+        """True in so many of the cases."""
+        return self.r.random() < part
+
+    def add_domain(self, kind, parent):
+        """A domain over its parent, a place in the list or None."""
+        name = f"{kind[0]}{len(self.domains)}"
+        root = kind if parent is None else self.domains[parent][2]
+        depth = 1 if parent is None else self.domains[parent][3] + 1
+        can_mask = kind not in ("vector", "remap")
+        masker = kind if can_mask else None if parent is None else self.domains[parent][4]
+        form = "tree" if self.chance(0.25) else f"linear {self.r.choice((1, 2)) if self.chance(0.08) else 16}"
+        above = "" if parent is None else f" parent {self.domains[parent][0]}"
+        self.domains.append((name, f"domain {name} {form} {kind}{above}", root, depth, masker))
+
+    def add_child(self, parent):
+        """A child of a domain; messages don't stand over roots that present levels."""
+        levels = self.domains[parent][2] in ("level", "eoi")
+        self.add_domain("remap" if levels or self.chance(0.4) else "msi", parent)
+
+    def make_busy_domains(self):
+        """A root, mostly of edges, and often messages over it. The last domain can mask."""
+        kind = self.r.choice(("latch", "plain", "lpi", "vector", "latch", "plain", "lpi", "vector", "level", "eoi"))
+        self.domains.append(("root", f"domain root linear 16 {kind}", kind, 1, None if kind == "vector" else kind))
+        if kind == "vector" or kind not in ("level", "eoi") and self.chance(0.4):
+            self.domains.append(("top", "domain top tree msi parent root", kind, 2, "msi"))
+
+    def make_domains(self):
+        """Roots, and children over whatever is there."""
+        if self.shape == "busy":
+            self.make_busy_domains()
+            return
+        wide = self.shape == "wide"
+        for _ in range(self.r.randint(1, 4) if wide else self.r.randint(1, 2)):
+            self.add_domain(self.r.choice(ROOTS), None)
+        for _ in range(self.r.randint(0, 10) if wide else self.r.randint(0, 2)):
+            parent = self.r.randrange(len(self.domains))
+            if self.chance(0.5):
+                parent = len(self.domains) - 1  # long paths
+            if self.domains[parent][3] < 8:
+                self.add_child(parent)
+
+    def make_lines(self):
+        """Lines, some of them with numbers that are taken or too large."""
+        most = {"wide": (3, 8), "busy": (1, 1), "small": (1, 3)}[self.shape]
+        for number in range(1, 1 + self.r.randint(*most)):
+            busy = self.shape == "busy"
+            name, _, _, _, masker = self.domains[-1] if busy else self.r.choice(self.domains)
+            options = ""
+            if masker not in ("plain", None) and self.chance(0.25):
+                options += " unlazy"
+            if self.chance(0.2):
+                options += " later"
+            if self.chance(0.3):
+                options += f" mask {self.r.randint(1, (1 << self.cpus) - 1)}"
+            hw = self.r.choice((0, 0, 0, 0, 1, 2, 3, 64, 4294967295)) if self.chance(0.2) and not busy else number
+            self.lines.append(f"line {number} {name} {hw}{options}")
+            self.styles[number] = self.r.choice(STYLES)
+
+    def make_devices(self):
+        """One to three devices of each line."""
+        for line in range(1, len(self.lines) + 1):
+            for _ in range(self.r.choice((1, 1, 2, 2, 3))):
+                kind = self.r.choice(("direct", "check", "null", "direct", "check", "null", "stuck"))
+                self.devices.append((len(self.devices) + 1, line, kind))
+
+    def flags(self, device):
+        """The flags of a request: those of its line's style, mostly such that it isn't refused."""
+        _, line, kind = device
+        style = self.styles[line]
+        if style == "mix":
+            style = " ".join(it for it in ("shared", "oneshot", "noauto") if self.chance(0.45))
+        if kind == "null" and "oneshot" not in style and self.chance(0.8):
+            style = f"{style} oneshot".strip()
+        return style
+
+    def life(self, device):
+        """The requests and frees of a device, in order."""
+        calls = [f"request {device[0]} {self.flags(device)}".strip()]
+        if self.chance(0.6):
+            calls.append(f"free {device[0]}")
+            if self.chance(0.5):
+                calls.append(f"request {device[0]} {self.flags(device)}".strip())
+                if self.chance(0.5):
+                    calls.append(f"free {device[0]}")
+        if self.chance(0.1):
+            calls.append(f"free {device[0]}")
+        if self.chance(0.05):
+            calls.insert(0, f"free {device[0]}")
+        return calls
+
+    def any_call(self):
+        """A call that any driver may make."""
+        device, line, _ = self.r.choice(self.devices)
+        mask = self.r.randint(0, 1 << self.cpus)
+        calls = [f"ask {device}"] * 8 + [f"disable_nosync {line}"] * 2 + [f"enable {line}"] * 3
+        calls += [f"disable {line}", f"sync {line}", f"affinity {line} {mask}"]
+        if self.moments:
+            calls += [f"moment {line} {self.r.choice(MOMENTS)}"] * 2
+        return self.r.choice(calls)
+
+    def script(self, mine, most):
+        """A driver's script: the lives of its devices, and other calls between."""
+        placed = []
+        for device in mine:
+            calls = self.life(device)
+            places = sorted(0.0 if self.chance(0.25) else self.r.uniform(0, 10) for _ in calls)
+            placed += list(zip(places, range(len(placed), len(placed) + len(calls)), calls))
+        for _ in range(self.r.randint(3, most)):
+            placed.append((self.r.uniform(0.3, 12), len(placed), self.any_call()))
+        return in_order(call for _, _, call in sorted(placed))
+
+    def make_drivers(self):
+        """The scripts of one to four drivers."""
+        count = self.r.randint(1, 4) if self.shape == "wide" else self.r.randint(1, 3)
+        owners = {device[0]: self.r.randint(1, count) for device in self.devices}
+        for number in range(1, count + 1):
+            mine = [device for device in self.devices if owners[device[0]] == number]
+            yield f"driver {number}"
+            yield from self.script(mine, 24 if self.shape == "wide" else 14)
+
+    def busy_calls(self):
+        """A call on the one line of a busy board, or an ask and a change of the target."""
+        at = self.r.random()
+        ask = f"ask {self.r.choice(self.devices)[0]}"
+        aim = f"affinity 1 {1 << self.r.randrange(self.cpus)}"
+        if at < 0.45:
+            return [ask, aim]
+        if at < 0.65:
+            return [aim, ask]
+        if at < 0.8:
+            return [ask]
+        return [self.r.choice(("disable_nosync 1", "enable 1", "enable 1", "sync 1", "disable 1", aim))]
+
+    def make_busy_drivers(self):
+        """Driver 1 links all devices at first; others call beside it."""
+        oneshot = self.chance(0.5) or any(kind == "null" for _, _, kind in self.devices)
+        flags = " shared" * (len(self.devices) > 1 or self.chance(0.5)) + " oneshot" * oneshot
+        yield "driver 1"
+        yield from (f"request {device}{flags}" for device, _, _ in self.devices)
+        calls = [call for _ in range(self.r.randint(4, 14)) for call in self.busy_calls()]
+        for device, _, _ in self.devices:
+            if self.chance(0.3):
+                calls.insert(self.r.randint(len(calls) // 2, len(calls)), f"free {device}")
+        yield from calls
+        for number in range(2, 2 + self.r.randint(0, 2)):
+            yield f"driver {number}"
+            for _ in range(self.r.randint(1, 5)):
+                yield from self.busy_calls()
+
+    def busy_picks(self, drivers, threads):
+        """Short turns: a driver's two calls, then a processor's one or two steps."""
+        yield f"d1*{len(self.devices) + 1}"
+        for _ in range(self.r.randint(10, 60)):
+            at = self.r.random()
+            if at < 0.4:
+                yield f"d{self.r.choice((1, 1, self.r.randint(1, drivers)))}*2"
+            elif at < 0.9 or not threads:
+                yield f"c{self.r.randrange(self.cpus)}" + "*2" * self.chance(0.3)
+            else:
+                yield f"t{self.r.choice(threads)}" + "*2" * self.chance(0.5)
+
+    def free_picks(self, drivers, threads):
+        """Anybody's step."""
+        for _ in range(self.r.randint(0, 90)):
+            at = self.r.random()
+            if at < 0.4:
+                yield f"d{self.r.randint(1, drivers)}"
+            elif at < 0.85 or not threads:
+                yield f"c{self.r.randrange(self.cpus)}"
+            else:
+                yield f"t{self.r.choice(threads)}"
+
+    def picks(self, drivers):
+        """Whose steps come first."""
+        threads = [device for device, _, kind in self.devices if kind in ("check", "null")]
+        words = list((self.busy_picks if self.shape == "busy" else self.free_picks)(drivers, threads))
+        return ["picks " + " ".join(words)] if words else []
+
+    def text(self):
+        """The whole board."""
+        self.make_domains()
+        self.make_lines()
+        self.make_devices()
+        scripts = list(self.make_busy_drivers() if self.shape == "busy" else self.make_drivers())
+        window = self.r.randint(2, 9)
+        rows = [f"board {2 if self.moments else 1}", "#kernel profile", f"#kernel rows {ROWS}", f"cpus {self.cpus}"]
+        rows += [f"spurious {window} {self.r.randint(0, window - 1)}"]
+        rows += [row for _, row, _, _, _ in self.domains] + self.lines
+        rows += [f"device {number} {line} {kind}" for number, line, kind in self.devices]
+        rows += scripts + self.picks(sum(row.startswith("driver ") for row in scripts))
+        return "\n".join(rows) + "\n"
+
+
+def in_order(calls):
+    """The calls without a request of a device that is requested already."""
+    linked = set()
+    for call in calls:
+        words = call.split()
+        if words[0] == "request":
+            if words[1] in linked:
+                continue
+            linked.add(words[1])
+        elif words[0] == "free":
+            linked.discard(words[1])
+        yield call
+
+
+def random_board(seed, index):
+    """The text of one board of a seed."""
+    return Maker(seed, index).text()
