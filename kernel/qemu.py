@@ -1,6 +1,7 @@
 """Boots the harness's kernel in qemu with boards, and cuts what it printed into boards."""
 import contextlib
 import os
+import re
 import shutil
 import subprocess
 import tempfile
@@ -30,22 +31,33 @@ def missing(tool):
     raise Failed(f"no {tool} in PATH; kernel/build installs it")
 
 
-def read_boards(files):
-    """The boards of files, as pairs of a name and a Board. All faults are told before one of them fails it."""
-    boards, faults = [], 0
+def name_of(file):
+    """A board's name: its file's, or that of its folder where the file is a case's input."""
+    base = os.path.basename(file)
+    return os.path.basename(os.path.dirname(os.path.abspath(file))) if base == "input" else base.removesuffix(".board")
+
+
+def read_boards(files, pass_over=False):
+    """The boards of files, as pairs of a name and a Board, each up to a row `---`, behind which a log may stand.
+
+    All faults are told before one of them fails it, unless boards with a fault are passed over.
+    """
+    boards, faults = [], []
     for file in files:
-        name = os.path.basename(file).removesuffix(".board")
         try:
             with open(file, encoding="latin-1", newline="\n") as text:
-                boards.append((name, Board(text.read())))
+                board = re.split(r"^---$", text.read(), maxsplit=1, flags=re.M)[0]
+                boards.append((name_of(file), Board(board)))
         except BadBoard as fault:
-            say(f"{file}: {fault}")
-            faults += 1
+            faults.append(f"{file}: {fault}")
         except OSError as fault:
-            say(f"{file}: {fault.strerror}")
-            faults += 1
-    if faults:
-        raise BadInput(f"{faults} of {len(files)} boards can't be played")
+            raise BadInput(f"{file}: {fault.strerror}") from None
+    for fault in [] if pass_over else faults:
+        say(fault)
+    if faults and not pass_over:
+        raise BadInput(f"{len(faults)} of {len(files)} boards can't be played")
+    if pass_over:
+        say(f"{len(faults)} of {len(files)} boards have a fault and are passed over")
     return boards
 
 
