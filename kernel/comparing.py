@@ -1,3 +1,4 @@
+# SPDX-License-Identifier: GPL-2.0
 """The rows of the kernel and of genirq beside each other."""
 import functools
 import os

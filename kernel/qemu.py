@@ -1,3 +1,4 @@
+# SPDX-License-Identifier: GPL-2.0
 """Boots the harness's kernel in qemu with boards, and cuts what it printed into boards."""
 import contextlib
 import os
