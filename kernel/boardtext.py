@@ -1,3 +1,4 @@
+# SPDX-License-Identifier: GPL-2.0
 """Reads a board for the harness, and says what it is that the harness can't play.
 
 A board is what docs/BOARD.md says. Beside it the harness knows words that stand in comments, `#kernel WORD ..`, so

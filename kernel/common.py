@@ -1,3 +1,4 @@
+# SPDX-License-Identifier: GPL-2.0
 """What the scripts of this folder share: where things lie, what they say, and how they end."""
 import argparse
 import os

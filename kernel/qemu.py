@@ -1,6 +1,8 @@
+# SPDX-License-Identifier: GPL-2.0
 """Boots the harness's kernel in qemu with boards, and cuts what it printed into boards."""
 import contextlib
 import os
+import re
 import shutil
 import subprocess
 import tempfile
@@ -11,8 +13,9 @@ from common import BZIMAGES, BadInput, Failed, say
 
 DONE = 33  # qemu's status where the kernel wrote 0x10 to the port of isa-debug-exit
 
-BOOTS = 3  # so often a boot is tried that ends before the first board
-ENDS = {0: "a reset: the kernel stopped"}
+BOOTS = 3  # so often a boot is tried in which the kernel doesn't come up, or not all of its processors
+MOST_BOARDS = 500  # in one boot
+ENDS = {0: "a reset: the kernel stopped", DONE: "the kernel, without all of its processors"}
 
 # What the kernel printed for one board. `rows` are the layout's, the log's and remarks, in order; `text` is all of it.
 Played = namedtuple("Played", ("name", "rows", "faults", "text"))
@@ -30,22 +33,33 @@ def missing(tool):
     raise Failed(f"no {tool} in PATH; kernel/build installs it")
 
 
-def read_boards(files):
-    """The boards of files, as pairs of a name and a Board. All faults are told before one of them fails it."""
-    boards, faults = [], 0
+def name_of(file):
+    """A board's name: its file's, or that of its folder where the file is a case's input."""
+    base = os.path.basename(file)
+    return os.path.basename(os.path.dirname(os.path.abspath(file))) if base == "input" else base.removesuffix(".board")
+
+
+def read_boards(files, pass_over=False):
+    """The boards of files, as pairs of a name and a Board, each up to a row `---`, behind which a log may stand.
+
+    All faults are told before one of them fails it, unless boards with a fault are passed over.
+    """
+    boards, faults = [], []
     for file in files:
-        name = os.path.basename(file).removesuffix(".board")
         try:
             with open(file, encoding="latin-1", newline="\n") as text:
-                boards.append((name, Board(text.read())))
+                board = re.split(r"^---$", text.read(), maxsplit=1, flags=re.M)[0]
+                boards.append((name_of(file), Board(board)))
         except BadBoard as fault:
-            say(f"{file}: {fault}")
-            faults += 1
+            faults.append(f"{file}: {fault}")
         except OSError as fault:
-            say(f"{file}: {fault.strerror}")
-            faults += 1
-    if faults:
-        raise BadInput(f"{faults} of {len(files)} boards can't be played")
+            raise BadInput(f"{file}: {fault.strerror}") from None
+    for fault in [] if pass_over else faults:
+        say(fault)
+    if faults and not pass_over:
+        raise BadInput(f"{len(faults)} of {len(files)} boards can't be played")
+    if pass_over:
+        say(f"{len(faults)} of {len(files)} boards have a fault and are passed over")
     return boards
 
 
@@ -96,15 +110,20 @@ def why_ended(status, seconds, said, text, count):
     done, name, rows = cut(text)
     why = f"its time limit, {seconds} s" if status is None else ENDS.get(status, f"status {status}")
     where = f"in board {name}" if name else f"after {len(done)} of {count} boards"
-    kernel = [row[2:] for row in text.split("\n") if row.startswith("K ")][-1:] if status == 0 else []
+    kernel = [row[2:] for row in text.split("\n") if row.startswith(("K ", "H "))][-1:] if status in (0, DONE) else []
     faults = played(name, rows).faults + kernel + [said] * (status is not None and said != "")
     return Failed(f"qemu ended by {why}, {where}" + "".join(f"; {it}" for it in faults))
 
 
-def boot(boards, seconds, trace=False, profile=False):
-    """Plays the boards, pairs of a name and a Board, in one boot of at most so many seconds."""
+def is_up(text, cpus):
+    """Whether the kernel came to its first board, with all processors. A very busy machine may be too slow for that."""
+    found = re.search(r"^H Linux \S+, ([0-9]+) processors$", text, flags=re.M)
+    return bool(found) and int(found[1]) == cpus
+
+
+def boot_once(boards, cpus, seconds, trace, profile):
+    """What the kernel printed of some boards, on a machine with so many processors."""
     qemu = find_qemu()
-    cpus = max([4, *(board.cpus for _, board in boards)])
     with tempfile.TemporaryDirectory(prefix="genirq-kernel-") as folder:
         with open(f"{folder}/boards", "w", encoding="ascii") as file:
             for name, board in boards:
@@ -115,11 +134,28 @@ def boot(boards, seconds, trace=False, profile=False):
             "-append", "panic=-1 tsc=unstable no_timer_check", "-display", "none", "-vga", "none", "-nodefaults",
             "-no-reboot", "-debugcon", f"file:{folder}/out", "-device", "isa-debug-exit,iobase=0xf4",
         ]
-        for attempt in range(BOOTS):
+        for attempt in range(1, BOOTS + 1):
             status, said, text = run_qemu(words, seconds, f"{folder}/out")
-            if status == DONE:
+            if status == DONE and is_up(text, cpus):
                 return cut(text)[0]
-            if status != 0 or "\n=== " in text or attempt + 1 == BOOTS:
+            if attempt == BOOTS or status not in (0, DONE) or is_up(text, cpus):
                 raise why_ended(status, seconds, said, text, len(boards))
-            say("the kernel stopped before its first board, as it may where the machine is very busy; once more")
-    return []
+            say("the kernel didn't come up with all processors, as it may where the machine is very busy; once more")
+    raise AssertionError("the last attempt returns or fails")
+
+
+def boot(boards, seconds, trace=False, profile=False):
+    """Plays the boards, pairs of a name and a Board; each boot has at most so many seconds.
+
+    Those with few processors boot together on a machine with few, which is the faster the fewer it has.
+    """
+    find_qemu()
+    classes, done = {}, {}
+    for place, (_, board) in enumerate(boards):
+        least = 4 if "realsoft" in board.words else board.cpus
+        classes.setdefault(1 << (least - 1).bit_length(), []).append(place)
+    for cpus, places in sorted(classes.items()):
+        for first in range(0, len(places), MOST_BOARDS):
+            part = places[first : first + MOST_BOARDS]
+            done.update(zip(part, boot_once([boards[it] for it in part], cpus, seconds, trace, profile)))
+    return [done[place] for place in range(len(boards))]

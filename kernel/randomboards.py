@@ -1,3 +1,4 @@
+# SPDX-License-Identifier: GPL-2.0
 """Random boards for the comparison: every kind of line, device, call, flag and domain, by a seed.
 
 Three shapes take turns. `wide` has 3 to 8 lines over paths of several levels and up to four drivers; `busy` has one

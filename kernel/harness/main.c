@@ -26,7 +26,7 @@ static void new_board(void)
 	harness_window = 100000;
 	harness_limit = 99900;
 	forget_resends();
-	smp_mb();
+	smp_mb();	/* whoever finds the new board finds what it holds */
 	the_board = board;
 }
 
