@@ -35,12 +35,26 @@ pub struct LineLog {
 /// Where a part of the text is none, the board hasn't one line alone, or it is larger than what is
 /// judged, and where memory is refused.
 pub fn read_line_log(alloc: Global, text: &str) -> Result<LineLog> {
-    let (head, rows) = parts_of(text).context("no row `---`")?;
+    match parts_of(text) {
+        Some((head, rows)) => read_parts(alloc, head, rows),
+        None => bail!("no row `---`"),
+    }
+}
+
+/// The line of the board's text, and the entries of the log's.
+fn read_parts(alloc: Global, head: &str, rows: &str) -> Result<LineLog> {
     let board = board_of(alloc, head)?;
-    let logs = logs_of(alloc, &board, rows).context("no log")?;
+    let entries = entries_in(alloc, &board, rows)?;
     let def = line_of(alloc, &board)?;
-    let entries = entries_of(alloc, &logs)?;
     sized(def, entries)
+}
+
+/// The entries of the log's text.
+fn entries_in(alloc: Global, board: &Board, rows: &str) -> Result<Vec<Entry>> {
+    match logs_of(alloc, board, rows) {
+        Some(logs) => Ok(entries_of(alloc, &logs)?),
+        None => bail!("no log"),
+    }
 }
 
 /// What stands before the first row `---`, and what follows it.
