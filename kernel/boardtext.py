@@ -6,7 +6,7 @@ that genirq passes them over; kernel/README.md lists them. Everything is looked 
 """
 import re
 
-MAX_CPUS = 32
+MOST_CPUS = 16  # seabios writes no table of more for a kernel without ACPI
 DOMAIN_KINDS = ("latch", "plain", "level", "eoi", "lpi", "vector", "msi", "remap")
 CHILDREN = ("msi", "remap")
 DEVICE_KINDS = ("direct", "check", "null", "stuck")
@@ -124,7 +124,9 @@ class Board:
     def read_cpus_statement(self, at, rest):
         """cpus N"""
         self.count(at, rest, 1, 1)
-        self.cpus = self.number(at, rest[0], 1, MAX_CPUS)
+        self.cpus = self.number(at, rest[0], 1, 32)
+        if self.cpus > MOST_CPUS:
+            raise BadBoard(at, f"can't be played: {self.cpus} processors, the harness has {MOST_CPUS}")
 
     def read_spurious_statement(self, at, rest):
         """spurious W L"""

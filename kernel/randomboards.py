@@ -207,7 +207,7 @@ class Maker:
         self.make_lines()
         self.make_devices()
         scripts = list(self.make_busy_drivers() if self.shape == "busy" else self.make_drivers())
-        window = self.r.randint(2, 9)
+        window = self.r.randint(1, 9)
         rows = [f"board {2 if self.moments else 1}", "#kernel profile", f"#kernel rows {ROWS}", f"cpus {self.cpus}"]
         rows += [f"spurious {window} {self.r.randint(0, window - 1)}"]
         rows += [row for _, row, _, _, _ in self.domains] + self.lines

@@ -401,27 +401,43 @@ irqreturn_t board_thread(int virq, void *cookie)
 /* ---------------------------------------------------------- spurious.c */
 
 #undef note_interrupt
+
+/*
+ * Whether a note counted. With a window of 1 the counts are 0 before and after
+ * each note; then last_unhandled tells, which was set to another time before.
+ */
+static bool has_counted(struct irq_desc *desc, unsigned int count, unsigned int unhandled)
+{
+	if (harness_window == 1)
+		return desc->last_unhandled == harness_jiffies;
+	return desc->irq_count == count + 1 ||
+	       (!desc->irq_count && count + 1 == harness_window && (count || unhandled));
+}
+
 void harness_note(struct irq_desc *desc, irqreturn_t answer)
 {
 	struct board_line *line = line_of(desc);
 	unsigned int count = desc->irq_count, unhandled = desc->irqs_unhandled;
+	unsigned long last_unhandled = desc->last_unhandled;
 	unsigned int depth = desc->depth;
 	struct actor *cpu = current_of('c');
-	bool window_ends;
+	bool counted;
 
-	if (line)
-		harness_jiffies = (u64)line->now * harness_hz / 1000;
-	note_interrupt(desc, answer);
-	if (!line)
+	if (!line) {
+		note_interrupt(desc, answer);
 		return;
-	window_ends = !desc->irq_count && count + 1 == harness_window &&
-		      (count || unhandled || harness_window == 1);
+	}
+	harness_jiffies = (u64)line->now * harness_hz / 1000;
+	if (harness_window == 1)
+		desc->last_unhandled = harness_jiffies - 1;
+	note_interrupt(desc, answer);
+	counted = has_counted(desc, count, unhandled);
+	if (harness_window == 1 && !counted)
+		desc->last_unhandled = last_unhandled;
 	if (desc->depth == depth + 1 && (desc->istate & IRQS_SPURIOUS_DISABLED))
 		line->note = "killed";
-	else if (desc->irq_count == count + 1 || window_ends)
-		line->note = "counted";
 	else
-		line->note = "quiet";
+		line->note = counted ? "counted" : "quiet";
 	if (cpu && cpu->note_gate) {
 		cpu->note_gate = false;
 		pass_gate(cpu, GATE_NEXT);
