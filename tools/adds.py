@@ -6,7 +6,7 @@ from repository import TOP, read_crates
 
 PAGE = TOP / "docs" / "ADDING.md"
 # What can be added, and the enum that gets a variant.
-LISTS = {"a flow": "FlowKind", "a driver's call": "Call", "a kind of entry": "Entry", "a kind of controller": "LevelKind", "a command": "Command"}
+LISTS = {"a flow": "FlowKind", "a driver's call": "Call", "a kind of entry": "Entry", "a kind of controller": "ControllerKind", "a command": "Command"}
 
 
 def head_of(file):

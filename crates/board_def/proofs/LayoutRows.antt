@@ -1,8 +1,8 @@
 -- The layout of a board by hand: messages over a remapping of one number, and messages over the
 -- vectors themselves.
 use Rattle.std.proofs.Common.{◌≡◌, ℕ, false, Option, Some, None, List, [], ◌∷◌, codes, refl}
-use Rattle.irq_base.specs.declared.domains.LevelKind.{LevelKind}
-use Rattle.irq_base.specs.declared.domains.LevelKind.TheVariants as levels
+use Rattle.irq_base.specs.declared.domains.ControllerKind.{ControllerKind}
+use Rattle.irq_base.specs.declared.domains.ControllerKind.TheVariants as levels
 use Rattle.irq_base.specs.declared.domains.MapKind.{MapKind}
 use Rattle.irq_base.specs.declared.domains.MapKind.TheVariants as maps
 use Rattle.board_def.specs.Layout.{layout_of}
@@ -13,8 +13,8 @@ use Rattle.domain_rules.specs.declared.layouts.Unmapped.TheVariants as reasons
 use Rattle.board_def.specs.declared.rows.DomainRow.{DomainRow}
 use Rattle.board_def.specs.declared.rows.LineRow.{LineRow}
 
-abbrev domain : List ℕ → MapKind → LevelKind → Option ℕ → DomainRow
-domain name map chip parent = record { name = name_of name; def = record { map = map; chip = chip; parent = parent } }
+abbrev domain : List ℕ → MapKind → ControllerKind → Option ℕ → DomainRow
+domain name map kind parent = record { name = name_of name; def = record { map = map; kind = kind; parent = parent } }
 
 abbrev line : ℕ → ℕ → ℕ → LineRow
 line number place hw = record { line = record { 0 = number }; domain = place; hw = hw; unlazy = false; later = false; mask = 1 }

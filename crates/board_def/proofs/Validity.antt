@@ -8,8 +8,8 @@ use Rattle.irq_base.specs.Cell.{is_edge_trigger}
 use Rattle.irq_base.specs.declared.calls.Call.{Call}
 use Rattle.irq_base.specs.declared.calls.Call.TheVariants as calls
 use Rattle.irq_base.specs.declared.devices.DeviceDef.{DeviceDef}
-use Rattle.irq_base.specs.declared.domains.LevelKind.{LevelKind}
-use Rattle.irq_base.specs.declared.domains.LevelKind.TheVariants as levels
+use Rattle.irq_base.specs.declared.domains.ControllerKind.{ControllerKind}
+use Rattle.irq_base.specs.declared.domains.ControllerKind.TheVariants as levels
 use Rattle.irq_base.specs.declared.numbers.DevNo.{DevNo}
 use Rattle.irq_base.specs.declared.numbers.DriverNo.{DriverNo}
 use Rattle.irq_base.specs.declared.numbers.LineNo.{LineNo}
@@ -32,7 +32,7 @@ use Rattle.board_def.proofs.Rising.{Rises, rises_on, head_of, differ}
 
 -- kinds of roots
 
-edge_root : (k : LevelKind) → is_edge_flow (flow_of_root k) ≡ true → is_edge_trigger (trigger_of_root k) ≡ true
+edge_root : (k : ControllerKind) → is_edge_flow (flow_of_root k) ≡ true → is_edge_trigger (trigger_of_root k) ≡ true
 edge_root levels.Latch h = refl
 edge_root levels.Plain h = refl
 edge_root levels.Level h = absurd cc
@@ -42,7 +42,7 @@ edge_root levels.Remap h = refl
 edge_root levels.Vector h = refl
 edge_root levels.Lpi h = absurd cc
 
-level_root : (k : LevelKind) → is_level_flow (flow_of_root k) ≡ true → not (is_edge_trigger (trigger_of_root k)) ≡ true
+level_root : (k : ControllerKind) → is_level_flow (flow_of_root k) ≡ true → not (is_edge_trigger (trigger_of_root k)) ≡ true
 level_root levels.Latch h = absurd cc
 level_root levels.Plain h = absurd cc
 level_root levels.Level h = refl
@@ -53,7 +53,7 @@ level_root levels.Vector h = absurd cc
 level_root levels.Lpi h = absurd cc
 
 -- the one root that is handled by the fast-EOI flow on edges
-lpi_root : (k : LevelKind) → is_edge_trigger (trigger_of_root k) ≡ true → is_eoi_flow (flow_of_root k) ≡ true → k ≡ levels.Lpi
+lpi_root : (k : ControllerKind) → is_edge_trigger (trigger_of_root k) ≡ true → is_eoi_flow (flow_of_root k) ≡ true → k ≡ levels.Lpi
 lpi_root levels.Latch e f = absurd cc
 lpi_root levels.Plain e f = absurd cc
 lpi_root levels.Level e f = absurd cc
@@ -128,7 +128,7 @@ unlazy_keeps false e k h he hu = absurd cc
 pub valid_row : (b : BoardSeen) (i : ℕ) (row : LineRow) → IsBoard b → slice_get b.lines i ≡ Some row → IsValid (line_of_row b row)
 valid_row b i row board at =
     let here = board.lines i row at in
-    let ks : List LevelKind = kinds_from (defs_of b.domains) (Some row.domain) in
+    let ks : List ControllerKind = kinds_from (defs_of b.domains) (Some row.domain) in
     let on_line : DeviceDef → Bool = λ x. x.line.0 == row.line.0 in
     let call_on_line : ScriptCall → Bool = λ c. c.line.0 == row.line.0 in
     let owned = owned_on_line b row.line board.calls in

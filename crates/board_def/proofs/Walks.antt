@@ -1,63 +1,63 @@
 -- A walk over levels, one after another, and what it knows at its end.
 use Rattle.std.proofs.Common.{◌≡◌, ℕ, zero, suc, ◌+◌, ◌-◌, ◌<◌, Bool, true, false, cond, ◌&&◌, Option, Some, None, is_none, List, [], ◌∷◌, length, map, drop, refl, sym, ap, ◌∙◌, arith}
 use Rattle.std.specs.List.{slice_get}
-use Rattle.irq_base.specs.declared.domains.LevelKind.{LevelKind}
-use Rattle.irq_base.specs.declared.domains.LevelKind.TheVariants as levels
+use Rattle.irq_base.specs.declared.domains.ControllerKind.{ControllerKind}
+use Rattle.irq_base.specs.declared.domains.ControllerKind.TheVariants as levels
 use Rattle.irq_base.specs.declared.domains.DomainDef.{DomainDef}
 use Rattle.irq_model.proofs.Lists.{next_item}
 use Rattle.domain_rules.specs.Paths.{way, kind_in, parent_in, kind_at}
 use Rattle.domain_rules.specs.Levels.{root_kind, last_kind, masking_kind, masks_kind}
 use Rattle.board_def.specs.declared.levels.Levels.{Levels}
 
-abbrev pub one_passed : Levels → LevelKind → Levels
+abbrev pub one_passed : Levels → ControllerKind → Levels
 one_passed p k = record { root = k; masking = cond (is_none p.masking && masks_kind k) (Some k) p.masking; count = p.count + 1 }
 
-abbrev pub passed : Levels → List LevelKind → Levels
+abbrev pub passed : Levels → List ControllerKind → Levels
 passed p [] = p
 passed p (k ∷ ks) = passed (one_passed p k) ks
 
 abbrev pub none_passed : Levels
 none_passed = record { root = levels.Remap; masking = None; count = 0 }
 
-root_passed : (p : Levels) (ks : List LevelKind) → (passed p ks).root ≡ last_kind p.root ks
+root_passed : (p : Levels) (ks : List ControllerKind) → (passed p ks).root ≡ last_kind p.root ks
 root_passed p [] = refl
 root_passed p (k ∷ ks) = root_passed (one_passed p k) ks
 
-abbrev first_masking : Option LevelKind → List LevelKind → Option LevelKind
+abbrev first_masking : Option ControllerKind → List ControllerKind → Option ControllerKind
 first_masking (Some k) ks = Some k
 first_masking None ks = masking_kind ks
 
-masking_passed : (p : Levels) (ks : List LevelKind) (m : Option LevelKind) → p.masking ≡ m → (passed p ks).masking ≡ first_masking m ks
+masking_passed : (p : Levels) (ks : List ControllerKind) (m : Option ControllerKind) → p.masking ≡ m → (passed p ks).masking ≡ first_masking m ks
 masking_passed p [] (Some k) e = e
 masking_passed p [] None e = e
 masking_passed p (x ∷ ks) (Some k) e =
     masking_passed (one_passed p x) ks (Some k) (ap (λ m. cond (is_none m && masks_kind x) (Some x) m) e)
 masking_passed p (x ∷ ks) None e = by (masks_kind x) refl (λ m. masking_passed (one_passed p x) ks m)
   where
-    by : (b : Bool) → masks_kind x ≡ b → ((m : Option LevelKind) → cond (is_none p.masking && masks_kind x) (Some x) p.masking ≡ m → (passed (one_passed p x) ks).masking ≡ first_masking m ks)
+    by : (b : Bool) → masks_kind x ≡ b → ((m : Option ControllerKind) → cond (is_none p.masking && masks_kind x) (Some x) p.masking ≡ m → (passed (one_passed p x) ks).masking ≡ first_masking m ks)
         → (passed (one_passed p x) ks).masking ≡ cond (masks_kind x) (Some x) (masking_kind ks)
     by true is rest = rest (Some x) (ap (λ m. cond (is_none m && masks_kind x) (Some x) m) e ∙ ap (λ b. cond b (Some x) None) is) ∙ sym (ap (λ b. cond b (Some x) (masking_kind ks)) is)
     by false is rest = rest None (ap (λ m. cond (is_none m && masks_kind x) (Some x) m) e ∙ ap (λ b. cond b (Some x) None) is) ∙ sym (ap (λ b. cond b (Some x) (masking_kind ks)) is)
 
-count_passed : (p : Levels) (ks : List LevelKind) → (passed p ks).count ≡ p.count + length ks
+count_passed : (p : Levels) (ks : List ControllerKind) → (passed p ks).count ≡ p.count + length ks
 count_passed p [] = omega arith
 count_passed p (k ∷ ks) = omega (arith, count_passed (one_passed p k) ks)
 
 -- what is known after all
 
-pub root_of_all : (ks : List LevelKind) → (passed none_passed ks).root ≡ root_kind ks
+pub root_of_all : (ks : List ControllerKind) → (passed none_passed ks).root ≡ root_kind ks
 root_of_all ks = root_passed none_passed ks
 
-pub masking_of_all : (ks : List LevelKind) → (passed none_passed ks).masking ≡ masking_kind ks
+pub masking_of_all : (ks : List ControllerKind) → (passed none_passed ks).masking ≡ masking_kind ks
 masking_of_all ks = masking_passed none_passed ks None refl
 
-pub count_of_all : (ks : List LevelKind) → (passed none_passed ks).count ≡ length ks
+pub count_of_all : (ks : List ControllerKind) → (passed none_passed ks).count ≡ length ks
 count_of_all ks = omega (arith, count_passed none_passed ks)
 
 -- from a domain to its root
 
 -- what is left of the way, n levels long at most
-abbrev pub left_of_way : ℕ → List DomainDef → Option ℕ → List LevelKind
+abbrev pub left_of_way : ℕ → List DomainDef → Option ℕ → List ControllerKind
 left_of_way n domains at = map (λ place. kind_in (slice_get domains place)) (way n domains at)
 
 pub way_step : (n m : ℕ) (domains : List DomainDef) (place : ℕ) (p : Levels) → n ≡ suc m
@@ -84,10 +84,10 @@ path_ends domains (x ∷ xs) zero at = absurd cc
 path_ends domains (x ∷ xs) (suc i) at = path_ends domains xs i at
 
 -- nothing is left
-pub ended : (p : Levels) (rest ks : List LevelKind) → passed p rest ≡ passed none_passed ks → rest ≡ [] → p ≡ passed none_passed ks
+pub ended : (p : Levels) (rest ks : List ControllerKind) → passed p rest ≡ passed none_passed ks → rest ≡ [] → p ≡ passed none_passed ks
 ended p rest ks e none = ap (passed p) (sym none) ∙ e
 
-pub way_goes_on : (domains : List DomainDef) (all : List LevelKind) (p next : Levels) (at parent : Option ℕ) (place : ℕ) → p.count < 8 → at ≡ Some place
+pub way_goes_on : (domains : List DomainDef) (all : List ControllerKind) (p next : Levels) (at parent : Option ℕ) (place : ℕ) → p.count < 8 → at ≡ Some place
     → next ≡ one_passed p (kind_in (slice_get domains place)) → parent ≡ parent_in (slice_get domains place)
     → passed p (left_of_way (8 - p.count) domains at) ≡ passed none_passed all → passed next (left_of_way (8 - next.count) domains parent) ≡ passed none_passed all
 way_goes_on domains all p next at parent place few here is up e =

@@ -13,22 +13,22 @@ use crate::levels::{
     flow_of, is_root, levels_from, levels_on, presents_level, retriggers, trigger_of,
 };
 use irq_base::domains::LEVELS;
-use irq_base::{CallList, DeviceList, LevelKind, LineDef, LineNo, NoMemory, Path, Trigger};
+use irq_base::{CallList, ControllerKind, DeviceList, LineDef, LineNo, NoMemory, Path, Trigger};
 use std::alloc::Global;
 
 impl Board {
     /// Whether no domain of that kind may have that parent, the place of one of the board's
     /// domains: a root has none, a child has one, messages are sent as edges, and a path has at
     /// most eight levels.
-    pub fn has_bad_parent(&self, chip: LevelKind, parent: Option<usize>) -> bool
-        ensures { result ≡ is_bad_parent (defs_of self.now.domains) chip parent }
+    pub fn has_bad_parent(&self, kind: ControllerKind, parent: Option<usize>) -> bool
+        ensures { result ≡ is_bad_parent (defs_of self.now.domains) kind parent }
     {
         if parent.is_none() {
-            return !is_root(chip);
+            return !is_root(kind);
         }
         let levels = levels_from(self, parent);
-        is_root(chip)
-            || (chip == LevelKind::Msi && presents_level(levels.root))
+        is_root(kind)
+            || (kind == ControllerKind::Msi && presents_level(levels.root))
             || levels.count >= LEVELS
     }
 

@@ -3,64 +3,70 @@ ghost use Rattle.std.specs.Prelude.{◌≡◌, ◌+◌, ◌<◌, ◌≤◌, None
 ghost use Rattle.board_def.specs.Unnamed.{defs_of};
 ghost use Rattle.domain_rules.specs.Levels.{root_kind, masking_kind, is_some_kind, is_root_kind, masks_kind, keeps_kind, stores_at_root, retriggers_kind, presents_level_kind, trigger_of_root, flow_of_root};
 ghost use Rattle.domain_rules.specs.Paths.{most_levels, way, kinds_from, kinds_on, kind_in, parent_in};
-ghost use Rattle.irq_base.specs.declared.domains.LevelKind.TheVariants.{Remap};
+ghost use Rattle.irq_base.specs.declared.domains.ControllerKind.TheVariants.{Remap};
 
 use crate::board::Board;
 use irq_base::domains::LEVELS;
-use irq_base::{DomainDef, FlowKind, LevelKind, Path, Trigger};
+use irq_base::{ControllerKind, DomainDef, FlowKind, Path, Trigger};
 
 /// Whether a level of that kind stands at the processors' end.
-pub fn is_root(kind: LevelKind) -> bool
+pub fn is_root(kind: ControllerKind) -> bool
     ensures { result ≡ is_root_kind kind }
 {
-    !matches!(kind, LevelKind::Msi | LevelKind::Remap)
+    !matches!(kind, ControllerKind::Msi | ControllerKind::Remap)
 }
 
 /// Whether it can mask.
-pub fn masks(kind: LevelKind) -> bool
+pub fn masks(kind: ControllerKind) -> bool
     ensures { result ≡ masks_kind kind }
 {
-    !matches!(kind, LevelKind::Remap | LevelKind::Vector)
+    !matches!(kind, ControllerKind::Remap | ControllerKind::Vector)
 }
 
 /// Whether it stores the edges that come while it masks.
-pub fn keeps(kind: LevelKind) -> bool
+pub fn keeps(kind: ControllerKind) -> bool
     ensures { result ≡ keeps_kind kind }
 {
-    matches!(kind, LevelKind::Latch | LevelKind::Msi | LevelKind::Lpi)
+    matches!(
+        kind,
+        ControllerKind::Latch | ControllerKind::Msi | ControllerKind::Lpi
+    )
 }
 
 /// Whether it can send an edge again (`irq_retrigger` of `struct irq_chip`, `include/linux/irq.h`).
-pub fn retriggers(kind: LevelKind) -> bool
+pub fn retriggers(kind: ControllerKind) -> bool
     ensures { result ≡ retriggers_kind kind }
 {
-    matches!(kind, LevelKind::Latch | LevelKind::Vector | LevelKind::Lpi)
+    matches!(
+        kind,
+        ControllerKind::Latch | ControllerKind::Vector | ControllerKind::Lpi
+    )
 }
 
 /// Whether it presents the level of its signal, and no edges.
-pub fn presents_level(kind: LevelKind) -> bool
+pub fn presents_level(kind: ControllerKind) -> bool
     ensures { result ≡ presents_level_kind kind }
 {
-    matches!(kind, LevelKind::Level | LevelKind::Eoi)
+    matches!(kind, ControllerKind::Level | ControllerKind::Eoi)
 }
 
 /// What raises a line with that root.
-pub fn trigger_of(root: LevelKind) -> Trigger
+pub fn trigger_of(root: ControllerKind) -> Trigger
     ensures { result ≡ trigger_of_root root }
 {
     match root {
-        LevelKind::Level | LevelKind::Eoi => Trigger::Level,
+        ControllerKind::Level | ControllerKind::Eoi => Trigger::Level,
         _ => Trigger::Edge,
     }
 }
 
 /// The flow handler of a line with that root.
-pub fn flow_of(root: LevelKind) -> FlowKind
+pub fn flow_of(root: ControllerKind) -> FlowKind
     ensures { result ≡ flow_of_root root }
 {
     match root {
-        LevelKind::Level => FlowKind::Level,
-        LevelKind::Eoi | LevelKind::Lpi => FlowKind::Eoi,
+        ControllerKind::Level => FlowKind::Level,
+        ControllerKind::Eoi | ControllerKind::Lpi => FlowKind::Eoi,
         _ => FlowKind::Edge,
     }
 }
@@ -69,9 +75,9 @@ pub fn flow_of(root: LevelKind) -> FlowKind
 #[derive(Clone, Copy)]
 pub struct Levels {
     /// The last one's kind, in the end the root's.
-    pub root: LevelKind,
+    pub root: ControllerKind,
     /// The first one that can mask.
-    pub masking: Option<LevelKind>,
+    pub masking: Option<ControllerKind>,
     /// How many were passed, at most eight.
     pub count: usize,
 }
@@ -82,14 +88,14 @@ impl Levels {
         ensures { result ≡ record { root = Remap; masking = None; count = 0 } }
     {
         Levels {
-            root: LevelKind::Remap,
+            root: ControllerKind::Remap,
             masking: None,
             count: 0,
         }
     }
 
     /// Passes one more, after fewer than eight.
-    pub fn pass(&mut self, kind: LevelKind)
+    pub fn pass(&mut self, kind: ControllerKind)
         requires { self.old.count < 8 }
         ensures { self.new ≡ record { root = kind; masking = if is_none self.old.masking && masks_kind kind then Some kind else self.old.masking; count = self.old.count + 1 } }
     {
@@ -122,12 +128,12 @@ impl Levels {
 }
 
 /// The kind of a domain; one that isn't there passes everything on.
-pub fn kind_of(def: Option<DomainDef>) -> LevelKind
+pub fn kind_of(def: Option<DomainDef>) -> ControllerKind
     ensures { result ≡ kind_in def }
 {
     match def {
-        Some(def) => def.chip,
-        None => LevelKind::Remap,
+        Some(def) => def.kind,
+        None => ControllerKind::Remap,
     }
 }
 

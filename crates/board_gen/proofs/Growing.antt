@@ -4,7 +4,7 @@ use Rattle.std.proofs.lemmas.List.{length-append, append_assoc}
 use Rattle.std.proofs.lemmas.List.Elements.{All-append}
 use Rattle.irq_base.specs.declared.devices.DeviceDef.{DeviceDef}
 use Rattle.irq_base.specs.declared.devices.Kind.{Kind}
-use Rattle.irq_base.specs.declared.domains.LevelKind.{LevelKind}
+use Rattle.irq_base.specs.declared.domains.ControllerKind.{ControllerKind}
 use Rattle.irq_base.specs.declared.domains.MapKind.TheVariants as maps
 use Rattle.irq_model.specs.Signal.{lowest_in}
 use Rattle.domain_rules.specs.Levels.{is_root_kind}
@@ -21,13 +21,13 @@ use Rattle.board_gen.specs.Generated.{line_row, numbered}
 use Rattle.board_gen.specs.Plans.{kind_of, kinds_drawn}
 use Rattle.board_gen.proofs.Counting.{kinds_more, kinds_length, numbered_more, numbered_length}
 
-abbrev row_named : Name → LevelKind → DomainRow
-row_named name chip = record { name = name; def = record { map = maps.Linear 16; chip = chip; parent = None } }
+abbrev row_named : Name → ControllerKind → DomainRow
+row_named name kind = record { name = name; def = record { map = maps.Linear 16; kind = kind; parent = None } }
 
-pub root_grows : (b : BoardSeen) (bytes : List ℕ) (name : Name) (chip : LevelKind) → name ≡ name_of bytes → IsBoard b → length b.domains < 32 → is_name bytes ≡ true → has_name b.domains (name_of bytes) ≡ false → is_root_kind chip ≡ true
-    → IsBoard (record b { domains = b.domains ++ row_named name chip ∷ [] })
-root_grows b bytes name chip is board few spelled new root =
-    grows_domain b (row_named name chip) board few
+pub root_grows : (b : BoardSeen) (bytes : List ℕ) (name : Name) (kind : ControllerKind) → name ≡ name_of bytes → IsBoard b → length b.domains < 32 → is_name bytes ≡ true → has_name b.domains (name_of bytes) ≡ false → is_root_kind kind ≡ true
+    → IsBoard (record b { domains = b.domains ++ row_named name kind ∷ [] })
+root_grows b bytes name kind is board few spelled new root =
+    grows_domain b (row_named name kind) board few
     (record {
       spelled = ap (λ (n : Name). is_name (name_bytes n)) is ∙ (ap is_name (name_back bytes spelled) ∙ spelled);
       new = ap (has_name b.domains) is ∙ new;

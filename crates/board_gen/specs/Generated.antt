@@ -6,8 +6,8 @@ use Rattle.irq_base.specs.declared.calls.Call.TheVariants as calls
 use Rattle.irq_base.specs.declared.calls.Flags.{Flags}
 use Rattle.irq_base.specs.declared.devices.DeviceDef.{DeviceDef}
 use Rattle.irq_base.specs.declared.devices.Kind.{Kind}
-use Rattle.irq_base.specs.declared.domains.LevelKind.{LevelKind}
-use Rattle.irq_base.specs.declared.domains.LevelKind.TheVariants as levels
+use Rattle.irq_base.specs.declared.domains.ControllerKind.{ControllerKind}
+use Rattle.irq_base.specs.declared.domains.ControllerKind.TheVariants as levels
 use Rattle.irq_base.specs.declared.domains.MapKind.TheVariants as maps
 use Rattle.irq_base.specs.declared.numbers.DriverNo.{DriverNo}
 use Rattle.board_def.specs.Names.{name_of}
@@ -22,8 +22,8 @@ use Rattle.board_gen.specs.Plans.{LinePlan, planned}
 -- ---- the machine
 
 -- a root domain of sixteen lines
-abbrev pub root_domain : List ℕ → LevelKind → DomainRow
-root_domain name chip = record { name = name_of name; def = record { map = maps.Linear 16; chip = chip; parent = None } }
+abbrev pub root_domain : List ℕ → ControllerKind → DomainRow
+root_domain name kind = record { name = name_of name; def = record { map = maps.Linear 16; kind = kind; parent = None } }
 
 abbrev pub four_domains : List DomainRow
 four_domains = root_domain (codes "latch") levels.Latch ∷ root_domain (codes "plain") levels.Plain

@@ -8,7 +8,7 @@ ghost use Rattle.domain_rules.specs.Levels.{is_root_kind};
 use crate::draws::Draws;
 use crate::lines::add_line;
 use board_def::{Board, DomainRow, Name};
-use irq_base::{DomainDef, LevelKind, MapKind, NoMemory};
+use irq_base::{ControllerKind, DomainDef, MapKind, NoMemory};
 use std::alloc::Global;
 
 /// The board that the number generates, with the log limit 65,536 and no picks.
@@ -30,29 +30,29 @@ fn machine(alloc: Global) -> Result<Board, NoMemory>
     ensures { IfOk result (λ b. b ≡ bare_machine) }
 {
     let mut board = Board::new(alloc, 2, 100_000, 99_900, 65_536);
-    add_root(&mut board, b"latch", LevelKind::Latch)?;
-    add_root(&mut board, b"plain", LevelKind::Plain)?;
-    add_root(&mut board, b"level", LevelKind::Level)?;
-    add_root(&mut board, b"eoi", LevelKind::Eoi)?;
+    add_root(&mut board, b"latch", ControllerKind::Latch)?;
+    add_root(&mut board, b"plain", ControllerKind::Plain)?;
+    add_root(&mut board, b"level", ControllerKind::Level)?;
+    add_root(&mut board, b"eoi", ControllerKind::Eoi)?;
     Ok(board)
 }
 
 // Adds a root domain of sixteen lines.
-fn add_root(board: &mut Board, name: &[u8], chip: LevelKind) -> Result<(), NoMemory>
+fn add_root(board: &mut Board, name: &[u8], kind: ControllerKind) -> Result<(), NoMemory>
     requires few { length board.old.domains < 32 }
     requires spelled { is_name name.now ≡ true }
     requires new { has_name board.old.domains (name_of name.now) ≡ false }
-    requires root { is_root_kind chip ≡ true }
+    requires root { is_root_kind kind ≡ true }
     ensures { OnOk result
         (board.new
-        ≡ record board.old { domains = board.old.domains ++ root_domain name.now chip ∷ [] }) }
+        ≡ record board.old { domains = board.old.domains ++ root_domain name.now kind ∷ [] }) }
 {
     board.is_board();
     board.add_domain(DomainRow {
         name: Name::new(name),
         def: DomainDef {
             map: MapKind::Linear(16),
-            chip,
+            kind,
             parent: None,
         },
     })

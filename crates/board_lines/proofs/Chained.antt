@@ -4,8 +4,8 @@ use Rattle.std.specs.List.{slice_get}
 use Rattle.std.specs.Option.{option_map}
 use Rattle.std.proofs.lemmas.Option.{slice_get-map}
 use Rattle.irq_base.specs.Cell.{fresh_cell, is_edge_trigger}
-use Rattle.irq_base.specs.declared.domains.LevelKind.{LevelKind}
-use Rattle.irq_base.specs.declared.domains.LevelKind.TheVariants as levels
+use Rattle.irq_base.specs.declared.domains.ControllerKind.{ControllerKind}
+use Rattle.irq_base.specs.declared.domains.ControllerKind.TheVariants as levels
 use Rattle.irq_model.specs.Lines.{is_eoi_flow}
 use Rattle.board_def.specs.Layout.{layout_of}
 use Rattle.board_def.specs.LineOf.{line_of_row}
@@ -28,7 +28,7 @@ use Rattle.domain_rules.specs.declared.layouts.Placement.TheVariants as placemen
 -- ---- the cell of a board's line
 
 -- an interrupt is kept in service if a level line goes by the fast-EOI flow
-served_by : (k : LevelKind) → serves_kind k ≡ (not (is_edge_trigger (trigger_of_root k)) && is_eoi_flow (flow_of_root k))
+served_by : (k : ControllerKind) → serves_kind k ≡ (not (is_edge_trigger (trigger_of_root k)) && is_eoi_flow (flow_of_root k))
 served_by levels.Latch = refl
 served_by levels.Plain = refl
 served_by levels.Level = refl

@@ -2,7 +2,7 @@
 use Rattle.std.proofs.Common.{◌≡◌, ℕ, true, false, Bool, Some, None, Result, Ok, Err, List, [], ◌∷◌, ◌++◌, codes, refl}
 use Rattle.irq_base.specs.declared.calls.Call.TheVariants as calls
 use Rattle.irq_base.specs.declared.devices.Kind.TheVariants as kinds
-use Rattle.irq_base.specs.declared.domains.LevelKind.TheVariants as levels
+use Rattle.irq_base.specs.declared.domains.ControllerKind.TheVariants as levels
 use Rattle.irq_base.specs.declared.domains.MapKind.TheVariants as maps
 use Rattle.irq_base.specs.declared.entries.Actor.TheVariants as actors
 use Rattle.board_def.specs.Names.{name_of}
@@ -40,7 +40,7 @@ one_line : board_of_text (text (codes "board 1" ∷ codes "domain intc linear 4 
       window = 100000;
       limit = 99900;
       log = 10000;
-      domains = record { name = name_of (codes "intc"); def = record { map = maps.Linear 4; chip = levels.Latch; parent = None } } ∷ [];
+      domains = record { name = name_of (codes "intc"); def = record { map = maps.Linear 4; kind = levels.Latch; parent = None } } ∷ [];
       lines = record { line = record { 0 = 1 }; domain = 0; hw = 2; unlazy = false; later = false; mask = 1 } ∷ [];
       devices = record { dev = record { 0 = 1 }; line = record { 0 = 1 }; kind = kinds.Direct } ∷ [];
       drivers = record { 0 = 1 } ∷ [];
@@ -203,8 +203,8 @@ moments : board_of_text (on_lpi (codes "moment 1 0" ∷ codes "moment 2 42949672
       window = 100000;
       limit = 99900;
       log = 10000;
-      domains = record { name = name_of (codes "its"); def = record { map = maps.Tree; chip = levels.Lpi; parent = None } }
-          ∷ record { name = name_of (codes "m"); def = record { map = maps.Tree; chip = levels.Msi; parent = Some 0 } } ∷ [];
+      domains = record { name = name_of (codes "its"); def = record { map = maps.Tree; kind = levels.Lpi; parent = None } }
+          ∷ record { name = name_of (codes "m"); def = record { map = maps.Tree; kind = levels.Msi; parent = Some 0 } } ∷ [];
       lines = record { line = record { 0 = 1 }; domain = 0; hw = 2; unlazy = true; later = false; mask = 1 }
           ∷ record { line = record { 0 = 2 }; domain = 1; hw = 2; unlazy = true; later = false; mask = 1 } ∷ [];
       devices = [];

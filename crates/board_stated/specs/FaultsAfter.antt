@@ -103,7 +103,7 @@ is_not_there b _ = false
 
 abbrev pub has_bad_parent : BoardSeen → Statement → Bool
 has_bad_parent b (statements.Domain d) =
-    is_bad_parent (defs_of b.domains) d.chip (parent_place b.domains d.parent)
+    is_bad_parent (defs_of b.domains) d.kind (parent_place b.domains d.parent)
 has_bad_parent b _ = false
 
 abbrev pub has_bad_unlazy : BoardSeen → Statement → Bool

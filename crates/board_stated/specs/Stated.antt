@@ -40,7 +40,7 @@ parent_place domains (Some name) = place_of_name domains name
 parent_place domains None = None
 
 abbrev pub domain_row : List DomainRow → DomainWords → DomainRow
-domain_row domains d = record { name = d.name; def = record { map = d.map; chip = d.chip; parent = parent_place domains d.parent } }
+domain_row domains d = record { name = d.name; def = record { map = d.map; kind = d.kind; parent = parent_place domains d.parent } }
 
 -- the mask of all processors
 abbrev pub all_processors : ℕ → ℕ

@@ -1,7 +1,7 @@
 //! Messages of chains, and of a message controller by itself.
 use chip_msi::Message;
 use domain_chain::{Chain, MsiChip};
-use irq_base::LevelKind::{Msi, Plain, Remap, Vector};
+use irq_base::ControllerKind::{Msi, Plain, Remap, Vector};
 use irq_base::{Chip, CpuNo};
 
 #[test]

@@ -9,8 +9,8 @@ use chip_msi::Message;
 use domain_chain::Chain;
 use domain_hier::{AllocAnswer, Hierarchy};
 use irq_base::{
-    Actor, Call, CallList, DevNo, DeviceDef, DeviceList, DomainDef, DriverNo, Flags, FlowKind,
-    Kind, LevelKind, LineDef, LineNo, MapKind, NoMemory, Trigger,
+    Actor, Call, CallList, ControllerKind, DevNo, DeviceDef, DeviceList, DomainDef, DriverNo,
+    Flags, FlowKind, Kind, LineDef, LineNo, MapKind, NoMemory, Trigger,
 };
 use irq_line::{IrqLine, MakesLine, Stepped};
 use line_core::Line;
@@ -19,13 +19,13 @@ use std::alloc::Global;
 
 const VECTOR: DomainDef = DomainDef {
     map: MapKind::Linear(8),
-    chip: LevelKind::Vector,
+    kind: ControllerKind::Vector,
     parent: None,
 };
 
 const NEAR: DomainDef = DomainDef {
     map: MapKind::Tree,
-    chip: LevelKind::Msi,
+    kind: ControllerKind::Msi,
     parent: Some(0),
 };
 

@@ -42,7 +42,7 @@ fn domain_row(board: &Board, domain: &DomainWords) -> DomainRow
         name: domain.name,
         def: DomainDef {
             map: domain.map,
-            chip: domain.chip,
+            kind: domain.kind,
             parent: parent_place(board, domain.parent),
         },
     }

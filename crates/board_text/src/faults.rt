@@ -147,7 +147,7 @@ pub fn has_bad_parent(board: &Board, statement: &Statement) -> bool
 {
     match statement {
         Statement::Domain(domain) => {
-            board.has_bad_parent(domain.chip, parent_place(board, domain.parent))
+            board.has_bad_parent(domain.kind, parent_place(board, domain.parent))
         }
         _ => false,
     }

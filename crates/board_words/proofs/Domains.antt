@@ -2,7 +2,7 @@
 use Rattle.std.proofs.Common.{◌≡◌, ℕ, Bool, true, false, cond, List, [], ◌∷◌, drop, get_or, codes, refl}
 use Rattle.board_words.specs.Forms.{is}
 use Rattle.board_words.specs.Places.{map_kind, after_map}
-use Rattle.board_words.specs.Statements.{name_at, number_at, level_kind, parent_name, has_more_parents, domain_words}
+use Rattle.board_words.specs.Statements.{name_at, number_at, controller_kind, parent_name, has_more_parents, domain_words}
 use Rattle.board_words.specs.declared.statements.DomainWords.{DomainWords}
 use Rattle.irq_base.specs.declared.domains.MapKind.TheVariants as maps
 use Rattle.board_def.specs.declared.names.Name.{Name}
@@ -13,7 +13,7 @@ domain_by words =
     record {
       name = name_at 0 words;
       map = map_kind (drop 1 words);
-      chip = level_kind (get_or rest 0 []);
+      kind = controller_kind (get_or rest 0 []);
       parent = parent_name (drop 1 rest);
       twice = has_more_parents (drop 1 rest);
     }
@@ -24,7 +24,7 @@ said_at name words linear =
     record {
       name = name;
       map = cond linear (maps.Linear (number_at 1 words)) maps.Tree;
-      chip = level_kind (get_or rest 0 []);
+      kind = controller_kind (get_or rest 0 []);
       parent = parent_name (drop 1 rest);
       twice = has_more_parents (drop 1 rest);
     }

@@ -3,8 +3,8 @@ use Rattle.std.specs.Prelude.{ℕ, ◌+◌, Bool, true, false, ◌||◌, nat_lt,
 use Rattle.std.specs.List.{list_any}
 use Rattle.irq_base.specs.declared.devices.Kind.{Kind}
 use Rattle.irq_base.specs.declared.devices.Kind.TheVariants as kinds
-use Rattle.irq_base.specs.declared.domains.LevelKind.{LevelKind}
-use Rattle.irq_base.specs.declared.domains.LevelKind.TheVariants as levels
+use Rattle.irq_base.specs.declared.domains.ControllerKind.{ControllerKind}
+use Rattle.irq_base.specs.declared.domains.ControllerKind.TheVariants as levels
 use Rattle.irq_base.specs.declared.domains.MapKind.{MapKind}
 use Rattle.irq_base.specs.declared.domains.MapKind.TheVariants as maps
 use Rattle.irq_base.specs.declared.numbers.DevNo.{DevNo}
@@ -45,8 +45,8 @@ count_of text (word ∷ words) = if is word text then count_of text words + 1 el
 abbrev pub stands_again : List ℕ → List (List ℕ) → Bool
 stands_again text words = nat_lt 1 (count_of text words)
 
-abbrev pub level_kind : List ℕ → LevelKind
-level_kind word =
+abbrev pub controller_kind : List ℕ → ControllerKind
+controller_kind word =
     if is word (codes "latch") then levels.Latch
     else if is word (codes "plain") then levels.Plain
     else if is word (codes "level") then levels.Level
@@ -77,7 +77,7 @@ abbrev pub domain_of : List (List ℕ) → MapKind → List (List ℕ) → Domai
 domain_of words map rest = record {
   name = name_at 0 words;
   map = map;
-  chip = level_kind (get_or rest 0 []);
+  kind = controller_kind (get_or rest 0 []);
   parent = parent_name (drop 1 rest);
   twice = has_more_parents (drop 1 rest);
 }

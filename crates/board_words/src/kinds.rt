@@ -6,36 +6,36 @@ ghost use Rattle.board_words.specs.Places.{option_texts};
 ghost use Rattle.board_words.specs.Statements as said;
 
 use crate::words::is;
-use irq_base::{Kind, LevelKind};
+use irq_base::{ControllerKind, Kind};
 
 /// The kind of level that the word names.
-pub(crate) fn level_kind(word: &[u8]) -> Option<LevelKind>
+pub(crate) fn controller_kind(word: &[u8]) -> Option<ControllerKind>
     ensures { MatchOption result (list_any (is word.now) level_kinds ≡ false)
-        (λ kind. (list_any (is word.now) level_kinds ≡ true) × (kind ≡ said.level_kind word.now)) }
+        (λ kind. (list_any (is word.now) level_kinds ≡ true) × (kind ≡ said.controller_kind word.now)) }
 {
     if is(word, b"latch") {
-        return Some(LevelKind::Latch);
+        return Some(ControllerKind::Latch);
     }
     if is(word, b"plain") {
-        return Some(LevelKind::Plain);
+        return Some(ControllerKind::Plain);
     }
     if is(word, b"level") {
-        return Some(LevelKind::Level);
+        return Some(ControllerKind::Level);
     }
     if is(word, b"eoi") {
-        return Some(LevelKind::Eoi);
+        return Some(ControllerKind::Eoi);
     }
     if is(word, b"vector") {
-        return Some(LevelKind::Vector);
+        return Some(ControllerKind::Vector);
     }
     if is(word, b"msi") {
-        return Some(LevelKind::Msi);
+        return Some(ControllerKind::Msi);
     }
     if is(word, b"lpi") {
-        return Some(LevelKind::Lpi);
+        return Some(ControllerKind::Lpi);
     }
     if is(word, b"remap") {
-        return Some(LevelKind::Remap);
+        return Some(ControllerKind::Remap);
     }
     None
 }

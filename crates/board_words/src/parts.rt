@@ -67,12 +67,12 @@ fn domain(words: Words<'_>) -> Result<Statement, FaultKind>
     let mut places = Places::new(words);
     let name = places.name();
     let map = places.map();
-    let chip = places.level_kind();
+    let kind = places.controller_kind();
     let (parent, twice) = places.parent();
     places.give(Statement::Domain(DomainWords {
         name,
         map,
-        chip,
+        kind,
         parent,
         twice,
     }))

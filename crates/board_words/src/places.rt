@@ -13,7 +13,7 @@ use crate::faults::FaultKind;
 use crate::words::{Words, is};
 use crate::{kinds, spelling};
 use board_def::Name;
-use irq_base::{Kind, LevelKind, MapKind};
+use irq_base::{ControllerKind, Kind, MapKind};
 
 /// The words of a statement that are left, and the first fault in order that was found in those
 /// before them.
@@ -92,20 +92,20 @@ impl<'a> Places<'a> {
     }
 
     /// A kind of level.
-    pub(crate) fn level_kind(&mut self) -> LevelKind
+    pub(crate) fn controller_kind(&mut self) -> ControllerKind
         ensures takes { Takes (forms.one_of forms.level_kinds) self.old self.new }
         ensures value { self.new.found ≡ None
-            → result ≡ said.level_kind (get_or (words_left self.old.words) 0 []) }
+            → result ≡ said.controller_kind (get_or (words_left self.old.words) 0 []) }
     {
         let Some(word) = self.words.next() else {
             self.note(FaultKind::WrongCount);
-            return LevelKind::Remap;
+            return ControllerKind::Remap;
         };
-        match kinds::level_kind(word) {
+        match kinds::controller_kind(word) {
             Some(kind) => kind,
             None => {
                 self.note(FaultKind::UnknownWord);
-                LevelKind::Remap
+                ControllerKind::Remap
             }
         }
     }

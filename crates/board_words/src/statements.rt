@@ -2,7 +2,7 @@
 use crate::faults::FaultKind;
 use board_def::Name;
 use irq_base::{
-    CpuNo, DevNo, DriverNo, Flags, ItemList, Kind, LevelKind, LineNo, MapKind, NoMemory,
+    ControllerKind, CpuNo, DevNo, DriverNo, Flags, ItemList, Kind, LineNo, MapKind, NoMemory,
 };
 use thiserror::Error;
 
@@ -14,7 +14,7 @@ pub struct DomainWords {
     /// How it maps hardware numbers.
     pub map: MapKind,
     /// What its controllers do with the signal.
-    pub chip: LevelKind,
+    pub kind: ControllerKind,
     /// The name of its parent; the first one if `parent` stands again.
     pub parent: Option<Name>,
     /// `parent` stands again.

@@ -7,7 +7,7 @@ use line_cell::Cell;
 use std::marker::PhantomData;
 
 /// A kind of controller: what its chips do with the signals of their lines.
-pub trait ControllerKind {
+pub trait ChipKind {
     /// The signal cell of a controller of this kind to which nothing has been done.
     ghost fresh: { SignalCell };
 
@@ -25,7 +25,7 @@ pub struct Controller<K> {
     kind: PhantomData<K>,
 }
 
-impl<K: ControllerKind> Controller<K> {
+impl<K: ChipKind> Controller<K> {
     /// A controller to which nothing has been done: its mask is closed, it isn't active, and it is
     /// aimed at processor 0.
     pub fn new() -> Controller<K>
@@ -40,12 +40,14 @@ impl<K: ControllerKind> Controller<K> {
     }
 }
 
-impl<K: ControllerKind> Chip for Controller<K> {
+impl<K: ChipKind> Chip for Controller<K> {
     ghost cell = { λ c. ⟦<Cell as Chip>⟧.cell c.cell };
 
     ghost active = { λ c. ⟦<Cell as Chip>⟧.active c.cell };
 
     ghost aimed = { λ c. ⟦<Cell as Chip>⟧.aimed c.cell };
+
+    ghost wiring = { λ c. ⟦<Cell as Chip>⟧.wiring c.cell };
 
     fn edge(&mut self) {
         self.cell.edge();

@@ -3,7 +3,7 @@ ghost use Rattle.std.specs.Prelude.{true, false};
 ghost use Rattle.irq_base.specs.Cell.{fresh_cell};
 ghost use Rattle.irq_base.specs.declared.lines.Trigger.TheVariants as triggers;
 
-use crate::controller::{Controller, ControllerKind};
+use crate::controller::{ChipKind, Controller};
 use irq_base::Trigger;
 use line_cell::Cell;
 
@@ -12,7 +12,7 @@ use line_cell::Cell;
 /// Its lines have the edge flow (`handle_edge_irq`).
 pub struct Latch;
 
-impl ControllerKind for Latch {
+impl ChipKind for Latch {
     ghost fresh = { fresh_cell triggers.Edge true true true false };
 
     fn chip() -> Cell {
@@ -28,7 +28,7 @@ pub type LatchChip = Controller<Latch>;
 /// (`irq_sw_resend`, `kernel/irq/resend.c`). Its lines have the edge flow (`handle_edge_irq`).
 pub struct Plain;
 
-impl ControllerKind for Plain {
+impl ChipKind for Plain {
     ghost fresh = { fresh_cell triggers.Edge false false false false };
 
     fn chip() -> Cell {
@@ -43,7 +43,7 @@ pub type PlainChip = Controller<Plain>;
 /// have the level flow (`handle_level_irq`).
 pub struct Level;
 
-impl ControllerKind for Level {
+impl ChipKind for Level {
     ghost fresh = { fresh_cell triggers.Level false false false false };
 
     fn chip() -> Cell {
@@ -58,7 +58,7 @@ pub type LevelChip = Controller<Level>;
 /// until the end of interrupt. Its lines have the fast-EOI flow (`handle_fasteoi_irq`).
 pub struct Eoi;
 
-impl ControllerKind for Eoi {
+impl ChipKind for Eoi {
     ghost fresh = { fresh_cell triggers.Level false false false true };
 
     fn chip() -> Cell {
@@ -74,7 +74,7 @@ pub type EoiChip = Controller<Eoi>;
 /// (`handle_fasteoi_irq`).
 pub struct Lpi;
 
-impl ControllerKind for Lpi {
+impl ChipKind for Lpi {
     ghost fresh = { fresh_cell triggers.Edge true true true false };
 
     fn chip() -> Cell {

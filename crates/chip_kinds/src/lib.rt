@@ -16,6 +16,6 @@ pub mod controller;
 pub mod kinds;
 pub mod vector;
 
-pub use controller::{Controller, ControllerKind};
+pub use controller::{ChipKind, Controller};
 pub use kinds::{Eoi, EoiChip, Latch, LatchChip, Level, LevelChip, Lpi, LpiChip, Plain, PlainChip};
 pub use vector::VectorChip;

@@ -173,6 +173,7 @@ impl Desc {
         ensures cell { C.cell chip.new ≡ after_mask (C.cell chip.old) }
         ensures active { C.active chip.new ≡ C.active chip.old }
         ensures aimed { C.aimed chip.new ≡ C.aimed chip.old }
+        ensures wiring { C.wiring chip.new ≡ C.wiring chip.old }
     {
         chip.mask();
         self.masked = true;
@@ -186,6 +187,7 @@ impl Desc {
         ensures cell { C.cell chip.new ≡ after_unmask (C.cell chip.old) }
         ensures active { C.active chip.new ≡ C.active chip.old }
         ensures aimed { C.aimed chip.new ≡ C.aimed chip.old }
+        ensures wiring { C.wiring chip.new ≡ C.wiring chip.old }
     {
         chip.unmask();
         let was_masked = self.masked;
@@ -202,6 +204,7 @@ impl Desc {
         ensures cell { C.cell chip.new ≡ masked_if self.old.unlazy (C.cell chip.old) }
         ensures active { C.active chip.new ≡ C.active chip.old }
         ensures aimed { C.aimed chip.new ≡ C.aimed chip.old }
+        ensures wiring { C.wiring chip.new ≡ C.wiring chip.old }
     {
         self.depth += 1;
         if self.unlazy {
@@ -216,6 +219,7 @@ impl Desc {
         ensures cell { C.cell chip.new ≡ masked_if self.old.unlazy (C.cell chip.old) }
         ensures active { C.active chip.new ≡ C.active chip.old }
         ensures aimed { C.aimed chip.new ≡ C.aimed chip.old }
+        ensures wiring { C.wiring chip.new ≡ C.wiring chip.old }
     {
         self.disable(chip);
         self.spurious = true;
@@ -230,6 +234,7 @@ impl Desc {
         ensures cell { C.cell chip.new ≡ cell_started result (C.cell chip.old) }
         ensures active { C.active chip.new ≡ C.active chip.old }
         ensures aimed { C.aimed chip.new ≡ C.aimed chip.old }
+        ensures wiring { C.wiring chip.new ≡ C.wiring chip.old }
     {
         self.depth = 0;
         self.started = true;
@@ -253,6 +258,7 @@ impl Desc {
         ensures cell { C.cell chip.new ≡ after_mask (C.cell chip.old) }
         ensures active { C.active chip.new ≡ C.active chip.old }
         ensures aimed { C.aimed chip.new ≡ C.aimed chip.old }
+        ensures wiring { C.wiring chip.new ≡ C.wiring chip.old }
     {
         self.depth = 1;
         self.started = false;
@@ -268,6 +274,7 @@ impl Desc {
         ensures cell { C.cell chip.new ≡ cell_enabled result (C.cell chip.old) }
         ensures active { C.active chip.new ≡ C.active chip.old }
         ensures aimed { C.aimed chip.new ≡ C.aimed chip.old }
+        ensures wiring { C.wiring chip.new ≡ C.wiring chip.old }
     {
         if self.depth == 0 || !linked {
             return EnableAnswer::Unbalanced;

@@ -4,24 +4,24 @@ use Rattle.std.specs.Prelude.{◌≡◌, ℕ, Bool, true, false, not, ◌&&◌, 
 use Rattle.std.specs.List.{list_any}
 use Rattle.std.specs.Option.{option_map}
 use Rattle.irq_base.specs.Cell.{Cell, is_edge_cell, fresh_cell}
-use Rattle.irq_base.specs.declared.domains.LevelKind.{LevelKind}
+use Rattle.irq_base.specs.declared.domains.ControllerKind.{ControllerKind}
 use Rattle.chip_msi.specs.Messages.{LevelSeen, message_of}
 use Rattle.chip_msi.specs.declared.message.Message.{Message}
 use Rattle.domain_rules.specs.Domains.{is_msi}
 use Rattle.domain_rules.specs.Levels.{is_root_kind, keeps_kind, stores_at_root, retriggers_kind, serves_kind, trigger_of_root}
 
 -- the kinds of a path's levels, leaf first: children, and a root at the end
-abbrev pub is_path_of_kinds : List LevelKind → Bool
+abbrev pub is_path_of_kinds : List ControllerKind → Bool
 is_path_of_kinds [] = false
 is_path_of_kinds (k ∷ []) = is_root_kind k
 is_path_of_kinds (k ∷ (x ∷ xs)) = not (is_root_kind k) && is_path_of_kinds (x ∷ xs)
 
 -- a level of it sends messages
-abbrev pub has_messages : List LevelKind → Bool
+abbrev pub has_messages : List ControllerKind → Bool
 has_messages kinds = list_any is_msi kinds
 
 -- a root of that kind by itself, before anything was done to it
-abbrev pub root_cell : LevelKind → Cell
+abbrev pub root_cell : ControllerKind → Cell
 root_cell kind = fresh_cell (trigger_of_root kind) (keeps_kind kind) (stores_at_root kind) (retriggers_kind kind) (serves_kind kind)
 
 -- The cell of both. The level of messages, if there is one, masks and stores in the root's place,

@@ -6,7 +6,7 @@ ghost use Rattle.domain_rules.specs.Levels.{masking_kind, root_kind, presents_le
 
 use crate::roots::{masks_by_message, root_of};
 use chip_msi::{Message, MsiLevel, compose};
-use irq_base::{Chip, CpuNo, LevelKind};
+use irq_base::{Chip, ControllerKind, CpuNo};
 use line_cell::Cell;
 use std::marker::Model;
 
@@ -38,7 +38,7 @@ impl Chain {
     /// The chip of a path with levels of these kinds, leaf first, one of which can mask, and with
     /// that number at its root. Its mask is closed, it isn't active, and it is aimed at processor
     /// 0.
-    pub fn new(kinds: &[LevelKind], number: u32) -> Chain
+    pub fn new(kinds: &[ControllerKind], number: u32) -> Chain
         requires few { length kinds.now ≤ 8 }
         requires path { is_path_of_kinds kinds.now ≡ true }
         requires masks { is_some (masking_kind kinds.now) ≡ true }
@@ -96,6 +96,8 @@ impl Chip for Chain {
     ghost active = { λ c. c.active };
 
     ghost aimed = { λ c. c.aimed };
+
+    ghost wiring = { λ c. record { levels = c.levels; number = c.number } };
 
     fn edge(&mut self) {
         match &mut self.message {

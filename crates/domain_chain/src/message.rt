@@ -6,7 +6,7 @@ ghost use Rattle.domain_chain.specs.Chains.{fresh_chain, message_by};
 
 use crate::chain::Chain;
 use chip_msi::Message;
-use irq_base::{Chip, CpuNo, LevelKind};
+use irq_base::{Chip, ControllerKind, CpuNo};
 use std::marker::Model;
 
 /// The chip of one message, over a plain root: an edge that comes while it is masked is stored,
@@ -31,7 +31,7 @@ impl MsiChip {
         ensures { result ≡ fresh_chain (fresh_cell triggers.Edge true false false false) 2 (Some number) }
     {
         MsiChip {
-            chain: Chain::new(&[LevelKind::Msi, LevelKind::Plain], number),
+            chain: Chain::new(&[ControllerKind::Msi, ControllerKind::Plain], number),
         }
     }
 
@@ -50,6 +50,8 @@ impl Chip for MsiChip {
     ghost active = { λ c. c.active };
 
     ghost aimed = { λ c. c.aimed };
+
+    ghost wiring = { λ c. record { levels = c.levels; number = c.number } };
 
     fn edge(&mut self) {
         self.chain.edge();

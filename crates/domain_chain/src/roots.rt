@@ -4,36 +4,36 @@ ghost use Rattle.domain_chain.specs.Chains.{root_cell};
 ghost use Rattle.domain_rules.specs.Domains.{is_msi};
 ghost use Rattle.domain_rules.specs.Levels.{is_root_kind, is_some_kind, masking_kind};
 
-use chip_kinds::{ControllerKind, Eoi, Latch, Level, Lpi, Plain};
-use irq_base::{Chip, LevelKind, Trigger};
+use chip_kinds::{ChipKind, Eoi, Latch, Level, Lpi, Plain};
+use irq_base::{Chip, ControllerKind, Trigger};
 use line_cell::Cell;
 
 /// A root of that kind, to which nothing has been done. A vector can't mask by itself: a level
 /// before it does.
-pub(crate) fn root_of(kind: LevelKind) -> Cell
+pub(crate) fn root_of(kind: ControllerKind) -> Cell
     requires { is_root_kind kind ≡ true }
     ensures { ⟦<Cell as Chip>⟧.cell result ≡ root_cell kind }
 {
     match kind {
-        LevelKind::Latch => Latch::chip(),
-        LevelKind::Plain => Plain::chip(),
-        LevelKind::Level => Level::chip(),
-        LevelKind::Eoi => Eoi::chip(),
-        LevelKind::Lpi => Lpi::chip(),
-        LevelKind::Vector | LevelKind::Msi | LevelKind::Remap => {
+        ControllerKind::Latch => Latch::chip(),
+        ControllerKind::Plain => Plain::chip(),
+        ControllerKind::Level => Level::chip(),
+        ControllerKind::Eoi => Eoi::chip(),
+        ControllerKind::Lpi => Lpi::chip(),
+        ControllerKind::Vector | ControllerKind::Msi | ControllerKind::Remap => {
             Cell::new(Trigger::Edge, false, false, true, false)
         }
     }
 }
 
 /// Whether the first level from the device that can mask is one of messages.
-pub(crate) fn masks_by_message(kinds: &[LevelKind]) -> bool
+pub(crate) fn masks_by_message(kinds: &[ControllerKind]) -> bool
     ensures { result ≡ is_some_kind is_msi (masking_kind kinds.now) }
 {
     for kind in kinds {
         match kind {
-            LevelKind::Msi => return true,
-            LevelKind::Remap | LevelKind::Vector => (),
+            ControllerKind::Msi => return true,
+            ControllerKind::Remap | ControllerKind::Vector => (),
             _ => return false,
         }
     }

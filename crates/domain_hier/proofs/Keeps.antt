@@ -10,7 +10,7 @@ use Rattle.std.proofs.lemmas.Option.{slice_get-map}
 use Rattle.irq_base.specs.declared.domains.DomainDef.{DomainDef}
 use Rattle.irq_base.specs.declared.domains.MapKind.{MapKind}
 use Rattle.irq_base.specs.declared.domains.MapKind.TheVariants as kinds
-use Rattle.irq_base.specs.declared.domains.LevelKind.TheVariants as levels
+use Rattle.irq_base.specs.declared.domains.ControllerKind.TheVariants as levels
 use Rattle.domain_maps.specs.Numbers.{virq_at, sizes, size_of_kind, is_on, is_within, has_place_in, HasRoom, with_path, without_path}
 use Rattle.domain_maps.specs.declared.map.DomainMap.{DomainMap}
 use Rattle.domain_rules.specs.Domains.{EachAfter, IsDomainAfter}
@@ -63,7 +63,7 @@ none_past [] i is = omega arith
 none_past (d ∷ ds) zero is = absurd cc
 none_past (d ∷ ds) (suc i) is = omega (arith, none_past ds i is)
 
-fits : (kind : MapKind) (k : ℕ) → is_past_domain (Some (record { map = kind; chip = levels.Remap; parent = None })) k ≡ false → has_place_in (Some (size_of_kind kind)) k ≡ true
+fits : (kind : MapKind) (k : ℕ) → is_past_domain (Some (record { map = kind; kind = levels.Remap; parent = None })) k ≡ false → has_place_in (Some (size_of_kind kind)) k ≡ true
 fits (kinds.Linear n) k e = grind (arith, leb_tells, e)
 fits kinds.Tree k e = refl
 

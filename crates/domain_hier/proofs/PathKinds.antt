@@ -7,8 +7,8 @@ use Rattle.std.specs.Prelude.{nat_le}
 use Rattle.std.proofs.lemmas.List.{map-append}
 use Rattle.std.proofs.lemmas.Bool.{false≢true, leb-false}
 use Rattle.irq_base.specs.declared.domains.DomainDef.{DomainDef}
-use Rattle.irq_base.specs.declared.domains.LevelKind.{LevelKind}
-use Rattle.irq_base.specs.declared.domains.LevelKind.TheVariants as levels
+use Rattle.irq_base.specs.declared.domains.ControllerKind.{ControllerKind}
+use Rattle.irq_base.specs.declared.domains.ControllerKind.TheVariants as levels
 use Rattle.domain_chain.specs.Chains.{is_path_of_kinds, has_messages}
 use Rattle.domain_rules.specs.Domains.{EachAfter, IsDomainAfter, is_bad_parent, is_msi}
 use Rattle.domain_rules.specs.Levels.{is_root_kind, root_kind, presents_level_kind}
@@ -54,7 +54,7 @@ kinds_from_taken domains each i p below =
 
 -- ---- the kinds from a domain up
 
-pub record IsPathOfKinds (kinds : List LevelKind) : Type 0 where
+pub record IsPathOfKinds (kinds : List ControllerKind) : Type 0 where
   pub path : is_path_of_kinds kinds ≡ true
   pub edges : has_messages kinds && presents_level_kind (root_kind kinds) ≡ false
 
@@ -66,7 +66,7 @@ is_root_by : (b : Bool) → not b ≡ false → b ≡ true
 is_root_by true e = refl
 is_root_by false e = absurd (false≢true (sym e))
 
-root_alone : (k : LevelKind) → is_root_kind k ≡ true → IsPathOfKinds (k ∷ [])
+root_alone : (k : ControllerKind) → is_root_kind k ≡ true → IsPathOfKinds (k ∷ [])
 root_alone levels.Latch r = record { path = refl; edges = refl }
 root_alone levels.Plain r = record { path = refl; edges = refl }
 root_alone levels.Level r = record { path = refl; edges = refl }
@@ -76,7 +76,7 @@ root_alone levels.Lpi r = record { path = refl; edges = refl }
 root_alone levels.Msi r = absurd (false≢true r)
 root_alone levels.Remap r = absurd (false≢true r)
 
-child_above : (k : LevelKind) (ks : List LevelKind) → is_root_kind k ≡ false → is_msi k && presents_level_kind (root_kind ks) ≡ false → IsPathOfKinds ks → IsPathOfKinds (k ∷ ks)
+child_above : (k : ControllerKind) (ks : List ControllerKind) → is_root_kind k ≡ false → is_msi k && presents_level_kind (root_kind ks) ≡ false → IsPathOfKinds ks → IsPathOfKinds (k ∷ ks)
 child_above k [] r m h = absurd (false≢true h.path)
 child_above levels.Msi (x ∷ xs) r m h = record { path = h.path; edges = m }
 child_above levels.Remap (x ∷ xs) r m h = record { path = h.path; edges = h.edges }
@@ -88,21 +88,21 @@ child_above levels.Vector (x ∷ xs) r m h = absurd (false≢true (sym r))
 child_above levels.Lpi (x ∷ xs) r m h = absurd (false≢true (sym r))
 
 kinds_by : (domains : List DomainDef) → EachAfter IsDomainAfter domains → (i : ℕ) (def : DomainDef) → slice_get domains i ≡ Some def
-    → ((p : ℕ) → p < i → IsPathOfKinds (kinds_from domains (Some p))) → (o : Option ℕ) → def.parent ≡ o → IsBelow i o → is_bad_parent (take i domains) def.chip o ≡ false
+    → ((p : ℕ) → p < i → IsPathOfKinds (kinds_from domains (Some p))) → (o : Option ℕ) → def.parent ≡ o → IsBelow i o → is_bad_parent (take i domains) def.kind o ≡ false
     → IsPathOfKinds (kind_in (slice_get domains i) ∷ map (λ place. kind_in (slice_get domains place)) (way 7 domains o))
 kinds_by domains each i def at below None is there good =
-    subst (λ o. IsPathOfKinds (kind_in o ∷ [])) (sym at) (root_alone def.chip (is_root_by (is_root_kind def.chip) good))
+    subst (λ o. IsPathOfKinds (kind_in o ∷ [])) (sym at) (root_alone def.kind (is_root_by (is_root_kind def.kind) good))
 kinds_by domains each i def at below (Some p) is there good =
     let kinds = kinds_from (take i domains) (Some p) in
     let goes = way most_levels (take i domains) (Some p) in
-    let first = neither (is_root_kind def.chip) ((is_msi def.chip && presents_level_kind (root_kind kinds)) || nat_le most_levels (length goes)) good in
-    let second = neither (is_msi def.chip && presents_level_kind (root_kind kinds)) (nat_le most_levels (length goes)) first.1 in
+    let first = neither (is_root_kind def.kind) ((is_msi def.kind && presents_level_kind (root_kind kinds)) || nat_le most_levels (length goes)) good in
+    let second = neither (is_msi def.kind && presents_level_kind (root_kind kinds)) (nat_le most_levels (length goes)) first.1 in
     let same : kinds ≡ kinds_from domains (Some p) = kinds_from_taken domains each i p there in
     let short : length (way 8 domains (Some p)) < 8 = omega (arith, ap length (way_taken domains each i most_levels (Some p) there), leb-false most_levels (length goes) second.1) in
     let above : way 8 domains (Some p) ≡ way 7 domains (Some p) = way_shorter domains 7 (Some p) (omega (arith, short)) in
-    let root : is_msi def.chip && presents_level_kind (root_kind (kinds_from domains (Some p))) ≡ false = ap (λ ks. is_msi def.chip && presents_level_kind (root_kind ks)) (sym same) ∙ second.0 in
+    let root : is_msi def.kind && presents_level_kind (root_kind (kinds_from domains (Some p))) ≡ false = ap (λ ks. is_msi def.kind && presents_level_kind (root_kind ks)) (sym same) ∙ second.0 in
     subst (λ o. IsPathOfKinds (kind_in o ∷ map (λ place. kind_in (slice_get domains place)) (way 7 domains (Some p)))) (sym at)
-    (subst (λ ps. IsPathOfKinds (def.chip ∷ map (λ place. kind_in (slice_get domains place)) ps)) above (child_above def.chip (kinds_from domains (Some p)) first.0 root (below p there)))
+    (subst (λ ps. IsPathOfKinds (def.kind ∷ map (λ place. kind_in (slice_get domains place)) ps)) above (child_above def.kind (kinds_from domains (Some p)) first.0 root (below p there)))
 
 at_place : (domains : List DomainDef) (i : ℕ) → i < length domains → (def : DomainDef) × (slice_get domains i ≡ Some def)
 at_place [] i within = absurd (omega (arith, within))
@@ -154,7 +154,7 @@ take_end (y ∷ ys) zero none within = absurd cc
 take_end (y ∷ ys) (suc i) none within = let rest = take_end ys i none (omega (arith, within)) in (omega (arith, rest.0), ap (λ zs. y ∷ zs) rest.1)
 
 -- one more level's kind is in its place
-pub kinds_go_on : (domains : List DomainDef) (path : List (ℕ × ℕ)) (kinds : List LevelKind) (i : ℕ) (level : ℕ × ℕ) (k : LevelKind) → slice_get path i ≡ Some level → k ≡ kind_at domains level → i < length kinds
+pub kinds_go_on : (domains : List DomainDef) (path : List (ℕ × ℕ)) (kinds : List ControllerKind) (i : ℕ) (level : ℕ × ℕ) (k : ControllerKind) → slice_get path i ≡ Some level → k ≡ kind_at domains level → i < length kinds
     → take i kinds ≡ kinds_on domains (take i path) → take (i + 1) (set kinds i k) ≡ kinds_on domains (take (i + 1) path)
 kinds_go_on domains path kinds i level k at is within e =
     take_set kinds i k within ∙ (ap (λ ks. ks ++ k ∷ []) e ∙ (ap (λ x. kinds_on domains (take i path) ++ x ∷ []) is

@@ -9,7 +9,7 @@ ghost use Rattle.domain_rules.specs.Domains.{EachAfter, IsDomainAfter};
 
 use domain_chain::Chain;
 use irq_base::domains::LEVELS;
-use irq_base::{DomainDef, LevelKind, MapKind, Path};
+use irq_base::{ControllerKind, DomainDef, MapKind, Path};
 
 /// The domain at the place; none from their number on.
 pub(crate) fn domain_at(domains: &[DomainDef], place: usize) -> Option<DomainDef>
@@ -19,12 +19,12 @@ pub(crate) fn domain_at(domains: &[DomainDef], place: usize) -> Option<DomainDef
 }
 
 /// The kind of a domain; one that isn't there passes everything on.
-pub(crate) fn kind_of(def: Option<DomainDef>) -> LevelKind
+pub(crate) fn kind_of(def: Option<DomainDef>) -> ControllerKind
     ensures { result ≡ kind_in def }
 {
     match def {
-        Some(def) => def.chip,
-        None => LevelKind::Remap,
+        Some(def) => def.kind,
+        None => ControllerKind::Remap,
     }
 }
 
@@ -50,10 +50,10 @@ pub(crate) fn can_mask(domains: &[DomainDef], left: usize, at: Option<usize>) ->
 }
 
 // Whether a level of that kind can mask.
-fn masks(kind: LevelKind) -> bool
+fn masks(kind: ControllerKind) -> bool
     ensures { result ≡ masks_kind kind }
 {
-    !matches!(kind, LevelKind::Remap | LevelKind::Vector)
+    !matches!(kind, ControllerKind::Remap | ControllerKind::Vector)
 }
 
 /// Whether a level of the path, from that place on, has no room for its number.
@@ -91,11 +91,11 @@ pub(crate) fn chain_on(domains: &[DomainDef], path: &Path) -> Chain
 }
 
 // The kinds of the path's levels, leaf first, in the first places.
-fn kinds_of(domains: &[DomainDef], path: &Path) -> [LevelKind; LEVELS]
+fn kinds_of(domains: &[DomainDef], path: &Path) -> [ControllerKind; LEVELS]
     requires few { length path.now ≤ 8 }
     ensures { take (length path.now) result ≡ kinds_on domains.now path.now }
 {
-    let mut kinds = [LevelKind::Remap; LEVELS];
+    let mut kinds = [ControllerKind::Remap; LEVELS];
     let mut i = 0;
     while let Some((place, _)) = path.get(i) {
         kinds[i] = kind_of(domain_at(domains, place));

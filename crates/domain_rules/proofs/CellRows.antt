@@ -1,15 +1,15 @@
 -- The cells of paths, leaf to root: what is kept, what is recalled, and whether the line can send
 -- again.
 use Rattle.std.proofs.Common.{◌≡◌, Bool, true, false, None, List, [], ◌∷◌, refl}
-use Rattle.irq_base.specs.declared.domains.LevelKind.{LevelKind}
-use Rattle.irq_base.specs.declared.domains.LevelKind.TheVariants as levels
+use Rattle.irq_base.specs.declared.domains.ControllerKind.{ControllerKind}
+use Rattle.irq_base.specs.declared.domains.ControllerKind.TheVariants as levels
 use Rattle.irq_base.specs.declared.lines.FlowKind.{FlowKind}
 use Rattle.irq_base.specs.declared.lines.FlowKind.TheVariants as flows
 use Rattle.irq_base.specs.declared.lines.Trigger.{Trigger}
 use Rattle.irq_base.specs.declared.lines.Trigger.TheVariants as triggers
 use Rattle.domain_rules.specs.Levels.{keeps, recalls, retriggers, masking_kind, trigger_of_root, flow_of_root, serves}
 
-abbrev cell : List LevelKind → Bool × Bool × Bool × Bool
+abbrev cell : List ControllerKind → Bool × Bool × Bool × Bool
 cell kinds = (keeps kinds, recalls kinds, retriggers kinds, serves kinds)
 
 latch : cell (levels.Latch ∷ []) ≡ (true, true, true, false)
@@ -64,7 +64,7 @@ remap_vector = refl
 
 -- triggers and flows come of the root
 
-abbrev handling : LevelKind → Trigger × FlowKind
+abbrev handling : ControllerKind → Trigger × FlowKind
 handling root = (trigger_of_root root, flow_of_root root)
 
 abbrev handled_by : Trigger → FlowKind → Trigger × FlowKind

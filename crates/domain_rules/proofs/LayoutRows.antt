@@ -2,16 +2,16 @@
 -- themselves.
 use Rattle.std.proofs.Common.{◌≡◌, ℕ, Option, Some, None, List, [], ◌∷◌, refl}
 use Rattle.irq_base.specs.declared.domains.DomainDef.{DomainDef}
-use Rattle.irq_base.specs.declared.domains.LevelKind.{LevelKind}
-use Rattle.irq_base.specs.declared.domains.LevelKind.TheVariants as levels
+use Rattle.irq_base.specs.declared.domains.ControllerKind.{ControllerKind}
+use Rattle.irq_base.specs.declared.domains.ControllerKind.TheVariants as levels
 use Rattle.irq_base.specs.declared.domains.MapKind.{MapKind}
 use Rattle.irq_base.specs.declared.domains.MapKind.TheVariants as maps
 use Rattle.domain_rules.specs.Layout.{layout_of}
 use Rattle.domain_rules.specs.declared.layouts.Placement.TheVariants as placements
 use Rattle.domain_rules.specs.declared.layouts.Unmapped.TheVariants as reasons
 
-abbrev domain : MapKind → LevelKind → Option ℕ → DomainDef
-domain map chip parent = record { map = map; chip = chip; parent = parent }
+abbrev domain : MapKind → ControllerKind → Option ℕ → DomainDef
+domain map kind parent = record { map = map; kind = kind; parent = parent }
 
 abbrev domains : List DomainDef
 domains =

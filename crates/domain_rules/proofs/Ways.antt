@@ -4,8 +4,8 @@ use Rattle.std.proofs.Common.{◌≡◌, ℕ, zero, suc, ◌<◌, ◌≤◌, Boo
 use Rattle.std.specs.List.{slice_get}
 use Rattle.std.proofs.lemmas.List.{length-take}
 use Rattle.irq_base.specs.declared.domains.DomainDef.{DomainDef}
-use Rattle.irq_base.specs.declared.domains.LevelKind.{LevelKind}
-use Rattle.irq_base.specs.declared.domains.LevelKind.TheVariants as levels
+use Rattle.irq_base.specs.declared.domains.ControllerKind.{ControllerKind}
+use Rattle.irq_base.specs.declared.domains.ControllerKind.TheVariants as levels
 use Rattle.domain_rules.specs.Domains.{EachAfter, IsDomainAfter, is_bad_parent}
 use Rattle.domain_rules.specs.Levels.{is_root_kind, root_kind, keeps}
 use Rattle.domain_rules.specs.Paths.{most_levels, way, kind_in, parent_in, kinds_from}
@@ -47,20 +47,20 @@ kinds_stay xs x place each within = way_stays most_levels xs x (Some place) each
 
 -- each level above which another stands is a child
 abbrev AreChildren : List DomainDef → Type 0
-AreChildren domains = (place : ℕ) (def : DomainDef) → slice_get domains place ≡ Some def → (parent : ℕ) → def.parent ≡ Some parent → is_root_kind def.chip ≡ false
+AreChildren domains = (place : ℕ) (def : DomainDef) → slice_get domains place ≡ Some def → (parent : ℕ) → def.parent ≡ Some parent → is_root_kind def.kind ≡ false
 
 no_parent_of_root : (r rest : Bool) → (r || rest) ≡ false → r ≡ false
 no_parent_of_root r rest h = grind arith
 
 are_children : (domains : List DomainDef) → EachAfter IsDomainAfter domains → AreChildren domains
 are_children domains each place def at parent up =
-    no_parent_of_root (is_root_kind def.chip) _ (sym (ap (is_bad_parent (take place domains) def.chip) up) ∙ (each place def at).parent)
+    no_parent_of_root (is_root_kind def.kind) _ (sym (ap (is_bad_parent (take place domains) def.kind) up) ∙ (each place def at).parent)
 
 child_of : (domains : List DomainDef) → AreChildren domains → (place parent : ℕ) (r : Option DomainDef) → slice_get domains place ≡ r → parent_in r ≡ Some parent → is_root_kind (kind_in r) ≡ false
 child_of domains children place parent None at up = absurd cc
 child_of domains children place parent (Some def) at up = children place def at parent up
 
-keeps_more : (k : LevelKind) (ks : List LevelKind) → is_root_kind k ≡ false → keeps ks ≡ true → keeps (k ∷ ks) ≡ true
+keeps_more : (k : ControllerKind) (ks : List ControllerKind) → is_root_kind k ≡ false → keeps ks ≡ true → keeps (k ∷ ks) ≡ true
 keeps_more levels.Latch ks h rest = absurd cc
 keeps_more levels.Plain ks h rest = absurd cc
 keeps_more levels.Level ks h rest = absurd cc
@@ -70,7 +70,7 @@ keeps_more levels.Remap ks h rest = rest
 keeps_more levels.Vector ks h rest = absurd cc
 keeps_more levels.Lpi ks h rest = absurd cc
 
-lpi_alone : (k : LevelKind) → k ≡ levels.Lpi → keeps (k ∷ []) ≡ true
+lpi_alone : (k : ControllerKind) → k ≡ levels.Lpi → keeps (k ∷ []) ≡ true
 lpi_alone k h = ap (λ k. keeps (k ∷ [])) h
 
 lpi_keeps : (domains : List DomainDef) → AreChildren domains → (n place : ℕ)

@@ -20,6 +20,7 @@ pub fn enter<C: Chip>(desc: &mut Desc, chip: &mut C, cpu: CpuNo, linked: bool) -
     ensures cell { C.cell chip.new ≡ edge_cell result (C.cell chip.old) }
     ensures active { C.active chip.new ≡ C.active chip.old }
     ensures aimed { C.aimed chip.new ≡ C.aimed chip.old }
+    ensures wiring { C.wiring chip.new ≡ C.wiring chip.old }
 {
     chip.ack();
     if desc.flow().is_some() {
@@ -47,6 +48,7 @@ pub fn leave<C: Chip>(desc: &mut Desc, chip: &mut C, _held: bool) -> Left
     ensures cell { C.cell chip.new ≡ unmasked_if result.unmask (C.cell chip.old) }
     ensures active { C.active chip.new ≡ C.active chip.old }
     ensures aimed { C.aimed chip.new ≡ C.aimed chip.old }
+    ensures wiring { C.wiring chip.new ≡ C.wiring chip.old }
 {
     if !desc.pending() || desc.disabled() {
         desc.set_flow(None);

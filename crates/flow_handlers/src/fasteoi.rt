@@ -30,6 +30,7 @@ pub fn enter<C: Chip>(
     ensures cell { C.cell chip.new ≡ eoi_cell trigger desc.old.oneshot result (C.cell chip.old) }
     ensures active { C.active chip.new ≡ C.active chip.old }
     ensures aimed { C.aimed chip.new ≡ C.aimed chip.old }
+    ensures wiring { C.wiring chip.new ≡ C.wiring chip.old }
 {
     match trigger {
         Trigger::Edge => enter_edge(desc, chip, cpu, linked),
@@ -43,6 +44,7 @@ fn enter_edge<C: Chip>(desc: &mut Desc, chip: &mut C, cpu: CpuNo, linked: bool) 
     ensures cell { C.cell chip.new ≡ eoi_edge_cell result (C.cell chip.old) }
     ensures active { C.active chip.new ≡ C.active chip.old }
     ensures aimed { C.aimed chip.new ≡ C.aimed chip.old }
+    ensures wiring { C.wiring chip.new ≡ C.wiring chip.old }
 {
     chip.ack();
     if desc.flow().is_some() {
@@ -64,6 +66,7 @@ fn enter_level<C: Chip>(desc: &mut Desc, chip: &mut C, cpu: CpuNo, linked: bool)
     ensures cell { C.cell chip.new ≡ eoi_level_cell desc.old.oneshot result (C.cell chip.old) }
     ensures active { C.active chip.new ≡ C.active chip.old }
     ensures aimed { C.aimed chip.new ≡ C.aimed chip.old }
+    ensures wiring { C.wiring chip.new ≡ C.wiring chip.old }
 {
     if desc.flow().is_some() {
         chip.eoi();
@@ -87,6 +90,7 @@ fn turn_off<C: Chip>(desc: &mut Desc, chip: &mut C) -> TakeAnswer
     ensures cell { C.cell chip.new ≡ after_eoi (after_mask (C.cell chip.old)) }
     ensures active { C.active chip.new ≡ C.active chip.old }
     ensures aimed { C.aimed chip.new ≡ C.aimed chip.old }
+    ensures wiring { C.wiring chip.new ≡ C.wiring chip.old }
 {
     desc.set_pending(true);
     desc.mask(chip);
@@ -106,6 +110,7 @@ pub fn leave<C: Chip>(desc: &mut Desc, chip: &mut C, held: bool, trigger: Trigge
     ensures cell { C.cell chip.new ≡ eoi_ended_cell result (C.cell chip.old) }
     ensures active { C.active chip.new ≡ C.active chip.old }
     ensures aimed { C.aimed chip.new ≡ C.aimed chip.old }
+    ensures wiring { C.wiring chip.new ≡ C.wiring chip.old }
 {
     chip.eoi();
     desc.set_flow(None);
@@ -123,6 +128,7 @@ fn send_again<C: Chip>(desc: &mut Desc, chip: &mut C) -> Left
     ensures cell { C.cell chip.new ≡ retriggered_if result.again (C.cell chip.old) }
     ensures active { C.active chip.new ≡ C.active chip.old }
     ensures aimed { C.aimed chip.new ≡ C.aimed chip.old }
+    ensures wiring { C.wiring chip.new ≡ C.wiring chip.old }
 {
     let again = desc.pending() && !desc.disabled();
     if again {
@@ -142,6 +148,7 @@ fn open_again<C: Chip>(desc: &mut Desc, chip: &mut C, held: bool) -> Left
     ensures cell { C.cell chip.new ≡ unmasked_if result.unmask (C.cell chip.old) }
     ensures active { C.active chip.new ≡ C.active chip.old }
     ensures aimed { C.aimed chip.new ≡ C.aimed chip.old }
+    ensures wiring { C.wiring chip.new ≡ C.wiring chip.old }
 {
     let unmask = desc.oneshot() && !desc.disabled() && desc.masked() && !held;
     if unmask {

@@ -19,6 +19,7 @@ pub fn enter<C: Chip>(desc: &mut Desc, chip: &mut C, cpu: CpuNo, linked: bool) -
     ensures cell { C.cell chip.new ≡ level_cell (C.cell chip.old) }
     ensures active { C.active chip.new ≡ C.active chip.old }
     ensures aimed { C.aimed chip.new ≡ C.aimed chip.old }
+    ensures wiring { C.wiring chip.new ≡ C.wiring chip.old }
 {
     desc.mask(chip);
     chip.ack();
@@ -43,6 +44,7 @@ pub fn leave<C: Chip>(desc: &mut Desc, chip: &mut C, held: bool) -> Left
     ensures cell { C.cell chip.new ≡ unmasked_if result.unmask (C.cell chip.old) }
     ensures active { C.active chip.new ≡ C.active chip.old }
     ensures aimed { C.aimed chip.new ≡ C.aimed chip.old }
+    ensures wiring { C.wiring chip.new ≡ C.wiring chip.old }
 {
     desc.set_flow(None);
     let unmask = !desc.disabled() && desc.masked() && !held;

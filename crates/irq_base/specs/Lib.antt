@@ -4,5 +4,6 @@ pub mod ReportsSeen
 pub mod PathLevels
 pub mod Handlers
 pub mod Cell
+pub mod Wiring
 pub mod Codes
 pub mod Packed

@@ -62,5 +62,16 @@ pub struct DeviceDef {
     pub kind: Kind,
 }
 
+/// A run of a handler.
+#[derive(Clone, Copy, PartialEq, Eq)]
+pub struct Run {
+    /// Whose handler it is.
+    pub def: DeviceDef,
+    /// Which part of it runs.
+    pub part: Part,
+    /// How many asks of the device were unserved as the run began.
+    pub unserved: u32,
+}
+
 /// The devices of a line, in order.
 pub type DeviceList = ItemList<DeviceDef>;

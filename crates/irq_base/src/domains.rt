@@ -14,7 +14,7 @@ pub enum MapKind {
 
 /// What a level of interrupt controllers does with the signal (ours).
 #[derive(Clone, Copy, PartialEq, Eq)]
-pub enum LevelKind {
+pub enum ControllerKind {
     /// A root that presents edges and stores those that come while it is masked.
     Latch,
     /// A root that presents edges and drops those that come while it is masked.
@@ -39,7 +39,7 @@ pub struct DomainDef {
     /// How it maps hardware numbers.
     pub map: MapKind,
     /// What its controllers do with the signal.
-    pub chip: LevelKind,
+    pub kind: ControllerKind,
     /// The place of its parent among the domains before it; none for a root.
     pub parent: Option<usize>,
 }

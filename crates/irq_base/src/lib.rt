@@ -21,11 +21,12 @@ pub mod numbers;
 mod packed;
 mod parts;
 pub mod reporting;
+pub mod waiting;
 
 pub use calls::{Call, CallList, Flags};
 pub use chip::Chip;
-pub use devices::{Answer, DeviceDef, DeviceList, Kind, Part};
-pub use domains::{DomainDef, LevelKind, MapKind, Path};
+pub use devices::{Answer, DeviceDef, DeviceList, Kind, Part, Run};
+pub use domains::{ControllerKind, DomainDef, MapKind, Path};
 pub use entries::{
     Actor, AffinityAnswer, EnableAnswer, Entry, Errno, LinkAnswer, Note, Opened, Resend,
     TakeAnswer, UnlinkAnswer, Way,
@@ -36,3 +37,4 @@ pub use lists::ItemList;
 pub use memory::NoMemory;
 pub use numbers::{CpuNo, DevNo, DriverNo, LineNo};
 pub use reporting::{LineReport, Logs, Reports};
+pub use waiting::{Blocks, WaitFor};

@@ -1,5 +1,5 @@
 //! The plain chip.
-ghost use Rattle.std.specs.Prelude.{◌≡◌, ℕ, ◌<◌, Bool, true, false};
+ghost use Rattle.std.specs.Prelude.{◌≡◌, ℕ, ◌<◌, Bool, None, true, false};
 ghost use Rattle.irq_base.specs.Cell.{fresh_cell};
 
 use irq_base::{Chip, CpuNo, Trigger};
@@ -59,6 +59,8 @@ impl Chip for Cell {
     ghost active = { λ c. c.active };
 
     ghost aimed = { λ c. c.target.0 };
+
+    ghost wiring = { λ _. record { levels = 1; number = None } };
 
     fn edge(&mut self) {
         if self.masked {

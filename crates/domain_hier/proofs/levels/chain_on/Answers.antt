@@ -1,5 +1,5 @@
 use Rattle.std.proofs.Common.{◌≡◌, take, ◌&&◌, List, ap, ◌∙◌}
-use Rattle.irq_base.specs.declared.domains.LevelKind.{LevelKind}
+use Rattle.irq_base.specs.declared.domains.ControllerKind.{ControllerKind}
 use Rattle.domain_chain.specs.Chains.{is_path_of_kinds, has_messages}
 use Rattle.domain_rules.specs.Levels.{root_kind, presents_level_kind}
 use Rattle.domain_rules.specs.Paths.{kinds_on}
@@ -16,4 +16,4 @@ pub new-requires-clause-path : goal.new-requires-clause-path
 new-requires-clause-path c = ap is_path_of_kinds (kinds_are c) ∙ (are_kinds c).path
 
 pub new-requires-clause-edges : goal.new-requires-clause-edges
-new-requires-clause-edges c = ap (λ (ks : List LevelKind). has_messages ks && presents_level_kind (root_kind ks)) (kinds_are c) ∙ (are_kinds c).edges
+new-requires-clause-edges c = ap (λ (ks : List ControllerKind). has_messages ks && presents_level_kind (root_kind ks)) (kinds_are c) ∙ (are_kinds c).edges
