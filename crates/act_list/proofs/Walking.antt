@@ -1,4 +1,4 @@
--- The walk over the actions: those before a place have begun.
+-- The walk over the actions: all before a place have begun.
 use Rattle.std.proofs.Common.{◌≡◌, ℕ, zero, suc, ◌+◌, ◌≤◌, ◌<◌, Bool, true, false, cond, bit_or, Option, Some, None, IfSome, option_map, unwrap_or, slice_get, List, [], ◌∷◌, ◌++◌, take, drop, length, refl, sym, ap, subst, ◌∙◌, add-one, arith}
 use Rattle.std.proofs.lemmas.List.{take-append-le}
 use Rattle.irq_base.specs.declared.numbers.DevNo.{DevNo}
@@ -51,7 +51,7 @@ pub left_none : (b : List (DevNo × Bool)) (o : Option (DevNo × Action)) → No
 left_none b None h = tt
 left_none b (Some e) h = cc
 
--- the action at the place is the first that is left
+-- if all before place i have begun, the action at i is the first that is left
 pub left_at : (b : List (DevNo × Bool)) (t : Actions) (i : ℕ) → i ≤ length t → AreBegun b (take i t) → IfSome (slice_get t i) (λ e. begun_at b e.0 ≡ false) → option_map first_of (slice_get t i) ≡ first_left b t
 left_at b [] i small h left = refl
 left_at b (e ∷ es) zero small h left = sym (ap (λ c. cond c (first_left b es) (Some e.0)) left)

@@ -100,8 +100,8 @@ abbrev pub HaveBits : List (DevNo × Action) → Type 0
 HaveBits [] = Unit {0}
 HaveBits (e ∷ es) = (count_ones e.1.bit ≡ bits_due e.1.flags) × (e.1.bit < 2 ^ 64) × HaveBits es
 
--- the actions go together, and no two have the same bit: as many are in use as there are one-shot
--- actions
+-- the actions go together, and no two have the same bit: the number of bits in use is the number of
+-- one-shot actions
 pub record AreKept (t : List (DevNo × Action)) : Type 0 where
   pub alike : AreAlike t
   pub have : HaveBits t

@@ -36,7 +36,7 @@ flags_of (e ∷ es) = (e.0, e.1.flags) ∷ flags_of es
 abbrev pub begun_at : List (DevNo × Bool) → DevNo → Bool
 begun_at b d = unwrap_or (at b d) false
 
--- the first linked device whose handler wasn't
+-- the first linked device whose handler wasn't called in the round
 abbrev pub first_left : List (DevNo × Bool) → List (DevNo × Action) → Option DevNo
 first_left b [] = None
 first_left b (e ∷ es) = if begun_at b e.0 then first_left b es else Some e.0

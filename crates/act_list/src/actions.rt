@@ -20,8 +20,8 @@ pub struct Action {
     pub bit: u64,
 }
 
-/// The linked devices with their actions, in the order in which they were linked. Contracts see
-/// that list, and how many more fit without memory.
+/// The linked devices with their actions, in the order of their requests. Contracts see that list,
+/// and how many more actions fit without memory.
 #[derive(Drop)]
 pub(crate) struct Actions {
     map: IndexMap<DevNo, Action>,
@@ -62,7 +62,7 @@ impl Actions {
         self.map.is_empty()
     }
 
-    /// The device at the place, counted from 0; none from the length on.
+    /// The device of the action at `place`, counted from 0; none from the length on.
     pub(crate) fn device(&self, place: usize) -> Option<DevNo>
         ensures { result ≡ option_map first_of (slice_get self.now.actions place) }
     {
@@ -109,7 +109,7 @@ impl Actions {
         Ok(())
     }
 
-    /// What a request with these flags of a device of that kind is answered.
+    /// What a request with these flags is answered, of a device of this kind.
     pub(crate) fn answer(&self, kind: Kind, flags: Flags) -> LinkAnswer
         ensures answer { result ≡ answer_by kind flags self.now.actions }
         ensures many { result
@@ -132,8 +132,8 @@ impl Actions {
         LinkAnswer::Linked
     }
 
-    /// Whether the flags don't go with those of the linked actions: it is enough to look at the
-    /// first.
+    /// Whether the flags don't go with the linked actions. These agree with one another, so the
+    /// first is enough.
     fn is_mismatch(&self, flags: Flags) -> bool
         ensures { result ≡ is_mismatch flags self.now.actions }
     {
@@ -143,8 +143,8 @@ impl Actions {
         }
     }
 
-    /// Whether each of the 64 thread bits is in use: each one-shot action has one, and all linked
-    /// ones are one-shot.
+    /// Whether the request needs a thread bit and all 64 are in use. Then the linked actions are
+    /// one-shot too, and each has a bit.
     fn has_no_bit(&self, flags: Flags) -> bool
         requires { is_mismatch flags self.now.actions ≡ false }
         ensures many { result ≡ (flags.oneshot && (length self.now.actions == 64)) }
@@ -165,7 +165,7 @@ impl Actions {
         used
     }
 
-    /// The thread bit of the action at the place, 0 if it has none.
+    /// The thread bit of the action at `place`, 0 if it has none.
     fn bit_at(&self, place: usize) -> u64
         ensures { result ≡ bit_in (slice_get self.now.actions place) }
     {
@@ -224,7 +224,7 @@ impl Actions {
     }
 }
 
-/// Whether the new flags don't go with those of a linked action.
+/// Whether the flags of a request don't go with the flags of a linked action.
 fn differ(new: Flags, old: Flags) -> bool
     ensures { result ≡ flags_differ new old }
 {

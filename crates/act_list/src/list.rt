@@ -39,7 +39,7 @@ impl Model for ActList {
 }
 
 impl ActList {
-    /// The list of a line of which nothing was linked yet. The only error is `NoMemory`.
+    /// The empty list: no device is linked. The only error is `NoMemory`.
     pub fn new(alloc: Global, def: &LineDef) -> Result<ActList, NoMemory>
         requires { HasDistinctDevices def.now.devices }
         ensures { IfOk result (λ a. a.list ≡ first_list def.now.devices) }
@@ -85,7 +85,7 @@ impl ActList {
         self.actions.bit(dev)
     }
 
-    /// What a request with these flags of a device of that kind is answered (`__setup_irq`).
+    /// What a request with these flags is answered, of a device of this kind (`__setup_irq`).
     pub fn answer(&self, kind: Kind, flags: Flags) -> LinkAnswer
         ensures answer { result ≡ answer_by kind flags self.now.list.actions }
         ensures many { result
@@ -107,9 +107,9 @@ impl ActList {
     }
 
     /// Links a device with an action at the end, or says why not: EINVAL for a shared request that
-    /// isn't to start the line, EBUSY if its flags don't go with those of the others or all thread
+    /// isn't to start the line, EBUSY if its flags don't go with the linked actions' or all thread
     /// bits are in use, EINVAL for the default handler without one-shot. `NoMemory` comes only if
-    /// it would be linked and there was no room.
+    /// the device would be linked and there was no room.
     pub fn link(&mut self, dev: DevNo, kind: Kind, flags: Flags) -> Result<LinkAnswer, NoMemory>
         requires { has dev self.old.list.actions ≡ false }
         ensures answer { IfOk result
@@ -132,8 +132,8 @@ impl ActList {
         Ok(answer)
     }
 
-    /// Takes the device's action out, and says whether it was there and the last (`__free_irq`).
-    /// The rest keeps its order.
+    /// Takes the device's action out, and says whether it was there, and whether it was the last
+    /// (`__free_irq`). The rest keeps its order.
     pub fn unlink(&mut self, dev: DevNo) -> UnlinkAnswer
         ensures answer { result ≡ unlink_by dev self.old.list.actions }
         ensures list { self.new.list ≡ after_unlink dev self.old.list }
@@ -212,8 +212,8 @@ fn is_stamped(stamps: &DeviceTable<u32>, stamp: u32, dev: DevNo) -> bool
     }
 }
 
-/// The place of the first action from `from` on whose device lacks the stamp, or the number of
-/// actions.
+/// The place of the first action, from `from` on, whose device doesn't have the stamp; the number
+/// of actions if all have it.
 fn place_left(actions: &Actions, stamps: &DeviceTable<u32>, stamp: u32, from: usize) -> usize
     requires within { from ≤ length actions.now.actions }
     requires begun { AreBegun (stamped stamp stamps.now) (take from actions.now.actions) }

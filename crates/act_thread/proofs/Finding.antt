@@ -1,4 +1,4 @@
--- The lowest rank is that of the lowest device.
+-- The lowest rank belongs to the lowest device.
 use Rattle.std.proofs.Common.{◌≡◌, ℕ, ◌<◌, ◌≤◌, Bool, true, false, ◌||◌, ◌&&◌, ◌⊎◌, Option, Some, None, List, refl, sym, ap, ◌∙◌, inl, inr, arith}
 use Rattle.std.proofs.lemmas.Bool.{cases_lt, or_cases, and_parts, both_ways}
 use Rattle.irq_base.specs.declared.numbers.DevNo.{DevNo}

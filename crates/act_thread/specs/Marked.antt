@@ -12,7 +12,7 @@ abbrev pub is_rank : ℕ → Option ℕ → Bool
 is_rank r None = false
 is_rank r (Some s) = r == s
 
--- the ranks in the set are those of the devices whose rows pass
+-- a device's rank is in the set exactly if its row passes
 pub record AreMarked (p : ThreadRow → Bool) (t : List (DevNo × ThreadRow)) (ranks : List (DevNo × ℕ)) (words : List ℕ) : Type 0 where
   pub here : (d : DevNo) (row : ThreadRow) (r : ℕ) → at t d ≡ Some row → at ranks d ≡ Some r
       → holds words r ≡ p row

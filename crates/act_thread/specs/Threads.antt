@@ -19,7 +19,7 @@ active_in t = weigh_all active_row t
 abbrev pub held_in : List (DevNo × ThreadRow) → ℕ
 held_in t = how_many (λ r. r.held) t
 
--- the test of a device's row; what it is of a device without a row
+-- the test of a device's row; `absent` is the answer for a device without a row
 abbrev pub row_passes : (ThreadRow → Bool) → Bool → Option ThreadRow → Bool
 row_passes p absent None = absent
 row_passes p absent (Some r) = p r

@@ -19,7 +19,7 @@ set_answer a mask =
     if is_some (lowest_in a.cpus mask) then (if a.later then moves.Later else moves.Now)
     else moves.Refused errors.Inval
 
--- a later mask takes the place of one that waits
+-- a mask that has to wait takes the place of one that waits already
 abbrev pub after_set : AffinityAnswer → ℕ → AimSeen → AimSeen
 after_set moves.Now mask a = record a { mask = mask; waiting = None }
 after_set moves.Later mask a = record a { waiting = Some mask }

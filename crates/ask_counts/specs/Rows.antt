@@ -34,6 +34,6 @@ called serves r = record r { met_by_handler = r.unserved; fresh = if serves then
 abbrev pub begun : Bool → AskRow → AskRow
 begun serves r = record r { met_by_thread = r.unserved; fresh = if serves then 0 else r.fresh }
 
--- a serving run returns: what was asked since it began is left
+-- a serving run returns: only what was asked since it began stays unserved
 abbrev pub served : Bool → AskRow → AskRow
 served serves r = record r { unserved = if serves then r.fresh else r.unserved }

@@ -32,7 +32,7 @@ impl Model for Asks {
 }
 
 impl Asks {
-    /// The devices of the line, of which none has asked. The only error is `NoMemory`.
+    /// The counts of the line's devices before any ask. The only error is `NoMemory`.
     pub fn new(alloc: Global, def: &LineDef) -> Result<Asks, NoMemory>
         requires distinct { HasDistinctDevices def.now.devices }
         requires few { length def.now.devices ≤ 256 }
@@ -108,8 +108,8 @@ impl Asks {
         self.replace(dev, row, new);
     }
 
-    /// A run of the device returns. `serves`: it was its serving run, so that the asks since it
-    /// began are left.
+    /// A run of the device returns. `serves`: it was its serving run; then only the asks that came
+    /// since it began stay unserved.
     pub fn served(&mut self, dev: DevNo, serves: bool)
         ensures { self.new ≡ change (served serves) self.old dev }
     {

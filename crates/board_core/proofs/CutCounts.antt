@@ -76,7 +76,7 @@ one_line (y ∷ ys) apart line part = by_test (same_line line y.def.line) refl (
 -- ---- the calls before a place
 
 module _ (ds : List LineDef) (r : DriverNo) where
-  -- those that are kept of the first p calls
+  -- how many of the first p calls are kept
   abbrev pub kept : ℕ → List ScriptCall → ℕ
   kept p cs = length (cut ds r (take p cs))
 
@@ -99,7 +99,7 @@ module _ (ds : List LineDef) (r : DriverNo) where
       by_test true deeper = omega (arith, deeper)
       by_test false deeper = deeper
 
-  -- the call at the place stands behind them
+  -- the call at place p stands behind the kept ones before it
   pub at_cut : (cs : List ScriptCall) (p : ℕ) (d : ScriptCall) → slice_get cs p ≡ Some d → (same_driver r d.driver && takes_part ds d.line) ≡ true → slice_get (cut ds r cs) (kept p cs) ≡ Some d
   at_cut [] p d at test = cc
   at_cut (c ∷ cs) zero d at test =
@@ -111,7 +111,7 @@ module _ (ds : List LineDef) (r : DriverNo) where
       by_test true deeper = deeper
       by_test false deeper = deeper
 
-  -- as many on each line that takes part
+  -- the cut script has as many calls on each line that takes part
   pub same_on : (line : LineNo) → takes_part ds line ≡ true → (cs : List ScriptCall) → calls_on line r (cut ds r cs) ≡ calls_on line r cs
   same_on line part [] = refl
   same_on line part (c ∷ cs) = by_on (is_on line r c) refl (same_on line part cs)
@@ -166,7 +166,7 @@ module _ (lines : List BoardLine) (apart : AreApart (map (λ (x : BoardLine). x.
               ∙ by_line (same_line c.line x.def.line) (calls_on x.def.line r (cut defs r cs))
 
   module _ (calls : List ScriptCall) (p : ℕ) (u : IsUpTo calls lines r p) where
-    -- the complete calls on all lines are those of the cut script before its place
+    -- the complete calls on all lines are the calls of the cut script before its place
     pub complete_all : sum_by (completed_on r) lines ≡ kept defs r p calls
     complete_all =
         sum_same (completed_on r) (λ (x : BoardLine). calls_on x.def.line r (cut defs r (take p calls))) lines

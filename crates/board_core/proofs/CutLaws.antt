@@ -39,7 +39,7 @@ cut_mine ds r (d ∷ cs) i c at = by_test (same_driver r d.driver && takes_part 
     by_test false test i at deeper = deeper i at
 
 module _ (lines : List BoardLine) (r : DriverNo) where
-  -- as many of the driver's calls on each line
+  -- both lists have equally many of the driver's calls on each line
   abbrev SameCounts : List ScriptCall → List ScriptCall → Type 0
   SameCounts before other = (y : BoardLine) → IsThe lines y → calls_on y.def.line r before ≡ calls_on y.def.line r other
 

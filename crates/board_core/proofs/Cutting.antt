@@ -161,7 +161,7 @@ all_cut board i calls scripts same end within are =
 
 -- ---- scripts without calls
 
--- those of the first i drivers
+-- the scripts of the first i drivers
 pub record AreEmpty (board : BoardSeen) (i : ℕ) (scripts : List ScriptSeen) : Type 0 where
   pub drivers : map (λ (s : ScriptSeen). s.driver) scripts ≡ take i board.drivers
   pub each : (j : ℕ) (s : ScriptSeen) → slice_get scripts j ≡ Some s → IsCut board 0 s
@@ -190,7 +190,7 @@ empty_more board i r scripts now s at is push are =
 pub all_empty : (board : BoardSeen) (i : ℕ) (scripts : List ScriptSeen) → length board.drivers ≤ i → AreEmpty board i scripts → AreCut board 0 scripts
 all_empty board i scripts end are = record { drivers = are.drivers ∙ all_taken board.drivers i end; each = are.each }
 
--- a driver's place is that of a script
+-- at a driver's place there is a script
 pub script_there : (board : BoardSeen) (scripts : List ScriptSeen) (drivers : List ℕ) (n : ℕ) (q : Option ℕ) → map (λ (s : ScriptSeen). s.driver) scripts ≡ board.drivers → drivers ≡ numbers_of_drivers board.drivers → IsPlaceOfNumber drivers n q
     → IfSome q (λ j. j < length scripts)
 script_there board scripts drivers n None are of_drivers place = tt

@@ -20,7 +20,7 @@ begins_is (entries.Unlink driver dev unlinks.NotThere) = refl
 begins_is (entries.Unlink driver dev (unlinks.Unlinked last)) = refl
 begins_is e = refl
 
--- a call of so many entries
+-- with one entry more than n, a call of 1, 2 or 3 entries is incomplete or not
 of_one : (n : ℕ) → nat_lt (n + 1) 1 ≡ false
 of_one n = le-ltb (n + 1) 1 (omega arith)
 

@@ -223,7 +223,7 @@ own_more rs rises numbers are x e due q place scripts new is own = subst (λ (ss
             own_goes x e s is_own (by s.driver ∙ (ap (λ (d : DriverNo). same_driver d r) mine ∙ same_self_driver r))
             (ap (λ (d : DriverNo). next_past x.def x.past (actors.Driver d)) mine ∙ (ap (λ (a : Actor). next_past x.def x.past a) (sym who) ∙ due))
 
--- the place is that of a script
+-- at the actor's place there is a script
 pub actor_fits : (board : BoardSeen) (scripts : List ScriptSeen) (numbers : List ℕ) (a : Actor) (q : Option ℕ) → drivers_of scripts ≡ board.drivers → numbers ≡ numbers_of_drivers board.drivers → IsPlaceOfActor numbers a q → IfSome q (λ j. j < length scripts)
 actor_fits board scripts numbers (actors.Driver r) q are is place = script_there board scripts numbers r.0 q are is place
 actor_fits board scripts numbers (actors.Cpu c) q are is place = subst (λ (o : Option ℕ). IfSome o (λ j. j < length scripts)) (sym place) tt
@@ -231,7 +231,7 @@ actor_fits board scripts numbers (actors.Thread line d) q are is place = subst (
 
 -- ---- the scripts on a line without entries, call by call
 
--- the driver's calls among these, of which nothing is complete
+-- the driver's calls among cs, with no call complete
 pub record IsBare (cs : List (DriverNo × Call)) (s : ScriptSeen) : Type 0 where
   pub calls : map (λ (y : Step). y.call.call) s.steps ≡ calls_by s.driver cs
   pub at : s.at ≡ 0

@@ -40,7 +40,7 @@ module _ {A : Type 0} (key : A → ℕ) (xs : List A) (below : (i j : ℕ) (x y 
   pub rising_map : IsRising (map key xs)
   rising_map i j le within = before i j (two_ways i j le) (let n = length-map xs key in omega (arith, within, n))
 
--- each definition is that of one of the rows
+-- each definition is made of one of the rows
 row_of : (b : BoardSeen) (rows : List LineRow) (places : List Placement) (i : ℕ) (d : LineDef) → slice_get (map (line_of_row b) (mapped rows places)) i ≡ Some d → (k : ℕ) × (r : LineRow) × (slice_get rows k ≡ Some r) × (r.line.0 ≡ d.line.0)
 row_of b [] places i d at = cc
 row_of b (row ∷ rows) [] i d at = cc
@@ -82,7 +82,7 @@ pub rising_drivers : (board : BoardSeen) → IsBoard board → (numbers : List �
 rising_drivers board isb numbers is =
     subst IsRising (sym is) (rising_map (λ (r : DriverNo). r.0) board.drivers (λ i j r s at_i at_j less. rising_below board.drivers (λ k d at. (isb.drivers k d at).rises) i j r s at_i at_j less))
 
--- a number that is above those before a place, and below those from it on, doesn't stand anywhere
+-- a number above all before place i, and below all from i on, stands nowhere in the list
 pub not_there : (numbers : List ℕ) (n i : ℕ) → ((k : ℕ) → k < i → get_or numbers k 0 < n) → ((k : ℕ) → i ≤ k → k < length numbers → n < get_or numbers k 0) → (k : ℕ) → slice_get numbers k ≡ Some n → ⊥
 not_there numbers n i below above k at = by_side (side k i)
   where

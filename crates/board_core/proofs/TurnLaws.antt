@@ -177,7 +177,7 @@ module _ (board : BoardSeen) (isb : IsBoard board) (layout : List Placement) (li
   line_is : (x : LineSeen) → slice_get lines k ≡ Some x → slice_get (board_lines lines) k ≡ Some (board_line x)
   line_is x at = map_there board_line lines k x at
 
-  -- what is due of the actor at the place
+  -- the move that is due of the actor on the line at place k
   abbrev due_here : Option Move
   due_here = due_on (slice_get (board_lines lines) k) a
 

@@ -36,7 +36,7 @@ merged (k ∷ ks) lines =
 abbrev pub moves_of : List ℕ → List LineSeen → List Move
 moves_of order lines = reverse (merged (reverse order) (board_lines lines))
 
--- how often the order has the place
+-- how often place k stands in the order
 abbrev pub times : ℕ → List ℕ → ℕ
 times k [] = 0
 times k (j ∷ order) = (if j == k then 1 else 0) + times k order
@@ -49,7 +49,7 @@ pub record IsWalk (cursors order : List ℕ) (lines : List LineSeen) : Type 0 wh
   pub from : (k : ℕ) (x : LineSeen) → slice_get lines k ≡ Some x
       → slice_index cursors k + times k order ≡ length x.entries
 
--- the move that the entry of the line at the place n was, counted from 0
+-- entry n of the line as a move, counted from 0; none from the history's length on
 abbrev pub move_at : Option LineSeen → ℕ → Option Move
 move_at None n = None
 move_at (Some x) n = move_on x.def.line (slice_get x.entries n)

@@ -21,7 +21,7 @@ MakesAll makes board layout =
     → slice_get layout i ≡ Some (placements.Mapped virq path)
     → makes virq (line_of_row board row)
 
--- the line of that definition, to which nothing has happened; none if it has no place
+-- the line of the definition, to which nothing has happened; none if the layout refused it
 abbrev pub IsNewLine : LineDef → Option Placement → Option LineSeen → Type 0
 IsNewLine def (Some (placements.Mapped virq path)) made =
     IsSomeAnd made (λ x. board_line x ≡ record { def = def; past = [] })
@@ -31,7 +31,7 @@ IsNewLine def _ made = made ≡ None
 abbrev pub AreNew : BoardSeen → List LineSeen → Type 0
 AreNew board lines = board_lines lines ≡ lines_of board []
 
--- the driver's script over the first n calls, of which nothing is complete
+-- the driver's script, made of the board's first n calls, with no call complete
 pub record IsCut (board : BoardSeen) (n : ℕ) (s : ScriptSeen) : Type 0 where
   pub at : s.at ≡ 0
   pub made : s.made ≡ 0
@@ -39,17 +39,17 @@ pub record IsCut (board : BoardSeen) (n : ℕ) (s : ScriptSeen) : Type 0 where
   pub places : (i : ℕ) (x : Step) → slice_get s.steps i ≡ Some x
       → slice_get (numbers_of_defs (defs_of board)) x.place ≡ Some x.call.line.0
 
--- such a script for each driver
+-- each driver's script of the first n calls
 pub record AreCut (board : BoardSeen) (n : ℕ) (scripts : List ScriptSeen) : Type 0 where
   pub drivers : map (λ (s : ScriptSeen). s.driver) scripts ≡ board.drivers
   pub each : (j : ℕ) (s : ScriptSeen) → slice_get scripts j ≡ Some s → IsCut board n s
 
--- over all calls
+-- each driver's script of all calls
 abbrev pub AreNewScripts : BoardSeen → List ScriptSeen → Type 0
 AreNewScripts board scripts = AreCut board (length board.calls) scripts
 
--- the scripts with the call at the end of the one at place j; as they were unless there are both
--- places
+-- the scripts, with the call added at the end of the script at place j; k is the place of the
+-- call's line
 abbrev pub call_put : Option ScriptSeen → ℕ → ℕ → ScriptCall → List ScriptSeen → List ScriptSeen
 call_put None j k c scripts = scripts
 call_put (Some s) j k c scripts =
@@ -59,6 +59,6 @@ abbrev pub with_call : Option ℕ → Option ℕ → ScriptCall → List ScriptS
 with_call (Some j) (Some k) c scripts = call_put (slice_get scripts j) j k c scripts
 with_call _ _ c scripts = scripts
 
--- each is sound
+-- each line is sound
 abbrev pub AreSound : List LineSeen → Type 0
 AreSound lines = (i : ℕ) (x : LineSeen) → slice_get lines i ≡ Some x → IsSound x

@@ -8,7 +8,7 @@ abbrev pub IsRising : List ℕ → Type 0
 IsRising numbers =
     (i j : ℕ) → i ≤ j → j < length numbers → slice_index numbers i ≤ slice_index numbers j
 
--- the number stands there; none if it doesn't stand
+-- the place in the list at which the number stands; none if it stands nowhere
 abbrev pub IsPlaceOfNumber : List ℕ → ℕ → Option ℕ → Type 0
 IsPlaceOfNumber numbers n None = (k : ℕ) → slice_get numbers k ≡ Some n → ⊥
 IsPlaceOfNumber numbers n (Some k) = slice_get numbers k ≡ Some n

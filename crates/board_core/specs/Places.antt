@@ -14,7 +14,7 @@ abbrev pub line_at : List BoardLine → Option ℕ → Option BoardLine
 line_at lines None = None
 line_at lines (Some k) = slice_get lines k
 
--- the place is that of this line; without a place there is no such line
+-- the line stands at this place of the list; no place: there is no line
 abbrev pub IsPlace : List BoardLine → Option ℕ → Option BoardLine → Type 0
 IsPlace lines None line = line ≡ None
 IsPlace lines (Some k) line = IsSome line × (slice_get lines k ≡ line)

@@ -27,23 +27,23 @@ made_of (Some due) = due.1
 abbrev pub made_on : DriverNo → BoardLine → ℕ
 made_on r x = made_of (due_call x.def r x.past)
 
--- the most of them on any of the lines
+-- the largest number of such entries on any of the lines
 abbrev pub most_made : DriverNo → List BoardLine → ℕ
 most_made r [] = 0
 most_made r (x ∷ lines) = max (made_on r x) (most_made r lines)
 
--- The script, gone on by all that its driver has done on the lines. At most one of them has a call
--- of the driver that has begun, since its calls are made one after another.
+-- The script after all that its driver has done on the lines. At most one of them has a call of the
+-- driver that has begun, since its calls are made one after another.
 abbrev pub placed : List BoardLine → ScriptSeen → ScriptSeen
 placed lines s = record s { at = s.at + sum_by (completed_on s.driver) lines; made = max s.made (most_made s.driver lines) }
 
--- each script is
+-- each script stands after all that its driver has done
 pub record ArePlaced (lines : List BoardLine) (old new : List ScriptSeen) : Type 0 where
   pub drivers : drivers_of new ≡ drivers_of old
   pub each : (j : ℕ) (s : ScriptSeen) → slice_get old j ≡ Some s
       → slice_get new j ≡ Some (placed lines s)
 
--- the scripts have as many calls left as are complete on the lines
+-- each script has at least as many calls left as its driver has complete on the lines
 abbrev pub HaveRoom : List BoardLine → List ScriptSeen → Type 0
 HaveRoom lines scripts = (j : ℕ) (s : ScriptSeen) → slice_get scripts j ≡ Some s
     → s.at + sum_by (completed_on s.driver) lines ≤ length s.steps
@@ -52,22 +52,22 @@ HaveRoom lines scripts = (j : ℕ) (s : ScriptSeen) → slice_get scripts j ≡ 
 abbrev pub with_entry : Entry → BoardLine → BoardLine
 with_entry e x = record { def = x.def; past = e ∷ x.past }
 
--- a driver's script on one line alone: its calls there, as far as the line's entries are
+-- a driver's script on one line alone: its calls there, after what the line's entries tell
 pub record IsOwn (x : BoardLine) (s : ScriptSeen) : Type 0 where
   pub calls : map (λ (y : Step). y.call.call) s.steps ≡ calls_by s.driver x.def.calls
   pub at : s.at ≡ completed_on s.driver x
   pub made : s.made ≡ made_on s.driver x
 
--- such a script for each of the drivers
+-- each of the drivers has its script on the line alone
 pub record AreOwn (all : List DriverNo) (x : BoardLine) (scripts : List ScriptSeen) : Type 0 where
   pub drivers : drivers_of scripts ≡ all
   pub each : (j : ℕ) (s : ScriptSeen) → slice_get scripts j ≡ Some s → IsOwn x s
 
--- a script, gone on by as much as another has done
+-- the script after what `own`, the driver's script on one line alone, has done
 abbrev pub joined : ScriptSeen → ScriptSeen → ScriptSeen
 joined own s = record s { at = s.at + own.at; made = max s.made own.made }
 
--- each has one at its place by which it can go on
+-- at each place both lists have a script, and the second has room for what `own` has done
 abbrev pub CanJoin : List ScriptSeen → List ScriptSeen → Type 0
 CanJoin own scripts = (j : ℕ) (s : ScriptSeen) → slice_get scripts j ≡ Some s
     → IsSomeAnd (slice_get own j) (λ o. s.at + o.at ≤ length s.steps)

@@ -13,8 +13,8 @@ pub record IsFresh (s : SystemSeen) : Type 0 where
   pub lines : board_lines s.lines ≡ lines_of s.board []
   pub log : s.log ≡ []
 
--- each move so far was the next one; the picks that are left, but for some that can't move, are
--- `rest`
+-- each move so far was the next one; `rest` are the picks that are left, perhaps without some that
+-- can't move
 pub record IsUnderway (s : SystemSeen) (picks rest : List Actor) : Type 0 where
   pub lines : board_lines s.lines ≡ lines_of s.board (reverse s.log)
   pub left : List Actor
@@ -30,8 +30,8 @@ IsPlay s picks (ends.Full line len) =
 IsPlay s picks ends.NoMemory = (left : List Actor) × IsChosen s.board picks (reverse s.log) left
     × IsSome (choice s.board (lines_of s.board (reverse s.log)) left)
 
--- no actor can move; or the lowest that can has a line without room, whose length is answered; or
--- it needed memory
+-- no actor can move; or the lowest actor that can move has a line without room, and the length of
+-- its history is answered; or memory was needed
 abbrev pub Ends : SystemSeen → PlayEnd → Type 0
 Ends s ends.Done = lowest_move s ≡ None
 Ends s (ends.Full line len) = IsFullFor s (lowest_move s) line len

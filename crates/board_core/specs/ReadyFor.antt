@@ -19,7 +19,7 @@ use Rattle.board_core.specs.declared.scripts.Step.{Step}
 abbrev pub barriers_of : Blocks → Barriers
 barriers_of blocks = record { flow = blocks.flow; threads = blocks.threads; mutex = blocks.mutex; device = blocks.freed }
 
--- the line's part
+-- the part that tells of the line
 pub record IsPartOf (x : LineSeen) (part : LinePart) : Type 0 where
   pub thread : IsLowestThread x part.thread
   pub flow : part.flow ≡ flow_of x
@@ -50,7 +50,7 @@ pub record IsReadyFor (lines : List LineSeen) (scripts : List ScriptSeen) (ready
   pub each_driver : (j : ℕ) (s : ScriptSeen) → slice_get scripts j ≡ Some s
       → slice_get ready.drivers j ≡ Some (call_of s)
 
--- the line's lowest ready thread is that of the device, or of one of a lower number
+-- the line's lowest ready thread is the device's, or that of a device with a lower number
 abbrev pub is_up_to : DevNo → Option DevNo → Bool
 is_up_to d None = false
 is_up_to d (Some lowest) = nat_le lowest.0 d.0

@@ -22,7 +22,7 @@ pub record AsksCall (scripts : List ScriptSeen) (j : ℕ) (old new : List (Optio
   pub is : (s : ScriptSeen) → slice_get scripts j ≡ Some s → call ≡ call_of s
   pub set : new ≡ slice_set old j call
 
--- the same if there is a driver to be asked; else nothing changes
+-- the call of the driver at this place is put in; nothing changes without a place
 abbrev pub AsksScript : List ScriptSeen → Option ℕ → List (Option CurrentCall)
     → List (Option CurrentCall) → Type 0
 AsksScript scripts None old new = new ≡ old

@@ -18,8 +18,8 @@ use Rattle.board_play.specs.Lines.{BoardLine}
 use Rattle.board_core.specs.declared.scripts.Step.{Step}
 use Rattle.board_core.specs.declared.turns.DueCall.{DueCall}
 
--- a driver's script: its calls with the places of their lines, at which of them it is, and how many
--- entries of that one are there
+-- a driver's script: its calls with the places of their lines, the place of the current call, and
+-- how many entries that call has made
 pub record ScriptSeen : Type 0 where
   pub driver : DriverNo
   pub steps : List Step
@@ -40,7 +40,7 @@ abbrev pub is_not_there : Entry → Bool
 is_not_there (entries.Unlink driver dev unlinks.NotThere) = true
 is_not_there _ = false
 
--- the entry is the last of its call, of which n entries stand before it
+-- the entry is the last of its call, which has made n entries before it
 abbrev pub completes : Call → ℕ → Entry → Bool
 completes (calls.Free dev) n e = if n == 0 then is_not_there e else nat_le 2 n
 completes calls.Disable n e = nat_le 2 n

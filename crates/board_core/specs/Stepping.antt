@@ -8,7 +8,7 @@ use Rattle.irq_line.specs.Seen.{LineSeen}
 use Rattle.irq_line.specs.declared.answers.StepRefused.{StepRefused}
 use Rattle.irq_line.specs.declared.answers.StepRefused.TheVariants as refusals
 
--- the entry that is due of the actor stands at the end, and there was a place for it
+-- the entry that is due of the actor stands at the history's end, which had room for it
 pub record Adds (old : LineSeen) (who : Actor) (entry : Entry) (new : LineSeen) : Type 0 where
   pub due : next old.def old.entries who ≡ Some entry
   pub below : length old.entries < old.def.log

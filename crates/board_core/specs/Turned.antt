@@ -14,12 +14,13 @@ use Rattle.board_core.specs.Turns.{TurnsBy}
 use Rattle.board_core.specs.declared.turns.Turn.{Turn}
 use Rattle.board_core.specs.declared.turns.Turn.TheVariants as turns
 
--- a step in which that move was to be made, if any; memory may be refused at any of them
+-- what a step answers and leaves; `due` is the move to be made, if there is one; memory may be
+-- refused at any step
 abbrev pub StepsBy : SystemSeen → Option Move → Turn → SystemSeen → Type 0
 StepsBy old due turns.NoMemory new = new ≡ old
 StepsBy old due turn new = TurnsBy old due turn new
 
--- the place of the actor's script: a driver's own
+-- the place of a driver's script; none for a thread or a processor
 abbrev pub IsScriptOf : List DriverNo → Actor → Option ℕ → Type 0
 IsScriptOf drivers (actors.Driver r) None = ⊥
 IsScriptOf drivers (actors.Driver r) (Some j) = slice_get drivers j ≡ Some r
@@ -30,7 +31,7 @@ abbrev pub script_after : Option ScriptSeen → ℕ → Entry → List ScriptSee
 script_after None j e scripts = scripts
 script_after (Some s) j e scripts = slice_set scripts j (advanced e s)
 
--- the scripts after what the step added
+-- the scripts after the step: the one at place j goes on by the entry that was added
 abbrev pub scripts_after : Option ℕ → Result (Option Entry) StepRefused → List ScriptSeen
     → List ScriptSeen
 scripts_after (Some j) (Ok (Some e)) scripts = script_after (slice_get scripts j) j e scripts

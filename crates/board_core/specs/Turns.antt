@@ -15,11 +15,11 @@ use Rattle.board_core.specs.declared.turns.Turn.TheVariants as turns
 abbrev pub move_of : SystemSeen → Actor → Option Move
 move_of s a = due_move s.board (board_lines s.lines) a
 
--- the length of the history of the line of that number
+-- the line is there, and its history has this length
 abbrev pub HasLength : Option BoardLine → ℕ → Type 0
 HasLength o len = IsSomeAnd o (λ x. length x.past ≡ len)
 
--- it was the move that was to be made, and its line had room for it; the log tells it last
+-- m was the move that is due, its line had room for it, and the log now ends with it
 pub record Moves (old : SystemSeen) (due : Option Move) (m : Move) (new : SystemSeen) : Type 0 where
   pub is : due ≡ Some m
   pub room : IsSomeAnd (find_line (board_lines old.lines) m.0) (λ x. length x.past < old.board.log)
@@ -28,7 +28,7 @@ pub record Moves (old : SystemSeen) (due : Option Move) (m : Move) (new : System
   pub lines : board_lines new.lines ≡ lines_after m (board_lines old.lines)
   pub log : new.log ≡ old.log ++ m ∷ []
 
--- there is a move to be made, and its line has no room: the length is answered
+-- a move is due, and its line has no room: the length of its history is answered
 pub record IsFullFor (s : SystemSeen) (due : Option Move) (line : LineNo) (len : ℕ) : Type 0 where
   pub move : Move
   pub is : due ≡ Some move
@@ -36,15 +36,16 @@ pub record IsFullFor (s : SystemSeen) (due : Option Move) (line : LineNo) (len :
   pub length : HasLength (find_line (board_lines s.lines) line) len
   pub log : len ≡ s.board.log
 
--- a turn in which that move was to be made, if any; memory is needed only if one was
+-- what a turn answers and leaves; `due` is the move to be made, if there is one; memory is needed
+-- only for a move
 abbrev pub TurnsBy : SystemSeen → Option Move → Turn → SystemSeen → Type 0
 TurnsBy old due (turns.Moved line entry) new = Moves old due (line, entry) new
 TurnsBy old due turns.NotYet new = (due ≡ None) × (new ≡ old)
 TurnsBy old due (turns.Full line len) new = IsFullFor old due line len × (new ≡ old)
 TurnsBy old due turns.NoMemory new = IsSome due × (new ≡ old)
 
--- The actor has a move. Of a thread no more is known than that some thread of its line has one, of
--- a device of no higher number: a line tells the lowest of its threads alone.
+-- The actor has a move. For a thread less is known: it, or the thread of a device with a lower
+-- number, has a move on its line; a line tells only the lowest of its threads.
 abbrev pub MayMove : SystemSeen → Actor → Type 0
 MayMove s (actors.Thread line d) =
     (lowest : DevNo) × (lowest.0 ≤ d.0) × IsSome (move_of s (actors.Thread line lowest))

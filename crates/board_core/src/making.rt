@@ -35,7 +35,7 @@ pub(crate) fn make_lines<L: IrqLine, M: MakesLine<L>>(
     Ok(lines)
 }
 
-/// The line of that definition, by the maker; none if it has no place.
+/// The line that the maker makes of the definition; none if the layout refused it.
 fn make_line<L: IrqLine, M: MakesLine<L>>(
     alloc: Global,
     placement: Option<Placement>,
@@ -55,7 +55,7 @@ fn make_line<L: IrqLine, M: MakesLine<L>>(
     }
 }
 
-/// A script for each driver, of which nothing is complete: one pass over the calls of all.
+/// A script for each driver, with no call complete: one pass over the board's calls.
 pub(crate) fn make_scripts(
     alloc: Global,
     board: &Board,
@@ -90,7 +90,8 @@ pub(crate) fn empty_scripts(alloc: Global, board: &Board) -> Result<Vec<Script>,
     Ok(scripts)
 }
 
-/// The call goes to the end of that script, if it has one and its line has a place.
+/// Adds the call at the end of the script at place `script`. Nothing changes if its driver has no
+/// script, or if its line takes no part and so has no `place`.
 pub(crate) fn push_call(
     scripts: &mut Vec<Script>,
     script: Option<usize>,

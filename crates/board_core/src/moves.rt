@@ -10,8 +10,8 @@ use std::marker::Model;
 /// How many lines a board has at most.
 pub(crate) const LINES: usize = 64;
 
-/// The moves of a log, the oldest first. Contracts see the list of those that are left. It lends
-/// values alone, and takes no memory.
+/// The moves of a log, the oldest first. Contracts see the list of the moves that are left. It
+/// lends values alone, and takes no memory.
 #[derive(Drop)]
 pub struct Moves<'s, L: IrqLine> {
     lines: &'s [L],
@@ -83,7 +83,7 @@ fn length_of<L: IrqLine>(line: &L) -> u32
     line.history().len() as u32
 }
 
-/// The place that the order has there.
+/// The place of a line that stands at index `at` of the order.
 fn place_at(order: &[u16], at: usize) -> Option<usize>
     ensures place { result ≡ slice_get order.now at }
     ensures small { IfSome result (λ k. (k < 65536) × (at < 2 ^ 63)) }
@@ -94,7 +94,7 @@ fn place_at(order: &[u16], at: usize) -> Option<usize>
     }
 }
 
-/// The entry at the cursor of the line at the place.
+/// The entry at index `cursor` of the history of the line at `place`, with the line's number.
 fn move_at<L: IrqLine>(lines: &[L], place: usize, cursor: u32) -> Option<(LineNo, Entry)>
     requires { place < length lines.now }
     ensures entry { result ≡ move_at (slice_get (map L.seen lines.now) place) cursor }

@@ -7,8 +7,8 @@ use callbacks::{Callbacks, Handler};
 use irq_base::{Actor, Entry};
 use irq_line::{IrqLine, StepRefused};
 
-/// A step of the line at the place: what it adds, the order tells. It takes room in the order
-/// first, so that nothing is refused after the step.
+/// A step of the line at `place`. If it adds an entry, `place` goes to the end of the order. Room
+/// in the order is taken first, so that nothing is refused after the step.
 #[inline(always)]
 pub(crate) fn step_place<L: IrqLine, H: Handler>(
     lines: &mut Vec<L>,
@@ -32,7 +32,7 @@ pub(crate) fn step_place<L: IrqLine, H: Handler>(
     stepped
 }
 
-/// The order tells what was added.
+/// Adds the place at the end of the order, if the step added an entry.
 fn tell(order: &mut Vec<u16>, place: usize, stepped: &Result<Option<Entry>, StepRefused>)
     requires few { place < 65536 }
     requires room { vec_len order.old + 1 ≤ vec_capacity order.old }

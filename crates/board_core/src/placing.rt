@@ -16,7 +16,8 @@ use irq_base::{Actor, Entry, LineDef, LineNo, NoMemory};
 use irq_line::IrqLine;
 use std::alloc::Global;
 
-/// Each script goes on by all that its driver has done on these lines: one pass over all entries.
+/// Moves each script on past all that its driver has done on these lines: one pass over all
+/// entries.
 pub(crate) fn place_scripts<L: IrqLine>(
     alloc: Global,
     board: &Board,
@@ -37,7 +38,7 @@ pub(crate) fn place_scripts<L: IrqLine>(
     Ok(())
 }
 
-/// Each script goes on by the one at its place.
+/// Moves each script on by what the script at the same place of `own` has done.
 fn join(scripts: &mut Vec<Script>, own: &[Script])
     requires many { length scripts.old.items ≡ length own.now }
     requires fits { CanJoin own.now scripts.old.items }
@@ -48,7 +49,7 @@ fn join(scripts: &mut Vec<Script>, own: &[Script])
     }
 }
 
-/// The drivers' scripts on one line alone, as far as its entries are.
+/// The drivers' scripts on one line alone, after what the line's entries tell.
 fn own_scripts<L: IrqLine>(
     alloc: Global,
     board: &Board,
@@ -97,7 +98,7 @@ fn place_of_actor(board: &Board, driver_numbers: &[u32], actor: Actor) -> Option
     }
 }
 
-/// The drivers' scripts on one line alone, of which nothing is complete.
+/// The drivers' scripts on one line alone, with no call complete.
 fn line_scripts(
     alloc: Global,
     board: &Board,

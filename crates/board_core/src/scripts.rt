@@ -60,7 +60,7 @@ impl Script {
         Ok(())
     }
 
-    /// Whose it is.
+    /// The driver whose script it is.
     pub fn driver(&self) -> DriverNo
         ensures { result ≡ self.now.driver }
     {
@@ -101,7 +101,7 @@ impl Script {
         }
     }
 
-    /// Goes on by as much as the other script of the driver has done.
+    /// Goes on by what `own`, the driver's script on one line alone, has done.
     pub fn join(&mut self, own: &Script)
         requires { self.old.at + own.now.at ≤ length self.old.steps }
         ensures { self.new ≡ joined own.now self.old }

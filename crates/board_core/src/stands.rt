@@ -1,6 +1,7 @@
 //! Where an actor steps.
 
-/// The place of the actor's line among those that take part, and, of a driver, that of its script.
+/// Where an actor steps: the place of its line among the lines that take part and, for a driver,
+/// the place of its script.
 #[derive(Clone, Copy)]
 pub struct Stand {
     /// The place of its line.

@@ -411,7 +411,7 @@ impl<'b, L: IrqLine> System<'b, L> {
         }
     }
 
-    /// A step of the actor at its place.
+    /// A step of the actor on its own line.
     #[inline(always)]
     fn step_at<H: Handler>(&mut self, stand: Stand, actor: Actor, handlers: &Callbacks<H>) -> Turn
         requires { IsAt self.old actor stand }
@@ -420,7 +420,7 @@ impl<'b, L: IrqLine> System<'b, L> {
         self.step_stand(stand, actor, handlers)
     }
 
-    /// A step of the actor at that place.
+    /// A step of the actor on the line of `stand`.
     #[inline(always)]
     fn step_stand<H: Handler>(
         &mut self,
@@ -493,7 +493,7 @@ impl<'b, L: IrqLine> System<'b, L> {
     }
 }
 
-/// Whether the line's lowest ready thread is that of the device, or of one below it.
+/// Whether the line's lowest ready thread is the device's, or that of a device with a lower number.
 fn has_thread_up_to(part: Option<LinePart>, dev: DevNo) -> bool
     ensures { result ≡ has_thread_up_to part dev }
 {

@@ -7,7 +7,7 @@ use crate::turns::Turn;
 use irq_base::{Entry, LineNo};
 use irq_line::StepRefused;
 
-/// The script at the place goes on with what was added.
+/// The script at place `script` goes on by the entry that the step added, if it added one.
 pub(crate) fn advance(
     scripts: &mut Vec<Script>,
     script: Option<usize>,
@@ -23,7 +23,7 @@ pub(crate) fn advance(
     }
 }
 
-/// What a step of that line comes to as a turn.
+/// What a turn answers, by what the step of its line answered.
 pub(crate) fn turn_of(line: LineNo, stepped: Result<Option<Entry>, StepRefused>) -> Turn
     ensures { result ≡ turn_of line stepped }
 {

@@ -38,7 +38,7 @@ from_cut p k (suc n) (suc m) few none = ap (cond (p k) (Some k)) (from_cut p (k 
 pub first_cut : (p : ℕ → Bool) (n m : ℕ) → n ≤ m → ((i : ℕ) → n ≤ i → i < m → p i ≡ false) → first_of p m ≡ first_of p n
 first_cut p n m few none = from_cut p 0 n m few (λ i a b. none i (omega (arith, a)) (omega (arith, b)))
 
--- two tests that agree below n, of which the other passes nothing from there on
+-- two tests that agree below n, where q passes nothing from n on
 pub first_within : (p q : ℕ → Bool) (n m : ℕ) → n ≤ m → ((i : ℕ) → i < n → q i ≡ p i) → ((i : ℕ) → n ≤ i → i < m → q i ≡ false) → first_of q m ≡ first_of p n
 first_within p q n m few same none = first_cut q n m few none ∙ same_first q p n same
 

@@ -1,4 +1,4 @@
--- The sets stay those of the lists.
+-- The sets go on saying the same as the lists.
 use Rattle.std.proofs.Common.{◌≡◌, ℕ, zero, suc, ◌<◌, Bool, true, false, not, ◌&&◌, ◌||◌, cond, eqb, unwrap_or, Option, Some, None, List, [], ◌∷◌, length, slice_get, set, replicate, refl, sym, ap, ◌∙◌, eqb-true, arith}
 use Rattle.std.proofs.lemmas.Bool.{eqb-false}
 use Rattle.board_ready.specs.Kept.{thread_of, AreThreads, AreOnLines, AreWaiting, AreReady}

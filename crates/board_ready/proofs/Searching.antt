@@ -12,7 +12,7 @@ use Rattle.board_ready.specs.declared.parts.ReadyThread.{ReadyThread}
 use Rattle.board_ready.proofs.First.{first_within, found_below}
 use Rattle.board_ready.proofs.Numbers.{either_has}
 
--- the first of 64 lines is the first of those that there are
+-- a search over 64 places finds the first of the lines that there are
 parts_first : (test : Option LinePart → Bool) (lines : List LinePart) (on : ℕ → Bool) → test None ≡ false → length lines ≤ 64 → ((k : ℕ) → k < 64 → on k ≡ test (slice_get lines k))
     → first_of on 64 ≡ first_of (λ k. test (slice_get lines k)) (length lines)
 parts_first test lines on none few is =

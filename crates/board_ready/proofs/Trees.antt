@@ -42,7 +42,7 @@ lowest_split f k (suc m) n =
     joined_assoc (f k) (lowest_in f (k + 1) m) (lowest_in f (k + suc m) n)
     ∙ (ap (lower_of (f k)) (ap (λ j. lower_of (lowest_in f (k + 1) m) (lowest_in f j n)) e ∙ lowest_split f (k + 1) m n) ∙ ap (lowest_in f k) z)
 
--- so many threads below a node that stands h levels above them, and the node of the first of them
+-- how many threads stand below a node h levels above them, and the node of the first of them
 abbrev size : ℕ → ℕ
 size zero = 1
 size (suc h) = size h + size h

@@ -1,4 +1,4 @@
--- What the ready actors keep: their sets are those of the two lists.
+-- What the ready actors keep: their sets say the same as the two lists.
 use Rattle.std.specs.Prelude.{◌≡◌, ℕ, ◌<◌, Option, Some, None, List, slice_get}
 use Rattle.irq_base.specs.declared.numbers.DevNo.{DevNo}
 use Rattle.board_ready.specs.Sets.{has, leaf, is_of, CallsSeen, on_line, word_for, is_on, is_waiting}

@@ -17,7 +17,7 @@ use Rattle.board_ready.specs.declared.parts.WaitFor.TheVariants as waits
 abbrev pub idle : LinePart
 idle = record { thread = None; flow = None; taker = None; barriers = record { flow = false; threads = false; mutex = false; device = false } }
 
--- of two threads the one whose device has the lower number; of one number the first
+-- of two threads the one whose device has the lower number; with equal numbers the first
 abbrev pub lower : ReadyThread → ReadyThread → ReadyThread
 lower a b = if nat_lt b.dev.0 a.dev.0 then b else a
 
@@ -31,7 +31,7 @@ abbrev pub thread_on : ℕ → Option DevNo → Option ReadyThread
 thread_on k None = None
 thread_on k (Some d) = Some (record { line = k; dev = d })
 
--- the lowest of the lines' threads, the first of them at place k
+-- the lowest thread of these lines, the first of which stands at place k
 abbrev pub lowest_from : ℕ → List LinePart → Option ReadyThread
 lowest_from k [] = None
 lowest_from k (x ∷ xs) = lower_of (thread_on k x.thread) (lowest_from (k + 1) xs)
@@ -40,12 +40,12 @@ lowest_from k (x ∷ xs) = lower_of (thread_on k x.thread) (lowest_from (k + 1) 
 abbrev pub lowest_thread : List LinePart → Option ReadyThread
 lowest_thread lines = lowest_from 0 lines
 
--- it is this processor
+-- it is processor c
 abbrev pub is_cpu : ℕ → Option CpuNo → Bool
 is_cpu c None = false
 is_cpu c (Some cpu) = cpu.0 == c
 
--- the line has its flow on this processor; a take is due of it there
+-- the line's flow is on processor c; a take of the line is due of processor c
 abbrev pub has_flow : ℕ → Option LinePart → Bool
 has_flow c None = false
 has_flow c (Some x) = is_cpu c x.flow
@@ -54,7 +54,7 @@ abbrev pub has_take : ℕ → Option LinePart → Bool
 has_take c None = false
 has_take c (Some x) = is_cpu c x.taker
 
--- the first line on which it has its flow, and the first on which a take is due of it
+-- the first line that has its flow on processor c, and the first on which a take is due of it
 abbrev pub flow_line : List LinePart → ℕ → Option ℕ
 flow_line lines c = first_of (λ k. has_flow c (slice_get lines k)) (length lines)
 
@@ -134,7 +134,7 @@ abbrev pub is_device : DevNo → Option DevNo → Bool
 is_device d None = false
 is_device d (Some x) = x.0 == d.0
 
--- the line's thread is that of this device
+-- the line's ready thread is the device's
 abbrev pub has_thread : DevNo → Option LinePart → Bool
 has_thread d None = false
 has_thread d (Some x) = is_device d x.thread

@@ -41,7 +41,7 @@ is_of words c k = has (slice_index words c) k
 abbrev pub AreSome : List ℕ → ℕ → Type 0
 AreSome words some = (c : ℕ) → c < 64 → has some c ≡ is_some (first_of (is_of words c) 64)
 
--- the drivers by line, and by what they wait for
+-- the drivers, by the line of their call and by what it waits for
 pub record CallsSeen : Type 0 where
   pub lines : List ℕ
   pub waiting : Waiting
@@ -49,7 +49,7 @@ pub record CallsSeen : Type 0 where
 abbrev pub on_line : CallsSeen → ℕ → ℕ
 on_line s k = slice_index s.lines k
 
--- those that wait for that
+-- the set of the drivers that wait for this
 abbrev pub word_for : WaitFor → Waiting → ℕ
 word_for waits.Nothing w = w.nothing
 word_for waits.Flow w = w.flow
@@ -57,7 +57,7 @@ word_for waits.Threads w = w.threads
 word_for waits.Mutex w = w.mutex
 word_for waits.Device w = w.device
 
--- it is that which is waited for
+-- both are the same thing to wait for
 abbrev pub is_wait : WaitFor → WaitFor → Bool
 is_wait waits.Nothing waits.Nothing = true
 is_wait waits.Flow waits.Flow = true
@@ -66,7 +66,7 @@ is_wait waits.Mutex waits.Mutex = true
 is_wait waits.Device waits.Device = true
 is_wait _ _ = false
 
--- the call is on the line; it waits for that
+-- the call is on line k; the call waits for this
 abbrev pub is_on : ℕ → Option CurrentCall → Bool
 is_on k None = false
 is_on k (Some call) = call.line == k

@@ -3,7 +3,7 @@ ghost use Rattle.std.specs.Prelude.{◌≡◌, ℕ, ◌<◌, ◌==◌, if◌then
 ghost use Rattle.board_ready.specs.First.{first_of};
 ghost use Rattle.board_ready.specs.Sets.{has};
 
-/// The word with that number in it, or without.
+/// The word with the number put in (`to`), or taken out.
 pub fn with_bit(word: u64, number: usize, to: bool) -> u64
     requires { number < 64 }
     ensures { (i : ℕ) → i < 64 → has result i ≡ (if i == number then to else has word i) }
@@ -12,7 +12,7 @@ pub fn with_bit(word: u64, number: usize, to: bool) -> u64
     if to { word | bit } else { word & !bit }
 }
 
-/// The second word's numbers that the choice has, and the first word's others.
+/// The numbers of `other` that are in `choice`, and the numbers of `word` that are not.
 pub fn chosen(word: u64, choice: u64, other: u64) -> u64
     ensures { (i : ℕ) → i < 64 → has result i ≡ (if has choice i then has other i else has word i) }
 {

@@ -10,7 +10,7 @@ use std::marker::Model;
 /// How many lines it has room for.
 const LINES: usize = 64;
 
-/// The drivers that wait for each thing, a bit for each.
+/// For each thing that calls wait for, the drivers that wait for it: a bit for each driver.
 #[derive(Clone, Copy)]
 pub struct Waiting {
     pub nothing: u64,
@@ -20,8 +20,8 @@ pub struct Waiting {
     pub device: u64,
 }
 
-/// The drivers whose current calls are on each of 64 lines, a bit for each driver, and those that
-/// wait for each thing.
+/// For each of 64 lines, the drivers whose current calls are on it, and for each thing, the drivers
+/// whose calls wait for it. A bit stands for a driver.
 #[derive(Drop)]
 pub struct CallSets {
     lines: [u64; 64],
@@ -81,7 +81,7 @@ impl CallSets {
         self.lines[line]
     }
 
-    /// The drivers whose calls could go on while that stands in the way.
+    /// The drivers whose calls wait for nothing that stands in the way.
     pub fn open(&self, barriers: Barriers) -> u64
         ensures { (r : ℕ) → has result r ≡ may_go_on barriers self.now.waiting r }
     {
@@ -101,7 +101,7 @@ fn unless(barred: bool, word: u64) -> u64
     if barred { 0 } else { word }
 }
 
-/// The driver put in among those that wait for that, or taken out.
+/// `waiting` with the driver put in among those that wait for `wait`, or taken out.
 fn moved(waiting: Waiting, wait: WaitFor, driver: usize, to: bool) -> Waiting
     requires { driver < 64 }
     ensures { (w : WaitFor) (r : ℕ) → r < 64

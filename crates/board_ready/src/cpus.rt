@@ -12,7 +12,7 @@ use std::marker::Model;
 const CPUS: u32 = 32;
 
 /// A set of lines for each of 32 processors, a bit for each line, and the set of the processors
-/// that have some.
+/// that have a line.
 #[derive(Drop)]
 pub struct CpuLines {
     words: [u64; 32],
@@ -42,8 +42,8 @@ impl CpuLines {
         }
     }
 
-    /// Gives the line to the processor, or takes it away; nothing changes for none, or one of 32
-    /// and above.
+    /// Gives the line to the processor (`to`), or takes it away. Nothing changes without a
+    /// processor, or for one from 32 on.
     pub fn put(&mut self, cpu: Option<CpuNo>, line: usize, to: bool)
         requires { line < 64 }
         ensures { (c k : ℕ) → c < 32 → k < 64

@@ -1,4 +1,4 @@
-//! What it is that the searches find, as laws of their definitions.
+//! What the searches find, as laws of their definitions.
 ghost use Rattle.std.specs.Prelude.{◌≡◌, ℕ, ◌<◌, ◌≤◌, Bool, true, false, Some, None, List, slice_get};
 ghost use Rattle.irq_base.specs.declared.numbers.DevNo.{DevNo};
 ghost use Rattle.board_ready.specs.First.{first_of};
@@ -16,8 +16,8 @@ pub fn first_is_first()
     ensures none { (p : ℕ → Bool) (n i : ℕ) → first_of p n ≡ None → i < n → p i ≡ false }
 {}
 
-/// The thread that `lowest_thread` finds is its line's, and no line's has a device of a lower
-/// number; if it finds none, no line has one.
+/// The thread that `lowest_thread` finds is its line's ready thread, and no line has one whose
+/// device has a lower number; if it finds none, no line has a ready thread.
 #[tactic(auto, using(crate::proofs::Lowest::thread_some, crate::proofs::Lowest::thread_least, crate::proofs::Lowest::thread_none))]
 pub fn lowest_thread_is_lowest()
     ensures there { (lines : List LinePart) (t : ReadyThread) → lowest_thread lines ≡ Some t

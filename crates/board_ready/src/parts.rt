@@ -35,7 +35,7 @@ pub enum WaitFor {
 /// Who waits on a line, and what stands in the way there.
 #[derive(Clone, Copy, PartialEq, Eq)]
 pub struct LinePart {
-    /// Of the devices whose threads are ready, the one of the lowest number.
+    /// The lowest device by number whose thread is ready.
     pub thread: Option<DevNo>,
     /// The processor of the flow in progress.
     pub flow: Option<CpuNo>,

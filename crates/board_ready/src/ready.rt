@@ -40,7 +40,8 @@ impl Model for ReadyActors {
 }
 
 impl ReadyActors {
-    /// So many lines and drivers, at most 64 of either: nobody waits, and no driver has a call.
+    /// The ready actors of this many lines and drivers, at most 64 of either: nobody waits, and no
+    /// driver has a call.
     pub fn new(alloc: Global, lines: usize, drivers: usize) -> Result<ReadyActors, NoMemory>
         requires few_lines { lines ≤ 64 }
         requires few_drivers { drivers ≤ 64 }
@@ -60,7 +61,7 @@ impl ReadyActors {
         })
     }
 
-    /// Replaces the part of the line at that place. If it is the same, nothing else is looked at.
+    /// Replaces the part of the line at place `line`. An equal part costs one comparison alone.
     #[tactic(auto, using(crate::proofs::Same::part_stands))]
     #[inline(always)]
     pub fn set_line(&mut self, line: usize, part: LinePart)
@@ -92,7 +93,7 @@ impl ReadyActors {
         self.lines[line] = part;
     }
 
-    /// Replaces the current call of the driver at that place; none: its script is at its end.
+    /// Replaces the current call of the driver at place `driver`; none: its script is at its end.
     pub fn set_driver(&mut self, driver: usize, call: Option<CurrentCall>)
         requires { driver < length self.now.drivers }
         ensures { self.new ≡ record self.old { drivers = slice_set self.old.drivers driver call } }
@@ -104,15 +105,15 @@ impl ReadyActors {
         self.drivers[driver] = call;
     }
 
-    /// The part of the line at that place; none if there is no such line.
+    /// The part of the line at place `line`; none if there is no such line.
     pub fn line(&self, line: usize) -> Option<LinePart>
         ensures { result ≡ slice_get self.now.lines line }
     {
         self.lines.get(line).copied()
     }
 
-    /// The current call of the driver at that place; none if its script is at its end, or there is
-    /// no such driver.
+    /// The current call of the driver at place `driver`; none if its script is at its end, or there
+    /// is no such driver.
     pub fn call(&self, driver: usize) -> Option<CurrentCall>
         ensures { result ≡ current_call self.now.drivers driver }
     {
@@ -164,7 +165,8 @@ impl ReadyActors {
         first_bit(self.ready)
     }
 
-    /// Whether this one can move. Of the threads of a line only the lowest is known.
+    /// Whether the actor can move. Of a line's threads only the lowest ready one is known, so no
+    /// other counts.
     pub fn is_ready(&self, mover: Mover) -> bool
         ensures { result ≡ is_ready self.now mover }
     {
@@ -185,7 +187,7 @@ impl ReadyActors {
         }
     }
 
-    /// Whether the driver at that place can go on.
+    /// Whether the driver at place `driver` can go on.
     fn is_driver_ready(&self, driver: usize) -> bool
         ensures { result ≡ is_driver_ready self.now driver }
     {

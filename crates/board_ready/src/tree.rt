@@ -39,8 +39,7 @@ impl ThreadTree {
         ThreadTree { nodes: [None; 128] }
     }
 
-    /// Puts the line's thread in the place of the one it had. If it is the same one, no node is
-    /// looked at but its own.
+    /// Replaces the line's thread. If it is the same, no other node is looked at.
     #[tactic(auto, using(crate::proofs::Trees::leaf_stands))]
     pub fn set(&mut self, line: usize, thread: Option<DevNo>)
         requires { line < 64 }
@@ -68,7 +67,7 @@ impl ThreadTree {
         }
     }
 
-    /// The thread of the lowest device, the first line's of those.
+    /// The ready thread with the lowest device number; with equal numbers, that of the first line.
     pub fn first(&self) -> Option<ReadyThread>
         ensures { result ≡ lowest_in (leaf self.now) 0 64 }
     {
@@ -76,7 +75,7 @@ impl ThreadTree {
     }
 }
 
-/// The thread of the line at that place.
+/// The thread with its line, the one at place `line`.
 fn placed(line: usize, thread: Option<DevNo>) -> Option<ReadyThread>
     ensures { result ≡ thread_on line thread }
 {
@@ -86,7 +85,7 @@ fn placed(line: usize, thread: Option<DevNo>) -> Option<ReadyThread>
     }
 }
 
-/// The one of the lower device.
+/// The thread whose device has the lower number; with equal numbers, the first.
 fn lower(first: Option<ReadyThread>, second: Option<ReadyThread>) -> Option<ReadyThread>
     ensures { result ≡ lower_of first second }
 {

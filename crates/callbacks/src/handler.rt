@@ -8,8 +8,8 @@ use irq_base::{Answer, DeviceDef, Part};
 /// The handlers of all devices, primary and threaded (`irq_handler_t` of
 /// `include/linux/interrupt.h`).
 pub trait Handler {
-    /// Calls that part of the device's handler, with that many of its asks unserved. It answers as
-    /// the device does.
+    /// Calls this part of the device's handler; `unserved` of the device's asks are unserved. It
+    /// answers as the device does.
     fn answer(&self, def: DeviceDef, part: Part, unserved: u32) -> Answer
         ensures { result ≡ answer_of def.kind part unserved };
 }
@@ -26,7 +26,7 @@ impl<H: Handler> Callbacks<H> {
         Callbacks { handler }
     }
 
-    /// Calls that part of the device's handler (`action->handler`, `__handle_irq_event_percpu` of
+    /// Calls this part of the device's handler (`action->handler`, `__handle_irq_event_percpu` of
     /// `kernel/irq/handle.c`; `action->thread_fn`, `irq_thread_fn` of `kernel/irq/manage.c`). It
     /// takes no memory.
     pub fn call(&self, def: DeviceDef, part: Part, unserved: u32) -> Said

@@ -5,8 +5,8 @@ ghost use Rattle.irq_base.specs.Handlers.{answer_of};
 use irq_base::{Answer, DeviceDef, Part};
 use std::marker::Model;
 
-/// An answer of a handler, with the run that it is the answer of. Only a call of the handler makes
-/// one, and it can be neither copied nor cloned. Its type keeps that the answer is the device's.
+/// An answer of a handler, with the run that it answers. Only a call of the handler makes one, and
+/// it can be neither copied nor cloned. Its type keeps that the answer is the device's.
 #[derive(Drop)]
 pub struct Said {
     def: DeviceDef,
@@ -47,7 +47,7 @@ impl Said {
         self.def
     }
 
-    /// Which part of it: the primary handler, or the thread's.
+    /// Which part of the handler was called: the primary one, or the thread's.
     pub fn part(&self) -> Part
         ensures { result ≡ self.now.run.part }
     {

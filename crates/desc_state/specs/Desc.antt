@@ -84,13 +84,13 @@ enable_by linked trigger d c =
     if (d.depth == 0) || not linked then enables.Unbalanced
     else (if d.depth == 1 then enables.Started (resend_by trigger d c) else enables.Lowered)
 
--- what it makes of the descriptor, by its answer
+-- what an enable makes of the descriptor, by its answer
 abbrev pub enabled : EnableAnswer → DescSeen → DescSeen
 enabled enables.Unbalanced d = d
 enabled enables.Lowered d = record d { depth = d.depth - 1 }
 enabled (enables.Started resend) d = started_up resend d
 
--- and of the cell
+-- what an enable makes of the cell, by its answer
 abbrev pub cell_enabled : EnableAnswer → Cell → Cell
 cell_enabled enables.Unbalanced c = c
 cell_enabled enables.Lowered c = c

@@ -143,7 +143,7 @@ impl Desc {
         self.soft = to;
     }
 
-    /// Sets the processor whose flow is in progress, or that none is (`handle_irq_event`,
+    /// Sets the processor whose flow is in progress; none: no flow is (`handle_irq_event`,
     /// `kernel/irq/handle.c`).
     pub fn set_flow(&mut self, to: Option<CpuNo>)
         ensures { self.new ≡ record self.old { flow = to } }
@@ -159,7 +159,7 @@ impl Desc {
         self.depth = 1;
     }
 
-    /// One disable less, of a line that stays as it is otherwise (the last case of `__enable_irq`).
+    /// One disable less; the line is otherwise as it was (the last case of `__enable_irq`).
     pub fn lower(&mut self)
         requires { 1 ≤ self.old.depth }
         ensures { self.new ≡ record self.old { depth = self.old.depth - 1 } }

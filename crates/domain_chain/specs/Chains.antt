@@ -20,12 +20,13 @@ is_path_of_kinds (k ∷ (x ∷ xs)) = not (is_root_kind k) && is_path_of_kinds (
 abbrev pub has_messages : List ControllerKind → Bool
 has_messages kinds = list_any is_msi kinds
 
--- a root of that kind by itself, before anything was done to it
+-- a root of this kind by itself, before anything was done to it
 abbrev pub root_cell : ControllerKind → Cell
 root_cell kind = fresh_cell (trigger_of_root kind) (keeps_kind kind) (stores_at_root kind) (retriggers_kind kind) (serves_kind kind)
 
--- The cell of both. The level of messages, if there is one, masks and stores in the root's place,
--- and what was sent to the root isn't taken back.
+-- The cell of a level of messages, if there is one, with the root's. The level of messages, if
+-- there is one, masks and stores in the root's place, and what was sent to the root isn't taken
+-- back.
 abbrev pub chain_cell : Option LevelSeen → Cell → Cell
 chain_cell None root = root
 chain_cell (Some level) root =

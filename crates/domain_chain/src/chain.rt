@@ -11,8 +11,8 @@ use line_cell::Cell;
 use std::marker::Model;
 
 /// The chip of a path (`struct irq_data` with its `parent_data`, `include/linux/irq.h`). What a
-/// level lacks is passed to its parent, so the first level from the device that can mask does, and
-/// the others are open for good.
+/// level can't do is passed to its parent. So the interrupt is masked by the first level that can,
+/// counted from the device; the other levels stay open.
 #[derive(Drop)]
 pub struct Chain {
     message: Option<MsiLevel>,
@@ -35,9 +35,9 @@ impl Model for Chain {
 }
 
 impl Chain {
-    /// The chip of a path with levels of these kinds, leaf first, one of which can mask, and with
-    /// that number at its root. Its mask is closed, it isn't active, and it is aimed at processor
-    /// 0.
+    /// The chip of a path with levels of these kinds, leaf first, and with `number` as its hardware
+    /// number at the root; some level can mask. Its mask is closed, it isn't active, and it is
+    /// aimed at processor 0.
     pub fn new(kinds: &[ControllerKind], number: u32) -> Chain
         requires few { length kinds.now ≤ 8 }
         requires path { is_path_of_kinds kinds.now ≡ true }
@@ -54,7 +54,7 @@ impl Chain {
         Chain::made(None, root, levels, number)
     }
 
-    // The chip of that root, with that level of messages before it if there is one.
+    // The chip of the root and, if there is one, of the level of messages before it.
     fn made(message: Option<MsiLevel>, root: Cell, levels: u32, number: u32) -> Chain
         requires { IsOpenBehind message (⟦<Cell as Chip>⟧.cell root) }
         ensures { result ≡ fresh_chain (chain_cell message (⟦<Cell as Chip>⟧.cell root)) levels (number_sent message number) }
@@ -76,9 +76,9 @@ impl Chain {
         if self.active { self.levels } else { 0 }
     }
 
-    /// The message that the path sends (`irq_chip_compose_msi_msg`, `kernel/irq/chip.c`): to the
-    /// processor that it is aimed at, with the number at its root; none exactly if no level sends
-    /// messages, or it isn't active.
+    /// The message that the path sends (`irq_chip_compose_msi_msg`, `kernel/irq/chip.c`): it goes
+    /// to the processor at which the path is aimed, and carries the number at its root. None
+    /// exactly if no level sends messages, or the path isn't active.
     pub fn message(&self) -> Option<Message>
         ensures { result ≡ message_by self.now }
     {

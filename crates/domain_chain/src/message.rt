@@ -25,8 +25,8 @@ impl Model for MsiChip {
 }
 
 impl MsiChip {
-    /// The chip of the message with that number. Its mask is closed, it isn't active, and it is
-    /// aimed at processor 0.
+    /// The chip of one message, which carries `number`. Its mask is closed, it isn't active, and it
+    /// is aimed at processor 0.
     pub fn new(number: u32) -> MsiChip
         ensures { result ≡ fresh_chain (fresh_cell triggers.Edge true false false false) 2 (Some number) }
     {
@@ -35,8 +35,8 @@ impl MsiChip {
         }
     }
 
-    /// The message: to the processor that it is aimed at, with its number; none exactly while it
-    /// isn't active.
+    /// The message: it goes to the processor at which the chip is aimed, and carries its number.
+    /// None exactly while the chip isn't active.
     pub fn message(&self) -> Option<Message>
         ensures { result ≡ message_by self.now }
     {

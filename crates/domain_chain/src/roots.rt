@@ -8,8 +8,8 @@ use chip_kinds::{ChipKind, Eoi, Latch, Level, Lpi, Plain};
 use irq_base::{Chip, ControllerKind, Trigger};
 use line_cell::Cell;
 
-/// A root of that kind, to which nothing has been done. A vector can't mask by itself: a level
-/// before it does.
+/// A root of this kind, to which nothing has been done. A vector can't mask by itself; a level
+/// before it masks.
 pub(crate) fn root_of(kind: ControllerKind) -> Cell
     requires { is_root_kind kind ≡ true }
     ensures { ⟦<Cell as Chip>⟧.cell result ≡ root_cell kind }
@@ -26,7 +26,7 @@ pub(crate) fn root_of(kind: ControllerKind) -> Cell
     }
 }
 
-/// Whether the first level from the device that can mask is one of messages.
+/// Whether the first level that can mask, counted from the device, is one of messages.
 pub(crate) fn masks_by_message(kinds: &[ControllerKind]) -> bool
     ensures { result ≡ is_some_kind is_msi (masking_kind kinds.now) }
 {

@@ -1,4 +1,4 @@
-//! The list of a line's entries, with room that is taken beforehand.
+//! The list of a line's entries; room for more can be taken beforehand.
 ghost use Rattle.std.specs.Prelude.{◌≡◌, ℕ, ◌+◌, ◌-◌, ◌<◌, ◌≤◌, ◌==◌, [], ◌∷◌, ◌++◌, length, IfOk, OnOk, OnErr, slice_get, true};
 ghost use Rattle.irq_base.specs.Packed.{is_wide, place_of};
 
@@ -8,11 +8,11 @@ use crate::packed::Packed;
 use std::alloc::Global;
 use std::marker::Model;
 
-/// What the holds of a line's lock left behind. Contracts see its entries, the oldest first, and
-/// `spare`, how many more fit without memory.
+/// The entries that the holds of a line's lock added. Contracts see its entries, the oldest first,
+/// and `spare`, how many more fit without memory.
 ///
-/// An entry takes eight bytes, but for those with a number that no board has, which stand in a list
-/// of their own: a processor above 31, a driver or a device above 65,535.
+/// An entry takes eight bytes. Only wide entries stand in a list of their own: those with a number
+/// that no board has, a processor above 31, or a driver or a device above 65,535.
 #[derive(Drop)]
 pub struct History {
     words: Vec<Packed>,
@@ -91,7 +91,7 @@ impl History {
         self.words.is_empty()
     }
 
-    /// The entry at the place, counted from 0; none from the length on.
+    /// The entry at index `place`, counted from 0; none from the length on.
     pub fn get(&self, place: usize) -> Option<Entry>
         ensures { result ≡ slice_get self.now.entries place }
     {

@@ -6,9 +6,9 @@ use crate::entries::Entry;
 use crate::numbers::DevNo;
 use crate::parts::{Parts, is_narrow};
 
-/// One entry, or the place of one. From its low end the word has a tag of 5 bits, a code of 8, a
-/// first number of 16 and a second of 32. With the tag 31 all else is the place in the list of wide
-/// entries.
+/// One entry in a word, or the place of a wide entry. From its low end the word has a tag of 5
+/// bits, a code of 8, a first number of 16 and a second of 32. If the tag is 31, all other bits are
+/// a place in the list of wide entries.
 #[derive(Clone, Copy)]
 pub struct Packed(u64);
 
@@ -21,11 +21,11 @@ const FIRSTS: u64 = 65_536;
 
 const SECONDS: u64 = 4_294_967_296;
 
-/// The tag of a word that has a place.
+/// The tag of a word that holds the place of a wide entry.
 const WIDE: u64 = 31;
 
 impl Packed {
-    /// The word of these parts.
+    /// The word made of these parts.
     pub fn of_parts(parts: Parts) -> Packed
         requires tag { parts.tag < 31 }
         requires code { parts.code < 256 }
@@ -38,7 +38,7 @@ impl Packed {
         Packed(u64::from(parts.tag) + TAGS * code)
     }
 
-    /// The word of a place in the list of wide entries.
+    /// The word that holds a place in the list of wide entries.
     pub fn of_place(place: u64) -> Packed
         requires { place < 2 ^ 59 }
         ensures wide { is_wide result ≡ true }
@@ -62,7 +62,7 @@ impl Packed {
         }
     }
 
-    /// The word of an entry whose numbers are small enough; none of any other.
+    /// The word of the entry; none if one of its numbers is too large.
     pub fn pack(entry: Entry) -> Option<Packed>
         ensures narrow { is_some result ≡ is_narrow entry }
         ensures tag { IfSome result (λ w. is_wide w ≡ false) }
@@ -74,7 +74,7 @@ impl Packed {
         None
     }
 
-    /// The entry that the word stands for, with these as the wide entries.
+    /// The entry that the word stands for; `wide` is the list of wide entries.
     #[tactic(auto, unfolding(crate::specs::Packed::unpack))]
     pub fn unpack(self, wide: &[Entry]) -> Entry
         ensures { result ≡ unpack wide.now self }
@@ -86,7 +86,7 @@ impl Packed {
     }
 }
 
-/// The wide entry at the place.
+/// The wide entry at index `place`.
 fn entry_at(wide: &[Entry], place: u64) -> Entry
     ensures { result ≡ get_or wide.now place nothing }
 {

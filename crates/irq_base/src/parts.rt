@@ -22,7 +22,7 @@ pub struct Parts {
     pub second: u32,
 }
 
-// The tags: those of processors come first, then those of threads, then those of drivers.
+// The tags: first of processors' entries, then of threads' entries, then of drivers' entries.
 const TAKE: u32 = 0;
 
 const BEGIN: u32 = 1;
@@ -151,7 +151,7 @@ impl Parts {
         }
     }
 
-    /// The entry that they stand for.
+    /// The entry that the parts stand for.
     #[tactic(auto, unfolding(crate::specs::Packed::entry_of))]
     pub fn entry(self) -> Entry
         ensures { result ≡ entry_of self }

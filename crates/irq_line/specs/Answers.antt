@@ -24,9 +24,8 @@ IsSaidFor (Some said) run = said.run ≡ run
 abbrev pub IsDueOf : LineSeen → Actor → Type 0
 IsDueOf line actor = IsSome (next line.def line.entries actor)
 
--- The entry is the one that is due of the actor; if it ends a run, its answer was handed in. It
--- stands at the end, and there was a place for it. At most one of the places that were free is
--- gone.
+-- The entry is the one that is due of the actor; if it ends a run, the run's answer was handed in.
+-- It stands at the history's end, which had room for it. At most one of the free places is gone.
 pub record AddsEntry (old : LineSeen) (who : Actor) (said : Option SaidSeen) (entry : Entry) (new : LineSeen) : Type 0 where
   pub due : next old.def old.entries who ≡ Some entry
   pub actor : actor_of old.def.line entry ≡ who

@@ -36,7 +36,7 @@ IsTaker line taker = (cpu : CpuNo) → (taker ≡ Some cpu) ↔ IsPresented line
 abbrev pub IsThreadDue : LineSeen → DevNo → Type 0
 IsThreadDue line dev = IsSome (next line.def line.entries (actors.Thread line.def.line dev))
 
--- the device with the least number whose thread has an entry due; none if no thread has
+-- the lowest device by number whose thread has an entry due; none if no thread has one
 abbrev pub IsLowestThread : LineSeen → Option DevNo → Type 0
 IsLowestThread line None = (dev : DevNo) → IsThreadDue line dev → ⊥
 IsLowestThread line (Some lowest) =
@@ -59,8 +59,8 @@ blocks_at def past = record { flow = has_flow def past; threads = are_threads_at
 abbrev pub blocks_of : LineSeen → Blocks
 blocks_of line = blocks_at line.def (reverse line.entries)
 
--- whether a call that waits for this can't go on; the device that a call waits for is the one that
--- is being freed
+-- whether a call that waits for this can't go on; if it waits for a device, that is the device
+-- being freed
 abbrev pub is_blocked : Block → Blocks → Bool
 is_blocked Nothing blocks = false
 is_blocked Flow blocks = blocks.flow

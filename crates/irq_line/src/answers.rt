@@ -7,8 +7,8 @@ use thiserror::Error;
 pub enum Stepped {
     /// It added this entry.
     Added(Entry),
-    /// The entry that is due ends a run of a handler, whose answer is needed first. `unserved`: how
-    /// many asks of the device were unserved as the run began. Nothing changed.
+    /// The entry that is due ends a run of a handler, and the handler's answer is needed first.
+    /// `unserved`: how many asks of the device were unserved as the run began. Nothing changed.
     Run {
         def: DeviceDef,
         part: Part,

@@ -1,7 +1,7 @@
-//! What an interrupt line is for those above it: the boards that play many lines, the lock round a
-//! line, the threads that step it, and the judge of logs. They use a line by the trait `IrqLine`
-//! alone, so that any line may stand below them: one that looks everything up in its history, or
-//! one that keeps marks.
+//! What an interrupt line is for the crates above it: the boards that play many lines, the lock
+//! round a line, the threads that step it, and the judge of logs. They use a line by the trait
+//! `IrqLine` alone, so that any line may stand below them: one that looks everything up in its
+//! history, or one that keeps marks.
 #![tactic(auto)]
 
 ghost use Rattle.std.specs.Prelude.{◌≡◌, ◌↔◌, ℕ, IsTrue, Option, Some, None, Result, Err, reverse};
@@ -38,9 +38,9 @@ pub fn step_has_one_answer()
         → (a ≡ Err refusals.NoMemory → ⊥) → (b ≡ Err refusals.NoMemory → ⊥) → a ≡ b }
 {}
 
-/// A driver whose call isn't complete has no entry due exactly if what its call waits for stands,
-/// as `blocks` says; so after each step the four facts say which drivers can go on, and nobody asks
-/// them one by one. A driver whose calls are all complete never has one due.
+/// A driver whose call isn't complete has no entry due exactly while what the call waits for stands
+/// in its way, as `blocks` says. So after each step the four facts say which drivers can go on, and
+/// nobody asks them one by one. A driver whose calls are all complete never has an entry due.
 #[tactic(auto, using(crate::proofs::Waits::call_waits, crate::proofs::Waits::complete_rests))]
 pub fn calls_wait_for_blocks()
     ensures law { (line : LineSeen) (r : DriverNo) (c : Call) (n : ℕ) → IsSound line

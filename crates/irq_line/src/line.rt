@@ -56,9 +56,8 @@ pub trait IrqLine: Drop {
         ensures entries { result.entries ≡ (seen self).entries }
         ensures spare { result.spare ≡ (seen self).spare };
 
-    /// What holds of every line at every moment: its definition is valid, each entry is the one
-    /// that was due of its actor after those before it, and the history isn't longer than the
-    /// definition allows.
+    /// What holds of every line at every moment: its definition is valid, each entry was due of its
+    /// actor after the entries before it, and the history isn't longer than the definition allows.
     fn is_sound(&self)
         ensures { IsSound (seen self.now) };
 
@@ -70,11 +69,11 @@ pub trait IrqLine: Drop {
     fn in_flow(&self) -> Option<CpuNo>
         ensures { result ≡ flow_of (seen self.now) };
 
-    /// The one processor of which a take is due, if there is one.
+    /// The one processor that has a take due, if there is one.
     fn taker(&self) -> Option<CpuNo>
         ensures { IsTaker (seen self.now) result };
 
-    /// The device with the least number whose thread has an entry due, if there is one.
+    /// The lowest device by number whose thread has an entry due, if there is one.
     fn lowest_thread(&self) -> Option<DevNo>
         ensures { IsLowestThread (seen self.now) result };
 

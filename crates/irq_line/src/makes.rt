@@ -12,7 +12,7 @@ pub trait MakesLine<L: IrqLine> {
     /// For which virqs and definitions it may be called.
     ghost makes: { Self → ℕ → LineDef → Type 0 };
 
-    /// The line of that virq and definition, to which nothing has happened. The only error is
+    /// The line of this virq and definition, to which nothing has happened. The only error is
     /// `NoMemory`.
     fn make(&self, alloc: Global, virq: u32, def: &LineDef) -> Result<L, NoMemory>
         requires { makes self.now virq def.now }

@@ -10,7 +10,7 @@ use log_text::entry_row;
 use std::marker::Model;
 use text_row::{MAX_ROW, TextRow};
 
-/// A row, and the line and entry whose row it is.
+/// A row, with its line and its entry.
 #[derive(Clone, Copy)]
 struct KeptRow {
     line: LineNo,
@@ -20,7 +20,7 @@ struct KeptRow {
     bytes: [u8; MAX_ROW],
 }
 
-/// The rows of a log that were made last, at most one for each place. It takes no memory.
+/// The rows of a log that were made last: each of its places keeps one. It takes no memory.
 #[derive(Drop)]
 pub struct KeptRows {
     rows: [KeptRow; PLACES],
@@ -79,7 +79,7 @@ impl KeptRow {
         }
     }
 
-    /// Makes it the row of that entry of that line, unless it is.
+    /// Makes it the row of this entry of this line, unless it is already.
     fn keep(&mut self, line: LineNo, entry: &Entry)
         requires printable { IsPrintable entry.now }
         requires kept { IsKept self.old }
@@ -91,8 +91,8 @@ impl KeptRow {
         }
     }
 
-    /// Makes it the row of that entry of that line. It stands apart, so that a row that is kept
-    /// costs no place for a new one.
+    /// Makes it the row of this entry of this line. It is a function of its own, so that a row that
+    /// is kept already costs no room on the stack for a new one.
     #[inline(never)]
     fn make(&mut self, line: LineNo, entry: &Entry)
         requires { IsPrintable entry.now }
@@ -102,7 +102,7 @@ impl KeptRow {
         *self = KeptRow::made(line, entry);
     }
 
-    /// Whether it is the row of that entry of that line.
+    /// Whether it is the row of this entry of this line.
     fn is_of(&self, line: LineNo, entry: &Entry) -> bool
         ensures { result ≡ true → (self.now.line ≡ line) × (self.now.entry ≡ entry.now) }
     {

@@ -6,7 +6,8 @@ use irq_base::{Entry, LineNo};
 /// How many rows are kept.
 pub const PLACES: usize = 512;
 
-/// The place of an entry of that line. Entries that come together in a log mostly differ in it.
+/// The place at which the row of the entry is kept. Entries near one another in a log mostly have
+/// different places.
 pub fn place_of(line: LineNo, entry: &Entry) -> usize
     ensures { result < 512 }
 {
@@ -14,7 +15,7 @@ pub fn place_of(line: LineNo, entry: &Entry) -> usize
     (mark % PLACES as u64) as usize
 }
 
-/// A number that tells the kind of entry, and who made it of which device.
+/// A number that tells the kind of entry, its actor and its device.
 fn mark_of(entry: &Entry) -> u64
     ensures { result < 2 ^ 40 }
 {
@@ -36,7 +37,7 @@ fn mark_of(entry: &Entry) -> u64
     }
 }
 
-/// The kind's, the actor's and the device's share of a mark.
+/// The mark made of these three parts: the kind, the actor and the device.
 fn mark(kind: u64, who: u32, dev: u32) -> u64
     requires { kind < 16 }
     ensures { result < 2 ^ 40 }

@@ -13,7 +13,7 @@ ends_free (entries.Freed driver dev) = true
 ends_free (entries.Unlink driver dev unlinks.NotThere) = true
 ends_free _ = false
 
--- the entry, which is one of the call's, completes it
+-- this entry, one of the call's, completes the call
 abbrev pub completes : Call → Entry → Bool
 completes calls.Disable e = is_synced e
 completes calls.Sync e = is_synced e

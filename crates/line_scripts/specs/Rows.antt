@@ -26,11 +26,11 @@ row_of s r = unwrap_or (lookup (same_driver r) s) (unbegun [])
 abbrev pub calls_of : List (DriverNo × RowSeen) → DriverNo → List Call
 calls_of s r = (row_of s r).calls
 
--- how many of them are complete: the place of the first that isn't
+-- how many of the driver's calls are complete; this is the place of the first that isn't
 abbrev pub place_of : List (DriverNo × RowSeen) → DriverNo → ℕ
 place_of s r = (row_of s r).place
 
--- how many entries that call has made
+-- how many entries the driver's first incomplete call has made
 abbrev pub within_of : List (DriverNo × RowSeen) → DriverNo → ℕ
 within_of s r = (row_of s r).within
 
@@ -42,11 +42,11 @@ call_in x = slice_get x.calls x.place
 abbrev pub call_of : List (DriverNo × RowSeen) → DriverNo → Option Call
 call_of s r = call_in (row_of s r)
 
--- the asks of the row that aren't complete
+-- how many asks of the row aren't complete
 abbrev pub asks_in : RowSeen → ℕ
 asks_in x = count_of is_ask_call (drop x.place x.calls)
 
--- the asks of all drivers that aren't complete
+-- how many asks of all drivers aren't complete
 abbrev pub asks_left : List (DriverNo × RowSeen) → ℕ
 asks_left [] = 0
 asks_left (x ∷ xs) = asks_in x.1 + asks_left xs

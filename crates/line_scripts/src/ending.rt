@@ -4,9 +4,9 @@ ghost use Rattle.line_scripts.specs.Endings.{completes, ends_free};
 
 use irq_base::{Call, Entry, UnlinkAnswer};
 
-/// Whether the entry, which is one of the call's, completes it: the last of a disable or a
-/// synchronisation is `Synced`, of a free `Freed`, or the unlink that found nothing; any other call
-/// makes one entry.
+/// Whether this entry, one of the call's, completes the call. A disable or a synchronisation ends
+/// with `Synced`, a free with `Freed` or with an unlink that found nothing; any other call makes
+/// one entry.
 pub fn completes(call: Call, entry: &Entry) -> bool
     ensures { result ≡ completes call entry.now }
 {

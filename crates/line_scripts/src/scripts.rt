@@ -32,7 +32,7 @@ impl Model for Scripts {
 }
 
 impl Scripts {
-    /// The scripts of these calls, of which none has begun. The only error is `NoMemory`.
+    /// The scripts of these calls; no call has begun. The only error is `NoMemory`.
     pub fn new(alloc: Global, calls: &CallList) -> Result<Scripts, NoMemory>
         ensures calls { IfOk result (λ s. (r : DriverNo) → calls_of s r ≡ calls_by r calls.now) }
         ensures place { IfOk result (λ s. (r : DriverNo) → place_of s r ≡ 0) }
@@ -50,7 +50,7 @@ impl Scripts {
         Ok(scripts)
     }
 
-    /// Adds a call at the end of the driver's, of which none has begun.
+    /// Adds a call at the end of the driver's script; none of the script's calls has begun.
     fn add(&mut self, alloc: Global, who: DriverNo, call: Call) -> Result<(), NoMemory>
         requires { place_of self.old who ≡ 0 }
         ensures own { OnOk result

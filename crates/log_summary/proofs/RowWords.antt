@@ -21,7 +21,7 @@ four word a b c d =
     ap (λ text. (text ++ spaced c) ++ spaced d) (spaced_on word a b)
     ∙ (ap (λ text. text ++ spaced d) (spaced_on word (a ++ b) c) ∙ (spaced_on word ((a ++ b) ++ c) d ∙ sym (joined word (((a ++ b) ++ c) ++ d))))
 
--- the words of the counts and of the state are those of the history
+-- the words of the counts and of the state are the words of the history's summary
 words_are : (line : LineNo) (h : List Entry) (c : Counts) (state : List ℕ) → AreCountsOf h c → state ≡ state_word (reverse h)
     → codes "line" ∷ ((((decimal line.0 ∷ []) ++ (codes "entries" ∷ decimal (length h) ∷ [])) ++ count_words c) ++ (state ∷ [])) ≡ summary_words line h
 words_are line h c state k is = rw (k.asks, k.takes, k.runs, k.threads, k.served, is) refl

@@ -5,7 +5,7 @@ use Rattle.irq_model.specs.Kinds.{is_any_ask, is_take}
 use Rattle.log_summary.specs.Counted.{is_run, is_thread_run, served_by}
 use Rattle.log_summary.specs.declared.counts.Counts.{Counts}
 
--- they are those of these entries
+-- the counts are what these entries come to
 pub record AreCountsOf (h : List Entry) (c : Counts) : Type 0 where
   pub asks : c.asks ≡ count_by is_any_ask h
   pub takes : c.takes ≡ count_by is_take h

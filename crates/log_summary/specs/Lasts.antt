@@ -12,6 +12,6 @@ TellsLast (entries.Unlink driver dev (unlinks.Unlinked last)) past =
     is_none_linked (entries.Unlink driver dev (unlinks.Unlinked last) ∷ past) ≡ last
 TellsLast _ past = Unit {0}
 
--- so does each of the history, whose oldest entry comes first
+-- each unlinking entry of the history says so; the oldest entry comes first
 abbrev pub TellsLasts : List Entry → Type 0
 TellsLasts h = EachEntry TellsLast (reverse h)

@@ -18,7 +18,7 @@ raised past = base (upto_place is_reset past) + count_of is_deepening (since_pla
 abbrev pub lowered : List Entry → ℕ
 lowered past = count_of is_lowering (since_place is_reset past)
 
--- so does the line stand after these entries, the newest first
+-- the line stands so after these entries, the newest first
 pub record StandsAfter (past : List Entry) (s : Standing) : Type 0 where
   pub linked : s.linked ≡ not (is_none_linked past)
   pub raised_is : s.raised ≡ raised past
@@ -44,7 +44,7 @@ standing_with s e =
       lowered = if resets s e then 0 else (s.lowered + one_if (is_lowering e));
     }
 
--- the same of a request
+-- how the line stands after a request
 abbrev pub requested_standing : Standing → LinkAnswer → Opened → Standing
 requested_standing s answer opened =
     record {

@@ -1,4 +1,4 @@
-//! Which histories say which of their unlinks are last ones.
+//! Histories whose unlinks say rightly whether they were the last.
 ghost use Rattle.std.specs.Prelude.{List};
 ghost use Rattle.irq_base.specs.declared.entries.Entry.{Entry};
 ghost use Rattle.irq_base.specs.declared.lines.LineDef.{LineDef};

@@ -7,14 +7,14 @@ ghost use Rattle.log_summary.specs.Texts.{state_word};
 
 use irq_base::{EnableAnswer, Entry, LinkAnswer, Note, Opened, UnlinkAnswer};
 
-/// How a line stands. The depth is kept as its two sides: the line is disabled if it was raised
-/// further than it was lowered (`desc->depth`).
+/// How a line stands. The depth (`desc->depth`) is kept as two sums: the line is disabled if the
+/// depth was raised further than it was lowered.
 #[derive(Clone, Copy)]
 pub(crate) struct Standing {
     /// A device is linked.
     pub(crate) linked: bool,
-    /// What the depth was raised to since it last got a value of its own: by the first request, or
-    /// the last unlink.
+    /// What the depth was raised to since it was last set anew, by a first request or a last
+    /// unlink.
     pub(crate) raised: u32,
     /// How often it was lowered since then.
     pub(crate) lowered: u32,
@@ -54,7 +54,7 @@ impl Standing {
         }
     }
 
-    // A request came: the first that is linked gives the depth a value of its own.
+    // A request came: if it links the first device, it sets the depth anew.
     fn request(&mut self, answer: LinkAnswer, opened: Opened)
         requires { self.old.lowered < 2 ^ 31 }
         ensures { self.new ≡ requested_standing self.old answer opened }
@@ -69,7 +69,7 @@ impl Standing {
         self.linked = self.linked || is_linked;
     }
 
-    // A device was unlinked: the last leaves the line disabled once.
+    // A device was unlinked: the unlink of the last device leaves the line disabled once.
     fn unlink(&mut self, last: bool)
         ensures linked { self.new.linked ≡ not last }
         ensures raised { self.new.raised ≡ (if last then 1 else self.old.raised) }

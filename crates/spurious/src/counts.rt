@@ -29,9 +29,9 @@ impl Model for Counts {
 }
 
 impl Counts {
-    /// The counts of a line of which nothing has come yet. `window`: how many rounds are counted
-    /// before the unhandled ones among them are judged; `limit`: how many of these may be unhandled
-    /// (100,000 and 99,900 in `note_interrupt`).
+    /// The counts of a line on which nothing has happened. `window`: how many rounds are counted
+    /// before they are judged; `limit`: how many of them may be unhandled (100,000 and 99,900 in
+    /// `note_interrupt`).
     pub fn new(window: u32, limit: u32) -> Counts
         requires { 0 < window }
         ensures { result ≡ record { window = window; limit = limit; counts = no_counts } }

@@ -10,13 +10,13 @@ use irq_base::Note;
 pub struct Tally {
     /// The rounds that the open window has counted.
     pub irq_count: u32,
-    /// Those of them that nobody handled.
+    /// The rounds of the open window that nobody handled.
     pub irqs_unhandled: u32,
     /// The runs of threads that served.
     pub threads_handled: u32,
     /// A round woke threads alone, and waits to be judged by what they did.
     pub deferred: bool,
-    /// `threads_handled` as it was judged last.
+    /// What `threads_handled` was when a round was last judged by it.
     pub last: u32,
     /// The moment of the last unhandled round, in milliseconds.
     pub last_unhandled: u32,

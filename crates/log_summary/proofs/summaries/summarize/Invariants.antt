@@ -3,7 +3,7 @@ use Rattle.log_summary.specs.Gained.{AreCountsOf}
 use Rattle.log_summary.specs.Standings.{StandsAfter}
 use Rattle.log_summary.proofs.summaries.summarize.Given as goal
 
--- the counts and the standing are those of the entries so far
+-- the counts and the standing are what the entries so far come to
 abbrev pub invariant-loop-i : goal.invariant-loop-i
 invariant-loop-i l =
     record {
