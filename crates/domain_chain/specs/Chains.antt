@@ -4,6 +4,7 @@ use Rattle.std.specs.Prelude.{◌≡◌, ℕ, Bool, true, false, not, ◌&&◌, 
 use Rattle.std.specs.List.{list_any}
 use Rattle.std.specs.Option.{option_map}
 use Rattle.irq_base.specs.Cell.{Cell, is_edge_cell, fresh_cell}
+use Rattle.irq_base.specs.Wiring.{Wiring}
 use Rattle.irq_base.specs.declared.domains.ControllerKind.{ControllerKind}
 use Rattle.chip_msi.specs.Messages.{LevelSeen, message_of}
 use Rattle.chip_msi.specs.declared.message.Message.{Message}
@@ -53,9 +54,17 @@ abbrev pub fresh_chain : Cell → ℕ → Option ℕ → ChainSeen
 fresh_chain cell levels number =
     record { cell = cell; active = false; aimed = 0; levels = levels; number = number }
 
--- what a chain sends while it is active
+-- how a chain is wired
+abbrev pub wiring_of : ChainSeen → Wiring
+wiring_of c = record { levels = c.levels; number = c.number }
+
+-- what chips that are so wired send while they are active, to the processor that they are aimed at
+abbrev pub sent_by : Bool → ℕ → Wiring → Option Message
+sent_by active aimed wiring = if active then option_map (message_of aimed) wiring.number else None
+
+-- what a chain sends
 abbrev pub message_by : ChainSeen → Option Message
-message_by c = if c.active then option_map (message_of c.aimed) c.number else None
+message_by c = sent_by c.active c.aimed (wiring_of c)
 
 abbrev pub some_if : Bool → ℕ → Option ℕ
 some_if b number = if b then Some number else None

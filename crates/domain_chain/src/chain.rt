@@ -1,7 +1,7 @@
 //! The chip of a path.
 ghost use Rattle.std.specs.Prelude.{◌≡◌, ◌≤◌, ℕ, Bool, true, false, ◌&&◌, is_some, length, if◌then◌else◌};
 ghost use Rattle.chip_msi.specs.Messages.{LevelSeen};
-ghost use Rattle.domain_chain.specs.Chains.{ChainSeen, is_path_of_kinds, has_messages, fresh_chain, chain_cell, IsOpenBehind, number_sent, message_by, some_if};
+ghost use Rattle.domain_chain.specs.Chains.{ChainSeen, is_path_of_kinds, has_messages, fresh_chain, chain_cell, IsOpenBehind, number_sent, message_by, some_if, wiring_of};
 ghost use Rattle.domain_rules.specs.Levels.{masking_kind, root_kind, presents_level_kind, cell_of};
 
 use crate::roots::{masks_by_message, root_of};
@@ -97,7 +97,7 @@ impl Chip for Chain {
 
     ghost aimed = { λ c. c.aimed };
 
-    ghost wiring = { λ c. record { levels = c.levels; number = c.number } };
+    ghost wiring = { wiring_of };
 
     fn edge(&mut self) {
         match &mut self.message {

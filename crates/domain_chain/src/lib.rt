@@ -10,6 +10,8 @@
 pub mod chain;
 pub mod message;
 mod roots;
+pub mod sending;
 
 pub use chain::Chain;
 pub use message::MsiChip;
+pub use sending::sent_while_active;

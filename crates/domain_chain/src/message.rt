@@ -2,7 +2,7 @@
 ghost use Rattle.std.specs.Prelude.{◌≡◌, Some, true, false};
 ghost use Rattle.irq_base.specs.Cell.{fresh_cell};
 ghost use Rattle.irq_base.specs.declared.lines.Trigger.TheVariants as triggers;
-ghost use Rattle.domain_chain.specs.Chains.{fresh_chain, message_by};
+ghost use Rattle.domain_chain.specs.Chains.{fresh_chain, message_by, wiring_of};
 
 use crate::chain::Chain;
 use chip_msi::Message;
@@ -51,7 +51,7 @@ impl Chip for MsiChip {
 
     ghost aimed = { λ c. c.aimed };
 
-    ghost wiring = { λ c. record { levels = c.levels; number = c.number } };
+    ghost wiring = { wiring_of };
 
     fn edge(&mut self) {
         self.chain.edge();
