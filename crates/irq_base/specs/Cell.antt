@@ -1,6 +1,6 @@
 -- The signal cell (ours): all that a line's chips keep of its signal. It has five properties, which
--- never change, and five marks. The mask bit, the latch and the in-service bit of an interrupt
--- controller are its like; `struct irq_chip` of `include/linux/irq.h` has the operations.
+-- never change, and five marks. They stand for an interrupt controller's mask bit, latch and
+-- in-service bit; `struct irq_chip` of `include/linux/irq.h` has the operations.
 use Rattle.std.specs.Prelude.{Bool, true, false, not, ◌&&◌, ◌||◌, if◌then◌else◌}
 use Rattle.irq_base.specs.declared.lines.Trigger.{Trigger}
 use Rattle.irq_base.specs.declared.lines.Trigger.TheVariants as triggers
@@ -28,7 +28,7 @@ is_edge_trigger triggers.Level = false
 abbrev pub is_edge_cell : Cell → Bool
 is_edge_cell c = is_edge_trigger c.trigger
 
--- a cell of those properties, before anything was done to it
+-- a cell with these properties, before anything was done to it
 abbrev pub fresh_cell : Trigger → Bool → Bool → Bool → Bool → Cell
 fresh_cell trigger keeps recalls retriggers serves = record { trigger = trigger; keeps = keeps; recalls = recalls; retriggers = retriggers; serves = serves; masked = true; stored = false; sent = false; high = false; in_service = false }
 

@@ -1,5 +1,5 @@
--- The small answers of an entry as numbers (ours), the first of each type 0, in the order of the
--- source. A number that stands for none is read as the last.
+-- The small answers of an entry as numbers (ours): for each type from 0 on, in the order of the
+-- source. A number too large for its type is read as the type's last answer.
 use Rattle.std.specs.Prelude.{ℕ, ◌-◌, ◌==◌, Bool, if◌then◌else◌}
 use Rattle.irq_base.specs.declared.devices.Answer.{Answer}
 use Rattle.irq_base.specs.declared.devices.Answer.TheVariants as answers

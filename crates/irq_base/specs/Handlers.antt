@@ -1,4 +1,4 @@
--- How a device's handlers answer (ours): what a driver of that kind does when it is called.
+-- How a device's handlers answer (ours), by the kind of the device.
 use Rattle.std.specs.Prelude.{ℕ, Bool, true, false, nat_lt, if◌then◌else◌}
 use Rattle.irq_base.specs.declared.devices.Kind.{Kind}
 use Rattle.irq_base.specs.declared.devices.Kind.TheVariants as kinds

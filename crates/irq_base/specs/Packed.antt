@@ -88,15 +88,15 @@ entry_of p =
 abbrev pub parts_of : Packed → Parts
 parts_of w = record { tag = w.0 % 32; code = w.0 / 32 % 256; first = w.0 / 32 / 256 % 65536; second = w.0 / 32 / 256 / 65536 % 4294967296 }
 
--- an entry with a greater number stands in a list of its own, and its word has the place there
--- above the tag 31
+-- an entry whose numbers don't fit stands in the list of wide entries; its word has the tag 31, and
+-- above the tag the place in that list
 abbrev pub is_wide : Packed → Bool
 is_wide w = w.0 % 32 == 31
 
 abbrev pub place_of : Packed → ℕ
 place_of w = w.0 / 32
 
--- what is read from a place without a wide entry
+-- what is read if the list has no entry at the place
 abbrev pub nothing : Entry
 nothing = entries.Done (dev_no 0)
 

@@ -1,5 +1,5 @@
--- A path is an array of eight pairs, of which the first `len` count. The others are (0, 0), so that
--- the list gives the array back.
+-- A path is an array of eight pairs. The first `len` pairs are its levels; the others are (0, 0),
+-- so that the list of the levels determines the array.
 use Rattle.std.specs.Prelude.{◌≡◌, ℕ, ◌+◌, ◌-◌, ◌<◌, ◌≤◌, List, ◌++◌, length, take, drop, slice_set}
 use Rattle.std.proofs.Math.ListN.{replicate}
 use Rattle.std.proofs.Common.{sym, ap, ◌∙◌, arith}
@@ -33,7 +33,7 @@ of_levels_back p h =
     ∙ (ap (λ xs. take p.len p.levels ++ xs) (sym h.rest) ∙ take-append-drop p.len p.levels) in
     same_parts (take p.len p.levels ++ replicate (8 - length (take p.len p.levels)) none) p.levels (length (take p.len p.levels)) p.len back front
 
--- one more level, in the place of the first that doesn't count
+-- one more level, at index `len`
 pub IsPath-push : (p : Inside) (level : ℕ × ℕ) → IsPath p → p.len < 8
     → IsPath (made (slice_set p.levels p.len level) (p.len + 1))
 IsPath-push p level h room =

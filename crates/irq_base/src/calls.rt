@@ -46,5 +46,5 @@ pub enum Call {
     Moment { at: u32 },
 }
 
-/// The calls on a line, each with its driver. Each driver's stand in the order of its script.
+/// The calls on a line, each with its driver. A driver's calls stand in the order of its script.
 pub type CallList = ItemList<(DriverNo, Call)>;

@@ -5,9 +5,9 @@ ghost use Rattle.irq_base.specs.Cell.{Cell, is_edge_cell, after_edge, after_high
 
 use crate::numbers::CpuNo;
 
-/// The chips of one line, from its device up to the processors, as one. Contracts see four parts
-/// of them: the signal cell, whether the interrupt is active, the processor that it is aimed at,
-/// and how they are wired. Each call changes what its clauses say and leaves the rest.
+/// The chips of one line, from its device up to the processors, as one. Contracts see four things:
+/// the signal cell, whether the interrupt is active, the processor that it is aimed at, and how the
+/// chips are wired. Each call changes what its clauses say and leaves the rest.
 pub trait Chip {
     /// All that the chips keep of the line's signal.
     ghost cell: { Self → Cell };
@@ -18,8 +18,8 @@ pub trait Chip {
     /// The processor that it is aimed at (`effective_affinity` of `struct irq_common_data`).
     ghost aimed: { Self → ℕ };
 
-    /// How the chips are wired, which no call changes: how many levels they are, and the number
-    /// that their messages carry.
+    /// How the chips are wired, which no call changes: how many levels the path has, and the number
+    /// that its messages carry.
     ghost wiring: { Self → Wiring };
 
     /// The device of an edge line raises an edge: the wire, which Linux doesn't see.

@@ -1,5 +1,5 @@
-//! The small answers of an entry as numbers from 0 on, and back. A number that stands for none is
-//! read as the last.
+//! The small answers of an entry as numbers from 0 on, and back. A number too large for its type is
+//! read as the type's last answer.
 ghost use Rattle.std.specs.Prelude.{◌≡◌, ◌<◌, ◌%◌, ◌/◌};
 ghost use Rattle.irq_base.specs.Codes.{way_at, take_at, answer_at, note_at, resend_at, error_at, enable_at, opened_at, link_at, unlink_at, affinity_at, flag_at};
 

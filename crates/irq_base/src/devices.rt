@@ -1,4 +1,4 @@
-//! Devices: what raises interrupts, and how its handlers answer.
+//! Devices: what raises interrupts, and how a device's handlers answer.
 ghost use Rattle.std.specs.Prelude.{◌≡◌};
 ghost use Rattle.irq_base.specs.Handlers.{has_thread};
 
@@ -65,9 +65,9 @@ pub struct DeviceDef {
 /// A run of a handler.
 #[derive(Clone, Copy, PartialEq, Eq)]
 pub struct Run {
-    /// Whose handler it is.
+    /// The device whose handler runs.
     pub def: DeviceDef,
-    /// Which part of it runs.
+    /// Which part of the handler runs.
     pub part: Part,
     /// How many asks of the device were unserved as the run began.
     pub unserved: u32,

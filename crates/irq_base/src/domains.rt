@@ -6,7 +6,7 @@ use std::marker::Model;
 /// How a domain maps hardware numbers (`irq_domain_create_linear`, `irq_domain_create_tree`).
 #[derive(Clone, Copy, PartialEq, Eq)]
 pub enum MapKind {
-    /// An array of that size, 1 to 1,024: the hardware numbers below it.
+    /// An array: the hardware numbers below its size, which is 1 to 1,024.
     Linear(u32),
     /// A tree: every hardware number.
     Tree,
@@ -15,9 +15,9 @@ pub enum MapKind {
 /// What a level of interrupt controllers does with the signal (ours).
 #[derive(Clone, Copy, PartialEq, Eq)]
 pub enum ControllerKind {
-    /// A root that presents edges and stores those that come while it is masked.
+    /// A root that presents edges, and stores an edge that comes while it is masked.
     Latch,
-    /// A root that presents edges and drops those that come while it is masked.
+    /// A root that presents edges, and drops an edge that comes while it is masked.
     Plain,
     /// A root that presents levels.
     Level,
@@ -40,7 +40,7 @@ pub struct DomainDef {
     pub map: MapKind,
     /// What its controllers do with the signal.
     pub kind: ControllerKind,
-    /// The place of its parent among the domains before it; none for a root.
+    /// The place of its parent, which stands before it among the domains; none for a root.
     pub parent: Option<usize>,
 }
 
@@ -106,7 +106,7 @@ impl Path {
         self.len == 0
     }
 
-    /// The pair at the place, counted from 0, the leaf's; none from the path's length on.
+    /// The pair at index `place`; 0 is the leaf's; none from the path's length on.
     pub fn get(&self, place: usize) -> Option<(usize, u32)>
         ensures { result ≡ slice_get self.now place }
     {

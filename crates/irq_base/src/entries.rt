@@ -62,11 +62,11 @@ pub enum Note {
 /// `kernel/irq/resend.c`).
 #[derive(Clone, Copy, PartialEq, Eq)]
 pub enum Resend {
-    /// There was none, or the level shows it by itself.
+    /// There was no such interrupt, or the level shows it by itself.
     No,
     /// The chip sends it again.
     Chip,
-    /// The software does.
+    /// The software sends it again.
     Soft,
 }
 
@@ -84,7 +84,7 @@ pub enum EnableAnswer {
 /// What a request that was linked made of the line's depth.
 #[derive(Clone, Copy, PartialEq, Eq)]
 pub enum Opened {
-    /// Nothing.
+    /// The depth is as it was.
     No,
     /// Its enable found nothing to lower.
     Unbalanced,
@@ -99,7 +99,7 @@ pub enum Opened {
 pub enum LinkAnswer {
     /// The device's action is on the line's list.
     Linked,
-    /// It isn't; the caller gets this error.
+    /// The action isn't on the list; the caller gets this error.
     Refused(Errno),
 }
 
@@ -131,8 +131,8 @@ pub enum Entry {
         driver: DriverNo,
         dev: DevNo,
     },
-    /// A processor takes an interrupt: the flow handler up to its first handler; of Busy and Off
-    /// the whole of it.
+    /// A processor takes an interrupt: the flow handler up to its first handler, or the whole flow
+    /// handler if the answer is Busy or Off.
     Take {
         cpu: CpuNo,
         way: Way,
@@ -150,8 +150,9 @@ pub enum Entry {
         answer: Answer,
         served: u32,
     },
-    /// The note (`note_interrupt`), and the flow handler after its last handler. `again`: it goes
-    /// on with the interrupt that came meanwhile. `unmask`: it opens the chip's mask.
+    /// The note (`note_interrupt`), and the rest of the flow handler once the last handler has
+    /// returned. `again`: the flow goes on with an interrupt that came meanwhile. `unmask`: the
+    /// chip's mask is opened.
     End {
         cpu: CpuNo,
         again: bool,

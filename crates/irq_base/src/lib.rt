@@ -1,10 +1,10 @@
 //! The words of the interrupt layer: what a line is made of, what its drivers ask of it, and the
 //! entries of its history.
 //!
-//! Everything here is plain data, but for the lists, which contracts see as lists. One entry stands
-//! for one hold of a line's lock in this model (`lock` of `struct irq_desc`,
-//! `include/linux/irqdesc.h`; Linux calls handlers, wakes threads and waits for them without it).
-//! `History` is what those holds left behind, the oldest first.
+//! Everything here is plain data; contracts see the list types as lists. One entry stands for one
+//! hold of a line's lock in this model (`lock` of `struct irq_desc`, `include/linux/irqdesc.h`;
+//! Linux calls handlers, wakes threads and waits for them without it). `History` is the list of
+//! these entries, the oldest first.
 #![tactic(auto)]
 
 pub mod calls;

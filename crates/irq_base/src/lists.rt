@@ -53,7 +53,7 @@ impl<T: Copy> ItemList<T> {
         self.items.is_empty()
     }
 
-    /// The item at the place, counted from 0; none from the length on.
+    /// The item at index `place`, counted from 0; none from the length on.
     pub fn get(&self, place: usize) -> Option<T>
         ensures { result ≡ slice_get self.now place }
     {

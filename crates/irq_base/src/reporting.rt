@@ -20,8 +20,8 @@ pub struct LineReport {
     pub history: History,
 }
 
-/// One report a line. Contracts see the list of them, and `spare`, how many more fit without
-/// memory.
+/// One report for each line. Contracts see the list of the reports, and `spare`, how many more fit
+/// without memory.
 #[derive(Drop)]
 pub struct Reports {
     reports: Vec<LineReport>,
@@ -85,7 +85,7 @@ impl Reports {
         self.reports.is_empty()
     }
 
-    /// The report at the place, counted from 0; none from the length on.
+    /// The report at index `place`, counted from 0; none from the length on.
     pub fn get(&self, place: usize) -> Option<&LineReport>
         ensures { option_copied result ≡ slice_get self.now.reports place }
     {
@@ -93,7 +93,7 @@ impl Reports {
     }
 }
 
-/// One history a line of a board. Contracts see the list of them.
+/// One history for each line of a board. Contracts see the list of the histories.
 #[derive(Drop)]
 pub struct Logs {
     histories: Vec<History>,
@@ -141,14 +141,14 @@ impl Logs {
         self.histories.is_empty()
     }
 
-    /// The history at the place, counted from 0; none from the length on.
+    /// The history at index `place`, counted from 0; none from the length on.
     pub fn get(&self, place: usize) -> Option<&History>
         ensures { option_copied result ≡ slice_get self.now place }
     {
         self.histories.get(place)
     }
 
-    /// The history at a place below the length, to be written. All others stay.
+    /// The history at index `place`, below the length, to be written. All others stay as they are.
     pub fn history_mut(&mut self, place: usize) -> &mut History
         requires { place < length self.old }
         ensures* writes_back { sem 𝓛 (Lends logs_row history_row self.entry result (slice_set self.old place)) }

@@ -14,17 +14,17 @@ pub struct Blocks {
     pub freed: bool,
 }
 
-/// Which of them a call waits for.
+/// Which of the four things a call waits for.
 #[derive(Clone, Copy, PartialEq, Eq)]
 pub enum WaitFor {
-    /// None of them.
+    /// Nothing.
     Nothing,
     /// The end of the flow.
     Flow,
-    /// The rest of all threads.
+    /// All threads at rest.
     Threads,
     /// The request mutex.
     Mutex,
-    /// The rest of the device that is being freed.
+    /// The thread of the device that is being freed, at rest.
     Freed,
 }

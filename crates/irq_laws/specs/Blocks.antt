@@ -14,9 +14,9 @@ use Rattle.irq_model.specs.Due.{due_call, holds_mutex}
 use Rattle.irq_model.specs.Next.{next}
 use Rattle.irq_laws.specs.Kept.{freeing}
 
--- nothing; the end of the flow that is in progress (`__synchronize_hardirq`); the rest of the
--- threads of all devices (`synchronize_irq`); the request mutex; the rest of the thread of the
--- device that is freed
+-- what is waited for: nothing; that the flow in progress ends (`__synchronize_hardirq`); that the
+-- threads of all devices are at rest (`synchronize_irq`); the request mutex; that the thread of the
+-- device being freed is at rest
 pub data Block : Type 0 where
   Nothing : Block
   Flow : Block
@@ -24,7 +24,7 @@ pub data Block : Type 0 where
   Mutex : Block
   Device : DevNo → Block
 
--- what a call waits for, of which n entries are there
+-- what a call waits for once it has made n entries
 abbrev pub block_of : Call → ℕ → Block
 block_of (calls.Request dev flags) n = Mutex
 block_of (calls.Free dev) n = if n == 0 then Mutex else (if n == 1 then Flow else Device dev)
@@ -32,8 +32,8 @@ block_of calls.Disable n = if n == 0 then Nothing else (if n == 1 then Flow else
 block_of calls.Sync n = if n == 0 then Flow else Threads
 block_of _ n = Nothing
 
--- it stands in the way: a flow is in progress; some device of the line is woken or in a run; the
--- mutex is held; the device that is freed is woken or in a run
+-- what is waited for stands in the way: a flow is in progress; some device of the line is woken or
+-- in a run; the mutex is held; the device that is freed is woken or in a run
 abbrev pub stands_in_way : LineDef → List Entry → Block → Bool
 stands_in_way def past Nothing = false
 stands_in_way def past Flow = has_flow def past
@@ -47,7 +47,7 @@ pub record FreeMoves (def : LineDef) (h : List Entry) : Type 0 where
   pub driver : DriverNo
   pub dev : DevNo
   pub under_way : freeing (reverse h) ≡ Some (driver, dev)
-  -- how many of its entries stand after the unlink
+  -- how many entries the free has made after its unlink
   pub after_unlink : ℕ
   pub call : due_call def driver (reverse h) ≡ Some (calls.Free dev, suc after_unlink)
   pub moves : IsSome (next def h (actors.Driver driver))

@@ -1,5 +1,5 @@
--- The cell of a line, driven by the entries: what each of them does to it, in the order in which
--- the flow handlers and the calls do it. The newest entry comes first.
+-- The cell of a line, driven by the entries: what each entry does to the cell, in the order in
+-- which the flow handlers and the calls do it. The newest entry comes first.
 use Rattle.std.specs.Prelude.{ℕ, nat_lt, ◌≡◌, Bool, ◌&&◌, if◌then◌else◌, List, [], ◌∷◌, reverse}
 use Rattle.irq_base.specs.declared.lines.FlowKind.{FlowKind}
 use Rattle.irq_base.specs.declared.lines.FlowKind.TheVariants as flows
@@ -65,7 +65,7 @@ taken_on_eoi_level oneshot takes.Handle c = if oneshot then after_mask c else c
 taken_on_eoi_level oneshot takes.Busy c = after_eoi c
 taken_on_eoi_level oneshot takes.Off c = after_eoi (after_mask c)
 
--- the level flow masks and acknowledges each
+-- what a take does to the cell; the level flow masks and acknowledges each
 abbrev pub taken : LineDef → FlowKind → Bool → TakeAnswer → Cell → Cell
 taken def flows.Level oneshot answer c = after_ack (after_mask c)
 taken def flows.Edge oneshot answer c = taken_on_edge_flow answer c
@@ -89,8 +89,7 @@ ended def flows.Eoi again unmask c =
     retriggered_if (is_edge_line def && again) (unmasked_if unmask (after_eoi c))
 ended def _ again unmask c = unmasked_if unmask c
 
--- a device asks, or a run that served it returned: an edge comes, or the level is what the devices
--- make of it now
+-- a device asks: an edge comes, or the level is set by whether some device has an unserved ask
 abbrev pub asked : LineDef → List Entry → Cell → Cell
 asked def past c = if is_edge_line def then after_edge c else after_high (is_high def past) c
 
@@ -123,8 +122,8 @@ abbrev pub cell_after : LineDef → List Entry → Cell
 cell_after def [] = fresh_cell def.trigger def.keeps def.recalls def.retriggers (serves def)
 cell_after def (e ∷ past) = driven def e past (cell_after def past)
 
--- the marks that are read off the entries are what the cell keeps, and it presents what the line
--- signals
+-- the cell's marks are as they are read off the entries, and the cell presents an interrupt exactly
+-- if the line signals one
 pub record IsDrivenCell (def : LineDef) (h : List Entry) : Type 0 where
   pub keeps : cell_after def (reverse h) ≡ cell_of def (reverse h)
   pub presents : presents (cell_after def (reverse h)) ≡ signals def (reverse h)

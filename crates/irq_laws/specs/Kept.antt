@@ -19,8 +19,8 @@ use Rattle.irq_model.specs.Due.{calls_by, entries_by, entries_of_call, due_call}
 use Rattle.irq_model.specs.Valid.{requests_dev, frees_dev}
 use Rattle.irq_model.specs.Reason.{is_called, is_being_freed, ClearedIsNotCalled, UnlinkedIsAtRest, UnfinishedIsAtWork, FlagsAgree, EnabledIsStarted, EdgeFlowMaskIsPending, EoiEdgeIsOpen, EdgePendingHasFlow, DroppedIsPending, LevelMaskIsHeld, EoiLevelMaskIsOneshot}
 
--- the handler that is at work is the one that was called and hasn't returned, in the round of the
--- flow
+-- a handler is at work exactly if it was called and hasn't returned; it was called in the current
+-- round of the flow
 pub record KeepsRuns (def : LineDef) (past : List Entry) : Type 0 where
   pub called : (d : DevNo) → is_called past d ≡ true → at_work past ≡ Some d
   pub working : (d : DevNo) → at_work past ≡ Some d
@@ -39,7 +39,7 @@ unlinks_of r d (entries.Unlink driver dev answer) =
     (same_driver r driver && same_dev d dev) && is_unlinked_answer answer
 unlinks_of r d _ = false
 
--- one free at a time, and its driver is within it
+-- at most one free is under way; a driver that is within a free is its driver
 pub record KeepsFrees (def : LineDef) (past : List Entry) : Type 0 where
   pub one_driver : (r : DriverNo) (d : DevNo) → stands (unlinks_of r d) (is_freed_by r) past ≡ true
       → freeing past ≡ Some (r, d)
@@ -49,7 +49,7 @@ pub record KeepsFrees (def : LineDef) (past : List Entry) : Type 0 where
       → freeing past ≡ Some (r, d)
   -- what is being freed isn't linked
   pub unlinked : (r : DriverNo) (d : DevNo) → freeing past ≡ Some (r, d) → is_linked past d ≡ false
-  -- past the hard clear of the free no handler of the device is at work
+  -- after the hard clear of the free no handler of the device is at work
   pub past_clear : (r : DriverNo) (d : DevNo) → due_call def r past ≡ Some (calls.Free d, 2)
       → is_called past d ≡ false
   pub cleared : ClearedIsNotCalled def past
@@ -67,7 +67,7 @@ pub record KeepsRest (def : LineDef) (past : List Entry) : Type 0 where
   pub at_work : UnfinishedIsAtWork def past
   pub flags : FlagsAgree def past
 
--- the calls that are complete, the last first, before those of `done`
+-- the complete calls, the last one first, put before the calls of `done`
 abbrev pub complete : List Call → List Call → List Entry → List Call
 complete done [] es = done
 complete done (c ∷ cs) es =
@@ -77,7 +77,8 @@ complete done (c ∷ cs) es =
 abbrev pub complete_by : LineDef → DriverNo → List Entry → List Call
 complete_by def r past = complete [] (calls_by r def.calls) (entries_by r past)
 
--- a driver of a request of d, the last of whose complete requests and frees of d is a request
+-- some driver's script requests d, and the last of its complete calls that request or free d is a
+-- request
 pub record Wanted (def : LineDef) (past : List Entry) (d : DevNo) : Type 0 where
   pub driver : DriverNo
   pub place : ℕ

@@ -13,7 +13,7 @@ pub record IsQuiet (def : LineDef) (h : List Entry) : Type 0 where
   pub no_flow : has_flow def (reverse h) ≡ false
   -- each handler that was called has returned
   pub no_handler : (d : DevNo) → is_called (reverse h) d ≡ false
-  -- no thread is to run, or in a run
+  -- no thread is to run, and none is in a run
   pub no_thread : (d : DevNo) → (is_woken (reverse h) d || is_running (reverse h) d) ≡ false
   -- no free is under way
   pub no_free : holds_mutex (reverse h) ≡ false

@@ -51,8 +51,8 @@ pub fn keeps_oneshot()
     ensures law { (def : LineDef) (h : List Entry) → IsValid def → IsLegal def h → KeepsOneshot def h }
 {}
 
-/// Synchronised calls: a hard clear comes when no handler is at work, a sync's end when no thread
-/// is.
+/// Synchronised calls: a hard clear comes only when no handler is at work, the end of a sync only
+/// when no thread is.
 #[tactic(auto, using(crate::proofs::RunLaws::synchronised))]
 pub fn synchronised()
     ensures law { (def : LineDef) (h : List Entry) → IsValid def → IsLegal def h → IsSynchronised def h }
@@ -79,8 +79,8 @@ pub fn takes_are_counted()
     ensures law { (def : LineDef) (h : List Entry) → IsLegal def h → TakesAreCounted def h }
 {}
 
-/// Served when idle: on an enabled line without a flow, what is owed, or high with no thread
-/// unfinished, is handled next.
+/// Served when idle: on an enabled line without a flow the next entry of the target is a take that
+/// is handled, if an edge is owed, or if the level is high and no thread is unfinished.
 #[tactic(auto, using(crate::proofs::ServedLaws::served_when_idle))]
 pub fn served_when_idle()
     ensures law { (def : LineDef) (h : List Entry) → IsValid def → IsLegal def h → IsServedWhenIdle def h }
@@ -105,18 +105,19 @@ pub fn settled_is_delivered()
     ensures law { (def : LineDef) (h : List Entry) → IsValid def → IsLegal def h → IsSettled def h → IsDelivered def h }
 {}
 
-/// Each driver's entries are those of its calls, in the order of its script, each once.
+/// A driver's entries are the entries of its calls, in the order of its script, each once.
 #[tactic(auto, using(crate::proofs::ScriptLaws::follows_scripts))]
 pub fn follows_scripts()
     ensures law { (def : LineDef) (h : List Entry) → IsLegal def h → FollowsScripts def h }
 {}
 
-/// What every entry keeps holds of every legal past, whose newest entry comes first.
+/// The facts that every entry keeps (`Kept`) hold of every legal past, whose newest entry comes
+/// first.
 pub fn kept()
     ensures law { (def : LineDef) (past : List Entry) → IsValid def → IsLegalPast def past → Kept def past }
 {}
 
-/// At most one handler is at work, and it was called in the round of the flow that is there.
+/// At most one handler is at work, and it was called in the current round of the flow in progress.
 #[tactic(auto, using(crate::proofs::ReasonLaws::one_is_called))]
 pub fn one_is_called()
     ensures law { (def : LineDef) (past : List Entry) → IsValid def → IsLegalPast def past → OneIsCalled def past }
@@ -128,9 +129,9 @@ pub fn one_is_freed()
     ensures law { (def : LineDef) (past : List Entry) → IsValid def → IsLegalPast def past → OneIsFreed def past }
 {}
 
-/// The cell: masked, stored, sent, high and in service, as they are read off the entries, are what
-/// the signal cell of the line keeps when the entries drive it, each by the operations of its flow
-/// or its call; and what the line signals is what the cell presents.
+/// The cell: let the entries drive the line's signal cell, each by the operations of its flow or
+/// its call. Then the cell's five marks (masked, stored, sent, high, in service) are as they are
+/// read off the entries, and the cell presents an interrupt exactly if the line signals one.
 #[tactic(auto, using(crate::proofs::CellKept::is_driven_cell))]
 pub fn driven_cell()
     ensures law { (def : LineDef) (h : List Entry) → IsValid def → IsLegal def h → IsDrivenCell def h }
@@ -141,7 +142,7 @@ pub fn due_is_own()
     ensures law { (def : LineDef) (h : List Entry) (a : Actor) (e : Entry) → next def h a ≡ Some e → actor_of def.line e ≡ a }
 {}
 
-/// A take is due of no processor but the target, so of one at most.
+/// Only the target ever has a take due, so at most one processor has.
 pub fn one_takes()
     ensures law { (def : LineDef) (h : List Entry) (c : CpuNo) (e : Entry) → is_take e ≡ true → next def h (actors.Cpu c) ≡ Some e → target def (reverse h) ≡ Some c }
     ensures one { (def : LineDef) (h : List Entry) (b c : CpuNo) (e f : Entry) → is_take e ≡ true → is_take f ≡ true → next def h (actors.Cpu b) ≡ Some e → next def h (actors.Cpu c) ≡ Some f → b ≡ c }

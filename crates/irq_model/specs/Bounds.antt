@@ -10,7 +10,7 @@ abbrev pub is_ask_call : Call → Bool
 is_ask_call (calls.Ask dev) = true
 is_ask_call _ = false
 
--- the asks of the scripts, and their other calls
+-- how many asks the scripts have, and how many other calls
 abbrev pub ask_calls : LineDef → ℕ
 ask_calls def = count_of (λ c. is_ask_call c.1) def.calls
 

@@ -25,7 +25,7 @@ abbrev pub begins_not_there : List Entry → Bool
 begins_not_there (entries.Unlink driver dev unlinks.NotThere ∷ es) = true
 begins_not_there _ = false
 
--- how many entries a call makes, given the driver's entries from its first one on
+-- how many entries a call makes, given the driver's entries from the call's first one on
 abbrev pub entries_of_call : Call → List Entry → ℕ
 entries_of_call (calls.Ask dev) es = 1
 entries_of_call (calls.Request dev flags) es = 1
@@ -37,7 +37,7 @@ entries_of_call calls.Sync es = 2
 entries_of_call (calls.Affinity mask) es = 1
 entries_of_call (calls.Moment at) es = 1
 
--- the first call that isn't complete, and how many of its entries are there
+-- the first call that isn't complete, and how many entries it has made
 abbrev pub due_of : List Call → List Entry → Option (Call × ℕ)
 due_of [] es = None
 due_of (c ∷ cs) es =
@@ -53,7 +53,7 @@ is_being_freed_at after (entries.Unlink driver dev (unlinks.Unlinked last) ∷ p
     not (list_any (is_freed_by driver) after)
 is_being_freed_at after _ = false
 
--- the request mutex is held, from an unlink to its driver's end of the free: until then the
--- device's thread may run, and no request may be given its thread bit
+-- the request mutex is held from an unlink until the same driver has completed the free: until then
+-- the device's thread may run, and no request may be given the thread's bit
 abbrev pub holds_mutex : List Entry → Bool
 holds_mutex past = some_place is_being_freed_at past

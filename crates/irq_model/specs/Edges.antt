@@ -1,5 +1,5 @@
--- The edges of an edge line: where each of them is, by places of the history (ours). That these are
--- the marks of the signal cell is a law.
+-- The edges of an edge line: where each edge is, by its place in the history (ours). A law says
+-- that the marks of the signal cell are these.
 use Rattle.std.specs.Prelude.{Bool, false, not, ◌||◌, ◌&&◌, List, [], ◌∷◌, ◌++◌}
 use Rattle.irq_base.specs.declared.lines.LineDef.{LineDef}
 use Rattle.irq_base.specs.declared.entries.Entry.{Entry}
@@ -18,7 +18,7 @@ abbrev pub ends_in_edge : LineDef → List Entry → Bool
 ends_in_edge def [] = false
 ends_in_edge def (e ∷ past) = is_edge def e
 
--- the line was open at some moment from the place on
+-- the line was open at some moment since the place
 abbrev pub was_open : LineDef → List Entry → List Entry → Bool
 was_open def [] upto = not (is_masked def upto)
 was_open def (e ∷ after) upto = not (is_masked def (e ∷ after ++ upto)) || was_open def after upto

@@ -1,5 +1,4 @@
--- The laws of every legal history, as sentences about the entries and what stands before each of
--- them.
+-- The laws of every legal history: sentences about each entry and the entries before it.
 use Rattle.std.specs.Prelude.{◌≡◌, ◌+◌, ◌≤◌, Bool, true, false, ◌||◌, ◌&&◌, Some, List, ◌∷◌, reverse}
 use Rattle.irq_base.specs.declared.numbers.CpuNo.{CpuNo}
 use Rattle.irq_base.specs.declared.numbers.DevNo.{DevNo}
@@ -55,14 +54,15 @@ pub record TakesAreCounted (def : LineDef) (h : List Entry) : Type 0 where
   pub resend : is_edge_line def ≡ true
       → count_of is_resend_take (reverse h) ≤ count_of is_soft_start (reverse h)
 
--- synchronised calls: a hard clear comes when no handler is at work, a sync's end when no thread is
+-- synchronised calls: a hard clear comes only when no handler is at work, the end of a sync only
+-- when no thread is
 abbrev pub IsSynchronised : LineDef → List Entry → Type 0
 IsSynchronised def h =
     EachEntry (λ e past. (d : DevNo)
     → (is_hard_clear e ≡ true → is_called past d ≡ false)
     × (is_synced e ≡ true → (is_woken past d || is_running past d) ≡ false)) (reverse h)
 
--- the target's due entry is a take that is handled
+-- the entry that is due of the target is a take that is handled
 abbrev pub IsHandledNext : LineDef → List Entry → Type 0
 IsHandledNext def h = (c : CpuNo) × (way : Way) × (target def (reverse h) ≡ Some c)
     × (next def h (actors.Cpu c) ≡ Some (entries.Take c way takes.Handle))

@@ -36,7 +36,7 @@ serves def = is_level_line def && is_eoi_flow def.flow
 abbrev pub is_device : DevNo → DeviceDef → Bool
 is_device d x = same_dev d x.dev
 
--- the kind of a device; one that the line lacks never serves, as a stuck one
+-- the kind of a device; a device that the line doesn't have counts as stuck, so it never serves
 abbrev pub kind_in : List DeviceDef → DevNo → Kind
 kind_in [] d = kinds.Stuck
 kind_in (x ∷ xs) d = if is_device d x then x.kind else kind_in xs d

@@ -13,7 +13,7 @@ use Rattle.irq_model.specs.Kinds.{same_dev, links_dev, unlinks_dev, is_linked_re
 abbrev pub is_linked : List Entry → DevNo → Bool
 is_linked past d = stands (links_dev d) (unlinks_dev d) past
 
--- the devices that were ever linked, in the order of their last such requests
+-- the devices that were ever linked, in the order of their last requests that were linked
 abbrev pub requested : List Entry → List DevNo
 requested [] = []
 requested (entries.Request driver dev flags links.Linked opened ∷ past) =
@@ -36,12 +36,13 @@ abbrev pub is_first_request : List Entry → Bool
 is_first_request [] = false
 is_first_request (e ∷ past) = is_linked_request e && is_none_linked past
 
--- the newest entry gives the depth a value of its own: a first request, or a last unlink
+-- the newest entry sets the depth anew: a first request, or a last unlink
 abbrev pub is_reset : List Entry → Bool
 is_reset [] = false
 is_reset (e ∷ past) = is_last_unlink e || is_first_request (e ∷ past)
 
--- that value: 0 if a first request started the line, else 1, as at the beginning
+-- the depth as it was last set anew: 0 if a first request started the line, else 1; 1 at the
+-- beginning
 abbrev pub base : List Entry → ℕ
 base [] = 1
 base (e ∷ past) = if is_start e then 0 else 1

@@ -10,8 +10,8 @@ use Rattle.irq_model.specs.Kinds.{is_take, is_handle, is_busy, is_off, is_disabl
 use Rattle.irq_model.specs.Lines.{is_level_line}
 use Rattle.irq_model.specs.Links.{is_oneshot}
 
--- a take that masks: each on the level flow, one that isn't handled on the edge flow; on the
--- fast-EOI flow one answered Off, and on a one-shot level line one that is handled
+-- a take that masks. On the level flow: each take. On the edge flow: a take that isn't handled. On
+-- the fast-EOI flow: a take answered Off, and on a one-shot level line a take that is handled
 abbrev pub take_masks : LineDef → FlowKind → Entry → List Entry → Bool
 take_masks def flows.Level e past = is_take e
 take_masks def flows.Edge e past = is_busy e || is_off e
@@ -24,7 +24,7 @@ masks def [] = true
 masks def (e ∷ past) = take_masks def def.flow e past
     || ((def.unlazy && (is_disable e || is_kill e)) || is_last_unlink e)
 
--- a start, or an end or a finish that says so
+-- a start, or an end or a finish that says `unmask`
 abbrev pub unmasks : Entry → Bool
 unmasks e = is_start e || is_reopening e
 

@@ -50,7 +50,7 @@ use Rattle.irq_model.specs.Spurious.{note_of}
 
 -- ---- threads (`irq_thread`, `irq_finalize_oneshot`)
 
--- the asks that were unserved as the thread's run began
+-- how many asks were unserved as the thread's run began
 abbrev pub asks_of_thread : LineDef → DevNo → List Entry → ℕ
 asks_of_thread def d past = unserved_asks def d (before (is_thread_begin d) past)
 
@@ -79,7 +79,7 @@ next_of_thread def d past =
 
 -- ---- processors: in the flow (`handle_irq_event`, and the ends of the flow handlers)
 
--- the asks that were unserved as the handler began
+-- how many asks were unserved as the handler was called
 abbrev pub asks_of_handler : LineDef → DevNo → List Entry → ℕ
 asks_of_handler def d past = unserved_asks def d (before (is_begin d) past)
 
@@ -123,7 +123,8 @@ abbrev pub begin_or_end : LineDef → CpuNo → List Entry → Option DevNo → 
 begin_or_end def c past None = end_of def c past
 begin_or_end def c past (Some d) = entries.Begin c d
 
--- a handler that was called returns; else the first that is left is called; else the round ends
+-- a handler that is at work returns; else the first handler that is left is called; else the round
+-- ends
 abbrev pub next_in_flow : LineDef → CpuNo → List Entry → Option DevNo → Entry
 next_in_flow def c past (Some d) = return_of def c d past
 next_in_flow def c past None = begin_or_end def c past (first_left def past (linked past))
@@ -138,8 +139,8 @@ take_answer def past =
     if has_flow def past then takes.Busy
     else (if is_disabled past || is_none_linked past then takes.Off else takes.Handle)
 
--- the target takes what is signalled, or else what the software resends (that the target takes the
--- resend, and the signal first, is ours)
+-- the target takes what is signalled, or else what the software resends (two things are ours: the
+-- target takes the resend, and the signal comes first)
 abbrev pub next_take : LineDef → CpuNo → List Entry → Option Entry
 next_take def c past =
     if not (is_cpu c (target def past)) then None
@@ -168,7 +169,7 @@ enable_answer def past =
 abbrev pub same_flag : Bool → Bool → Bool
 same_flag a b = (a && b) || (not a && not b)
 
--- the new flags don't go with those of some linked action
+-- the flags of the request don't go with the flags of some linked action
 abbrev pub flags_differ : Flags → Flags → Bool
 flags_differ new old = not new.shared || (not old.shared || not (same_flag new.oneshot old.oneshot))
 
@@ -179,7 +180,7 @@ abbrev pub is_null : Kind → Bool
 is_null kinds.Null = true
 is_null _ = false
 
--- the first refusal is that of `request_threaded_irq`, which takes no lock
+-- the first refusal is made by `request_threaded_irq`, which holds no lock there
 abbrev pub link_answer : LineDef → DevNo → Flags → List Entry → LinkAnswer
 link_answer def d flags past =
     if flags.shared && flags.noauto then links.Refused errors.Inval
@@ -231,7 +232,7 @@ synced_of def r past = if active_count def past == 0 then Some (entries.Synced r
 abbrev pub freed_of : DriverNo → DevNo → List Entry → Option Entry
 freed_of r d past = if is_woken past d || is_running past d then None else Some (entries.Freed r d)
 
--- `synchronize_irq`, of which n entries are there
+-- `synchronize_irq`; n: how many entries it has made
 abbrev pub next_of_sync : LineDef → DriverNo → ℕ → List Entry → Option Entry
 next_of_sync def r n past = if n == 0 then hard_clear_of def r past else synced_of def r past
 
@@ -254,7 +255,7 @@ abbrev pub next_of_request : LineDef → DriverNo → DevNo → Flags → List E
 next_of_request def r d flags past =
     if holds_mutex past then None else Some (request_of def r d flags past)
 
--- the driver's due call, and how many of its entries are there
+-- what a driver adds next, by its due call and how many entries the call has made
 abbrev pub next_of_call : LineDef → DriverNo → List Entry → Option (Call × ℕ) → Option Entry
 next_of_call def r past None = None
 next_of_call def r past (Some (calls.Ask d, n)) = Some (entries.Ask r d)
@@ -278,6 +279,6 @@ next_past def past (actors.Thread line d) =
 next_past def past (actors.Cpu c) = next_of_cpu def c past
 next_past def past (actors.Driver r) = next_of_call def r past (due_call def r past)
 
--- the same over a history, whose oldest entry comes first
+-- the entry that is due for the actor after a history, whose oldest entry comes first
 abbrev pub next : LineDef → List Entry → Actor → Option Entry
 next def h a = next_past def (reverse h) a

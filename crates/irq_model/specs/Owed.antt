@@ -22,7 +22,8 @@ abbrev pub comes_to : DevNo → List Entry → Bool
 comes_to d [] = false
 comes_to d (e ∷ past) = is_any_ask e && (is_started past && is_linked past d)
 
--- such an ask, and d has been linked ever since, and its handler wasn't called since
+-- an edge is owed to d: since an ask that came to d, d has stayed linked, and its handler wasn't
+-- called
 abbrev pub is_owed : LineDef → DevNo → List Entry → Bool
 is_owed def d past =
     is_edge_line def

@@ -3,53 +3,53 @@
 use Rattle.std.specs.Prelude.{ℕ, ◌+◌, Bool, false, not, ◌||◌, ◌&&◌, if◌then◌else◌, Option, Some, None, List, [], ◌∷◌}
 
 module _ {A : Type 0} where
-  -- what stands after the last that is p, or all if none is
+  -- the entries after the last one that is p; all if none is
   abbrev pub since : (A → Bool) → List A → List A
   since p [] = []
   since p (e ∷ past) = if p e then [] else (e ∷ since p past)
 
-  -- what stands before the last that is p, or nothing if none is
+  -- the entries before the last one that is p; none if none is
   abbrev pub before : (A → Bool) → List A → List A
   before p [] = []
   before p (e ∷ past) = if p e then past else before p past
 
-  -- the last that is p
+  -- the last entry that is p
   abbrev pub last_of : (A → Bool) → List A → Option A
   last_of p [] = None
   last_of p (e ∷ past) = if p e then Some e else last_of p past
 
-  -- some p has no q after it
+  -- some entry is p, and no entry after it is q
   abbrev pub stands : (A → Bool) → (A → Bool) → List A → Bool
   stands p q [] = false
   stands p q (e ∷ past) = p e || (not (q e) && stands p q past)
 
-  -- how many are p
+  -- how many entries are p
   abbrev pub count_of : (A → Bool) → List A → ℕ
   count_of p [] = 0
   count_of p (e ∷ past) = if p e then (count_of p past + 1) else count_of p past
 
-  -- the same with the test on the list up to the place
+  -- the entries after the last place that is p; the test looks at the list up to the place
   abbrev pub since_place : (List A → Bool) → List A → List A
   since_place p [] = []
   since_place p (e ∷ past) = if p (e ∷ past) then [] else (e ∷ since_place p past)
 
-  -- the list up to the last place that is p, or nothing if none is
+  -- the list up to the last place that is p; empty if none is
   abbrev pub upto_place : (List A → Bool) → List A → List A
   upto_place p [] = []
   upto_place p (e ∷ past) = if p (e ∷ past) then (e ∷ past) else upto_place p past
 
-  -- at some place, P of what stands after the place and of what stands up to it
+  -- at some place, P holds of the entries after the place and of the list up to it
   abbrev pub some_place : (List A → List A → Bool) → List A → Bool
   some_place P [] = false
   some_place P (e ∷ past) = P [] (e ∷ past) || some_place (λ after upto. P (e ∷ after) upto) past
 
-  -- the list up to the last such place, or nothing if none is
+  -- the list up to the last place at which P holds of both; empty if there is none
   abbrev pub last_place : (List A → List A → Bool) → List A → List A
   last_place P [] = []
   last_place P (e ∷ past) =
       if P [] (e ∷ past) then (e ∷ past) else last_place (λ after upto. P (e ∷ after) upto) past
 
-  -- at each entry, P of the entry and of what stands before it
+  -- P holds of each entry and of the entries before it
   abbrev pub EachEntry : (A → List A → Type 0) → List A → Type 0
   EachEntry P [] = Unit {0}
   EachEntry P (e ∷ past) = P e past × EachEntry P past

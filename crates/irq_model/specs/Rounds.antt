@@ -12,7 +12,8 @@ use Rattle.irq_model.specs.Kinds.{same_cpu, is_handle, is_again, is_leave, is_be
 use Rattle.irq_model.specs.Lines.{is_eoi_flow}
 use Rattle.irq_model.specs.Links.{is_linked}
 
--- an end that closes the flow: each on the fast-EOI flow, one that leaves on the others
+-- an end that closes the flow: on the fast-EOI flow each end, on the others an end that doesn't go
+-- on
 abbrev pub closes : LineDef → Entry → Bool
 closes def e = is_leave e || (is_eoi_flow def.flow && is_again e)
 
@@ -31,7 +32,7 @@ abbrev pub is_cpu : CpuNo → Option CpuNo → Bool
 is_cpu c None = false
 is_cpu c (Some f) = same_cpu c f
 
--- a take that is handled, or an end that goes on within the flow
+-- a round begins: at a take that is handled, or at an end with which the flow goes on
 abbrev pub begins_round : LineDef → Entry → Bool
 begins_round def e = is_handle e || (is_again e && not (is_eoi_flow def.flow))
 
@@ -57,6 +58,6 @@ abbrev pub dev_of_begin : Option Entry → Option DevNo
 dev_of_begin (Some (entries.Begin cpu dev)) = Some dev
 dev_of_begin _ = None
 
--- the device whose handler is at work: that of the last begin, unless a return stands after it
+-- the device whose handler is at work: the one that was called last, if its handler hasn't returned
 abbrev pub at_work : List Entry → Option DevNo
 at_work past = dev_of_begin (last_of is_begin_or_return past)

@@ -1,4 +1,4 @@
--- Each driver's entries are those of its calls, in the order of its script, each once.
+-- A driver's entries are the entries of its calls, in the order of its script, each once.
 use Rattle.std.specs.Prelude.{◌≡◌, ◌⊎◌, List, [], ◌∷◌, ◌++◌, reverse}
 use Rattle.irq_base.specs.declared.numbers.DriverNo.{DriverNo}
 use Rattle.irq_base.specs.declared.calls.Call.{Call}

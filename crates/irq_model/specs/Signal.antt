@@ -21,8 +21,8 @@ signals def past =
     if is_edge_line def then is_sent def past
     else (is_high def past && (not (is_masked def past) && not (serves def && has_flow def past)))
 
--- the newest entry of `upto` put a mask in force: a change at once, or one that waited and was made
--- by a take after it
+-- the newest entry of `upto` put a mask in force: a change that took effect at once, or a change
+-- that waited, if a take stands after it
 abbrev pub puts_in_force : List Entry → List Entry → Bool
 puts_in_force after (entries.Affinity driver mask moves.Now ∷ past) = true
 puts_in_force after (entries.Affinity driver mask moves.Later ∷ past) = list_any is_take after

@@ -1,5 +1,6 @@
--- The rule on spurious interrupts (`note_interrupt`, `kernel/irq/spurious.c`). It alone is a fold
--- over the history, as it is there. Times are the moments that drivers hand in.
+-- The rule on spurious interrupts (`note_interrupt`, `kernel/irq/spurious.c`). As in Linux, its
+-- counts are carried along, entry by entry; no other definition of the model is such a fold. Times
+-- are the moments that drivers hand in.
 use Rattle.std.specs.Prelude.{ℕ, ◌+◌, ◌-◌, max, Bool, true, false, not, ◌&&◌, ◌==◌, if◌then◌else◌, List, [], ◌∷◌, nat_lt}
 use Rattle.std.specs.List.{list_any}
 use Rattle.irq_base.specs.declared.lines.LineDef.{LineDef}
@@ -15,13 +16,13 @@ use Rattle.irq_model.specs.Rounds.{round}
 pub record Counts : Type 0 where
   -- the ends that the open window has counted
   pub irq_count : ℕ
-  -- those of them that were unhandled
+  -- the ends of the open window that were unhandled
   pub irqs_unhandled : ℕ
   -- the runs of threads that served
   pub threads_handled : ℕ
   -- an end woke a thread and waits to be judged by what the threads did
   pub deferred : Bool
-  -- `threads_handled` as it was judged last
+  -- what `threads_handled` was when an end was last judged by it
   pub last : ℕ
   -- the moment of the last unhandled end
   pub last_unhandled : ℕ
@@ -33,7 +34,8 @@ pub record Noted : Type 0 where
   pub note : Note
   pub counts : Counts
 
--- one more end of the window, of whose ends `irqs_unhandled` were unhandled
+-- counts one more end of the window, unless all its ends were handled; at the window's end the
+-- unhandled ends are judged
 abbrev pub counted : ℕ → ℕ → Counts → Noted
 counted window limit c =
     if c.irqs_unhandled == 0 then record { note = notes.Quiet; counts = c }
@@ -44,7 +46,7 @@ counted window limit c =
       counts = record c { irq_count = 0; irqs_unhandled = 0 };
     })
 
--- an unhandled end; one that comes long after the last begins the count anew
+-- an unhandled end; if it comes long after the last unhandled one, it begins the count anew
 abbrev pub unhandled : ℕ → Counts → Counts
 unhandled now c = record c {
   irqs_unhandled = (if nat_lt 100 (now - c.last_unhandled) then 1 else c.irqs_unhandled + 1);

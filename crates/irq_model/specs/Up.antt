@@ -19,7 +19,7 @@ abbrev pub is_some_entry : List Entry → Bool
 is_some_entry [] = false
 is_some_entry (e ∷ past) = true
 
--- a first request stands, and no last unlink after the last of them was freed
+-- there was a first request, and since the latest one no free of the last device was completed
 abbrev pub is_up : List Entry → Bool
 is_up past = is_some_entry (upto_place is_first_request past)
     && not (some_place is_freed_last (since_place is_first_request past))

@@ -19,19 +19,19 @@ abbrev pub frees_dev : DevNo → Call → Bool
 frees_dev d (calls.Free dev) = same_dev d dev
 frees_dev d _ = false
 
--- the device that a call names is one of these
+-- if the call names a device, it is one of these
 abbrev pub names_one_of : List DeviceDef → Call → Bool
 names_one_of devices (calls.Ask dev) = list_any (is_device dev) devices
 names_one_of devices (calls.Request dev flags) = list_any (is_device dev) devices
 names_one_of devices (calls.Free dev) = list_any (is_device dev) devices
 names_one_of devices _ = true
 
--- no two devices have one number
+-- no two devices have the same number
 abbrev pub HasDistinctDevices : List DeviceDef → Type 0
 HasDistinctDevices [] = Unit {0}
 HasDistinctDevices (x ∷ xs) = (list_any (is_device x.dev) xs ≡ false) × HasDistinctDevices xs
 
--- d's requests and frees are one driver's
+-- one driver alone requests and frees d
 abbrev pub HasOneOwner : List (DriverNo × Call) → DevNo → Type 0
 HasOneOwner cs d =
     (i j : ℕ) (a b : DriverNo × Call) → slice_get cs i ≡ Some a → slice_get cs j ≡ Some b

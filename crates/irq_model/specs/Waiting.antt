@@ -7,7 +7,7 @@ use Rattle.irq_model.specs.Places.{stands}
 use Rattle.irq_model.specs.Kinds.{is_handle, is_busy, is_off, is_again, is_start, is_soft_start, is_resend_take}
 use Rattle.irq_model.specs.Lines.{is_edge_line}
 
--- a take that leaves the interrupt pending: one answered Off, or on an edge line Busy
+-- a take that leaves the interrupt pending: answered Off, or on an edge line answered Busy
 abbrev pub sets_pending : LineDef → Entry → Bool
 sets_pending def e = is_off e || (is_edge_line def && is_busy e)
 
@@ -17,6 +17,6 @@ clears_pending e = is_handle e || (is_again e || is_start e)
 abbrev pub is_pending : LineDef → List Entry → Bool
 is_pending def past = stands (sets_pending def) clears_pending past
 
--- a start with a software resend, with no take of it since
+-- a start asked for a software resend, and no take by resend came since
 abbrev pub is_soft : List Entry → Bool
 is_soft past = stands is_soft_start is_resend_take past

@@ -1,4 +1,4 @@
 //! The rules of one interrupt line, as definitions over the list of its entries, in `specs/`.
 //! Worked histories are closed theorems in `proofs/`. There is no code here: `plain_next` has the
-//! plain program that is read off the definitions.
+//! reference program, read off the definitions.
 #![tactic(auto)]

@@ -4,7 +4,7 @@ use Rattle.irq_base.specs.declared.calls.Call.{Call}
 use Rattle.irq_base.specs.declared.entries.Entry.{Entry}
 use Rattle.irq_model.specs.Due.{entries_of_call}
 
--- with these entries, the oldest first, p calls are complete, and k entries of the next are there
+-- these entries, the oldest first, complete p calls, and the next call has made k entries
 abbrev pub Laid : List Call → List Entry → ℕ → ℕ → Type 0
 Laid [] es zero k = (es ≡ []) × (k ≡ 0)
 Laid [] es (suc p) k = ⊥

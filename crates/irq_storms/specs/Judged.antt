@@ -39,7 +39,7 @@ abbrev pub judgement : LineDef → List Entry → Judgement
 judgement def past =
     let c = counts_of def past in judged_as (round_wakes def past) (round_handles def past) c.deferred (c.threads_handled == c.last)
 
--- tests on a judgement
+-- tests of a judgement
 abbrev pub is_handled_judgement : Judgement → Bool
 is_handled_judgement Handled = true
 is_handled_judgement _ = false
@@ -52,7 +52,7 @@ abbrev pub is_deferred_judgement : Judgement → Bool
 is_deferred_judgement Deferred = true
 is_deferred_judgement _ = false
 
--- the entry is an end of that judgement
+-- the entry is an end that is judged handled (below: judged nothing, or deferred)
 abbrev pub ends_handled : LineDef → Entry → List Entry → Bool
 ends_handled def e past = is_end e && is_handled_judgement (judgement def past)
 
@@ -76,7 +76,7 @@ deferred_ends def past = count_where (ends_deferred def) past
 abbrev pub ends_clearing : LineDef → Entry → List Entry → Bool
 ends_clearing def e past = is_end e && (round_wakes def past && round_handles def past)
 
--- how many such ends there are
+-- how many ends give the deferred mark up
 abbrev pub clearing_ends : LineDef → List Entry → ℕ
 clearing_ends def past = count_where (ends_clearing def) past
 
@@ -85,8 +85,8 @@ clearing_ends def past = count_where (ends_clearing def) past
 abbrev pub breaks : LineDef → List Entry → ℕ
 breaks def past = handled_ends def past + count_of is_renewal past
 
--- what ends judged handled take: a handled return of the round in progress, and threads that served
--- since the last look
+-- what the next ends can be judged handled by: a handled return in the current round, and threads
+-- that served since the last look
 abbrev pub serving_marks : LineDef → List Entry → ℕ
 serving_marks def past =
     one_if (has_flow def past && round_handles def past) + one_if (not ((counts_of def past).threads_handled == (counts_of def past).last))
@@ -102,7 +102,8 @@ is_forgiving at c = nat_lt 100 (at - c.last_unhandled) || nat_lt c.irqs_unhandle
 abbrev pub allowance : ℕ → ℕ → Counts → ℕ
 allowance window at c = if is_forgiving at c then 2 * window - c.irq_count else window - c.irq_count
 
--- none on a line that was killed, and not started since
+-- how many ends judged nothing may come before the line is killed; none if it was killed, and not
+-- started since
 abbrev pub allowed : LineDef → List Entry → ℕ
 allowed def past =
     if stands is_kill is_start past then 0 else allowance def.window (now past) (counts_of def past)

@@ -32,15 +32,15 @@ pub record RunsAreCounted (def : LineDef) (h : List Entry) : Type 0 where
   pub dones : (d : DevNo)
       → count_of (is_done d) (reverse h) ≤ count_of (is_thread_begin d) (reverse h)
 
--- calls are counted: a call that asks makes one entry, another at most three, of which one at most
+-- calls are counted: an ask makes one entry, any other call at most three; at most one of these
 -- starts the line, links a device or hands in a moment
 pub record CallsAreCounted (def : LineDef) (h : List Entry) : Type 0 where
   pub entries : count_of is_by_any_driver (reverse h) ≤ ask_calls def + 3 * other_calls def
   pub asks : count_of is_any_ask (reverse h) ≤ ask_calls def
   pub renewals : count_of is_renewal (reverse h) ≤ other_calls def
 
--- asks are counted: of each device, those that were served and those that weren't are all its asks,
--- and a run that served something has an ask of its own
+-- asks are counted: each ask of a device is either served or unserved, and each run that served
+-- something has an ask of its own
 pub record AsksAreCounted (def : LineDef) (h : List Entry) : Type 0 where
   pub exact : (d : DevNo)
       → total (asks_served d) (reverse h) + unserved_asks def d (reverse h)
@@ -80,8 +80,8 @@ pub record IsLevelCounted (def : LineDef) (past : List Entry) : Type 0 where
   pub deferred : deferred_ends def past ≤ clearing_ends def past + one_if (counts_of def past).deferred
   pub clearing : clearing_ends def past ≤ handled_ends def past
   pub shut : stands is_kill is_start past ≡ true → IsShut def past
-  -- between two breaks, before the first and after the last there are two windows of ends judged
-  -- nothing at most
+  -- between two breaks, before the first and after the last, at most two windows of ends are judged
+  -- nothing
   pub nothing : nothing_ends def past + allowed def past ≤ 2 * def.window * (breaks def past + 1)
   pub breaks : breaks def past ≤ ask_calls def + other_calls def
   -- each take that was answered Busy or Off has a start of its own

@@ -19,20 +19,20 @@ pub fn runs_are_counted()
     ensures law { (def : LineDef) (h : List Entry) → IsValid def → IsLegal def h → RunsAreCounted def h }
 {}
 
-/// Calls are counted: a call that asks makes one entry, another at most three, of which one at most
+/// Calls are counted: an ask makes one entry, any other call at most three; at most one of these
 /// starts the line, links a device or hands in a moment.
 pub fn calls_are_counted()
     ensures law { (def : LineDef) (h : List Entry) → IsLegal def h → CallsAreCounted def h }
 {}
 
-/// Asks are counted: of each device, those that were served and those that weren't are all its
-/// asks, and a run that served something has an ask of its own.
+/// Asks are counted: each ask of a device is either served or unserved, and each run that served
+/// something has an ask of its own.
 pub fn asks_are_counted()
     ensures law { (def : LineDef) (h : List Entry) → IsValid def → IsLegal def h → AsksAreCounted def h }
 {}
 
-/// An edge line is counted: each round has an ask or a start of its own, and the takes are at most
-/// twice as many.
+/// An edge line is counted: each round has an ask or a start of its own, and there are at most
+/// twice as many takes as calls.
 pub fn edge_is_counted()
     ensures law { (def : LineDef) (h : List Entry) → IsLegal def h → EdgeIsCounted def h }
 {}

@@ -29,7 +29,7 @@ abbrev pub is_enable_by : DriverNo → Entry → Bool
 is_enable_by r (entries.Enable driver answer) = same_driver r driver
 is_enable_by r _ = false
 
--- what came after r's last disable, and what stood before it
+-- the entries after r's last disable; below, the entries before it
 abbrev pub since_disable : DriverNo → List Entry → List Entry
 since_disable r past = since (is_disable_by r) past
 
@@ -42,7 +42,7 @@ before_disable r past = before (is_disable_by r) past
 abbrev pub is_suspended : DriverNo → List Entry → Bool
 is_suspended r past = stands (is_disable_by r) (is_enable_by r) past
 
--- and r has waited since: the line sleeps until r enables it
+-- r's disable stands, and r has waited since: the line sleeps until r enables it
 abbrev pub is_asleep : DriverNo → List Entry → Bool
 is_asleep r past = is_suspended r past && list_any (is_synced_by r) (since_disable r past)
 
@@ -61,7 +61,7 @@ is_any_unlink _ = false
 abbrev pub disturbs : Entry → Bool
 disturbs e = is_disable e || (is_any_enable e || (is_linked_request e || is_any_unlink e))
 
--- since r's disable nobody did any of these
+-- since r's disable nobody disturbed the line
 abbrev pub is_left_alone : DriverNo → List Entry → Bool
 is_left_alone r past = not (list_any disturbs (since_disable r past))
 

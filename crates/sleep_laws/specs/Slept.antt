@@ -33,11 +33,11 @@ pub record IsAtRest (def : LineDef) (past : List Entry) : Type 0 where
   pub no_flow : has_flow def past ≡ false
   -- each handler that was called has returned
   pub no_handler : (d : DevNo) → is_called past d ≡ false
-  -- no thread is to run, or in a run
+  -- no thread is to run, and none is in a run
   pub no_thread : (d : DevNo) → (is_woken past d || is_running past d) ≡ false
 
--- P of each entry that comes while r has the line asleep, if nobody has disturbed it since r's
--- disable, and of what stands before it
+-- P holds of each entry that comes while r has the line asleep, and of the entries before it, if
+-- nobody has disturbed the line since r's disable
 abbrev pub WhileAsleep : DriverNo → (Entry → List Entry → Type 0) → List Entry → Type 0
 WhileAsleep r P h =
     EachEntry (λ e past. is_asleep r past ≡ true → is_left_alone r past ≡ true
@@ -59,27 +59,27 @@ pub record SleepsSoundly (def : LineDef) (r : DriverNo) (h : List Entry) : Type 
 
 -- ---- as it is enabled again
 
--- e is the enable by which r ends its disable, and nobody has disturbed the line between the two
+-- e is the enable with which r ends its disable, and nobody has disturbed the line between the two
 pub record IsResume (r : DriverNo) (e : Entry) (past : List Entry) : Type 0 where
   pub enable : is_enable_by r e ≡ true
   pub suspended : is_suspended r past ≡ true
   pub alone : is_left_alone r past ≡ true
 
--- one of a line that was open at r's disable, and that no end has killed since. Such an end can
--- come of a flow that was in progress at the disable (`note_interrupt`).
+-- an enable that ends r's disable, of a line that wasn't disabled before and that no end has killed
+-- since. A flow in progress at the disable can have such an end (`note_interrupt`).
 pub record IsReopening (r : DriverNo) (e : Entry) (past : List Entry) : Type 0 where
   pub resume : IsResume r e past
   pub open_before : depth (before_disable r past) ≡ 0
   pub unkilled : list_any is_kill (since_disable r past) ≡ false
 
--- P of each such enable, and of what stands before it
+-- P holds of each enable that ends r's disable, and of the entries before it
 abbrev pub AtResume : DriverNo → (Entry → List Entry → Type 0) → List Entry → Type 0
 AtResume r P h = EachEntry (λ e past. IsResume r e past → P e past) (reverse h)
 
 abbrev pub AtReopening : DriverNo → (Entry → List Entry → Type 0) → List Entry → Type 0
 AtReopening r P h = EachEntry (λ e past. IsReopening r e past → P e past) (reverse h)
 
--- the ends that killed the line since r's disable
+-- how many ends killed the line since r's disable
 abbrev pub kills_since_disable : DriverNo → List Entry → ℕ
 kills_since_disable r past = count_of is_kill (since_disable r past)
 
@@ -87,8 +87,8 @@ pub record ResumesAsItWas (def : LineDef) (r : DriverNo) (h : List Entry) : Type
   -- as deep as before the disable, and one more for an end that killed the line meanwhile
   pub restores : AtResume r (λ e past. is_none_linked past ≡ false
       → depth (e ∷ past) ≡ depth (before_disable r past) + kills_since_disable r past) h
-  -- The enable of a line with nothing linked changes nothing, so that one stays a disable deeper.
-  -- 6.1 doesn't suspend such a line.
+  -- With nothing linked the enable changes nothing, so the line stays one disable deeper. 6.1
+  -- doesn't suspend such a line.
   pub unlinked : AtResume r (λ e past. is_none_linked past ≡ true
       → depth (e ∷ past) ≡ depth past) h
   -- a line that was open is started again, and open
