@@ -1,4 +1,4 @@
-//! Controllers that mask by themselves, each kind the plain chip of fixed properties.
+//! Controllers that mask by themselves: each kind is a `Cell` with fixed properties.
 ghost use Rattle.std.specs.Prelude.{◌≡◌, ℕ, Bool, true, false};
 ghost use Rattle.irq_base.specs.Cell.{Cell as SignalCell};
 
@@ -11,14 +11,14 @@ pub trait ChipKind {
     /// The signal cell of a controller of this kind to which nothing has been done.
     ghost fresh: { SignalCell };
 
-    /// A plain chip with the properties of this kind, to which nothing has been done.
+    /// A cell with the properties of this kind, to which nothing has been done.
     fn chip() -> Cell
         ensures cell { ⟦<Cell as Chip>⟧.cell result ≡ fresh }
         ensures active { ⟦<Cell as Chip>⟧.active result ≡ false }
         ensures aimed { ⟦<Cell as Chip>⟧.aimed result ≡ 0 };
 }
 
-/// A controller of that kind.
+/// A controller of the kind `K`.
 #[derive(Drop)]
 pub struct Controller<K> {
     cell: Cell,

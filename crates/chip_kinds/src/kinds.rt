@@ -24,7 +24,7 @@ impl ChipKind for Latch {
 pub type LatchChip = Controller<Latch>;
 
 /// A plain controller: an edge input without a latch. An edge that comes while it is masked is
-/// lost, what was sent stays sent, and it can't send an edge again, so that the software does
+/// lost, what was sent stays sent, and it can't send an edge again, so the software resends
 /// (`irq_sw_resend`, `kernel/irq/resend.c`). Its lines have the edge flow (`handle_edge_irq`).
 pub struct Plain;
 
@@ -54,7 +54,7 @@ impl ChipKind for Level {
 /// Such a controller.
 pub type LevelChip = Controller<Level>;
 
-/// A fast-EOI controller: a level input of which nothing more is presented once it was accepted,
+/// A fast-EOI controller: a level input. Once an interrupt was accepted, nothing more is presented
 /// until the end of interrupt. Its lines have the fast-EOI flow (`handle_fasteoi_irq`).
 pub struct Eoi;
 
@@ -69,8 +69,8 @@ impl ChipKind for Eoi {
 /// Such a controller.
 pub type EoiChip = Controller<Eoi>;
 
-/// A controller of message interrupts with nothing in service, as a GIC's locality-specific
-/// peripheral interrupts: its cell is that of a latch. Its lines have the fast-EOI flow
+/// A controller of message interrupts with nothing in service, like a GIC's locality-specific
+/// peripheral interrupts: its cell has the properties of a latch. Its lines have the fast-EOI flow
 /// (`handle_fasteoi_irq`).
 pub struct Lpi;
 

@@ -1,4 +1,4 @@
-//! The controllers that a line's signal can come from, each the plain chip of fixed properties.
+//! The controllers that a line's signal can come from: each is a `Cell` with fixed properties.
 //!
 //! | | presents | stores while masked | recalls | sends again | in service |
 //! |---|---|---|---|---|---|

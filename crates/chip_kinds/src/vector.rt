@@ -6,10 +6,9 @@ ghost use Rattle.chip_kinds.specs.Vector.{vector_cell};
 
 use std::marker::Model;
 
-/// The vector level at the root of a path: an edge input without a mask that can send an edge
-/// again, as the vectors of a local interrupt controller are. It can't mask, so it is no `Chip` by
-/// itself; a level below it masks. Contracts see whether an edge is sent, and `vector_cell` is its
-/// cell.
+/// The vector level at the root of a path, like a vector of a local interrupt controller: an edge
+/// input without a mask that can send an edge again. It can't mask, so it is no `Chip` by itself; a
+/// level below it masks. Contracts see whether an edge is sent, and `vector_cell` is its cell.
 #[derive(Drop)]
 pub struct VectorChip {
     sent: bool,

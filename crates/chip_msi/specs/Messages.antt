@@ -20,7 +20,7 @@ level_after_mask l = record l { masked = true }
 abbrev pub level_after_unmask : LevelSeen → LevelSeen
 level_after_unmask l = record { masked = false; pending = false }
 
--- the page that is written to for processor 0; each processor has one of 4,096 bytes
+-- the address of processor 0's page; each processor has a page of 4,096 bytes
 abbrev pub first_page : ℕ
 first_page = 4276092928
 

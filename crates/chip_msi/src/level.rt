@@ -51,7 +51,7 @@ impl MsiLevel {
         self.masked = true;
     }
 
-    /// Opens the mask (`irq_unmask`). Answers whether an edge waited, which is passed on now.
+    /// Opens the mask (`irq_unmask`). Answers whether an edge waited; if so, it is passed on now.
     pub fn unmask(&mut self) -> bool
         ensures passed { result ≡ self.old.pending }
         ensures level { self.new ≡ level_after_unmask self.old }

@@ -14,8 +14,8 @@ pub struct Message {
 }
 
 /// The message that sends the number to a processor below 32 (`irq_chip_compose_msi_msg`,
-/// `kernel/irq/chip.c`). Its address is 0xFEE00000 and 4,096 for each processor before that one,
-/// its payload the number (ours, in the manner of x86).
+/// `kernel/irq/chip.c`). Its address is 0xFEE00000 plus 4,096 times the processor's number, its
+/// payload the number (ours, in the manner of x86).
 pub fn compose(cpu: CpuNo, number: u32) -> Message
     requires { cpu.0 < 32 }
     ensures { result ≡ message_of cpu.0 number }

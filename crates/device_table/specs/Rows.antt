@@ -6,7 +6,7 @@ use Rattle.irq_base.specs.declared.devices.DeviceDef.{DeviceDef}
 use Rattle.irq_base.specs.declared.numbers.DevNo.{DevNo}
 use Rattle.irq_model.specs.Kinds.{same_dev}
 
--- the device of the lower number
+-- the device with the lower number
 abbrev pub lower : DevNo → Option DevNo → DevNo
 lower d None = d
 lower d (Some e) = if nat_lt e.0 d.0 then e else d
@@ -24,11 +24,11 @@ module _ {R : Type 0} where
   abbrev pub has : List (DevNo × R) → DevNo → Bool
   has t d = is_some (at t d)
 
-  -- the table, with this value of d
+  -- the table with this as d's value
   abbrev pub put : List (DevNo × R) → DevNo → R → List (DevNo × R)
   put t d r = set_value (same_dev d) t r
 
-  -- the table of these devices whose values are f's
+  -- the table of these devices, with f of each as its value
   abbrev pub table_by : (DevNo → R) → List DeviceDef → List (DevNo × R)
   table_by f [] = []
   table_by f (x ∷ xs) = (x.dev, f x.dev) ∷ table_by f xs
@@ -37,7 +37,7 @@ module _ {R : Type 0} where
   abbrev pub all_with : R → List DeviceDef → List (DevNo × R)
   all_with r xs = table_by (λ d. r) xs
 
-  -- the table, with h of d's value in its place; as it was if d has none
+  -- the table with h applied to d's value; as it was if d has none
   abbrev pub changed : (R → R) → List (DevNo × R) → DevNo → Option R → List (DevNo × R)
   changed h t d None = t
   changed h t d (Some r) = put t d (h r)
@@ -45,13 +45,13 @@ module _ {R : Type 0} where
   abbrev pub change : (R → R) → List (DevNo × R) → DevNo → List (DevNo × R)
   change h t d = changed h t d (at t d)
 
-  -- of the devices whose values pass, the one of the lowest number
+  -- the device with the lowest number among those whose values pass
   abbrev pub lowest_where : (R → Bool) → List (DevNo × R) → Option DevNo
   lowest_where p [] = None
   lowest_where p (e ∷ es) =
       if p e.1 then Some (lower e.0 (lowest_where p es)) else lowest_where p es
 
-  -- no two rows have one number
+  -- no two rows have the same number
   abbrev pub HasOwnKeys : List (DevNo × R) → Type 0
   HasOwnKeys [] = Unit {0}
   HasOwnKeys (e ∷ es) = (at es e.0 ≡ None) × HasOwnKeys es

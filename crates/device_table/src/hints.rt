@@ -1,4 +1,4 @@
-//! Where the device of a number is worth a look.
+//! Hints at where a device's value stands.
 ghost use Rattle.std.specs.Prelude.{◌≡◌, ◌<◌, ◌^◌, ◌%◌, slice_index, slice_set};
 
 use irq_base::DevNo;
@@ -6,27 +6,27 @@ use irq_base::DevNo;
 /// How many hints there are.
 const HINTS: usize = 256;
 
-/// For the last eight bits of a device's number a place in a list. Whoever looks there sees whether
-/// it is the device's.
+/// A place in a list for each value of the last eight bits of a device's number. It is a hint:
+/// whoever looks there sees whether the device stands there.
 #[derive(Drop)]
 pub(crate) struct Hints {
     places: [u16; HINTS],
 }
 
 impl Hints {
-    /// The first place, whatever the number.
+    /// Hints that name the first place for every number.
     pub(crate) fn new() -> Hints {
         Hints { places: [0; HINTS] }
     }
 
-    /// The place that is worth a look.
+    /// The place to look at first.
     pub(crate) fn place(&self, dev: DevNo) -> usize
         ensures { result ≡ slice_index self.now.places (dev.0 % 256) }
     {
         usize::from(self.places[dev.0 as usize % HINTS])
     }
 
-    /// Notes that the device is at the place. A place that doesn't fit 16 bits isn't kept.
+    /// Notes that the device stands at `place`. A place that doesn't fit 16 bits isn't noted.
     pub(crate) fn note(&mut self, dev: DevNo, place: usize)
         ensures { place < 2 ^ 16 → self.new.places ≡ slice_set self.old.places (dev.0 % 256) place }
     {

@@ -45,7 +45,7 @@ impl RankSet {
         }
     }
 
-    /// The lowest rank of the set, or of both sets if `with` says so.
+    /// The lowest rank of this set; with `with`, of this set and the other.
     pub fn first(&self, other: &RankSet, with: bool) -> Option<u32>
         ensures { IsFirst (λ r. holds self.now r || (with && holds other.now r)) result }
     {
@@ -59,7 +59,7 @@ impl RankSet {
     }
 }
 
-/// The bits of the first word, or of both if `with` says so.
+/// The bits of the first word; with `with`, of both words.
 fn joined(first: u64, second: u64, with: bool) -> u64
     ensures { (i : ℕ)
         → (bit_at result i == 1) ≡ ((bit_at first i == 1) || (with && (bit_at second i == 1))) }

@@ -77,7 +77,7 @@ impl<R: Copy> DeviceTable<R> {
         self.find(dev)
     }
 
-    /// The same, wherever the device's row is.
+    /// The value of the device, found by a search.
     #[inline(never)]
     fn find(&self, dev: DevNo) -> Option<R>
         ensures { result ≡ at self.now dev }
@@ -98,7 +98,7 @@ impl<R: Copy> DeviceTable<R> {
         }
     }
 
-    /// Whether the device's value is at the place.
+    /// Whether the device's value stands at `place`.
     fn is_at(&self, place: usize, dev: DevNo) -> bool
         ensures { result ≡ is_row_of dev (slice_get self.now place) }
     {
@@ -108,7 +108,7 @@ impl<R: Copy> DeviceTable<R> {
         }
     }
 
-    /// Sets the value of the device, which is at the place.
+    /// Sets the value of the device, which stands at `place`.
     fn set_at(&mut self, place: usize, dev: DevNo, row: R)
         requires { is_row_of dev (slice_get self.old place) ≡ true }
         ensures { self.new ≡ put self.old dev row }
@@ -119,7 +119,7 @@ impl<R: Copy> DeviceTable<R> {
         *value = row;
     }
 
-    /// Sets the value of the device, wherever it is.
+    /// Sets the value of the device, found by a search.
     #[inline(never)]
     fn set_found(&mut self, dev: DevNo, row: R)
         ensures { self.new ≡ put self.old dev row }

@@ -1,6 +1,6 @@
 -- Hierarchies of domains: what is seen of one, and what an allocation answers and leaves. Which
--- path a line takes, and why it is refused, are the rules of layouts, over the paths in use
--- (`irq_domain_alloc_irqs_locked`, `irq_domain_insert_irq`, `kernel/irq/irqdomain.c`).
+-- path a line gets, and why it is refused, is decided by the rules of layouts, over the paths in
+-- use (`irq_domain_alloc_irqs_locked`, `irq_domain_insert_irq`, `kernel/irq/irqdomain.c`).
 use Rattle.std.specs.Prelude.{◌≡◌, ℕ, ◌-◌, ◌<◌, Bool, true, false, IfSome, is_some, Option, Some, None, List, [], ◌∷◌, length, map, slice_get}
 use Rattle.irq_base.specs.declared.domains.DomainDef.{DomainDef}
 use Rattle.domain_maps.specs.Numbers.{virq_at, sizes, size_of_kind, is_on}
@@ -28,7 +28,8 @@ answer_by (placements.Refused reasons.OutOfRange) virq = allocs.OutOfRange
 answer_by (placements.Refused reasons.Taken) virq = allocs.Taken
 answer_by (placements.Mapped number path) virq = allocs.Ok virq
 
--- what is due of a line that is asked for by its domain and its number there, with ample memory
+-- what an allocation answers if memory isn't refused; the line is asked for by its domain's place
+-- and its number there
 abbrev pub alloc_answer : HierarchySeen → ℕ × ℕ → AllocAnswer
 alloc_answer h leaf = answer_by (placement_of h.domains (in_use h.paths) leaf) (lowest_virq h.paths)
 
@@ -36,12 +37,12 @@ abbrev pub is_allocated : AllocAnswer → Bool
 is_allocated (allocs.Ok virq) = true
 is_allocated _ = false
 
--- the answer is the due one; in place of a virq it may also be that memory was refused
+-- the answer is the one that is due; in place of a virq it may also be `NoMemory`
 abbrev pub IsAnswered : AllocAnswer → AllocAnswer → Type 0
 IsAnswered due allocs.NoMemory = is_allocated due ≡ true
 IsAnswered due told = told ≡ due
 
--- the hierarchy after an allocation that was answered so
+-- the hierarchy after an allocation with this answer
 abbrev pub after_alloc : AllocAnswer → HierarchySeen → ℕ × ℕ → HierarchySeen
 after_alloc (allocs.Ok virq) h leaf =
     record h { paths = placed h.paths (path_of h.domains (in_use h.paths) leaf) }
@@ -57,7 +58,7 @@ number_in None = 0
 abbrev pub root_number : List (ℕ × ℕ) → ℕ
 root_number path = number_in (slice_get path (length path - 1))
 
--- the chip of a path to which nothing was done: one cell, with the properties that its levels have
+-- the chip of a path, to which nothing was done: one cell, with the properties that the levels have
 -- together
 abbrev pub chain_of : List DomainDef → List (ℕ × ℕ) → ChainSeen
 chain_of domains path =

@@ -1,11 +1,11 @@
--- The finite map from the virqs in use to their paths: a list, at whose place i stands the path of
--- virq i + 1, if that one is in use (virq 0 is never).
+-- The finite map from the virqs in use to their paths, as a list: at place i stands the path of
+-- virq i + 1, if that virq is in use (virq 0 never is).
 use Rattle.std.specs.Prelude.{ℕ, zero, suc, ◌+◌, if◌then◌else◌, is_some, Option, Some, None, List, [], ◌∷◌, slice_index_or, slice_set, map}
 use Rattle.domain_rules.specs.Layout.{lowest_unused}
 use Rattle.domain_rules.specs.declared.layouts.Placement.{Placement}
 use Rattle.domain_rules.specs.declared.layouts.Placement.TheVariants as placements
 
--- the path at a place
+-- the path at place i
 abbrev pub slot : List (Option (List (ℕ × ℕ))) → ℕ → Option (List (ℕ × ℕ))
 slot paths i = slice_index_or paths i None
 
@@ -23,7 +23,7 @@ first_free (Some path ∷ paths) = first_free paths + 1
 abbrev pub lowest_virq : List (Option (List (ℕ × ℕ))) → ℕ
 lowest_virq paths = first_free paths + 1
 
--- the lowest virq that isn't in use takes a path
+-- the paths, with this one for the lowest virq that isn't in use
 abbrev pub placed : List (Option (List (ℕ × ℕ))) → List (ℕ × ℕ) → List (Option (List (ℕ × ℕ)))
 placed [] new = Some new ∷ []
 placed (None ∷ paths) new = Some new ∷ paths

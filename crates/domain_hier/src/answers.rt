@@ -5,7 +5,7 @@
 pub enum AllocAnswer {
     /// The line has this virq now, from 1.
     Ok(u32),
-    /// Its number at its domain is another line's.
+    /// Another line has its hardware number at its domain.
     Taken,
     /// A level of its path has no number for it.
     OutOfRange,

@@ -19,7 +19,7 @@ use revmap::DisposeAnswer;
 use std::alloc::Global;
 use std::marker::Model;
 
-/// Domains and the lines that are allocated in them (`struct irq_domain`,
+/// Domains, and the lines that are allocated in them (`struct irq_domain`,
 /// `include/linux/irqdomain.h`). Contracts see the list of the domains and the finite map from the
 /// virqs in use to their paths.
 #[derive(Drop)]
@@ -53,7 +53,7 @@ impl Hierarchy {
         }
     }
 
-    /// Adds the domain, which is allowed after those before it, and answers its place
+    /// Adds the domain, which the domains before it allow, and answers its place
     /// (`irq_domain_create_hierarchy`). If it is refused, all is as before.
     pub fn add_domain(&mut self, def: DomainDef) -> Result<usize, NoMemory>
         requires { IsDomainAfter self.old.domains def }
@@ -68,10 +68,10 @@ impl Hierarchy {
         Ok(place)
     }
 
-    /// Allocates the line with that number at that domain: it gets the lowest virq from 1 that
-    /// isn't in use, and the lowest free number at each level above
-    /// (`irq_domain_alloc_irqs_locked`, `kernel/irq/irqdomain.c`; which virq and which numbers is
-    /// ours). Any other answer changes nothing.
+    /// Allocates the line with hardware number `hw` at place `domain`: it gets the lowest virq from
+    /// 1 that isn't in use, and the lowest free number at each level above
+    /// (`irq_domain_alloc_irqs_locked`, `kernel/irq/irqdomain.c`; which virq and which numbers it
+    /// gets is ours). Any other answer changes nothing.
     pub fn alloc(&mut self, domain: usize, hw: u32) -> AllocAnswer
         requires there { domain < length self.old.domains }
         requires few { length (in_use self.old.paths) < 4294967295 }
@@ -131,7 +131,7 @@ impl Hierarchy {
         chain_on(self.domains.as_slice(), &path)
     }
 
-    // The path that the line takes: its own number, and the lowest free one at each level above.
+    // The path of the new line: its own number, and the lowest free number at each level above.
     fn path_to(&self, domain: usize, hw: u32) -> Path
         requires there { domain < length self.now.domains }
         requires few { length (in_use self.now.paths) < 4294967295 }

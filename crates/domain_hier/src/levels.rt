@@ -11,14 +11,14 @@ use domain_chain::Chain;
 use irq_base::domains::LEVELS;
 use irq_base::{ControllerKind, DomainDef, MapKind, Path};
 
-/// The domain at the place; none from their number on.
+/// The domain at `place`; none if there are no more than `place` domains.
 pub(crate) fn domain_at(domains: &[DomainDef], place: usize) -> Option<DomainDef>
     ensures { result ≡ slice_get domains.now place }
 {
     domains.get(place).copied()
 }
 
-/// The kind of a domain; one that isn't there passes everything on.
+/// The kind of a domain; a domain that isn't there counts as one that passes everything on.
 pub(crate) fn kind_of(def: Option<DomainDef>) -> ControllerKind
     ensures { result ≡ kind_in def }
 {
@@ -49,14 +49,15 @@ pub(crate) fn can_mask(domains: &[DomainDef], left: usize, at: Option<usize>) ->
     masks(kind_of(def)) || can_mask(domains, left - 1, parent_of(def))
 }
 
-// Whether a level of that kind can mask.
+// Whether a level of this kind can mask.
 fn masks(kind: ControllerKind) -> bool
     ensures { result ≡ masks_kind kind }
 {
     !matches!(kind, ControllerKind::Remap | ControllerKind::Vector)
 }
 
-/// Whether a level of the path, from that place on, has no room for its number.
+/// Whether the number at some level of the path, from index `from` on, doesn't fit its domain's
+/// map.
 pub(crate) fn is_past(domains: &[DomainDef], path: &Path, from: usize) -> bool
     requires few { length path.now ≤ 8 }
     ensures { result ≡ list_any (is_past_path domains.now) (drop from path.now) }
@@ -67,7 +68,7 @@ pub(crate) fn is_past(domains: &[DomainDef], path: &Path, from: usize) -> bool
     is_past_map(domain_at(domains, place), number) || is_past(domains, path, from + 1)
 }
 
-// Whether the domain has no room for the number.
+// Whether the number doesn't fit the domain's map.
 fn is_past_map(def: Option<DomainDef>, number: u32) -> bool
     ensures { result ≡ is_past_domain def number }
 {
@@ -90,7 +91,7 @@ pub(crate) fn chain_on(domains: &[DomainDef], path: &Path) -> Chain
     Chain::new(&kinds[..path.len()], root_number(path))
 }
 
-// The kinds of the path's levels, leaf first, in the first places.
+// The kinds of the path's levels, leaf first, at the beginning of the array.
 fn kinds_of(domains: &[DomainDef], path: &Path) -> [ControllerKind; LEVELS]
     requires few { length path.now ≤ 8 }
     ensures { take (length path.now) result ≡ kinds_on domains.now path.now }

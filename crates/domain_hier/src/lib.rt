@@ -2,8 +2,8 @@
 //! and the chip of its whole path.
 //!
 //! A line is asked for by a domain and its number there. An allocation first looks: it finds the
-//! number at each level of the path, or the refusal, and changes nothing. Then it writes, and what
-//! fails out of memory is undone.
+//! number at each level of the path, or why the line is refused, and changes nothing. Then it
+//! writes; if memory is refused, what was written is undone.
 #![tactic(auto)]
 
 pub mod answers;

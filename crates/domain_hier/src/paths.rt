@@ -6,8 +6,8 @@ use irq_base::{NoMemory, Path};
 use std::alloc::Global;
 use std::marker::Model;
 
-/// The paths in use, found by place, and the first place that is free. Contracts see the list of
-/// the places.
+/// The paths in use, each at a place of its own, and the first free place. Contracts see the list
+/// of the places.
 #[derive(Drop)]
 pub(crate) struct PathTable {
     paths: Vec<Option<Path>>,
@@ -36,7 +36,7 @@ impl PathTable {
         }
     }
 
-    /// The path at the place; none if it is free.
+    /// The path at `place`; none if the place is free.
     pub(crate) fn get(&self, place: usize) -> Option<Path>
         ensures { result ≡ slot self.now place }
     {
@@ -90,7 +90,7 @@ fn store(paths: &mut Vec<Option<Path>>, free: usize, path: Path) -> Result<(), N
     Ok(())
 }
 
-// The first place that is free, which isn't before `from`.
+// The first free place; all places before `from` are in use.
 fn next_free(paths: &[Option<Path>], from: usize) -> usize
     requires { first_free (drop from paths.now) + from ≡ first_free paths.now }
     ensures { result ≡ first_free paths.now }

@@ -49,14 +49,15 @@ is_level domain hw level = (level.0 == domain) && (level.1 == hw)
 abbrev pub is_on : List (ℕ × ℕ) → ℕ → ℕ → Bool
 is_on path domain hw = list_any (is_level domain hw) path
 
--- each level of the path is within its map and free there, and no other level is the same
+-- at each level of the path the number is within the domain's map and free there, and no level
+-- stands twice
 abbrev pub HasRoom : List DomainMap → List (ℕ × ℕ) → Type 0
 HasRoom maps [] = Unit {0}
 HasRoom maps (level ∷ levels) = (is_within (sizes maps) level ≡ true)
     × (virq_at maps level.0 level.1 ≡ None) × (is_on levels level.0 level.1 ≡ false)
     × HasRoom maps levels
 
--- the virq at a place after a path was written for one, and after a path was given up
+-- what a number is mapped to after a path was written for a virq; below, after a path was given up
 abbrev pub with_path : List (ℕ × ℕ) → ℕ → (ℕ → ℕ → Option ℕ) → ℕ → ℕ → Option ℕ
 with_path path virq at domain hw = if is_on path domain hw then Some virq else at domain hw
 

@@ -14,7 +14,7 @@ pub(crate) enum DomainMap {
 }
 
 impl DomainMap {
-    /// A map of that kind in which nothing is mapped. The only error is `NoMemory`.
+    /// A map of this kind, in which nothing is mapped. The only error is `NoMemory`.
     pub(crate) fn new(alloc: Global, kind: MapKind) -> Result<DomainMap, NoMemory>
         ensures size { IfOk result (λ m. map_size m ≡ size_of_kind kind) }
         ensures empty { IfOk result (λ m. (hw : ℕ) → map_at m hw ≡ None) }

@@ -9,8 +9,8 @@ use revmap::{AssocAnswer, Revmap};
 use std::alloc::Global;
 use std::marker::Model;
 
-/// The reverse maps of a list of domains, in their order. Contracts see the list, by the virq at
-/// each domain's place and hardware number (`virq_at`), and the maps' sizes.
+/// The reverse maps of a list of domains, in their order. Contracts see the virq at each domain's
+/// place and hardware number (`virq_at`), and the maps' sizes.
 #[derive(Drop)]
 pub struct DomainMaps {
     maps: Vec<DomainMap>,
@@ -35,7 +35,7 @@ impl DomainMaps {
         }
     }
 
-    /// Adds an empty map of that kind at the end. If it is refused, all is as before.
+    /// Adds an empty map of this kind at the end. If it is refused, all is as before.
     pub fn push(&mut self, alloc: Global, kind: MapKind) -> Result<(), NoMemory>
         ensures numbers { OnOk result ((domain hw : ℕ) → virq_at self.new domain hw ≡ virq_at self.old domain hw) }
         ensures sizes { OnOk result (sizes self.new ≡ sizes self.old ++ size_of_kind kind ∷ []) }
@@ -46,7 +46,7 @@ impl DomainMaps {
         Ok(())
     }
 
-    /// The virq at the hardware number of the domain at that place; none if it isn't mapped.
+    /// The virq at hardware number `hw` of the domain at place `domain`; none if it isn't mapped.
     pub fn virq(&self, domain: usize, hw: u32) -> Option<u32>
         ensures { result ≡ virq_at self.now domain hw }
     {
@@ -57,8 +57,8 @@ impl DomainMaps {
         }
     }
 
-    /// The lowest number that isn't mapped at the domain; there is one. In a full linear map it is
-    /// the size.
+    /// The lowest number that isn't mapped at the domain; there always is one. In a full linear map
+    /// it is the map's size.
     pub fn lowest_free(&self, domain: usize) -> u32
         requires there { domain < length self.now }
         requires free { IsLowestFree (virq_at self.now domain) None → ⊥ }
@@ -67,9 +67,9 @@ impl DomainMaps {
         self.maps[domain].lowest_free().unwrap()
     }
 
-    /// Maps each level of the path to the virq, which is above 0, the root's first
-    /// (`irq_domain_insert_irq`, `kernel/irq/irqdomain.c`, which begins with the line's own level).
-    /// If memory is refused, what was written is given up again.
+    /// Maps the number at each level of the path to the virq, which is above 0; the root's number
+    /// first (`irq_domain_insert_irq`, `kernel/irq/irqdomain.c`, which begins with the line's own
+    /// level). If memory is refused, what was written is given up again.
     pub fn write(&mut self, path: &Path, virq: u32) -> Result<(), NoMemory>
         requires few { length path.now ≤ 8 }
         requires virq { 0 < virq }
@@ -91,7 +91,7 @@ impl DomainMaps {
         self.give_up_from(path, 0);
     }
 
-    // The same of the levels from that place on.
+    // Writes the levels from index `from` on.
     fn write_from(&mut self, path: &Path, from: usize, virq: u32) -> Result<(), NoMemory>
         requires few { length path.now ≤ 8 }
         requires virq { 0 < virq }
@@ -113,7 +113,7 @@ impl DomainMaps {
         }
     }
 
-    // The same of the levels from that place on.
+    // Gives up the levels from index `from` on.
     fn give_up_from(&mut self, path: &Path, from: usize)
         requires few { length path.now ≤ 8 }
         ensures numbers { (domain hw : ℕ) → virq_at self.new domain hw ≡ without_path (drop from path.now) (virq_at self.old) domain hw }

@@ -1,4 +1,4 @@
--- Which domains there may be. Each is allowed after those before it.
+-- Which domains there may be. Whether a domain is allowed depends on the domains before it.
 use Rattle.std.specs.Prelude.{◌≡◌, ℕ, ◌<◌, ◌≤◌, Bool, true, false, not, ◌&&◌, ◌||◌, nat_le, IfSome, Option, Some, None, List, length, take, slice_get}
 use Rattle.irq_base.specs.declared.domains.DomainDef.{DomainDef}
 use Rattle.irq_base.specs.declared.domains.ControllerKind.{ControllerKind}
@@ -8,7 +8,7 @@ use Rattle.irq_base.specs.declared.domains.MapKind.TheVariants as maps
 use Rattle.domain_rules.specs.Levels.{root_kind, is_root_kind, presents_level_kind}
 use Rattle.domain_rules.specs.Paths.{most_levels, way, kinds_from}
 
--- each item meets P after those before it
+-- P holds of each item and the items before it
 abbrev pub EachAfter : {A : Type 0} → (List A → A → Type 0) → List A → Type 0
 EachAfter {A} P items = (i : ℕ) (x : A) → slice_get items i ≡ Some x → P (take i items) x
 

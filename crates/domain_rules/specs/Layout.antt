@@ -1,8 +1,8 @@
 -- The layout of lines over domains: which hardware number each line has at each level of its path,
 -- and its virq; or why it is refused (`irq_domain_alloc_irqs_locked`, `kernel/irq/irqdomain.c`;
--- which numbers, and what is refused, is ours).
--- A line is asked for by the place of its domain and its own number there. The lines are laid in
--- the order in which they are asked for.
+-- which numbers a line gets, and which lines are refused, is ours). A line is asked for by the
+-- place of its domain and its own number there. The lines are laid in the order in which they are
+-- asked for.
 use Rattle.std.specs.Prelude.{ℕ, zero, suc, ◌+◌, Bool, true, false, ◌&&◌, ◌==◌, nat_le, is_none, Option, Some, None, List, [], ◌∷◌, ◌++◌, length, map, slice_get, if◌then◌else◌}
 use Rattle.std.specs.List.{list_any}
 use Rattle.irq_base.specs.declared.domains.DomainDef.{DomainDef}
@@ -33,7 +33,8 @@ unused_from zero number earlier domain = number
 unused_from (suc n) number earlier domain =
     if is_used earlier domain number then unused_from n (number + 1) earlier domain else number
 
--- the lowest number that isn't used at the domain: as many lines use no more numbers
+-- the lowest number that isn't used at the domain; n lines use at most n numbers, so one of the
+-- numbers 0 to n is free
 abbrev pub lowest_unused : List Placement → ℕ → ℕ
 lowest_unused earlier domain = unused_from (length earlier) 0 earlier domain
 
@@ -61,7 +62,8 @@ abbrev pub count_of_mapped : List Placement → ℕ
 count_of_mapped [] = 0
 count_of_mapped (p ∷ ps) = if is_mapped p then count_of_mapped ps + 1 else count_of_mapped ps
 
--- No level masks; a level has no number for the line; or its own number is used.
+-- Where the line lies. It is refused if no level masks, if a level has no number for it, or if its
+-- own number is used.
 abbrev pub placement_of : List DomainDef → List Placement → ℕ × ℕ → Placement
 placement_of domains earlier leaf =
     let path = path_of domains earlier leaf in

@@ -9,19 +9,19 @@ use Rattle.irq_base.specs.declared.lines.FlowKind.TheVariants as flows
 use Rattle.irq_base.specs.declared.lines.Trigger.{Trigger}
 use Rattle.irq_base.specs.declared.lines.Trigger.TheVariants as triggers
 
--- a level that stands at the processors' end; the others are children
+-- a level of this kind stands at the processors' end; the other kinds are children
 abbrev pub is_root_kind : ControllerKind → Bool
 is_root_kind levels.Msi = false
 is_root_kind levels.Remap = false
 is_root_kind _ = true
 
--- it can mask
+-- a level of this kind can mask
 abbrev pub masks_kind : ControllerKind → Bool
 masks_kind levels.Remap = false
 masks_kind levels.Vector = false
 masks_kind _ = true
 
--- while it masks it stores the edges that come
+-- while it masks, it stores the edges that come
 abbrev pub keeps_kind : ControllerKind → Bool
 keeps_kind levels.Latch = true
 keeps_kind levels.Msi = true
@@ -61,7 +61,7 @@ abbrev pub last_kind : ControllerKind → List ControllerKind → ControllerKind
 last_kind k [] = k
 last_kind k (x ∷ xs) = last_kind x xs
 
--- the root's kind; a way has one
+-- the root's kind, the last of the way
 abbrev pub root_kind : List ControllerKind → ControllerKind
 root_kind kinds = last_kind levels.Remap kinds
 

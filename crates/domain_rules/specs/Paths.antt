@@ -13,7 +13,7 @@ abbrev pub parent_in : Option DomainDef → Option ℕ
 parent_in (Some def) = def.parent
 parent_in None = None
 
--- the places of the domains from one to its root, itself first, at most n of them
+-- the places of the domains on the way from this one to its root, this one first, at most n of them
 abbrev pub way : ℕ → List DomainDef → Option ℕ → List ℕ
 way zero domains from = []
 way (suc n) domains None = []
@@ -29,7 +29,7 @@ abbrev pub kinds_from : List DomainDef → Option ℕ → List ControllerKind
 kinds_from domains from =
     map (λ place. kind_in (slice_get domains place)) (way most_levels domains from)
 
--- the kind of a level of a path, which is the place of a domain and a number there
+-- the kind of a level of a path; the level is a pair of a domain's place and a number there
 abbrev pub kind_at : List DomainDef → ℕ × ℕ → ControllerKind
 kind_at domains level = kind_in (slice_get domains level.0)
 

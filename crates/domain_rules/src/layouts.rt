@@ -4,7 +4,7 @@ use irq_base::{ItemList, Path};
 /// Why a line has no place.
 #[derive(Clone, Copy, PartialEq, Eq)]
 pub enum Unmapped {
-    /// Its number at its domain is another line's.
+    /// Another line has its hardware number at its domain.
     Taken,
     /// A level of its path has no number for it.
     OutOfRange,

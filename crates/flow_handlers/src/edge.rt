@@ -40,8 +40,8 @@ pub fn enter<C: Chip>(desc: &mut Desc, chip: &mut C, cpu: CpuNo, linked: bool) -
 
 /// Ends a round, after the note on spurious interrupts, and after the kill that it may have made.
 /// If an interrupt is pending and the line isn't disabled by now, the same flow goes on with a new
-/// round, and the mask opens if it is closed. Else the flow is over, and the mask stays. That
-/// threads hold the line is of no account on this flow.
+/// round, and the mask opens if it is closed. Else the flow is over, and the mask stays. On this
+/// flow it doesn't matter whether threads hold the line.
 pub fn leave<C: Chip>(desc: &mut Desc, chip: &mut C, _held: bool) -> Left
     ensures left { result ≡ edge_left desc.old }
     ensures desc { desc.new ≡ edge_ended desc.old }

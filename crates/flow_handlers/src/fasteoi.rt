@@ -120,7 +120,7 @@ pub fn leave<C: Chip>(desc: &mut Desc, chip: &mut C, held: bool, trigger: Trigge
     }
 }
 
-/// What came meanwhile is sent again.
+/// The chip sends the pending interrupt again.
 fn send_again<C: Chip>(desc: &mut Desc, chip: &mut C) -> Left
     requires open { desc.old.depth ≡ 0 → (C.cell chip.old).masked ≡ false }
     ensures left { result ≡ record { again = goes_on desc.old; unmask = false } }

@@ -16,12 +16,12 @@ use Rattle.device_table.specs.Rows.{table_by}
 use Rattle.act_list.specs.Lists.{ListSeen, action_by, after_link, after_unlink, after_begin, after_begin_round}
 use Rattle.act_list.specs.declared.actions.Action.{Action}
 
--- the devices with what they were linked with last
+-- the devices with the flags of their last requests that were linked
 abbrev pub flags_by : (DevNo → Flags) → List DevNo → List (DevNo × Flags)
 flags_by f [] = []
 flags_by f (d ∷ ds) = (d, f d) ∷ flags_by f ds
 
--- the linked devices in the order in which they are walked, each with its flags
+-- the linked devices in the order of the walk, each with its flags
 abbrev pub linked_flags : List Entry → List (DevNo × Flags)
 linked_flags past = flags_by (linking_flags past) (linked past)
 
@@ -32,8 +32,8 @@ actions_after (entries.Request driver dev flags links.Linked opened) t =
 actions_after (entries.Unlink driver dev (unlinks.Unlinked last)) t = remove_entry (same_dev dev) t
 actions_after _ t = t
 
--- the linked devices with their actions: a one-shot one got the lowest thread bit that none had as
--- it was linked
+-- the linked devices with their actions: a one-shot action got the lowest thread bit that was free
+-- as it was linked
 abbrev pub actions_of : List Entry → List (DevNo × Action)
 actions_of [] = []
 actions_of (e ∷ past) = actions_after e (actions_of past)
@@ -46,8 +46,8 @@ list_of def past = record {
   rounds = count_of (begins_round def) past;
 }
 
--- a linked request adds its action, an unlink takes one out, a begin marks its device, and a round
--- begins with none
+-- a linked request adds its action, an unlink takes an action out, a begin marks its device, and a
+-- new round clears all marks
 abbrev pub list_after : LineDef → Entry → ListSeen → ListSeen
 list_after def (entries.Request driver dev flags answer opened) l = after_link answer dev flags l
 list_after def (entries.Unlink driver dev (unlinks.Unlinked last)) l = after_unlink dev l

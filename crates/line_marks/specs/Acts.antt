@@ -1,4 +1,4 @@
--- The parts of what an entry makes of a line's state, each the work of one part of the line.
+-- What an entry makes of a line's state, in parts: each is the work of one part of the line.
 use Rattle.std.specs.Prelude.{ℕ, ◌-◌, Bool, true, false, not, ◌&&◌, if◌then◌else◌, nat_lt}
 use Rattle.irq_base.specs.Cell.{after_high, after_accept, after_mask}
 use Rattle.irq_base.specs.declared.calls.Flags.{Flags}
@@ -28,7 +28,8 @@ use Rattle.line_marks.specs.State.{StateSeen, high_in}
 
 -- ---- takes
 
--- an interrupt that the line presents is accepted, and one that the software resends waits no more
+-- an interrupt that the line presents is accepted; an interrupt that the software resends no longer
+-- waits
 abbrev pub arrived : Way → StateSeen → StateSeen
 arrived ways.Line s = record s { cell = after_accept s.cell }
 arrived ways.Resend s = record s { desc = record s.desc { soft = false } }

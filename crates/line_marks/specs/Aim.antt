@@ -9,8 +9,8 @@ use Rattle.irq_base.specs.declared.numbers.CpuNo.{CpuNo}
 use Rattle.irq_model.specs.Signal.{mask_in_force, target, lowest_in}
 use Rattle.affinity.specs.Seen.{AimSeen, after_set, after_move}
 
--- a mask that waits for the next take: the last that was to be put in force later, with no take and
--- no change since
+-- a mask that waits for the next take: of the last change that was answered Later, if no take and
+-- no other change came since
 abbrev pub waiting_of : List Entry → Option ℕ
 waiting_of [] = None
 waiting_of (entries.Affinity driver mask moves.Later ∷ past) = Some mask
@@ -18,7 +18,7 @@ waiting_of (entries.Affinity driver mask moves.Now ∷ past) = None
 waiting_of (entries.Take cpu way answer ∷ past) = None
 waiting_of (_ ∷ past) = waiting_of past
 
--- the mask in force, and one that waits
+-- the mask in force, and a mask that waits
 abbrev pub aim_of : LineDef → List Entry → AimSeen
 aim_of def past = record { cpus = def.cpus; later = def.later; mask = mask_in_force def past; waiting = waiting_of past }
 
@@ -42,7 +42,7 @@ aimed_of def past = number_of (target def past)
 abbrev pub aimed_by : AimSeen → ℕ
 aimed_by a = number_of (lowest_in a.cpus a.mask)
 
--- the processor that the chip is aimed at after the entry, with this as the aim before it
+-- the processor that the chip is aimed at after the entry; `a` is the aim before it
 abbrev pub aimed_after : Entry → AimSeen → ℕ → ℕ
 aimed_after (entries.Affinity driver mask moves.Now) a n = aimed_by (after_set moves.Now mask a)
 aimed_after (entries.Take cpu way answer) a n = aimed_by (after_move a)

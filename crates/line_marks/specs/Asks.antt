@@ -41,7 +41,7 @@ is_threaded device_kinds.Check = true
 is_threaded device_kinds.Null = true
 is_threaded _ = false
 
--- each entry of a run counts as the device's kind has it served
+-- an entry of a run counts as serving if the device's kind says so
 abbrev pub asks_after : List (DevNo × Kind) → Entry → List (DevNo × AskRow) → List (DevNo × AskRow)
 asks_after kinds (entries.Ask driver dev) t = change asked t dev
 asks_after kinds (entries.Begin cpu dev) t = change (called (is_direct (kind_at kinds dev))) t dev

@@ -7,15 +7,14 @@ use Rattle.ask_counts.specs.declared.rows.AskRow.{AskRow}
 use Rattle.line_marks.specs.Expected.{HasRounds, HasDepth}
 use Rattle.line_marks.specs.State.{StateSeen}
 
--- no count is above the number of entries, the depth not above it by more than the one of the
--- beginning
+-- no count is above n, the number of entries; the depth, which begins at 1, is at most n + 1
 pub record IsFew (n : ℕ) (s : StateSeen) : Type 0 where
   pub depth : s.desc.depth ≤ n + 1
   pub rounds : s.list.rounds ≤ n
   pub handled : s.counts.counts.threads_handled ≤ n
   pub asks : (d : DevNo) (r : AskRow) → at s.asks d ≡ Some r → (r.unserved ≤ n) × (r.fresh ≤ n)
 
--- one more fits each
+-- each count has room for one more
 pub record HasSpace (s : StateSeen) : Type 0 where
   pub depth : HasDepth s
   pub rounds : HasRounds s

@@ -9,11 +9,11 @@ use Rattle.irq_model.specs.Spurious.{counts_of}
 use Rattle.spurious.specs.Seen.{CountsSeen, after_note, after_thread, after_reset}
 use Rattle.line_marks.specs.Rounds.{RoundSeen}
 
--- the numbers of the rule, with the window and the limit of the line
+-- the counts of the rule, with the window and the limit of the line
 abbrev pub tally_of : LineDef → List Entry → CountsSeen
 tally_of def past = record { window = def.window; limit = def.limit; counts = counts_of def past }
 
--- what an entry makes of the counts, with this as the round before it
+-- what an entry makes of the counts; the round is the one before the entry
 abbrev pub tally_after : Entry → RoundSeen → CountsSeen → CountsSeen
 tally_after (entries.ThreadReturn dev served) r c = if nat_lt 0 served then after_thread c else c
 tally_after (entries.Request driver dev flags links.Linked opened) r c = after_reset c

@@ -30,7 +30,7 @@ use Rattle.line_marks.specs.State.{StateSeen}
 abbrev pub is_held : StateSeen → Bool
 is_held s = nat_lt 0 (held_in s.threads)
 
--- the asks that were unserved as the handler began
+-- how many asks were unserved as the handler was called
 abbrev pub met_by : Option AskRow → ℕ
 met_by None = 0
 met_by (Some r) = r.met_by_handler
@@ -54,7 +54,8 @@ abbrev pub begin_or_end_by : LineDef → StateSeen → CpuNo → Option DevNo �
 begin_or_end_by def s c None = end_by def s c
 begin_or_end_by def s c (Some d) = entries.Begin c d
 
--- the handler that is at work returns; else the first that is left is called; else the round ends
+-- the handler that is at work returns; else the first handler that is left is called; else the
+-- round ends
 abbrev pub in_flow_by : LineDef → StateSeen → CpuNo → Option DevNo → Entry
 in_flow_by def s c (Some d) = return_by s c d (met_by (at s.asks d))
 in_flow_by def s c None = begin_or_end_by def s c (first_left s.list.begun s.list.actions)

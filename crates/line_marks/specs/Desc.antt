@@ -33,7 +33,7 @@ take_masks_with def flows.Edge oneshot e = is_busy e || is_off e
 take_masks_with def flows.Eoi oneshot e =
     is_off e || (is_handle e && (is_level_line def && oneshot))
 
--- such a take, a disable or a kill of an unlazy line, a last unlink
+-- the entry masks: a take that masks, a disable or a kill of an unlazy line, a last unlink
 abbrev pub masks_with : LineDef → DescSeen → Entry → Bool
 masks_with def d e = take_masks_with def def.flow d.oneshot e
     || (((is_disable e || is_kill e) && d.unlazy) || is_last_unlink e)

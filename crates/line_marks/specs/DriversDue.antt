@@ -37,8 +37,8 @@ request_to def r d flags s links.Linked =
 request_to def r d flags s (links.Refused error) =
     entries.Request r d flags (links.Refused error) opens.No
 
--- what a call waits for: the flow's end, the rest of all threads, the rest of the device's thread,
--- the mutex
+-- what a call waits for: the end of the flow, all threads at rest, the device's thread at rest, the
+-- mutex
 abbrev pub clear_by : DriverNo → StateSeen → Option Entry
 clear_by r s = if is_some s.desc.flow then None else Some (entries.HardClear r)
 

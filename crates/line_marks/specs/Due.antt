@@ -21,7 +21,7 @@ others_held s r = nat_lt 0 (held_in s.threads - one_if r.held)
 abbrev pub finish_opens : StateSeen → ThreadRow → Bool
 finish_opens s r = not r.woken && may_open (others_held s r) s.desc
 
--- the asks that were unserved as the thread's run began
+-- how many asks were unserved as the thread's run began
 abbrev pub met_in : Option AskRow → ℕ
 met_in None = 0
 met_in (Some r) = r.met_by_thread

@@ -1,5 +1,5 @@
--- What holds just before an entry that is due, and what its function asks for: its answers are
--- those of the state, and the counts have room.
+-- What holds just before an entry that is due, which is what the entry's function asks for: its
+-- answers are the state's, and the counts have room.
 use Rattle.std.specs.Prelude.{◌≡◌, ◌<◌, ◌-◌, ◌^◌, true, false, not}
 use Rattle.irq_base.specs.declared.entries.Entry.{Entry}
 use Rattle.irq_base.specs.declared.entries.Entry.TheVariants as entries

@@ -11,6 +11,6 @@ use Rattle.device_table.specs.Rows.{at, table_by}
 abbrev pub kinds_of : LineDef → List (DevNo × Kind)
 kinds_of def = table_by (kind_of def) def.devices
 
--- the kind of a device; one that the line lacks never serves, as a stuck one
+-- the kind of a device; a device that the line doesn't have counts as stuck, so it never serves
 abbrev pub kind_at : List (DevNo × Kind) → DevNo → Kind
 kind_at t d = unwrap_or (at t d) kinds.Stuck

@@ -10,8 +10,8 @@ use Rattle.line_scripts.specs.Rows.{RowSeen, calls_of, place_of, within_of}
 use Rattle.line_marks.specs.Scripts.{IsAt}
 use Rattle.line_marks.specs.State.{StateSeen, state_of}
 
--- its definition is valid, its history legal and not too long, its state is that of its history,
--- and so are the places of its drivers
+-- the definition is valid, the history legal and not too long, and the state and the drivers'
+-- places are the history's
 pub record IsLine (def : LineDef) (entries : List Entry) (s : StateSeen) (scripts : List (DriverNo × RowSeen)) : Type 0 where
   pub valid : IsValid def
   pub legal : IsLegal def entries

@@ -14,7 +14,7 @@ use Rattle.line_marks.specs.DriversDue.{driver_due}
 use Rattle.line_marks.specs.Due.{thread_due}
 use Rattle.line_marks.specs.State.{StateSeen}
 
--- the driver's first call that isn't complete, and how many of its entries are there
+-- the driver's first call that isn't complete, and how many entries it has made
 abbrev pub due_call_in : List (DriverNo × RowSeen) → DriverNo → Option (Call × ℕ)
 due_call_in scripts r = with_count (call_of scripts r) (within_of scripts r)
 

@@ -31,7 +31,8 @@ abbrev pub now_after : Entry → ℕ → ℕ
 now_after (entries.Moment driver at) n = max at n
 now_after _ n = n
 
--- an entry that begins a round clears what its handlers did
+-- a round's marks: an entry that begins a round clears them, a return sets what its handler
+-- answered
 abbrev pub round_after : LineDef → Entry → RoundSeen → RoundSeen
 round_after def e r = record {
   working = if is_begin_or_return e then dev_of_begin (Some e) else r.working;

@@ -1,4 +1,4 @@
--- All that a line keeps of its history but the drivers' places, read off its past, and what an
+-- What a line keeps of its history, apart from the drivers' places: read off the past, and what an
 -- entry makes of it.
 use Rattle.std.specs.Prelude.{◌≡◌, ℕ, Bool, false, ◌&&◌, if◌then◌else◌, nat_lt, Option, None, List}
 use Rattle.irq_base.specs.Cell.{Cell, fresh_cell, after_edge, after_high}
@@ -52,7 +52,7 @@ pub record StateSeen : Type 0 where
   pub kinds : List (DevNo × Kind)
   pub round : RoundSeen
   pub counts : CountsSeen
-  -- who frees what; the request mutex is held while somebody does
+  -- the free under way, its driver and its device; meanwhile the request mutex is held
   pub freeing : Option (DriverNo × DevNo)
 
 -- each part, read off the past
@@ -132,7 +132,7 @@ state_after def e s = record {
   freeing = freeing_after e s.freeing;
 }
 
--- the cell is one of the definition's
+-- the cell has the properties of the definition
 pub record IsOf (def : LineDef) (s : StateSeen) : Type 0 where
   pub trigger : s.cell.trigger ≡ def.trigger
   pub retriggers : s.cell.retriggers ≡ def.retriggers

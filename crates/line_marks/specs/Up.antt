@@ -1,5 +1,5 @@
--- Whether the line's domains are activated (`is_up`), read off the actions and who frees what; and
--- what an entry makes of it.
+-- Whether the line's domains are activated (`is_up`), read off the actions and the free under way;
+-- and what an entry makes of it.
 use Rattle.std.specs.Prelude.{Bool, not, ◌||◌, ◌&&◌, Option, is_some}
 use Rattle.irq_base.specs.declared.entries.Entry.{Entry}
 use Rattle.irq_base.specs.declared.entries.Entry.TheVariants as entries

@@ -1,5 +1,5 @@
-//! What is due of every actor is what the state and the drivers' places say; and what the state's
-//! functions expect of an entry holds if the entry is due.
+//! What is due of each actor is read off the state and the drivers' places. And an entry that is
+//! due meets what the functions of the state expect of it.
 ghost use Rattle.std.specs.Prelude.{◌≡◌, ℕ, ◌≤◌, Bool, List, Option, length};
 ghost use Rattle.irq_base.specs.declared.calls.Call.{Call};
 ghost use Rattle.irq_base.specs.declared.calls.Flags.{Flags};
@@ -32,7 +32,8 @@ ghost use Rattle.line_marks.specs.Next.{due_call_in, due_by};
 ghost use Rattle.line_marks.specs.Scripts.{IsAt};
 ghost use Rattle.line_marks.specs.State.{StateSeen, state_of, state_after};
 
-/// Of a thread of the line: its run begins, its handler returns, the run is finalized or is over.
+/// What is due of a thread of the line: its run begins, its handler returns, the run is finalized
+/// or is over.
 #[tactic(auto, using(crate::proofs::DueIs::thread_is))]
 pub fn thread_due_is_told()
     ensures law { (def : LineDef) (past : List Entry) (d : DevNo) → IsValid def
@@ -40,8 +41,8 @@ pub fn thread_due_is_told()
         → next_past def past (actors.Thread def.line d) ≡ thread_due (state_of def past) d }
 {}
 
-/// Of a processor: in its flow the return of the handler at work, the next handler, or the end by
-/// the line's flow; else the take of what is presented or resent.
+/// What is due of a processor: in its flow the return of the handler at work, the next handler's
+/// begin, or the end by the line's flow; else the take of what is presented or resent.
 #[tactic(auto, using(crate::proofs::CpuDueIs::cpu_due_is))]
 pub fn cpu_due_is_told()
     ensures law { (def : LineDef) (past : List Entry) (c : CpuNo) → IsValid def
@@ -49,7 +50,7 @@ pub fn cpu_due_is_told()
         → next_past def past (actors.Cpu c) ≡ cpu_due def (state_of def past) c }
 {}
 
-/// Of a driver, by its due call and how many entries of it are there: all nine calls.
+/// What is due of a driver, by its due call and how many entries the call has made: all nine calls.
 #[tactic(auto, using(crate::proofs::DriversDueIs::driver_due_is, crate::proofs::DriversDueIs::driver_is))]
 pub fn driver_due_is_told()
     ensures calls { (def : LineDef) (past : List Entry) (r : DriverNo) (o : Option (Call × ℕ))
@@ -61,7 +62,7 @@ pub fn driver_due_is_told()
         ≡ driver_due def (state_of def past) r (due_call def r past) }
 {}
 
-/// Of every actor, by the state and the places of the drivers' scripts.
+/// What is due of every actor, by the state and the places of the drivers' scripts.
 #[tactic(auto, using(crate::proofs::DueIs::due_is, crate::proofs::DueIs::due_on))]
 pub fn due_is_told()
     ensures law { (def : LineDef) (past : List Entry) (scripts : List (DriverNo × RowSeen))
@@ -74,7 +75,7 @@ pub fn due_is_told()
         → IsLine def h s scripts → next def h a ≡ due_by def s scripts a }
 {}
 
-/// A driver's due call is the one at its place.
+/// A driver's due call is the call at its place.
 #[tactic(auto, using(crate::proofs::DueIs::call_is))]
 pub fn due_call_is_told()
     ensures law { (def : LineDef) (past : List Entry) (scripts : List (DriverNo × RowSeen))
@@ -83,8 +84,8 @@ pub fn due_call_is_told()
         → (r : DriverNo) → due_call def r past ≡ due_call_in scripts r }
 {}
 
-/// An entry that is due is one that the functions of the state expect: its answers are those of the
-/// state, a device that is requested isn't linked, and each count has room for one more.
+/// An entry that is due is what the functions of the state expect: its answers are the state's, a
+/// device that is requested isn't linked, and each count has room for one more.
 #[tactic(auto, using(crate::proofs::ExpectedOf::expected))]
 pub fn due_is_expected()
     ensures law { (def : LineDef) (past : List Entry) → IsValid def → IsLegalPast def past
@@ -101,7 +102,7 @@ pub fn take_is_its_parts()
         ≡ handling_from answer (moved (entered def def.flow answer cpu (arrived way s))) }
 {}
 
-/// So is what an end makes of it, if it is the end that is due by the state.
+/// What an end makes of the state is what its parts make of it, if the end is the one that is due.
 #[tactic(auto, using(crate::proofs::Ends::end_is))]
 pub fn end_is_its_parts()
     ensures law { (def : LineDef) (c : CpuNo) (again unmask : Bool) (note : Note) (s : StateSeen)
@@ -111,7 +112,8 @@ pub fn end_is_its_parts()
         ≡ gone_on def again (left_at def def.flow (is_held s) (killed_by note (noted_at s))) }
 {}
 
-/// And what a linked request makes of it, if it opens the line as the state says.
+/// What a linked request makes of the state is what its parts make of it, if it opens the line as
+/// the state says.
 #[tactic(auto, using(crate::proofs::Linking::request_is))]
 pub fn request_is_its_parts()
     ensures law { (def : LineDef) (r : DriverNo) (d : DevNo) (flags : Flags) (opened : Opened)

@@ -1,7 +1,7 @@
-//! What a line keeps of its history: for each part of its state what it is of a past, what one more
-//! entry makes of it, and the law that the two agree, for every valid definition and every legal
-//! history; and the entry that is due of each actor, read off the state alone. There is no code:
-//! each law is the clause of a function with an empty body.
+//! What a line keeps of its history. For each part of the state there are two definitions, what it
+//! is after a past and what one more entry makes of it, and the law that they agree, for every
+//! valid definition and every legal history. And there is the entry that is due of each actor, read
+//! off the state alone. There is no code: each law is the clause of a function with an empty body.
 #![tactic(auto)]
 
 pub mod due;

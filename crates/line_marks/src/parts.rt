@@ -1,5 +1,5 @@
-//! Each part of a line's state follows its history: what it is after one more entry is what the
-//! entry makes of it.
+//! Each part of a line's state follows the line's history: the part after one more entry is what
+//! the entry makes of the part before it.
 ghost use Rattle.std.specs.Prelude.{◌≡◌, ℕ, true, false, List, ◌∷◌, Option, Some, is_some};
 ghost use Rattle.irq_base.specs.declared.calls.Call.{Call};
 ghost use Rattle.irq_base.specs.declared.entries.Actor.TheVariants as actors;
@@ -41,15 +41,14 @@ pub fn desc_follows()
         → desc_of def (e ∷ past) ≡ desc_after def (is_none_linked past) e (desc_of def past) }
 {}
 
-/// The list of actions, those whose handler was called in the round, and the number of rounds.
+/// The list of actions, whose handlers were called in the round, and the number of rounds.
 #[tactic(auto, using(crate::proofs::ListFollows::list_more))]
 pub fn list_follows()
     ensures law { (def : LineDef) (e : Entry) (past : List Entry) → IsValid def
         → list_of def (e ∷ past) ≡ list_after def e (list_of def past) }
 {}
 
-/// The list has the linked devices in the order in which they are walked, each with the flags with
-/// which it was linked.
+/// The list has the linked devices in the order of the walk, each with the flags of its request.
 #[tactic(auto, using(crate::proofs::ActionsFollow::actions_are))]
 pub fn actions_are()
     ensures law { (def : LineDef) (past : List Entry) → IsValid def → IsLegalPast def past
@@ -63,7 +62,8 @@ pub fn bare_is()
         → is_bare (actions_of past) ≡ is_none_linked past }
 {}
 
-/// The threads: of each device whether it is woken, where its run is, and whether its bit stands.
+/// The threads: for each device whether its thread is woken, how far its run is, and whether its
+/// bit stands.
 #[tactic(auto, using(crate::proofs::ThreadsFollow::threads_follow))]
 pub fn threads_follow()
     ensures law { (def : LineDef) (e : Entry) (past : List Entry) → IsValid def
@@ -71,21 +71,21 @@ pub fn threads_follow()
         → threads_of def (e ∷ past) ≡ threads_after (is_oneshot past) e (threads_of def past) }
 {}
 
-/// The asks: of each device those that are unserved, those since its serving run began, and what
-/// its handler and its thread met.
+/// The asks: for each device how many are unserved, how many came since its serving run began, and
+/// how many its handler and its thread met.
 #[tactic(auto, using(crate::proofs::AsksFollow::asks_more))]
 pub fn asks_follow()
     ensures law { (def : LineDef) (e : Entry) (past : List Entry) → IsValid def
         → asks_of def (e ∷ past) ≡ asks_after (kinds_of def) e (asks_of def past) }
 {}
 
-/// A device's kind is what the table of kinds has of it.
+/// A device's kind is the kind that the table has for it.
 #[tactic(auto, using(crate::proofs::KindsFixed::kind_is))]
 pub fn kinds_stand()
     ensures law { (def : LineDef) (d : DevNo) → kind_at (kinds_of def) d ≡ kind_of def d }
 {}
 
-/// The affinity: the mask in force and one that waits.
+/// The affinity: the mask in force, and a mask that waits.
 #[tactic(auto, using(crate::proofs::AimFollow::aim_more))]
 pub fn aim_follows()
     ensures law { (def : LineDef) (e : Entry) (past : List Entry)
@@ -130,22 +130,22 @@ pub fn tally_follows()
         → tally_of def (e ∷ past) ≡ tally_after e (round_of def past) (tally_of def past) }
 {}
 
-/// Who frees what.
+/// The free under way: its driver and its device.
 #[tactic(auto, using(crate::proofs::FreeingFollows::freeing_more))]
 pub fn freeing_follows()
     ensures law { (e : Entry) (past : List Entry)
         → freeing (e ∷ past) ≡ freeing_after e (freeing past) }
 {}
 
-/// The request mutex is held exactly while somebody frees.
+/// The request mutex is held exactly while a free is under way.
 #[tactic(auto, using(crate::proofs::FreeingFollows::mutex_is))]
 pub fn freeing_holds_mutex()
     ensures law { (def : LineDef) (past : List Entry) → IsValid def → IsLegalPast def past
         → holds_mutex past ≡ is_some (freeing past) }
 {}
 
-/// The place of the driver that made the entry: an entry that completes its call goes to the next
-/// one.
+/// The place of the driver that made the entry: an entry that completes the driver's call moves it
+/// on to the next call.
 #[tactic(auto, using(crate::proofs::ScriptsFollow::own_place))]
 pub fn places_follow()
     ensures law { (def : LineDef) (past : List Entry) (e : Entry) (r : DriverNo) (place within : ℕ)
@@ -155,7 +155,7 @@ pub fn places_follow()
         (within_after (completes c e) within) }
 {}
 
-/// The place of any other driver.
+/// The place of any other driver stays.
 #[tactic(auto, using(crate::proofs::ScriptsFollow::other_place))]
 pub fn places_stay()
     ensures law { (def : LineDef) (past : List Entry) (e : Entry) (r : DriverNo) (place within : ℕ)

@@ -1,4 +1,4 @@
-//! The whole state of a line follows its history, and what holds of it at every moment.
+//! The whole state of a line follows its history; and what holds of the state at every moment.
 ghost use Rattle.std.specs.Prelude.{◌≡◌, ◌≤◌, ◌&&◌, List, [], ◌∷◌, length};
 ghost use Rattle.irq_base.specs.Cell.{Cell, signals as presents};
 ghost use Rattle.irq_base.specs.declared.entries.Entry.{Entry};
@@ -26,7 +26,7 @@ pub fn state_follows()
         → state_of def (e ∷ past) ≡ state_after def e (state_of def past) }
 {}
 
-/// The state begins as that of a line to which nothing was done.
+/// The state begins as the state of a line to which nothing was done.
 #[tactic(auto, using(crate::proofs::StateFollows::state_first))]
 pub fn state_begins()
     ensures law { (def : LineDef) → state_of def [] ≡ first_state def }
@@ -41,7 +41,8 @@ pub fn cell_follows()
         (high_in (asks_after (kinds_of def) e (asks_of def past))) c }
 {}
 
-/// The cell's marks are those that are read off the entries, and it presents what the line signals.
+/// The cell's marks are as they are read off the entries, and the cell presents what the line
+/// signals.
 #[tactic(auto, using(crate::proofs::CellFollows::cell_is, crate::proofs::CellFollows::presents_is))]
 pub fn cell_is_told()
     ensures marks { (def : LineDef) (past : List Entry) → IsValid def → IsLegalPast def past
@@ -72,7 +73,8 @@ pub fn levels_are_told()
         → is_high def past ≡ (is_level_line def && high_in (asks_of def past)) }
 {}
 
-/// No count is above the number of entries, so within the limit of the log one more fits each.
+/// No count is above the number of entries, so each has room for one more within the limit of the
+/// log.
 #[tactic(auto, using(crate::proofs::Bounds::state_few, crate::proofs::Bounds::has_space))]
 pub fn counts_have_room()
     ensures few { (def : LineDef) (past : List Entry) → IsFew (length past) (state_of def past) }

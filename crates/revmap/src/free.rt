@@ -35,7 +35,7 @@ impl Virqs for BTreeMap<u32, u32> {
     }
 }
 
-/// The lowest number that isn't mapped; each below `from` is.
+/// The lowest number that isn't mapped; all numbers below `from` are mapped.
 pub(crate) fn lowest_from<V: Virqs>(virqs: &V, from: u32) -> Option<u32>
     requires { (k : ℕ) → k < from → is_some (V.at virqs.now k) ≡ true }
     ensures { IsLowestFree (V.at virqs.now) result }

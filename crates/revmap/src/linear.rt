@@ -27,7 +27,7 @@ impl Model for LinearMap {
 }
 
 impl LinearMap {
-    /// A map of that size in which nothing is mapped. The only error is `NoMemory`; no later call
+    /// A map of this size, in which nothing is mapped. The only error is `NoMemory`; no later call
     /// takes memory.
     pub fn new(alloc: Global, size: u32) -> Result<LinearMap, NoMemory>
         ensures size { IfOk result (λ m. ⟦<LinearMap as Revmap>⟧.size m ≡ Some size) }

@@ -7,9 +7,9 @@ ghost use Rattle.revmap.specs.Answers.{IsAssociated, dispose_answer, after_assoc
 pub enum AssocAnswer {
     /// The number is mapped now.
     Ok,
-    /// It is mapped already.
+    /// The number is mapped already.
     Taken,
-    /// A linear map has no place for it.
+    /// The number isn't below the size of the linear map.
     OutOfRange,
     /// A tree's memory was needed and refused.
     NoMemory,
@@ -20,7 +20,7 @@ pub enum AssocAnswer {
 pub enum DisposeAnswer {
     /// The number isn't mapped any more.
     Ok,
-    /// It wasn't mapped.
+    /// The number wasn't mapped.
     NotThere,
 }
 
@@ -30,7 +30,7 @@ pub trait Revmap {
     /// The virq at each hardware number that is mapped.
     ghost at: { Self → ℕ → Option ℕ };
 
-    /// The size of a linear map, whose numbers are those below it; none for a tree.
+    /// The size of a linear map, which has the numbers below its size; none for a tree.
     ghost size: { Self → Option ℕ };
 
     /// Maps the hardware number to the virq, which is above 0 (`irq_domain_associate`,

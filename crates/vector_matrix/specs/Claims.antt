@@ -9,14 +9,15 @@ use Rattle.vector_matrix.specs.declared.view.Vector.{Vector}
 use Rattle.vector_matrix.specs.declared.view.View.{View}
 use Rattle.vector_matrix.specs.Vectors.{vector_of, is_in, IsEachOnce, unless_in, others_below}
 
--- What is seen of a matrix: which one it is, how many processors it has, and vectors of each.
+-- What is seen of a matrix: which one it is, how many processors it has, and how many vectors each
+-- processor has.
 pub record MatrixSeen : Type 0 where
   pub table : TableId
   pub cpus : ℕ
   pub vectors : ℕ
 
--- What is seen of a claim: of which matrix it is, what it holds, what it found taken, whether it is
--- the first, and how many of its forks it hasn't met.
+-- What is seen of a claim: its matrix, the vectors that it holds, those that it found taken,
+-- whether it is the first claim, and how many of its forks it hasn't met.
 pub record ClaimSeen : Type 0 where
   pub table : TableId
   pub holds : List Vector
@@ -32,11 +33,11 @@ claim_seen table v =
 abbrev pub IsClaimOf : MatrixSeen → ClaimSeen → Type 0
 IsClaimOf matrix claim = claim.table ≡ matrix.table
 
--- it is the only claim that is there
+-- it is the only claim
 abbrev pub IsWhole : ClaimSeen → Type 0
 IsWhole claim = (claim.first ≡ true) × (claim.out ≡ 0)
 
--- a first claim, or a fork, of which nothing was claimed
+-- a first claim, or a fork, that has claimed nothing
 abbrev pub new_claim : TableId → Bool → ClaimSeen
 new_claim table first = record { table = table; holds = []; met = []; first = first; out = 0 }
 
@@ -45,7 +46,7 @@ abbrev pub gained : CpuNo → ClaimAnswer → List Vector
 gained cpu (answers.Got n) = vector_of cpu n ∷ []
 gained cpu answers.Full = []
 
--- how many of the processor's vectors were found taken: those before what was got, or all
+-- how many of the processor's vectors were found taken: those below the one that was got, or all
 abbrev pub passed : ℕ → ClaimAnswer → ℕ
 passed vectors (answers.Got n) = n
 passed vectors answers.Full = vectors
@@ -55,7 +56,7 @@ abbrev pub IfGot : ClaimAnswer → (ℕ → Type 0) → Type 0
 IfGot (answers.Got n) P = P n
 IfGot answers.Full P = Unit {0}
 
--- The claim got the vector, which it didn't hold.
+-- The claim got the vector, which it didn't hold before.
 pub record Gains (p : Vector) (old new : ClaimSeen) : Type 0 where
   pub free : is_in p old.holds ≡ false
   pub becomes : new ≡ record old { holds = old.holds ++ p ∷ [] }
@@ -63,7 +64,7 @@ pub record Gains (p : Vector) (old new : ClaimSeen) : Type 0 where
 -- The claim found the vector taken, by itself or not.
 pub record FindsTaken (p : Vector) (old new : ClaimSeen) : Type 0 where
   pub becomes : new ≡ record old { met = old.met ++ unless_in old.holds p }
-  -- by itself, if it is the only one
+  -- by itself, if it is the only claim
   pub whole : IsWhole old → is_in p old.holds ≡ true
 
 -- The claim found taken all vectors of the processor below n.
@@ -85,8 +86,8 @@ pub record IsClaim (cpus : ℕ) (me : Me ℕ View) : Type 0 where
   pub there : me.0.spent ≡ false
   pub idle : me.1 ≡ []
   pub once : IsEachOnce me.0.holds
-  -- it holds bits of the words
+  -- each vector that it holds has a bit in the words
   pub inside : (p : Vector) → is_in p me.0.holds ≡ true → (p.cpu.0 < cpus) × (p.number < 64)
-  -- if it is the only one, nobody else holds what it met
+  -- if it is the only claim, it holds all that it met
   pub whole : me.0.first ≡ true → me.0.out ≡ 0 → (p : Vector) → is_in p me.0.met ≡ true
       → is_in p me.0.holds ≡ true

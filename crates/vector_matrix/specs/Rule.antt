@@ -19,19 +19,20 @@ is_there v = not v.spent
 abbrev pub held : Vector → View → ℕ
 held p v = if v.spent then 0 else count_of p v.holds
 
--- how often all claims together hold it
+-- how often all claims together hold the vector
 abbrev pub holders : Vector → List View → ℕ
 holders p views = sum_by (held p) views
 
 pub record Holds (cpus : ℕ) (s : State ℕ View) : Type 0 where
   -- there is a word for each processor
   pub words : length s.words ≡ cpus
-  -- a vector's bit is set exactly if a claim holds it; so no other does, and it holds it once
+  -- a vector's bit is set exactly if a claim holds the vector; so no other claim does, and this one
+  -- holds it once
   pub bits : (p : Vector) → bit_of p s.words ≡ holders p s.views
-  -- the bit of what a claim met is still set
+  -- the bit of each vector that a claim met is still set
   pub met : (id : ℕ) (v : View) (p : Vector) → get_elem? s.views id ≡ some v → v.spent ≡ false
       → is_in p v.met ≡ true → bit_of p s.words ≡ 1
-  -- the first claim is at place 0, and it says how many others are still there
+  -- the first claim is at place 0, and says how many other claims are still there
   pub first : (id : ℕ) (v : View) → get_elem? s.views id ≡ some v → v.first ≡ true
       → (id ≡ 0) × (v.out + 1 ≡ count_by is_there s.views)
 
@@ -50,6 +51,6 @@ right_view = record { holds = []; met = []; first = false; out = 0; spent = fals
 abbrev pub met_view : View → View → View
 met_view v w = record v { holds = v.holds ++ w.holds; met = v.met ++ w.met; out = v.out - 1 }
 
--- what is left of a fork that was met
+-- a fork's view after it was met
 abbrev pub spent_view : View
 spent_view = record { holds = []; met = []; first = false; out = 0; spent = true }

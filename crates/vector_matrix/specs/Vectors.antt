@@ -4,7 +4,7 @@ use Rattle.std.specs.List.{list_any}
 use Rattle.irq_base.specs.declared.numbers.CpuNo.{CpuNo}
 use Rattle.vector_matrix.specs.declared.view.Vector.{Vector}
 
--- the vector of the processor with the number
+-- the processor's vector with this number
 abbrev pub vector_of : CpuNo → ℕ → Vector
 vector_of cpu n = record { cpu = cpu; number = n }
 
@@ -14,14 +14,14 @@ same_vector p q = (p.cpu.0 == q.cpu.0) && (p.number == q.number)
 abbrev pub is_in : Vector → List Vector → Bool
 is_in p all = list_any (same_vector p) all
 
--- how often it stands in the list
+-- how often the vector stands in the list
 abbrev pub count_of : Vector → List Vector → ℕ
 count_of p all = count_by (same_vector p) all
 
 abbrev pub IsEachOnce : List Vector → Type 0
 IsEachOnce all = (p : Vector) → count_of p all ≤ 1
 
--- the list without it
+-- the list without the vector
 abbrev pub without : Vector → List Vector → List Vector
 without p all = filter (λ q. not (same_vector p q)) all
 

@@ -7,19 +7,19 @@ use crate::steps::Seated;
 use crate::view::Vector;
 use std::marker::Model;
 
-/// What a claim of a vector comes to.
+/// What a try to claim a vector answers.
 #[derive(Clone, Copy, Debug, PartialEq, Eq)]
 pub enum ClaimAnswer {
-    /// Got the processor's vector of this number.
+    /// The claim got the processor's vector with this number.
     Got(u32),
     /// All vectors of the processor were taken (`-ENOSPC` of `irq_matrix_alloc`).
     Full,
 }
 
-/// What a thread claims vectors with. Contracts see what it holds, what it found taken (`met`),
-/// and, of the first claim of a matrix, how many of its forks it hasn't met yet (`out`). It can be
-/// neither copied nor cloned. If a fork is dropped, what it holds stays taken, and the first claim
-/// is never the only one again.
+/// What a thread claims vectors with. Contracts see which vectors it holds and which it found taken
+/// (`met`); for the first claim of a matrix also how many of its forks it hasn't met yet (`out`).
+/// It can be neither copied nor cloned. If a fork is dropped, the vectors that it holds stay taken,
+/// and the first claim is never the only one again.
 #[derive(Drop)]
 pub struct Claim {
     pub(crate) seat: Seated,

@@ -16,8 +16,8 @@ use std::marker::Model;
 /// The most processors, and the most vectors of each.
 const CPUS: usize = 32;
 
-/// The vectors of each processor, of which each is held by one claim or by none (`struct
-/// irq_matrix` of `kernel/irq/matrix.c`). No call of it waits.
+/// The vectors of each processor. One claim holds a vector, or none does (`struct irq_matrix` of
+/// `kernel/irq/matrix.c`). No call waits.
 #[derive(Drop)]
 pub struct Matrix {
     table: Table<u64, View, u32, HeldByOne, Global>,
@@ -60,7 +60,7 @@ impl Matrix {
         ))
     }
 
-    /// Tries to get the one vector.
+    /// Tries to get this vector.
     fn claim_one(&self, claim: &mut Claim, vector: Vector) -> bool
         requires claim { IsClaimOf self.now claim.old }
         requires cpu { vector.cpu.0 < self.now.cpus }
@@ -71,26 +71,27 @@ impl Matrix {
         !set(&self.table.shared, &mut claim.seat, vector)
     }
 
-    /// Claims the lowest vector of the processor that nobody holds; each lower one was held by
+    /// Claims the lowest vector of the processor that nobody holds; each lower vector was held by
     /// somebody when it was looked at (`irq_matrix_alloc`, which finds the lowest by
     /// `matrix_alloc_area`).
     pub fn claim(&self, claim: &mut Claim, cpu: CpuNo) -> ClaimAnswer
         requires claim { IsClaimOf self.now claim.old }
         requires cpu { cpu.0 < self.now.cpus }
-        // what is got is one of the processor's vectors, and it wasn't held
+        // the vector that it got is one of the processor's, and this claim didn't hold it
         ensures got { IfGot result (λ n. (n < self.now.vectors)
             × (is_in (vector_of cpu n) claim.old.holds ≡ false)) }
-        // it holds what is got beside what it held; it met those before it that it doesn't hold
+        // it holds what it held and the vector that it got; it met the lower vectors that it
+        // doesn't hold
         ensures claim { claim.new ≡ record claim.old {
           holds = claim.old.holds ++ gained cpu result;
           met = claim.old.met
               ++ others_below (passed self.now.vectors result) cpu claim.old.holds;
         } }
-        // each vector before it, or each one if it got none, is held or was met
+        // each lower vector, or each vector if it got none, it holds or met
         ensures passed { (u : ℕ) → u < passed self.now.vectors result
             → (is_in (vector_of cpu u) claim.new.holds || is_in (vector_of cpu u) claim.new.met)
             ≡ true }
-        // and is held, if it is the only claim: so what is got is the lowest that it doesn't hold
+        // if it is the only claim, it holds each of them: so it got the lowest that it doesn't hold
         ensures whole { IsWhole claim.old → (u : ℕ) → u < passed self.now.vectors result
             → is_in (vector_of cpu u) claim.old.holds ≡ true }
     {
@@ -165,7 +166,7 @@ impl Matrix {
     }
 }
 
-/// The words of a closed table, and 0 for what it has no word for.
+/// The words of a closed table; 0 for a processor without a word.
 fn words_of(closed: &Closed<u64, Global>, count: usize) -> [u64; 32]
     requires few { count ≤ 32 }
     requires full { IsFull closed.now.words }

@@ -23,7 +23,7 @@ pub type Seated = Seat<u64, View>;
 
 pub type Words = Shared<u64, View, u32, HeldByOne>;
 
-/// Of which vector a step is. Each call picks it.
+/// The vector that a step is about. Each call picks it.
 pub trait Named {
     ghost use Rattle.vector_matrix.specs.declared.view.Vector.{Vector};
 

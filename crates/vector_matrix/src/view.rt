@@ -14,7 +14,7 @@ pub struct Vector {
 /// A claim, as the matrix's rule sees it.
 pub struct View {
     pub holds: LinkedList<Vector>,
-    /// What it found taken.
+    /// The vectors that it found taken.
     pub met: LinkedList<Vector>,
     /// It is the first claim.
     pub first: bool,
