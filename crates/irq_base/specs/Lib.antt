@@ -7,3 +7,4 @@ pub mod Cell
 pub mod Wiring
 pub mod Codes
 pub mod Packed
+pub mod EntryKinds

@@ -1,8 +1,10 @@
 //! The list of a line's entries; room for more can be taken beforehand.
-ghost use Rattle.std.specs.Prelude.{◌≡◌, ℕ, ◌+◌, ◌-◌, ◌<◌, ◌≤◌, ◌==◌, [], ◌∷◌, ◌++◌, length, IfOk, OnOk, OnErr, slice_get, true};
+ghost use Rattle.std.specs.Prelude.{◌≡◌, ℕ, ◌+◌, ◌-◌, ◌<◌, ◌≤◌, ◌==◌, [], ◌∷◌, ◌++◌, length, IfOk, OnOk, OnErr, slice_get, option_map, true};
+ghost use Rattle.irq_base.specs.EntryKinds.{kind_of_entry};
 ghost use Rattle.irq_base.specs.Packed.{is_wide, place_of};
 
 use crate::entries::Entry;
+use crate::kinds::EntryKind;
 use crate::memory::NoMemory;
 use crate::packed::Packed;
 use std::alloc::Global;
@@ -97,6 +99,14 @@ impl History {
     {
         let word = *self.words.get(place)?;
         Some(word.unpack(&self.wide))
+    }
+
+    /// The kind of the entry at the place, which isn't made; none from the length on.
+    pub fn kind(&self, place: usize) -> Option<EntryKind>
+        ensures { result ≡ option_map kind_of_entry (slice_get self.now.entries place) }
+    {
+        let word = *self.words.get(place)?;
+        Some(word.kind(&self.wide))
     }
 
     /// How many more entries fit without memory.

@@ -14,6 +14,7 @@ pub mod devices;
 pub mod domains;
 pub mod entries;
 pub mod histories;
+pub mod kinds;
 pub mod lines;
 pub mod lists;
 pub mod memory;
@@ -32,6 +33,7 @@ pub use entries::{
     TakeAnswer, UnlinkAnswer, Way,
 };
 pub use histories::History;
+pub use kinds::EntryKind;
 pub use lines::{FlowKind, LineDef, Trigger};
 pub use lists::ItemList;
 pub use memory::NoMemory;

@@ -1,8 +1,10 @@
 //! An entry in one word.
 ghost use Rattle.std.specs.Prelude.{◌≡◌, ℕ, ◌<◌, ◌^◌, Bool, true, false, is_some, IfSome, List, get_or};
+ghost use Rattle.irq_base.specs.EntryKinds.{kind_of_entry};
 ghost use Rattle.irq_base.specs.Packed.{parts_of, is_wide, place_of, unpack, is_narrow, nothing};
 
 use crate::entries::Entry;
+use crate::kinds::{EntryKind, kind_of};
 use crate::numbers::DevNo;
 use crate::parts::{Parts, is_narrow};
 
@@ -83,6 +85,17 @@ impl Packed {
             return entry_at(wide, self.0 / TAGS);
         }
         self.parts().entry()
+    }
+
+    /// The kind of the entry that the word stands for, with these as the wide entries.
+    #[tactic(auto, unfolding(crate::specs::Packed::unpack))]
+    pub fn kind(self, wide: &[Entry]) -> EntryKind
+        ensures { result ≡ kind_of_entry (unpack wide.now self) }
+    {
+        if self.0 % TAGS == WIDE {
+            return kind_of(entry_at(wide, self.0 / TAGS));
+        }
+        self.parts().kind()
     }
 }
 

@@ -1,6 +1,7 @@
 //! The parts of a packed word, and the entries that they stand for.
 ghost use Rattle.std.specs.Prelude.{◌≡◌, ◌/◌, ◌%◌, ◌<◌, ◌≤◌, true};
 ghost use Rattle.irq_base.specs.Codes.{way_at, take_at, answer_at, note_at, link_at, opened_at, flag_at};
+ghost use Rattle.irq_base.specs.EntryKinds.{kind_of_entry};
 ghost use Rattle.irq_base.specs.Packed.{cpu_entry, thread_entry, driver_entry, entry_of, is_narrow, is_narrow_cpu, is_narrow_dev, is_narrow_driver, is_of_driver, flags_at};
 
 use crate::calls::Flags;
@@ -11,6 +12,7 @@ use crate::codes::{
 };
 use crate::devices::Answer;
 use crate::entries::{Entry, LinkAnswer, Note, Opened, TakeAnswer, Way};
+use crate::kinds::{EntryKind, kind_of_end};
 use crate::numbers::{CpuNo, DevNo, DriverNo};
 
 /// The parts of a word. The tag says which entry it is, the code holds its small answers.
@@ -162,6 +164,28 @@ impl Parts {
             self.thread_entry()
         } else {
             self.driver_entry()
+        }
+    }
+
+    /// The kind of the entry that they stand for, which isn't made.
+    #[tactic(auto, unfolding(crate::specs::Packed::entry_of, crate::specs::Packed::cpu_entry, crate::specs::Packed::thread_entry, crate::specs::Packed::driver_entry))]
+    pub fn kind(self) -> EntryKind
+        ensures { result ≡ kind_of_entry (entry_of self) }
+    {
+        match self.tag {
+            TAKE => EntryKind::Take,
+            BEGIN => EntryKind::Begin,
+            RETURN => EntryKind::Return {
+                served: self.second,
+            },
+            END => kind_of_end(note_at(self.code / 4)),
+            THREAD_BEGIN => EntryKind::ThreadBegin,
+            THREAD_RETURN => EntryKind::ThreadReturn {
+                served: self.second,
+            },
+            ASK => EntryKind::Ask,
+            DISABLE | ENABLE | REQUEST | UNLINK => EntryKind::Standing,
+            _ => EntryKind::Other,
         }
     }
 
