@@ -6,12 +6,12 @@ ghost use Rattle.irq_base.specs.Packed.{parts_of, is_wide, place_of, unpack, is_
 use crate::entries::Entry;
 use crate::kinds::{EntryKind, kind_of};
 use crate::numbers::DevNo;
-use crate::parts::{Parts, is_narrow};
+use crate::parts::Parts;
 
 /// One entry in a word, or the place of a wide entry. From its low end the word has a tag of 5
 /// bits, a code of 8, a first number of 16 and a second of 32. If the tag is 31, all other bits are
 /// a place in the list of wide entries.
-#[derive(Clone, Copy)]
+#[derive(Clone, Copy, PartialEq, Eq)]
 pub struct Packed(u64);
 
 // How many numbers each part has, from the low end.
@@ -28,7 +28,7 @@ const WIDE: u64 = 31;
 
 impl Packed {
     /// The word made of these parts.
-    pub fn of_parts(parts: Parts) -> Packed
+    pub(crate) fn of_parts(parts: Parts) -> Packed
         requires tag { parts.tag < 31 }
         requires code { parts.code < 256 }
         requires first { parts.first < 65536 }
@@ -41,7 +41,7 @@ impl Packed {
     }
 
     /// The word that holds a place in the list of wide entries.
-    pub fn of_place(place: u64) -> Packed
+    pub(crate) fn of_place(place: u64) -> Packed
         requires { place < 2 ^ 59 }
         ensures wide { is_wide result ≡ true }
         ensures place { place_of result ≡ place }
@@ -50,7 +50,7 @@ impl Packed {
     }
 
     /// The parts of the word.
-    pub fn parts(self) -> Parts
+    pub(crate) fn parts(self) -> Parts
         ensures { result ≡ parts_of self }
     {
         let code = self.0 / TAGS;
@@ -70,10 +70,15 @@ impl Packed {
         ensures tag { IfSome result (λ w. is_wide w ≡ false) }
         ensures back { IfSome result (λ w. (wide : List Entry) → unpack wide w ≡ entry) }
     {
-        if is_narrow(entry) {
-            return Some(Packed::of_parts(Parts::of_entry(entry)));
-        }
-        None
+        let parts = Parts::of_entry(entry)?;
+        Some(Packed::of_parts(parts))
+    }
+
+    /// The word as a number, by which tables are looked up.
+    pub fn number(self) -> u64
+        ensures { result ≡ self.0 }
+    {
+        self.0
     }
 
     /// The entry that the word stands for; `wide` is the list of wide entries.
@@ -87,7 +92,7 @@ impl Packed {
         self.parts().entry()
     }
 
-    /// The kind of the entry that the word stands for, with these as the wide entries.
+    /// The kind of the entry that the word stands for; `wide` is the list of wide entries.
     #[tactic(auto, unfolding(crate::specs::Packed::unpack))]
     pub fn kind(self, wide: &[Entry]) -> EntryKind
         ensures { result ≡ kind_of_entry (unpack wide.now self) }

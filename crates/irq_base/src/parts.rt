@@ -1,8 +1,9 @@
 //! The parts of a packed word, and the entries that they stand for.
-ghost use Rattle.std.specs.Prelude.{◌≡◌, ◌/◌, ◌%◌, ◌<◌, ◌≤◌, true};
+ghost use Rattle.std.specs.Prelude.{◌≡◌, ◌/◌, ◌%◌, ◌<◌, ◌≤◌, ◌&&◌, if◌then◌else◌, true, is_some, IfSome, Some, None};
 ghost use Rattle.irq_base.specs.Codes.{way_at, take_at, answer_at, note_at, link_at, opened_at, flag_at};
+ghost use Rattle.irq_base.specs.declared.entries.Entry.TheVariants as entries;
 ghost use Rattle.irq_base.specs.EntryKinds.{kind_of_entry};
-ghost use Rattle.irq_base.specs.Packed.{cpu_entry, thread_entry, driver_entry, entry_of, is_narrow, is_narrow_cpu, is_narrow_dev, is_narrow_driver, is_of_driver, flags_at};
+ghost use Rattle.irq_base.specs.Packed.{cpu_no, driver_entry, entry_of, is_narrow, is_narrow_cpu, is_narrow_dev, is_narrow_driver, is_of_driver, flags_at};
 
 use crate::calls::Flags;
 use crate::codes::{
@@ -73,101 +74,145 @@ impl Parts {
         }
     }
 
-    /// The parts that stand for the entry.
+    // These parts, if the numbers in them fit.
+    fn only_if(self, narrow: bool) -> Option<Parts>
+        ensures { result ≡ (if narrow then Some self else None) }
+    {
+        if narrow { Some(self) } else { None }
+    }
+
+    /// The parts that stand for the entry; none if one of its numbers doesn't fit.
     #[tactic(auto, unfolding(crate::specs::Packed::entry_of, crate::specs::Packed::cpu_entry, crate::specs::Packed::thread_entry))]
-    pub fn of_entry(entry: Entry) -> Parts
-        requires { is_narrow entry ≡ true }
-        ensures tag { result.tag < 31 }
-        ensures code { result.code < 256 }
-        ensures first { result.first < 65536 }
-        ensures entry { entry_of result ≡ entry }
+    pub fn of_entry(entry: Entry) -> Option<Parts>
+        ensures narrow { is_some result ≡ is_narrow entry }
+        ensures tag { IfSome result (λ p. p.tag < 31) }
+        ensures code { IfSome result (λ p. p.code < 256) }
+        ensures first { IfSome result (λ p. p.first < 65536) }
+        ensures entry { IfSome result (λ p. entry_of p ≡ entry) }
     {
         match entry {
-            Entry::Take { cpu, way, answer } => Parts::new(TAKE, take_code(way, answer), cpu.0, 0),
-            Entry::Begin { cpu, dev } => Parts::new(BEGIN, 0, cpu.0, dev.0),
+            Entry::Take { cpu, way, answer } => of_cpu(TAKE, take_code(way, answer), cpu),
+            Entry::Begin { cpu, dev } => {
+                let narrow = is_narrow_cpu(cpu) && is_narrow_dev(dev);
+                Parts::new(BEGIN, 0, cpu.0, dev.0).only_if(narrow)
+            }
             Entry::Return {
                 cpu,
                 dev,
                 answer,
                 served,
-            } => Parts::new(RETURN, return_code(cpu, answer), dev.0, served),
+            } => {
+                let narrow = is_narrow_cpu(cpu) && is_narrow_dev(dev);
+                Parts::new(RETURN, return_code(cpu, answer), dev.0, served).only_if(narrow)
+            }
             Entry::End {
                 cpu,
                 again,
                 unmask,
                 note,
-            } => Parts::new(END, end_code(again, unmask, note), cpu.0, 0),
-            Entry::ThreadBegin { dev } => Parts::new(THREAD_BEGIN, 0, dev.0, 0),
-            Entry::ThreadReturn { dev, served } => Parts::new(THREAD_RETURN, 0, dev.0, served),
+            } => of_cpu(END, end_code(again, unmask, note), cpu),
+            Entry::ThreadBegin { dev } => of_thread(THREAD_BEGIN, 0, dev, 0),
+            Entry::ThreadReturn { dev, served } => of_thread(THREAD_RETURN, 0, dev, served),
             Entry::Finish { dev, kept, unmask } => {
-                Parts::new(FINISH, finish_code(kept, unmask), dev.0, 0)
+                of_thread(FINISH, finish_code(kept, unmask), dev, 0)
             }
-            Entry::Done { dev } => Parts::new(DONE, 0, dev.0, 0),
+            Entry::Done { dev } => of_thread(DONE, 0, dev, 0),
             _ => Parts::of_driver(entry),
         }
     }
 
     #[tactic(auto, unfolding(crate::specs::Packed::driver_entry))]
-    fn of_driver(entry: Entry) -> Parts
-        requires driver { is_of_driver entry ≡ true }
-        requires narrow { is_narrow entry ≡ true }
-        ensures from { 8 ≤ result.tag }
-        ensures below { result.tag < 31 }
-        ensures code { result.code < 256 }
-        ensures first { result.first < 65536 }
-        ensures entry { driver_entry result ≡ entry }
+    fn of_driver(entry: Entry) -> Option<Parts>
+        requires { is_of_driver entry ≡ true }
+        ensures narrow { is_some result ≡ is_narrow entry }
+        ensures from { IfSome result (λ p. 8 ≤ p.tag) }
+        ensures tag { IfSome result (λ p. p.tag < 31) }
+        ensures code { IfSome result (λ p. p.code < 256) }
+        ensures first { IfSome result (λ p. p.first < 65536) }
+        ensures entry { IfSome result (λ p. driver_entry p ≡ entry) }
     {
         match entry {
-            Entry::Ask { driver, dev } => Parts::new(ASK, 0, driver.0, dev.0),
-            Entry::Disable { driver } => Parts::new(DISABLE, 0, driver.0, 0),
-            Entry::HardClear { driver } => Parts::new(HARD_CLEAR, 0, driver.0, 0),
-            Entry::Synced { driver } => Parts::new(SYNCED, 0, driver.0, 0),
-            Entry::Enable { driver, answer } => {
-                Parts::new(ENABLE, enable_number(answer), driver.0, 0)
-            }
+            Entry::Ask { driver, dev } => of_device(ASK, 0, driver, dev),
             Entry::Request {
                 driver,
                 dev,
                 flags,
                 answer,
                 opened,
-            } => Parts::new(
-                REQUEST,
-                request_code(flags, answer, opened),
-                driver.0,
-                dev.0,
-            ),
+            } => of_device(REQUEST, request_code(flags, answer, opened), driver, dev),
             Entry::Unlink {
                 driver,
                 dev,
                 answer,
-            } => Parts::new(UNLINK, unlink_number(answer), driver.0, dev.0),
-            Entry::Freed { driver, dev } => Parts::new(FREED, 0, driver.0, dev.0),
+            } => of_device(UNLINK, unlink_number(answer), driver, dev),
+            Entry::Freed { driver, dev } => of_device(FREED, 0, driver, dev),
+            Entry::Disable { driver } => of_call(DISABLE, 0, driver, 0),
+            Entry::HardClear { driver } => of_call(HARD_CLEAR, 0, driver, 0),
+            Entry::Synced { driver } => of_call(SYNCED, 0, driver, 0),
+            Entry::Enable { driver, answer } => of_call(ENABLE, enable_number(answer), driver, 0),
             Entry::Affinity {
                 driver,
                 mask,
                 answer,
-            } => Parts::new(AFFINITY, affinity_number(answer), driver.0, mask),
-            Entry::Moment { driver, at } => Parts::new(MOMENT, 0, driver.0, at),
+            } => of_call(AFFINITY, affinity_number(answer), driver, mask),
+            Entry::Moment { driver, at } => of_call(MOMENT, 0, driver, at),
             _ => unreachable!(),
         }
     }
 
     /// The entry that the parts stand for.
-    #[tactic(auto, unfolding(crate::specs::Packed::entry_of))]
+    #[tactic(auto, unfolding(crate::specs::Packed::entry_of, crate::specs::Packed::cpu_entry, crate::specs::Packed::thread_entry))]
     pub fn entry(self) -> Entry
         ensures { result ≡ entry_of self }
     {
-        if self.tag <= END {
-            self.cpu_entry()
-        } else if self.tag <= DONE {
-            self.thread_entry()
-        } else {
-            self.driver_entry()
+        let code = self.code;
+        let cpu = CpuNo(self.first);
+        let dev = DevNo(self.first);
+        match self.tag {
+            TAKE => Entry::Take {
+                cpu,
+                way: way_at(code % 2),
+                answer: take_at(code / 2),
+            },
+            BEGIN => Entry::Begin {
+                cpu,
+                dev: DevNo(self.second),
+            },
+            RETURN => Entry::Return {
+                cpu: CpuNo(code % 32),
+                dev,
+                answer: answer_at(code / 32),
+                served: self.second,
+            },
+            END => self.end(),
+            THREAD_BEGIN => Entry::ThreadBegin { dev },
+            THREAD_RETURN => Entry::ThreadReturn {
+                dev,
+                served: self.second,
+            },
+            FINISH => Entry::Finish {
+                dev,
+                kept: flag_at(code % 2),
+                unmask: flag_at(code / 2),
+            },
+            DONE => Entry::Done { dev },
+            _ => self.driver_entry(),
         }
     }
 
-    /// The kind of the entry that they stand for, which isn't made.
+    // The end of a processor's round.
+    fn end(self) -> Entry
+        ensures { result ≡ entries.End (cpu_no self.first) (flag_at (self.code % 2)) (flag_at (self.code / 2 % 2)) (note_at (self.code / 4)) }
+    {
+        Entry::End {
+            cpu: CpuNo(self.first),
+            again: flag_at(self.code % 2),
+            unmask: flag_at(self.code / 2 % 2),
+            note: note_at(self.code / 4),
+        }
+    }
+
+    /// The kind of the entry that the parts stand for. The entry isn't made.
     #[tactic(auto, unfolding(crate::specs::Packed::entry_of, crate::specs::Packed::cpu_entry, crate::specs::Packed::thread_entry, crate::specs::Packed::driver_entry))]
     pub fn kind(self) -> EntryKind
         ensures { result ≡ kind_of_entry (entry_of self) }
@@ -186,57 +231,6 @@ impl Parts {
             ASK => EntryKind::Ask,
             DISABLE | ENABLE | REQUEST | UNLINK => EntryKind::Standing,
             _ => EntryKind::Other,
-        }
-    }
-
-    #[tactic(auto, unfolding(crate::specs::Packed::cpu_entry))]
-    fn cpu_entry(self) -> Entry
-        ensures { result ≡ cpu_entry self }
-    {
-        let cpu = CpuNo(self.first);
-        let code = self.code;
-        match self.tag {
-            TAKE => Entry::Take {
-                cpu,
-                way: way_at(code % 2),
-                answer: take_at(code / 2),
-            },
-            BEGIN => Entry::Begin {
-                cpu,
-                dev: DevNo(self.second),
-            },
-            RETURN => Entry::Return {
-                cpu: CpuNo(code % 32),
-                dev: DevNo(self.first),
-                answer: answer_at(code / 32),
-                served: self.second,
-            },
-            _ => Entry::End {
-                cpu,
-                again: flag_at(code % 2),
-                unmask: flag_at(code / 2 % 2),
-                note: note_at(code / 4),
-            },
-        }
-    }
-
-    #[tactic(auto, unfolding(crate::specs::Packed::thread_entry))]
-    fn thread_entry(self) -> Entry
-        ensures { result ≡ thread_entry self }
-    {
-        let dev = DevNo(self.first);
-        match self.tag {
-            THREAD_BEGIN => Entry::ThreadBegin { dev },
-            THREAD_RETURN => Entry::ThreadReturn {
-                dev,
-                served: self.second,
-            },
-            FINISH => Entry::Finish {
-                dev,
-                kept: flag_at(self.code % 2),
-                unmask: flag_at(self.code / 2),
-            },
-            _ => Entry::Done { dev },
         }
     }
 
@@ -281,30 +275,32 @@ impl Parts {
     }
 }
 
-/// Whether the numbers of the entry fit into the parts of a word.
-pub fn is_narrow(entry: Entry) -> bool
-    ensures { result ≡ is_narrow entry }
+// The parts of what a processor does, if its number fits.
+fn of_cpu(tag: u32, code: u32, cpu: CpuNo) -> Option<Parts>
+    ensures { result ≡ (if is_narrow_cpu cpu then Some (record { tag = tag; code = code; first = cpu.0; second = 0 }) else None) }
 {
-    match entry {
-        Entry::Take { cpu, .. } | Entry::End { cpu, .. } => is_narrow_cpu(cpu),
-        Entry::Begin { cpu, dev } | Entry::Return { cpu, dev, .. } => {
-            is_narrow_cpu(cpu) && is_narrow_dev(dev)
-        }
-        Entry::ThreadBegin { dev }
-        | Entry::ThreadReturn { dev, .. }
-        | Entry::Finish { dev, .. }
-        | Entry::Done { dev } => is_narrow_dev(dev),
-        Entry::Ask { driver, dev }
-        | Entry::Request { driver, dev, .. }
-        | Entry::Unlink { driver, dev, .. }
-        | Entry::Freed { driver, dev } => is_narrow_driver(driver) && is_narrow_dev(dev),
-        Entry::Disable { driver }
-        | Entry::HardClear { driver }
-        | Entry::Synced { driver }
-        | Entry::Enable { driver, .. }
-        | Entry::Affinity { driver, .. }
-        | Entry::Moment { driver, .. } => is_narrow_driver(driver),
-    }
+    Parts::new(tag, code, cpu.0, 0).only_if(is_narrow_cpu(cpu))
+}
+
+// The parts of what a device's thread does, if the device's number fits.
+fn of_thread(tag: u32, code: u32, dev: DevNo, second: u32) -> Option<Parts>
+    ensures { result ≡ (if is_narrow_dev dev then Some (record { tag = tag; code = code; first = dev.0; second = second }) else None) }
+{
+    Parts::new(tag, code, dev.0, second).only_if(is_narrow_dev(dev))
+}
+
+// The parts of what a driver does with a device, if their numbers fit.
+fn of_device(tag: u32, code: u32, driver: DriverNo, dev: DevNo) -> Option<Parts>
+    ensures { result ≡ (if (is_narrow_driver driver && is_narrow_dev dev) then Some (record { tag = tag; code = code; first = driver.0; second = dev.0 }) else None) }
+{
+    Parts::new(tag, code, driver.0, dev.0).only_if(is_narrow_driver(driver) && is_narrow_dev(dev))
+}
+
+// The parts of what a driver does with the line, if the driver's number fits.
+fn of_call(tag: u32, code: u32, driver: DriverNo, second: u32) -> Option<Parts>
+    ensures { result ≡ (if is_narrow_driver driver then Some (record { tag = tag; code = code; first = driver.0; second = second }) else None) }
+{
+    Parts::new(tag, code, driver.0, second).only_if(is_narrow_driver(driver))
 }
 
 #[tactic(auto, unfolding(crate::specs::Packed::flags_at))]
@@ -345,12 +341,11 @@ fn take_code(way: Way, answer: TakeAnswer) -> u32
 }
 
 fn return_code(cpu: CpuNo, answer: Answer) -> u32
-    requires { cpu.0 < 32 }
     ensures below { result < 256 }
-    ensures cpu { result % 32 ≡ cpu.0 }
+    ensures cpu { result % 32 ≡ cpu.0 % 32 }
     ensures answer { answer_at (result / 32) ≡ answer }
 {
-    cpu.0 + 32 * answer_number(answer)
+    cpu.0 % 32 + 32 * answer_number(answer)
 }
 
 fn end_code(again: bool, unmask: bool, note: Note) -> u32
