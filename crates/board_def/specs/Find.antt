@@ -10,11 +10,11 @@ use Rattle.board_def.specs.declared.names.Name.{Name}
 use Rattle.board_def.specs.declared.rows.DomainRow.{DomainRow}
 use Rattle.board_def.specs.declared.rows.LineRow.{LineRow}
 
--- the place of the first domain of that name
+-- the place of the first domain with this name
 abbrev pub place_of_name : List DomainRow → Name → Option ℕ
 place_of_name domains name = position (is_domain_named name) domains
 
--- the place of the first line of that number
+-- the place of the first line with this number
 abbrev pub place_of_line : List LineRow → LineNo → Option ℕ
 place_of_line lines line = position (λ row. line.0 == row.line.0) lines
 

@@ -19,8 +19,8 @@ find_line (row ∷ rows) line = if row.line.0 == line.0 then Some row else find_
 abbrev pub with_driver : ScriptCall → DriverNo × Call
 with_driver c = (c.driver, c.call)
 
--- The trigger and the flow come of the root, and what the chip can do of all levels. The line has
--- its devices and the calls about it, in the board's order.
+-- The root decides the trigger and the flow; all levels together decide what the chip can do. The
+-- line has its devices and the calls about it, in the board's order.
 abbrev pub line_of_row : BoardSeen → LineRow → LineDef
 line_of_row b row =
     let kinds = kinds_from (defs_of b.domains) (Some row.domain) in

@@ -25,7 +25,7 @@ is_name (b ∷ bs) = is_letter b && (list_all is_name_byte bs && nat_lt (length 
 abbrev pub name_of : List ℕ → Name
 name_of bytes = record { padded = bytes ++ replicate (16 - length bytes) 0 }
 
--- what stands before the first zero
+-- the bytes before the first zero
 abbrev pub before_zero : List ℕ → List ℕ
 before_zero [] = []
 before_zero (b ∷ bs) = if b == 0 then [] else b ∷ before_zero bs
@@ -34,6 +34,6 @@ before_zero (b ∷ bs) = if b == 0 then [] else b ∷ before_zero bs
 abbrev pub name_bytes : Name → List ℕ
 name_bytes name = before_zero name.padded
 
--- the two are one name
+-- the two names are the same
 abbrev pub same_name : Name → Name → Bool
 same_name a b = bytes_eq a.padded b.padded

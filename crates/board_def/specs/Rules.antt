@@ -1,4 +1,4 @@
--- The rules that a board keeps. Each row is allowed after those before it.
+-- The rules that a board keeps. Whether a row is allowed depends on the rows before it.
 use Rattle.std.specs.Prelude.{◌≡◌, ℕ, ◌*◌, ◌<◌, ◌≤◌, Bool, true, false, not, ◌&&◌, ◌||◌, ◌==◌, IsSome, Option, Some, None, List, [], ◌∷◌, length, reverse, if◌then◌else◌, All}
 use Rattle.std.specs.List.{list_any}
 use Rattle.irq_base.specs.Cell.{is_edge_trigger}
@@ -100,7 +100,7 @@ abbrev pub is_a_request : DevNo → Option ScriptCall → Bool
 is_a_request dev (Some c) = requests_dev dev c.call
 is_a_request dev None = false
 
--- The requests and frees of a device are all of the driver that made the first, and between two
+-- The driver that made the first request or free of a device makes all of them, and between two
 -- requests stands a free.
 abbrev pub is_bad_owner : List ScriptCall → DriverNo → Call → Bool
 is_bad_owner earlier driver (calls.Request dev flags) =
@@ -113,7 +113,7 @@ abbrev pub is_on_line : LineNo → Option DeviceDef → Bool
 is_on_line line (Some x) = x.line.0 == line.0
 is_on_line line None = false
 
--- the device of a call is one of the line; a moment is handed in to the line itself
+-- a call's device is a device of the line; a moment is handed in to the line itself
 abbrev pub fits_line : List DeviceDef → LineNo → Call → Bool
 fits_line devices line (calls.Ask dev) = is_on_line line (find_device devices dev)
 fits_line devices line (calls.Request dev flags) = is_on_line line (find_device devices dev)
@@ -122,7 +122,7 @@ fits_line devices line _ = true
 
 pub record IsCallAfter (b : BoardSeen) (earlier : List ScriptCall) (c : ScriptCall) : Type 0 where
   pub driver : has_driver b.drivers c.driver ≡ true
-  -- the scripts stand one after another
+  -- the calls are sorted by driver, so the scripts stand one after another
   pub in_order : All (λ e. e.driver.0 ≤ c.driver.0) earlier
   pub line : has_line b.lines c.line ≡ true
   pub device : fits_line b.devices c.line c.call ≡ true
@@ -153,7 +153,7 @@ pub record IsBoard (b : BoardSeen) : Type 0 where
   pub few_drivers : length b.drivers ≤ 64
   pub few_calls : length b.calls ≤ 16384
   pub few_picks : length b.picks ≤ 65536
-  -- all histories together
+  -- the most entries of all histories together
   pub entries : b.log * length b.lines ≤ 4000000
   pub domains : EachAfter IsDomainRowAfter b.domains
   pub lines : EachAfter (IsLineAfter b) b.lines

@@ -22,5 +22,5 @@ pub record BoardSeen : Type 0 where
   pub drivers : List DriverNo
   -- the drivers' scripts, one after another
   pub calls : List ScriptCall
-  -- whose steps a play makes first
+  -- the actors whose steps a play makes first
   pub picks : List Actor

@@ -41,9 +41,9 @@ impl Model for Board {
 }
 
 impl Board {
-    /// A board of `cpus` processors (1 to 32), that window (1 to 1,000,000) and limit (below the
-    /// window) of the spurious note, and that greatest length of a line's history (1 to 1,000,000),
-    /// with nothing declared.
+    /// A board with nothing declared. `cpus`: the number of processors (1 to 32); `window` (1 to
+    /// 1,000,000) and `limit` (below the window): of the rule on spurious interrupts; `log`: the
+    /// greatest length of a line's history (1 to 1,000,000).
     pub fn new(alloc: Global, cpus: u32, window: u32, limit: u32, log: u32) -> Board
         requires cpus { (1 ≤ cpus) × (cpus ≤ 32) }
         requires window { window ≤ 1000000 }
@@ -91,7 +91,7 @@ impl Board {
         self.log = log;
     }
 
-    /// Declares the domain after the others. If it is refused, the board is as before.
+    /// Declares the domain, as the last one. If it is refused, the board is as before.
     pub fn add_domain(&mut self, row: DomainRow) -> Result<(), NoMemory>
         requires board { IsBoard (record self.old { domains = self.old.domains ++ row ∷ [] }) }
         ensures added { OnOk result (self.new ≡ record self.old { domains = self.old.domains ++ row ∷ [] }) }
@@ -100,7 +100,7 @@ impl Board {
         self.domains.push(row)
     }
 
-    /// Declares the line after the others. If it is refused, the board is as before.
+    /// Declares the line, as the last one. If it is refused, the board is as before.
     pub fn add_line(&mut self, row: LineRow) -> Result<(), NoMemory>
         requires board { IsBoard (record self.old { lines = self.old.lines ++ row ∷ [] }) }
         ensures added { OnOk result (self.new ≡ record self.old { lines = self.old.lines ++ row ∷ [] }) }
@@ -109,7 +109,7 @@ impl Board {
         self.lines.push(row)
     }
 
-    /// Declares the device after the others. If it is refused, the board is as before.
+    /// Declares the device, as the last one. If it is refused, the board is as before.
     pub fn add_device(&mut self, device: DeviceDef) -> Result<(), NoMemory>
         requires board { IsBoard (record self.old { devices = self.old.devices ++ device ∷ [] }) }
         ensures added { OnOk result (self.new ≡ record self.old { devices = self.old.devices ++ device ∷ [] }) }
@@ -118,7 +118,7 @@ impl Board {
         self.devices.push(device)
     }
 
-    /// Declares the driver after the others. If it is refused, the board is as before.
+    /// Declares the driver, as the last one. If it is refused, the board is as before.
     pub fn add_driver(&mut self, driver: DriverNo) -> Result<(), NoMemory>
         requires board { IsBoard (record self.old { drivers = self.old.drivers ++ driver ∷ [] }) }
         ensures added { OnOk result (self.new ≡ record self.old { drivers = self.old.drivers ++ driver ∷ [] }) }
@@ -137,7 +137,7 @@ impl Board {
         Ok(())
     }
 
-    /// Adds the pick after the others. If it is refused, the board is as before.
+    /// Adds the pick, as the last one. If it is refused, the board is as before.
     pub fn add_pick(&mut self, pick: Actor) -> Result<(), NoMemory>
         requires board { IsBoard (record self.old { picks = self.old.picks ++ pick ∷ [] }) }
         ensures added { OnOk result (self.new ≡ record self.old { picks = self.old.picks ++ pick ∷ [] }) }
@@ -169,7 +169,7 @@ impl Board {
         self.window
     }
 
-    /// How many of them may be unhandled, below the window.
+    /// How many of the counted interrupts may be unhandled, below the window.
     pub fn limit(&self) -> u32
         ensures { result ≡ self.now.limit }
     {
@@ -183,35 +183,35 @@ impl Board {
         self.log
     }
 
-    /// The domain at the place, counted from 0; none from their number on.
+    /// The domain at index `place`, counted from 0; none from the number of domains on.
     pub fn domain(&self, place: usize) -> Option<DomainRow>
         ensures { result ≡ slice_get self.now.domains place }
     {
         self.domains.get(place)
     }
 
-    /// The line at the place, counted from 0; none from their number on.
+    /// The line at index `place`, counted from 0; none from the number of lines on.
     pub fn line(&self, place: usize) -> Option<LineRow>
         ensures { result ≡ slice_get self.now.lines place }
     {
         self.lines.get(place)
     }
 
-    /// The device at the place, counted from 0; none from their number on.
+    /// The device at index `place`, counted from 0; none from the number of devices on.
     pub fn device(&self, place: usize) -> Option<DeviceDef>
         ensures { result ≡ slice_get self.now.devices place }
     {
         self.devices.get(place)
     }
 
-    /// The driver at the place, counted from 0; none from their number on.
+    /// The driver at index `place`, counted from 0; none from the number of drivers on.
     pub fn driver(&self, place: usize) -> Option<DriverNo>
         ensures { result ≡ slice_get self.now.drivers place }
     {
         self.drivers.get(place)
     }
 
-    /// The call at the place in the scripts, counted from 0; none from their length on.
+    /// The call at index `place` of all scripts, counted from 0; none from the number of calls on.
     pub fn call(&self, place: usize) -> Option<ScriptCall>
         ensures { result ≡ slice_get self.now.calls place }
     {
@@ -225,7 +225,7 @@ impl Board {
         self.calls.as_slice()
     }
 
-    /// Whose steps a play makes first.
+    /// The actors whose steps a play makes first.
     pub fn picks(&self) -> &[Actor]
         ensures { result.now ≡ self.now.picks }
     {
@@ -274,28 +274,28 @@ impl Board {
         self.picks.len()
     }
 
-    /// The place of the domain of that name, counted from 0; none if there is none.
+    /// The place of the domain with this name, counted from 0; none if there is no such domain.
     pub fn find_domain(&self, name: &Name) -> Option<usize>
         ensures { result ≡ place_of_name self.now.domains name.now }
     {
         self.domains.place_of(name)
     }
 
-    /// The line of that number; none if there is none.
+    /// The line with this number; none if there is no such line.
     pub fn find_line(&self, line: LineNo) -> Option<LineRow>
         ensures { result ≡ find_line self.now.lines line }
     {
         self.lines.find(&line)
     }
 
-    /// The place of the line of that number, counted from 0; none if there is none.
+    /// The place of the line with this number, counted from 0; none if there is no such line.
     pub fn place_of_line(&self, line: LineNo) -> Option<usize>
         ensures { result ≡ place_of_line self.now.lines line }
     {
         self.lines.place_of(&line)
     }
 
-    /// The device of that number; none if there is none.
+    /// The device with this number; none if there is no such device.
     pub fn find_device(&self, dev: DevNo) -> Option<DeviceDef>
         ensures { result ≡ find_device self.now.devices dev }
     {
@@ -309,21 +309,21 @@ impl Board {
         self.drivers.find(&driver).is_some()
     }
 
-    /// The number of the last line, which is the greatest; none if there is none.
+    /// The number of the last line, the greatest number of a line; none if there is no line.
     pub fn last_line(&self) -> Option<LineNo>
         ensures { result ≡ last_line self.now.lines }
     {
         Some(self.lines.last()?.line)
     }
 
-    /// The number of the last device, which is the greatest; none if there is none.
+    /// The number of the last device, the greatest number of a device; none if there is no device.
     pub fn last_device(&self) -> Option<DevNo>
         ensures { result ≡ last_device self.now.devices }
     {
         Some(self.devices.last()?.dev)
     }
 
-    /// The number of the last driver, which is the greatest; none if there is none.
+    /// The number of the last driver, the greatest number of a driver; none if there is no driver.
     pub fn last_driver(&self) -> Option<DriverNo>
         ensures { result ≡ last_driver self.now.drivers }
     {

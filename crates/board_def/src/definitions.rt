@@ -17,9 +17,9 @@ use irq_base::{CallList, ControllerKind, DeviceList, LineDef, LineNo, NoMemory, 
 use std::alloc::Global;
 
 impl Board {
-    /// Whether no domain of that kind may have that parent, the place of one of the board's
-    /// domains: a root has none, a child has one, messages are sent as edges, and a path has at
-    /// most eight levels.
+    /// Whether the rules forbid a domain of this kind with this parent, which is the place of one
+    /// of the board's domains. A root has no parent, a child has one; messages are sent as edges; a
+    /// path has at most eight levels.
     pub fn has_bad_parent(&self, kind: ControllerKind, parent: Option<usize>) -> bool
         ensures { result ≡ is_bad_parent (defs_of self.now.domains) kind parent }
     {
@@ -32,8 +32,8 @@ impl Board {
             || levels.count >= LEVELS
     }
 
-    /// Whether a line at the domain of that place may not be masked as soon as it is disabled: it
-    /// is an edge line, and no level keeps what comes then.
+    /// Whether a line at the domain may not be masked as soon as it is disabled: it is an edge
+    /// line, and no level would store an edge that comes then.
     pub fn is_bad_unlazy(&self, domain: usize, unlazy: bool) -> bool
         ensures { result ≡ is_bad_unlazy (defs_of self.now.domains) domain unlazy }
     {
@@ -41,7 +41,7 @@ impl Board {
         unlazy && trigger_of(levels.root) == Trigger::Edge && !levels.keeps()
     }
 
-    /// The definition of a line that has that path in the board's layout. The only error is
+    /// The definition of the line, which has this path in the board's layout. The only error is
     /// `NoMemory`.
     pub fn line_def(&self, alloc: Global, line: LineNo, path: &Path) -> Result<LineDef, NoMemory>
         requires path { IsPathOf self.now line path.now }

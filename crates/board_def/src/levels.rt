@@ -9,21 +9,21 @@ use crate::board::Board;
 use irq_base::domains::LEVELS;
 use irq_base::{ControllerKind, DomainDef, FlowKind, Path, Trigger};
 
-/// Whether a level of that kind stands at the processors' end.
+/// Whether a level of this kind stands at the processors' end.
 pub fn is_root(kind: ControllerKind) -> bool
     ensures { result ≡ is_root_kind kind }
 {
     !matches!(kind, ControllerKind::Msi | ControllerKind::Remap)
 }
 
-/// Whether it can mask.
+/// Whether a level of this kind can mask.
 pub fn masks(kind: ControllerKind) -> bool
     ensures { result ≡ masks_kind kind }
 {
     !matches!(kind, ControllerKind::Remap | ControllerKind::Vector)
 }
 
-/// Whether it stores the edges that come while it masks.
+/// Whether a level of this kind stores the edges that come while it masks.
 pub fn keeps(kind: ControllerKind) -> bool
     ensures { result ≡ keeps_kind kind }
 {
@@ -33,7 +33,8 @@ pub fn keeps(kind: ControllerKind) -> bool
     )
 }
 
-/// Whether it can send an edge again (`irq_retrigger` of `struct irq_chip`, `include/linux/irq.h`).
+/// Whether a level of this kind can send an edge again (`irq_retrigger` of `struct irq_chip`,
+/// `include/linux/irq.h`).
 pub fn retriggers(kind: ControllerKind) -> bool
     ensures { result ≡ retriggers_kind kind }
 {
@@ -43,14 +44,14 @@ pub fn retriggers(kind: ControllerKind) -> bool
     )
 }
 
-/// Whether it presents the level of its signal, and no edges.
+/// Whether a level of this kind presents the level of its signal, and no edges.
 pub fn presents_level(kind: ControllerKind) -> bool
     ensures { result ≡ presents_level_kind kind }
 {
     matches!(kind, ControllerKind::Level | ControllerKind::Eoi)
 }
 
-/// What raises a line with that root.
+/// What raises a line, by the kind of its root.
 pub fn trigger_of(root: ControllerKind) -> Trigger
     ensures { result ≡ trigger_of_root root }
 {
@@ -60,7 +61,7 @@ pub fn trigger_of(root: ControllerKind) -> Trigger
     }
 }
 
-/// The flow handler of a line with that root.
+/// The flow handler of a line, by the kind of its root.
 pub fn flow_of(root: ControllerKind) -> FlowKind
     ensures { result ≡ flow_of_root root }
 {
@@ -71,14 +72,14 @@ pub fn flow_of(root: ControllerKind) -> FlowKind
     }
 }
 
-/// What is known of the levels that were passed, on the way from a device to its processors.
+/// What is known of the levels passed so far, on the way from a device to the processors.
 #[derive(Clone, Copy)]
 pub struct Levels {
-    /// The last one's kind, in the end the root's.
+    /// The kind of the last level; in the end this is the root's.
     pub root: ControllerKind,
-    /// The first one that can mask.
+    /// The first level that can mask.
     pub masking: Option<ControllerKind>,
-    /// How many were passed, at most eight.
+    /// How many levels were passed, at most eight.
     pub count: usize,
 }
 
@@ -94,7 +95,7 @@ impl Levels {
         }
     }
 
-    /// Passes one more, after fewer than eight.
+    /// Passes one more level, after fewer than eight.
     pub fn pass(&mut self, kind: ControllerKind)
         requires { self.old.count < 8 }
         ensures { self.new ≡ record { root = kind; masking = if is_none self.old.masking && masks_kind kind then Some kind else self.old.masking; count = self.old.count + 1 } }
@@ -127,7 +128,7 @@ impl Levels {
     }
 }
 
-/// The kind of a domain; one that isn't there passes everything on.
+/// The kind of a domain; a domain that isn't there counts as one that passes everything on.
 pub fn kind_of(def: Option<DomainDef>) -> ControllerKind
     ensures { result ≡ kind_in def }
 {
@@ -137,21 +138,21 @@ pub fn kind_of(def: Option<DomainDef>) -> ControllerKind
     }
 }
 
-/// The place of the parent; none for a root, nor for a domain that isn't there.
+/// The place of the parent; none for a root, or for a domain that isn't there.
 pub fn parent_of(def: Option<DomainDef>) -> Option<usize>
     ensures { result ≡ parent_in def }
 {
     def?.parent
 }
 
-/// The domain at the place, without its name; none from their number on.
+/// The domain at index `place`, without its name; none from the number of domains on.
 pub fn def_at(board: &Board, place: usize) -> Option<DomainDef>
     ensures { result ≡ slice_get (defs_of board.now.domains) place }
 {
     Some(board.domain(place)?.def)
 }
 
-/// The levels from the domain at that place to its root.
+/// The levels from the domain at place `from` to its root.
 pub fn levels_from(board: &Board, from: Option<usize>) -> Levels
     ensures root { result.root ≡ root_kind (kinds_from (defs_of board.now.domains) from) }
     ensures masking { result.masking ≡ masking_kind (kinds_from (defs_of board.now.domains) from) }
@@ -170,7 +171,7 @@ pub fn levels_from(board: &Board, from: Option<usize>) -> Levels
     levels
 }
 
-/// The levels of that path.
+/// The levels of the path.
 pub fn levels_on(board: &Board, path: &Path) -> Levels
     requires few { length path.now ≤ 8 }
     ensures root { result.root ≡ root_kind (kinds_on (defs_of board.now.domains) path.now) }

@@ -1,8 +1,9 @@
 //! Boards: the processors, domains, lines and devices of a modelled machine, and its drivers'
 //! scripts.
 //!
-//! A `Board` keeps the rules that a text without a fault meets, and gives the definition of each of
-//! its lines. What a line gets at each level of its path, and which line is refused, is its layout.
+//! A `Board` keeps the rules of boards, which every text without a fault meets, and gives the
+//! definition of each of its lines. The board's layout says which number a line gets at each level
+//! of its path, and which lines are refused.
 #![tactic(auto)]
 
 pub mod board;

@@ -10,9 +10,9 @@ use irq_base::{CallList, DeviceDef, DeviceList, LineDef, NoMemory};
 use std::alloc::Global;
 
 impl Board {
-    /// The definitions of all lines, in the board's order, also of those that have no place. It
-    /// goes over the devices and the calls once, and finds the line of each in constant time. The
-    /// only error is `NoMemory`.
+    /// The definitions of all lines, in the board's order, including the lines that the layout
+    /// refuses. It goes over the devices and the calls once, and finds the line of each in constant
+    /// time. The only error is `NoMemory`.
     pub fn line_defs(&self, alloc: Global) -> Result<Vec<LineDef>, NoMemory>
         ensures defs { IfOk result (λ defs. defs.items ≡ line_defs_of self.now) }
         ensures valid { IfOk result (λ defs. All IsValid defs.items) }
@@ -91,7 +91,7 @@ fn add_calls(defs: &mut Vec<LineDef>, board: &Board) -> Result<(), NoMemory>
     Ok(())
 }
 
-// Gives the device, which stands at that place among the board's, to its line.
+// Gives the device at index `place` of the board's to its line.
 fn place_device(
     defs: &mut Vec<LineDef>,
     board: &Board,
@@ -109,7 +109,7 @@ fn place_device(
     Ok(())
 }
 
-// Gives the call, which stands at that place in the scripts, to the line that it is about.
+// Gives the call at index `place` of the scripts to the line that it is about.
 fn place_call(
     defs: &mut Vec<LineDef>,
     board: &Board,
@@ -127,14 +127,14 @@ fn place_call(
     Ok(())
 }
 
-// The device is the definition's last one from now on.
+// Adds the device at the end of the definition's devices.
 fn add_device(def: &mut LineDef, device: DeviceDef) -> Result<(), NoMemory>
     ensures { OnOk result (def.new ≡ record def.old { devices = def.old.devices ++ device ∷ [] }) }
 {
     def.devices.push(device)
 }
 
-// The call is the definition's last one from now on.
+// Adds the call at the end of the definition's calls.
 fn add_call(def: &mut LineDef, call: ScriptCall) -> Result<(), NoMemory>
     ensures { OnOk result (def.new ≡ record def.old { calls = def.old.calls ++ with_driver call ∷ [] }) }
 {

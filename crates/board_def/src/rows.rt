@@ -25,7 +25,7 @@ impl Keyed<Name> for DomainRow {
 pub struct LineRow {
     /// Its number, 1 to 65,535.
     pub line: LineNo,
-    /// The place of its domain among the board's, counted from 0.
+    /// The place of its domain among the board's domains, counted from 0.
     pub domain: usize,
     /// Its hardware number there.
     pub hw: u32,

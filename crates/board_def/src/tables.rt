@@ -1,4 +1,4 @@
-//! Tables of a board: rows in their order, each found by a key of its own.
+//! Tables of a board: rows in order, each found by its key.
 ghost use Rattle.std.specs.Prelude.{◌≡◌, None, [], ◌∷◌, ◌++◌, length, position, slice_get, OnOk, OnErr};
 ghost use Rattle.board_def.specs.Find.{last_item};
 ghost use Rattle.board_def.specs.Tables.{find_row};
@@ -9,7 +9,7 @@ use std::alloc::Global;
 use std::hash::Hash;
 use std::marker::Model;
 
-/// A row that is found by its key: its number or its name.
+/// A row that is found by its key, which is its number or its name.
 pub trait Keyed<K> {
     ghost use Rattle.std.specs.Prelude.{◌≡◌};
 
@@ -21,8 +21,8 @@ pub trait Keyed<K> {
         ensures { result ≡ key_of self.now };
 }
 
-/// Rows in their order, each with another key. Contracts see the list of the rows. A row is found
-/// by its key in constant time.
+/// Rows in order; no two have the same key. Contracts see the list of the rows. A row is found by
+/// its key in constant time.
 #[derive(Drop)]
 pub struct Table<K: Eq + Hash, T: Keyed<K>> {
     rows: IndexMap<K, T>,
@@ -70,7 +70,7 @@ impl<K: Copy + Eq + Hash + Drop, T: Keyed<K> + Copy + Drop> Table<K, T> {
         self.rows.len()
     }
 
-    /// The row at the place, counted from 0; none from the length on.
+    /// The row at index `place`, counted from 0; none from the length on.
     pub fn get(&self, place: usize) -> Option<T>
         ensures { result ≡ slice_get self.now place }
     {
@@ -78,7 +78,7 @@ impl<K: Copy + Eq + Hash + Drop, T: Keyed<K> + Copy + Drop> Table<K, T> {
         Some(*row)
     }
 
-    /// The last row; none if there is none.
+    /// The last row; none if the table is empty.
     #[tactic(auto, using(crate::proofs::Finds::last_at))]
     pub fn last(&self) -> Option<T>
         ensures { result ≡ last_item self.now }
@@ -86,14 +86,14 @@ impl<K: Copy + Eq + Hash + Drop, T: Keyed<K> + Copy + Drop> Table<K, T> {
         self.get(self.len().saturating_sub(1))
     }
 
-    /// The row of that key; none if there is none.
+    /// The row with this key; none if there is no such row.
     pub fn find(&self, key: &K) -> Option<T>
         ensures { result ≡ find_row K.eq T.key_of self.now key.now }
     {
         self.rows.get(key).copied()
     }
 
-    /// The place of the row of that key, counted from 0; none if there is none.
+    /// The place of the row with this key, counted from 0; none if there is no such row.
     pub fn place_of(&self, key: &K) -> Option<usize>
         ensures { result ≡ position (λ row. K.eq key.now (T.key_of row)) self.now }
     {

@@ -10,10 +10,10 @@ abbrev pub x_after : ℕ → ℕ → ℕ
 x_after zero x = x
 x_after (suc k) x = next_x (x_after k x)
 
--- what a draw of m gives that leaves x
+-- what a draw below m gives, if x is what it leaves
 abbrev pub drawn : ℕ → ℕ → ℕ
 drawn m x = x / 65536 % m
 
--- what the draw of that place gives, counted from 1, from x on: a number below m
+-- what draw number k gives, counted from 1, if x is the first x: a number below m
 abbrev pub draw : ℕ → ℕ → ℕ → ℕ
 draw k m x = drawn m (x_after k x)

@@ -35,11 +35,11 @@ bare_machine = record { cpus = 2; window = 100000; limit = 99900; log = 65536; d
 
 -- ---- a line
 
--- without options: any of the two processors may take it
+-- a line without options: either of the two processors may take it
 abbrev pub line_row : ℕ → ℕ → LineRow
 line_row number domain = record { line = record { 0 = number }; domain = domain; hw = number - 1; unlazy = false; later = false; mask = 3 }
 
--- the devices of a line, which are numbered on from the first
+-- the devices of a line, numbered on from the first
 abbrev pub numbered : ℕ → ℕ → List Kind → List DeviceDef
 numbered line first [] = []
 numbered line first (kind ∷ kinds) = record { dev = record { 0 = first }; line = record { 0 = line }; kind = kind } ∷ numbered line (first + 1) kinds
@@ -60,7 +60,7 @@ shared_oneshot = record { shared = true; oneshot = true; noauto = false }
 abbrev pub requests : Script → List ScriptCall
 requests s = map (λ dev. script_call s (calls.Request (record { 0 = dev }) shared_oneshot)) (range_with_len s.first s.devices)
 
--- so many asks from the one at that place on, counted from 0; the devices ask in turn
+-- `count` asks from ask number `place` on, counted from 0; the devices ask in turn
 abbrev pub asks_from : Script → ℕ → ℕ → List ScriptCall
 asks_from s place count = map (λ k. script_call s (calls.Ask (record { 0 = s.first + k % s.devices }))) (range_with_len place count)
 

@@ -1,4 +1,4 @@
--- What a board under way keeps, so that more may be added.
+-- What a board keeps while it is generated, so that more may be added.
 use Rattle.std.specs.Prelude.{◌≡◌, ℕ, ◌+◌, ◌*◌, ◌<◌, ◌≤◌, true, false, None, length, All}
 use Rattle.irq_base.specs.declared.numbers.DevNo.{DevNo}
 use Rattle.board_def.specs.Rules.{has_line, has_driver, find_device, is_on_line, first_owning, is_of_another}
@@ -6,11 +6,11 @@ use Rattle.board_def.specs.Seen.{BoardSeen}
 use Rattle.board_gen.specs.declared.scripts.Script.{Script}
 use Rattle.board_gen.specs.Generated.{four_domains}
 
--- no request and no free names a device of that number or above
+-- no request and no free names a device from this number on
 abbrev pub NamesNone : ℕ → BoardSeen → Type 0
 NamesNone from b = (d : DevNo) → from ≤ d.0 → first_owning d b.calls ≡ None
 
--- the lines below that number are there, and the devices below the other
+-- the board has the lines below `number` and the devices below `first`
 pub record IsUpTo (number first : ℕ) (b : BoardSeen) : Type 0 where
   pub cpus : b.cpus ≡ 2
   pub log : b.log ≡ 65536
@@ -33,7 +33,7 @@ pub record IsScripted (s : Script) (b : BoardSeen) : Type 0 where
   pub devices : (d : DevNo) → s.first ≤ d.0 → d.0 < s.first + s.devices
       → is_on_line (record { 0 = s.number }) (find_device b.devices d) ≡ true
   pub callers : All (λ c. c.driver.0 ≤ s.number) b.calls
-  -- what names these devices is of this driver, and nothing names later ones
+  -- this driver alone requests and frees these devices, and nobody the later ones
   pub own : (d : DevNo) → s.first ≤ d.0
       → is_of_another (record { 0 = s.number }) (first_owning d b.calls) ≡ false
   pub unnamed : NamesNone (s.first + s.devices) b

@@ -20,12 +20,12 @@ kind_of n = if n == 0 then kinds.Direct else (if n == 1 then kinds.Check else ki
 abbrev pub kinds_drawn : ℕ → ℕ → List Kind
 kinds_drawn count x = map (λ k. kind_of (draw k 3 x)) (range_with_len 1 count)
 
--- how many devices a line has, whose draws begin at x: the second draw
+-- how many devices a line has, if its draws begin at x: the second draw says it
 abbrev pub device_count : ℕ → ℕ
 device_count x = 1 + draw 2 2 x
 
--- the line of that number, whose first device has that number: its domain, the number of its
--- devices, their kinds, and the number of its asks
+-- the line with this number, by its draws from x on: its domain, the number of its devices, their
+-- kinds, and the number of its asks; `first` is the number of its first device
 abbrev pub plan_of : ℕ → ℕ → ℕ → LinePlan
 plan_of number first x =
     let devices = device_count x in

@@ -1,4 +1,4 @@
-//! The board of a number.
+//! The board that a number generates.
 ghost use Rattle.std.specs.Prelude.{◌≡◌, ◌<◌, [], ◌∷◌, ◌++◌, length, true, false, IfOk, OnOk};
 ghost use Rattle.board_def.specs.Names.{is_name, name_of};
 ghost use Rattle.board_def.specs.Rules.{has_name};

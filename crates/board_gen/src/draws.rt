@@ -2,7 +2,7 @@
 ghost use Rattle.std.specs.Prelude.{◌≡◌, ◌<◌};
 ghost use Rattle.board_gen.specs.Drawing.{drawn, next_x};
 
-/// A linear congruential generator: what is drawn follows from x, at first.
+/// A linear congruential generator: the first x determines all draws.
 #[derive(Drop)]
 pub(crate) struct Draws {
     pub(crate) x: u32,

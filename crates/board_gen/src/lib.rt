@@ -1,8 +1,8 @@
 //! Boards that a number generates, for runs at scale: 4 to 16 lines with one or two devices each,
 //! and a driver a line that requests, asks, disables, enables, asks on, and frees.
 //!
-//! The same number always gives the same board. What is drawn is said in `specs/Plans.antt`, and
-//! what is made of it in `specs/Generated.antt`.
+//! The same number always gives the same board. `specs/Plans.antt` says what is drawn, and
+//! `specs/Generated.antt` what board is made of it.
 #![tactic(auto)]
 
 mod boards;

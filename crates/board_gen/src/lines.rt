@@ -14,8 +14,8 @@ use irq_base::{DevNo, DeviceDef, DriverNo, Kind, LineNo, NoMemory};
 /// The processors of a line without options: the two of the machine.
 const BOTH: u32 = 3;
 
-/// Adds the line of that number, whose first device gets that number, and answers how many devices
-/// it has.
+/// Adds the line with this number, and answers how many devices it has. `first` is the number of
+/// its first device.
 pub(crate) fn add_line(
     board: &mut Board,
     draws: &mut Draws,
@@ -67,7 +67,7 @@ fn add_row(board: &mut Board, number: u32, domain: usize) -> Result<(), NoMemory
     })
 }
 
-// Adds so many devices of the line of that number, with kinds as they are drawn.
+// Adds the line's devices, numbered from `first` on; their kinds are drawn.
 fn add_devices(
     board: &mut Board,
     draws: &mut Draws,

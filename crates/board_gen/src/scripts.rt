@@ -8,7 +8,7 @@ ghost use Rattle.board_gen.specs.Keeping.{IsScripted, NamesNone};
 use board_def::{Board, ScriptCall};
 use irq_base::{Call, DevNo, DriverNo, Flags, LineNo, NoMemory};
 
-/// What a line's driver does, whose number is the line's.
+/// What a line's driver does. The driver has the line's number.
 #[derive(Clone, Copy)]
 pub(crate) struct Script {
     /// The number of the line and of its driver.
@@ -17,7 +17,7 @@ pub(crate) struct Script {
     pub(crate) first: u32,
     /// How many devices it has, 1 or 2.
     pub(crate) devices: u32,
-    /// How many asks they make together, in turn.
+    /// How many asks the devices make together, in turn.
     pub(crate) asks: u32,
 }
 
@@ -78,7 +78,7 @@ fn add_requests(board: &mut Board, script: &Script) -> Result<(), NoMemory>
     Ok(())
 }
 
-// Adds the asks from one place on, counted from 0, up to another.
+// Adds the asks number `from` to `to` - 1, counted from 0.
 fn add_asks(board: &mut Board, script: &Script, from: u32, to: u32) -> Result<(), NoMemory>
     requires devices { 0 < script.now.devices }
     requires places { from ≤ to }

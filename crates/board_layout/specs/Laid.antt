@@ -1,4 +1,4 @@
--- What is laid so far of a board, and the paths of the lines that have a place.
+-- What is laid of a board so far, and the paths of the lines that aren't refused.
 use Rattle.std.specs.Prelude.{◌≡◌, ℕ, Option, Some, List, [], ◌∷◌, ◌++◌, length, drop, slice_get}
 use Rattle.board_def.specs.Layout.{layout_of}
 use Rattle.board_def.specs.Seen.{BoardSeen}
@@ -10,25 +10,25 @@ use Rattle.domain_hier.proofs.Ways.{Falls, places}
 use Rattle.domain_rules.specs.declared.layouts.Placement.{Placement}
 use Rattle.domain_rules.specs.declared.layouts.Placement.TheVariants as placements
 
--- in the layout's order: the first of them has virq 1
+-- the paths, in the layout's order: the first has virq 1
 abbrev pub paths_of : List Placement → List (Option (List (ℕ × ℕ)))
 paths_of [] = []
 paths_of (placements.Mapped virq path ∷ layout) = Some path ∷ paths_of layout
 paths_of (placements.Refused why ∷ layout) = paths_of layout
 
--- a line that has a place has its path by its virq
+-- a line that isn't refused has its path at the place of its virq
 abbrev pub HavePaths : List (Option (List (ℕ × ℕ))) → List Placement → Type 0
 HavePaths paths layout = (i virq : ℕ) (path : List (ℕ × ℕ))
     → slice_get layout i ≡ Some (placements.Mapped virq path) → path_in paths virq ≡ Some path
 
--- each path has a domain once
+-- no domain stands twice in a path
 abbrev pub AllFall : List Placement → Type 0
 AllFall [] = Unit {0}
 AllFall (placements.Mapped virq path ∷ layout) = Falls (places path) × AllFall layout
 AllFall (placements.Refused why ∷ layout) = AllFall layout
 
--- after so many of the board's lines: their placements are those of the layout, and the hierarchy
--- has their paths
+-- the first `lines` of the board's lines are laid: their placements are the layout's, and the
+-- hierarchy has their paths
 pub record IsLaid (b : BoardSeen) (lines : ℕ) (h : HierarchySeen) (layout : List Placement) : Type 0 where
   pub domains : h.domains ≡ defs_of b.domains
   pub paths : h.paths ≡ paths_of layout

@@ -12,8 +12,8 @@ use irq_base::NoMemory;
 use std::alloc::Global;
 
 /// Lays the board's lines in its order, each by an allocation over its domains
-/// (`irq_domain_alloc_irqs_locked`, `kernel/irq/irqdomain.c`). Answers the hierarchy, which has
-/// exactly the paths of the lines that have a place, and where each line lies. The only error is
+/// (`irq_domain_alloc_irqs_locked`, `kernel/irq/irqdomain.c`). Answers the hierarchy, with exactly
+/// the paths of the lines that aren't refused, and where each line lies. The only error is
 /// `NoMemory`.
 pub fn lay(alloc: Global, board: &Board) -> Result<(Hierarchy, Layout), NoMemory>
     ensures layout { IfOk result (λ laid. laid.1 ≡ layout_of board.now) }
@@ -41,7 +41,7 @@ fn domains_of(alloc: Global, board: &Board) -> Result<Hierarchy, NoMemory>
     Ok(domains)
 }
 
-// Adds the domain at that place after those before it.
+// Adds the board's domain at index `place`, after the domains before it.
 fn add_domain(domains: &mut Hierarchy, board: &Board, place: usize) -> Result<(), NoMemory>
     requires within { place < length board.now.domains }
     requires before { domains.old.domains ≡ take place (defs_of board.now.domains) }
@@ -56,7 +56,7 @@ fn add_domain(domains: &mut Hierarchy, board: &Board, place: usize) -> Result<()
     Ok(())
 }
 
-// Lays the line at that place after those before it.
+// Lays the board's line at index `place`, after the lines before it.
 fn lay_line(
     domains: &mut Hierarchy,
     layout: &mut Layout,
@@ -76,7 +76,7 @@ fn lay_line(
     Ok(())
 }
 
-// Where the line lies, after those laid before.
+// Where the line lies, after the lines laid before it.
 fn place_line(
     domains: &mut Hierarchy,
     earlier: &Layout,

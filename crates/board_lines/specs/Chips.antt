@@ -18,13 +18,14 @@ use Rattle.domain_rules.specs.declared.layouts.Placement.TheVariants as placemen
 abbrev pub cell_of_line : LineDef → Cell
 cell_of_line def = fresh_cell def.trigger def.keeps def.recalls def.retriggers (serves def)
 
--- the virq has a path, and the levels of it are together the cell that the definition describes
+-- the virq has a path, and the path's levels together are the cell that the definition describes
 pub record HasChips (h : HierarchySeen) (virq : ℕ) (def : LineDef) : Type 0 where
   pub valid : IsValid def
   pub chips : IsSomeAnd (path_in h.paths virq) (λ path. cell_of (kinds_on h.domains path)
       ≡ cell_of_line def)
 
--- so has each line of the board that takes part, by its virq in the layout and its own definition
+-- each line of the board that takes part has such a path, by its virq in the layout and its
+-- definition
 abbrev pub HasAllChips : HierarchySeen → BoardSeen → Type 0
 HasAllChips h board =
     (i virq : ℕ) (path : List (ℕ × ℕ)) (row : LineRow) → slice_get board.lines i ≡ Some row

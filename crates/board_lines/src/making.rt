@@ -30,7 +30,7 @@ impl<'h> Model for MakesChainLine<'h> {
 }
 
 impl<'h> MakesChainLine<'h> {
-    /// The maker of lines whose virqs are in use in that hierarchy.
+    /// The maker of lines whose virqs are in use in this hierarchy.
     pub fn new(domains: &'h Hierarchy) -> MakesChainLine<'h>
         ensures { result ≡ domains.now }
     {

@@ -1,4 +1,4 @@
--- The line of a driver's current call: the first of its script that isn't complete.
+-- The line of a driver's current call, which is the first call of its script that isn't complete.
 --
 -- Call k of the driver on a line, counted from 0, is complete if the line's history has more than k
 -- complete calls of the driver. So only histories are looked at.
@@ -10,7 +10,7 @@ use Rattle.irq_laws.specs.Kept.{complete_by}
 use Rattle.board_def.specs.declared.rows.ScriptCall.{ScriptCall}
 use Rattle.board_play.specs.Lines.{BoardLine, find_line}
 
--- how many of the calls are the driver's on the line
+-- how many of the calls are the driver's, and on the line
 abbrev pub calls_on : LineNo → DriverNo → List ScriptCall → ℕ
 calls_on line r [] = 0
 calls_on line r (c ∷ cs) =
@@ -23,8 +23,8 @@ abbrev pub is_open : Option BoardLine → DriverNo → ℕ → Bool
 is_open None r k = false
 is_open (Some x) r k = nat_le (length (complete_by x.def r x.past)) k
 
--- the line of the driver's first call among `cs` that isn't complete; `before` stands before them
--- in the scripts, the last first
+-- the line of the driver's first call among `cs` that isn't complete; `before` are the calls before
+-- them in the scripts, the last one first
 abbrev pub current_from : List BoardLine → DriverNo → List ScriptCall → List ScriptCall
     → Option BoardLine
 current_from lines r before [] = None

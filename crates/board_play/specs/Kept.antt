@@ -15,9 +15,8 @@ use Rattle.board_play.specs.Lines.{BoardLine, defs_of}
 abbrev pub IsCallOn : LineNo → DriverNo → ScriptCall → Type 0
 IsCallOn line r c = (c.line ≡ line) × (c.driver ≡ r)
 
--- The driver's entries are those of its script up to a place, line by line: on each line the calls
--- before the place are complete and no others are, and a call that has begun and isn't complete is
--- the one at the place.
+-- The driver's script is made up to a place. On each line the calls before the place are complete,
+-- and no others are; a call that has begun and isn't complete is the one at the place.
 pub record IsUpTo (calls : List ScriptCall) (lines : List BoardLine) (r : DriverNo) (place : ℕ) : Type 0 where
   pub complete : (i : ℕ) (x : BoardLine) → slice_get lines i ≡ Some x
       → length (complete_by x.def r x.past) ≡ calls_on x.def.line r (take place calls)

@@ -1,6 +1,6 @@
--- What a board's lines are: those of its layout that aren't refused, each with its definition and
--- its history so far. What has happened on a board is a list of moves, each an entry of a line. The
--- newest comes first, of the moves and of a line's entries.
+-- The lines of a board that take part, which the layout doesn't refuse: each with its definition
+-- and its history so far. What has happened on a board is a list of moves, each an entry of a line.
+-- Moves and entries stand newest first.
 use Rattle.std.specs.Prelude.{Option, Some, None, List, [], ◌∷◌, map, if◌then◌else◌}
 use Rattle.irq_base.specs.declared.entries.Entry.{Entry}
 use Rattle.irq_base.specs.declared.lines.LineDef.{LineDef}
@@ -45,7 +45,7 @@ lines_at (def ∷ defs) g = record { def = def; past = part def.line g } ∷ lin
 abbrev pub lines_of : BoardSeen → List Move → List BoardLine
 lines_of b g = lines_at (defs_of b) g
 
--- a line after one more move, and all lines
+-- a line after one more move; below, all lines
 abbrev pub line_after : Move → BoardLine → BoardLine
 line_after m x =
     record { def = x.def; past = if same_line x.def.line m.0 then (m.1 ∷ x.past) else x.past }
@@ -53,7 +53,7 @@ line_after m x =
 abbrev pub lines_after : Move → List BoardLine → List BoardLine
 lines_after m lines = map (line_after m) lines
 
--- the line of that number
+-- the line with this number
 abbrev pub find_line : List BoardLine → LineNo → Option BoardLine
 find_line [] line = None
 find_line (x ∷ xs) line = if same_line line x.def.line then Some x else find_line xs line

@@ -27,9 +27,9 @@ abbrev pub or_line : Option BoardLine → Option BoardLine → Option BoardLine
 or_line None other = other
 or_line (Some x) other = Some x
 
--- The line on which the actor may step: a thread on its device's; a processor on the lowest on
--- which it has a flow, else on the lowest on which an entry of it is due, so that it never has two
--- flows; a driver on that of its current call.
+-- The line on which the actor may step. For a thread: the line of its device. For a processor: the
+-- lowest line on which it has a flow, else the lowest on which an entry of it is due; so it never
+-- has two flows. For a driver: the line of its current call.
 abbrev pub line_for : BoardSeen → List BoardLine → Actor → Option BoardLine
 line_for board lines (actors.Thread line d) = find_line lines line
 line_for board lines (actors.Cpu c) = or_line (flow_line lines c) (due_line lines c)

@@ -7,8 +7,8 @@ use Rattle.board_def.specs.Seen.{BoardSeen}
 use Rattle.board_play.specs.Lines.{BoardLine, Move, part, lines_of}
 use Rattle.board_play.specs.Order.{due_move, actors_of}
 
--- how a play ends: no actor can move; or the line whose turn it is has a history of the log limit's
--- length
+-- how a play ends: no actor can move; or the history of the line on which the next move is due has
+-- reached the log limit
 pub data End : Type 0 where
   Done : End
   Full : LineNo → End
@@ -32,8 +32,8 @@ abbrev pub or_choice : Option (Move × List Actor) → Option (Move × List Acto
 or_choice None other = other
 or_choice (Some choice) other = Some choice
 
--- the next move: of the first pick that can move, with the picks before it passed over; after the
--- picks of the lowest actor that can move
+-- the next move: while picks are left, the move of the first pick that can move (the picks before
+-- it are passed over); after them, the move of the lowest actor that can move
 abbrev pub choice : BoardSeen → List BoardLine → List Actor → Option (Move × List Actor)
 choice board lines [] = with_picks [] (first_move board lines (actors_of board))
 choice board lines (pick ∷ picks) =
@@ -47,7 +47,7 @@ IsChosen board picks (m ∷ g) left =
     × (choice board (lines_of board g) before ≡ Some (m, left))
     × (length (part m.0 g) < board.log)
 
--- there is no further move; or there is one, and its line has the greatest length
+-- a further move is due, and the history of its line has the greatest length
 pub record IsFullAt (board : BoardSeen) (g : List Move) (left : List Actor) (line : LineNo) : Type 0 where
   pub move : Move
   pub after : List Actor
@@ -59,6 +59,6 @@ abbrev pub IsEnd : BoardSeen → List Move → List Actor → End → Type 0
 IsEnd board g left Done = choice board (lines_of board g) left ≡ None
 IsEnd board g left (Full line) = IsFullAt board g left line
 
--- these moves are the play of the board with these picks, and so it ends
+-- these moves are the play of the board with these picks, and this is how it ends
 abbrev pub Plays : BoardSeen → List Actor → List Move → End → Type 0
 Plays board picks g end = (left : List Actor) × IsChosen board picks g left × IsEnd board g left end

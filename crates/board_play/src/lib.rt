@@ -19,20 +19,20 @@ ghost use Rattle.board_play.specs.Lines.{BoardLine, Move, find_line, lines_after
 ghost use Rattle.board_play.specs.Order.{due_move, actors_of};
 ghost use Rattle.board_play.specs.Play.{End, Done, Plays};
 
-/// A play is one function of the board and the picks: at most one list of moves and one end are its
+/// The board and the picks determine the play: at most one list of moves, with one end, is their
 /// play.
 pub fn play_is_one()
     ensures law { (board : BoardSeen) (picks : List Actor) (g h : List Move) (a b : End) → Plays board picks g a → Plays board picks h b → (g ≡ h) × (a ≡ b) }
 {}
 
-/// Each line's part of a play is legal, and what isn't a line's has no entry in it.
+/// Each line's part of a play is legal, and every move is of a line that takes part.
 pub fn parts_are_legal()
     ensures law { (board : BoardSeen) (picks : List Actor) (g : List Move) (end : End) → IsBoard board → Plays board picks g end → (i : ℕ) (x : BoardLine) → slice_get (lines_of board g) i ≡ Some x → IsLegalPast x.def x.past }
     ensures others { (board : BoardSeen) (picks : List Actor) (g : List Move) (end : End) → Plays board picks g end → (line : LineNo) → find_line (lines_of board g) line ≡ None → part line g ≡ [] }
 {}
 
-/// What a board's lines keep: every move of an actor keeps it, so it holds of every play. Each
-/// history is legal, and the drivers' calls are made in the order of their scripts, over all lines.
+/// Each history is legal, and the drivers' calls are made in the order of their scripts, over all
+/// lines: every move of an actor keeps this, so it holds of every play.
 pub fn play_keeps()
     ensures step { (board : BoardSeen) (lines : List BoardLine) (a : Actor) (m : Move) → IsBoard board → AreKept board lines → due_move board lines a ≡ Some m → AreKept board (lines_after m lines) }
     ensures law { (board : BoardSeen) (picks : List Actor) (g : List Move) (end : End) → IsBoard board → Plays board picks g end → AreKept board (lines_of board g) }

@@ -1,5 +1,5 @@
--- What is wrong with a statement after those before it, the newest one first. A fault in the
--- statement itself comes before all of these.
+-- What is wrong with a statement after the statements before it, which stand newest first. A fault
+-- in the statement itself comes before all of these.
 use Rattle.std.specs.Prelude.{ℕ, ◌+◌, Bool, true, false, not, ◌||◌, ◌==◌, nat_lt, nat_le, is_none, if◌then◌else◌, Option, Some, None, List, [], ◌∷◌, length}
 use Rattle.std.specs.List.{list_any}
 use Rattle.std.specs.Option.{option_map_or}
@@ -139,7 +139,7 @@ is_one_too_many b (statements.Call c) = nat_le 16384 (length b.calls)
 is_one_too_many b (statements.Picks picks) = nat_lt 65536 (length b.picks + count_of_picks picks)
 is_one_too_many b _ = false
 
--- the first of these that the statement has
+-- the first of these faults that the statement has
 abbrev pub fault_after : List Statement → Statement → Option FaultKind
 fault_after past s =
     if is_out_of_order past s then Some faults.OutOfOrder

@@ -9,7 +9,7 @@ use Rattle.board_words.specs.declared.statements.Statement.TheVariants as statem
 use Rattle.board_stated.specs.FaultsAfter.{fault_after}
 use Rattle.board_stated.specs.Stated.{board_of}
 
--- its numbers are in their ranges, and its name is spelled as one
+-- its numbers are in their ranges, and its name is spelled right
 abbrev pub IsWellFormed : Statement → Type 0
 IsWellFormed (statements.Cpus cpus) = (1 ≤ cpus) × (cpus ≤ 32)
 IsWellFormed (statements.Spurious window limit) = (window ≤ 1000000) × (limit < window)
@@ -20,7 +20,7 @@ IsWellFormed (statements.Device dev line kind) = IsNumber dev.0
 IsWellFormed (statements.Driver driver) = IsNumber driver.0
 IsWellFormed _ = Unit {0}
 
--- the statements, the newest first: none has a fault, in itself or after those before it
+-- no statement has a fault, in itself or after the statements before it; the newest stands first
 abbrev pub IsSound : List Statement → Type 0
 IsSound [] = Unit {0}
 IsSound (s ∷ past) = IsSound past × IsWellFormed s × (fault_after past s ≡ None)

@@ -95,11 +95,11 @@ actor_picked devices (picked.Thread dev) = actors.Thread (line_of_device devices
 actor_picked devices (picked.Cpu cpu) = actors.Cpu cpu
 actor_picked devices (picked.Driver driver) = actors.Driver driver
 
--- n picks of the one actor
+-- the picks of one word: its actor, as many times as it says
 abbrev pub actors_picked : List DeviceDef → PickWord → List Actor
 actors_picked devices p = replicate p.times (actor_picked devices p.who)
 
--- what a statement adds; a version says what a text may say, and nothing of its board
+-- what a statement adds to the board; a header adds nothing
 abbrev pub with_statement : Statement → BoardSeen → BoardSeen
 with_statement (statements.Board version) b = b
 with_statement (statements.Cpus cpus) b = record b { cpus = cpus }

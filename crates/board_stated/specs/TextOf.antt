@@ -22,14 +22,14 @@ abbrev pub or_else : Option FaultKind → Option FaultKind → Option FaultKind
 or_else (Some kind) other = Some kind
 or_else None other = other
 
--- the first fault of a statement: the first statement is the header; then come the faults in
--- itself, and then those after the statements before it
+-- the first fault of a statement: that the first statement isn't a header; then the faults in
+-- itself; then its faults after the statements before it
 abbrev pub fault_of_statement : List Statement → List (List ℕ) → Option FaultKind
 fault_of_statement past words =
     if is_empty past && not (begins_with_board words) then Some faults.NoHeader
     else or_else (fault_of_words (has_moments past) words) (fault_after past (statement_of words))
 
--- the first fault of a text line; one without words is no statement
+-- the first fault of a text line; a text line without words is no statement
 abbrev pub fault_of_line : List Statement → List ℕ → Option FaultKind
 fault_of_line past line =
     if has_bad_byte line then Some faults.BadByte
@@ -48,7 +48,7 @@ abbrev pub fault_or : ℕ → Option FaultKind → Option BoardFault → Option 
 fault_or at (Some kind) later = Some (record { at = at; kind = kind })
 fault_or at None later = later
 
--- the fault of the first text line that has one; the lines are counted on from `at`
+-- the fault of the first text line that has one; the first text line counts as number `at`
 abbrev pub first_fault : ℕ → List Statement → List (List ℕ) → Option BoardFault
 first_fault at past [] = None
 first_fault at past (line ∷ lines) =

@@ -1,7 +1,7 @@
 //! What the statements of a text state: the board so far, what is wrong with the next statement,
 //! and so the board of a text, or its first fault.
 //!
-//! The definitions are in `specs/`. A statement is judged by looking back over those before it.
+//! The definitions are in `specs/`. A statement is judged by the statements before it.
 #![tactic(auto)]
 
 ghost use Rattle.std.specs.Prelude.{◌≡◌, ℕ, List, Ok};

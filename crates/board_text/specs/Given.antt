@@ -19,30 +19,30 @@ Gives told (Ok board) = told ≡ Ok board
 Gives told (Err (texts.Fault fault)) = told ≡ Err fault
 Gives told (Err texts.NoMemory) = Unit {0}
 
--- a text line was read after those statements: it has no fault, and the reader keeps what it says;
--- or it has that one
+-- a text line was read after these statements: it has no fault, and the reader keeps what it says;
+-- or the answer is its fault
 abbrev pub ReadsLine : List Statement → List ℕ → Reader → Result Unit StatementRefused → Type 0
 ReadsLine past line reader (Ok done) =
     (fault_of_line past line ≡ None) × Keeps (with_line past line) reader
 ReadsLine past line reader (Err (lines.Fault kind)) = fault_of_line past line ≡ Some kind
 ReadsLine past line reader (Err lines.NoMemory) = Unit {0}
 
--- all text lines were read: none has a fault, and the reader keeps what they say; or it is the
--- first
+-- all text lines were read: none has a fault, and the reader keeps what they say; or the answer is
+-- their first fault
 abbrev pub ReadsLines : List (List ℕ) → Result Reader BoardRefused → Type 0
 ReadsLines all (Ok reader) = (first_fault 1 [] all ≡ None) × Keeps (with_lines [] all) reader
 ReadsLines all (Err (texts.Fault fault)) = first_fault 1 [] all ≡ Some fault
 ReadsLines all (Err texts.NoMemory) = Unit {0}
 
--- a whole text was read: no text line has a fault, and the reader keeps what they say; or it has
--- that fault
+-- a whole text was read: no text line has a fault, and the reader keeps what they say; or the
+-- answer is the text's fault
 abbrev pub ReadsText : List ℕ → Result Reader BoardRefused → Type 0
 ReadsText bytes (Ok reader) = (nat_lt longest_text (length bytes) ≡ false)
     × (fault_of_lines (text_lines bytes) ≡ None) × Keeps (statements_of bytes) reader
 ReadsText bytes (Err (texts.Fault fault)) = board_of_text bytes ≡ Err fault
 ReadsText bytes (Err texts.NoMemory) = Unit {0}
 
--- the text has ended after those statements
+-- the text has ended after these statements: its board, or the fault of its log limit
 abbrev pub Ends : List Statement → Result BoardSeen FaultKind → Type 0
 Ends past (Ok board) = board_unless None past ≡ Ok board
 Ends past (Err kind) = board_unless None past ≡ Err (whole kind)

@@ -51,7 +51,7 @@ abbrev pub log_after : ℕ → Statement → ℕ
 log_after log (statements.Log new) = new
 log_after log _ = log
 
--- the reader's fields are those of the statements so far
+-- the reader's fields are what the statements so far come to
 pub record Agrees (past : List Statement) (r : Reader) : Type 0 where
   pub board : r.board ≡ draft_of past
   pub log : r.log ≡ (board_of past).log
@@ -59,17 +59,17 @@ pub record Agrees (past : List Statement) (r : Reader) : Type 0 where
   pub stood : r.stood ≡ stood_after past
   pub owners : Owns r.owners (board_of past).calls
 
--- and none of the statements has a fault
+-- the reader's fields agree with the statements so far, and none of these has a fault
 pub record Keeps (past : List Statement) (r : Reader) : Type 0 where
   pub agrees : Agrees past r
   pub sound : IsSound past
 
--- there are such statements
+-- the reader keeps some statements
 pub record IsKept (r : Reader) : Type 0 where
   pub past : List Statement
   pub keeps : Keeps past r
 
--- and the statement after them has no fault either
+-- the reader keeps some statements, and the next statement has no fault after them
 pub record IsNext (r : Reader) (s : Statement) : Type 0 where
   pub past : List Statement
   pub agrees : Agrees past r

@@ -17,8 +17,8 @@ abbrev pub is_requested : Option Owner → Bool
 is_requested (Some owner) = owner.requested
 is_requested None = false
 
--- each device's owner is the driver of the first request or free of it, and knows whether the last
--- is a request
+-- each device's owner is the driver of the first request or free of the device; whether the last
+-- one is a request stands with it
 abbrev pub Owns : List (DevNo × Owner) → List ScriptCall → Type 0
 Owns owners calls =
     (dev : DevNo)

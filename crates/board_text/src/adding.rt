@@ -62,7 +62,7 @@ fn line_row(board: &Board, line: &LineWords) -> LineRow
     }
 }
 
-/// The mask that is written, or that of all processors.
+/// The mask that is written, or the mask of all processors.
 fn mask_or_all(board: &Board, mask: Option<u32>) -> u32
     ensures { result ≡ mask_or_all board.now.cpus mask }
 {
@@ -128,7 +128,7 @@ fn line_of_device(board: &Board, dev: DevNo) -> LineNo
     }
 }
 
-/// Adds the picks of a statement; one with `*N` counts N times.
+/// Adds the picks of a statement; a pick with `*N` counts N times.
 #[tactic(auto, using(std::proofs::lemmas::List::drop_all))]
 fn add_picks(board: &mut Board, picks: &PickList) -> Result<(), NoMemory>
     requires { IsBoard

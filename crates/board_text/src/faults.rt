@@ -29,7 +29,8 @@ const MOST_CALLS: usize = 16_384;
 /// The most picks of a board.
 const MOST_PICKS: usize = 65_536;
 
-/// Whether its number isn't above the last one of its kind, or it is a call before any driver.
+/// Whether the statement's number isn't above the last one of its kind, or it is a call before any
+/// driver.
 pub fn is_misplaced(board: &Board, statement: &Statement) -> bool
     ensures { result ≡ is_misplaced board.now statement.now }
 {
@@ -49,8 +50,8 @@ pub fn driver_writing(board: &Board) -> DriverNo
     board.last_driver().unwrap_or(DriverNo(0))
 }
 
-/// Whether it names a domain, line, device, processor or driver that isn't declared, or picks a
-/// thread that isn't there.
+/// Whether the statement names a domain, line, device, processor or driver that isn't declared, or
+/// picks a thread that isn't there.
 pub fn is_not_there(board: &Board, statement: &Statement) -> bool
     ensures { result ≡ is_not_there board.now statement.now }
 {
@@ -73,7 +74,7 @@ fn is_parent_missing(board: &Board, parent: Option<Name>) -> bool
     }
 }
 
-/// Whether a domain has that name.
+/// Whether a domain has this name.
 #[tactic(auto, using(board_def::proofs::Finds::has_name_place))]
 pub fn has_name(board: &Board, name: Name) -> bool
     ensures { result ≡ has_name board.now.domains name }
@@ -81,7 +82,7 @@ pub fn has_name(board: &Board, name: Name) -> bool
     board.find_domain(&name).is_some()
 }
 
-/// Whether a line has that number.
+/// Whether a line has this number.
 #[tactic(auto, using(board_def::proofs::Finds::has_line_found))]
 fn has_line(board: &Board, line: LineNo) -> bool
     ensures { result ≡ has_line board.now.lines line }
@@ -89,14 +90,14 @@ fn has_line(board: &Board, line: LineNo) -> bool
     board.find_line(line).is_some()
 }
 
-/// Whether no device has that number.
+/// Whether no device has this number.
 fn has_no_device(board: &Board, dev: DevNo) -> bool
     ensures { result ≡ has_no_device board.now dev }
 {
     board.find_device(dev).is_none()
 }
 
-/// Whether the call is about no device or line of the board.
+/// Whether the call names a device or a line that the board doesn't have.
 fn names_nothing(board: &Board, call: CallWords) -> bool
     ensures { result ≡ names_nothing board.now call }
 {
@@ -163,7 +164,7 @@ pub fn parent_place(board: &Board, parent: Option<Name>) -> Option<usize>
     }
 }
 
-/// Whether a line is unlazy that may not be.
+/// Whether the statement's line is unlazy and may not be.
 pub fn has_bad_unlazy(board: &Board, statement: &Statement) -> bool
     ensures { result ≡ has_bad_unlazy board.now statement.now }
 {
@@ -173,7 +174,7 @@ pub fn has_bad_unlazy(board: &Board, statement: &Statement) -> bool
     }
 }
 
-/// The place of the domain of that name, or 0.
+/// The place of the domain with this name; 0 if there is no such domain.
 #[tactic(auto, using(crate::proofs::Places::first_or))]
 pub fn domain_place(board: &Board, name: Name) -> usize
     ensures { result ≡ place_or_first (place_of_name board.now.domains name) }
@@ -201,7 +202,7 @@ fn is_mask_empty(board: &Board, mask: Option<u32>) -> bool
     }
 }
 
-/// Whether it declares one more of its kind than a board may have.
+/// Whether the statement declares one more of its kind than a board may have.
 pub fn is_one_too_many(board: &Board, statement: &Statement) -> bool
     ensures { result ≡ is_one_too_many board.now statement.now }
 {
@@ -216,7 +217,7 @@ pub fn is_one_too_many(board: &Board, statement: &Statement) -> bool
     }
 }
 
-/// Whether the picks, after that many others, are more than a board may have.
+/// Whether the picks, after `len` others, are more than a board may have.
 #[tactic(auto, using(crate::proofs::Left::left_at, crate::proofs::Left::item_there, std::proofs::lemmas::List::drop_all))]
 fn has_no_room(len: usize, picks: &PickList) -> bool
     ensures { result ≡ nat_lt 65536 (len + count_of_picks picks.now) }

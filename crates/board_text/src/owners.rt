@@ -16,9 +16,9 @@ use std::marker::Model;
 /// What the scripts so far say of a device.
 #[derive(Clone, Copy, PartialEq, Eq)]
 pub struct Owner {
-    /// The driver that made the first request or free of it.
+    /// The driver that made the first request or free of the device.
     pub driver: DriverNo,
-    /// The last request or free of it is a request.
+    /// Of the requests and frees of the device, the last is a request.
     pub requested: bool,
 }
 
@@ -56,7 +56,7 @@ impl Owners {
         self.devices.get(&dev).copied()
     }
 
-    /// Whether the driver may not make the call after the calls so far.
+    /// Whether the rule forbids the driver this call after the calls so far.
     pub fn forbid(&self, driver: DriverNo, call: Call) -> bool
         ensures { (calls : List ScriptCall) → Owns self.now calls
             → result ≡ is_bad_owner calls driver call }

@@ -1,5 +1,5 @@
-//! The reader: the board that the statements so far state, and what it keeps of them to judge the
-//! next one.
+//! The reader: the board that the statements so far state, and what the reader keeps of them to
+//! judge the next one.
 ghost use Rattle.std.specs.Prelude.{◌≡◌, List, [], ◌∷◌, ◌&&◌, not, OnOk};
 ghost use Rattle.board_stated.specs.FaultsAfter.{is_empty, is_out_of_order, is_twice, has_bad_owner, has_flag_twice, fault_after};
 ghost use Rattle.board_stated.specs.Stated.{board_of, with_statement};
@@ -25,8 +25,8 @@ use board_words::{
 use irq_base::NoMemory;
 use std::alloc::Global;
 
-/// The least log limit, which the board has until the text has ended: the rule on it counts the
-/// lines of the whole text.
+/// The least log limit. The board has it until the text has ended, since the rule on the log limit
+/// counts the lines of the whole text.
 const LEAST_LOG: u32 = 1;
 
 /// The most entries of all histories together.
@@ -87,7 +87,7 @@ impl Reader {
         }
     }
 
-    /// Whether the words are the first statement, and no header.
+    /// Whether the words are the first statement and not a header.
     #[tactic(auto, using(crate::proofs::ReadLines::header_same))]
     fn lacks_header(&self, words: Words<'_>) -> bool
         ensures { (past : List Statement) → Agrees past self.now
@@ -96,7 +96,7 @@ impl Reader {
         !self.stood.begun && !words.is_header()
     }
 
-    /// What is wrong with the statement after those so far.
+    /// What is wrong with the statement after the statements so far.
     #[tactic(auto, using(crate::proofs::Drafts::not_there_read, crate::proofs::Drafts::parent_read, crate::proofs::Drafts::unlazy_read, crate::proofs::Drafts::mask_read, crate::proofs::Drafts::room_read))]
     fn fault_of(&self, statement: &Statement) -> Option<FaultKind>
         ensures { (past : List Statement) → Agrees past self.now
@@ -129,7 +129,7 @@ impl Reader {
         None
     }
 
-    /// Whether it is of an earlier section, or isn't at its place within its section.
+    /// Whether the statement is of an earlier section, or misplaced within its section.
     fn is_out_of_order(&self, statement: &Statement) -> bool
         ensures { (past : List Statement) → Agrees past self.now
             → result ≡ is_out_of_order past statement.now }
@@ -150,7 +150,7 @@ impl Reader {
         }
     }
 
-    /// Whether it breaks the rule of ownership.
+    /// Whether the statement breaks the rule of ownership.
     fn has_bad_owner(&self, statement: &Statement) -> bool
         ensures { (past : List Statement) → Agrees past self.now
             → result ≡ has_bad_owner (board_of past) statement.now }
@@ -178,8 +178,7 @@ impl Reader {
         Ok(())
     }
 
-    /// The board of the whole text, of which no statement had a fault; or the fault of its log
-    /// limit.
+    /// The board of the whole text, or the fault of its log limit. No statement had a fault.
     pub fn end(self) -> Result<Board, FaultKind>
         requires { IsKept self }
         ensures { (past : List Statement) → Keeps past self → Ends past result }

@@ -42,7 +42,7 @@ impl Section {
         }
     }
 
-    /// Whether it stands before the other.
+    /// Whether this section stands before the other.
     pub fn is_before(self, other: Section) -> bool
         ensures { result ≡ nat_lt (place_of self) (place_of other) }
     {

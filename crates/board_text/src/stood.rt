@@ -8,7 +8,7 @@ use board_words::Statement;
 /// Which statements have stood so far.
 #[derive(Clone, Copy, PartialEq, Eq)]
 pub struct Stood {
-    /// Any one.
+    /// Any statement.
     pub begun: bool,
     /// `board`.
     pub header: bool,
@@ -37,7 +37,7 @@ impl Stood {
         }
     }
 
-    /// These, and the statement after them.
+    /// What has stood after one more statement.
     pub fn with(mut self, statement: &Statement) -> Stood
         ensures { (past : List Statement) → self ≡ stood_after past
             → result ≡ stood_after (statement.now ∷ past) }

@@ -1,4 +1,4 @@
--- What the row of a fault says of it.
+-- What the row of a fault calls it.
 use Rattle.std.specs.Prelude.{ℕ, List, codes}
 use Rattle.board_words.specs.declared.faults.FaultKind.{FaultKind}
 use Rattle.board_words.specs.declared.faults.FaultKind.TheVariants as faults

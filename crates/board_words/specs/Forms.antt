@@ -1,6 +1,5 @@
--- The forms of the statements. A form lays the words at its places, one after another, and lists
--- what is wrong: a word that doesn't fit its place, a place without a word, words that are left
--- over.
+-- The forms of the statements. A form has places, and each word takes the next place. It lists what
+-- is wrong: a word that doesn't fit its place, a place without a word, words that are left over.
 use Rattle.std.specs.Prelude.{ℕ, ◌-◌, Bool, not, ◌&&◌, is_some, if◌then◌else◌, Option, List, [], ◌∷◌, ◌++◌, codes}
 use Rattle.std.specs.List.{list_any, flat_map}
 use Rattle.std.specs.Str.{bytes_eq}
@@ -10,7 +9,7 @@ use Rattle.board_words.specs.Faults.{first_in_order}
 use Rattle.board_words.specs.declared.faults.FaultKind.{FaultKind}
 use Rattle.board_words.specs.declared.faults.FaultKind.TheVariants as faults
 
--- the word is that text
+-- the word is this text
 abbrev pub is : List ℕ → List ℕ → Bool
 is word text = bytes_eq word text
 
@@ -119,16 +118,16 @@ form_after word words =
     ∷ []) then at part_number full words
     else faults.UnknownWord ∷ []
 
--- the word is `moment`, which a text knows in its second version alone
+-- the word is `moment`, which only texts of the second version have
 abbrev pub is_unknown_moment : Bool → List ℕ → Bool
 is_unknown_moment has_moments word = not has_moments && is word (codes "moment")
 
--- what is wrong with a statement in itself, in a text whose version has moments or not
+-- what is wrong with a statement in itself; the first argument: the text's version has moments
 abbrev pub faults_of : Bool → List (List ℕ) → List FaultKind
 faults_of has_moments [] = faults.UnknownWord ∷ []
 faults_of has_moments (word ∷ words) =
     if is_unknown_moment has_moments word then faults.UnknownWord ∷ [] else form_after word words
 
--- the first of it
+-- the first fault of a statement in itself
 abbrev pub fault_of_words : Bool → List (List ℕ) → Option FaultKind
 fault_of_words has_moments words = first_in_order (faults_of has_moments words)

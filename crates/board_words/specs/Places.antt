@@ -11,7 +11,7 @@ use Rattle.board_words.specs.declared.faults.FaultKind.TheVariants as faults
 use Rattle.board_words.specs.declared.places.Places.{Places}
 use Rattle.board_words.specs.declared.words.Words.{Words}
 
--- of what was found and what is found after it, the first in the order
+-- of a fault found so far and one found after it, the first in the order
 abbrev pub both : Option FaultKind → Option FaultKind → Option FaultKind
 both None after = after
 both (Some kind) after = earlier kind after
@@ -21,12 +21,12 @@ abbrev pub fault_at : (List ℕ → List FaultKind) → List (List ℕ) → Opti
 fault_at place [] = Some faults.WrongCount
 fault_at place (word ∷ words) = first_in_order (place word)
 
--- the place is taken: its word is gone, and what is wrong there was found
+-- the next place was read: its word is gone, and what is wrong there is found
 pub record Takes (place : List ℕ → List FaultKind) (old new : Places) : Type 0 where
   pub words : words_left new.words ≡ drop 1 (words_left old.words)
   pub found : new.found ≡ both old.found (fault_at place (words_left old.words))
 
--- what was found, and what is wrong with the words that are left
+-- the first fault of what was found so far and of the words that are left
 abbrev pub in_all : Places → (List (List ℕ) → List FaultKind) → Option FaultKind
 in_all places form = both places.found (first_in_order (form (words_left places.words)))
 
@@ -44,11 +44,11 @@ reads form said words = outcome (first_in_order (form (words_left words))) (said
 abbrev pub option_texts : List (List ℕ)
 option_texts = codes "mask" ∷ codes "unlazy" ∷ codes "later" ∷ []
 
--- the words begin with the way in which a domain maps numbers
+-- how a domain maps numbers, by the first words
 abbrev pub map_kind : List (List ℕ) → MapKind
 map_kind words =
     if is (get_or words 0 []) (codes "linear") then maps.Linear (number_at 1 words) else maps.Tree
 
--- what follows it
+-- the words after the map
 abbrev pub after_map : List (List ℕ) → List (List ℕ)
 after_map words = if is (get_or words 0 []) (codes "linear") then drop 2 words else drop 1 words

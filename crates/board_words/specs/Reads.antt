@@ -8,13 +8,13 @@ use Rattle.board_words.specs.declared.statements.Statement.{Statement}
 use Rattle.board_words.specs.declared.statements.StatementRefused.{StatementRefused}
 use Rattle.board_words.specs.declared.statements.StatementRefused.TheVariants as refusals
 
--- the first of the faults, or without one that statement; out of memory is free
+-- the first of the faults, or without a fault the statement; memory may be refused
 abbrev pub Tells : List FaultKind → Statement → Result Statement StatementRefused → Type 0
 Tells kinds said (Ok statement) = (first_in_order kinds ≡ None) × (statement ≡ said)
 Tells kinds said (Err (refusals.Fault kind)) = first_in_order kinds ≡ Some kind
 Tells kinds said (Err refusals.NoMemory) = Unit {0}
 
--- the first fault of the words, or without one what they say
+-- the first fault of the words, or without a fault what they say
 abbrev pub Reads : Bool → List (List ℕ) → Result Statement StatementRefused → Type 0
 Reads has_moments words result = Tells (faults_of has_moments words) (statement_of words) result
 

@@ -1,4 +1,4 @@
--- What readers have left.
+-- What is left to be read.
 use Rattle.std.specs.Prelude.{ℕ, Bool, true, false, List, [], ◌∷◌, codes}
 use Rattle.std.specs.Str.{bytes_eq}
 use Rattle.board_words.specs.TextLines.{text_lines, words_of}

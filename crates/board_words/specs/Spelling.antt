@@ -6,7 +6,7 @@ use Rattle.board_words.specs.declared.statements.Picked.{Picked}
 use Rattle.board_words.specs.declared.statements.Picked.TheVariants as picked
 use Rattle.board_words.specs.declared.statements.PickWord.{PickWord}
 
--- the number that n and then the digits spell
+-- the number whose digits are those of n, followed by these
 abbrev pub value_after : ℕ → List ℕ → ℕ
 value_after n [] = n
 value_after n (b ∷ bs) = value_after (10 * n + (b - 48)) bs
@@ -24,7 +24,7 @@ is_decimal word =
     (list_all is_digit word && (nat_le 1 (length word) && nat_le (length word) 10))
     && not (begins_with_zero word && nat_lt 1 (length word))
 
--- the number in that range that the word spells
+-- the number from low to high that the word spells
 abbrev pub number_between : ℕ → ℕ → List ℕ → Option ℕ
 number_between low high word =
     if is_decimal word && (nat_le low (value_of word) && nat_le (value_of word) high)
@@ -33,17 +33,17 @@ number_between low high word =
 abbrev pub is_star : ℕ → Bool
 is_star b = b == 42
 
--- what stands before the first `*`
+-- the bytes before the first `*`
 abbrev pub before_star : List ℕ → List ℕ
 before_star [] = []
 before_star (b ∷ bs) = if is_star b then [] else b ∷ before_star bs
 
--- what stands after the first `*`
+-- the bytes after the first `*`
 abbrev pub after_star : List ℕ → Option (List ℕ)
 after_star [] = None
 after_star (b ∷ bs) = if is_star b then Some bs else after_star bs
 
--- how many picks it counts for: one if there is no number
+-- how many picks the word counts for: one if there is no number
 abbrev pub times_of : Option (List ℕ) → Option ℕ
 times_of None = Some 1
 times_of (Some word) = number_between 1 65535 word

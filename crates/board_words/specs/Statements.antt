@@ -21,7 +21,7 @@ use Rattle.board_words.specs.declared.statements.PickWord.{PickWord}
 use Rattle.board_words.specs.declared.statements.Statement.{Statement}
 use Rattle.board_words.specs.declared.statements.Statement.TheVariants as statements
 
--- the number at a place after the first word, counted from 0
+-- the number at place n after the first word, counted from 0
 abbrev pub number_at : ℕ → List (List ℕ) → ℕ
 number_at i words = value_of (get_or words i [])
 
@@ -68,7 +68,7 @@ abbrev pub parent_name : List (List ℕ) → Option Name
 parent_name (word ∷ name ∷ words) = Some (name_of name)
 parent_name _ = None
 
--- more stands than one `parent NAME`
+-- more than one `parent NAME` stands
 abbrev pub has_more_parents : List (List ℕ) → Bool
 has_more_parents (word ∷ name ∷ more ∷ words) = true
 has_more_parents _ = false

@@ -18,8 +18,8 @@ abbrev pub onto_first : ℕ → List (List ℕ) → List (List ℕ)
 onto_first b [] = (b ∷ []) ∷ []
 onto_first b (text ∷ texts) = (b ∷ text) ∷ texts
 
--- the text lines without their ends; what stands after the last line feed is a text line if it
--- isn't empty
+-- the text lines without their line feeds; the bytes after the last line feed are a text line,
+-- unless there are none
 abbrev pub text_lines : List ℕ → List (List ℕ)
 text_lines [] = []
 text_lines (b ∷ bs) = if is_line_feed b then [] ∷ text_lines bs else onto_first b (text_lines bs)
@@ -31,7 +31,7 @@ is_allowed b = (b == 9) || ((b == 13) || (nat_le 32 b && nat_le b 126))
 abbrev pub has_bad_byte : List ℕ → Bool
 has_bad_byte line = not (list_all is_allowed line)
 
--- what stands before `#`
+-- the bytes before `#`
 abbrev pub without_comment : List ℕ → List ℕ
 without_comment [] = []
 without_comment (b ∷ bs) = if is_hash b then [] else b ∷ without_comment bs

@@ -14,7 +14,7 @@ use crate::statements::CallWords;
 use crate::words::Words;
 use irq_base::{DevNo, Flags, LineNo};
 
-/// What a call says, by the words after its first.
+/// The call that the words say; `call` is the first word, `words` are those after it.
 pub(crate) fn read_call(call: CallWord, words: Words<'_>) -> Result<CallWords, FaultKind>
     ensures { result
         ≡ reads (forms.form_after (call_text call)) (said.call_of (call_text call)) words.entry }
@@ -32,7 +32,7 @@ pub(crate) fn read_call(call: CallWord, words: Words<'_>) -> Result<CallWords, F
     }
 }
 
-/// The device that is all that follows.
+/// The one device that follows, and nothing else.
 fn dev(words: Words<'_>) -> Result<DevNo, FaultKind>
     ensures { result ≡ reads (forms.at forms.part_number forms.full) (said.dev_at 0) words.entry }
 {
@@ -40,7 +40,7 @@ fn dev(words: Words<'_>) -> Result<DevNo, FaultKind>
     Ok(DevNo(number))
 }
 
-/// The line that is all that follows.
+/// The one line that follows, and nothing else.
 fn line(words: Words<'_>) -> Result<LineNo, FaultKind>
     ensures { result ≡ reads (forms.at forms.part_number forms.full) (said.line_at 0) words.entry }
 {

@@ -4,25 +4,26 @@ ghost use Rattle.board_words.specs.FaultTexts.{fault_text};
 
 use thiserror::Error;
 
-/// The kinds of faults. On one text line the first one of this order counts.
+/// The kinds of faults. If a text line has several, the first in this order is told.
 #[derive(Clone, Copy, Debug, PartialEq, Eq, Error)]
 #[error("{}", self.text())]
 pub enum FaultKind {
-    /// More bytes came than a text may have.
+    /// The text has more bytes than it may have.
     TooLong,
-    /// No text line that is `---` sets a log off. A board's text alone never has this fault.
+    /// No text line `---` separates a log from the board. A board's text alone never has this
+    /// fault.
     NoLog,
     /// A byte is neither printable ASCII nor a tab, a carriage return or a line feed.
     BadByte,
     /// The first statement isn't `board`, or there is none.
     NoHeader,
-    /// A word stands where none of its kind may.
+    /// A word that may not stand at its place.
     UnknownWord,
     /// A needed word is missing, or words are left over.
     WrongCount,
-    /// A number isn't spelled as one, or is out of its range.
+    /// A number is misspelled, or out of its range.
     BadNumber,
-    /// A name or a pick isn't spelled as one.
+    /// A name or a pick is misspelled.
     BadName,
     /// A statement of an earlier section, a call before any driver, or a number that doesn't rise.
     OutOfOrder,
@@ -37,8 +38,7 @@ pub enum FaultKind {
     BadUnlazy,
     /// A line's mask has no processor of the machine.
     BadMask,
-    /// A device's requests and frees aren't one driver's, or it is requested again without a free
-    /// between.
+    /// Two drivers request or free a device, or it is requested again without a free between.
     BadOwner,
     /// One more of its kind than a board may have.
     TooMany,
@@ -47,7 +47,7 @@ pub enum FaultKind {
 }
 
 impl FaultKind {
-    /// What the row of a fault says of it, in at most 13 letters and spaces.
+    /// What the row of a fault calls it, in at most 13 letters and spaces.
     pub fn text(self) -> &'static str
         ensures text { result.now ≡ fault_text self }
         ensures short { length result.now ≤ 13 }

@@ -1,8 +1,9 @@
 //! The words of a board's text: its text lines, the words of each, and the statement that they
 //! make.
 //!
-//! What is wrong with a statement in itself is found here. What a statement is to the statements
-//! before it, as a number that doesn't rise or a name that isn't declared, is not.
+//! Here is found what is wrong with a statement in itself. What is wrong with it after the
+//! statements before it, like a number that doesn't rise or a name that isn't declared, is not
+//! found here.
 #![tactic(auto)]
 
 mod calls;

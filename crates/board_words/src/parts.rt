@@ -25,7 +25,7 @@ pub(crate) fn sole_number(words: Words<'_>, low: u32, high: u32) -> Result<u32, 
     places.give(number)
 }
 
-/// What a statement on a part of the board says, by the words after its first.
+/// What a statement on a part of the board says; `words` are those after the first.
 pub(crate) fn read_part(part: PartWord, words: Words<'_>) -> Result<Statement, FaultKind>
     ensures { result
         ≡ reads (forms.form_after (part_text part)) (said.statement_after (part_text part))

@@ -15,10 +15,10 @@ use crate::{kinds, spelling};
 use board_def::Name;
 use irq_base::{ControllerKind, Kind, MapKind};
 
-/// The words of a statement that are left, and the first fault in order that was found in those
-/// before them.
+/// The words of a statement that are left, and the first fault, in the order of faults, that was
+/// found in the words before them.
 ///
-/// If something is wrong at a place, what is read there is a stand-in.
+/// If something is wrong at a place, a stand-in is read there.
 #[derive(Clone, Copy)]
 pub(crate) struct Places<'a> {
     pub(crate) words: Words<'a>,
@@ -33,7 +33,7 @@ impl<'a> Places<'a> {
         Places { words, found: None }
     }
 
-    /// The value that was read, if nothing was found.
+    /// The value that was read, or the first fault that was found.
     pub(crate) fn give<T: Drop>(self, value: T) -> Result<T, FaultKind>
         ensures { result ≡ outcome self.entry.found value }
     {
@@ -129,7 +129,7 @@ impl<'a> Places<'a> {
         }
     }
 
-    /// Takes that very word.
+    /// Takes the next word, which has to be `text`.
     fn keyword(&mut self, text: &[u8])
         ensures { Takes (forms.one_of (text.now ∷ [])) self.old self.new }
     {
@@ -143,7 +143,7 @@ impl<'a> Places<'a> {
         }
     }
 
-    /// How a domain maps numbers. Behind a word that names no way nothing is read.
+    /// How a domain maps numbers. After a word that is neither way nothing is read.
     pub(crate) fn map(&mut self) -> MapKind
         ensures found { in_all self.old forms.map_form
             ≡ in_all self.new (forms.at (forms.one_of forms.level_kinds) forms.parents_form) }
@@ -267,7 +267,7 @@ impl<'a> Places<'a> {
     }
 }
 
-/// Of the two the first in the order.
+/// The one of the two faults that comes first in the order.
 fn first(found: FaultKind, kind: FaultKind) -> FaultKind
     ensures { Some result ≡ earlier found (Some kind) }
 {

@@ -16,8 +16,8 @@ use crate::statements::{PickList, Statement, StatementRefused};
 use crate::words::{Words, is};
 use std::alloc::Global;
 
-/// What the words of a text line say, in a text whose version has moments or not. Only picks take
-/// memory.
+/// What the words of a text line say. `has_moments`: the text's version has moments. Only picks
+/// take memory.
 pub fn read_statement(
     alloc: Global,
     words: Words<'_>,
@@ -42,14 +42,14 @@ pub fn read_statement(
     }
 }
 
-/// Whether the word is `moment`, in a text that has none.
+/// Whether the word is `moment`, in a text whose version has no moments.
 fn is_unknown_moment(word: &[u8], has_moments: bool) -> bool
     ensures { result ≡ forms.is_unknown_moment has_moments word.now }
 {
     !has_moments && is(word, b"moment")
 }
 
-/// What a statement other than picks says, by its first word and those after it.
+/// What a statement other than picks says, by its first word and the words after it.
 fn read_plain(word: &[u8], words: Words<'_>) -> Result<Statement, FaultKind>
     requires { forms.is word.now (codes "picks") ≡ false }
     ensures { result

@@ -56,7 +56,7 @@ fn has_leading_zero(word: &[u8]) -> bool
     }
 }
 
-/// The number that the digits spell, if it is no more than `high`.
+/// The number that the digits spell, if it is at most `high`.
 fn value_up_to(digits: &[u8], high: u32) -> Option<u32>
     ensures { result
         ≡ (if nat_le (value_of digits.now) high then Some (value_of digits.now) else None) }
@@ -126,7 +126,7 @@ pub fn pick(word: &[u8]) -> Option<PickWord>
     Some(PickWord { who, times })
 }
 
-/// What stands before the first `*`, and what stands after it.
+/// The bytes before the first `*`, and the bytes after it.
 fn split_at_star(word: &[u8]) -> (&[u8], Option<&[u8]>)
     ensures before { result.0.now ≡ before_star word.now }
     ensures after { option_copied result.1 ≡ after_star word.now }
@@ -144,7 +144,7 @@ fn star(word: &[u8]) -> Option<usize>
     word.iter().position(|b| *b == b'*')
 }
 
-/// Whose steps they are.
+/// The actor that the pick names.
 fn picked(word: &[u8]) -> Option<Picked>
     ensures { result ≡ picked_of word.now }
 {
@@ -157,7 +157,7 @@ fn picked(word: &[u8]) -> Option<Picked>
     }
 }
 
-/// How many picks there are, by what stands after the `*`.
+/// How many picks the word counts for, by the digits after the `*`.
 fn times(digits: Option<&[u8]>) -> Option<u32>
     ensures { result ≡ times_of (option_copied digits.entry) }
 {

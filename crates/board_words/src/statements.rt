@@ -85,7 +85,7 @@ pub enum CallWords {
     },
 }
 
-/// Whose step a pick is.
+/// The actor of a pick.
 #[derive(Clone, Copy, PartialEq, Eq)]
 pub enum Picked {
     /// The thread of a device.
@@ -99,9 +99,9 @@ pub enum Picked {
 /// One word of a `picks` statement.
 #[derive(Clone, Copy, PartialEq, Eq)]
 pub struct PickWord {
-    /// Whose steps they are.
+    /// The actor.
     pub who: Picked,
-    /// How many, 1 to 65,535.
+    /// How many steps of the actor, 1 to 65,535.
     pub times: u32,
 }
 

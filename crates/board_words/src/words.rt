@@ -48,7 +48,7 @@ impl<'a> Words<'a> {
         }
     }
 
-    /// Whether the text is among them.
+    /// Whether the text is among the words.
     pub(crate) fn has(mut self, text: &[u8]) -> bool
         ensures { result ≡ stands text.now (words_left self.entry) }
     {
@@ -60,7 +60,7 @@ impl<'a> Words<'a> {
         false
     }
 
-    /// Whether the text is among them more than once.
+    /// Whether the text is among the words more than once.
     pub(crate) fn has_again(mut self, text: &[u8]) -> bool
         ensures { result ≡ stands_again text.now (words_left self.entry) }
     {
@@ -73,7 +73,7 @@ impl<'a> Words<'a> {
     }
 }
 
-/// Whether the word is that text.
+/// Whether the word is this text.
 pub(crate) fn is(word: &[u8], text: &[u8]) -> bool
     ensures value { result ≡ bytes_eq word.now text.now }
     ensures same { result ≡ true → word.now ≡ text.now }
