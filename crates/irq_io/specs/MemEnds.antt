@@ -1,4 +1,4 @@
--- What is seen of the ends in memory.
+-- What is seen of the source and the sink in memory.
 use Rattle.std.specs.Prelude.{ℕ, List}
 
 -- What is left of the content, the most bytes a read gives, the numbers of the reads that fail, and
@@ -10,7 +10,7 @@ pub record MemSourceSeen : Type 0 where
   pub reads : ℕ
   pub faults : ℕ
 
--- What was written, how many bytes more it takes, the numbers of the writes and of the flushes that
+-- What was written, how many more bytes it takes, the numbers of the writes and of the flushes that
 -- fail, and how many writes, flushes and faults there were.
 pub record MemSinkSeen : Type 0 where
   pub content : List ℕ

@@ -9,7 +9,7 @@ read_failed (answers.Got n) = false
 read_failed answers.End = false
 read_failed answers.Failed = true
 
--- the fact holds of the number of bytes, if some came
+-- if bytes came, the fact holds of their number
 abbrev pub IfGot : ReadAnswer → (ℕ → Type 0) → Type 0
 IfGot (answers.Got n) P = P n
 IfGot answers.End P = Unit {0}
@@ -19,8 +19,8 @@ IfGot answers.Failed P = Unit {0}
 abbrev pub GotWithin : ℕ → ReadAnswer → Type 0
 GotWithin room answer = IfGot answer (λ n. (1 ≤ n) × (n ≤ room))
 
--- if the source tells what is left: the bytes that came are the first of it and are taken, the end
--- comes if nothing is left, and a fault takes nothing
+-- if the source tells what is left: the bytes that came are its first, and are gone from it; the
+-- end comes if nothing is left; a fault takes nothing
 abbrev pub Reads : Option (List ℕ) → Option (List ℕ) → List ℕ → ReadAnswer → Type 0
 Reads None now buf answer = Unit {0}
 Reads (Some before) now buf (answers.Got n) =

@@ -1,5 +1,5 @@
--- What is seen of the ends over std: the reader or the buffered writer itself, and the count of
--- faults.
+-- What is seen of the source and the sink over std: the reader, or the buffered writer, and the
+-- count of faults.
 use Rattle.std.specs.Prelude.{ℕ}
 
 pub record StdSourceSeen (R : Type 0) : Type 0 where

@@ -1,5 +1,5 @@
--- Contents that an end tells or not, and lists that others begin with. Of an end that doesn't tell
--- its content nothing is said, not even that it goes on so: std's traits leave that open.
+-- Contents that a source or a sink may tell, and beginnings of lists. If it doesn't tell its
+-- content, nothing is said of it, not even that it never will: std's traits leave that open.
 use Rattle.std.specs.Prelude.{◌≡◌, ℕ, List, [], ◌++◌, Option, Some, None}
 use Rattle.std.proofs.Common.{sym}
 use Rattle.std.proofs.lemmas.List.{append-nil}
@@ -15,17 +15,17 @@ IsToldBeginning None (Some all) = ⊥
 IsToldBeginning (Some first) None = ⊥
 IsToldBeginning (Some first) (Some all) = IsBeginning first all
 
--- the bytes are what an end told, if it told
+-- the bytes are the content that was told, if one was told
 abbrev pub IsTold : Option (List ℕ) → List ℕ → Type 0
 IsTold None bytes = Unit {0}
 IsTold (Some told) bytes = told ≡ bytes
 
--- if it was told: it still is, and begins with what it was
+-- if a content was told: it still is, and begins with what it was
 abbrev pub GrowsTo : Option (List ℕ) → Option (List ℕ) → Type 0
 GrowsTo None now = Unit {0}
 GrowsTo (Some before) now = IsToldBeginning (Some before) now
 
--- if it was told: it is as it was
+-- if a content was told: it is as it was
 abbrev pub Stays : Option (List ℕ) → Option (List ℕ) → Type 0
 Stays None now = Unit {0}
 Stays (Some before) now = now ≡ Some before

@@ -1,4 +1,4 @@
--- What a reading and a writing of many pieces come to.
+-- What a reading and a writing in many pieces answer and leave.
 use Rattle.std.specs.Prelude.{◌≡◌, ℕ, Bool, true, false, Option, Some, None, List, [], ◌++◌, ◌≤◌, length, take, drop, Result, Ok, Err}
 use Rattle.irq_io.specs.Told.{IsBeginning}
 use Rattle.irq_io.specs.declared.whole.ReadRefused.{ReadRefused}
@@ -17,18 +17,18 @@ abbrev pub writing_failed : WriteEnd → Bool
 writing_failed ends.Done = false
 writing_failed ends.Failed = true
 
--- if a writing is done, and a flush after it, all that was written has been handed on
+-- if a writing with a flush after it is done, all that was written has been handed on
 abbrev pub HandsOn : Option (List ℕ) → Option (List ℕ) → WriteEnd → Type 0
 HandsOn handed_on written ends.Done = handed_on ≡ written
 HandsOn handed_on written ends.Failed = Unit {0}
 
--- and the sink keeps nothing back
+-- if a writing with a flush after it is done, the sink keeps nothing back
 abbrev pub KeepsNone : List ℕ → WriteEnd → Type 0
 KeepsNone kept ends.Done = kept ≡ []
 KeepsNone kept ends.Failed = Unit {0}
 
--- if the source tells what is left: the bytes are the first `most` of it, or all, and exactly they
--- were taken
+-- if the source tells what is left: the bytes are the first `most` of it, or all of it, and exactly
+-- these were taken
 abbrev pub TakesUpTo : ℕ → Option (List ℕ) → Option (List ℕ) → List ℕ → Type 0
 TakesUpTo most None now bytes = Unit {0}
 TakesUpTo most (Some before) now bytes =

@@ -15,7 +15,7 @@ abbrev pub flush_failed : FlushAnswer → Bool
 flush_failed flushes.Done = false
 flush_failed flushes.Failed = true
 
--- the fact holds of the number of bytes, if some were taken
+-- if bytes were taken, the fact holds of their number
 abbrev pub IfTook : WriteAnswer → (ℕ → Type 0) → Type 0
 IfTook (writes.Took n) P = P n
 IfTook writes.Failed P = Unit {0}

@@ -1,9 +1,10 @@
-//! The ends of the program: where its bytes come from and go to, with counts of faults.
+//! The sources and sinks of the program: where its bytes come from and go to, with counts of
+//! faults.
 //!
 //! A `Source` gives bytes and a `Sink` takes them. Each counts its faults: the count rises exactly
-//! with an answer `Failed`, so whoever hands an end to a call sees afterwards whether it failed in
-//! that call. The ends in memory tell their content to contracts, those over std's `Read` and
-//! `Write` tell what the reader or writer tells. A write may hand on less than it took; after a
+//! with an answer `Failed`. So whoever lends a source or a sink to a call sees afterwards whether
+//! it failed in that call. Those in memory tell their content to contracts; those over std's `Read`
+//! and `Write` tell what the reader or writer tells. A write may hand on less than it took; after a
 //! flush that is `Done` all is handed on.
 #![tactic(auto)]
 

@@ -2,7 +2,7 @@
 ghost use Rattle.std.specs.Prelude.{◌↔◌, IsTrue};
 ghost use Rattle.std.specs.List.{Contains};
 
-/// Whether the call of that number stands in the list.
+/// Whether the call with this number is in the list.
 pub fn is_listed(numbers: &[u32], call: u64) -> bool
     ensures { IsTrue result ↔ Contains numbers.now call }
 {

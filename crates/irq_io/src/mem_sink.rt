@@ -13,10 +13,10 @@ use irq_base::NoMemory;
 use std::alloc::Global;
 use std::marker::Model;
 
-/// A sink into memory, which takes bytes while it has room. Its writes of the numbers `fails` and
-/// its flushes of the numbers `flush_fails`, each counted from 1, fail. What it took it has handed
-/// on. Contracts see `content`, the `room` that is left, both lists, and how many `writes`,
-/// `flushes` and `faults` there were.
+/// A sink into memory, which takes bytes while it has room. The writes whose numbers are in `fails`
+/// fail, and the flushes whose numbers are in `flush_fails`; both are counted from 1. What it took
+/// it has handed on. Contracts see `content`, the `room` that is left, both lists, and how many
+/// `writes`, `flushes` and `faults` there were.
 #[derive(Drop)]
 pub struct MemSink {
     content: Vec<u8>,
@@ -40,9 +40,9 @@ impl Model for MemSink {
 }
 
 impl MemSink {
-    /// The empty sink with that room, whose flushes never fail. The memory for the room is taken at
-    /// once, so no write needs any. `fails` are the numbers of the writes that fail, counted from
-    /// 1. The only error is `NoMemory`.
+    /// The empty sink with room for `room` bytes; its flushes never fail. The memory for the room
+    /// is taken at once, so no write needs any. `fails` are the numbers of the writes that fail,
+    /// counted from 1. The only error is `NoMemory`.
     pub fn new(alloc: Global, fails: &[u32], room: usize) -> Result<MemSink, NoMemory>
         ensures content { IfOk result (λ s. (s.content ≡ []) × (s.room ≡ room)) }
         ensures settings { IfOk result (λ s. (s.fails ≡ fails.now) × (s.flush_fails ≡ [])) }
@@ -51,9 +51,9 @@ impl MemSink {
         MemSink::with_failing_flushes(alloc, fails, &[], room)
     }
 
-    /// The empty sink with that room, for which the memory is taken at once. `fails` are the
-    /// numbers of the writes that fail, `flush_fails` those of the flushes, each counted from 1.
-    /// The only error is `NoMemory`.
+    /// The empty sink with room for `room` bytes; the memory is taken at once. `fails` are the
+    /// numbers of the writes that fail, `flush_fails` the numbers of the flushes that fail, both
+    /// counted from 1. The only error is `NoMemory`.
     pub fn with_failing_flushes(
         alloc: Global,
         fails: &[u32],
@@ -85,7 +85,7 @@ impl MemSink {
         self.content.as_slice()
     }
 
-    /// The number of faults so far, which stands still at the greatest u64.
+    /// The number of faults so far; at the greatest u64 it rises no more.
     pub fn faults(&self) -> u64
         ensures { result ≡ self.now.faults }
     {
@@ -111,13 +111,14 @@ impl Sink for MemSink {
         ensures handed { GrowsTo (Some self.old.content) (Some self.new.content) }
         ensures cause { Counts self.old.faults self.new.faults (write_failed result) }
 
-        // It takes all, or as much as fits. A write fails if it is listed, or finds no room.
+        // It takes all bytes, or as many as fit. A write fails if its number is listed, or there is
+        // no room.
         ensures amount { IfTook result (λ n. n ≡ min self.old.room (length bytes.now)) }
         ensures fails { (result ≡ WriteAnswer.Failed)
             ↔ (Contains self.old.fails (next_count self.old.writes) ⊎ (self.old.room ≡ 0)) }
         ensures faults { self.new.faults ≡ count_after self.old.faults (write_failed result) }
 
-        // The number of writes stands still at the greatest u64, which no list has.
+        // The number of writes stays at the greatest u64 once it is there; no list has this number.
         ensures writes { self.new.writes ≡ next_count self.old.writes }
         ensures room { self.new.room ≡ self.old.room - taken_of result }
         ensures settings { (self.new.fails ≡ self.old.fails)
@@ -145,7 +146,8 @@ impl Sink for MemSink {
             ↔ Contains self.old.flush_fails (next_count self.old.flushes) }
         ensures faults { self.new.faults ≡ count_after self.old.faults (flush_failed result) }
 
-        // The number of flushes stands still at the greatest u64, which no list has.
+        // The number of flushes stays at the greatest u64 once it is there; no list has this
+        // number.
         ensures flushes { self.new.flushes ≡ next_count self.old.flushes }
         ensures settings { (self.new.fails ≡ self.old.fails) × (self.new.flush_fails ≡ self.old.flush_fails)
             × (self.new.writes ≡ self.old.writes) × (self.new.room ≡ self.old.room) }

@@ -10,8 +10,8 @@ use irq_base::NoMemory;
 use std::alloc::Global;
 use std::marker::Model;
 
-/// A source over bytes in memory, which gives at most `piece` bytes a read, and whose reads of the
-/// numbers `fails`, counted from 1, fail. Contracts see what is `left`, `piece`, `fails`, and how
+/// A source over bytes in memory. A read gives at most `piece` bytes; the reads whose numbers,
+/// counted from 1, are in `fails` fail. Contracts see what is `left`, `piece`, `fails`, and how
 /// many `reads` and `faults` there were.
 #[derive(Drop)]
 pub struct MemSource {
@@ -35,7 +35,7 @@ impl Model for MemSource {
 }
 
 impl MemSource {
-    /// The source of these bytes. A read gives at most `piece` of them, which is at least 1.
+    /// The source of these bytes. A read gives at most `piece` of them; `piece` is at least 1.
     /// `fails` are the numbers of the reads that fail, counted from 1. The only error is
     /// `NoMemory`.
     pub fn new(
@@ -61,7 +61,7 @@ impl MemSource {
         })
     }
 
-    /// The number of faults so far, which stands still at the greatest u64.
+    /// The number of faults so far; at the greatest u64 it rises no more.
     pub fn faults(&self) -> u64
         ensures { result ≡ self.now.faults }
     {
@@ -80,12 +80,12 @@ impl Source for MemSource {
         ensures content { Reads (Some self.old.left) (Some self.new.left) buf.new result }
         ensures cause { Counts self.old.faults self.new.faults (read_failed result) }
 
-        // It gives as much as the piece, the buffer and what is left allow.
+        // It gives as many bytes as `piece`, the buffer and what is left allow.
         ensures amount { IfGot result (λ n. n ≡ min self.old.piece (min (length buf.old) (length self.old.left))) }
         ensures fails { (result ≡ ReadAnswer.Failed) ↔ Contains self.old.fails (next_count self.old.reads) }
         ensures faults { self.new.faults ≡ count_after self.old.faults (read_failed result) }
 
-        // The number of reads stands still at the greatest u64, which no list has.
+        // The number of reads stays at the greatest u64 once it is there; no list has this number.
         ensures reads { self.new.reads ≡ next_count self.old.reads }
         ensures settings { (self.new.piece ≡ self.old.piece) × (self.new.fails ≡ self.old.fails) }
     {

@@ -3,7 +3,7 @@
 /// What a write answers.
 #[derive(Clone, Copy, Debug, PartialEq, Eq)]
 pub enum WriteAnswer {
-    /// So many bytes were taken, at least one, the first ones.
+    /// The first bytes were taken: this many, at least one.
     Took(usize),
     /// A fault. Nothing was taken.
     Failed,
@@ -28,17 +28,17 @@ pub trait Sink {
     /// The bytes that it took so far, if the sink tells them.
     ghost written: { Self → Option (List ℕ) };
 
-    /// Those of them that it has handed on.
+    /// The bytes that it has handed on, if the sink tells them.
     ghost handed_on: { Self → Option (List ℕ) };
 
-    /// The bytes of them that it keeps back in a buffer of its own.
+    /// The bytes that it keeps back in a buffer of its own.
     ghost kept: { Self → List ℕ };
 
     /// The number of faults so far.
     ghost faults: { Self → ℕ };
 
-    /// Takes bytes from the front of those given, which must not be empty. How much it hands on is
-    /// left open.
+    /// Takes some bytes from the front of the given ones, which must not be empty. How many of them
+    /// it hands on is left open.
     fn write(&mut self, bytes: &[u8]) -> WriteAnswer
         requires { 0 < length bytes.now }
         ensures bound { TookWithin (length bytes.now) result }
@@ -54,6 +54,6 @@ pub trait Sink {
         ensures emptied { LeavesNone (kept self.new) result }
         ensures cause { Counts (faults self.old) (faults self.new) (flush_failed result) };
 
-    /// What was handed on is a beginning of what was written, and both are told or neither.
+    /// What was handed on is a beginning of what was written; a sink tells both, or neither.
     ghost in_order: { (s : Self) → IsToldBeginning (handed_on s) (written s) };
 }

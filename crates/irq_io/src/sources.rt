@@ -3,7 +3,7 @@
 /// What a read answers.
 #[derive(Clone, Copy, Debug, PartialEq, Eq)]
 pub enum ReadAnswer {
-    /// So many bytes came, at least one. They stand at the front of the buffer.
+    /// This many bytes came, at least one. They stand at the front of the buffer.
     Got(usize),
     /// Nothing is left.
     End,

@@ -10,10 +10,10 @@ use std::io::{BufWriter, Write};
 use std::marker::Model;
 
 /// A sink over a writer of std, with std's buffer in front of it. Each `Err` is a fault, also an
-/// interrupted write, and so is a write that takes nothing. It tells the content that the writer
-/// tells, then the buffer's: all of it is handed to std, and what the buffer still has is `kept`
-/// back. A flush that is done leaves the buffer empty, and so all in the writer. Contracts see the
-/// `writer` with its buffer, and `faults`.
+/// interrupted write, and so is a write that takes nothing. Its content is what the writer tells
+/// and then the buffer's bytes: all of it was handed to std, and the bytes in the buffer are `kept`
+/// back. After a flush that is done the buffer is empty, and all is in the writer. Contracts see
+/// the `writer` with its buffer, and `faults`.
 #[derive(Drop)]
 pub struct StdSink<W: Write + Drop> {
     writer: BufWriter<W>,
@@ -39,14 +39,14 @@ impl<W: Write + Drop> StdSink<W> {
         StdSink { writer, faults: 0 }
     }
 
-    /// The number of faults so far, which stands still at the greatest u64.
+    /// The number of faults so far; at the greatest u64 it rises no more.
     pub fn faults(&self) -> u64
         ensures { result ≡ self.now.faults }
     {
         self.faults
     }
 
-    /// The writer. What is still kept back is let go, and nothing is written.
+    /// The writer. The bytes still kept back are dropped, and nothing is written.
     pub fn into_writer(self) -> W
         ensures { result ≡ writer_inner self.writer }
     {

@@ -8,8 +8,8 @@ use std::io::Read;
 use std::marker::Model;
 
 /// A source over a reader of std. Each `Err` is a fault, also an interrupted read. The source tells
-/// what the reader tells: a slice its bytes, and standard input nothing, since what an operating
-/// system gives no contract knows. Contracts see the `reader` and `faults`.
+/// what the reader tells: a slice tells its bytes; standard input tells nothing, since no contract
+/// knows what an operating system gives. Contracts see the `reader` and `faults`.
 #[derive(Drop)]
 pub struct StdSource<R> {
     reader: R,
@@ -33,7 +33,7 @@ impl<R> StdSource<R> {
         StdSource { reader, faults: 0 }
     }
 
-    /// The number of faults so far, which stands still at the greatest u64.
+    /// The number of faults so far; at the greatest u64 it rises no more.
     pub fn faults(&self) -> u64
         ensures { result ≡ self.now.faults }
     {

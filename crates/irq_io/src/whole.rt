@@ -43,9 +43,9 @@ pub enum WriteEnd {
 /// The size of the pieces in which a source is read, in bytes.
 const PIECE: usize = 64 * 1024;
 
-/// What is left of the source, at most `most` bytes (at least 1), and it takes no more. Fewer than
-/// `most` bytes come only from a source that answered `End`. If a read fails or memory is refused,
-/// the bytes that came are lost. The count of faults rises exactly with `Fault`.
+/// Reads what is left of the source, but at most `most` bytes (at least 1). Fewer than `most` bytes
+/// come only from a source that answered `End`. If a read fails or memory is refused, the bytes
+/// that came are lost. The count of faults rises exactly with `Fault`.
 pub fn read_up_to<S: Source>(
     alloc: Global,
     source: &mut S,
@@ -71,8 +71,9 @@ pub fn read_up_to<S: Source>(
     Ok(all)
 }
 
-/// Writes the bytes, the rest again until all is taken, and makes no write for no bytes. After a
-/// fault a beginning of them has been taken. The count of faults rises exactly with `Failed`.
+/// Writes the bytes: what a write didn't take is written again, until all is taken. Without bytes
+/// there is no write. After a fault a beginning of the bytes has been taken. The count of faults
+/// rises exactly with `Failed`.
 pub fn write_all<O: Sink>(sink: &mut O, bytes: &[u8]) -> WriteEnd
     ensures nothing { bytes.now ≡ [] → (result ≡ WriteEnd.Done) × (sink.new ≡ sink.old) }
     ensures content { WritesAll (O.written sink.old) (O.written sink.new) bytes.now result }

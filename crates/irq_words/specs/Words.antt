@@ -12,16 +12,16 @@ words_of (commands.Play true) = codes "play" ∷ codes "--summary" ∷ []
 words_of commands.Check = codes "check" ∷ []
 words_of (commands.Gen n) = codes "gen" ∷ decimal n ∷ []
 
--- its number takes 32 bits
+-- the command's number, if it has one, takes 32 bits
 abbrev pub IsInRange : Command → Type 0
 IsInRange (commands.Gen n) = n < 2 ^ 32
 IsInRange _ = Unit {0}
 
--- the words are those of the command
+-- the words are the command's, and its number takes 32 bits
 pub record Asks (words : List (List ℕ)) (command : Command) : Type 0 where
   pub in_range : IsInRange command
   pub words_are : words ≡ words_of command
 
--- the words are those of no command
+-- no command has these words
 abbrev pub AsksNothing : List (List ℕ) → Type 0
 AsksNothing words = (command : Command) → Asks words command → ⊥

@@ -1,7 +1,7 @@
 //! The words of the command line, and what they ask for.
 //!
-//! Each command has one list of words, which `words_of` of `specs/` defines; `read_command` says
-//! whose the words are.
+//! Each command has one list of words, which `words_of` of `specs/` defines; `read_command` finds
+//! the command of some words.
 #![tactic(auto)]
 
 ghost use Rattle.std.specs.Prelude.{◌∷◌, [], codes, MatchOption, map};
@@ -12,18 +12,18 @@ use log_read::number_of;
 /// What the program can be asked for.
 #[derive(Clone, Copy, PartialEq, Eq)]
 pub enum Command {
-    /// Read a board and run it by threads. `summary`: print a row a line in place of the entries.
+    /// Read a board and run it by threads. `summary`: print a row for each line in place of the
+    /// entries.
     Run { summary: bool },
-    /// Read a board and play it. `summary`: print a row a line in place of the entries.
+    /// Read a board and play it. `summary`: print a row for each line in place of the entries.
     Play { summary: bool },
     /// Read a board and a log of it, and judge the log.
     Check,
-    /// Make the board of the number and play it, and print the summary. Nothing is read.
+    /// Make the board that the number generates, play it, and print the summary. Nothing is read.
     Gen { n: u32 },
 }
 
-/// The command whose words these are, which follow the program's name; none if they are no
-/// command's.
+/// The command with these words, which follow the program's name; none if no command has them.
 pub fn read_command(words: &[&str]) -> Option<Command>
     ensures { MatchOption result (AsksNothing (map (λ w. w.now) words.now))
         (Asks (map (λ w. w.now) words.now)) }

@@ -47,7 +47,7 @@ impl KeptRows {
         }
     }
 
-    /// The row of an entry of that line.
+    /// The row of an entry of the line, kept or made anew.
     pub fn row_of(&mut self, line: LineNo, entry: &Entry) -> &[u8]
         requires { IsPrintable entry.now }
         ensures { result.now ≡ entry_text line entry.now }
@@ -60,7 +60,7 @@ impl KeptRows {
 }
 
 impl KeptRow {
-    /// The row of an entry of that line, made anew.
+    /// The row of an entry of the line, made anew.
     fn made(line: LineNo, entry: &Entry) -> KeptRow
         requires { IsPrintable entry.now }
         ensures kept { IsKept result }

@@ -12,13 +12,13 @@ use Rattle.line_lock.specs.Knows.{IsKnown}
 use Rattle.line_lock.specs.declared.view.Known.{Known}
 use Rattle.line_lock.specs.declared.view.View.{View}
 
--- What is seen of a lock: which one it is, and the definition of what it keeps.
+-- What is seen of a lock: which one it is, and the definition of the value that it keeps.
 pub record LockSeen : Type 0 where
   pub table : TableId
   pub def : LineDef
 
--- What is seen of a pass: of which lock it is, the definition, what it knows, and, while it has the
--- turn, the history that it holds.
+-- What is seen of a pass: its lock, the definition, what it knows, and, while it has the turn, the
+-- history of the value that it holds.
 pub record PassSeen : Type 0 where
   pub table : TableId
   pub def : LineDef

@@ -18,7 +18,7 @@ same_actor _ _ = false
 abbrev pub is_by : LineNo → Actor → Entry → Bool
 is_by line who e = same_actor who (actor_of line e)
 
--- the entries of the actor in a list whose first entry has the place `at`
+-- the entries of the actor in a list; the first entry of the list has place `at`
 abbrev pub placed_from : LineNo → Actor → ℕ → List Entry → List Placed
 placed_from line who at [] = []
 placed_from line who at (e ∷ rest) = cond (is_by line who e) (record { place = at; entry = e }
@@ -29,7 +29,7 @@ placed_from line who at (e ∷ rest) = cond (is_by line who e) (record { place =
 abbrev pub placed : LineNo → Actor → List Entry → List Placed
 placed line who history = placed_from line who 0 history
 
--- the same of an actor or none, who has no entries
+-- the entries of an actor, with their places; none without an actor
 abbrev pub placed_of : LineNo → Option Actor → List Entry → List Placed
 placed_of line None history = []
 placed_of line (Some who) history = placed line who history

@@ -19,18 +19,18 @@ pub record Fits (key : LineDef) (history : List Entry) (v : View) : Type 0 where
   pub def : v.def ≡ key
   -- what it has seen is a beginning of the history
   pub seen : BeginsWith history v.knows.seen
-  -- its own entries are exactly those of its actor in the history
+  -- its own entries are exactly the entries of its actor in the history
   pub mine : v.knows.mine ≡ placed_of key.line v.knows.actor history
   -- all of them lie within what it has seen
   pub within : v.knows.mine ≡ placed_of key.line v.knows.actor v.knows.seen
 
--- The first pass, which gives the others.
+-- The first pass, which gives the other passes.
 pub record IsFirst (line : LineNo) (v : View) : Type 0 where
   pub there : v.spent ≡ false
   pub actor : v.knows.actor ≡ None
-  -- all that is out was given
+  -- each actor that is out was given a pass
   pub given : (who : Actor) → is_among who v.knows.out ≡ true → is_among who v.knows.given ≡ true
-  -- it and the one that it met last knew what makes what it knows now
+  -- what it knows now is what it and the pass that it met last knew, taken together
   pub last : IfSome v.last (λ p. Meets line p.0 p.1 v.knows)
 
 -- the first pass, at first
@@ -38,18 +38,18 @@ abbrev pub first_view : LineDef → View
 first_view key =
     record { def = key; knows = nothing_known; turn = false; held = []; spent = false; last = None }
 
--- the first pass after it gave one to the actor, and the one that it gave
+-- the first pass after it gave a pass to the actor; below, the pass that it gave
 abbrev pub left_view : View → Actor → View
 left_view v who = record v { knows = forked v.knows who; last = None }
 
 abbrev pub right_view : View → Actor → View
 right_view v who = record v { knows = newcomer v.knows who; turn = false; held = []; last = None }
 
--- the first pass after it met another
+-- the first pass after it met another pass
 abbrev pub met_view : View → View → View
 met_view v w = record v { knows = met v.knows w.knows; last = Some (v.knows, w.knows) }
 
--- what is left of a pass that was met; its definition tells nothing
+-- a pass's view after the pass was met; its definition tells nothing
 abbrev pub spent_view : View
 spent_view = record { def = record { line = record { 0 = 0 }; flow = flows.Edge; trigger = triggers.Edge; keeps = false; recalls = false; retriggers = false; unlazy = false; later = false; mask = 0; cpus = 0; window = 0; limit = 0; log = 0; devices = []; calls = [] }; knows = nothing_known; turn = false; held = []; spent = true; last = None }
 
@@ -61,21 +61,21 @@ pub record Passes (key : LineDef) (history : List Entry) (views : List View) : T
   pub first : View
   pub at : get_elem? views 0 ≡ some first
   pub is_first : IsFirst key.line first
-  -- each other pass that is still there has an actor, which is out
+  -- each other pass that is still there has an actor, and the actor is out
   pub actors : (id : ℕ) (v : View) → get_elem? views id ≡ some v → v.spent ≡ false → id ≢ 0
       → (who : Actor) × (v.knows.actor ≡ Some who) × (is_among who first.knows.out ≡ true)
-  -- each actor that is out has such a pass
+  -- each actor that is out has a pass that is still there
   pub back : (who : Actor) → is_among who first.knows.out ≡ true
       → (id : ℕ) × (v : View) × (get_elem? views id ≡ some v) × (v.spent ≡ false)
       × (v.knows.actor ≡ Some who)
-  -- and one alone
+  -- no two passes have the same actor
   pub differ : (i j : ℕ) (v w : View) (who : Actor) → get_elem? views i ≡ some v
       → get_elem? views j ≡ some w → v.spent ≡ false → w.spent ≡ false → v.knows.actor ≡ Some who
       → w.knows.actor ≡ Some who → i ≡ j
-  -- the history has no entry of an actor that wasn't given
+  -- the history has no entry of an actor that wasn't given a pass
   pub strangers : (who : Actor) → is_among who first.knows.given ≡ false
       → placed key.line who history ≡ []
-  -- the first pass has seen each entry of an actor that was given and isn't out
+  -- the first pass has seen each entry of an actor that was given a pass and isn't out
   pub settled : (who : Actor) → is_among who first.knows.given ≡ true
       → is_among who first.knows.out ≡ false
       → placed key.line who history ≡ placed key.line who first.knows.seen
@@ -101,7 +101,7 @@ module _ {T : Type 0} (def_of : T → LineDef) (entries_of : T → List Entry) w
     pub at : get_elem? s.views holder ≡ some view
     pub there : view.spent ≡ false
     pub turn : view.turn ≡ true
-    -- the history is what it holds
+    -- the value that the pass holds has the history
     pub held : view.held ≡ history
     pub one : (id : ℕ) (v : View) → get_elem? s.views id ≡ some v → v.turn ≡ true → id ≡ holder
 

@@ -13,7 +13,7 @@ use Rattle.line_lock.specs.declared.view.View.{View}
 abbrev pub holding : View → List Entry → View
 holding v held = record v { turn = true; held = held }
 
--- the pass has looked at the history of what it holds, which is this one now
+-- the pass has looked at the history of the value that it holds; this is the history now
 abbrev pub counted : View → List Entry → View
 counted v history = record v { knows = looked v.def.line v.knows history; held = history }
 
@@ -33,32 +33,33 @@ module _ {T : Type 0} (def_of : T → LineDef) (entries_of : T → List Entry) w
     pub suits : Suits before.0 value
     pub then : after ≡ (holding before.0 (entries_of value), (0, Some value) ∷ [])
 
-  -- asked for the turn: the pass has it, or all is as before
+  -- the pass asked for the turn: it has the turn, or all is as before
   pub data Takes (before : Me (Option T) View) (found : ℕ) (after : Me (Option T) View) : Type 0 where
     got : found ≡ 0 → Took before after → Takes before found after
     busy : found ≢ 0 → after ≡ before → Takes before found after
 
-  -- counted one entry more: the pass has seen the history of the value that it carries
+  -- the pass counted one entry more, and has seen the history of the value that it carries
   pub record Raises (before after : Me (Option T) View) : Type 0 where
     pub value : T
     pub carried : before.1 ≡ (0, Some value) ∷ []
     pub then : after ≡ (counted before.0 (entries_of value), before.1)
 
-  -- counted none: the pass has seen the history that it holds
+  -- the pass counted no entry, and has seen the history of the value that it held
   abbrev pub Looks : Me (Option T) View → Me (Option T) View → Type 0
   Looks before after = after ≡ (counted before.0 before.0.held, before.1)
 
-  -- gave the turn back, with the value
+  -- the pass gave the turn back, with the value
   abbrev pub Gives : Me (Option T) View → Me (Option T) View → Type 0
   Gives before after = after ≡ (idle before.0, [])
 
-  -- looked, and learned what came of a meeting
+  -- the pass looked, and learned what came of a meeting
   pub record Learns (before after : Me (Option T) View) : Type 0 where
     pub then : after ≡ before
     pub last : IfSome before.0.last (λ p. Meets before.0.def.line p.0 p.1 before.0.knows)
     pub known : IsKnown before.0.def.line before.0.knows
 
-  -- what is carried is what was held and one entry of the actor, and few enough
+  -- the value carried has the history that was held and one more entry, by the actor; it isn't too
+  -- long
   pub record Added (who : Actor) (me : Me (Option T) View) : Type 0 where
     pub value : T
     pub entry : Entry
@@ -67,7 +68,7 @@ module _ {T : Type 0} (def_of : T → LineDef) (entries_of : T → List Entry) w
     pub by : actor_of me.0.def.line entry ≡ who
     pub few : length (entries_of value) ≤ 100000000
 
-  -- what is carried has the history that was held, and the definition
+  -- the value carried has the definition, and the history that was held
   pub record Ready (me : Me (Option T) View) : Type 0 where
     pub value : T
     pub carried : me.1 ≡ (0, Some value) ∷ []

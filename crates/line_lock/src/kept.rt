@@ -5,8 +5,8 @@ ghost use Rattle.irq_base.specs.declared.lines.LineDef.{LineDef};
 
 use irq_base::LineDef;
 
-/// A value with a definition and a history. It is moved at each hold, so it is to be small: a line
-/// lies in a box.
+/// A value with a definition and a history. It is moved at each hold, so it should be small: a line
+/// is kept in a box.
 pub trait Kept: Drop {
     ghost definition: { Self → LineDef };
 

@@ -1,9 +1,9 @@
-//! A lock that counts the entries of what it keeps.
+//! A lock that counts the entries of the value that it keeps.
 //!
-//! It keeps one value with a history. A thread takes the value out with a pass, and may leave it
-//! with one more entry, which is then the pass's own. A pass knows a beginning of that one history,
-//! and where the entries of its actor stand in it: that nobody else can add one of them is what the
-//! passes are for. A std `Mutex` tells nothing of what comes out of it but its type.
+//! It keeps one value with a history. A thread takes the value out with a pass, and may put it back
+//! with one more entry, which is then the pass's own. A pass knows a beginning of the history, and
+//! where the entries of its actor stand in it; passes exist so that nobody else can add an entry of
+//! this actor. A std `Mutex` tells nothing of the value that comes out of it but its type.
 #![tactic(auto)]
 
 pub mod kept;

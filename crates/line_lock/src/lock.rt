@@ -15,8 +15,8 @@ use std::alloc::{AllocFailed, Global};
 use std::marker::Model;
 use std::sync::Wait;
 
-/// Keeps one value, which threads take out and leave again, one at a time. Its count is the length
-/// of the value's history. Contracts see the definition of the value, which never changes.
+/// Keeps one value, which threads take out and put back, one at a time. Its count is the length of
+/// the value's history. Contracts see the definition of the value, which never changes.
 #[derive(Drop)]
 pub struct CountedLock<T: Kept> {
     table: Table<Option<T>, View, LineDef, Counted<T>, Global>,
@@ -75,8 +75,8 @@ impl<T: Kept> CountedLock<T> {
         }
     }
 
-    /// Waits for the turn, and takes the value out. Until the pass leaves it again, no other pass
-    /// has the turn.
+    /// Waits for the turn, and takes the value out. Until the pass puts it back (`leave`), no other
+    /// pass has the turn.
     pub fn hold<R: Wait>(&self, rt: &R, pass: &mut Pass<T>) -> T
         requires pass { IsPassOf self.now pass.old }
         requires idle { pass.old.turn ≡ false }
@@ -94,7 +94,7 @@ impl<T: Kept> CountedLock<T> {
         value
     }
 
-    /// Leaves the value, as it was or with one entry more, which is then the pass's own.
+    /// Puts the value back, as it was or with one entry more, which is then the pass's own.
     pub fn leave(&self, pass: &mut Pass<T>, value: T)
         requires pass { IsPassOf self.now pass.old }
         requires turn { pass.old.turn ≡ true }
@@ -132,7 +132,7 @@ impl<T: Kept> CountedLock<T> {
         }
     }
 
-    /// Takes in what the other pass knows. Its actor gets no pass any more.
+    /// Takes in what the other pass knows. The other's actor never gets a pass again.
     pub fn meet(&self, pass: &mut Pass<T>, other: Pass<T>)
         requires pass { IsPassOf self.now pass.old × IsPassOf self.now other }
         requires idle { (pass.old.turn ≡ false) × (other.turn ≡ false) }
@@ -149,7 +149,7 @@ impl<T: Kept> CountedLock<T> {
         }
     }
 
-    /// Takes the lock apart. No actor is out.
+    /// Takes the lock apart. No pass of an actor is out.
     pub fn finish(self, pass: Pass<T>) -> T
         requires pass { IsPassOf self pass }
         requires idle { pass.turn ≡ false }
@@ -168,14 +168,14 @@ impl<T: Kept> CountedLock<T> {
         value
     }
 
-    /// How many entries there are about now. Nothing is claimed of it: it is a look without the
-    /// turn, which may say that a hold isn't worth while.
+    /// About how many entries there are now. Contracts claim nothing of it: it is a look without
+    /// the turn, good for seeing whether a hold is worth while.
     pub fn count(&self) -> u64 {
         self.table.shared.peek(COUNT)
     }
 }
 
-/// The value of a list of one slot.
+/// The value in a list of one slot.
 fn only_slot<T: Kept>(mut slots: Vec<Option<T>>) -> T
     requires { (x : T) × (slots.items ≡ Some x ∷ []) }
     ensures { slots.items ≡ Some result ∷ [] }

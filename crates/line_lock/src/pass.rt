@@ -7,9 +7,9 @@ use crate::steps::Seated;
 use irq_base::Actor;
 use std::marker::Model;
 
-/// What a thread takes the value of a lock out with. Contracts see what it knows (`Known`): how the
-/// history was when it last looked, and where its own entries stand in it. It can be neither copied
-/// nor cloned; when it is dropped, its actor is lost.
+/// What a thread needs to take the value out of a lock. Contracts see what it knows (`Known`): how
+/// the history was when it last looked, and where its own entries stand in it. It can be neither
+/// copied nor cloned; when it is dropped, its actor is lost.
 ///
 /// A first pass has no actor: it gives passes to actors, and meets them again. The actors of two
 /// passes differ.
@@ -33,7 +33,7 @@ impl<T: Kept> Model for Pass<T> {
 }
 
 impl<T: Kept> Pass<T> {
-    /// Its actor; none of a first pass.
+    /// Its actor; none for a first pass.
     pub fn actor(&self) -> Option<Actor>
         ensures { result ≡ self.now.knows.actor }
     {
@@ -47,8 +47,8 @@ impl<T: Kept> Pass<T> {
         self.front
     }
 
-    /// What holds of every pass at every moment: its own entries are exactly those of its actor in
-    /// what it has seen.
+    /// What holds of every pass at every moment: its own entries are exactly the entries of its
+    /// actor in what it has seen.
     pub fn is_known(&self)
         ensures { IsKnown self.now.def.line self.now.knows }
     {

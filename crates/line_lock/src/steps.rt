@@ -88,7 +88,7 @@ impl<T: Kept> Play<Option<T>, View> for LearnsLast<T> {
     ghost then = { λ step before found after. Learns T.definition T.entries before after };
 }
 
-/// For which actor a pass is split off. Each call picks it.
+/// The actor for which a pass is split off. Each call picks it.
 pub trait Named {
     ghost use Rattle.irq_base.specs.declared.entries.Actor.{Actor};
 
@@ -160,7 +160,7 @@ pub fn put_in<T: Kept>(lock: &Words<T>, seat: &mut Seated<T>, value: T)
     let None = old else { unreachable!() };
 }
 
-/// Counts the one entry that the value in the slot has more than what was held.
+/// Counts the one entry that the value in the slot has more than the value that was held.
 pub fn count_more<T: Kept>(lock: &Words<T>, seat: &mut Seated<T>)
     requires table { (seat.old.table_id ≡ lock.now.table_id) × (lock.now.table_id.words ≡ 2) }
     requires turn { (seat.old.me.0.turn ≡ true) × (seat.old.me.0.spent ≡ false) }
@@ -266,8 +266,8 @@ pub fn wait_turn<T: Kept, R: Wait>(rt: &R, lock: &Words<T>, seat: &mut Seated<T>
     unreachable!()
 }
 
-/// Puts the value back, which has one entry more than what was held or none, and gives the turn
-/// back. `more`: whether it has one.
+/// Puts the value back, and gives the turn back. `more`: the value has one entry more than the
+/// value that was held; else it has none more.
 pub fn put_back<T: Kept>(lock: &Words<T>, seat: &mut Seated<T>, value: T, more: bool)
     requires table { (seat.old.table_id ≡ lock.now.table_id) × (lock.now.table_id.words ≡ 2) }
     requires carried { seat.old.me.1 ≡ (0, None) ∷ [] }

@@ -1,4 +1,5 @@
-//! What passes know. No value of these is made: they stand in contracts and in the lock's rule.
+//! What passes know. No values of these types are made: they stand in contracts and in the lock's
+//! rule.
 use irq_base::{Actor, Entry, LineDef};
 use std::collections::LinkedList;
 
@@ -10,16 +11,16 @@ pub struct Placed {
 
 /// What a pass knows.
 pub struct Known {
-    /// The history, as it was when this pass, or one that it was told of, last looked: a beginning
-    /// of what it is now.
+    /// The history, as it was when this pass, or a pass that it met, last looked: a beginning of
+    /// the history now.
     pub seen: LinkedList<Entry>,
     /// The entries of its actor.
     pub mine: LinkedList<Placed>,
     /// None for a first pass.
     pub actor: Option<Actor>,
-    /// Of a first pass: the actors that its forks got.
+    /// For a first pass: the actors to which it gave passes.
     pub given: LinkedList<Actor>,
-    /// Those of them whose pass it hasn't met yet.
+    /// For a first pass: the actors whose pass it hasn't met yet.
     pub out: LinkedList<Actor>,
 }
 
@@ -28,10 +29,11 @@ pub struct View {
     pub def: LineDef,
     pub knows: Known,
     pub turn: bool,
-    /// While it has the turn: the history of what it holds.
+    /// While it has the turn: the history of the value that it holds.
     pub held: LinkedList<Entry>,
     /// It was met, and is gone.
     pub spent: bool,
-    /// What this pass and the one that it met last knew before, until it learns what came of it.
+    /// What this pass and the pass that it met last knew before they met, until it learns what came
+    /// of the meeting.
     pub last: Option<(Known, Known)>,
 }

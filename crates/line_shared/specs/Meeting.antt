@@ -1,4 +1,4 @@
--- What a first pass keeps of those that it met.
+-- What a first pass knows of the actors that it met.
 use Rattle.std.specs.Prelude.{◌≡◌, true, false, Some, List, slice_get}
 use Rattle.irq_base.specs.Who.{actor_of}
 use Rattle.irq_base.specs.declared.numbers.LineNo.{LineNo}
@@ -9,15 +9,15 @@ use Rattle.line_lock.specs.Placed.{placed}
 use Rattle.line_lock.specs.declared.view.Known.{Known}
 use Rattle.line_lock.specs.declared.view.Placed.{Placed}
 
--- The pass `k` has met a pass of the actor `who`, which knew `other`: what `k` has seen of that
--- actor is what the other knew as its own.
+-- The pass that knows `k` has met a pass of the actor `who` that knew `other`: the entries of `who`
+-- that `k` has seen are those that `other` knew as its own.
 pub record HasMet (line : LineNo) (k : Known) (who : Actor) (other : Known) : Type 0 where
   pub actor : other.actor ≡ Some who
   pub given : is_among who k.given ≡ true
   pub back : is_among who k.out ≡ false
   pub own : placed line who k.seen ≡ other.mine
 
--- Such an entry stands in the history at its place, and the actor made it.
+-- The entry stands in the history at its place, and the actor made it.
 pub record StandsIn (line : LineNo) (who : Actor) (history : List Entry) (p : Placed) : Type 0 where
   pub there : slice_get history p.place ≡ Some p.entry
   pub by : actor_of line p.entry ≡ who

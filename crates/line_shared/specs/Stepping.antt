@@ -13,9 +13,9 @@ use Rattle.line_lock.specs.Knows.{BeginsWith, looked}
 use Rattle.line_lock.specs.Placed.{placed_of}
 use Rattle.line_lock.specs.declared.view.Known.{Known}
 
--- If an entry was added, it stands at the end of what is seen, and is the pass's own, at the place
--- that it has there. After every other answer what is seen is the history as it was, and the pass
--- has no entry more.
+-- If an entry was added, it stands at the end of what is seen, and is one of the pass's own
+-- entries. After any other answer the pass has seen the history as it was, and has no more entries
+-- of its own.
 abbrev pub Gains : Known → List Entry → Result Stepped StepRefused → Known → Type 0
 Gains old history (Ok (stepped.Added e)) new = (new.seen ≡ history ++ e ∷ [])
     × (new.mine ≡ old.mine ++ record { place = length history; entry = e } ∷ [])
@@ -31,8 +31,8 @@ pub record Steps (whole : LineDef) (who : Actor) (old : Known) (said : Option Sa
   pub after : LineSeen
   pub def : line.def ≡ whole
   pub sound : IsSound line
-  -- what the pass had seen is a beginning of its history, and its own entries are exactly those of
-  -- its actor in it
+  -- what the pass had seen is a beginning of the line's history, and its own entries are exactly
+  -- the entries of its actor there
   pub begins : BeginsWith line.entries old.seen
   pub mine : old.mine ≡ placed_of whole.line (Some who) line.entries
   -- the answer is the line's own

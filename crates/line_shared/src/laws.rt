@@ -1,4 +1,4 @@
-//! What those who hold passes may conclude. Each law is the clause of a function that does nothing.
+//! What the holder of a pass may conclude. Each law is the clause of a function that does nothing.
 ghost use Rattle.std.specs.Prelude.{◌≡◌, false, true, Some, List, ◌∷◌, ◌++◌, All, Contains, reverse};
 ghost use Rattle.std.specs.List.{list_any};
 ghost use Rattle.irq_base.specs.declared.entries.Actor.{Actor};
@@ -23,15 +23,16 @@ pub fn own_entries_stand()
         → All (StandsIn line who history) (placed line who history) }
 {}
 
-/// Whom a first pass meets, it has met: what it has seen of that actor is what the other knew as
-/// its own.
+/// When a first pass meets a pass, it has met that pass's actor (`HasMet`): what it has seen of the
+/// actor is what the other pass knew as its own.
 #[tactic(auto, using(crate::proofs::MetLaws::after_meeting))]
 pub fn met_is_known()
     ensures law { (line : LineNo) (k other new : Known) (who : Actor) → Meets line k other new
         → IsKnown line k → other.actor ≡ Some who → HasMet line new who other }
 {}
 
-/// Whom it met before stays met when it meets another, and the two actors differ.
+/// An actor that a first pass has met stays met when it meets another pass, and the two actors
+/// differ.
 #[tactic(auto, using(crate::proofs::MetLaws::others_met))]
 pub fn met_stays_met()
     ensures stays { (line : LineNo) (k other new : Known) (who a : Actor) (first : Known)
@@ -41,21 +42,21 @@ pub fn met_stays_met()
         → Meets line k other new → other.actor ≡ Some who → HasMet line k a first → a ≡ who → ⊥ }
 {}
 
-/// And when it gives a pass to an actor that had none.
+/// An actor that a first pass has met stays met when it gives a pass to an actor that had none.
 pub fn met_stays_met_at_a_fork()
     ensures law { (line : LineNo) (k other : Known) (who a : Actor) → is_among who k.given ≡ false
         → HasMet line k a other → HasMet line (forked k who) a other }
 {}
 
-/// Whoever met passes of two actors knows that their entries have no place in common.
+/// Once a first pass has met the passes of two actors, their entries have no place in common.
 pub fn places_are_apart()
     ensures law { (line : LineNo) (k first second : Known) (a b : Actor) (x y : Placed)
         → HasMet line k a first → HasMet line k b second → (a ≡ b → ⊥) → Contains first.mine x
         → Contains second.mine y → x.place ≡ y.place → ⊥ }
 {}
 
-/// Whoever has seen a free of a device never sees a later run of it without a request that linked
-/// it between.
+/// A pass that has seen a free of a device sees no later run of the device, unless a request linked
+/// it between the two.
 #[tactic(auto, using(crate::proofs::FreeLaws::free_seen))]
 pub fn free_is_final()
     ensures law { (def : LineDef) (seen more rest : List Entry) (e : Entry) (d : DevNo)

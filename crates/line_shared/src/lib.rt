@@ -1,5 +1,5 @@
-//! An interrupt line that threads share. Each thread steps it through a pass, which knows what it
-//! has seen of the line's one history, and which entries there are its own.
+//! An interrupt line that threads share. Each thread steps it with a pass. The pass knows what it
+//! has seen of the line's history, and which entries in it are its own.
 #![tactic(auto)]
 
 pub mod held;

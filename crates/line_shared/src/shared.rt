@@ -40,8 +40,8 @@ impl<L: IrqLine> Model for SharedLine<L> {
 }
 
 impl<L: IrqLine> SharedLine<L> {
-    /// Shares a line to which nothing has happened, and gives its first pass. If memory is refused,
-    /// the line comes back.
+    /// Shares a line to which nothing has happened, and answers its first pass. If memory is
+    /// refused, the line comes back.
     pub fn new(alloc: Global, line: L) -> Result<(SharedLine<L>, Pass<L>), ShareRefused<L>>
         requires empty { (L.seen line).entries ≡ [] }
         ensures def { IfOk result (λ r. r.0.def ≡ (L.seen line).def) }
@@ -81,7 +81,8 @@ impl<L: IrqLine> SharedLine<L> {
     ///
     /// # Errors
     ///
-    /// Those of the line's step. The line hasn't changed then, and the pass has seen its history.
+    /// The errors of the line's step. The line hasn't changed then, and the pass has seen its
+    /// history.
     pub fn step<R: Wait>(
         &self,
         rt: &R,
@@ -106,7 +107,7 @@ impl<L: IrqLine> SharedLine<L> {
         answer
     }
 
-    /// Takes in what the other pass has seen. Its actor gets no pass any more.
+    /// Takes in what the other pass has seen. The other's actor never gets a pass again.
     pub fn meet(&self, pass: &mut Pass<L>, other: Pass<L>)
         requires pass { IsPassOf self.now pass.old × IsPassOf self.now other }
         requires idle { (pass.old.turn ≡ false) × (other.turn ≡ false) }
@@ -119,7 +120,8 @@ impl<L: IrqLine> SharedLine<L> {
         self.lock.meet(pass, other);
     }
 
-    /// The line, out of its lock. No actor is out, and its history is what the first pass has seen.
+    /// The line, out of its lock. No pass of an actor is out, and the line's history is what the
+    /// first pass has seen.
     pub fn finish(self, pass: Pass<L>) -> L
         requires pass { IsPassOf self pass }
         requires idle { pass.turn ≡ false }
@@ -132,8 +134,8 @@ impl<L: IrqLine> SharedLine<L> {
         Box::into_inner(lock.finish(pass).line)
     }
 
-    /// How many entries there are about now, without a wait. Nothing is claimed of it: it may say
-    /// that a step isn't worth while.
+    /// About how many entries there are now, without a wait. Contracts claim nothing of it: it is
+    /// good for seeing whether a step is worth while.
     pub fn count(&self) -> u64 {
         self.lock.count()
     }

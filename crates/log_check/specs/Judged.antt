@@ -1,11 +1,12 @@
--- What is said of a line's history.
+-- The verdict on a line's history.
 use Rattle.std.specs.Prelude.{◌≡◌, ℕ, ◌-◌, ◌≤◌, Bool, true, false, Option, Some, None, List, [], ◌∷◌, ◌++◌, take, slice_get, reverse}
 use Rattle.irq_base.specs.declared.entries.Entry.{Entry}
 use Rattle.irq_base.specs.declared.lines.LineDef.{LineDef}
 use Rattle.irq_line.specs.Seen.{LineSeen}
 use Rattle.irq_model.specs.Legal.{IsDue, IsLegal}
 
--- the entry with this number, counted from 1, isn't due after those before it; each of those is
+-- the entry with this number, counted from 1, isn't due after the entries before it; each of these
+-- was due
 pub record IsFirstUndue (def : LineDef) (entries : List Entry) (number : ℕ) : Type 0 where
   pub counted : 1 ≤ number
   pub before : IsLegal def (take (number - 1) entries)

@@ -1,4 +1,4 @@
--- What is said of the histories of a board's lines.
+-- The verdict on the histories of a board's lines.
 use Rattle.std.specs.Prelude.{◌≡◌, ℕ, ◌≤◌, ◌<◌, Option, Some, None, List, [], length, slice_get}
 use Rattle.board_def.specs.Layout.{layout_of}
 use Rattle.board_def.specs.LineOf.{line_of_row}
@@ -12,26 +12,26 @@ use Rattle.log_check.specs.Judged.{Judged}
 use Rattle.log_check.specs.declared.checking.Verdict.{Verdict}
 use Rattle.log_check.specs.declared.checking.Verdict.TheVariants as verdicts
 
--- a line that takes no part has no entry: its first is the first that isn't due
+-- a line that takes no part may have no entry: if it has any, its first is the first that isn't due
 abbrev pub JudgedEmpty : List Entry → Option ℕ → Type 0
 JudgedEmpty entries None = entries ≡ []
 JudgedEmpty entries (Some number) = (1 ≤ length entries) × (number ≡ 1)
 
--- a line of the board by where it lies: one that is mapped, or one that the layout refuses
+-- the verdict on a line of the board, by whether it is mapped or refused
 abbrev pub JudgedLine : BoardSeen → LineRow → Placement → List Entry → Option ℕ → Type 0
 JudgedLine b row (placements.Mapped virq path) entries first =
     Judged (line_of_row b row) entries first
 JudgedLine b row (placements.Refused why) entries first = JudgedEmpty entries first
 
--- the line at that place of the board, and the history at that place of the logs
+-- the verdict on the board's line at index i, whose history stands at index i of the logs
 abbrev pub JudgedAt : BoardSeen → List HistorySeen → ℕ → Option ℕ → Type 0
 JudgedAt b logs i first =
     (row : LineRow) (placement : Placement) (history : HistorySeen)
     → slice_get b.lines i ≡ Some row → slice_get (layout_of b) i ≡ Some placement
     → slice_get logs i ≡ Some history → JudgedLine b row placement history.entries first
 
--- lawful: each line's history is legal; unlawful: the first line, in the board's order, whose
--- history isn't, and in that the first entry that isn't due
+-- lawful: each line's history is legal. Unlawful: the first line, in the board's order, whose
+-- history isn't legal, and the first entry of this history that isn't due
 abbrev pub IsVerdict : BoardSeen → List HistorySeen → Verdict → Type 0
 IsVerdict b logs verdicts.Lawful = (i : ℕ) → i < length b.lines → JudgedAt b logs i None
 IsVerdict b logs (verdicts.Unlawful line number) =

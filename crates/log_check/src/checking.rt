@@ -20,19 +20,19 @@ use std::alloc::Global;
 /// judged: how long a history may grow is no rule of what is due.
 const MOST_ENTRIES: u32 = 100_000_000;
 
-/// What is said of a board's logs.
+/// The verdict on a board's logs.
 #[derive(Clone, Copy, PartialEq, Eq)]
 pub enum Verdict {
-    /// Each entry is the one that was due of its actor after those before it on its line, and no
-    /// line that takes no part has any.
+    /// Each entry was due of its actor after the entries before it on its line, and a line that
+    /// takes no part has no entries.
     Lawful,
-    /// This entry of this line, counted from 1, is the first that isn't due, and no line before has
-    /// one.
+    /// The first entry of this line, counted from 1, that isn't due; no line before it has such an
+    /// entry.
     Unlawful { line: LineNo, entry: u32 },
 }
 
-/// Judges logs: one history for each line of the board, in its order. It is lines of the maker that
-/// judge: `L` is any type of lines, and `maker` makes one for each line that takes part.
+/// Judges logs: one history for each line of the board, in its order. Lines do the judging: `L` is
+/// any type of lines, and `maker` makes one for each line that takes part.
 ///
 /// # Errors
 ///
@@ -63,7 +63,7 @@ pub fn check<L: IrqLine, M: MakesLine<L>>(
     Ok(Verdict::Lawful)
 }
 
-/// Judges the history of the line at that place.
+/// Judges the history of the board's line at index `place`.
 fn judge_at<L: IrqLine, M: MakesLine<L>>(
     alloc: Global,
     board: &Board,

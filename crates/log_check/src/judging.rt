@@ -10,9 +10,9 @@ use callbacks::{ByKind, Callbacks, Said};
 use irq_base::{Actor, Entry, History, NoMemory};
 use irq_line::{IrqLine, StepRefused, Stepped};
 
-/// The number, counted from 1, of the first entry that isn't the one that is due of its actor after
-/// those before it; nothing if there is none. The line is one to which nothing has happened, and
-/// has room for so many entries.
+/// The number, counted from 1, of the first entry that isn't due of its actor after the entries
+/// before it; none if all are due. Nothing has happened to the line, and its log limit is at least
+/// the number of entries.
 pub fn judge<L: IrqLine>(line: &mut L, history: &History) -> Result<Option<u32>, NoMemory>
     requires new { (L.seen line.old).entries ≡ [] }
     requires fits { length history.now.entries ≤ (L.seen line.old).def.log }
@@ -67,7 +67,7 @@ fn step<L: IrqLine>(line: &mut L, actor: Actor) -> Result<Option<Entry>, NoMemor
     }
 }
 
-/// Adds the entry that ends the run of which this is the answer.
+/// Adds the entry that ends the run; `said` is the run's answer.
 #[inline(always)]
 fn end_run<L: IrqLine>(line: &mut L, actor: Actor, said: Said) -> Result<Option<Entry>, NoMemory>
     requires below { length (L.seen line.old).entries < (L.seen line.old).def.log }

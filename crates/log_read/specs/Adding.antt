@@ -5,16 +5,16 @@ use Rattle.irq_base.specs.declared.entries.Entry.{Entry}
 use Rattle.irq_base.specs.declared.numbers.LineNo.{LineNo}
 use Rattle.log_read.specs.LogOf.{LineEntry, IsRow, IsRowOn, is_passed_over}
 
--- the line stands at that place of the board
+-- the line stands at this place of the board
 abbrev pub IsPlaceOf : List LineRow → LineNo → ℕ → Type 0
 IsPlaceOf lines line place =
     (row : LineRow) × (slice_get lines place ≡ Some row) × (row.line ≡ line)
 
--- the history at that place has one entry more
+-- the history at place k has one entry more
 abbrev pub Adds : ℕ → Entry → List (List Entry) → List (List Entry) → Type 0
 Adds place e old new = new ≡ slice_set old place (get_or old place [] ++ e ∷ [])
 
--- the row is that of an entry, which was added at its line's place
+-- the row is the row of an entry, which was added at its line's place
 abbrev pub AddsSaid : List LineRow → List ℕ → List (List Entry) → List (List Entry) → Type 0
 AddsSaid lines row old new = (said : LineEntry) × (place : ℕ) × IsRowOn lines row said
     × (is_passed_over row ≡ false) × IsPlaceOf lines said.0 place × Adds place said.1 old new

@@ -50,7 +50,7 @@ dev_no n = record { 0 = n }
 abbrev pub no_words : Unit {0} → List (List ℕ)
 no_words u = []
 
--- answers, by their first word
+-- what follows the first word of an answer
 
 abbrev pub TakesOpening : Opening → Words → Words → Opened → Type 0
 TakesOpening openings.No old new o = TakesAs Any no_words (λ u. opens.No) old new o
@@ -135,10 +135,10 @@ TakesDriver driver driver_verbs.Affinity old new e =
 TakesDriver driver driver_verbs.Moment old new e =
     TakesAs IsSmall number_words (λ n. entries.Moment driver n) old new e
 
--- that one made the entry
+-- this actor made the entry
 abbrev pub IsBy : Who → Entry → Type 0
 IsBy who e = IsWritable e × (who_of e ≡ who)
 
--- the words behind the one of who made it
+-- the words behind the word that says who made the entry
 abbrev pub behind : Entry → List (List ℕ)
 behind e = drop 1 (entry_words e)

@@ -1,4 +1,4 @@
--- The words of what an entry is, and those that tell what follows them.
+-- The words for the kinds of entries, and the first words of answers, which tell what follows.
 use Rattle.std.specs.Prelude.{ℕ, List, codes}
 use Rattle.log_read.specs.declared.kinds.CpuVerb.{CpuVerb}
 use Rattle.log_read.specs.declared.kinds.CpuVerb.TheVariants as cpu_verbs

@@ -17,7 +17,7 @@ left_of words.Failed = None
 left_of words.Done = Some []
 left_of (words.More rest) = Some (words_of rest.now)
 
--- the first word of the row, and those behind it
+-- the first word of the row, and the words behind it
 abbrev pub CutsOff : List ℕ → List ℕ → Words → Type 0
 CutsOff row word after =
     (rest : List (List ℕ)) × (left_of after ≡ Some rest) × (words_of row ≡ word ∷ rest)

@@ -1,4 +1,4 @@
--- What a log's text says, and what is wrong with one that says nothing.
+-- What a log's text says, and what is wrong with a text that isn't a log.
 use Rattle.std.specs.Prelude.{◌≡◌, ◌⊎◌, ℕ, ◌-◌, ◌≤◌, ◌==◌, Bool, true, false, not, ◌&&◌, if◌then◌else◌, Some, List, [], ◌∷◌, map, take, slice_get, All, Result, Ok, Err}
 use Rattle.std.specs.List.{filter, AllZip}
 use Rattle.board_def.specs.Rules.{has_line}
@@ -17,8 +17,8 @@ abbrev pub onto_first : ℕ → List (List ℕ) → List (List ℕ)
 onto_first b [] = (b ∷ []) ∷ []
 onto_first b (row ∷ rows) = (b ∷ row) ∷ rows
 
--- the rows of a text, each with its line feed; what stands behind the last line feed is a row if it
--- isn't empty
+-- the rows of a text, each with its line feed; the bytes behind the last line feed are a row,
+-- unless there are none
 abbrev pub rows_of : List ℕ → List (List ℕ)
 rows_of [] = []
 rows_of (b ∷ bs) = if is_feed b then (b ∷ []) ∷ rows_of bs else onto_first b (rows_of bs)
@@ -41,32 +41,32 @@ is_passed_over row = begins_with_hash row && is_whole row
 abbrev pub LineEntry : Type 0
 LineEntry = LineNo × Entry
 
--- the row is that of this entry, of a line of the board
+-- the row is the row of this entry, of a line of the board
 pub record IsRowOn (lines : List LineRow) (row : List ℕ) (said : LineEntry) : Type 0 where
   pub formed : IsRowOf row said.0 said.1
   pub declared : has_line lines said.0 ≡ true
 
--- nothing is wrong with the row: it is passed over, or it is that of some entry of a line of the
+-- nothing is wrong with the row: it is passed over, or it is the row of some entry of a line of the
 -- board
 abbrev pub IsRow : List LineRow → List ℕ → Type 0
 IsRow lines row = (is_passed_over row ≡ true) ⊎ ((said : LineEntry) × IsRowOn lines row said)
 
--- the rows that say something
+-- the rows that aren't passed over
 abbrev pub saying : List (List ℕ) → List (List ℕ)
 saying rows = filter (λ row. not (is_passed_over row)) rows
 
--- those of the entries that are of the line, in their order
+-- the entries of the line among these, in their order
 abbrev pub entries_on : List LineEntry → LineNo → List Entry
 entries_on said line = map (λ x. x.1) (filter (λ x. x.0.0 == line.0) said)
 
 -- The rows say these histories, one for each line in the board's order: each row that isn't passed
--- over is that of an entry, and the entries of a line, in the order of the rows, are its history.
+-- over is the row of an entry, and a line's history has the entries of its rows, in their order.
 pub record Tell (lines : List LineRow) (rows : List (List ℕ)) (histories : List (List Entry)) : Type 0 where
   pub said : List LineEntry
   pub each : AllZip (IsRowOn lines) (saying rows) said
   pub are : histories ≡ map (λ row. entries_on said row.line) lines
 
--- the row of that number, counted from 1, is the first with which something is wrong
+-- the row with this number, counted from 1, is the first with which something is wrong
 pub record IsFirstMalformed (lines : List LineRow) (rows : List (List ℕ)) (number : ℕ) : Type 0 where
   pub counted : 1 ≤ number
   pub before : All (IsRow lines) (take (number - 1) rows)
@@ -75,7 +75,7 @@ pub record IsFirstMalformed (lines : List LineRow) (rows : List (List ℕ)) (num
 abbrev pub entries_of : List HistorySeen → List (List Entry)
 entries_of logs = map (λ h. h.entries) logs
 
--- what the text of a log comes to; out of memory is free
+-- what reading the text of a log answers; memory may be refused
 abbrev pub IsLogOf : List LineRow → List ℕ → Result (List HistorySeen) LogRefused → Type 0
 IsLogOf lines text (Ok logs) = Tell lines (rows_of text) (entries_of logs)
 IsLogOf lines text (Err (refusals.Malformed number)) = IsFirstMalformed lines (rows_of text) number

@@ -3,24 +3,24 @@ use Rattle.std.specs.Prelude.{◌≡◌, ℕ, Option, Some, None, List, [], ◌�
 use Rattle.log_read.specs.Left.{left_of}
 use Rattle.log_read.specs.declared.words.Words.{Words}
 
--- `write` says how values are written, and `Fits` which of them are; `y` was read, as `make` makes
--- it of a value.
+-- `write` says how a value is written, `Fits` which values can be; `y` was read, which is `make` of
+-- the value.
 pub record TakesAs {X Y : Type 0} (Fits : X → Type 0) (write : X → List (List ℕ)) (make : X → Y) (old new : Words) (y : Y) : Type 0 where
-  -- what is read is written so, and the words behind it are left
+  -- the value that was read is written so, and the words behind it are left
   pub sound : (rest : List (List ℕ)) → left_of new ≡ Some rest
       → (x : X) × Fits x × (y ≡ make x) × (left_of old ≡ Some (write x ++ rest))
-  -- what is written so is read
+  -- a value that is written so is read
   pub complete : (x : X) (rest : List (List ℕ)) → Fits x → left_of old ≡ Some (write x ++ rest)
       → (y ≡ make x) × (left_of new ≡ Some rest)
 
--- each value is written
+-- each value can be written
 abbrev pub Any : {X : Type 0} → X → Type 0
 Any x = Unit {0}
 
 abbrev pub Takes : {X : Type 0} → (X → List (List ℕ)) → Words → Words → X → Type 0
 Takes write old new x = TakesAs Any write (λ y. y) old new x
 
--- as one word
+-- a value as one word
 abbrev pub one : {X : Type 0} → (X → List ℕ) → X → List (List ℕ)
 one write x = write x ∷ []
 
@@ -35,7 +35,7 @@ Both F G p = F p.0 × G p.1
 abbrev pub then : {X Y : Type 0} → (X → List (List ℕ)) → (Y → List (List ℕ)) → X × Y → List (List ℕ)
 then f g p = f p.0 ++ g p.1
 
--- this very word
+-- this word and no other
 abbrev pub text_words : List ℕ → Unit {0} → List (List ℕ)
 text_words text u = text ∷ []
 

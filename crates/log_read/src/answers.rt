@@ -167,7 +167,7 @@ fn error_of(word: &[u8]) -> Option<Errno>
     }
 }
 
-/// The letters of the flags that stand, in the order shared, oneshot, noauto.
+/// The letters of the flags that are set, in the order shared, oneshot, noauto.
 pub(crate) fn flags(words: &mut Words<'_>) -> Flags
     ensures { Takes (one flags_word) words.old words.new result }
 {

@@ -1,4 +1,4 @@
-//! The words for what an entry is, and those that tell what follows them.
+//! The words for the kinds of entries, and the first words of answers, which tell what follows.
 ghost use Rattle.std.specs.Prelude.{◌≡◌};
 ghost use Rattle.log_read.specs.Kinds.{cpu_verb_word, thread_verb_word, driver_verb_word, opening_word, linking_word, moving_word};
 ghost use Rattle.log_read.specs.Takes.{Any, Reads, Takes, one};

@@ -1,11 +1,10 @@
 //! Logs are read: the text of a log becomes one history for each line of a board, or the first
 //! malformed row is named.
 //!
-//! A row is read word by word. What a piece of it is read as is written so, and what is written so
-//! is read; so exactly the rows of entries are read, whatever their numbers. The rows that were
-//! read last are kept with what they say, so one that comes again is compared, and not read again.
-//! A text of n bytes takes time in the order of n times the lines of the board, and memory for the
-//! histories alone.
+//! A row is read word by word, and each piece is read exactly as it is written. So exactly the rows
+//! of entries are read, whatever their numbers. The rows that were read last are kept with what
+//! they say: a row that comes again is compared, and not read again. A text of n bytes takes time
+//! in the order of n times the lines of the board, and memory for the histories alone.
 #![tactic(auto)]
 
 mod answers;

@@ -26,7 +26,7 @@ pub(crate) fn number(words: &mut Words<'_>) -> u32
     words.fit(number_of(word), 0)
 }
 
-/// The number of 32 bits that the word is written for, in decimal digits without a leading zero.
+/// The number of 32 bits that the word spells, in decimal digits without a leading zero.
 #[tactic(auto, using(crate::proofs::Digits::number_read))]
 pub fn number_of(word: &[u8]) -> Option<u32>
     ensures { Reads IsSmall decimal word.now result }
@@ -34,7 +34,7 @@ pub fn number_of(word: &[u8]) -> Option<u32>
     board_words::number(word, 0, u32::MAX)
 }
 
-/// Takes a letter, and at once a number.
+/// Takes a letter, and the number right behind it.
 pub(crate) fn made_by(words: &mut Words<'_>) -> Who
     ensures { TakesAs IsWho (one who_word) (λ w. w) words.old words.new result }
 {
@@ -54,7 +54,7 @@ fn who_of(word: &[u8]) -> Option<Who>
     }
 }
 
-/// Takes this very word.
+/// Takes the next word, which has to be `text`.
 pub(crate) fn expect(words: &mut Words<'_>, text: &[u8])
     ensures { TakesAs Any (text_words text.now) (λ u. u) words.old words.new tt }
 {

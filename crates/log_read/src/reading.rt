@@ -16,8 +16,8 @@ use thiserror::Error;
 /// Why a text isn't read.
 #[derive(Clone, Copy, Debug, PartialEq, Eq, Error)]
 pub enum LogRefused {
-    /// This row, counted from 1, is the first that is neither passed over nor the row of an entry
-    /// of a line of the board.
+    /// The first row, counted from 1, that is neither passed over nor the row of an entry of a line
+    /// of the board.
     #[error("malformed {row}")]
     Malformed { row: u32 },
     /// Memory was needed and refused.
@@ -42,9 +42,9 @@ impl From<NoMemory> for LogRefused {
 ///
 /// # Errors
 ///
-/// `Malformed` with the first row, counted from 1 with those that are passed over, that isn't
-/// passed over and isn't the row of an entry of a line of the board. `NoMemory` if memory was
-/// refused.
+/// `Malformed` with the number of the first row that isn't passed over and isn't the row of an
+/// entry of a line of the board. Rows are counted from 1, and those passed over count too.
+/// `NoMemory` if memory was refused.
 pub fn read_log(alloc: Global, board: &Board, bytes: &[u8]) -> Result<Logs, LogRefused>
     requires { length bytes.now ≤ 67108864 }
     ensures log { IsLogOf board.now.lines bytes.now result }
@@ -138,7 +138,7 @@ fn begins_with_hash(row: &[u8]) -> bool
     }
 }
 
-/// The place of the line among the board's.
+/// The place of the line among the board's lines.
 fn place_of(board: &Board, line: LineNo) -> Option<usize>
     ensures { MatchOption result (has_line board.now.lines line ≡ false)
         (λ place. IsPlaceOf board.now.lines line place) }
@@ -153,7 +153,7 @@ fn place_of(board: &Board, line: LineNo) -> Option<usize>
     None
 }
 
-/// Adds the entry to the history at the place.
+/// Adds the entry to the history at index `place`.
 fn add(logs: &mut Logs, place: usize, entry: Entry) -> Result<(), NoMemory>
     requires { place < length logs.old }
     ensures { OnOk result (Adds place entry (entries_of logs.old) (entries_of logs.new)) }

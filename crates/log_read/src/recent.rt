@@ -15,7 +15,7 @@ const PLACES: usize = 512;
 /// The most bytes of a row that is kept.
 const LONGEST: usize = 64;
 
-/// A row that was read, and the line and entry whose row it is.
+/// A row that was read, with its line and its entry.
 #[derive(Clone, Copy)]
 struct RecentRow {
     line: LineNo,
@@ -25,7 +25,7 @@ struct RecentRow {
     bytes: [u8; LONGEST],
 }
 
-/// The rows that were read last, at most one for each place. A log has few different rows, which
+/// The rows that were read last: each place keeps at most one. A log has few different rows, which
 /// come again and again. It takes no memory.
 #[derive(Drop)]
 pub(crate) struct RecentRows {
@@ -52,8 +52,8 @@ impl RecentRows {
         }
     }
 
-    /// The line and the entry of a row, which stands here without its line feed, as `read_row`
-    /// reads them; a row that was read lately isn't read again.
+    /// The line and the entry of a row without its line feed, as `read_row` reads them; a row that
+    /// is kept isn't read again.
     pub(crate) fn read(&mut self, row: &[u8]) -> Option<(LineNo, Entry)>
         ensures { MatchOption result
             ((line : LineNo) (e : Entry) → IsRowOf (row.now ++ codes "\n") line e → ⊥)

@@ -9,8 +9,7 @@ use crate::numbers::number;
 use crate::words::Words;
 use irq_base::{Entry, LineNo};
 
-/// The line and the entry of a row, which stands here without its line feed; nothing if it isn't
-/// the row of any.
+/// The line and the entry of a row without its line feed; none if it isn't the row of an entry.
 pub(crate) fn read_row(row: &[u8]) -> Option<(LineNo, Entry)>
     ensures { MatchOption result
         ((line : LineNo) (e : Entry) → IsRowOf (row.now ++ codes "\n") line e → ⊥)

@@ -4,15 +4,15 @@ ghost use Rattle.log_read.specs.Left.{left_of, words_of, CutsOff, is_space};
 ghost use Rattle.log_read.specs.Takes.{Takes, TakesAs, Any, one, text_words};
 ghost use Rattle.std.specs.List.{position};
 
-/// The words of a row that are left: those between its spaces. Once a word was asked for that isn't
-/// there, or one didn't fit, nothing more is read.
+/// The words of a row that are left; spaces divide them. Once a word was asked for that isn't
+/// there, or a word didn't fit, nothing more is read.
 #[derive(Clone, Copy)]
 pub(crate) enum Words<'a> {
     /// Something didn't fit.
     Failed,
-    /// None is left.
+    /// No word is left.
     Done,
-    /// These bytes are left; if there are none, that is one word without bytes.
+    /// These bytes are left; no bytes are one empty word.
     More(&'a [u8]),
 }
 
@@ -24,7 +24,7 @@ impl<'a> Words<'a> {
         Words::More(row)
     }
 
-    /// Whether no word is left, and all did fit.
+    /// Whether no word is left, and all words fitted.
     pub(crate) fn is_done(self) -> bool
         ensures { IsTrue result ↔ (left_of self.entry ≡ Some []) }
     {
@@ -57,8 +57,8 @@ impl<'a> Words<'a> {
         word
     }
 
-    /// Takes what was read of a word; if it couldn't be read, something doesn't fit, and a stand-in
-    /// is taken.
+    /// Takes what a word was read as. If the word couldn't be read, it doesn't fit, and `other` is
+    /// taken in its place.
     pub(crate) fn fit<T: Drop>(&mut self, read: Option<T>, other: T) -> T
         ensures { MatchOption read (left_of self.new ≡ None)
             (λ x. (result ≡ x) × (self.new ≡ self.old)) }
@@ -73,7 +73,7 @@ impl<'a> Words<'a> {
     }
 }
 
-/// The first word of a row, and those that are left behind it.
+/// The first word of a row, and the words behind it.
 fn cut(row: &[u8]) -> (&[u8], Words<'_>)
     ensures { CutsOff row.now result.0.now result.1 }
 {

@@ -39,8 +39,8 @@ entry_words (entries.Affinity driver mask answer) =
     driver_word driver ∷ codes "affinity" ∷ decimal mask ∷ affinity_words answer
 entry_words (entries.Moment driver at) = driver_word driver ∷ codes "moment" ∷ decimal at ∷ []
 
--- A request that was refused opened nothing, and a mask is only refused as invalid: other entries
--- have no row.
+-- Which entries have a row: a refused request must have opened nothing, and a mask must have been
+-- refused as invalid.
 abbrev pub IsPrintable : Entry → Type 0
 IsPrintable (entries.Request driver dev flags (links.Refused errno) opened) = opened ≡ openings.No
 IsPrintable (entries.Affinity driver mask (affinities.Refused errno)) = errno ≡ errnos.Inval

@@ -37,7 +37,7 @@ pub record IsWritable (e : Entry) : Type 0 where
   pub printable : IsPrintable e
   pub small : HasSmallNumbers e
 
--- the bytes are the row of that entry of that line
+-- the bytes are the row of this entry of this line
 pub record IsRowOf (row : List ℕ) (line : LineNo) (e : Entry) : Type 0 where
   pub text : row ≡ entry_text line e
   pub number : IsSmall line.0

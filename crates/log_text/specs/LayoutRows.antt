@@ -26,7 +26,7 @@ unmapped_word reasons.Taken = codes "taken"
 unmapped_word reasons.OutOfRange = codes "out-of-range"
 unmapped_word reasons.NoMask = codes "no-mask"
 
--- the virq and the levels, leaf first; or why there are none
+-- the virq and the levels, leaf first; or why the line is refused
 abbrev pub placement_words : List DomainRow → Placement → List (List ℕ)
 placement_words domains (placements.Mapped virq path) =
     codes "virq" ∷ decimal virq ∷ map (level_word domains) path
@@ -37,7 +37,7 @@ abbrev pub IsShort : Placement → Type 0
 IsShort (placements.Mapped virq path) = length path ≤ 8
 IsShort (placements.Refused why) = Unit {0}
 
--- the row of a line that lies there
+-- the row of a line with this placement
 abbrev pub layout_text : List DomainRow → LineNo → Placement → List ℕ
 layout_text domains line placement =
     row_of (codes "#" ∷ codes "irq" ∷ decimal line.0 ∷ placement_words domains placement)
@@ -46,7 +46,7 @@ abbrev pub text_of_both : List DomainRow → Option LineRow → Option Placement
 text_of_both domains (Some row) (Some placement) = layout_text domains row.line placement
 text_of_both domains _ _ = []
 
--- the row of the line at a place of the board, counted from 0
+-- the row of the board's line at index i, counted from 0
 abbrev pub layout_row_text : BoardSeen → ℕ → List ℕ
 layout_row_text b i = text_of_both b.domains (slice_get b.lines i) (slice_get (layout_of b) i)
 

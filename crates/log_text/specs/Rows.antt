@@ -9,7 +9,7 @@ use Rattle.log_text.specs.EntryWords.{entry_words}
 abbrev pub row_of : List (List ℕ) → List ℕ
 row_of words = join_with_byte 32 words ++ codes "\n"
 
--- the row of an entry of that line
+-- the row of an entry of the line
 abbrev pub entry_text : LineNo → Entry → List ℕ
 entry_text line e = row_of (decimal line.0 ∷ entry_words e)
 

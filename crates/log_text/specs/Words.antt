@@ -27,7 +27,7 @@ use Rattle.irq_base.specs.declared.entries.UnlinkAnswer.TheVariants as unlinks
 use Rattle.irq_base.specs.declared.entries.AffinityAnswer.{AffinityAnswer}
 use Rattle.irq_base.specs.declared.entries.AffinityAnswer.TheVariants as affinities
 
--- who acts: a letter, and at once the number
+-- who acts: a letter, and the number right behind it
 abbrev pub driver_word : DriverNo → List ℕ
 driver_word driver = codes "d" ++ decimal driver.0
 
@@ -82,7 +82,7 @@ abbrev pub error_word : Errno → List ℕ
 error_word errnos.Inval = codes "22"
 error_word errnos.Busy = codes "16"
 
--- a flag's letter, if the flag stands
+-- a flag's letter, if the flag is set
 abbrev pub letter_if : Bool → List ℕ → List ℕ
 letter_if true letter = letter
 letter_if false letter = []
@@ -91,7 +91,7 @@ abbrev pub or_dash : List ℕ → List ℕ
 or_dash [] = codes "-"
 or_dash (letter ∷ letters) = letter ∷ letters
 
--- the letters of the flags that stand, or a dash for none
+-- the letters of the flags that are set, or a dash for none
 abbrev pub flags_word : Flags → List ℕ
 flags_word flags = or_dash (letter_if flags.shared (codes "s")
     ++ letter_if flags.oneshot (codes "o") ++ letter_if flags.noauto (codes "n"))

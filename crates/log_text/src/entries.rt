@@ -13,7 +13,7 @@ use irq_base::{
 };
 use text_row::TextRow;
 
-/// Writes the row of an entry of that line: the line's number and the entry's words, with one space
+/// Writes the row of an entry of the line: the line's number and the entry's words, with one space
 /// between each two, ended by a line feed. What the row held before is gone.
 ///
 /// The format has no row for a refused request that opened the line, nor for a mask refused as

@@ -10,8 +10,8 @@ use board_def::{Board, Layout, Placement};
 use irq_base::Path;
 use text_row::TextRow;
 
-/// Writes the row of the line at that place of the board, counted from 0: `# irq LINE virq VIRQ`,
-/// and the name of each domain on its way with the line's number there, leaf first; or `# irq LINE
+/// Writes the row of the board's line at index `place`, counted from 0: `# irq LINE virq VIRQ`, and
+/// the name of each domain on its way with the line's number there, leaf first; or `# irq LINE
 /// refused` and why. It begins with `#`, so no reader of a log takes it for an entry. What the row
 /// held before is gone.
 #[tactic(auto, using(crate::proofs::Levels::short_at, crate::proofs::Levels::row_is))]
@@ -35,7 +35,7 @@ pub fn layout_row(row: &mut TextRow, layout: &Layout, board: &Board, place: usiz
     row.push(b'\n');
 }
 
-// Adds where the line lies, or why it has no place.
+// Adds where the line lies, or why it is refused.
 fn push_placement(row: &mut TextRow, board: &Board, placement: &Placement)
     requires room { length row.old ≤ 40 }
     requires short { IsShort placement.now }

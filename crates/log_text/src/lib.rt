@@ -1,4 +1,4 @@
-//! The rows of a log: what an entry of a line's history is in writing, and where a line lies.
+//! The rows of a log: how an entry of a line's history is written, and where a line lies.
 //!
 //! A row is words with one space between each two, ended by a line feed, at most 320 bytes. It is
 //! written into a `TextRow` that the caller lends, and takes no memory.

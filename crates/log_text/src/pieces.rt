@@ -27,7 +27,7 @@ pub(crate) fn push_word(row: &mut TextRow, word: &[u8])
     row.push_bytes(word);
 }
 
-/// Adds a space, the name, a colon, and at once the number.
+/// Adds a space, the name, a colon, and the number right behind it.
 pub(crate) fn push_named(row: &mut TextRow, name: &[u8], number: u32)
     requires name { length name.now ≤ 16 }
     requires room { length row.old ≤ 292 }
@@ -50,7 +50,7 @@ pub(crate) fn push_number(row: &mut TextRow, number: u32)
     row.push_number(number);
 }
 
-/// Adds a space, the letter, and at once the number.
+/// Adds a space, the letter, and the number right behind it.
 fn push_lettered(row: &mut TextRow, letter: u8, number: u32)
     requires { length row.old ≤ 308 }
     ensures text { row.new ≡ row.old ++ spaced ((letter ∷ decimal number) ∷ []) }

@@ -1,5 +1,5 @@
-//! The words for what an entry answers, each of at most nine letters, and for why a line has no
-//! place.
+//! The words for what an entry answers, each of at most nine letters, and for why a line is
+//! refused.
 ghost use Rattle.std.specs.Prelude.{◌≡◌, ◌≤◌, length};
 ghost use Rattle.log_text.specs.LayoutRows.{unmapped_word};
 ghost use Rattle.log_text.specs.Words.{way_word, take_word, answer_word, loop_word, mask_word, note_word, bit_word, resend_word, error_word, flags_word, unlink_word};
@@ -96,7 +96,7 @@ pub(crate) fn of_error(errno: Errno) -> &'static [u8]
     }
 }
 
-// The letters of the flags that stand, in the order shared, oneshot, noauto.
+// The letters of the flags that are set, in the order shared, oneshot, noauto.
 pub(crate) fn of_flags(flags: Flags) -> &'static [u8]
     ensures word { result.now ≡ flags_word flags }
     ensures short { length result.now ≤ 9 }
@@ -124,7 +124,7 @@ pub(crate) fn of_unlink(answer: UnlinkAnswer) -> &'static [u8]
     }
 }
 
-// Why a line has no place, in at most twelve letters.
+// Why a line is refused, in at most twelve letters.
 pub(crate) fn of_unmapped(why: Unmapped) -> &'static [u8]
     ensures word { result.now ≡ unmapped_word why }
     ensures short { length result.now ≤ 12 }

@@ -1,4 +1,4 @@
--- What it means that jobs fit their lines. Each part is a fact of single jobs.
+-- What it means that jobs fit their lines. Each part is a fact about one job.
 use Rattle.std.specs.Prelude.{◌≡◌, ℕ, ◌+◌, Bool, true, false, ◌≤◌, ◌&&◌, nat_le, nat_lt, IsSomeAnd, Option, Some, None, List, ◌++◌, map, filter, reverse, length, slice_get}
 use Rattle.std.specs.List.{list_any}
 use Rattle.irq_base.specs.Handlers.{has_thread}
@@ -30,27 +30,28 @@ numbers_of lines = map (λ (l : LockSeen). l.def.line) lines
 abbrev pub flows_of : List LockSeen → List FlowKind
 flows_of lines = map (λ (l : LockSeen). l.def.flow) lines
 
--- the line of that number stands at the place; none if there is none
+-- the line with this number stands at this place; no place: there is no such line
 abbrev pub IsPlaceOf : List LockSeen → LineNo → Option ℕ → Type 0
 IsPlaceOf lines number None = list_any (λ (l : LockSeen). same_line number l.def.line) lines ≡ false
 IsPlaceOf lines number (Some k) = IsSomeAnd (slice_get lines k) (λ l. l.def.line ≡ number)
 
 -- ---- one job
 
--- the pass is of that line, holds no turn, and is of that actor; if the seat rests, nothing is due
--- on what it has seen
+-- the pass is of this line and this actor, and doesn't have the turn; if the seat rests, nothing is
+-- due on what the pass has seen
 pub record Sits (line : LockSeen) (who : Actor) (s : SeatSeen) : Type 0 where
   pub of_line : IsPassOf line s.pass
   pub idle : s.pass.turn ≡ false
   pub actor : s.pass.knows.actor ≡ Some who
   pub rests : s.rests ≡ true → IsIdle line.def who s.pass.knows
 
--- each pass is of its line, one after another from the first on
+-- the passes are of consecutive lines, from the job's first line on
 abbrev pub AreSeated : List LockSeen → JobSeen → Type 0
 AreSeated lines j = (i : ℕ) (s : SeatSeen) → slice_get j.seats i ≡ Some s
     → IsSomeAnd (slice_get lines (j.first + i)) (λ l. Sits l j.actor s)
 
--- an actor's own entries on a line, the newest first, and all its lines as it alone made them
+-- an actor's own entries on a line, the newest first; below, all its lines with its own entries
+-- alone
 abbrev pub own_past : List Placed → List Entry
 own_past mine = reverse (map (λ (x : Placed). x.entry) mine)
 
@@ -60,7 +61,7 @@ own_line s = record { def = s.pass.def; past = own_past s.pass.knows.mine }
 abbrev pub own_lines : List SeatSeen → List BoardLine
 own_lines seats = map own_line seats
 
--- a processor has a flow in progress on no line but that of its flow
+-- a processor has a flow in progress on no line but the one that its job names (`flow`)
 abbrev pub HasOneFlow : JobSeen → Type 0
 HasOneFlow j = (i : ℕ) (s : SeatSeen) → slice_get j.seats i ≡ Some s → (j.flow ≡ Some i → ⊥)
     → has_flow s.pass.def (own_past s.pass.knows.mine) ≡ false
@@ -69,13 +70,15 @@ HasOneFlow j = (i : ℕ) (s : SeatSeen) → slice_get j.seats i ≡ Some s → (
 abbrev pub IsInFlow : LineDef → CpuNo → Known → Type 0
 IsInFlow def c k = flow def (own_past k.mine) ≡ Some c
 
--- on the line of its flow a processor has one in progress, and the seat doesn't rest
+-- on the line that its job names (`flow`) a processor has a flow in progress, and the seat doesn't
+-- rest
 abbrev pub HasItsFlow : JobSeen → Type 0
 HasItsFlow j = (i : ℕ) → j.flow ≡ Some i → (c : CpuNo) × (s : SeatSeen) × (j.actor ≡ actors.Cpu c)
     × (slice_get j.seats i ≡ Some s) × (s.rests ≡ false) × IsInFlow s.pass.def c s.pass.knows
 
--- a thread has a pass of its device's line; a processor one of each line, and a flow on one at
--- most; a driver one of each line, on which its entries are those of its script up to its place
+-- a thread has a pass of its device's line; a processor has a pass of each line, and a flow on at
+-- most one; a driver has a pass of each line, and its entries are its script's calls up to its
+-- place
 abbrev pub IsManned : BoardSeen → List LockSeen → JobSeen → Actor → Type 0
 IsManned board lines j (actors.Thread line dev) =
     (length j.seats ≡ 1) × IsPlaceOf lines line (Some j.first)
@@ -90,8 +93,7 @@ pub record IsJob (board : BoardSeen) (lines : List LockSeen) (j : JobSeen) : Typ
 
 -- ---- all jobs
 
--- the actors that have a worker: the threads of the lines' devices that have one, the processors
--- and the drivers
+-- the actors that have a worker: the threads of the lines' devices, the processors and the drivers
 abbrev pub has_worker : List LockSeen → DeviceDef → Bool
 has_worker lines x =
     has_thread x.kind && list_any (λ (l : LockSeen). same_line x.line l.def.line) lines
@@ -99,15 +101,15 @@ has_worker lines x =
 abbrev pub workers_of : BoardSeen → List LockSeen → List Actor
 workers_of board lines = map (λ (x : DeviceDef). actors.Thread x.line x.dev) (filter (has_worker lines) board.devices) ++ (cpus_of board ++ drivers_of board)
 
--- the job has a pass of the line at the place
+-- the job has a pass of the line at place k
 abbrev pub works_on : ℕ → JobSeen → Bool
 works_on k j = nat_le j.first k && nat_lt k (j.first + length j.seats)
 
 abbrev pub actors_on : ℕ → List JobSeen → List Actor
 actors_on k jobs = map (λ (j : JobSeen). j.actor) (filter (works_on k) jobs)
 
--- a first pass is of its line, holds no turn, and has given passes to exactly the actors of the
--- jobs that work on the line, which are out
+-- a first pass is of its line and doesn't have the turn; it has given passes to exactly the actors
+-- whose jobs work on the line, and these passes are out
 pub record IsFirst (line : LockSeen) (whom : List Actor) (p : PassSeen) : Type 0 where
   pub of_line : IsPassOf line p
   pub idle : p.turn ≡ false
@@ -115,14 +117,13 @@ pub record IsFirst (line : LockSeen) (whom : List Actor) (p : PassSeen) : Type 0
   pub given : p.knows.given ≡ whom
   pub out : p.knows.out ≡ whom
 
--- one first pass a line
+-- each line has one first pass
 pub record AreFirsts (lines : List LockSeen) (jobs : List JobSeen) (firsts : List PassSeen) : Type 0 where
   pub as_many : length firsts ≡ length lines
   pub each : (k : ℕ) (p : PassSeen) → slice_get firsts k ≡ Some p
       → IsSomeAnd (slice_get lines k) (λ l. IsFirst l (actors_on k jobs) p)
 
--- the lines are the board's, each actor has its job, each job is as it should be, and nobody else
--- has a pass
+-- the lines are the board's, each actor has its job, each job is right, and nobody else has a pass
 pub record Fit (lines : List LockSeen) (s : JobsSeen) : Type 0 where
   pub defs : map (λ (l : LockSeen). l.def) lines ≡ defs_of s.board
   pub actors : map (λ (j : JobSeen). j.actor) s.jobs ≡ workers_of s.board lines

@@ -1,4 +1,4 @@
--- What becomes of first passes when an actor gets its passes.
+-- How first passes change when an actor gets its passes.
 use Rattle.std.specs.Prelude.{◌≡◌, ℕ, ◌+◌, Bool, true, false, ◌&&◌, nat_le, nat_lt, Some, None, List, [], ◌∷◌, ◌++◌, map, length, slice_get}
 use Rattle.irq_base.specs.declared.entries.Actor.{Actor}
 use Rattle.irq_base.specs.declared.entries.Actor.TheVariants as actors
@@ -37,7 +37,7 @@ IsLeft false who old new = new ≡ old
 abbrev pub is_within : ℕ → ℕ → ℕ → Bool
 is_within first end k = nat_le first k && nat_lt k end
 
--- a seat of each line from the place `first` up to the place `end`
+-- one seat for each line from index `first` up to, not including, `end`
 pub record Forks (lines : List LockSeen) (first end : ℕ) (who : Actor) (old new : List PassSeen) (seats : List SeatSeen) : Type 0 where
   pub as_many : length new ≡ length old
   pub count : first + length seats ≡ end
@@ -56,13 +56,13 @@ abbrev pub IsThere : List LockSeen → Actor → Type 0
 IsThere lines (actors.Thread line dev) = (k : ℕ) × IsPlaceOf lines line (Some k)
 IsThere lines _ = Unit {0}
 
--- an actor has passes of the lines from one place up to another
+-- the actor has passes of the lines from index `first` up to, not including, `end`
 abbrev pub IsSpan : List LockSeen → Actor → ℕ → ℕ → Type 0
 IsSpan lines (actors.Thread line dev) first end =
     IsPlaceOf lines line (Some first) × (end ≡ first + 1)
 IsSpan lines _ first end = (first ≡ 0) × (end ≡ length lines)
 
--- there is one job more, of the actor, and it is as it should be
+-- there is one more job, the actor's, and it is right
 pub record Hires (lines : List LockSeen) (who : Actor) (old new : JobsSeen) : Type 0 where
   pub job : JobSeen
   pub jobs : new.jobs ≡ old.jobs ++ job ∷ []

@@ -1,4 +1,4 @@
--- What becomes of the first passes when the jobs' passes come back.
+-- How first passes change when the jobs' passes come back.
 use Rattle.std.specs.Prelude.{◌≡◌, ℕ, ◌+◌, ◌<◌, ◌⊎◌, false, true, IsSomeAnd, Some, None, List, [], map, length, slice_get, reverse}
 use Rattle.irq_base.specs.declared.entries.Actor.{Actor}
 use Rattle.irq_base.specs.declared.entries.Actor.TheVariants as actors
@@ -20,7 +20,7 @@ board_line x = record { def = x.def; past = reverse x.entries }
 abbrev pub board_lines : List LineSeen → List BoardLine
 board_lines lines = map board_line lines
 
--- a first pass of the line that may meet others
+-- a first pass of the line that may meet other passes
 pub record IsHome (line : LockSeen) (p : PassSeen) : Type 0 where
   pub of_line : IsPassOf line p
   pub idle : p.turn ≡ false
@@ -61,20 +61,20 @@ seen_line p = record { def = p.def; past = reverse p.knows.seen }
 abbrev pub seen_lines : List PassSeen → List BoardLine
 seen_lines firsts = map seen_line firsts
 
--- the driver has no pass any more
+-- the driver's passes have all come back
 abbrev pub IsBack : List PassSeen → DriverNo → Type 0
 IsBack firsts r = (k : ℕ) (p : PassSeen) → slice_get firsts k ≡ Some p
     → (is_among (actors.Driver r) p.knows.given ≡ true)
     × (is_among (actors.Driver r) p.knows.out ≡ false)
 
--- who is out on a line has one of these jobs, and was given a pass
+-- an actor that is out on the line has one of these jobs, and was given a pass
 pub record AreOut (jobs : List JobSeen) (k : ℕ) (p : PassSeen) : Type 0 where
   pub given : (who : Actor) → is_among who p.knows.out ≡ true → is_among who p.knows.given ≡ true
   pub out : (who : Actor) → is_among who p.knows.out ≡ true → is_among who (actors_on k jobs) ≡ true
 
--- While these jobs are left: each is as it should be; whoever is out has one of them; and each
--- driver that has none is back, and its entries in what the first passes have seen are those of its
--- script up to some place.
+-- While these jobs are left: each job is right; an actor that is out has one of them; and a driver
+-- without a job is back, and its entries in what the first passes have seen are its script's calls
+-- up to some place.
 pub record Gathers (board : BoardSeen) (lines : List LockSeen) (jobs : List JobSeen) (firsts : List PassSeen) : Type 0 where
   pub each : (i : ℕ) (j : JobSeen) → slice_get jobs i ≡ Some j → IsJob board lines j
   pub out : (k : ℕ) (p : PassSeen) → slice_get firsts k ≡ Some p → AreOut jobs k p

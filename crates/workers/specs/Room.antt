@@ -1,4 +1,4 @@
--- How much more workers can see.
+-- How many more entries the workers' passes can see.
 use Rattle.std.specs.Prelude.{ℕ, ◌+◌, ◌-◌, ◌<◌, ◌≤◌, List, [], ◌∷◌, length}
 use Rattle.workers.specs.Seen.{SeatSeen, JobSeen}
 use Rattle.workers.specs.declared.job.Left.{Left}
@@ -10,7 +10,7 @@ use Rattle.workers.specs.declared.turns.Turn.TheVariants as turns
 abbrev pub room_of : SeatSeen → ℕ
 room_of s = s.pass.def.log - length s.pass.knows.seen
 
--- the same of all passes of a job, and of those of all jobs
+-- how many entries all passes of a job have yet to see; below, the passes of all jobs
 abbrev pub room_of_seats : List SeatSeen → ℕ
 room_of_seats [] = 0
 room_of_seats (s ∷ rest) = room_of s + room_of_seats rest

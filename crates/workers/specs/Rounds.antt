@@ -17,15 +17,15 @@ use Rattle.workers.specs.declared.rounds.RoundsEnd.TheVariants as ends
 use Rattle.workers.specs.declared.turns.Turn.{Turn}
 use Rattle.workers.specs.declared.turns.Turn.TheVariants as turns
 
--- Nothing is due of the actor: of a thread or a processor on what each of its passes has seen; a
--- driver is past all calls, or nothing is due of it on what its pass of its current call's line has
--- seen.
+-- Nothing is due of the actor. For a thread or a processor: on what each of its passes has seen.
+-- For a driver: it is past all calls, or nothing is due on what its pass of the current call's line
+-- has seen.
 abbrev pub IsAtRest : BoardSeen → JobSeen → Actor → Type 0
 IsAtRest board j (actors.Driver r) = (length board.calls ≤ j.at) ⊎ WaitsAt board j r
 IsAtRest board j who =
     (i : ℕ) (s : SeatSeen) → slice_get j.seats i ≡ Some s → IsIdle s.pass.def who s.pass.knows
 
--- the job is as it should be, of the same actor, with passes of the same lines
+-- the job is right; it has the same actor, and passes of the same lines
 pub record WorksOn (board : BoardSeen) (lines : List LockSeen) (old new : JobSeen) : Type 0 where
   pub actor : new.actor ≡ old.actor
   pub first : new.first ≡ old.first
@@ -63,8 +63,8 @@ EachLeftSo s = (i : ℕ) (j : JobSeen) → slice_get s.jobs i ≡ Some j → Lef
 
 -- ---- how rounds end
 
--- of two workers' parts the one that tells more: the lower full line, then out of memory, then that
--- a step was made
+-- of two workers' answers the one that comes first: the lower full line, then that memory was
+-- refused, then that a step was made
 abbrev pub worse : Left → Left → Left
 worse (lefts.Full a m) (lefts.Full b n) = if nat_lt b.0 a.0 then lefts.Full b n else lefts.Full a m
 worse (lefts.Full a m) _ = lefts.Full a m
@@ -75,7 +75,7 @@ worse lefts.Busy _ = lefts.Busy
 worse _ lefts.Busy = lefts.Busy
 worse lefts.Idle lefts.Idle = lefts.Idle
 
--- one of the first jobs was left so, and none of them for a lower line
+-- one of the first n jobs was left at this full line, and none of them at a lower one
 pub record IsLowestFull (jobs : List JobSeen) (n : ℕ) (line : LineNo) (len : ℕ) : Type 0 where
   pub place : ℕ
   pub job : JobSeen
@@ -84,7 +84,7 @@ pub record IsLowestFull (jobs : List JobSeen) (n : ℕ) (line : LineNo) (len : �
   pub lowest : (k : ℕ) (j : JobSeen) (other : LineNo) (m : ℕ) → k < n → slice_get jobs k ≡ Some j
       → j.left ≡ lefts.Full other m → line.0 ≤ other.0
 
--- what is said of the first jobs: all are idle, or that is the lowest full line, or none found a
+-- the answer for the first n jobs: all are idle; or this is the lowest full line; or none found a
 -- full line
 abbrev pub SumsUp : List JobSeen → ℕ → Left → Type 0
 SumsUp jobs n lefts.Idle =
@@ -93,7 +93,7 @@ SumsUp jobs n (lefts.Full line len) = IsLowestFull jobs n line len
 SumsUp jobs n _ = (k : ℕ) (j : JobSeen) (other : LineNo) (m : ℕ) → k < n → slice_get jobs k ≡ Some j
     → j.left ≡ lefts.Full other m → ⊥
 
--- if what is said is that a step was made, one of the first jobs made one
+-- if the answer is that a step was made, one of the first n jobs made one
 abbrev pub BusyIsSo : List JobSeen → ℕ → Left → Type 0
 BusyIsSo jobs n lefts.Busy =
     (k : ℕ) × (j : JobSeen) × (k < n) × (slice_get jobs k ≡ Some j) × (j.left ≡ lefts.Busy)
@@ -105,12 +105,12 @@ pub record IsFullFor (s : JobsSeen) (line : LineNo) (len : ℕ) : Type 0 where
   pub job : JobSeen
   pub at : slice_get s.jobs place ≡ Some job
   pub is : IsFullOn job line len
-  -- and no worker stopped at a full line with a lower number
+  -- no worker stopped at a full line with a lower number
   pub lowest : (k : ℕ) (j : JobSeen) (other : LineNo) (m : ℕ) → slice_get s.jobs k ≡ Some j
       → j.left ≡ lefts.Full other m → line.0 ≤ other.0
 
--- Quiet: nothing is due of any actor. Full: the lowest line at which a worker stopped, on which a
--- step is due
+-- Quiet: nothing is due of any actor. Full: a step is due on this line, the lowest at which a
+-- worker stopped
 abbrev pub Ends : JobsSeen → RoundsEnd → Type 0
 Ends s ends.Quiet = (i : ℕ) (j : JobSeen) → slice_get s.jobs i ≡ Some j → IsAtRest s.board j j.actor
 Ends s (ends.Full line len) = IsFullFor s line len

@@ -10,9 +10,9 @@ pub record SeatSeen : Type 0 where
   pub pass : PassSeen
   pub rests : Bool
 
--- The job of an actor: its passes, of the line at the place `first` and of those behind it; at
--- which of them a processor has a flow in progress; how many of the board's calls a driver is past;
--- and how the last round left it.
+-- The job of an actor: its passes, of the line at index `first` and of the lines after it; for a
+-- processor the pass with which it has a flow in progress; for a driver how many of the board's
+-- calls it is past; and how the last round left the job.
 pub record JobSeen : Type 0 where
   pub actor : Actor
   pub first : ℕ

@@ -10,9 +10,9 @@ use Rattle.line_lock.specs.Knows.{BeginsWith}
 use Rattle.line_lock.specs.Placed.{placed}
 use Rattle.line_lock.specs.declared.view.Known.{Known}
 
--- The entry was due of the actor after some history, which began with what the pass had seen, and
--- in which the pass's own entries were those that it knew. It stands at the end of what is seen,
--- and is the pass's own there.
+-- The entry was due of the actor after some history. That history began with what the pass had
+-- seen, and the actor's entries in it were those that the pass knew as its own. The entry stands at
+-- the end of what is seen now, and is one of the pass's own.
 pub record Gains (def : LineDef) (who : Actor) (old : Known) (e : Entry) (new : Known) : Type 0 where
   pub history : List Entry
   pub onto : BeginsWith history old.seen
@@ -26,8 +26,8 @@ pub record Gains (def : LineDef) (who : Actor) (old : Known) (e : Entry) (new : 
 abbrev pub IsIdle : LineDef → Actor → Known → Type 0
 IsIdle def who k = next def k.seen who ≡ None
 
--- an entry is due of the actor on what is seen, which has the greatest length that the definition
--- allows
+-- an entry is due of the actor on what is seen, and what is seen has the greatest length that the
+-- definition allows
 pub record IsFull (def : LineDef) (who : Actor) (k : Known) : Type 0 where
   pub due : IsSome (next def k.seen who)
   pub length : length k.seen ≡ def.log
@@ -39,7 +39,7 @@ CameTo def who old (Err (refusals.Full len)) new =
     IsFull def who new × (len ≡ def.log) × (new.mine ≡ old.mine)
 CameTo def who old (Err refusals.NoMemory) new = new.mine ≡ old.mine
 
--- what is seen afterwards begins with what was seen, and it came to that
+-- what is seen afterwards begins with what was seen, and the answer is right
 pub record Tries (def : LineDef) (who : Actor) (old : Known) (result : Result (Option Entry) StepRefused) (new : Known) : Type 0 where
   pub begins : BeginsWith new.seen old.seen
   pub came : CameTo def who old result new

@@ -33,13 +33,12 @@ turn_of line (Ok None) = turns.NotYet
 turn_of line (Err (refusals.Full len)) = turns.Full line len
 turn_of line (Err refusals.NoMemory) = turns.NoMemory
 
--- to a processor that has a flow in progress on the line no try answers that nothing is due
+-- if a processor has its flow on the line, its try there never answers that nothing is due
 abbrev pub FlowMoves : LineDef → Known → Result (Option Entry) StepRefused → Type 0
 FlowMoves def k tried = (c : CpuNo) → k.actor ≡ Some (actors.Cpu c) → IsInFlow def c k
     → tried ≡ Ok None → ⊥
 
--- a try with the pass at the place: the pass afterwards is as it should be, and all else is as it
--- was
+-- a try with the pass at index `place`: the pass is right afterwards, and all else is as it was
 pub record StepsSeat (lines : List LockSeen) (place : ℕ) (turn : Turn) (old new : JobSeen) : Type 0 where
   pub line : LockSeen
   pub seat : SeatSeen
@@ -54,8 +53,8 @@ pub record StepsSeat (lines : List LockSeen) (place : ℕ) (turn : Turn) (old ne
   pub rests : after.rests ≡ rests_after tried
   pub flows : seat.rests ≡ false → FlowMoves line.def seat.pass.knows tried
 
--- at which pass a processor has a flow in progress, after it added the entry with the pass at the
--- place
+-- the pass with which a processor has a flow in progress, after it added the entry with the pass at
+-- index `place`
 abbrev pub flow_after : FlowKind → Entry → ℕ → Option ℕ → Option ℕ
 flow_after flow e place before =
     if is_handle e then Some place
@@ -65,14 +64,14 @@ abbrev pub is_not_yet : Turn → Bool
 is_not_yet turns.NotYet = true
 is_not_yet _ = false
 
--- the job is of the same actor, with as many passes of the same lines, each as it should be
+-- the job has the same actor, and as many passes of the same lines, all right
 pub record KeepsSeats (lines : List LockSeen) (old new : JobSeen) : Type 0 where
   pub actor : new.actor ≡ old.actor
   pub first : new.first ≡ old.first
   pub as_many : length new.seats ≡ length old.seats
   pub seated : AreSeated lines new
 
--- a step is due with one of the passes on that line, which has the greatest length
+-- a step is due with one of the passes on this line, and the line has the greatest length
 pub record IsFullOn (j : JobSeen) (line : LineNo) (len : ℕ) : Type 0 where
   pub place : ℕ
   pub seat : SeatSeen
@@ -85,8 +84,9 @@ abbrev pub FullIsSo : JobSeen → Turn → Type 0
 FullIsSo j (turns.Full line len) = IsFullOn j line len
 FullIsSo j _ = Unit {0}
 
--- a processor's try: its flow is on one line at most; if nothing was due, that is known, and the
--- flow is as it was; the other passes are as they were; on the line of its flow something was due
+-- a processor's try: it has a flow on at most one line; if nothing was due, the seat says so, and
+-- the flow is as it was; the other passes are as they were; on the line of its flow something was
+-- due
 pub record StepsCpu (lines : List LockSeen) (place : ℕ) (turn : Turn) (old new : JobSeen) : Type 0 where
   pub keeps : KeepsSeats lines old new
   pub flow : HasOneFlow new
@@ -100,7 +100,7 @@ pub record StepsCpu (lines : List LockSeen) (place : ℕ) (turn : Turn) (old new
   pub full : FullIsSo new turn
   pub room : RoomAfter turn old new
 
--- a processor's turn: if nothing was due, that is known of all its passes
+-- a processor's turn: if nothing was due, all its seats say so
 pub record TurnsCpu (lines : List LockSeen) (turn : Turn) (old new : JobSeen) : Type 0 where
   pub keeps : KeepsSeats lines old new
   pub flow : HasOneFlow new
@@ -123,7 +123,7 @@ is_last calls.Sync (entries.Synced driver) = true
 is_last calls.Sync _ = false
 is_last _ _ = true
 
--- the job is the driver's, and its entries are those of its script up to its place
+-- the job is the driver's, and its entries are its script's calls up to its place
 pub record IsDriven (board : BoardSeen) (lines : List LockSeen) (r : DriverNo) (j : JobSeen) : Type 0 where
   pub actor : j.actor ≡ actors.Driver r
   pub seated : AreSeated lines j
@@ -143,7 +143,7 @@ pub record WaitsAt (board : BoardSeen) (j : JobSeen) (r : DriverNo) : Type 0 whe
   pub line : seat.pass.def.line ≡ call.line
   pub rests : IsIdle seat.pass.def (actors.Driver r) seat.pass.knows
 
--- a driver's turn: its entries are those of its script up to its place; if nothing was due it is
+-- a driver's turn: its entries are its script's calls up to its place; if nothing was due, it is
 -- past all calls, or waits at one
 pub record TurnsDriver (board : BoardSeen) (lines : List LockSeen) (r : DriverNo) (turn : Turn) (old new : JobSeen) : Type 0 where
   pub keeps : KeepsSeats lines old new

@@ -12,7 +12,7 @@ use irq_base::{Actor, CpuNo, NoMemory};
 use irq_line::IrqLine;
 use std::alloc::Global;
 
-/// The threads of the lines' devices that have one, the processors and the drivers.
+/// The actors that get a worker: the threads of the lines' devices, the processors and the drivers.
 pub(crate) fn make_crew<L: IrqLine>(
     alloc: Global,
     board: &Board,

@@ -38,8 +38,7 @@ impl<L: IrqLine> Job<L> {
         self.step_driver(rt, board, lines, call, place, handlers)
     }
 
-    /// A try of the driver of that call, its current one, on the line at the place, which is the
-    /// call's.
+    /// A try of the driver at its current call, on the call's line, the one at index `place`.
     fn step_driver<R: Wait, H: Handler>(
         &mut self,
         rt: &R,
@@ -66,8 +65,8 @@ impl<L: IrqLine> Job<L> {
     }
 }
 
-/// The place of the driver's first call from the place on that is about one of the lines; the
-/// calls' length if there is none.
+/// The index of the driver's first call, from `from` on, that is about one of the lines; the number
+/// of calls if there is none.
 fn next_call<L: IrqLine>(
     calls: &[ScriptCall],
     lines: &SharedLines<L>,
@@ -99,7 +98,7 @@ fn is_own<L: IrqLine>(call: ScriptCall, lines: &SharedLines<L>, driver: DriverNo
     call.driver == driver && lines.place_of(call.line).is_some()
 }
 
-/// Whether the entry, which the call made, is its last one.
+/// Whether this entry of the call is its last one.
 fn is_last(call: Call, entry: &Entry) -> bool
     ensures { result ≡ is_last call entry.now }
 {

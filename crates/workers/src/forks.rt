@@ -9,7 +9,7 @@ use irq_line::IrqLine;
 use line_shared::{Pass, SharedLine};
 use std::alloc::Global;
 
-/// Gives the actor a pass of each line from the place `first` up to the place `end`.
+/// Gives the actor a pass of each line from index `first` up to, not including, `end`.
 pub(crate) fn fork_all<L: IrqLine>(
     alloc: Global,
     lines: &[SharedLine<L>],

@@ -1,10 +1,10 @@
-//! What stands before each turn.
+//! What a worker passes before each of its turns.
 use irq_base::Actor;
 
 /// What a worker passes before each of its turns, with no lock held. A turn is one try to make its
 /// actor's next step, the call of a handler included.
 pub trait Gate {
-    /// Lets the actor pass to its turn of that number in this run, counted from 1.
+    /// Lets the actor pass to its turn number `turn` of this run, counted from 1.
     fn pass(&self, actor: Actor, turn: u64);
 }
 

@@ -16,10 +16,10 @@ use irq_line::IrqLine;
 use line_shared::{Pass, SharedLine};
 use std::alloc::Global;
 
-/// Takes all passes back, and the lines out of their locks. They come in the same order with the
-/// same definitions; each history is legal, and the drivers' calls stand in them in the order of
-/// their scripts, each driver's up to its place. The only error is `NoMemory`: the lines are gone
-/// then.
+/// Takes all passes back, and the lines out of their locks. They come in the same order, with the
+/// same definitions. Each history is legal, and the histories have the drivers' calls in the order
+/// of their scripts, each driver's up to its place. The only error is `NoMemory`; then the lines
+/// are gone.
 pub fn gather<L: IrqLine>(
     alloc: Global,
     lines: SharedLines<L>,

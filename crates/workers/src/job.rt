@@ -4,15 +4,14 @@ use irq_base::{Actor, LineNo};
 use irq_line::IrqLine;
 use std::marker::Model;
 
-/// How a worker's part of a round ended.
+/// How a worker's part of a round of threads ended.
 #[derive(Clone, Copy, PartialEq, Eq)]
 pub(crate) enum Left {
     /// It made no step: its actor has nothing due on what it has seen.
     Idle,
     /// It made a step.
     Busy,
-    /// A step was due on that line, whose history has the greatest length. `len` is that
-    /// length.
+    /// A step was due on this line, and the line's history has the greatest length, `len`.
     Full { line: LineNo, len: u32 },
     /// Memory was needed and refused.
     NoMemory,
@@ -22,12 +21,13 @@ pub(crate) enum Left {
 #[derive(Drop)]
 pub(crate) struct Job<L: IrqLine> {
     pub(crate) actor: Actor,
-    /// The place of the line of its first pass. The passes are of this line and of those behind it.
+    /// The index of the line of its first pass. The passes are of this line and of the lines after
+    /// it.
     pub(crate) first: usize,
     pub(crate) seats: Vec<Seat<L>>,
-    /// A processor's: at which of its passes it has a flow in progress.
+    /// Of a processor: the pass with which it has a flow in progress.
     pub(crate) flow: Option<usize>,
-    /// A driver's: how many of the board's calls it is past.
+    /// Of a driver: how many of the board's calls it is past.
     pub(crate) at: usize,
     /// How many turns it has had in this run.
     pub(crate) turns: u64,

@@ -19,8 +19,8 @@ use line_shared::{Pass, SharedLine};
 use std::alloc::Global;
 use std::marker::Model;
 
-/// The jobs of all workers of a board, and the first pass of each line, which comes back to its
-/// line at the end.
+/// The jobs of all workers of a board, and the first pass of each line, with which the line is
+/// taken out of its lock at the end.
 #[derive(Drop)]
 pub struct Jobs<'b, L: IrqLine> {
     pub(crate) board: &'b Board,
@@ -36,9 +36,9 @@ impl<'b, L: IrqLine> Model for Jobs<'b, L> {
     ghost view = { λ s. record { board = s.board.now; jobs = s.jobs.items; firsts = s.firsts.items } };
 }
 
-/// Shares each line, and gives a pass of it to the thread of each of its devices that has one, to
-/// each processor and to each driver. The lines are those of the board that take part, in its
-/// order, and nothing has happened to them. The only error is `NoMemory`: the lines are gone then.
+/// Shares each line, and gives a pass of it to each of its devices' threads, to each processor and
+/// to each driver. The lines are the board's lines that take part, in its order, and nothing has
+/// happened to them. The only error is `NoMemory`; then the lines are gone.
 pub fn share<'b, L: IrqLine>(
     alloc: Global,
     board: &'b Board,
@@ -101,7 +101,7 @@ fn share_lines<L: IrqLine>(
 }
 
 impl<'b, L: IrqLine> Jobs<'b, L> {
-    /// Adds the job of an actor that has none, with new passes of its lines.
+    /// Adds the job of an actor that has no job, with new passes of its lines.
     fn hire(&mut self, alloc: Global, lines: &SharedLines<L>, actor: Actor) -> Result<(), NoMemory>
         requires defs { AreBoards self.old.board lines.now }
         requires firsts { AreFirsts lines.now self.old.jobs self.old.firsts }

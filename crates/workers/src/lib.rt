@@ -1,5 +1,6 @@
 //! Rounds of threads over shared lines: each device's thread, each processor and each driver of a
-//! board has a worker.
+//! board has a worker. A round here is the time in which each worker makes some steps, and no round
+//! of handlers within a flow.
 //!
 //! `share` puts each line of a board behind its lock and gives the actors their passes;
 //! `run_rounds` lets the workers step, until a round makes no step; `gather` takes the lines back.

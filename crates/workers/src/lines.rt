@@ -30,7 +30,7 @@ impl<L: IrqLine> Model for SharedLines<L> {
 }
 
 impl<L: IrqLine> SharedLines<L> {
-    /// The place of the line of that number; none if it takes no part.
+    /// The index of the line with this number; none if it takes no part.
     pub(crate) fn place_of(&self, number: LineNo) -> Option<usize>
         ensures place { IsPlaceOf self.now number result }
         ensures few { IfSome result (λ k. k + 1 < 2 ^ 64) }
@@ -43,7 +43,7 @@ impl<L: IrqLine> SharedLines<L> {
         None
     }
 
-    /// The flow handler of the line at the place `first` plus `behind`.
+    /// The flow handler of the line at index `first` plus `behind`.
     pub(crate) fn flow_at(&self, first: usize, behind: usize) -> FlowKind
         requires { first + behind < length self.now }
         ensures { (l : LockSeen) → slice_get self.now (first + behind) ≡ Some l
@@ -61,8 +61,8 @@ impl<L: IrqLine> SharedLines<L> {
         device.kind.has_thread() && self.place_of(device.line).is_some()
     }
 
-    /// The places from which and up to which the actor has passes: a thread of its device's line,
-    /// the others of each.
+    /// The lines of which the actor has passes, as the index of the first and the index after the
+    /// last: a thread has a pass of its device's line, a processor or a driver of each line.
     pub(crate) fn span_of(&self, actor: Actor) -> (usize, usize)
         requires { IsThere self.now actor }
         ensures { IsSpan self.now actor result.0 result.1 }

@@ -1,4 +1,4 @@
-//! Rounds: each job has a worker of its own in each of them.
+//! Rounds of threads: in each of them each job has a worker of its own.
 ghost use Rattle.std.specs.Prelude.{◌≡◌, ◌<◌, ◌≤◌, ℕ, Some, All, length, slice_get};
 ghost use Rattle.workers.specs.Fit.{Fit, IsJob};
 ghost use Rattle.workers.specs.Forks.{AreBoards};
@@ -20,37 +20,36 @@ use std::hint::spin_loop;
 use std::sync::Wait;
 use std::thread::{self, Threads};
 
-/// A worker makes at most this part of a history's greatest length as steps in a round. So one that
-/// goes on by itself, as a processor that takes a level line again and again until the thread of
-/// its device has run, leaves room for those that wait for the next round. Threads are made anew
-/// for each round, so it isn't to be a small part.
+/// In a round a worker makes at most as many steps as the greatest length of a history divided by
+/// this. So a worker that could go on by itself, like a processor that takes a level line again and
+/// again until the thread of its device has run, leaves room for the workers that wait for the next
+/// round. Threads are made anew for each round, so a worker's part should not be small.
 const SHARE: u32 = 16;
 
-/// The fewest steps that are the most of a round.
+/// The least that the bound on a worker's steps in a round can be.
 const LEAST: u32 = 16;
 
-/// The most steps of a round, whatever the histories' greatest length is.
+/// The most that the bound on a worker's steps in a round can be, however long histories may grow.
 const MOST: u32 = 65_536;
 
 /// How often a worker that finds nothing looks again before it ends its part of a round.
 const LOOKS: usize = 64;
 
-/// How rounds ended.
+/// How the rounds ended.
 #[derive(Clone, Copy, PartialEq, Eq)]
 pub enum RoundsEnd {
     /// A round made no step, since nothing was due of any actor on what it had seen.
     Quiet,
-    /// A step was due on that line, whose history has the greatest length; of several such lines it
-    /// is the lowest. `len` is that length.
+    /// A step was due on this line, and the line's history has the greatest length, `len`. Of
+    /// several such lines it is the lowest.
     Full { line: LineNo, len: u32 },
     /// Memory was needed and refused.
     NoMemory,
 }
 
-/// Rounds of all jobs, until one of them made no step, or a worker was refused. They work on the
-/// lines that the jobs fit. They come to an end: a round after which another comes left less room,
-/// as some pass has seen more than before, so there is at most one round more than the passes have
-/// entries to see until each has seen a history of the greatest length.
+/// Makes rounds of all jobs, until a round makes no step, or a worker is refused. The jobs fit the
+/// lines. The rounds come to an end: in each round but the last some pass sees more entries than
+/// before, and no pass can see more than a history of the greatest length.
 pub fn run_rounds<
     R: Threads + Wait + Sync,
     L: IrqLine + Send + Sync,
@@ -117,7 +116,7 @@ impl<L: IrqLine> Job<L> {
         self.turn(rt, board, lines, handlers)
     }
 
-    /// Turns of the actor, until there is something to do in one, or it has looked so often.
+    /// Turns of the actor, until one finds something to do: at most `LOOKS` + 1 of them.
     fn look<R: Wait, G: Gate, H: Handler>(
         &mut self,
         rt: &R,
@@ -234,8 +233,8 @@ impl<'b, L: IrqLine + Send + Sync> Jobs<'b, L> {
     }
 }
 
-/// How the workers left their jobs: full comes before out of memory, the lowest full line before
-/// the others, and that a step was made before that none was.
+/// How the workers left their jobs, as one answer: a full line comes first, the lowest of several;
+/// then that memory was refused; then that a step was made; then that none was.
 fn left_of_all<L: IrqLine>(jobs: &[Job<L>]) -> Left
     ensures all { SumsUp jobs.now (length jobs.now) result }
     ensures busy { BusyIsSo jobs.now (length jobs.now) result }
@@ -248,7 +247,7 @@ fn left_of_all<L: IrqLine>(jobs: &[Job<L>]) -> Left
     all
 }
 
-/// The one of the two that tells more.
+/// Of two answers the one that comes first in that order.
 fn worse(first: Left, second: Left) -> Left
     ensures { result ≡ worse first second }
 {

@@ -1,4 +1,4 @@
-//! A pass as a worker has it.
+//! A pass, with what its worker knows of it.
 ghost use Rattle.std.specs.Prelude.{◌≡◌, true, false, Some, IsSome, IsTrue};
 ghost use Rattle.irq_base.specs.declared.entries.Actor.{Actor};
 ghost use Rattle.line_lock.specs.Passes.{IsPassOf};
@@ -12,8 +12,8 @@ use line_shared::{Pass, SharedLine};
 use std::marker::Model;
 use std::sync::Wait;
 
-/// A pass, and whether its actor is known to have nothing due on what the pass has seen. If nothing
-/// has happened on the line since, it needn't be asked again.
+/// A pass, and whether its actor is known to have nothing due on what the pass has seen. If so, and
+/// nothing has happened on the line since, the line needn't be asked again.
 #[derive(Drop)]
 pub(crate) struct Seat<L: IrqLine> {
     pub(crate) pass: Pass<L>,
@@ -29,8 +29,8 @@ impl<L: IrqLine> Model for Seat<L> {
 }
 
 impl<L: IrqLine> Seat<L> {
-    /// Tries the actor's next step on the line, unless nothing is known to have happened on the
-    /// line since nothing was due.
+    /// Tries the actor's next step on the line, unless nothing was due last time and nothing is
+    /// known to have happened on the line since.
     pub(crate) fn step<R: Wait, H: Handler>(
         &mut self,
         rt: &R,
@@ -58,8 +58,8 @@ impl<L: IrqLine> Seat<L> {
         tried
     }
 
-    /// Whether nothing is known to have happened on the line since the actor was found to have
-    /// nothing due.
+    /// Whether nothing was due of the actor last time, and nothing is known to have happened on the
+    /// line since.
     fn is_still(&self, line: &SharedLine<L>) -> bool
         ensures { IsTrue result → self.now.rests ≡ true }
     {

@@ -17,14 +17,14 @@ pub(crate) enum Turn {
     Moved(Entry),
     /// Nothing is due of the actor on what it has seen.
     NotYet,
-    /// A step is due on that line, whose history has the greatest length. `len` is that length.
+    /// A step is due on this line, and the line's history has the greatest length, `len`.
     Full { line: LineNo, len: u32 },
     /// Memory was needed and refused.
     NoMemory,
 }
 
 impl<L: IrqLine> Job<L> {
-    /// Tries the actor's next step with the pass at the place.
+    /// Tries the actor's next step with the pass at index `place`.
     pub(crate) fn try_seat<R: Wait, H: Handler>(
         &mut self,
         rt: &R,
@@ -45,8 +45,8 @@ impl<L: IrqLine> Job<L> {
         turn_of(number, tried)
     }
 
-    /// Tries a processor's next step with the pass at the place. It has no flow in progress on
-    /// another line.
+    /// Tries a processor's next step with the pass at index `place`. The processor has no flow in
+    /// progress on another line.
     fn step_cpu<R: Wait, H: Handler>(
         &mut self,
         rt: &R,
@@ -69,8 +69,8 @@ impl<L: IrqLine> Job<L> {
         turn
     }
 
-    /// A processor's turn: on the line on which it has a flow in progress, where something is
-    /// always due of it, else on the first on which an entry of it is due.
+    /// A processor's turn. If it has a flow in progress, it steps on the flow's line, where
+    /// something is always due of it; else on the first line on which an entry of it is due.
     pub(crate) fn turn_cpu<R: Wait, H: Handler>(
         &mut self,
         rt: &R,
@@ -105,8 +105,8 @@ pub(crate) fn is_not_yet(turn: Turn) -> bool
     }
 }
 
-/// At which pass a processor has a flow in progress, after it added the entry with the pass at the
-/// place.
+/// The pass with which a processor has a flow in progress, after it added the entry with the pass
+/// at index `place`.
 pub(crate) fn flow_after(
     flow: FlowKind,
     entry: &Entry,
@@ -125,7 +125,7 @@ pub(crate) fn flow_after(
     }
 }
 
-/// What a try on that line comes to as a turn.
+/// What a turn answers, by what the try on its line answered.
 fn turn_of(line: LineNo, tried: Result<Option<Entry>, StepRefused>) -> Turn
     ensures { result ≡ turn_of line tried }
 {
