@@ -41,6 +41,17 @@ def calls():
     return rows
 
 
+def threads(lines, asks):
+    """Shared one-shot level lines of two devices with threads each, which are asked in turn."""
+    rows = ["board 1", "cpus 4", "log 1000000", "domain wire linear 64 level"]
+    rows += [f"line {i} wire {i}" for i in range(1, lines + 1)]
+    rows += [f"device {d} {(d + 1) // 2} check" for d in range(1, 2 * lines + 1)]
+    for i in range(1, lines + 1):
+        rows += [f"driver {i}", f"request {2 * i - 1} shared oneshot", f"request {2 * i} shared oneshot"]
+        rows += [f"ask {2 * i - 1 + k % 2}" for k in range(asks)]
+    return rows
+
+
 def deep():
     """64 lines over paths of eight levels: messages over six remappings and the vectors."""
     rows, parent = ["board 1", "domain vector linear 64 vector"], "vector"
@@ -58,6 +69,9 @@ def main(folder):
         "three_storms.board": "\n".join(storms(3, 232000)) + "\n",
         "crowd.board": "\n".join(crowd(6200)) + "\n",
         "threads.board": "\n".join(calls()) + "\n",
+        "few_storms.board": "\n".join(storms(4, 1500)) + "\n",
+        "few_threads.board": "\n".join(threads(4, 600)) + "\n",
+        "few_asks.board": LATCH + "ask 1\n" * 4000,
         "deep.board": "\n".join(deep()) + "\n",
         "picks.board": LATCH + "ask 1\n" + "picks" + " d1" * 65536 + "\n",
         "calls.board": LATCH + "ask 1\n" * 16382 + "free 1\n",
