@@ -1,5 +1,5 @@
-//! Tests of messages, which no output shows: those of chains and of a message controller by itself,
-//! and that of a line over the chain of its path.
+//! Tests of messages, which no output shows: the messages of chains and of a message controller by
+//! itself, and the message of a line over the chain of its path.
 #![tactic(auto)]
 
 #[cfg(test)]

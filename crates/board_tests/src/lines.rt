@@ -60,8 +60,8 @@ fn near_vectors(alloc: Global) -> Result<Hierarchy, NoMemory>
     Ok(domains)
 }
 
-/// The definition of a line of messages that processor 1 of two takes, with a device that a driver
-/// asks for.
+/// The definition of a line of messages, which processor 1 of two takes; a driver makes its device
+/// ask.
 fn definition(alloc: Global) -> Result<LineDef, NoMemory>
     ensures { IfOk result (λ def. cell_of_line def ≡ fresh_cell triggers.Edge true false true false) }
 {

@@ -1,4 +1,4 @@
--- The row that says what is said of a log.
+-- The row that says the judgement of a log.
 use Rattle.std.specs.Prelude.{ℕ, List, ◌++◌, codes, decimal}
 use Rattle.irq_check.specs.declared.answers.Answer.{Answer}
 use Rattle.irq_check.specs.declared.answers.Answer.TheVariants as answers

@@ -1,4 +1,4 @@
--- What is said of an input.
+-- The judgement of an input.
 use Rattle.std.specs.Prelude.{◌≡◌, ℕ, nat_lt, if◌then◌else◌, Option, Some, None, Result, Ok, Err, List, length}
 use Rattle.board_def.specs.Seen.{BoardSeen}
 use Rattle.board_stated.specs.TextOf.{board_of_text, whole}
@@ -24,8 +24,8 @@ abbrev pub with_log : List ℕ → Result BoardSeen BoardFault → Result (Board
 with_log log (Ok b) = Ok (b, log)
 with_log log (Err fault) = Err fault
 
--- the board of an input's first part, beside the log; or the first fault: there is no log, or the
--- board's text has one
+-- the board of an input's first part, with the log; or the first fault: there is no log, or the
+-- first fault of the board's text
 abbrev pub board_and_log : Option (List ℕ × List ℕ) → Result (BoardSeen × List ℕ) BoardFault
 board_and_log None = Err (whole faults.NoLog)
 board_and_log (Some (text, log)) = with_log log (board_of_text text)
@@ -41,21 +41,21 @@ abbrev pub HasVerdict : BoardSeen → List ℕ → Verdict → Type 0
 HasVerdict b log verdict =
     (logs : List HistorySeen) × IsLogOf b.lines log (Ok logs) × IsVerdict b logs verdict
 
--- what is said of the text of a log: that row of it is the first malformed one; or it has none, and
--- its histories are judged
+-- the judgement of the text of a log: this row is the first malformed one; or there is none, and
+-- the histories are judged
 abbrev pub ChecksLog : BoardSeen → List ℕ → Answer → Type 0
 ChecksLog b log answers.Lawful = HasVerdict b log verdicts.Lawful
 ChecksLog b log (answers.Unlawful line entry) = HasVerdict b log (verdicts.Unlawful line entry)
 ChecksLog b log (answers.Malformed row) = IsLogOf b.lines log (Err (refusals.Malformed row))
 
--- the input states a board and a log of it, of which that is said
+-- the input states a board and a log of it, and this is the judgement of the log
 pub record IsChecked (input : List ℕ) (answer : Answer) : Type 0 where
   pub board : BoardSeen
   pub log : List ℕ
   pub states : checked input ≡ Ok (board, log)
   pub judged : ChecksLog board log answer
 
--- what an input comes to; out of memory is free
+-- the answer to an input: its judgement, or its first fault; memory may be refused
 abbrev pub Checks : List ℕ → Result Answer CheckRefused → Type 0
 Checks input (Ok answer) = IsChecked input answer
 Checks input (Err (checks.Fault fault)) = checked input ≡ Err fault

@@ -11,11 +11,12 @@ use Rattle.irq_check.specs.declared.printing.CheckEnd.TheVariants as ends
 use Rattle.irq_check.specs.AnswerText.{answer_text}
 use Rattle.irq_check.specs.Checked.{IsChecked, checked, longest_input}
 
--- what is left of a source from which an input was read: as long as it may be, and one byte more
+-- what is left of a source after an input was read from it: at most the longest input and one byte
+-- more are taken
 abbrev pub left_after : List ℕ → List ℕ
 left_after bytes = drop (longest_input + 1) bytes
 
--- the answer is said of an input, which is what the source told
+-- the answer is the judgement of an input, and the input is what the source told
 pub record IsSaid (told : Option (List ℕ)) (answer : Answer) : Type 0 where
   pub input : List ℕ
   pub as_told : IsTold told input
@@ -26,15 +27,16 @@ abbrev pub is_read_fault : Result Answer InputRefused → Bool
 is_read_fault (Err refusals.ReadFault) = true
 is_read_fault _ = false
 
--- if the source tells what is left: what came is judged, and was read to its end; or it has that
--- fault, and was read to its end or one byte past the longest input
+-- if the source tells what is left: the bytes were read to their end, and the answer is their
+-- judgement; or they were read to their end or one byte past the longest input, and the answer is
+-- their fault
 abbrev pub ReadsInput : Option (List ℕ) → Option (List ℕ) → Result Answer InputRefused → Type 0
 ReadsInput (Some bytes) now (Ok answer) = IsChecked bytes answer × (now ≡ Some [])
 ReadsInput (Some bytes) now (Err (refusals.Fault fault)) =
     (checked bytes ≡ Err fault) × (now ≡ Some (left_after bytes))
 ReadsInput _ _ _ = Unit {0}
 
--- the same of the whole call
+-- what the whole call read, by how it ended
 abbrev pub Reads : Option (List ℕ) → Option (List ℕ) → CheckEnd → Type 0
 Reads (Some bytes) now (ends.Answered answer) = IsChecked bytes answer × (now ≡ Some [])
 Reads (Some bytes) now ends.WriteFault =
@@ -43,7 +45,7 @@ Reads (Some bytes) now (ends.Fault fault) =
     (checked bytes ≡ Err fault) × (now ≡ Some (left_after bytes))
 Reads _ _ _ = Unit {0}
 
--- the output gained the whole row of what is said of the input; after a fault of the output a
+-- the output gained the whole row with the judgement of the input; after a fault of the output a
 -- beginning of it
 abbrev pub SaysOrNot : Option (List ℕ) → Option (List ℕ) → Option (List ℕ) → CheckEnd → Type 0
 SaysOrNot told before now (ends.Answered answer) =

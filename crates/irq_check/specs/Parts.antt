@@ -8,12 +8,12 @@ use Rattle.log_read.specs.LogOf.{rows_of}
 abbrev pub is_dashes : List ℕ → Bool
 is_dashes row = bytes_eq row (codes "---\n") || bytes_eq row (codes "---")
 
--- the row stands before the first of the parts
+-- the row, put before the first of the two parts
 abbrev pub onto_board : List ℕ → Option (List ℕ × List ℕ) → Option (List ℕ × List ℕ)
 onto_board row None = None
 onto_board row (Some (board, log)) = Some (row ++ board, log)
 
--- what stands before the first row that is `---`, and what follows that row
+-- the bytes before the first row that is `---`, and the bytes after that row
 abbrev pub split_at_dashes : List (List ℕ) → Option (List ℕ × List ℕ)
 split_at_dashes [] = None
 split_at_dashes (row ∷ rows) =

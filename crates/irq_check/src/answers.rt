@@ -1,19 +1,19 @@
-//! What is said of a log, and the row that says it.
+//! The judgement of a log, and the row that says it.
 ghost use Rattle.std.specs.Prelude.{◌≡◌, ◌++◌, ◌≤◌, length, [], codes, decimal};
 ghost use Rattle.irq_check.specs.AnswerText.{answer_text};
 
 use irq_base::LineNo;
 use text_row::TextRow;
 
-/// What is said of a log.
+/// The judgement of a log.
 #[derive(Clone, Copy, PartialEq, Eq)]
 pub enum Answer {
-    /// Each row is one of a log, and the history of each line is legal.
+    /// Each row is a row of a log, and the history of each line is legal.
     Lawful,
-    /// Each row is one of a log. This line is the first of the board whose history isn't legal, and
-    /// the entry of this number of it, counted from 1, is the first that wasn't due.
+    /// Each row is a row of a log. This line is the first of the board whose history isn't legal,
+    /// and `entry` is the number of its first entry, counted from 1, that wasn't due.
     Unlawful { line: LineNo, entry: u32 },
-    /// This row of the log, counted from 1, is the first that isn't one of a log.
+    /// This row, counted from 1, is the first that isn't a row of a log.
     Malformed { row: u32 },
 }
 

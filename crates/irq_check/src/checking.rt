@@ -21,8 +21,8 @@ pub const LONGEST_INPUT: usize = 67_108_864;
 /// Why an input isn't judged.
 #[derive(Clone, Copy, Debug, PartialEq, Eq, Error)]
 pub enum CheckRefused {
-    /// It is too long, has no log, or has a board's text with this as its first fault; the first of
-    /// these counts.
+    /// The input's first fault: it is too long; it has no log; or the first fault of its board's
+    /// text.
     #[error("{0}")]
     Fault(BoardFault),
     /// Memory was needed and refused.
@@ -34,8 +34,8 @@ pub enum CheckRefused {
 ///
 /// # Errors
 ///
-/// `Fault` with the first of: the input has more than `LONGEST_INPUT` bytes; it has no row `---`;
-/// the faults of the text of the board. `NoMemory` if memory was refused.
+/// `Fault` with the first fault: the input has more than `LONGEST_INPUT` bytes; it has no row
+/// `---`; the first fault of the board's text. `NoMemory` if memory was refused.
 pub fn check_bytes(alloc: Global, bytes: &[u8]) -> Result<Answer, CheckRefused>
     ensures exact { Checks bytes.now result }
 {

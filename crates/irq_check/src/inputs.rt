@@ -10,11 +10,11 @@ use irq_io::{ReadRefused, Source, read_up_to};
 use std::alloc::Global;
 use thiserror::Error;
 
-/// Why a source gave no input: nothing to judge, or no board to a command that reads a board alone
-/// (`irq_top`).
+/// Why a source gave nothing to judge, or, to a command that reads a board alone (`irq_top`), no
+/// board.
 #[derive(Clone, Copy, Debug, PartialEq, Eq, Error)]
 pub enum InputRefused {
-    /// What came has this as its first fault.
+    /// The first fault of the bytes that came.
     #[error("board: {0}")]
     Fault(BoardFault),
     /// A read failed.

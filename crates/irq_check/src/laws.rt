@@ -1,12 +1,12 @@
-//! What holds of the answers, whoever gives them.
+//! What holds of judgements, whoever makes them.
 ghost use Rattle.std.specs.Prelude.{◌≡◌, ℕ, List, Err};
 ghost use Rattle.board_def.specs.Seen.{BoardSeen};
 ghost use Rattle.board_words.specs.declared.faults.BoardFault.{BoardFault};
 ghost use Rattle.irq_check.specs.declared.answers.Answer.{Answer};
 ghost use Rattle.irq_check.specs.Checked.{ChecksLog, IsChecked, checked};
 
-/// The answers exclude one another: of the text of a log at most one holds, with its place; so does
-/// of an input, and none of one that has a fault.
+/// Judgements exclude one another: at most one is right of the text of a log, with its place. The
+/// same holds of an input, and no judgement is right of an input that has a fault.
 pub fn answer_is_one()
     ensures of_log { (board : BoardSeen) (log : List ℕ) (one other : Answer)
         → ChecksLog board log one → ChecksLog board log other → one ≡ other }

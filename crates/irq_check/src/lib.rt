@@ -3,7 +3,8 @@
 //!
 //! The board's text ends before the first text line that is exactly `---`, and all that follows
 //! that line is the log. A log whose rows are not all rows of entries is malformed; one that can be
-//! read is lawful if the history of each line is legal. What a board has is no fault of its log.
+//! read is lawful if the history of each line is legal. The rows of a log are judged against the
+//! board alone; what the board declares is never a fault of its log.
 #![tactic(auto)]
 
 pub mod answers;

@@ -5,8 +5,8 @@ ghost use Rattle.irq_check.specs.Parts.{parts_of};
 
 use log_read::cut_row;
 
-/// What stands before the first text line that is exactly `---`, and what follows that line;
-/// nothing if there is none.
+/// The bytes before the first text line that is exactly `---`, and the bytes after that line; none
+/// if there is no such line.
 pub fn cut_input(input: &[u8]) -> Option<(&[u8], &[u8])>
     ensures { MatchOption result (parts_of input.now ≡ None)
         (λ p. parts_of input.now ≡ Some (p.0.now, p.1.now)) }
@@ -30,7 +30,7 @@ pub fn cut_input(input: &[u8]) -> Option<(&[u8], &[u8])>
     None
 }
 
-/// Whether the text line, which stands here without its line feed, is exactly `---`.
+/// Whether the text line, given without its line feed, is exactly `---`.
 fn is_dashes(line: &[u8]) -> bool
     ensures { result ≡ bytes_eq line.now (codes "---") }
 {

@@ -1,4 +1,4 @@
-//! An input is read and judged, and what is said of it printed.
+//! An input is read and judged, and the judgement printed.
 ghost use Rattle.std.specs.Prelude.{◌≡◌, [], false, true};
 ghost use Rattle.irq_io.specs.Faults.{Counts};
 ghost use Rattle.irq_io.specs.Whole.{HandsOn, KeepsNone, WritesAll, writing_failed};
@@ -27,7 +27,7 @@ pub enum CheckEnd {
     NoMemory,
 }
 
-/// Reads an input from `src`, judges it, and prints what is said of it to `out`, in one row.
+/// Reads an input from `src`, judges it, and prints the judgement to `out`, in one row.
 pub fn check_and_print<S: Source, O: Sink>(alloc: Global, src: &mut S, out: &mut O) -> CheckEnd
     ensures reads { Reads (S.left src.old) (S.left src.new) result }
     ensures read_fault { Counts (S.faults src.old) (S.faults src.new) (is_read_fault_end result) }

@@ -1,5 +1,5 @@
--- The arguments of the program, as std gives them: a list, whose first is the program's name; or
--- why there is none.
+-- The arguments of the program, as std gives them: a list that begins with the program's name; or
+-- why there is no list.
 use Rattle.std.specs.Prelude.{◌≡◌, ◌⊎◌, List, ℕ, [], ◌∷◌, drop, map, codes, Ok, Err, Result, string_bytes}
 use Rattle.std.specs.Global.{Global}
 use Rattle.std.specs.IoError.{error_kind}
@@ -37,7 +37,7 @@ abbrev pub IsForm : Arguments → Command → Type 0
 IsForm (Ok args) command = Asks (map string_bytes (after_name (into_iter_items args))) command
 IsForm (Err error) command = ⊥
 
--- the arguments are those of no command
+-- the arguments are no command's
 abbrev pub IsNoForm : Arguments → Type 0
 IsNoForm args = (command : Command) → IsForm args command → ⊥
 

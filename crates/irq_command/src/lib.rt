@@ -2,9 +2,9 @@
 //! writers of std.
 //!
 //! `run` puts a buffer before the output and nothing else between std and the top call; `command`
-//! is what it does over any ends. An argument that isn't UTF-8 is none of the forms of the command
-//! line; if there is no memory for the arguments, their words or the buffer, the program ends out
-//! of memory.
+//! is the same over any source and sinks. Arguments of which one isn't UTF-8 are no command's
+//! words. If there is no memory for the arguments, their words or the buffer, the program ends with
+//! the status for refused memory.
 #![tactic(auto)]
 
 pub mod commands;

@@ -20,7 +20,7 @@ use std::thread::Threads;
 /// The size of the buffer of the output, in bytes.
 const BUFFER: usize = 64 * 1024;
 
-/// What a run of the program leaves: its exit status, how it ended, and its ends.
+/// What a run of the program leaves: its exit status, how it ended, and its streams.
 #[derive(Drop)]
 pub struct Ended<R: Read + Drop, O: Write + Drop, E: Write + Drop> {
     /// The exit status.
@@ -35,8 +35,8 @@ pub struct Ended<R: Read + Drop, O: Write + Drop, E: Write + Drop> {
     pub error: StdSink<E>,
 }
 
-/// Runs the program over its arguments as they come, its input, its output, before which a buffer
-/// is put, and its error stream. All of the output is handed to the writer if the status is 0 or 1.
+/// Runs the program over its arguments as they come, its input, its output and its error stream.
+/// The output gets a buffer. All of the output is handed to the writer if the status is 0 or 1.
 pub fn run<T: Threads + Wait + Sync, R: Read + Drop, O: Write + Drop, E: Write + Drop>(
     rt: &T,
     alloc: Global,
@@ -119,7 +119,7 @@ pub fn run<T: Threads + Wait + Sync, R: Read + Drop, O: Write + Drop, E: Write +
     }
 }
 
-/// The writer with a buffer of no bytes, which takes no memory.
+/// The writer with an empty buffer, which takes no memory.
 fn without_buffer<W: Write + Drop>(alloc: Global, writer: W) -> BufWriter<W>
     ensures inner { writer_inner result ≡ writer }
     ensures empty { writer_buffer result ≡ [] }

@@ -5,7 +5,7 @@ use Rattle.irq_io.specs.declared.whole.WriteEnd.TheVariants as writes
 use Rattle.irq_play.specs.declared.ending.PlayedEnd.{PlayedEnd}
 use Rattle.irq_play.specs.declared.ending.PlayedEnd.TheVariants as ends
 
--- a play that came to its end and was printed so
+-- how a play ended, by how its printing did; the play itself came to its end
 abbrev pub end_of_writing : WriteEnd → PlayedEnd
 end_of_writing writes.Done = ends.Done
 end_of_writing writes.Failed = ends.WriteFault

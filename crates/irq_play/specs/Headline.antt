@@ -1,6 +1,6 @@
 -- The headline: what holds of the histories of a board's lines when its play has come to its end,
--- and of the reports that hand them out. The moves of a play stand in the order in which they were
--- made, the oldest first, and so do the entries of a history; `Plays` has the newest move first.
+-- and of the reports that hand them out. The moves of a play and the entries of a history stand
+-- oldest first here; `Plays` has the newest move first.
 use Rattle.std.specs.Prelude.{◌≡◌, ◌≤◌, ℕ, IsSome, Some, List, [], ◌++◌, length, map, reverse, slice_get}
 use Rattle.irq_base.specs.declared.entries.Actor.{Actor}
 use Rattle.irq_base.specs.declared.entries.Entry.{Entry}
@@ -34,13 +34,13 @@ pub record HoldsAt (def : LineDef) (h : List Entry) : Type 0 where
   -- a started line with linked devices is masked only if it is disabled, or a flow is in progress,
   -- or on a level line a thread isn't finished
   pub has_reason : HasReason def h
-  -- if the line is enabled and no flow is in progress, an owed edge is handled next, and so is a
-  -- high level that no unfinished thread holds
+  -- if the line is enabled and no flow is in progress, the target's next entry is a take that is
+  -- handled, if an edge is owed, or if the level is high and no thread is unfinished
   pub served_when_idle : IsServedWhenIdle def h
 
 -- a line's history, at its end or not
 pub record KeepsLaws (def : LineDef) (h : List Entry) : Type 0 where
-  -- each entry was the due one of its actor
+  -- each entry was due of its actor
   pub legal : IsLegal def h
   -- a device's handler is called, and its thread's run begins, only when it isn't at work
   pub no_overlap : NoOverlap def h
@@ -52,9 +52,9 @@ pub record KeepsLaws (def : LineDef) (h : List Entry) : Type 0 where
   pub takes_are_counted : TakesAreCounted def h
   -- a hard clear came when no handler was at work, a sync's end when no thread was
   pub synchronised : IsSynchronised def h
-  -- each driver's entries are those of its calls, in the order of its script, each once
+  -- a driver's entries are the entries of its calls, in the order of its script, each once
   pub scripts : FollowsScripts def h
-  -- at each moment
+  -- at each moment of the history
   pub always : (before after : List Entry) → h ≡ before ++ after → HoldsAt def before
 
 -- the history of a line whose board's play came to its end
@@ -70,13 +70,13 @@ pub record LineHeadline (def : LineDef) (h : List Entry) : Type 0 where
 
 -- ---- all lines of a board
 
--- the fact holds of each line of the board that has a place in its layout
+-- the fact holds of each line of the board that takes part
 abbrev pub EachMapped : BoardSeen → (LineRow → Type 0) → Type 0
 EachMapped b P =
     (i : ℕ) (row : LineRow) (virq : ℕ) (path : List (ℕ × ℕ)) → slice_get b.lines i ≡ Some row
     → slice_get (layout_of b) i ≡ Some (placements.Mapped virq path) → P row
 
--- and this of each line that the layout refuses
+-- the fact holds of each line of the board that the layout refuses
 abbrev pub EachRefused : BoardSeen → (LineRow → Type 0) → Type 0
 EachRefused b P =
     (i : ℕ) (row : LineRow) (why : Unmapped) → slice_get b.lines i ≡ Some row
@@ -86,11 +86,11 @@ EachRefused b P =
 abbrev pub LineHistory : Type 0
 LineHistory = LineNo × List Entry
 
--- the line of the row, with its entries among the moves
+-- the line's number, with its entries among the moves
 abbrev pub history_of : List Move → LineRow → LineHistory
 history_of g row = (row.line, part row.line g)
 
--- one history a line of the board, in the board's order
+-- one history for each line of the board, in the board's order
 abbrev pub histories_of : BoardSeen → List Move → List LineHistory
 histories_of b g = map (history_of g) b.lines
 
@@ -106,9 +106,9 @@ IsAmple b = (i : ℕ) (def : LineDef) → slice_get (defs_of b) i ≡ Some def �
 
 -- the board was played to its end, with these moves
 pub record Headline (b : BoardSeen) (g : List Move) (reports : List LineReport) : Type 0 where
-  -- the moves are the play of the board by the stated order with its picks, and no others are
+  -- these moves, and no others, are the play of the board by the stated order with its picks
   pub play : Plays b b.picks (reverse g) Done
-  -- one report a line of the board, with the line's entries among the moves
+  -- one report for each line of the board, with the line's entries among the moves
   pub handed_out : map told_by reports ≡ histories_of b g
   pub mapped : EachMapped b (λ row. LineHeadline (line_of_row b row) (part row.line g))
   -- a refused line has no entry
@@ -123,11 +123,11 @@ pub record FullLog (b : BoardSeen) (g : List Move) (reports : List LineReport) (
   pub refused : EachRefused b (λ row. part row.line g ≡ [])
   pub length_is : length (part line g) ≡ len
   pub limit_is : len ≡ b.log
-  -- so this ending doesn't come if each line's log is ample
+  -- this ending doesn't come if each line's log is ample
   pub scarce : IsAmple b → ⊥
 
--- The board was played until a step needed memory: each of these moves was the next one, by the
--- picks and the order, and there is a further one; `left` are the picks that are left.
+-- The board was played until a step was refused memory. Each of these moves was the next one, by
+-- the picks and the order, and a further move is due; `left` are the picks that are left.
 pub record CutShort (b : BoardSeen) (g : List Move) (reports : List LineReport) : Type 0 where
   pub left : List Actor
   pub so_far : IsChosen b b.picks (reverse g) left

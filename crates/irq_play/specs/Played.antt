@@ -1,4 +1,4 @@
--- What comes of a board's play, and of what is printed of it.
+-- What a board's play answers, and what is printed of it.
 use Rattle.std.specs.Prelude.{◌≡◌, ℕ, Bool, Option, List, [], reverse}
 use Rattle.irq_base.specs.declared.reporting.LineReport.{LineReport}
 use Rattle.irq_io.specs.Whole.{WritesAll}
@@ -16,15 +16,15 @@ use Rattle.irq_play.specs.declared.ending.PlayedEnd.{PlayedEnd}
 use Rattle.irq_play.specs.declared.ending.PlayedEnd.TheVariants as ends
 use Rattle.irq_play.specs.declared.ending.Wanted.TheVariants as wants
 
--- The board was played to its end, the reports hand that play out, and it is what was printed: all
--- of its report, or after a fault a beginning of it.
+-- The board was played to its end, and the reports hand out this play. Its report was printed: all
+-- of it, or after a fault a beginning of it.
 pub record IsPrinted (b : BoardSeen) (summary : Bool) (reports : List LineReport) (before now : Option (List ℕ)) (end : WriteEnd) : Type 0 where
   pub moves : List Move
   pub headline : Headline b moves reports
   pub prints : WritesAll before now (report_text b summary moves) end
 
--- The same by how the play ended; nothing is said to be printed of one that didn't come to its end.
--- Out of memory is free but for a step's: then the board was played up to it.
+-- What the play answers and prints, by how it ended. Nothing is printed unless the play came to its
+-- end. Memory may be refused at any time; if a step was refused it, the board was played up to it.
 abbrev pub PlaysBoard : BoardSeen → Bool → List LineReport → Option (List ℕ) → Option (List ℕ)
     → PlayedEnd → Type 0
 PlaysBoard b summary reports before now ends.Done =
@@ -37,8 +37,8 @@ PlaysBoard b summary reports before now (ends.NoMemory wants.Step) =
     (moves : List Move) × CutShort b moves reports
 PlaysBoard b summary reports before now (ends.NoMemory wants.Making) = reports ≡ []
 
--- A system in which the board was played, and so its play ended. If memory was refused it is as the
--- play so far left it, and there is a next move.
+-- A system in which the board was played, and how the play ended. If memory was refused, the system
+-- is as the play so far left it, and a next move is due.
 pub record IsPlayed (b : BoardSeen) (s : SystemSeen) (end : PlayEnd) : Type 0 where
   pub board : s.board ≡ b
   pub layout : s.layout ≡ layout_of b

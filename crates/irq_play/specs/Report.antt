@@ -9,11 +9,11 @@ use Rattle.log_text.specs.LayoutRows.{layout_rows}
 use Rattle.log_text.specs.Rows.{entry_text}
 use Rattle.irq_play.specs.Headline.{LineHistory, histories_of}
 
--- a row a move, the oldest first
+-- a row for each move, the oldest first
 abbrev pub moves_text : List Move → List ℕ
 moves_text g = flat_map (λ m. entry_text m.0 m.1) g
 
--- a summary row a line
+-- a summary row for each line
 abbrev pub summaries_text : List LineHistory → List ℕ
 summaries_text histories = flat_map (λ h. summary_text h.0 h.1) histories
 

@@ -17,11 +17,11 @@ abbrev pub entries_of : Option BoardLine → List Entry
 entries_of None = []
 entries_of (Some x) = reverse x.past
 
--- the line of the row, with its entries if it is among these
+-- the line's number, with its entries if it is among these lines
 abbrev pub history_among : List BoardLine → LineRow → LineHistory
 history_among lines row = (row.line, entries_of (find_line lines row.line))
 
--- they are the lines of the board that take part, in its order
+-- these are the lines of the board that take part, in its order
 abbrev pub AreOfBoard : BoardSeen → List BoardLine → Type 0
 AreOfBoard b lines = map (λ (x : BoardLine). x.def) lines ≡ defs_of b
 
@@ -29,13 +29,13 @@ AreOfBoard b lines = map (λ (x : BoardLine). x.def) lines ≡ defs_of b
 abbrev pub from_last : List LineSeen → List BoardLine
 from_last lines = board_lines (reverse lines)
 
--- the first of the lines is that of the number
+-- the first of the lines has this number
 abbrev pub is_first : LineNo → List BoardLine → Bool
 is_first number [] = false
 is_first number (x ∷ xs) = same_line number x.def.line
 
--- the entries of the first line were taken, and the line with them; or none, if it is of another
--- number
+-- the first line was taken away, and its entries are the answer; or none was, since the first line
+-- has another number
 abbrev pub TakesFirst : Bool → List BoardLine → List BoardLine → List Entry → Type 0
 TakesFirst true old new entries = (entries ≡ entries_of (slice_get old 0)) × (new ≡ drop 1 old)
 TakesFirst false old new entries = (entries ≡ []) × (new ≡ old)

@@ -3,11 +3,11 @@
 use irq_base::LineNo;
 use irq_io::WriteEnd;
 
-/// What needed memory, and was refused it.
+/// What memory was refused for.
 #[derive(Clone, Copy, PartialEq, Eq)]
 pub enum Wanted {
-    /// What is taken beside the steps of a play: to read an input, to lay and make the lines, to
-    /// hand out the reports.
+    /// Anything but a step of a play: reading an input, laying and making the lines, handing out
+    /// the reports.
     Making,
     /// A step of the play: there was a next move, and it wasn't made.
     Step,
@@ -20,8 +20,8 @@ pub enum PlayedEnd {
     Done,
     /// The play came to its end, and a write or a flush of its report failed.
     WriteFault,
-    /// An entry was due on the line, whose history has the greatest length. `len` is that
-    /// length. Nothing is printed.
+    /// An entry was due on the line, and the line's history has the greatest length, `len`. Nothing
+    /// is printed.
     LogFull { line: LineNo, len: u32 },
     /// Memory was needed and refused. Nothing is printed.
     NoMemory(Wanted),
@@ -33,7 +33,7 @@ impl From<WriteEnd> for PlayedEnd {
 
     ghost from_gives = { λ written end. end ≡ end_of_writing written };
 
-    /// How a play ended that came to its end and was printed so.
+    /// How a play ended, by how its printing did; the play itself came to its end.
     fn from(written: WriteEnd) -> PlayedEnd {
         match written {
             WriteEnd::Done => PlayedEnd::Done,

@@ -23,19 +23,18 @@ use irq_line::{IrqLine, MakesLine};
 use line_core::Line;
 use std::alloc::Global;
 
-/// What came of a board's play: how it ended, and the histories that were taken out of the lines.
+/// The result of a board's play: how it ended, and the histories that were taken out of the lines.
 #[derive(Drop)]
 pub struct PlayedBoard {
     /// How the play and its printing ended.
     pub end: PlayedEnd,
-    /// One report a line of the board, in its order; none if there was no memory to begin.
+    /// One report for each line of the board, in its order; none if there was no memory to begin.
     pub reports: Reports,
 }
 
 /// Lays the board's lines over its domains, plays them by the stated order with the board's picks,
-/// and prints the play, or with `summary` a summary of it. Handlers are called as they are due. All
-/// memory but that of the steps is taken before the first of them, and all of it before the first
-/// row is printed.
+/// and prints the play, or with `summary` a summary of it. Handlers are called as they are due.
+/// Memory is taken before the first step, and by steps; none is taken once a row is printed.
 pub fn play_and_print<O: Sink, H: Handler>(
     alloc: Global,
     board: &Board,
@@ -66,7 +65,7 @@ pub fn play_and_print<O: Sink, H: Handler>(
     }
 }
 
-/// Plays the board with lines of that maker. The only error is `NoMemory` for the lines and the
+/// Plays the board with lines of the maker. The only error is `NoMemory` for the lines and the
 /// order of play.
 fn play_lines<'b, L: IrqLine, M: MakesLine<L>, H: Handler>(
     alloc: Global,
@@ -84,7 +83,7 @@ fn play_lines<'b, L: IrqLine, M: MakesLine<L>, H: Handler>(
     Ok((system, end))
 }
 
-/// Reports a play that ended so, and prints it if it came to its end.
+/// Reports a play that ended with `end`, and prints it if it came to its end.
 fn report_play<O: Sink, L: IrqLine>(
     board: &Board,
     summary: bool,
@@ -171,7 +170,7 @@ fn report_cut<L: IrqLine>(board: &Board, system: System<'_, L>, room: ReportRoom
     }
 }
 
-/// What comes of a board that memory was refused for before its play.
+/// The result if memory was refused before the play.
 fn unplayed(alloc: Global) -> PlayedBoard
     ensures end { result.end ≡ PlayedEnd.NoMemory Wanted.Making }
     ensures reports { result.reports.reports ≡ [] }

@@ -1,4 +1,4 @@
-//! Prints a play, or a summary of it, row by row, each handed to the sink by itself.
+//! Prints a play row by row; each row is handed to the sink by itself.
 ghost use Rattle.std.specs.Prelude.{◌≡◌, ℕ, ◌++◌, All, length};
 ghost use Rattle.board_def.specs.Layout.{layout_of};
 ghost use Rattle.irq_io.specs.Faults.{Counts};
@@ -16,7 +16,7 @@ use kept_rows::KeptRows;
 use log_text::layout_row;
 use text_row::TextRow;
 
-/// Prints where each line lies, in the board's order, by way of the row.
+/// Prints where each line lies, in the board's order; `row` is lent for the rows.
 pub fn print_layout<O: Sink>(
     out: &mut O,
     row: &mut TextRow,

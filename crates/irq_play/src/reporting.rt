@@ -9,11 +9,12 @@ use irq_base::{History, LineNo, LineReport, NoMemory, Reports};
 use irq_line::IrqLine;
 use std::alloc::Global;
 
-/// Room for one report a line of a board, so that nothing is refused once something is printed.
+/// Room for one report for each line of a board, so that nothing is refused once something is
+/// printed.
 #[derive(Drop)]
 pub struct ReportRoom {
     reports: Reports,
-    /// The histories of lines that may be refused.
+    /// An empty history for each line, for those that the layout refuses.
     empty: Vec<History>,
 }
 
@@ -28,7 +29,7 @@ impl ReportRoom {
         Ok(ReportRoom { reports, empty })
     }
 
-    /// One report a line of the board, in its order: each line that takes part hands out its
+    /// One report for each line of the board, in its order: a line that takes part hands out its
     /// history; a line that the layout refuses has an empty one.
     pub fn fill<L: IrqLine>(self, board: &Board, mut lines: Vec<L>) -> Reports
         requires room { HasRoom (length board.now.lines) self }
@@ -57,7 +58,7 @@ impl ReportRoom {
     }
 }
 
-/// So many empty histories.
+/// A list of `n` empty histories.
 fn empty_histories(alloc: Global, n: usize) -> Result<Vec<History>, NoMemory>
     ensures count { IfOk result (λ all. length all.items ≡ n) }
     ensures empty { IfOk result (λ all. All IsEmptyHistory all.items) }
@@ -87,7 +88,7 @@ fn take_history<L: IrqLine>(lines: &mut Vec<L>, number: LineNo, empty: History) 
     }
 }
 
-/// Whether the last of the lines is that of the number.
+/// Whether the last of the lines has this number.
 fn is_last<L: IrqLine>(lines: &[L], number: LineNo) -> bool
     ensures { result ≡ is_first number (from_last (map L.seen lines.now)) }
 {

@@ -1,4 +1,4 @@
-//! Prints a summary of a play: a row a line, and the total.
+//! Prints a summary of a play: a row for each line, and the total.
 ghost use Rattle.std.specs.Prelude.{◌≡◌, ◌≤◌, All, length, map};
 ghost use Rattle.irq_io.specs.Faults.{Counts};
 ghost use Rattle.irq_io.specs.Whole.{WritesAll, writing_failed};
@@ -11,7 +11,7 @@ use irq_io::{Sink, WriteEnd, write_all};
 use log_summary::{summary_row, total_row};
 use text_row::TextRow;
 
-/// Prints a row for each report, in their order, and the total, by way of the row.
+/// Prints a row for each report, in their order, and the total; `row` is lent for the rows.
 pub fn print_totals<O: Sink>(out: &mut O, row: &mut TextRow, reports: &Reports) -> WriteEnd
     requires few { length reports.now.reports ≤ 64 }
     requires summable { All IsSummable reports.now.reports }

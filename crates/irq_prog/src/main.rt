@@ -1,5 +1,5 @@
-//! The program `genirq`: its arguments and standard streams, handed to the body, whose status it
-//! ends with.
+//! The program `genirq`: it hands its arguments and standard streams to the body, and ends with the
+//! body's status.
 #![tactic(auto)]
 
 use irq_command::run;

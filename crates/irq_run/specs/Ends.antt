@@ -5,7 +5,7 @@ use Rattle.irq_io.specs.declared.whole.WriteEnd.TheVariants as writes
 use Rattle.irq_run.specs.declared.ending.RunEnd.{RunEnd}
 use Rattle.irq_run.specs.declared.ending.RunEnd.TheVariants as ends
 
--- a run that came to its end and was printed so
+-- how a run ended, by how its printing did; the run itself came to its end
 abbrev pub end_of_writing : WriteEnd → RunEnd
 end_of_writing writes.Done = ends.Done
 end_of_writing writes.Failed = ends.WriteFault

@@ -1,7 +1,6 @@
 -- The headline: what holds of the histories of a board's lines when its run by threads has come to
--- its end, and of the reports that hand them out. The entries of a history stand in the order in
--- which they were made, the oldest first. Which histories a run gives is free, and nothing is said
--- of the order between lines.
+-- its end, and of the reports that hand them out. The entries of a history stand oldest first.
+-- Nothing is promised of which histories a run gives, or of the order between lines.
 use Rattle.std.specs.Prelude.{◌≡◌, ℕ, IsSome, Some, List, [], length, map, slice_get}
 use Rattle.irq_base.specs.declared.entries.Actor.{Actor}
 use Rattle.irq_base.specs.declared.entries.Entry.{Entry}
@@ -17,20 +16,19 @@ use Rattle.irq_play.specs.Headline.{EachMapped, EachRefused, IsAmple, KeepsLaws,
 abbrev pub Histories : Type 0
 Histories = LineNo → List Entry
 
--- one history a line of the board, in the board's order
+-- one history for each line of the board, in the board's order
 abbrev pub histories_of : BoardSeen → Histories → List LineHistory
 histories_of b entries = map (λ (row : LineRow). (row.line, entries row.line)) b.lines
 
 -- the board was run to its end, and this happened on its lines
 pub record Headline (b : BoardSeen) (entries : Histories) (reports : List LineReport) : Type 0 where
-  -- one report a line of the board, with the line's entries
+  -- one report for each line of the board, with the line's entries
   pub handed_out : map told_by reports ≡ histories_of b entries
   pub mapped : EachMapped b (λ row. LineHeadline (line_of_row b row) (entries row.line))
   -- a refused line has no entry
   pub refused : EachRefused b (λ row. entries row.line ≡ [])
 
--- an entry is due on the line of that number, one of the board's, and its history has the greatest
--- length, `len`
+-- an entry is due on this line of the board, and the line's history has the greatest length, `len`
 pub record IsFullLine (b : BoardSeen) (entries : Histories) (line : LineNo) (len : ℕ) : Type 0 where
   pub place : ℕ
   pub row : LineRow
@@ -47,5 +45,5 @@ pub record FullLog (b : BoardSeen) (entries : Histories) (reports : List LineRep
   pub mapped : EachMapped b (λ row. KeepsLaws (line_of_row b row) (entries row.line))
   pub refused : EachRefused b (λ row. entries row.line ≡ [])
   pub full : IsFullLine b entries line len
-  -- so this ending doesn't come if each line's log is ample
+  -- this ending doesn't come if each line's log is ample
   pub scarce : IsAmple b → ⊥

@@ -1,4 +1,4 @@
--- What comes of a board's run, and of what is printed of it.
+-- What a board's run answers, and what is printed of it.
 use Rattle.std.specs.Prelude.{◌≡◌, ℕ, Bool, Option, List, []}
 use Rattle.irq_base.specs.declared.numbers.LineNo.{LineNo}
 use Rattle.irq_base.specs.declared.reporting.LineReport.{LineReport}
@@ -16,18 +16,19 @@ use Rattle.irq_run.specs.Report.{run_text}
 use Rattle.irq_run.specs.declared.ending.RunEnd.{RunEnd}
 use Rattle.irq_run.specs.declared.ending.RunEnd.TheVariants as ends
 
--- The board was run to its end, the reports hand that run out, and it is what was printed: all of
--- its report, or after a fault a beginning of it.
+-- The board was run to its end, and the reports hand out this run. Its report was printed: all of
+-- it, or after a fault a beginning of it.
 pub record IsPrinted (b : BoardSeen) (summary : Bool) (reports : List LineReport) (before now : Option (List ℕ)) (end : WriteEnd) : Type 0 where
   pub entries : Histories
   pub headline : Headline b entries reports
   pub prints : WritesAll before now (run_text b summary (histories_of b entries)) end
 
--- the run ended when that line's history had the greatest length, and the reports hand it out
+-- the run ended when this line's history had the greatest length, and the reports hand out the run
 abbrev pub IsRunFull : BoardSeen → List LineReport → LineNo → ℕ → Type 0
 IsRunFull b reports line len = (entries : Histories) × FullLog b entries reports line len
 
--- by how the run ended; nothing is said to be printed of one that didn't come to its end
+-- what the run answers and prints, by how it ended; nothing is printed unless the run came to its
+-- end
 abbrev pub RunsBoard : BoardSeen → Bool → List LineReport → Option (List ℕ) → Option (List ℕ)
     → RunEnd → Type 0
 RunsBoard b summary reports before now ends.Done =
@@ -37,8 +38,8 @@ RunsBoard b summary reports before now ends.WriteFault =
 RunsBoard b summary reports before now (ends.LogFull line len) = IsRunFull b reports line len
 RunsBoard b summary reports before now ends.NoMemory = reports ≡ []
 
--- A system of the board's lines after a run, which was settled and so ended: whatever the threads
--- did, each history is legal, and the drivers' calls were made in the order of their scripts.
+-- A system of the board's lines after a run, and how settling it ended. Whatever the threads did,
+-- each history is legal, and the drivers' calls were made in the order of their scripts.
 pub record IsRun (b : BoardSeen) (s : SystemSeen) (end : PlayEnd) : Type 0 where
   pub board : s.board ≡ b
   pub layout : s.layout ≡ layout_of b

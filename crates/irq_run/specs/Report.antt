@@ -11,7 +11,7 @@ use Rattle.log_text.specs.Rows.{history_text}
 use Rattle.irq_play.specs.Headline.{LineHistory}
 use Rattle.irq_play.specs.Report.{totals_text}
 
--- a row an entry, line by line
+-- a row for each entry, line by line
 abbrev pub lines_text : List LineHistory → List ℕ
 lines_text histories = flat_map (λ h. history_text h.0 h.1) histories
 

@@ -10,8 +10,8 @@ pub enum RunEnd {
     Done,
     /// The run came to its end, and a write or a flush of its report failed.
     WriteFault,
-    /// An entry was due on the line, whose history has the greatest length. `len` is that
-    /// length. Nothing is printed.
+    /// An entry was due on the line, and the line's history has the greatest length, `len`. Nothing
+    /// is printed.
     LogFull { line: LineNo, len: u32 },
     /// Memory was needed and refused. Nothing is printed.
     NoMemory,
@@ -23,7 +23,7 @@ impl From<WriteEnd> for RunEnd {
 
     ghost from_gives = { λ written end. end ≡ end_of_writing written };
 
-    /// How a run ended that came to its end and was printed so.
+    /// How a run ended, by how its printing did; the run itself came to its end.
     fn from(written: WriteEnd) -> RunEnd {
         match written {
             WriteEnd::Done => RunEnd::Done,

@@ -1,4 +1,4 @@
-//! Prints histories line by line, each row handed to the sink by itself.
+//! Prints histories line by line; each row is handed to the sink by itself.
 ghost use Rattle.std.specs.Prelude.{All, map};
 ghost use Rattle.irq_io.specs.Faults.{Counts};
 ghost use Rattle.irq_io.specs.Whole.{WritesAll, writing_failed};

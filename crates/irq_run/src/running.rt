@@ -29,20 +29,20 @@ use std::sync::Wait;
 use std::thread::Threads;
 use workers::{Gate, RoundsEnd, gather, run_rounds, share};
 
-/// What came of a board's run: how it ended, and the histories that were taken out of the lines.
+/// The result of a board's run: how it ended, and the histories that were taken out of the lines.
 #[derive(Drop)]
 pub struct RanBoard {
     /// How the run and its printing ended.
     pub end: RunEnd,
-    /// One report a line of the board, in its order; none if memory was refused.
+    /// One report for each line of the board, in its order; none if memory was refused.
     pub reports: Reports,
 }
 
 /// Lays the board's lines over its domains, puts each behind a lock, lets each of the board's
 /// actors step in a thread of its own until none can, and prints each line's entries, line by line,
-/// or with `summary` a summary of them. The board's picks are passed over. Handlers are called as
-/// they are due, and the gate before each turn of a worker. All memory is taken before the first
-/// row is printed.
+/// or with `summary` a summary of them. The board's picks are not used. Handlers are called as they
+/// are due, and the gate is called before each turn of a worker. All memory is taken before the
+/// first row is printed.
 pub fn run_and_print<R: Threads + Wait + Sync, O: Sink, G: Gate + Sync, H: Handler + Sync>(
     rt: &R,
     alloc: Global,
@@ -72,8 +72,8 @@ pub fn run_and_print<R: Threads + Wait + Sync, O: Sink, G: Gate + Sync, H: Handl
     }
 }
 
-/// Runs lines of that maker in rounds of threads, and settles what is left. The only error is
-/// `NoMemory` for the lines, their locks, the workers and the order of steps.
+/// Runs lines of the maker in rounds of threads, and then settles what is still due. The only error
+/// is `NoMemory` for the lines, their locks, the workers and the order of steps.
 fn run_lines<
     'b,
     R: Threads + Wait + Sync,
@@ -129,7 +129,7 @@ fn run_in_rounds<
     }
 }
 
-/// Reports a run that ended so, and prints it if it came to its end.
+/// Reports a run that ended with `end`, and prints it if it came to its end.
 fn report_run<O: Sink, L: IrqLine>(
     alloc: Global,
     board: &Board,
@@ -200,7 +200,7 @@ fn report_full<L: IrqLine>(
     }
 }
 
-/// What comes of a board that memory was refused for.
+/// The result if memory was refused.
 fn unrun(alloc: Global) -> RanBoard
     ensures end { result.end ≡ RunEnd.NoMemory }
     ensures reports { result.reports.reports ≡ [] }

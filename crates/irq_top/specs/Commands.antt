@@ -1,4 +1,4 @@
--- What each command comes to, ending by ending. `told` is what the source told of its bytes, `left`
+-- What each command does, ending by ending. `told` is what the source told of its bytes, `left`
 -- what it has left of them; `before` and `now` are what the output has; `reports` are the histories
 -- that are handed out.
 use Rattle.std.specs.Prelude.{◌≡◌, ℕ, Bool, true, Option, Some, None, Err, List, []}
@@ -21,8 +21,8 @@ use Rattle.irq_check.specs.declared.inputs.InputRefused.TheVariants as refusals
 use Rattle.irq_top.specs.declared.ending.Ending.{Ending}
 use Rattle.irq_top.specs.declared.ending.Ending.TheVariants as endings
 
--- a board was played: as the headline says if all is printed and after a fault of the output, and
--- else until a log was full or a step needed memory
+-- a board was played. If all is printed, or after a fault of the output, the headline holds; else
+-- it was played until a log was full, or until a step was refused memory
 abbrev pub PlaysAs : BoardSeen → Bool → List LineReport → Option (List ℕ) → Option (List ℕ) → Ending
     → Type 0
 PlaysAs b summary reports before now endings.Done =
@@ -53,7 +53,8 @@ pub record RefusesInput (told left : Option (List ℕ)) (reports : List LineRepo
   pub read : ReadsBoard told left (Err refused)
   pub reports_are : reports ≡ []
 
--- `play`: the board is played; or the source gave none; out of memory is free but for a step's
+-- `play`: the board is played; or the source gave no board. Memory may be refused; if a step was
+-- refused it, the board was played up to that step
 abbrev pub Plays : Bool → Option (List ℕ) → Option (List ℕ) → List LineReport → Option (List ℕ)
     → Option (List ℕ) → Ending → Type 0
 Plays summary told left reports before now endings.Done =
@@ -71,8 +72,8 @@ Plays summary told left reports before now (endings.NoMemory wants.Step) =
 Plays summary told left reports before now (endings.NoMemory wants.Making) = reports ≡ []
 Plays summary told left reports before now _ = ⊥
 
--- a board was run by threads: as the headline of a run says if all is printed and after a fault of
--- the output, and else until a log was full
+-- a board was run by threads. If all is printed, or after a fault of the output, the headline of a
+-- run holds; else it was run until a log was full
 abbrev pub RunsAs : BoardSeen → Bool → List LineReport → Option (List ℕ) → Option (List ℕ) → Ending
     → Type 0
 RunsAs b summary reports before now endings.Done = RunsBoard b summary reports before now runs.Done
@@ -91,7 +92,7 @@ pub record RunsInput (summary : Bool) (told left : Option (List ℕ)) (reports :
   pub keeps_rules : IsBoard board
   pub ran : RunsAs board summary reports before now ending
 
--- `run`: the board is run; or the source gave none; out of memory is free
+-- `run`: the board is run; or the source gave no board; memory may be refused
 abbrev pub Runs : Bool → Option (List ℕ) → Option (List ℕ) → List LineReport → Option (List ℕ)
     → Option (List ℕ) → Ending → Type 0
 Runs summary told left reports before now endings.Done =
@@ -107,14 +108,14 @@ Runs summary told left reports before now endings.ReadFault =
 Runs summary told left reports before now (endings.NoMemory wanted) = reports ≡ []
 Runs summary told left reports before now _ = ⊥
 
--- the input was checked, with that end, and no history is handed out
+-- the input was checked, with this end, and no history is handed out
 pub record ChecksInput (told left : Option (List ℕ)) (reports : List LineReport) (before now : Option (List ℕ)) (end : CheckEnd) : Type 0 where
   pub reads : Reads told left end
   pub says : SaysOrNot told before now end
   pub reports_are : reports ≡ []
 
--- `check`: the log of the input is lawful; or unlawful, or malformed, as is said; or the input is
--- refused
+-- `check`: the log of the input is lawful; or unlawful, or malformed, as the ending says; or the
+-- input is refused
 abbrev pub Checks : Option (List ℕ) → Option (List ℕ) → List LineReport → Option (List ℕ)
     → Option (List ℕ) → Ending → Type 0
 Checks told left reports before now endings.Done =
@@ -132,6 +133,6 @@ Checks told left reports before now endings.ReadFault =
 Checks told left reports before now (endings.NoMemory wants.Making) = reports ≡ []
 Checks told left reports before now _ = ⊥
 
--- `gen N`: the board of that number is played, and summed up
+-- `gen N`: the board that the number generates is played, and its summary printed
 abbrev pub Generates : ℕ → List LineReport → Option (List ℕ) → Option (List ℕ) → Ending → Type 0
 Generates n reports before now ending = PlaysAs (generated n) true reports before now ending

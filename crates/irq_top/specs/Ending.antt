@@ -30,12 +30,12 @@ status_of endings.WriteFault = 5
 status_of (endings.LogFull line len) = 6
 status_of (endings.NoMemory wanted) = 7
 
--- where a text has its fault, and which
+-- the row of a fault: at which text line, and which fault
 abbrev pub fault_row : BoardFault → List ℕ
 fault_row fault =
     codes "board: line " ++ decimal fault.at ++ codes ": " ++ fault_text fault.kind ++ codes "\n"
 
--- whose log is full, and how many entries it has
+-- the row of a full log: which line's, and how many entries it has
 abbrev pub full_row : LineNo → ℕ → List ℕ
 full_row line len =
     codes "log full: line " ++ decimal line.0 ++ codes " at " ++ decimal len ++ codes " entries\n"
@@ -86,7 +86,7 @@ abbrev pub is_write_fault_end : Ending → Bool
 is_write_fault_end endings.WriteFault = true
 is_write_fault_end _ = false
 
--- the work was done, and all of what it comes to is printed
+-- the work was done, and all of its result is printed
 abbrev pub is_printed : Ending → Bool
 is_printed endings.Done = true
 is_printed (endings.Unlawful line entry) = true

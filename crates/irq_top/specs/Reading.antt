@@ -1,4 +1,4 @@
--- What reading a board comes to.
+-- What reading a board answers.
 use Rattle.std.specs.Prelude.{◌≡◌, ℕ, ◌+◌, Bool, true, false, Option, Some, None, List, [], drop, Result, Ok, Err}
 use Rattle.board_def.specs.Seen.{BoardSeen}
 use Rattle.irq_io.specs.Told.{IsTold}
@@ -6,7 +6,8 @@ use Rattle.board_stated.specs.TextOf.{board_of_text, longest_text}
 use Rattle.irq_check.specs.declared.inputs.InputRefused.{InputRefused}
 use Rattle.irq_check.specs.declared.inputs.InputRefused.TheVariants as refusals
 
--- what is left of a source of which at most one byte more was read than a board's text may have
+-- what is left of a source after a board's text was read from it: at most the longest text and one
+-- byte more are taken
 abbrev pub left_after : List ℕ → List ℕ
 left_after bytes = drop (longest_text + 1) bytes
 
@@ -15,16 +16,16 @@ abbrev pub is_read_fault : Result BoardSeen InputRefused → Bool
 is_read_fault (Err refusals.ReadFault) = true
 is_read_fault _ = false
 
--- if the source tells what is left: a board comes of the bytes that state it, which were read to
--- their end; the bytes are refused for the fault that they have, and were read to their end or one
--- byte past the longest text
+-- if the source tells what is left: the bytes were read to their end, and the answer is the board
+-- that they state; or they were read to their end or one byte past the longest text, and the answer
+-- is their fault
 abbrev pub ReadsBoard : Option (List ℕ) → Option (List ℕ) → Result BoardSeen InputRefused → Type 0
 ReadsBoard (Some bytes) now (Ok board) = (board_of_text bytes ≡ Ok board) × (now ≡ Some [])
 ReadsBoard (Some bytes) now (Err (refusals.Fault fault)) =
     (board_of_text bytes ≡ Err fault) × (now ≡ Some (left_after bytes))
 ReadsBoard _ _ _ = Unit {0}
 
--- the board is stated by a text, which is what the source told
+-- a text states the board, and the text is what the source told
 pub record IsStated (told : Option (List ℕ)) (board : BoardSeen) : Type 0 where
   pub text : List ℕ
   pub as_told : IsTold told text

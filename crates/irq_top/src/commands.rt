@@ -1,4 +1,4 @@
-//! What each command does, but for the row on the error sink.
+//! What each command does, apart from the row on the error sink.
 ghost use Rattle.std.specs.Prelude.{◌≡◌, [], false, true};
 ghost use Rattle.irq_io.specs.Faults.{Counts};
 ghost use Rattle.irq_top.specs.Commands.{Checks, Generates, Plays, PlaysAs, Runs, RunsAs};
@@ -101,7 +101,7 @@ fn run_board<R: Threads + Wait + Sync, O: Sink, G: Gate + Sync, H: Handler + Syn
     }
 }
 
-/// `gen N`: makes the board of the number, plays it, and prints its summary.
+/// `gen N`: makes the board that the number generates, plays it, and prints its summary.
 pub(crate) fn play_generated<O: Sink, H: Handler>(
     alloc: Global,
     n: u32,
@@ -145,7 +145,7 @@ fn play_board<O: Sink, H: Handler>(
     }
 }
 
-/// `check`: reads a board and a log of it, judges the log, and prints what is said of it.
+/// `check`: reads a board and a log of it, judges the log, and prints the judgement.
 pub(crate) fn check<S: Source, O: Sink>(alloc: Global, src: &mut S, out: &mut O) -> Outcome
     ensures checks { Checks (S.left src.old) (S.left src.new) result.reports.reports
         (O.written out.old) (O.written out.new) result.ending }

@@ -13,13 +13,13 @@ use irq_run::RunEnd;
 pub enum Ending {
     /// The work was done, and all of it is printed; a log that was checked is lawful.
     Done,
-    /// The log that was checked isn't lawful: this entry of this line, counted from 1, is the first
-    /// that wasn't due.
+    /// The log that was checked isn't lawful: of the first line whose history isn't legal, this is
+    /// the first entry, counted from 1, that wasn't due.
     Unlawful { line: LineNo, entry: u32 },
     /// The log that was checked can't be read: this row, counted from 1, is the first malformed
     /// one.
     Malformed { row: u32 },
-    /// The words of the command line are none of the forms.
+    /// The words of the command line are no command's.
     Usage,
     /// The input is refused: its first fault.
     Board(BoardFault),
@@ -27,10 +27,9 @@ pub enum Ending {
     ReadFault,
     /// A write or a flush of the output failed.
     WriteFault,
-    /// A further entry was due on the line, whose history has its greatest length. `len` is that
-    /// length.
+    /// A further entry was due on the line, and the line's history has the greatest length, `len`.
     LogFull { line: LineNo, len: u32 },
-    /// Memory was needed and refused: by a step of a play, or by anything else that isn't one.
+    /// Memory was needed and refused: for a step of a play, or for anything else.
     NoMemory(Wanted),
 }
 

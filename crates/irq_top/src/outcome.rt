@@ -5,14 +5,14 @@ use crate::ending::Ending;
 use irq_base::Reports;
 use std::alloc::Global;
 
-/// What the top call hands out: how it ended, and the histories that were taken out of the lines,
-/// one report a line if a board was played or run, if only up to a full log or, in a play, up to a
-/// step that was refused memory; else none.
+/// What the top call hands out: how it ended, and the histories that were taken out of the lines.
+/// If a board was played or run there is one report for each line, also if the play or the run only
+/// came to a full log, or a play only to a step that was refused memory. Else there is none.
 #[derive(Drop)]
 pub struct Outcome {
     /// How the call ended, with its exit status.
     pub ending: Ending,
-    /// One report a line, or none.
+    /// One report for each line, or none.
     pub reports: Reports,
 }
 

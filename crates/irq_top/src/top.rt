@@ -20,13 +20,13 @@ use text_row::TextRow;
 use workers::Gate;
 
 /// Does what the words ask for: `run` reads a board from `src`, runs it by threads with the
-/// handlers, and prints its log to `out`, line by line, with `--summary` a row a line; `play` plays
-/// it by the stated order, and prints its log as it was played, or a summary; `check` reads a board
-/// and a log of it, and prints what is said of the log; `gen N` makes a board, plays it, and prints
-/// its summary. `run` alone waits, and passes the gate before each turn of a worker: the other
-/// commands are done by functions that don't wait, and so return. Other words are refused before
-/// anything is read. What went wrong is said on `err`, in one row; a fault of `err` itself changes
-/// nothing.
+/// handlers, and prints its log to `out`, line by line, or with `--summary` one row for each line;
+/// `play` plays it by the stated order, and prints its log as it was played, or a summary; `check`
+/// reads a board and a log of it, and prints the judgement of the log; `gen N` makes a board, plays
+/// it, and prints its summary. `run` alone waits, and passes the gate before each turn of a worker:
+/// the other commands are done by functions that don't wait, and so return. Other words are refused
+/// before anything is read. What went wrong is told on `err`, in one row; a fault of `err` itself
+/// changes nothing.
 pub fn irq_main<
     R: Threads + Wait + Sync,
     S: Source,
@@ -123,7 +123,7 @@ fn work<R: Threads + Wait + Sync, S: Source, O: Sink, G: Gate + Sync, H: Handler
     }
 }
 
-/// Whether all that there is to say is printed on the output.
+/// Whether the ending has no row on the error sink, since all is printed on the output.
 fn is_printed(ending: Ending) -> bool
     ensures { result ≡ is_printed ending }
 {

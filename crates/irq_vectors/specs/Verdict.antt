@@ -6,15 +6,16 @@ use Rattle.irq_model.specs.Legal.{IsDue, IsLegal}
 use Rattle.irq_vectors.specs.declared.judging.Verdict.{Verdict}
 use Rattle.irq_vectors.specs.declared.judging.Verdict.TheVariants as verdicts
 
--- some entry has that number, counted from 1, and isn't due after those before it, all of which are
+-- the entry with this number, counted from 1, isn't due after the entries before it; each of these
+-- was due
 pub record IsFirstUndue (def : LineDef) (entries : List Entry) (number : ℕ) : Type 0 where
   pub counted_from_one : 1 ≤ number
   pub lawful_before : IsLegal def (take (number - 1) entries)
   pub undue : (e : Entry) × (slice_get entries (number - 1) ≡ Some e)
       × ¬ IsDue def e (reverse (take (number - 1) entries))
 
--- lawful: each entry is due for its actor after those before it; unlawful: that entry is the first
--- that isn't
+-- lawful: each entry is due of its actor after the entries before it; unlawful: this entry is the
+-- first that isn't
 abbrev pub IsVerdict : LineDef → List Entry → Verdict → Type 0
 IsVerdict def entries verdicts.Lawful = IsLegal def entries
 IsVerdict def entries (verdicts.Unlawful number) = IsFirstUndue def entries number

@@ -9,9 +9,9 @@ use irq_line::MakesLine;
 use line_core::MakesCellLine;
 use std::alloc::Global;
 
-/// Whether the entries of the line are lawful, or which is the first that isn't: the line takes the
-/// step of each entry's actor, with the answer of the device's handler where a run ends, and has to
-/// add that entry.
+/// Whether the entries of the line are lawful, or which is the first that isn't: for each entry the
+/// line makes a step of its actor, with the answer of the device's handler where a run ends, and
+/// has to add this entry.
 ///
 /// # Errors
 ///

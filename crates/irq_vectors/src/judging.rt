@@ -8,12 +8,12 @@ use plain_next::next_slow;
 use std::alloc::Global;
 use std::fmt;
 
-/// What is said of the entries of a line.
+/// The verdict on the entries of a line.
 #[derive(Clone, Copy, Debug, PartialEq, Eq)]
 pub enum Verdict {
-    /// Each entry is the due one of its actor after those before it.
+    /// Each entry is due of its actor after the entries before it.
     Lawful,
-    /// That entry, counted from 1, is the first that isn't.
+    /// This entry, counted from 1, is the first that isn't due.
     Unlawful { entry: usize },
 }
 
@@ -47,7 +47,7 @@ pub fn judge(alloc: Global, def: &LineDef, entries: &[Entry]) -> Result<Verdict,
     Ok(Verdict::Lawful)
 }
 
-/// Whether the entry is the due one of its actor after that history.
+/// Whether the entry is due of its actor after the history.
 fn is_due(alloc: Global, def: &LineDef, history: &History, entry: Entry) -> Result<bool, NoMemory>
     requires few { length history.now.entries ≤ 100000000 }
     requires cpus { def.now.cpus ≤ 32 }

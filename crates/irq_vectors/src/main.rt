@@ -1,13 +1,13 @@
-//! Judges logs of single lines by the plain program of the due entry, and by a line beside it; and
+//! Judges logs of single lines twice, by the reference program (`plain_next`) and by a line; and
 //! compares the line with the plain line in every order of a script.
 //!
-//! Standard input has the name of a file a row. A file has the text of a board of one line, a row
-//! `---`, and the line's log.
+//! Standard input has the name of a file in each row. A file has the text of a board of one line, a
+//! row `---`, and the line's log.
 //!
 //! For each file, standard output gets a row with the name and the verdict: `lawful`, or `unlawful
-//! N`, where entry N, counted from 1, is the first that isn't due. Where the line tells another
-//! verdict than the plain program, or none can be made, the program says so and ends. For a row
-//! `orders` and a name, it gets the name and whether the two lines are the same in every order.
+//! N`, where entry N, counted from 1, is the first that isn't due. Where the line gives another
+//! verdict than the reference program, or no line can be made, the program says so and ends. For a
+//! row `orders` and a name, it gets the name and whether the two lines are the same in every order.
 #![tactic(auto)]
 
 mod by_line;
@@ -25,7 +25,7 @@ use std::alloc::Global;
 use std::fs;
 use std::rt::Files;
 
-/// The verdict on the log, on which the plain program and the line agree.
+/// The verdict on the log, on which the reference program and the line agree.
 fn judge_log(alloc: Global, log: &LineLog) -> Result<Verdict> {
     ensure!(is_valid(&log.def), "no line has this definition");
     ensure!(
@@ -41,7 +41,7 @@ fn judge_log(alloc: Global, log: &LineLog) -> Result<Verdict> {
     Ok(verdict)
 }
 
-/// The log of that file.
+/// The log in the file.
 fn read_file(rt: &(impl Files + AllocGlobal), name: &str) -> Result<LineLog> {
     let text = fs::read_to_string(rt, name).context(format_args!("reading {name}"))?;
     read_line_log(rt.alloc(), text.as_str()).context(format_args!("in {name}"))

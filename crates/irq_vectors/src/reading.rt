@@ -11,9 +11,9 @@ use std::alloc::Global;
 
 /// The most processors of a line that is judged.
 const MOST_CPUS: u32 = 32;
-/// Its most devices.
+/// The most devices of a line that is judged.
 const MOST_DEVICES: usize = 256;
-/// Its most entries.
+/// The most entries of a line that is judged.
 const MOST_ENTRIES: usize = 100_000_000;
 /// The most bytes of a log.
 const LONGEST_LOG: usize = 67_108_864;
@@ -32,8 +32,8 @@ pub struct LineLog {
 ///
 /// # Errors
 ///
-/// Where a part of the text is none, the board hasn't one line alone, or it is larger than what is
-/// judged, and where memory is refused.
+/// If the text lacks a part, if the board doesn't have exactly one line, if something is larger
+/// than what can be judged, or if memory is refused.
 pub fn read_line_log(alloc: Global, text: &str) -> Result<LineLog> {
     match parts_of(text) {
         Some((head, rows)) => read_parts(alloc, head, rows),
@@ -41,7 +41,7 @@ pub fn read_line_log(alloc: Global, text: &str) -> Result<LineLog> {
     }
 }
 
-/// The line of the board's text, and the entries of the log's.
+/// The line of the board's text, and the entries of the log's text.
 fn read_parts(alloc: Global, head: &str, rows: &str) -> Result<LineLog> {
     let board = board_of(alloc, head)?;
     let entries = entries_in(alloc, &board, rows)?;
@@ -57,7 +57,7 @@ fn entries_in(alloc: Global, board: &Board, rows: &str) -> Result<Vec<Entry>> {
     }
 }
 
-/// What stands before the first row `---`, and what follows it.
+/// The text before the first row `---`, and the text after it.
 fn parts_of(text: &str) -> Option<(&str, &str)> {
     text.split_once("---\n")
 }

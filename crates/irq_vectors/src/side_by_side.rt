@@ -8,13 +8,13 @@ use plain_line::MakesPlainLine;
 use std::alloc::Global;
 use std::fmt;
 
-/// The most moves that are made of one script.
+/// The most moves that are made for one script.
 const MOST_MOVES: u32 = 200_000;
 
 /// The most orders that were counted by hand.
 const MOST_COUNTED: u32 = 31;
 
-/// What is said of a script's orders.
+/// The result for a script's orders.
 #[derive(Drop)]
 pub struct Told(Orders);
 

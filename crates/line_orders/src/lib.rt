@@ -2,8 +2,8 @@
 //!
 //! The orders are gone through depth first: the first actor that can move does, until none can;
 //! then the last move is taken back, and the next actor that could have moved in its place does. A
-//! line can't take back a step, so the moves that are left are made anew on new lines. Whoever
-//! compares lines of two kinds hands in what makes each.
+//! line can't take back a step, so the moves before it are made anew on new lines. Whoever compares
+//! lines of two kinds hands in a maker for each.
 #![tactic(auto)]
 
 mod actors;

@@ -5,23 +5,23 @@ use irq_base::{Actor, LineDef, NoMemory};
 use irq_line::{IrqLine, MakesLine};
 use std::alloc::Global;
 
-/// What comes of going through the orders.
+/// The result of going through the orders.
 #[derive(Clone, Copy, PartialEq, Eq)]
 pub enum Orders {
-    /// The lines are the same in all of them. `count`: how many orders there are.
+    /// The lines tell the same in all orders. `count`: how many orders there are.
     Same { count: u32 },
-    /// The lines differ in one.
+    /// The lines differ in some order.
     Differ,
-    /// There are more than were to be gone through.
+    /// There are more orders than were to be gone through.
     TooMany,
 }
 
-/// What comes of asking the actors in turn.
+/// What asking the actors in turn found.
 #[derive(Clone, Copy)]
 enum Turn {
-    /// The actor at that place is the first that can move, and did.
+    /// The actor at this index is the first that can move, and it moved.
     Moved(usize),
-    /// None can.
+    /// No actor can move.
     Rested,
     Differ,
 }
@@ -69,7 +69,7 @@ pub fn compare<L: IrqLine, M: IrqLine, A: MakesLine<L>, B: MakesLine<M>>(
     Ok(Orders::TooMany)
 }
 
-/// Two new lines after those moves, which are the actors' places.
+/// Two new lines after these moves, each given by its actor's index.
 fn pair_after<L: IrqLine, M: IrqLine, A: MakesLine<L>, B: MakesLine<M>>(
     alloc: Global,
     lines: &A,
@@ -93,7 +93,8 @@ fn pair_after<L: IrqLine, M: IrqLine, A: MakesLine<L>, B: MakesLine<M>>(
     Ok(pair)
 }
 
-/// Asks the actors from that place on, and if none can move, whether the histories are the same.
+/// Asks the actors from index `from` on; if none can move, it asks whether the histories are the
+/// same.
 fn next_turn<L: IrqLine, M: IrqLine>(
     pair: &mut Pair<L, M>,
     actors: &[Actor],

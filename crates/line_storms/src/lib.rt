@@ -14,9 +14,9 @@ use callbacks::Said;
 use irq_base::{Actor, NoMemory};
 use irq_line::{IrqLine, StepRefused, Stepped};
 
-/// No log that is at least as long as the bound is ever full: whoever steps the line next, and
-/// whatever is handed in, the answer isn't `Full`. A caller that calls it before a step knows that
-/// this refusal doesn't come.
+/// If the log limit is at least the bound, the log is never full: whoever steps the line next, and
+/// whatever is handed in, the answer isn't `Full`. A caller that calls this before a step knows
+/// that the refusal doesn't come.
 pub fn next_step_is_not_full<L: IrqLine>(line: &L)
     ensures not_full { bound (L.seen line.now).def ≤ (L.seen line.now).def.log → (actor : Actor) (said : Option SaidSeen) (len : ℕ) (new : LineSeen) → Answers (L.seen line.now) actor said (Err (refusals.Full len)) new → ⊥ }
 {

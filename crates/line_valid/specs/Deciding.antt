@@ -20,13 +20,13 @@ has_distinct (x ∷ xs) = not (list_any (is_device x.dev) xs) && has_distinct xs
 abbrev pub links_dev : DevNo → Call → Bool
 links_dev d c = requests_dev d c || frees_dev d c
 
--- both request or free one device
+-- both calls request or free the same device
 abbrev pub shares : Call → Call → Bool
 shares (calls.Request dev flags) c = links_dev dev c
 shares (calls.Free dev) c = links_dev dev c
 shares _ c = false
 
--- the calls are one driver's, or don't both request or free one device
+-- the calls are made by one driver, or don't both request or free the same device
 abbrev pub agrees : DriverNo × Call → DriverNo × Call → Bool
 agrees a b = not (shares a.1 b.1) || same_driver a.0 b.0
 
@@ -38,7 +38,7 @@ abbrev pub is_freed_first : DevNo → List (DriverNo × Call) → Bool
 is_freed_first d [] = true
 is_freed_first d (c ∷ cs) = frees_dev d c.1 || (not (requests_dev d c.1) && is_freed_first d cs)
 
--- none comes after a request of it either
+-- if the call requests a device, no request of it comes before a free of it
 abbrev pub is_freed_after : Call → List (DriverNo × Call) → Bool
 is_freed_after (calls.Request dev flags) cs = is_freed_first dev cs
 is_freed_after _ cs = true

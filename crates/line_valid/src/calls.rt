@@ -7,7 +7,7 @@ ghost use Rattle.line_valid.specs.Deciding.{links_dev, shares, agrees, has_one_o
 use crate::devices::is_there;
 use irq_base::{Call, CallList, DevNo, DeviceList, DriverNo, LineDef};
 
-/// The call at that place.
+/// The call at index `place`.
 #[tactic(auto, using(irq_model::proofs::Lists::next_item))]
 fn call_at(calls: &CallList, place: usize) -> (DriverNo, Call)
     requires { place < length calls.now }
@@ -19,7 +19,7 @@ fn call_at(calls: &CallList, place: usize) -> (DriverNo, Call)
     }
 }
 
-/// Whether the call names a device of the list, if any.
+/// Whether the call names a device of the list, or no device.
 fn names_one_of(devices: &DeviceList, call: Call) -> bool
     ensures { result ≡ names_one_of devices.now call }
 {
@@ -55,7 +55,7 @@ fn frees_dev(dev: DevNo, call: Call) -> bool
     matches!(call, Call::Free { dev: other } if dev == other)
 }
 
-/// Whether both calls request or free one device.
+/// Whether both calls request or free the same device.
 fn shares(call: Call, other: Call) -> bool
     ensures { result ≡ shares call other }
 {
@@ -67,7 +67,7 @@ fn shares(call: Call, other: Call) -> bool
     }
 }
 
-/// Whether the calls are one driver's, or don't both request or free one device.
+/// Whether the calls are made by one driver, or don't both request or free the same device.
 fn agrees(call: (DriverNo, Call), other: (DriverNo, Call)) -> bool
     ensures { result ≡ agrees call other }
 {
@@ -97,7 +97,7 @@ pub(crate) fn has_one_owner(calls: &CallList) -> bool
     true
 }
 
-/// Whether no request of the device comes from that place on before a free of it.
+/// Whether from index `from` on no request of the device comes before a free of it.
 fn is_freed_first(calls: &CallList, dev: DevNo, from: usize) -> bool
     ensures { result ≡ is_freed_first dev (drop from calls.now) }
 {

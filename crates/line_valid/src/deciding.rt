@@ -8,7 +8,7 @@ use crate::devices::{all_on_line, has_distinct};
 use affinity::has_processor;
 use irq_base::{FlowKind, LineDef, Trigger};
 
-/// Whether the definition is valid. It never says so of another.
+/// Whether the definition is valid. An invalid definition is never answered `true`.
 #[tactic(auto, using(crate::proofs::FitsIsValid::fits_is_valid))]
 pub fn is_valid(def: &LineDef) -> bool
     ensures fits { result ≡ fits def.now }

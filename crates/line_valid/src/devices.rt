@@ -19,7 +19,7 @@ pub(crate) fn all_on_line(def: &LineDef) -> bool
     true
 }
 
-/// Whether a device from that place on has the number.
+/// Whether a device from index `from` on has this number.
 pub(crate) fn is_there(devices: &DeviceList, dev: DevNo, from: usize) -> bool
     ensures { result ≡ list_any (is_device dev) (drop from devices.now) }
 {
@@ -31,7 +31,7 @@ pub(crate) fn is_there(devices: &DeviceList, dev: DevNo, from: usize) -> bool
     false
 }
 
-/// Whether no two devices have one number.
+/// Whether no two devices have the same number.
 pub(crate) fn has_distinct(devices: &DeviceList) -> bool
     ensures { result ≡ has_distinct devices.now }
 {
@@ -43,7 +43,7 @@ pub(crate) fn has_distinct(devices: &DeviceList) -> bool
     true
 }
 
-/// The device at that place.
+/// The device at index `place`.
 #[tactic(auto, using(irq_model::proofs::Lists::next_item))]
 fn device_at(devices: &DeviceList, place: usize) -> DeviceDef
     requires { place < length devices.now }

@@ -1,4 +1,4 @@
-//! A handler in a box is called once for each call of what keeps it.
+//! A handler in a box is called once for each `Callbacks::call`.
 ghost use Rattle.std.specs.Prelude.{◌≡◌};
 ghost use Rattle.irq_base.specs.Handlers.{answer_of};
 

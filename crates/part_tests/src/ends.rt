@@ -20,8 +20,8 @@ fn slices_and_lists(rt: HostRuntime) -> Result<(), Fail> {
     Ok(())
 }
 
-/// What a list has of bytes that were written to it through a buffer with that room and flushed,
-/// unless that failed.
+/// What a list has after bytes were written to it through a buffer with this room and flushed; none
+/// if that failed.
 fn written_to_list(alloc: Global, room: usize, bytes: &[u8]) -> Result<Option<Vec<u8>>, Fail>
     ensures { IfOk result (λ held. IfSome held (λ list. list.items ≡ bytes.now)) }
 {

@@ -1,6 +1,6 @@
-//! Tests of what no clause of a part says, and of what only a test calls: streams over a slice and a
-//! list, a handler that is kept in a box, a controller that no board has, messages by their bytes,
-//! and a line whose log is no longer than its bound.
+//! Tests of what no clause of a part says, and of what only a test calls: streams over a slice and
+//! a list, a handler kept in a box, a controller that no board has, messages by their bytes, and a
+//! line whose log is no longer than its bound.
 #![tactic(auto)]
 
 #[cfg(test)]

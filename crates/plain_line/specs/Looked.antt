@@ -22,13 +22,13 @@ is_thread_due def past dev = is_some (next_past def past (actors.Thread def.line
 abbrev pub IsThreadDueAt : LineDef → List Entry → DevNo → Type 0
 IsThreadDueAt def past dev = IsTrue (is_thread_due def past dev)
 
--- the device with the least number whose thread has an entry due; none if no thread has
+-- the lowest device by number whose thread has an entry due; none if no thread has one
 abbrev pub IsLowestAt : LineDef → List Entry → Option DevNo → Type 0
 IsLowestAt def past None = (dev : DevNo) → IsThreadDueAt def past dev → ⊥
 IsLowestAt def past (Some lowest) =
     IsThreadDueAt def past lowest × ((dev : DevNo) → IsThreadDueAt def past dev → lowest.0 ≤ dev.0)
 
--- the lower of the two, or the first alone unless the second counts
+-- the lower of the two devices if the second counts, else the first
 abbrev pub lower_of : Option DevNo → DevNo → Bool → Option DevNo
 lower_of so_far dev false = so_far
 lower_of None dev true = Some dev

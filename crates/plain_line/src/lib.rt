@@ -1,6 +1,6 @@
-//! The plain line: a definition and a history, in which everything is looked up. It is slow, short,
-//! and a line like any other: the executable meaning of the contract of lines, to try what stands
-//! above it and to compare faster lines with.
+//! The plain line, the reference: a definition and a history, in which everything is looked up. It
+//! is slow and short, and a line like any other. So it is the contract of lines in executable form:
+//! faster lines are compared with it, and what uses lines can be tried over it.
 #![tactic(auto)]
 
 mod line;

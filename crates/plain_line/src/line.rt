@@ -13,8 +13,7 @@ use plain_next::{newest_first, next_past};
 use std::alloc::Global;
 use std::marker::Model;
 
-/// A definition and a history. Beside them stands what the queries answer now, since a query can't
-/// take memory.
+/// A definition and a history; and the answers of all queries now, since a query can't take memory.
 #[derive(Drop)]
 pub struct PlainLine {
     alloc: Global,
@@ -36,7 +35,7 @@ impl Model for PlainLine {
 }
 
 impl PlainLine {
-    /// The line of that definition, to which nothing has happened. The only error is `NoMemory`.
+    /// The line of this definition, to which nothing has happened. The only error is `NoMemory`.
     pub fn new(alloc: Global, def: &LineDef) -> Result<PlainLine, NoMemory>
         requires { IsValid def.now }
         ensures def { IfOk result (λ line. line.def ≡ def.now) }
@@ -84,7 +83,7 @@ fn with_newest(alloc: Global, past: &[Entry], entry: Entry) -> Result<Vec<Entry>
     Ok(more)
 }
 
-/// Whether it is that processor.
+/// Whether the taker is this processor.
 fn is_that(taker: Option<CpuNo>, cpu: CpuNo) -> bool
     ensures sound { IsTrue result → taker ≡ Some cpu }
     ensures complete { taker ≡ Some cpu → IsTrue result }

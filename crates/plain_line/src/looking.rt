@@ -36,7 +36,7 @@ pub(crate) fn look(alloc: Global, def: &LineDef, past: &[Entry]) -> Result<Looke
     })
 }
 
-/// The one processor of which a take is due: the target, if it may take.
+/// The one processor that has a take due: the target, if it may take.
 #[tactic(auto, using(crate::proofs::Takers::untargeted, crate::proofs::Takers::taken, crate::proofs::Takers::untaken))]
 fn taker(alloc: Global, def: &LineDef, past: &[Entry]) -> Result<Option<CpuNo>, NoMemory>
     requires valid { IsValid def.now }
@@ -61,7 +61,7 @@ fn is_some_take(due: Option<Entry>) -> bool
     matches!(due, Some(Entry::Take { .. }))
 }
 
-/// The device with the least number whose thread has an entry due.
+/// The lowest device by number whose thread has an entry due.
 fn lowest_thread(alloc: Global, def: &LineDef, past: &[Entry]) -> Result<Option<DevNo>, NoMemory>
     requires valid { IsValid def.now }
     requires legal { IsLegalPast def.now past.now }
@@ -77,7 +77,7 @@ fn lowest_thread(alloc: Global, def: &LineDef, past: &[Entry]) -> Result<Option<
     Ok(lowest)
 }
 
-/// The device at that place of the line's devices.
+/// The device at index `place` of the line's devices.
 #[tactic(auto, using(irq_model::proofs::Lists::next_item))]
 fn device_at(def: &LineDef, place: usize) -> DeviceDef
     requires { place < length def.now.devices }
@@ -99,7 +99,7 @@ fn is_thread_due(alloc: Global, def: &LineDef, past: &[Entry], dev: DevNo) -> Re
     Ok(due.is_some())
 }
 
-/// The lower of the two, or the first alone unless the second counts.
+/// The lower of the two devices if `counts`, else the first.
 fn lower(so_far: Option<DevNo>, dev: DevNo, counts: bool) -> Option<DevNo>
     ensures { result ≡ lower_of so_far dev counts }
 {

@@ -8,7 +8,7 @@ use irq_base::{DevNo, DeviceDef, Entry, LineDef, Part};
 use plain_next::{asks_of_handler, asks_of_thread, kind_of};
 use std::marker::Model;
 
-/// A run: of which device, which part, and how many asks were unserved as it began.
+/// A run: its device, its part, and how many asks were unserved as it began.
 #[derive(Drop)]
 pub(crate) struct Running {
     pub(crate) def: DeviceDef,
@@ -25,7 +25,7 @@ impl Model for Running {
 }
 
 impl Running {
-    /// Whether what was handed in is its answer.
+    /// Whether the answer that was handed in is this run's.
     pub(crate) fn is_answered(&self, said: &Option<Said>) -> bool
         ensures { IsTrue result ↔ IsSaidFor said.now self.now }
     {
@@ -36,7 +36,7 @@ impl Running {
     }
 }
 
-/// The run that the entry ends, unless what was handed in is its answer.
+/// The run that the entry ends, unless the run's answer was handed in.
 pub(crate) fn unanswered(
     def: &LineDef,
     past: &[Entry],
@@ -54,7 +54,7 @@ pub(crate) fn unanswered(
     Some(run)
 }
 
-/// The line's device of that number.
+/// The line's device with this number.
 fn device(def: &LineDef, dev: DevNo) -> DeviceDef
     ensures { result ≡ device_of def.now dev }
 {

@@ -1,4 +1,4 @@
--- What a test on one entry says of it.
+-- Which entries pass a test.
 use Rattle.std.specs.Prelude.{Bool, not, ◌&&◌, ◌||◌}
 use Rattle.irq_base.specs.Cell.{is_edge_trigger}
 use Rattle.irq_base.specs.declared.entries.Entry.{Entry}

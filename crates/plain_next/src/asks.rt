@@ -7,7 +7,7 @@ use crate::lines::{any_device, is_level_line, kind_of};
 use crate::places::{before, count_of, since};
 use irq_base::{DevNo, Entry, Kind, LineDef};
 
-/// The asks of the device that no run has served.
+/// How many asks of the device no run has served.
 pub fn unserved_asks(def: &LineDef, dev: DevNo, past: &[Entry]) -> u32
     requires { length past.now ≤ 100000000 }
     ensures { result ≡ unserved_asks def.now dev past.now }
@@ -23,8 +23,8 @@ pub fn is_high(def: &LineDef, past: &[Entry]) -> bool
     is_level_line(def) && any_device(def, |d| unserved_asks(def, d, past) > 0)
 }
 
-/// The asks of the device after the beginning of the last serving run that returned, or all if none
-/// has.
+/// How many asks of the device came after the beginning of its last serving run that returned; all
+/// its asks if no serving run has returned.
 #[tactic(auto, unfolding(crate::specs::Passes::passes))]
 fn unserved_by(kind: Kind, dev: DevNo, past: &[Entry]) -> u32
     requires { length past.now ≤ 100000000 }

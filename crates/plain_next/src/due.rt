@@ -11,7 +11,7 @@ use crate::places::{has, stands};
 use irq_base::{Call, CallList, DevNo, DriverNo, Entry, LineDef, NoMemory, UnlinkAnswer};
 use std::alloc::Global;
 
-/// The first call of the driver that isn't complete, and how many of its entries are there.
+/// The driver's first call that isn't complete, and how many entries it has made.
 pub fn due_call(
     alloc: Global,
     def: &LineDef,
@@ -24,7 +24,7 @@ pub fn due_call(
     Ok(due_of(&def.calls, driver, &entries))
 }
 
-/// The request mutex is held, from an unlink to its driver's end of the free.
+/// The request mutex is held, from an unlink until the same driver has completed the free.
 pub fn holds_mutex(past: &[Entry]) -> bool
     ensures { result ≡ holds_mutex past.now }
 {
@@ -45,7 +45,7 @@ pub fn is_being_freed(past: &[Entry], dev: DevNo) -> bool
     stands(past, EntryTest::Unlinks(dev), EntryTest::Freed(dev))
 }
 
-/// The call at a place of the list, with its driver.
+/// The call at index `place` of the list, with its driver.
 #[tactic(auto, using(irq_model::proofs::Lists::next_item))]
 fn call_at(calls: &CallList, place: usize) -> (DriverNo, Call)
     requires { place < length calls.now }
@@ -83,7 +83,7 @@ fn begins_not_there(entries: &[Entry]) -> bool
     )
 }
 
-/// How many entries a call makes, given the driver's entries from its first one on.
+/// How many entries a call makes, given the driver's entries from the call's first one on.
 fn entries_of_call(call: Call, entries: &[Entry]) -> usize
     ensures { result ≡ entries_of_call call entries.now }
 {
@@ -95,7 +95,7 @@ fn entries_of_call(call: Call, entries: &[Entry]) -> usize
     }
 }
 
-/// The driver's first call that isn't complete, and how many of its entries are there, given the
+/// The driver's first call that isn't complete, and how many entries it has made, given the
 /// driver's entries.
 fn due_of(calls: &CallList, driver: DriverNo, entries: &[Entry]) -> Option<(Call, usize)>
     ensures { result ≡ due_of (calls_by driver calls.now) entries.now }

@@ -1,4 +1,4 @@
-//! The edges of an edge line: where each of them is, by places of the history.
+//! The edges of an edge line: where each edge is, by its place in the history.
 ghost use Rattle.std.specs.Prelude.{◌≡◌, ◌<◌, ◌&&◌, ◌||◌, not, take, drop, length, IfOk};
 ghost use Rattle.irq_model.specs.Edges.{is_edge, was_open, is_sent_edge, is_taken, is_alive, is_sent};
 ghost use Rattle.plain_next.specs.MaskTable.{IsMaskTable};
@@ -31,7 +31,7 @@ fn is_edge(def: &LineDef, entry: Entry) -> bool
         && (is_any_ask(entry) || is_chip_start(entry) || (is_eoi_flow(def) && is_again(entry)))
 }
 
-/// Whether the line is masked at each place: item `i` is of `past[i..]`, and the last one of the
+/// Whether the line is masked at each place: item `i` is for `past[i..]`, the last item for the
 /// beginning.
 fn mask_table(alloc: Global, def: &LineDef, past: &[Entry]) -> Result<Vec<bool>, NoMemory>
     ensures { IfOk result (λ masked. IsMaskTable def.now past.now masked.items) }
@@ -52,7 +52,7 @@ fn shows_edge(def: &LineDef, is_masked_now: bool, opened: bool) -> bool
     !is_masked_now || (!def.recalls && opened)
 }
 
-/// The line was open at some moment from the place on.
+/// The line was open at some moment since the place.
 fn was_open(def: &LineDef, past: &[Entry], masked: &[bool], place: usize) -> bool
     requires table { IsMaskTable def.now past.now masked.now }
     requires place { place < length past.now }

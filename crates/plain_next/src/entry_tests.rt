@@ -25,9 +25,9 @@ pub enum EntryTest {
     Begin(DevNo),
     /// A handler begins or returns.
     BeginOrReturn,
-    /// A serving run of the device, which is of that kind, begins.
+    /// A serving run of the device, which is of this kind, begins.
     BeginsServing(Kind, DevNo),
-    /// It returns.
+    /// A serving run of the device, which is of this kind, returns.
     EndsServing(Kind, DevNo),
     /// A handler returns and wakes its thread.
     ReturnsWake,
@@ -49,9 +49,9 @@ pub enum EntryTest {
     Take,
     /// A processor takes what the software resends.
     ResendTake,
-    /// A take that is handled, or an end that closes a flow of that kind.
+    /// A take that is handled, or an end that closes a flow of this kind.
     HandleOrClose(FlowKind),
-    /// A take that is handled, or an end that goes on within a flow of that kind.
+    /// A take that is handled, or an end with which a flow of this kind goes on.
     BeginsRound(FlowKind),
     /// A take that leaves the interrupt pending: answered Off, or Busy on a line of edges.
     SetsPending(Trigger),
@@ -125,7 +125,7 @@ fn begins_serving(kind: Kind, dev: DevNo, entry: Entry) -> bool
     }
 }
 
-/// The entry at which it returns.
+/// The entry at which a serving run of the device returns.
 fn ends_serving(kind: Kind, dev: DevNo, entry: Entry) -> bool
     ensures { result ≡ ends_serving kind dev entry }
 {
@@ -143,7 +143,8 @@ fn is_eoi(flow: FlowKind) -> bool
     matches!(flow, FlowKind::Eoi)
 }
 
-/// An end that closes the flow: each on the fast-EOI flow, one that leaves on the others.
+/// An end that closes the flow: on the fast-EOI flow each end, on the others an end that doesn't go
+/// on.
 fn closes(flow: FlowKind, entry: Entry) -> bool
     ensures { result ≡ (is_leave entry || (is_eoi_flow flow && is_again entry)) }
 {
@@ -157,7 +158,7 @@ fn goes_on(flow: FlowKind, entry: Entry) -> bool
     is_again(entry) && !is_eoi(flow)
 }
 
-/// A take that leaves the interrupt pending: one answered Off, or on a line of edges Busy.
+/// A take that leaves the interrupt pending: answered Off, or on a line of edges answered Busy.
 fn sets_pending(trigger: Trigger, entry: Entry) -> bool
     ensures { result ≡ (is_off entry || (is_edge_trigger trigger && is_busy entry)) }
 {

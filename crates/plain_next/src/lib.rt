@@ -1,8 +1,9 @@
-//! The plain program of the due entry, read off the definitions of `irq_model`: `next_slow` meets
-//! them after any history, legal or not, of a line with at most 32 processors and 256 devices.
+//! The reference program for the entry that is due, read off the definitions of `irq_model`:
+//! `next_slow` meets them after any history, legal or not, of a line with at most 32 processors and
+//! 256 devices.
 //!
-//! It looks back over the whole history at each call, and takes up to the square of its length: it
-//! is there to compare faster bodies with, and no crate of the program stands on it.
+//! Each call looks back over the whole history, and may take time in the order of the square of its
+//! length. Faster programs are compared with it; no crate of the program stands on it.
 #![tactic(auto)]
 
 mod asks;

@@ -36,7 +36,7 @@ pub fn serves(def: &LineDef) -> bool
     is_level_line(def) && is_eoi_flow(def)
 }
 
-/// The device at a place of the list.
+/// The device at index `place` of the list.
 #[tactic(auto, using(irq_model::proofs::Lists::next_item))]
 fn device_at(devices: &DeviceList, place: usize) -> DeviceDef
     requires { place < length devices.now }
@@ -48,7 +48,7 @@ fn device_at(devices: &DeviceList, place: usize) -> DeviceDef
     }
 }
 
-/// The kind of the device in the list; one that the list lacks never serves, as a stuck one.
+/// The kind of the device; a device that isn't in the list counts as stuck, so it never serves.
 fn kind_in(devices: &DeviceList, dev: DevNo) -> Kind
     ensures { result ≡ kind_in devices.now dev }
 {
@@ -68,7 +68,7 @@ pub fn kind_of(def: &LineDef, dev: DevNo) -> Kind
     kind_in(&def.devices, dev)
 }
 
-/// The processor of that number is in the mask.
+/// The processor with this number is in the mask.
 pub fn is_in_mask(mask: u32, cpu: u32) -> bool
     requires { cpu < 32 }
     ensures { result ≡ is_in_mask mask cpu }

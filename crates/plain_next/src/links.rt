@@ -52,7 +52,7 @@ fn request(devices: &mut Vec<DevNo>, entry: Entry) -> Result<(), NoMemory>
     }
 }
 
-/// The devices that were ever linked, in the order of their last such requests.
+/// The devices that were ever linked, in the order of their last requests that were linked.
 fn requested(alloc: Global, past: &[Entry]) -> Result<Vec<DevNo>, NoMemory>
     ensures { IfOk result (λ devices. devices.items ≡ requested past.now) }
 {
@@ -102,15 +102,15 @@ fn link_or_unlink(devices: &mut Vec<DevNo>, entry: Entry) -> Result<(), NoMemory
     Ok(())
 }
 
-/// The entry gives the depth a value of its own, given the devices that were linked before it: a
-/// last unlink, or a request with which nothing else was linked.
+/// The entry sets the depth anew: a last unlink, or a linked request when nothing else is linked.
+/// `devices`: those that were linked before it.
 fn is_reset(entry: Entry, devices: &[DevNo]) -> bool
     ensures { (past : List Entry) → devices.now ≡ linked past → result ≡ is_reset (entry ∷ past) }
 {
     is_last_unlink(entry) || (is_linked_request(entry) && devices.is_empty())
 }
 
-/// How many entries stand after the last that gives the depth a value of its own.
+/// How many entries stand after the last one that sets the depth anew.
 #[tactic(auto, using(irq_model::proofs::Lists::since_from_upto))]
 fn since_reset(alloc: Global, past: &[Entry]) -> Result<usize, NoMemory>
     ensures since { IfOk result (λ k. since_place is_reset past.now ≡ take k past.now) }
@@ -130,7 +130,7 @@ fn since_reset(alloc: Global, past: &[Entry]) -> Result<usize, NoMemory>
     Ok(place)
 }
 
-/// The depth at the last such entry: 0 if a first request started the line, else 1, as at the
+/// The depth as it was last set anew: 0 if a first request started the line, else 1; 1 at the
 /// beginning.
 fn base(past: &[Entry]) -> u32
     ensures value { result ≡ base past.now }

@@ -39,7 +39,7 @@ fn take_masks(def: &LineDef, entry: Entry, past: &[Entry]) -> bool
     }
 }
 
-/// The newest entry masks: such a take, a disable or a kill on an unlazy line, a last unlink.
+/// The newest entry masks: a take that masks, a disable or a kill on an unlazy line, a last unlink.
 fn masks(def: &LineDef, past: &[Entry]) -> bool
     ensures { result ≡ masks def.now past.now }
 {
@@ -53,7 +53,7 @@ fn masks(def: &LineDef, past: &[Entry]) -> bool
     }
 }
 
-/// A start, or an end or a finish that says so.
+/// A start, or an end or a finish that says `unmask`.
 fn unmasks(entry: Entry) -> bool
     ensures { result ≡ unmasks entry }
 {

@@ -38,9 +38,9 @@ pub fn next_past(
     }
 }
 
-/// The entry that is due for the actor, or none if it may add none, for any history of the line:
-/// the plain body, read off the definitions, with which faster ones are compared. It takes up to
-/// the square of the history's length.
+/// The entry that is due for the actor, or none if it may add none, for any history of the line. It
+/// is read off the definitions, and faster programs are compared with it. It may take time in the
+/// order of the square of the history's length.
 ///
 /// The definition need not be one that a board can have: whatever it says, as long as it has at
 /// most 32 processors and 256 devices, and the history at most 100,000,000 entries, the answer is
@@ -64,7 +64,7 @@ pub fn next_slow(
     next_past(alloc, def, &past, actor)
 }
 
-/// The entry at a place of the history, the oldest first.
+/// The entry at index `place` of the history, the oldest first.
 #[tactic(auto, using(irq_model::proofs::Lists::next_item))]
 fn entry_at(history: &History, place: usize) -> Entry
     requires { place < length history.now.entries }

@@ -22,7 +22,7 @@ use std::alloc::Global;
 
 // ---- in the flow
 
-/// The asks that were unserved as the handler began.
+/// How many asks were unserved as the handler was called.
 #[tactic(auto, unfolding(crate::specs::Passes::passes))]
 pub fn asks_of_handler(def: &LineDef, dev: DevNo, past: &[Entry]) -> u32
     requires { length past.now ≤ 100000000 }
@@ -135,7 +135,7 @@ fn end_of(alloc: Global, def: &LineDef, cpu: CpuNo, past: &[Entry]) -> Result<En
     end_by_flow(alloc, def, cpu, past, note_of(def, past))
 }
 
-/// The first device that is left is called, or else the round ends.
+/// The handler of the first device that is left is called, or else the round ends.
 fn begin_or_end(
     alloc: Global,
     def: &LineDef,
@@ -152,7 +152,8 @@ fn begin_or_end(
     }
 }
 
-/// A handler that was called returns; else the first that is left is called; else the round ends.
+/// A handler that is at work returns; else the first handler that is left is called; else the round
+/// ends.
 fn next_in_flow(
     alloc: Global,
     def: &LineDef,
@@ -186,7 +187,7 @@ fn take_answer(alloc: Global, def: &LineDef, past: &[Entry]) -> Result<TakeAnswe
     Ok(TakeAnswer::Handle)
 }
 
-/// The processor is that one.
+/// Both are the same processor.
 fn is_cpu(cpu: CpuNo, other: Option<CpuNo>) -> bool
     ensures { result ≡ is_cpu cpu other }
 {

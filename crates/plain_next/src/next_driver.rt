@@ -74,14 +74,14 @@ fn is_same_flag(new: bool, old: bool) -> bool
     new == old
 }
 
-/// The new flags don't go with those of a linked action.
+/// The flags of the request don't go with the flags of a linked action.
 fn flags_differ(new: Flags, old: Flags) -> bool
     ensures { result ≡ flags_differ new old }
 {
     !new.shared || !old.shared || !is_same_flag(new.oneshot, old.oneshot)
 }
 
-/// The flags don't go with those of some linked action.
+/// The flags don't go with the flags of some linked action.
 fn is_mismatch(flags: Flags, past: &[Entry], devices: &[DevNo]) -> bool
     ensures { result ≡ list_any (λ d. flags_differ flags (linking_flags past.now d)) devices.now }
 {
@@ -239,7 +239,7 @@ fn freed_of(driver: DriverNo, dev: DevNo, past: &[Entry]) -> Option<Entry>
     }
 }
 
-/// The next entry of a synchronization, of which `n` are there.
+/// The next entry of a synchronization that has made `n` entries.
 fn next_of_sync(def: &LineDef, driver: DriverNo, n: usize, past: &[Entry]) -> Option<Entry>
     requires { length def.now.devices ≤ 256 }
     ensures { result ≡ next_of_sync def.now driver n past.now }
@@ -250,7 +250,7 @@ fn next_of_sync(def: &LineDef, driver: DriverNo, n: usize, past: &[Entry]) -> Op
     }
 }
 
-/// The next entry of a disable, of which `n` are there.
+/// The next entry of a disable that has made `n` entries.
 fn next_of_disable(def: &LineDef, driver: DriverNo, n: usize, past: &[Entry]) -> Option<Entry>
     requires { length def.now.devices ≤ 256 }
     ensures { result ≡ next_of_disable def.now driver n past.now }
@@ -262,7 +262,7 @@ fn next_of_disable(def: &LineDef, driver: DriverNo, n: usize, past: &[Entry]) ->
     }
 }
 
-/// The next entry of a free, of which `n` are there.
+/// The next entry of a free that has made `n` entries.
 fn next_of_free(
     alloc: Global,
     def: &LineDef,
@@ -306,7 +306,7 @@ fn next_of_request(
     Ok(Some(request_of(alloc, def, driver, dev, flags, past)?))
 }
 
-/// The next entry of the driver's due call, of which `n` are there.
+/// The next entry of the driver's due call, which has made `n` entries.
 fn next_of_call(
     alloc: Global,
     def: &LineDef,

@@ -15,7 +15,7 @@ use crate::threads::{is_other_unfinished, is_running, is_woken};
 use irq_base::{DevNo, Entry, LineDef, NoMemory};
 use std::alloc::Global;
 
-/// The asks that were unserved as the thread's run began.
+/// How many asks were unserved as the thread's run began.
 #[tactic(auto, unfolding(crate::specs::Passes::passes))]
 pub fn asks_of_thread(def: &LineDef, dev: DevNo, past: &[Entry]) -> u32
     requires { length past.now ≤ 100000000 }

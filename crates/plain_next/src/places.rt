@@ -7,7 +7,7 @@ ghost use Rattle.plain_next.specs.Passes.{passes};
 use crate::entry_tests::{EntryTest, passes};
 use irq_base::Entry;
 
-/// Whether some entry that sets has none that clears after it.
+/// Whether some entry sets (`sets`), and no entry after it clears (`clears`).
 pub fn stands(past: &[Entry], sets: EntryTest, clears: EntryTest) -> bool
     ensures { result ≡ stands (passes sets) (passes clears) past.now }
 {
@@ -38,7 +38,7 @@ pub fn has(past: &[Entry], test: EntryTest) -> bool
     false
 }
 
-/// What stands after the last entry that passes the test, or all if there is none.
+/// The entries after the last one that passes the test; all if none does.
 pub fn since(past: &[Entry], test: EntryTest) -> &[Entry]
     ensures value { result.now ≡ since (passes test) past.now }
     ensures shorter { length result.now ≤ length past.now }
@@ -51,7 +51,7 @@ pub fn since(past: &[Entry], test: EntryTest) -> &[Entry]
     past
 }
 
-/// What stands before the last entry that passes the test, or nothing if there is none.
+/// The entries before the last one that passes the test; none if none does.
 pub fn before(past: &[Entry], test: EntryTest) -> &[Entry]
     ensures value { result.now ≡ before (passes test) past.now }
     ensures shorter { length result.now ≤ length past.now }

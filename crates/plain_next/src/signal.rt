@@ -33,8 +33,8 @@ fn has_take(entries: &[Entry]) -> bool
     has(entries, EntryTest::Take)
 }
 
-/// The newest entry of `upto` put a mask in force: a change at once, or one that waited and was
-/// made by a take after it.
+/// The newest entry of `upto` put a mask in force: a change that took effect at once, or a change
+/// that waited, if a take stands after it.
 fn puts_in_force(after: &[Entry], upto: &[Entry]) -> bool
     ensures { result ≡ puts_in_force after.now upto.now }
 {

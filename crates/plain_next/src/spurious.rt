@@ -13,13 +13,13 @@ use std::marker::Model;
 struct SpuriousCounts {
     /// The ends that the open window has counted.
     irq_count: u32,
-    /// Those of them that were unhandled.
+    /// The ends of the open window that were unhandled.
     irqs_unhandled: u32,
     /// The runs of threads that served.
     threads_handled: u32,
     /// An end woke a thread and waits to be judged by what the threads did.
     deferred: bool,
-    /// `threads_handled` as it was judged last.
+    /// What `threads_handled` was when an end was last judged by it.
     last: u32,
     /// The moment of the last unhandled end, in milliseconds.
     last_unhandled: u32,
@@ -94,7 +94,7 @@ fn counted(window: u32, limit: u32, kept: SpuriousCounts) -> NotedEnd
     NotedEnd { note, counts }
 }
 
-/// An unhandled end; one that comes long after the last begins the count anew.
+/// An unhandled end; if it comes long after the last unhandled one, it begins the count anew.
 fn unhandled(now: u32, kept: SpuriousCounts) -> SpuriousCounts
     requires { kept.irqs_unhandled ≤ 100000000 }
     ensures { result ≡ unhandled now kept }

@@ -52,7 +52,7 @@ pub fn is_other_unfinished(def: &LineDef, past: &[Entry], dev: DevNo) -> bool
     any_device(def, |other| dev != other && is_unfinished(past, other))
 }
 
-/// How many threads are woken, and how many are in a run; one that is both counts twice.
+/// How many threads are woken, plus how many are in a run; a thread that is both counts twice.
 pub fn active_count(def: &LineDef, past: &[Entry]) -> u32
     requires { length def.now.devices ≤ 256 }
     ensures { result ≡ active_count def.now past.now }

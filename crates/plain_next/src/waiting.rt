@@ -18,7 +18,7 @@ pub fn is_pending(def: &LineDef, past: &[Entry]) -> bool
     )
 }
 
-/// A start with a software resend, with no take of it since.
+/// A start asked for a software resend, and no take by resend came since.
 #[tactic(auto, unfolding(crate::specs::Passes::passes))]
 pub fn is_soft(past: &[Entry]) -> bool
     ensures { result ≡ is_soft past.now }

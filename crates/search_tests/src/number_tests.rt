@@ -40,7 +40,7 @@ fn searched(alloc: Global, most: usize) -> Result<Searched<Step>, NoMemory>
     search(alloc, &mut space, most)
 }
 
-/// Whether the number stands at the place, with a path of that length.
+/// Whether the number stands at index `place`, with a path of this length.
 fn stands(found: &Searched<Step>, place: usize, number: u32, length: usize) -> bool {
     if place >= found.len() {
         return false;
@@ -51,7 +51,7 @@ fn stands(found: &Searched<Step>, place: usize, number: u32, length: usize) -> b
     }
 }
 
-/// Whether the search ended with so many states, after so many were looked at, and was cut so.
+/// Whether the search found `len` states, looked at `looked` of them, and was cut at `cut`.
 fn ends(found: &Searched<Step>, len: usize, looked: usize, cut: Option<usize>) -> bool {
     found.len() == len && found.looked() == looked && found.cut() == cut
 }

@@ -18,9 +18,9 @@ module _ {L : Type 0} (eq : L → L → Bool) where
       → eq a.label b.label ≡ true → j ≡ k
 
   module _ (can : L → List L → Type 0) where
-    -- Each label that may come is noted once, in the order of the places, with the place of the
-    -- first path after which it may come; no path after which it may come is shorter. `eq` says
-    -- which labels are taken for the same.
+    -- Each label that may come is noted once, with the place of the first path after which it may
+    -- come; this is one of the shortest such paths. The labels stand in the order of the places.
+    -- `eq` says which labels count as the same.
     pub record AreFirsts (paths : List (List L)) (cut : Option ℕ) (fs : List (First L)) : Type 0 where
       pub each : All (λ f. (p : List L) × (slice_get paths f.place ≡ Some p) × can f.label p
           × ((h : List L) (l : L) → IsPath can h → can l h → eq f.label l ≡ true → length p ≤ length h)) fs

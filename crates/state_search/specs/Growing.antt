@@ -21,8 +21,8 @@ module _ {L : Type 0} where
       ⊎ ((fits ≡ false) × (length old ≡ most) × (new ≡ old))
       ⊎ ((fits ≡ true) × (length old ≢ most) × (IsIn (states_of old) words → ⊥) × (new ≡ old ++ (words, Some came) ∷ []))
 
-  -- of what was found after the state at `from`, the states of the first n are there, once each;
-  -- nothing else was added
+  -- the states of the first n labels found after the state at `from` are there, each once; nothing
+  -- else was added
   pub record ArePut (from : ℕ) (found : List (L × List ℕ)) (n : ℕ) (old new : List (List ℕ × Option (Came L))) : Type 0 where
     pub added : List (List ℕ × Option (Came L))
     pub grows : new ≡ old ++ added
@@ -31,8 +31,7 @@ module _ {L : Type 0} where
     pub all : (m : ℕ) (l : L) (words : List ℕ) → m < n → slice_get found m ≡ Some (l, words) → IsIn (states_of new) words
     pub apart : IsEachOnce (states_of old) → IsEachOnce (states_of new)
 
-  -- of what was found, the labels of the first n are noted, the new ones at this place; nothing
-  -- else was added
+  -- the first n labels found are noted, the new ones with this place; nothing else was added
   pub record AreNoted (eq : L → L → Bool) (place : ℕ) (found : List (L × List ℕ)) (n : ℕ) (old new : List (First L)) : Type 0 where
     pub added : List (First L)
     pub grows : new ≡ old ++ added

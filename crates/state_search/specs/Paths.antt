@@ -1,20 +1,20 @@
 -- A space, and what a search through it found. A path is its labels, the newest first. `can` says
--- which labels may come after a path, `node` the numbers of the state that it leads to.
+-- which labels may come after a path, `node` which numbers the state has to which the path leads.
 use Rattle.std.specs.Prelude.{◌≡◌, ◌≤◌, ◌<◌, ℕ, Option, Some, None, List, [], ◌∷◌, ◌++◌, length, map, take, get_or, slice_get, All, Contains}
 use Rattle.state_search.specs.declared.states.Came.{Came}
 
 module _ {L : Type 0} where
-  -- each label of the path may come after those before it
+  -- each label of the path may come after the labels before it
   abbrev pub IsPath : (L → List L → Type 0) → List L → Type 0
   IsPath can [] = Unit {0}
   IsPath can (l ∷ g) = can l g × IsPath can g
 
-  -- the path of a state that came so, after the states of these paths
+  -- the path of a state that was reached so, from a state with one of these paths
   abbrev pub path_by : List (List L) → Option (Came L) → List L
   path_by ps None = []
   path_by ps (Some came) = came.label ∷ get_or ps came.from []
 
-  -- the paths of the states, each by how it came, behind these
+  -- these paths, and the paths of the states, each by how the state was reached
   abbrev pub paths_from : List (List L) → List (List ℕ × Option (Came L)) → List (List L)
   paths_from ps [] = ps
   paths_from ps (e ∷ es) = paths_from (ps ++ path_by ps e.1 ∷ []) es
@@ -25,7 +25,7 @@ module _ {L : Type 0} where
   abbrev pub states_of : List (List ℕ × Option (Came L)) → List (List ℕ)
   states_of es = map (λ e. e.0) es
 
--- everywhere, or below a length
+-- the length is below the cut; without a cut each length is
 abbrev pub IsBelow : Option ℕ → ℕ → Type 0
 IsBelow None n = Unit {0}
 IsBelow (Some d) n = n < d
@@ -35,7 +35,7 @@ abbrev pub IsEachOnce : {X : Type 0} → List X → Type 0
 IsEachOnce {X} xs = (j k : ℕ) (x : X) → slice_get xs j ≡ Some x → slice_get xs k ≡ Some x → j ≡ k
 
 module _ {L : Type 0} (can : L → List L → Type 0) (node : List L → List ℕ) where
-  -- what may come after the path, and the state that each leads to; nothing else
+  -- exactly the labels that may come after the path, each with the state to which it leads
   pub record AreSteps (g : List L) (found : List (L × List ℕ)) : Type 0 where
     pub each : All (λ f. can f.0 g × (node (f.0 ∷ g) ≡ f.1)) found
     pub all : (l : L) → can l g → Contains (map (λ f. f.0) found) l
@@ -44,8 +44,8 @@ module _ {L : Type 0} (can : L → List L → Type 0) (node : List L → List �
   abbrev pub IsReached : ℕ → List ℕ → Type 0
   IsReached n words = (g : List L) × IsPath can g × (node g ≡ words) × (length g ≤ n)
 
-  -- One path to each state, and none to it is shorter. What comes next was looked at after the
-  -- first `looked` of them, which are all, or at least all of paths shorter than the cut.
+  -- There is one path to each state, and no path to it is shorter. The first `looked` states were
+  -- looked at for what comes next: all states, or at least all with paths shorter than the cut.
   pub record Searches (paths : List (List L)) (looked : ℕ) (cut : Option ℕ) : Type 0 where
     pub paths_are : All (IsPath can) paths
     pub apart : IsEachOnce (map node paths)

@@ -6,7 +6,7 @@ ghost use Rattle.state_search.specs.Growing.{AreNoted};
 use crate::found::Found;
 use irq_base::NoMemory;
 
-/// A label, and the place of the first state after whose path it may come.
+/// A label, and the place of the first state in which it may come.
 #[derive(Clone, Copy)]
 pub struct First<L: Copy> {
     /// The label.
@@ -15,7 +15,7 @@ pub struct First<L: Copy> {
     pub place: u32,
 }
 
-/// The place with which the label is noted, if it is.
+/// The place noted with the label, if the label is noted.
 pub(crate) fn place_of<L: Copy + Eq>(firsts: &[First<L>], label: L) -> Option<u32>
     ensures some { IfSome result (λ n. IsNotedAt L.eq firsts.now label (λ m. m ≡ n)) }
     ensures none { IfNone result (IsNoted L.eq firsts.now label → ⊥) }

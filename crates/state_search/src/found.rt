@@ -13,8 +13,8 @@ pub(crate) struct Row<L: Copy> {
     to: usize,
 }
 
-/// Labels, each with the numbers of the state that it leads to. All numbers stand in one list, so
-/// that a label takes no memory of its own.
+/// Labels, each with the numbers of the state to which it leads. The numbers of all states stand in
+/// one list, so that a label takes no memory of its own.
 #[derive(Drop)]
 pub struct Found<L: Copy> {
     rows: Vec<Row<L>>,
@@ -71,7 +71,7 @@ impl<L: Copy> Found<L> {
         self.words.clear();
     }
 
-    /// The label of that place, with the numbers of the state after it.
+    /// The label at index `place`, with the numbers of the state after it.
     pub fn get(&self, place: usize) -> (L, &[u32])
         requires { place < length self.now }
         ensures { slice_get self.now place ≡ Some (result.0, result.1.now) }

@@ -13,8 +13,8 @@ use irq_base::NoMemory;
 use std::alloc::Global;
 use std::marker::Model;
 
-/// What a search found: the states in the order in which it met them, each with a shortest path,
-/// and the labels with the places at which they came first.
+/// What a search found: the states in the order in which it met them, each with a shortest path;
+/// and the labels, each with the place of the first state in which it may come.
 #[derive(Drop)]
 pub struct Searched<L: Copy> {
     states: States<L>,
@@ -38,15 +38,15 @@ impl<L: Copy> Searched<L> {
         self.states.len()
     }
 
-    /// After how many of them, the first ones, it was looked at what comes next. They are all, if
-    /// the search wasn't cut.
+    /// How many states, the first ones, were looked at for what comes next. They are all, if the
+    /// search wasn't cut.
     pub fn looked(&self) -> usize
         ensures { result ≡ self.now.looked }
     {
         self.looked
     }
 
-    /// If the search was cut: the length of the paths from which on not all is known.
+    /// If the search was cut: the length of paths from which on states may be unknown.
     pub fn cut(&self) -> Option<usize>
         ensures { result ≡ cut_of self.now }
     {
@@ -57,7 +57,7 @@ impl<L: Copy> Searched<L> {
         }
     }
 
-    /// The numbers of the state at the place, if there is one.
+    /// The numbers of the state at index `place`, if there is one.
     pub fn state(&self, place: usize) -> Option<&[u32]>
         ensures { option_map (λ words. words.now) result ≡ slice_get self.now.states place }
     {
@@ -68,7 +68,7 @@ impl<L: Copy> Searched<L> {
         }
     }
 
-    /// The length of the path to the state at the place.
+    /// The length of the path to the state at index `place`.
     pub fn depth(&self, place: usize) -> usize
         requires { place < length self.now.paths }
         ensures { Some result ≡ option_map length (slice_get self.now.paths place) }
@@ -82,7 +82,7 @@ impl<L: Copy> Searched<L> {
         steps
     }
 
-    /// The path to the state at the place: its labels, the oldest first. The only error is
+    /// The path to the state at index `place`: its labels, the oldest first. The only error is
     /// `NoMemory`.
     pub fn path(&self, alloc: Global, place: usize) -> Result<Vec<L>, NoMemory>
         requires { place < length self.now.paths }
@@ -106,7 +106,7 @@ impl<L: Copy> Searched<L> {
         self.firsts.as_slice()
     }
 
-    /// The place of the first state after whose path the label may come; none if it wasn't met.
+    /// The place of the first state in which the label may come; none if the search didn't meet it.
     pub fn first(&self, label: L) -> Option<u32>
     where
         L: Eq,
@@ -116,7 +116,8 @@ impl<L: Copy> Searched<L> {
         place_of(self.firsts.as_slice(), label)
     }
 
-    /// A search that found the first state, and looked nowhere. The only error is `NoMemory`.
+    /// A search that found the first state, and didn't look at what comes next. The only error is
+    /// `NoMemory`.
     pub(crate) fn start<S: Space<L>>(alloc: Global, space: &mut S) -> Result<Searched<L>, NoMemory>
         ensures same { space.new ≡ space.old }
         ensures start { IfOk result (IsStart (S.node space.old)) }
@@ -132,15 +133,15 @@ impl<L: Copy> Searched<L> {
         })
     }
 
-    /// Whether there is a state after which it wasn't looked yet.
+    /// Whether there is a state that wasn't looked at for what comes next.
     pub(crate) fn is_open(&self) -> bool
         ensures { IsTrue result ↔ (self.now.looked < length self.now.paths) }
     {
         self.looked < self.states.len()
     }
 
-    /// Looks at what comes after the next state. True if all the states there fit; else they are
-    /// cut at `most`. The only error is `NoMemory`.
+    /// Looks at what comes after the next state. True if all states found there fit; else the
+    /// search is cut at `most` states. The only error is `NoMemory`.
     pub(crate) fn look<S: Space<L>>(
         &mut self,
         alloc: Global,

@@ -10,9 +10,9 @@ use crate::space::Space;
 use irq_base::NoMemory;
 use std::alloc::Global;
 
-/// Searches the space, breadth first, for at most `most` states. With more of them the search is
-/// cut: what comes after the first `looked` states was looked at, the rest wasn't. The only error
-/// is `NoMemory`.
+/// Searches the space, breadth first, for at most `most` states. If there are more, the search is
+/// cut: only the first `looked` states were looked at for what comes next. The only error is
+/// `NoMemory`.
 pub fn search<L: Copy + Eq, S: Space<L>>(
     alloc: Global,
     space: &mut S,

@@ -17,15 +17,15 @@ pub trait Space<L: Copy> {
     /// The numbers of the state to which the path leads.
     ghost node: { Self → List L → List ℕ };
 
-    /// Writes the numbers of the first state behind what stands in `words`, which is nothing. The
-    /// only error is `NoMemory`.
+    /// Writes the numbers of the first state into `words`, which is empty. The only error is
+    /// `NoMemory`.
     fn first(&mut self, words: &mut Vec<u32>) -> Result<(), NoMemory>
         requires { words.old.items ≡ [] }
         ensures same { self.new ≡ self.old }
         ensures first { OnOk result (words.new.items ≡ node self.old []) };
 
-    /// What may come next in the state of these numbers, each with the numbers of the state after
-    /// it. The only error is `NoMemory`.
+    /// The labels that may come next in the state with these numbers, each with the numbers of the
+    /// state after it. The only error is `NoMemory`.
     fn steps(&mut self, words: &[u32], found: &mut Found<L>) -> Result<(), NoMemory>
         requires reached { IsReached (can self.old) (node self.old) 100000000 words.now }
         requires empty { found.old ≡ [] }

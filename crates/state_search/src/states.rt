@@ -9,15 +9,15 @@ use irq_base::NoMemory;
 use std::alloc::Global;
 use std::marker::Model;
 
-/// How a state was come to: from the state of which place, by which label.
+/// How a state was reached: the place of the state before it, and the label.
 #[derive(Clone, Copy)]
 pub(crate) struct Came<L: Copy> {
     pub(crate) from: u32,
     pub(crate) label: L,
 }
 
-/// The states that were found, in their order, each once. A state is found by its numbers, which
-/// are compared whole. Contracts see the numbers of each, with how it was come to.
+/// The states that were found, in order, each once. A state is looked up by all its numbers.
+/// Contracts see the numbers of each state, and how it was reached.
 #[derive(Drop)]
 pub(crate) struct States<L: Copy> {
     rows: IndexMap<Vec<u32>, Option<Came<L>>>,
@@ -54,7 +54,7 @@ impl<L: Copy> States<L> {
         self.rows.len()
     }
 
-    /// The numbers of the state at the place.
+    /// The numbers of the state at index `place`.
     pub(crate) fn words(&self, place: usize) -> &[u32]
         requires { place < length self.now }
         ensures { slice_get (states_of self.now) place ≡ Some result.now }
@@ -65,7 +65,7 @@ impl<L: Copy> States<L> {
         }
     }
 
-    /// How the state at the place was come to; none if it is the first.
+    /// How the state at index `place` was reached; none for the first state.
     pub(crate) fn came(&self, place: usize) -> Option<Came<L>>
         requires { place < length self.now }
         ensures earlier { IfSome result (λ came. came.from < place) }
@@ -77,7 +77,7 @@ impl<L: Copy> States<L> {
         }
     }
 
-    /// Whether the state of these numbers was found.
+    /// Whether the state with these numbers was found.
     pub(crate) fn has(&self, words: &[u32]) -> bool
         ensures { IsTrue result ↔ IsIn (states_of self.now) words.now }
     {
@@ -101,8 +101,8 @@ impl<L: Copy> States<L> {
         Ok(())
     }
 
-    /// Adds the state, if it wasn't found before. False if it would have to be added and there are
-    /// `most` states. The only error is `NoMemory`.
+    /// Adds the state, if it wasn't found before. False if it is new and there are `most` states
+    /// already. The only error is `NoMemory`.
     fn put(
         &mut self,
         alloc: Global,
@@ -123,8 +123,8 @@ impl<L: Copy> States<L> {
         Ok(true)
     }
 
-    /// Adds what was found after the state at `from`, each state once. False if there are `most`
-    /// states and one more would have to be added. The only error is `NoMemory`.
+    /// Adds the states found after the state at `from`, each once. False if one of them is new and
+    /// there are `most` states already. The only error is `NoMemory`.
     pub(crate) fn put_all(
         &mut self,
         alloc: Global,

@@ -1,4 +1,5 @@
-//! The top call over ends in memory of which a call fails. The rows are written by hand.
+//! The top call over a source and sinks in memory, one of whose calls fails. The rows are written
+//! by hand.
 use callbacks::{ByKind, Callbacks};
 use irq_base::{NoMemory, Reports};
 use irq_io::{MemSink, MemSource};
@@ -34,8 +35,9 @@ const LOG: &str = "# irq 1 virq 1 intc:2
 /// How many bytes of the log stand before each of its rows, and in all.
 const CUTS: [usize; 11] = [0, 22, 57, 68, 90, 103, 127, 153, 172, 187, 200];
 
-/// The sizes of the ends, and the numbers of the read, write and flush of the output, and of the
-/// write of the error row, that fail, counted from 1; 0 where none does.
+/// The sizes of the source and the sinks, and which of their calls fail: the numbers of the read,
+/// of the write and the flush of the output, and of the write of the error row, counted from 1; 0:
+/// none.
 #[derive(Clone, Copy)]
 struct Ends {
     piece: usize,
@@ -55,8 +57,8 @@ const SOUND: Ends = Ends {
     error: 0,
 };
 
-/// What is to come of a call: the status, the number of entries of its reports, where it has some,
-/// the output and the error row.
+/// What a call should give: the status, the number of entries of its reports, if it has some, the
+/// output and the error row.
 #[derive(Clone, Copy)]
 struct Wanted<'a> {
     status: u8,
@@ -70,7 +72,7 @@ fn entries_of(reports: &Reports) -> Option<usize> {
     reports.get(0).map(|report| report.history.len())
 }
 
-/// Whether a call with that word over those ends comes to what is wanted.
+/// Whether a call with this word over this source and these sinks gives what is wanted.
 fn comes_to<R: Threads + Wait + Sync>(
     rt: &R,
     alloc: Global,

@@ -1,10 +1,11 @@
-//! Ends of std that fail at some of their calls, each of which is counted, and none tried again.
+//! A reader and a writer of std that fail at some of their calls. Each failure is counted, and no
+//! call is tried again.
 use irq_io::{FlushAnswer, ReadAnswer, Sink, Source, StdSink, StdSource, WriteAnswer};
 use std::io::{BufWriter, Error, ErrorKind, Read, Write};
 use std::test::Fail;
 
-/// An end of std that fails at its first call, fails or takes nothing at its second, and then
-/// works, two bytes a call. Flushes fail at every other call.
+/// A reader or writer of std that fails at its first call, fails or takes nothing at its second,
+/// and then works, two bytes a call. Flushes fail at every other call.
 #[derive(Drop)]
 struct Flaky {
     calls: u64,

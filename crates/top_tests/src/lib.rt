@@ -1,6 +1,6 @@
-//! Tests of what only a call of the program sees: ends that fail at their Nth call, arguments that
-//! can't be read, gates and handlers that hold threads, reports of a full log, and what a single
-//! line answers where it adds nothing. All else is tried from outside, by cases/.
+//! Tests of what only a call of the program sees: sources and sinks that fail at their Nth call,
+//! arguments that can't be read, gates and handlers that hold threads, reports of a full log, and
+//! what a single line answers where it adds nothing. All else is tried from outside, by cases/.
 #![tactic(auto)]
 
 #[cfg(test)]

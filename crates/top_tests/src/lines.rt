@@ -1,5 +1,5 @@
-//! What a single line answers where it adds nothing: that nothing is due, that its log is full, and
-//! that it asks for the answer of a run, with no answer and with that of another run.
+//! What a single line answers where it adds nothing: nothing is due; its log is full; it asks for
+//! the answer of a run, when no answer or another run's answer is handed in.
 use board_text::read_board;
 use callbacks::{ByKind, Callbacks, Said};
 use irq_base::{Actor, CpuNo, DevNo, DeviceDef, DriverNo, Kind, LineDef, LineNo, NoMemory, Part};
@@ -32,13 +32,14 @@ const DEVICE: DeviceDef = DeviceDef {
     kind: Kind::Check,
 };
 
-/// What is to come of a step.
+/// What a step should answer.
 #[derive(Clone, Copy, PartialEq, Eq)]
 enum Wanted {
     NotYet,
     Adds,
-    /// The line asks for the primary's answer, with one unserved ask: first with no answer, then
-    /// with that of a run with none. With its own answer it adds an entry.
+    /// The line asks for the primary handler's answer, with one unserved ask: first when no answer
+    /// is handed in, then when the answer is that of a run with no unserved ask. With the right
+    /// answer it adds an entry.
     Runs,
     Full,
 }
@@ -76,7 +77,7 @@ fn asks<L: IrqLine>(line: &mut L, answer: Option<Said>) -> bool {
     )
 }
 
-/// Whether the step comes to what is wanted.
+/// Whether the step answers what is wanted.
 fn comes_to<L: IrqLine>(line: &mut L, actor: Actor, wanted: Wanted) -> bool {
     let answer = if wanted == Wanted::Runs {
         if !asks(line, None) || !asks(line, said(0)) {
@@ -94,7 +95,7 @@ fn comes_to<L: IrqLine>(line: &mut L, actor: Actor, wanted: Wanted) -> bool {
     }
 }
 
-/// The number of the first step of a line of the definition that comes to something else.
+/// The number of the first step, of a line of the definition, that answers something else.
 fn first_wrong(alloc: Global, def: &LineDef) -> Result<Option<u32>, NoMemory> {
     if !is_valid(def) {
         return Ok(Some(0));

@@ -1,5 +1,5 @@
-//! A gate and handlers that hold one another until the other has come: in one thread alone nobody
-//! would come.
+//! A gate and handlers that make threads wait for one another: in one thread alone nobody would
+//! come.
 use callbacks::{ByKind, Handler};
 use irq_base::{Actor, Answer, CpuNo, DevNo, DeviceDef, DriverNo, Part};
 use std::hint::spin_loop;
@@ -10,7 +10,7 @@ use workers::Gate;
 /// How often a hold looks at most whether the other has come.
 const LOOKS: u64 = 500_000_000;
 
-/// After so many looks other threads are let run.
+/// After this many looks other threads are let run.
 const SPINS: u64 = 64;
 
 /// Two counts, of the first and of the second.
@@ -78,7 +78,7 @@ impl Meeting {
         }
     }
 
-    /// The count of the device's calls, and that of the other device.
+    /// The count of the device's calls, and the count of the other device's.
     fn calls(&self, dev: DevNo) -> (&AtomicU64, &AtomicU64) {
         match dev {
             DevNo(1) => (&self.calls.0, &self.calls.1),
@@ -86,7 +86,7 @@ impl Meeting {
         }
     }
 
-    /// Waits until the count is so high, or a hold has used up its looks.
+    /// Waits until the count has reached `wanted`, or a hold has used up its looks.
     fn hold(&self, count: &AtomicU64, wanted: u64) {
         for look in 1..=LOOKS {
             if count.load(Ordering::SeqCst) >= wanted || self.is_given_up() {

@@ -1,4 +1,4 @@
-//! The body of `main` over ends of std, and arguments that can't be read.
+//! The body of `main` over readers and writers of std, and arguments that can't be read.
 use irq_command::{Ended, command, run};
 use irq_io::{MemSink, MemSource};
 use std::alloc::Global;
@@ -43,7 +43,7 @@ fn arguments_that_are_not_read(rt: HostRuntime) -> Result<(), Fail> {
     Ok(())
 }
 
-/// An end of std all of whose calls fail.
+/// A reader and writer of std whose calls all fail.
 #[derive(Drop)]
 struct Broken;
 
@@ -63,7 +63,7 @@ impl Write for Broken {
     }
 }
 
-/// What a play over these ends leaves.
+/// What a play over this reader and these writers leaves.
 fn play<T: Threads + Wait + Sync, R: Read + Drop, O: Write + Drop, E: Write + Drop>(
     rt: &T,
     alloc: Global,

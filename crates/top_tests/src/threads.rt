@@ -59,7 +59,7 @@ const STORM_BEGINS: [Entry; 2] = [
     },
 ];
 
-/// The four that come again and again.
+/// The four entries of the storm that come again and again.
 const STORM_GOES_ON: [Entry; 4] = [
     Entry::Take {
         cpu: CpuNo(0),
@@ -84,7 +84,7 @@ const STORM_GOES_ON: [Entry; 4] = [
     },
 ];
 
-/// Runs the board under that gate, with those handlers.
+/// Runs the board under the gate, with the handlers.
 fn run<R: Threads + Wait + Sync, G: Gate + Sync, H: Handler + Sync>(
     rt: &R,
     alloc: Global,

@@ -27,7 +27,8 @@ fn each_processor_has_its_vectors(rt: HostRuntime) -> Result<(), Fail> {
     Ok(())
 }
 
-/// A fork goes past what another claim holds, and the first claim has it all after the meeting.
+/// A fork goes past the vectors that another claim holds, and after the meeting the first claim has
+/// all.
 #[test]
 fn a_fork_gets_what_nobody_holds(rt: HostRuntime) -> Result<(), Fail> {
     let (matrix, mut first) = Matrix::new(rt.alloc(), 2, 3)?;

@@ -9,7 +9,8 @@ use vector_matrix::{Claim, ClaimAnswer, Matrix};
 
 const FIRST: CpuNo = CpuNo(0);
 
-/// Claims vectors of the first processor so many times. Bit v of the number is set if v was got.
+/// Claims vectors of the first processor `times` times. Bit v of the number is set if vector v was
+/// got.
 fn claim_often(matrix: &Matrix, mut claim: Claim, times: u32) -> (Claim, u64)
     requires claim { IsClaimOf matrix.now claim × (claim.first ≡ false) }
     requires size { (0 < matrix.now.cpus) × (matrix.now.vectors ≤ 64) }
