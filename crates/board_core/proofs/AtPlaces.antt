@@ -9,7 +9,7 @@ use Rattle.irq_line.specs.Seen.{LineSeen, IsSound}
 use Rattle.irq_line.specs.declared.answers.StepRefused.{StepRefused}
 use Rattle.irq_line.specs.declared.answers.StepRefused.TheVariants as refusals
 use Rattle.board_core.specs.Places.{SteppedAt, told}
-use Rattle.board_core.specs.Stepping.{Heard}
+use Rattle.irq_line.specs.Heard.{Heard}
 
 module _ {X : Type 0} (f : X → LineSeen) (xs : List X) (k : ℕ) (x y : X) (within : k < length xs) (at : x ≡ get_or xs k x) where
   seen_at : slice_get (map f xs) k ≡ Some (f x)

@@ -23,7 +23,7 @@ use Rattle.irq_laws.proofs.Chosen.{the_same}
 use Rattle.irq_laws.proofs.KeptAlways.{kept}
 use Rattle.irq_line.specs.Queries.{IsLowestThread, IsTaker, IsThreadDue, is_some_take, blocks_of, is_blocked}
 use Rattle.irq_line.specs.Seen.{LineSeen}
-use Rattle.irq_line.specs.declared.queries.Blocks.{Blocks}
+use Rattle.irq_base.specs.declared.waiting.Blocks.{Blocks}
 use Rattle.irq_line.proofs.Waits.{call_waits}
 use Rattle.play_laws.specs.Actors.{count_up, IsOneOf, threads_of as threads_of_line, cpus_of as cpus_of_line, drivers_of as drivers_of_line, actors_of as actors_of_line}
 use Rattle.play_laws.proofs.Listed.{thread_device, mover_listed}

@@ -37,7 +37,7 @@ use Rattle.board_core.specs.Log.{without_newest, with_newest, merged}
 use Rattle.board_core.specs.Places.{StepsAt, SteppedAt}
 use Rattle.board_core.specs.Scripts.{ScriptSeen, completes, advanced_by, advanced_at, advanced, IsScript}
 use Rattle.board_core.specs.Seen.{board_line, board_lines}
-use Rattle.board_core.specs.Stepping.{Adds}
+use Rattle.irq_line.specs.Heard.{Adds}
 use Rattle.board_core.specs.Turned.{IsScriptOf, StepsBy, script_after, scripts_after, turn_of}
 use Rattle.board_core.specs.Turns.{Moves, IsFullFor}
 use Rattle.board_core.specs.declared.scripts.Step.{Step}

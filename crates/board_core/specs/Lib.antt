@@ -1,4 +1,3 @@
-pub mod Stepping
 pub mod Numbers
 pub mod Scripts
 pub mod ReadyFor

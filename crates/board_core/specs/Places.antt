@@ -8,7 +8,7 @@ use Rattle.irq_line.specs.Seen.{LineSeen, IsSound}
 use Rattle.irq_line.specs.declared.answers.StepRefused.{StepRefused}
 use Rattle.irq_line.specs.declared.answers.StepRefused.TheVariants as refusals
 use Rattle.board_play.specs.Lines.{BoardLine}
-use Rattle.board_core.specs.Stepping.{Adds}
+use Rattle.irq_line.specs.Heard.{Adds}
 
 abbrev pub line_at : List BoardLine → Option ℕ → Option BoardLine
 line_at lines None = None

@@ -5,7 +5,7 @@ use Rattle.irq_base.specs.declared.numbers.DevNo.{DevNo}
 use Rattle.irq_laws.specs.Blocks.{Block, Nothing, Flow, Threads, Mutex, Device, block_of}
 use Rattle.irq_line.specs.Queries.{IsTaker, IsLowestThread, flow_of, blocks_of}
 use Rattle.irq_line.specs.Seen.{LineSeen}
-use Rattle.irq_line.specs.declared.queries.Blocks.{Blocks}
+use Rattle.irq_base.specs.declared.waiting.Blocks.{Blocks}
 use Rattle.board_ready.specs.Seen.{ReadySeen}
 use Rattle.board_ready.specs.declared.parts.Barriers.{Barriers}
 use Rattle.board_ready.specs.declared.parts.CurrentCall.{CurrentCall}

@@ -15,7 +15,6 @@ pub mod placing;
 pub mod refreshing;
 pub mod scripts;
 pub mod stands;
-pub mod stepping;
 pub mod system;
 pub mod turning;
 pub mod turns;

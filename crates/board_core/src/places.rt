@@ -2,10 +2,9 @@
 ghost use Rattle.std.specs.Prelude.{◌≡◌, ◌<◌, ◌≤◌, ◌+◌, map, length, vec_len, vec_capacity};
 ghost use Rattle.board_core.specs.Places.{SteppedAt, told};
 
-use crate::stepping::step_heard;
 use callbacks::{Callbacks, Handler};
 use irq_base::{Actor, Entry};
-use irq_line::{IrqLine, StepRefused};
+use irq_line::{IrqLine, StepRefused, step_heard};
 
 /// A step of the line at `place`. If it adds an entry, `place` goes to the end of the order. Room
 /// in the order is taken first, so that nothing is refused after the step.

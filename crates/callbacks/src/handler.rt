@@ -3,7 +3,7 @@ ghost use Rattle.std.specs.Prelude.{◌≡◌};
 ghost use Rattle.irq_base.specs.Handlers.{answer_of};
 
 use crate::said::Said;
-use irq_base::{Answer, DeviceDef, Part};
+use irq_base::{Answer, DeviceDef, Part, Run};
 
 /// The handlers of all devices, primary and threaded (`irq_handler_t` of
 /// `include/linux/interrupt.h`).
@@ -26,13 +26,13 @@ impl<H: Handler> Callbacks<H> {
         Callbacks { handler }
     }
 
-    /// Calls this part of the device's handler (`action->handler`, `__handle_irq_event_percpu` of
-    /// `kernel/irq/handle.c`; `action->thread_fn`, `irq_thread_fn` of `kernel/irq/manage.c`). It
-    /// takes no memory.
-    pub fn call(&self, def: DeviceDef, part: Part, unserved: u32) -> Said
-        ensures { result ≡ record { run = record { def = def; part = part; unserved = unserved }; answer = answer_of def.kind part unserved } }
+    /// Runs the handler (`action->handler`, `__handle_irq_event_percpu` of `kernel/irq/handle.c`;
+    /// `action->thread_fn`, `irq_thread_fn` of `kernel/irq/manage.c`), and has its answer. It takes
+    /// no memory.
+    pub fn call(&self, run: Run) -> Said
+        ensures { result ≡ record { run = run; answer = answer_of run.def.kind run.part run.unserved } }
     {
-        let answer = self.handler.answer(def, part, unserved);
-        Said::new(def, part, unserved, answer)
+        let answer = self.handler.answer(run.def, run.part, run.unserved);
+        Said::new(run, answer)
     }
 }

@@ -2,16 +2,14 @@
 ghost use Rattle.std.specs.Prelude.{◌≡◌, IsTrue};
 ghost use Rattle.irq_base.specs.Handlers.{answer_of};
 
-use irq_base::{Answer, DeviceDef, Part};
+use irq_base::{Answer, Part, Run};
 use std::marker::Model;
 
 /// An answer of a handler, with the run that it answers. Only a call of the handler makes one, and
 /// it can be neither copied nor cloned. Its type keeps that the answer is the device's.
 #[derive(Drop)]
 pub struct Said {
-    def: DeviceDef,
-    part: Part,
-    unserved: u32,
+    run: Run,
     answer: Answer,
 }
 
@@ -22,43 +20,31 @@ impl Model for Said {
 
     ghost Value = { SaidSeen };
 
-    ghost view = { λ s. record { run = record { def = s.def; part = s.part; unserved = s.unserved }; answer = s.answer } };
+    ghost view = { λ s. record { run = s.run; answer = s.answer } };
 
-    ghost invariant = { λ s. s.answer ≡ answer_of s.def.kind s.part s.unserved };
+    ghost invariant = { λ s. s.answer ≡ answer_of s.run.def.kind s.run.part s.run.unserved };
 }
 
 impl Said {
-    pub(crate) fn new(def: DeviceDef, part: Part, unserved: u32, answer: Answer) -> Said
-        requires { answer ≡ answer_of def.kind part unserved }
-        ensures { result ≡ record { run = record { def = def; part = part; unserved = unserved }; answer = answer } }
+    pub(crate) fn new(run: Run, answer: Answer) -> Said
+        requires { answer ≡ answer_of run.def.kind run.part run.unserved }
+        ensures { result ≡ record { run = run; answer = answer } }
     {
-        Said {
-            def,
-            part,
-            unserved,
-            answer,
-        }
+        Said { run, answer }
     }
 
-    /// The device whose handler was called.
-    pub fn def(&self) -> DeviceDef
-        ensures { result ≡ self.now.run.def }
+    /// The run that ended with this answer.
+    pub fn run(&self) -> Run
+        ensures { result ≡ self.now.run }
     {
-        self.def
+        self.run
     }
 
     /// Which part of the handler was called: the primary one, or the thread's.
     pub fn part(&self) -> Part
         ensures { result ≡ self.now.run.part }
     {
-        self.part
-    }
-
-    /// How many asks of the device were unserved as the run began.
-    pub fn unserved(&self) -> u32
-        ensures { result ≡ self.now.run.unserved }
-    {
-        self.unserved
+        self.run.part
     }
 
     /// What the handler answered, which is what its device answers.
@@ -70,10 +56,10 @@ impl Said {
     }
 
     /// Whether it is the answer of this run.
-    pub fn is_for(&self, def: DeviceDef, part: Part, unserved: u32) -> bool
-        ensures sound { IsTrue result → self.now.run ≡ record { def = def; part = part; unserved = unserved } }
-        ensures complete { self.now.run ≡ record { def = def; part = part; unserved = unserved } → IsTrue result }
+    pub fn is_for(&self, run: Run) -> bool
+        ensures sound { IsTrue result → self.now.run ≡ run }
+        ensures complete { self.now.run ≡ run → IsTrue result }
     {
-        self.def == def && self.part == part && self.unserved == unserved
+        self.run == run
     }
 }

@@ -3,10 +3,11 @@ use Rattle.std.proofs.Common.{◌≡◌, ℕ, ◌<◌, Option, Some, None, Resul
 use Rattle.std.proofs.lemmas.Bool.{false≢true}
 use Rattle.std.specs.Prelude.{IsSome, IfSome}
 use Rattle.std.proofs.lemmas.Option.{none-some, same_Some}
+use Rattle.irq_base.specs.declared.devices.Run.{Run}
 use Rattle.irq_base.specs.declared.entries.Actor.{Actor}
 use Rattle.irq_base.specs.declared.entries.Entry.{Entry}
 use Rattle.irq_model.specs.Next.{next}
-use Rattle.callbacks.specs.Seen.{Run, SaidSeen}
+use Rattle.callbacks.specs.Seen.{SaidSeen}
 use Rattle.irq_line.specs.Runs.{run_of, run_of_entry}
 use Rattle.irq_line.specs.Answers.{Answers, AddsEntry, WantsRun, IsFull, IsSaidFor, IsDueOf}
 use Rattle.irq_line.specs.Seen.{LineSeen}
@@ -45,23 +46,23 @@ module _ (old : LineSeen) (who : Actor) (said : Option SaidSeen) where
       → (a ≡ Err refusals.NoMemory → ⊥) → (b ≡ Err refusals.NoMemory → ⊥) → a ≡ b
   one_answer (Err refusals.NoMemory) b new other x y p q = absurd (p refl)
   one_answer (Ok (stepped.Added e)) (Err refusals.NoMemory) new other x y p q = absurd (q refl)
-  one_answer (Ok (stepped.Run def part n)) (Err refusals.NoMemory) new other x y p q = absurd (q refl)
+  one_answer (Ok (stepped.Run run)) (Err refusals.NoMemory) new other x y p q = absurd (q refl)
   one_answer (Ok stepped.NotYet) (Err refusals.NoMemory) new other x y p q = absurd (q refl)
   one_answer (Err (refusals.Full m)) (Err refusals.NoMemory) new other x y p q = absurd (q refl)
   one_answer (Ok (stepped.Added e)) (Ok (stepped.Added f)) new other x y p q = ap (λ z. Ok (stepped.Added z)) (added_twice e f new other x y)
-  one_answer (Ok (stepped.Added e)) (Ok (stepped.Run def part n)) new other x y p q = absurd (added_run e _ new x y.0)
+  one_answer (Ok (stepped.Added e)) (Ok (stepped.Run run)) new other x y p q = absurd (added_run e _ new x y.0)
   one_answer (Ok (stepped.Added e)) (Ok stepped.NotYet) new other x y p q = absurd (added_none e new x y.0)
   one_answer (Ok (stepped.Added e)) (Err (refusals.Full m)) new other x y p q = absurd (below_full m x.below y.0)
-  one_answer (Ok (stepped.Run def part n)) (Ok (stepped.Added f)) new other x y p q = absurd (added_run f _ other y x.0)
-  one_answer (Ok (stepped.Run def part n)) (Ok (stepped.Run def1 part1 n1)) new other x y p q =
-      ap (λ (r : Run). Ok (stepped.Run r.def r.part r.unserved)) (same_run (record { def = def; part = part; unserved = n }) (record { def = def1; part = part1; unserved = n1 }) x.0 y.0)
-  one_answer (Ok (stepped.Run def part n)) (Ok stepped.NotYet) new other x y p q = absurd (none_run _ y.0 x.0.due)
-  one_answer (Ok (stepped.Run def part n)) (Err (refusals.Full m)) new other x y p q = absurd (below_full m x.0.below y.0)
+  one_answer (Ok (stepped.Run run)) (Ok (stepped.Added f)) new other x y p q = absurd (added_run f _ other y x.0)
+  one_answer (Ok (stepped.Run run)) (Ok (stepped.Run other_run)) new other x y p q =
+      ap (λ (r : Run). Ok (stepped.Run r)) (same_run run other_run x.0 y.0)
+  one_answer (Ok (stepped.Run run)) (Ok stepped.NotYet) new other x y p q = absurd (none_run _ y.0 x.0.due)
+  one_answer (Ok (stepped.Run run)) (Err (refusals.Full m)) new other x y p q = absurd (below_full m x.0.below y.0)
   one_answer (Ok stepped.NotYet) (Ok (stepped.Added f)) new other x y p q = absurd (added_none f other y x.0)
-  one_answer (Ok stepped.NotYet) (Ok (stepped.Run def part n)) new other x y p q = absurd (none_run _ x.0 y.0.due)
+  one_answer (Ok stepped.NotYet) (Ok (stepped.Run run)) new other x y p q = absurd (none_run _ x.0 y.0.due)
   one_answer (Ok stepped.NotYet) (Ok stepped.NotYet) new other x y p q = refl
   one_answer (Ok stepped.NotYet) (Err (refusals.Full m)) new other x y p q = absurd (none_due x.0 y.0.due)
   one_answer (Err (refusals.Full m)) (Ok (stepped.Added f)) new other x y p q = absurd (below_full m y.below x.0)
-  one_answer (Err (refusals.Full m)) (Ok (stepped.Run def part n)) new other x y p q = absurd (below_full m y.0.below x.0)
+  one_answer (Err (refusals.Full m)) (Ok (stepped.Run run)) new other x y p q = absurd (below_full m y.0.below x.0)
   one_answer (Err (refusals.Full m)) (Ok stepped.NotYet) new other x y p q = absurd (none_due y.0 x.0.due)
   one_answer (Err (refusals.Full m)) (Err (refusals.Full k)) new other x y p q = ap (λ z. Err (refusals.Full z)) (x.0.told ∙ sym y.0.told)

@@ -4,10 +4,11 @@
 -- always holds. So, but for `NoMemory`, each answer comes exactly if its condition holds.
 use Rattle.std.specs.Prelude.{◌≡◌, ◌+◌, ◌<◌, ◌≤◌, ℕ, Option, Some, None, IsSome, IfSome, Result, Ok, Err, [], ◌∷◌, ◌++◌, length}
 use Rattle.irq_base.specs.Who.{actor_of}
+use Rattle.irq_base.specs.declared.devices.Run.{Run}
 use Rattle.irq_base.specs.declared.entries.Actor.{Actor}
 use Rattle.irq_base.specs.declared.entries.Entry.{Entry}
 use Rattle.irq_model.specs.Next.{next}
-use Rattle.callbacks.specs.Seen.{Run, SaidSeen}
+use Rattle.callbacks.specs.Seen.{SaidSeen}
 use Rattle.irq_line.specs.Runs.{run_of}
 use Rattle.irq_line.specs.Seen.{LineSeen}
 use Rattle.irq_line.specs.declared.answers.StepRefused.{StepRefused}
@@ -51,8 +52,7 @@ pub record IsFull (old : LineSeen) (who : Actor) (len : ℕ) : Type 0 where
 abbrev pub Answers : LineSeen → Actor → Option SaidSeen → Result Stepped StepRefused → LineSeen
     → Type 0
 Answers old who said (Ok (stepped.Added entry)) new = AddsEntry old who said entry new
-Answers old who said (Ok (stepped.Run def part unserved)) new =
-    WantsRun old who said (record { def = def; part = part; unserved = unserved }) × (new ≡ old)
+Answers old who said (Ok (stepped.Run run)) new = WantsRun old who said run × (new ≡ old)
 Answers old who said (Ok stepped.NotYet) new = (next old.def old.entries who ≡ None) × (new ≡ old)
 Answers old who said (Err (refusals.Full len)) new = IsFull old who len × (new ≡ old)
 Answers old who said (Err refusals.NoMemory) new = new ≡ old

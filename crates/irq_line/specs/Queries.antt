@@ -6,6 +6,7 @@ use Rattle.irq_base.specs.declared.numbers.DevNo.{DevNo}
 use Rattle.irq_base.specs.declared.entries.Actor.TheVariants as actors
 use Rattle.irq_base.specs.declared.entries.Entry.{Entry}
 use Rattle.irq_base.specs.declared.lines.LineDef.{LineDef}
+use Rattle.irq_base.specs.declared.waiting.Blocks.{Blocks}
 use Rattle.irq_model.specs.Due.{holds_mutex}
 use Rattle.irq_model.specs.Kinds.{is_take}
 use Rattle.irq_model.specs.Next.{next}
@@ -14,7 +15,6 @@ use Rattle.irq_model.specs.Rounds.{flow, has_flow}
 use Rattle.irq_model.specs.Threads.{is_woken, is_running}
 use Rattle.irq_laws.specs.Blocks.{Block, Nothing, Flow, Threads, Mutex, Device}
 use Rattle.irq_line.specs.Seen.{LineSeen}
-use Rattle.irq_line.specs.declared.queries.Blocks.{Blocks}
 
 abbrev pub is_some_take : Option Entry → Bool
 is_some_take (Some e) = is_take e

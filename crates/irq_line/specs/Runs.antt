@@ -3,13 +3,13 @@ use Rattle.std.specs.Prelude.{Option, Some, None, List, reverse}
 use Rattle.irq_base.specs.declared.numbers.DevNo.{DevNo}
 use Rattle.irq_base.specs.declared.devices.DeviceDef.{DeviceDef}
 use Rattle.irq_base.specs.declared.devices.Part.TheVariants as parts
+use Rattle.irq_base.specs.declared.devices.Run.{Run}
 use Rattle.irq_base.specs.declared.entries.Actor.{Actor}
 use Rattle.irq_base.specs.declared.entries.Entry.{Entry}
 use Rattle.irq_base.specs.declared.entries.Entry.TheVariants as entries
 use Rattle.irq_base.specs.declared.lines.LineDef.{LineDef}
 use Rattle.irq_model.specs.Lines.{kind_of}
 use Rattle.irq_model.specs.Next.{next, asks_of_handler, asks_of_thread}
-use Rattle.callbacks.specs.Seen.{Run}
 
 -- the line's device of that number
 abbrev pub device_of : LineDef → DevNo → DeviceDef

@@ -1,5 +1,5 @@
 //! What a step answers.
-use irq_base::{DeviceDef, Entry, NoMemory, Part};
+use irq_base::{Entry, NoMemory, Run};
 use thiserror::Error;
 
 /// What a step did.
@@ -7,13 +7,9 @@ use thiserror::Error;
 pub enum Stepped {
     /// It added this entry.
     Added(Entry),
-    /// The entry that is due ends a run of a handler, and the handler's answer is needed first.
-    /// `unserved`: how many asks of the device were unserved as the run began. Nothing changed.
-    Run {
-        def: DeviceDef,
-        part: Part,
-        unserved: u32,
-    },
+    /// The entry that is due ends this run of a handler, whose answer is needed first. Nothing
+    /// changed.
+    Run(Run),
     /// Nothing is due of the actor, and nothing changed.
     NotYet,
 }

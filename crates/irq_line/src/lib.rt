@@ -21,14 +21,15 @@ ghost use Rattle.irq_line.specs.declared.answers.StepRefused.TheVariants as refu
 ghost use Rattle.irq_line.specs.declared.answers.Stepped.{Stepped};
 
 pub mod answers;
+pub mod heard;
 pub mod line;
 pub mod makes;
-pub mod queries;
 
 pub use answers::{StepRefused, Stepped};
+pub use heard::step_heard;
+pub use irq_base::Blocks;
 pub use line::IrqLine;
 pub use makes::MakesLine;
-pub use queries::Blocks;
 
 /// But for `NoMemory` a step has one answer: the conditions of the others exclude one another.
 #[tactic(auto, using(crate::proofs::OneAnswer::one_answer))]

@@ -1,19 +1,24 @@
 //! The trait.
-ghost use Rattle.std.specs.Prelude.{◌≡◌, ◌≤◌, ◌↔◌, IsTrue, OnOk, OnErr};
+ghost use Rattle.std.specs.Prelude.{◌≡◌, ◌≤◌, ◌↔◌, IsTrue, Option, OnOk, OnErr};
+ghost use Rattle.irq_base.specs.declared.entries.Entry.{Entry};
 ghost use Rattle.irq_line.specs.Answers.{Answers};
+ghost use Rattle.irq_line.specs.Memory.{WantsMemory};
 ghost use Rattle.irq_line.specs.Queries.{IsPresented, IsTaker, IsLowestThread, flow_of, blocks_of};
 ghost use Rattle.irq_line.specs.Seen.{LineSeen, IsSound};
 
 use crate::answers::{StepRefused, Stepped};
-use crate::queries::Blocks;
 use callbacks::Said;
-use irq_base::{Actor, CpuNo, DevNo, History, LineDef, NoMemory};
+use irq_base::{Actor, Blocks, CpuNo, DevNo, History, LineDef, NoMemory};
 
 /// An interrupt line (`struct irq_desc`, `include/linux/irqdesc.h`). Contracts see what `seen`
 /// makes of it: its definition, its entries, the oldest first, and how many more fit without
 /// memory.
 pub trait IrqLine: Drop {
     ghost seen: { Self → LineSeen };
+
+    /// Whether a step may need memory though the history has room, if this entry is due of the
+    /// actor; of `None`, if nothing is due.
+    ghost may_want: { Option Entry → Type 0 };
 
     /// Adds the entry that is due of the actor, if there is one: one hold of the line's lock. If
     /// the entry ends a run of a handler, the answer of that run has to be handed in; an answer of
@@ -22,11 +27,12 @@ pub trait IrqLine: Drop {
     /// # Errors
     ///
     /// `Full` if an entry is due and the history has the greatest length that the definition
-    /// allows. `NoMemory` if memory was refused; a line may need some at any step. Nothing has
-    /// changed then.
+    /// allows. `NoMemory` if memory was refused: a step needs none if the history has room, unless
+    /// the line may want some for what is due. Nothing has changed then.
     fn step(&mut self, actor: Actor, said: Option<Said>) -> Result<Stepped, StepRefused>
         ensures def { (seen self.new).def ≡ (seen self.old).def }
-        ensures answer { Answers (seen self.old) actor said result (seen self.new) };
+        ensures answer { Answers (seen self.old) actor said result (seen self.new) }
+        ensures memory { WantsMemory may_want (seen self.old) actor result };
 
     /// Makes room for one more entry. With room to spare it isn't refused; if it is refused, all is
     /// as before.

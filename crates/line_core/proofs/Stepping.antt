@@ -2,6 +2,7 @@
 use Rattle.std.proofs.Common.{◌≡◌, ◌+◌, ◌<◌, ◌≤◌, List, [], ◌∷◌, ◌++◌, is_some, Option, Some, None, length, true, reverse, refl, sym, ap, subst, ◌∙◌}
 use Rattle.std.proofs.lemmas.Bool.{false≢true}
 use Rattle.std.specs.Prelude.{ℕ, IfSome}
+use Rattle.irq_base.specs.declared.devices.Run.{Run}
 use Rattle.irq_base.specs.declared.entries.Actor.{Actor}
 use Rattle.irq_base.specs.declared.entries.Entry.{Entry}
 use Rattle.irq_base.specs.declared.lines.LineDef.{LineDef}
@@ -11,7 +12,7 @@ use Rattle.irq_laws.proofs.OwnLaws.{due_is_own}
 use Rattle.irq_laws.proofs.ServedLaws.{has_target}
 use Rattle.irq_model.specs.Next.{next}
 use Rattle.irq_model.specs.Signal.{target}
-use Rattle.callbacks.specs.Seen.{Run, SaidSeen}
+use Rattle.callbacks.specs.Seen.{SaidSeen}
 use Rattle.irq_line.specs.Answers.{AddsEntry, WantsRun, IsSaidFor}
 use Rattle.irq_line.specs.Runs.{run_of, run_of_entry, run_ended}
 use Rattle.irq_line.specs.Seen.{LineSeen}

@@ -2,9 +2,9 @@
 use Rattle.std.specs.Prelude.{Bool, false, not, is_some, nat_lt, Option, Some, None, List}
 use Rattle.irq_base.specs.declared.numbers.DevNo.{DevNo}
 use Rattle.irq_base.specs.declared.numbers.DriverNo.{DriverNo}
+use Rattle.irq_base.specs.declared.waiting.Blocks.{Blocks}
 use Rattle.act_thread.specs.Threads.{active_in, is_idle_at}
 use Rattle.act_thread.specs.declared.rows.ThreadRow.{ThreadRow}
-use Rattle.irq_line.specs.declared.queries.Blocks.{Blocks}
 use Rattle.line_marks.specs.State.{StateSeen}
 
 -- the thread of the device that is being freed isn't at rest

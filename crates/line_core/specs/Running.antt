@@ -2,12 +2,12 @@
 use Rattle.std.specs.Prelude.{Option, Some, None}
 use Rattle.irq_base.specs.declared.devices.DeviceDef.{DeviceDef}
 use Rattle.irq_base.specs.declared.devices.Part.TheVariants as parts
+use Rattle.irq_base.specs.declared.devices.Run.{Run}
 use Rattle.irq_base.specs.declared.entries.Entry.{Entry}
 use Rattle.irq_base.specs.declared.entries.Entry.TheVariants as entries
 use Rattle.irq_base.specs.declared.lines.LineDef.{LineDef}
 use Rattle.irq_base.specs.declared.numbers.DevNo.{DevNo}
 use Rattle.device_table.specs.Rows.{at}
-use Rattle.callbacks.specs.Seen.{Run}
 use Rattle.line_marks.specs.CpuDue.{met_by}
 use Rattle.line_marks.specs.Due.{met_in}
 use Rattle.line_marks.specs.Kinds.{kind_at}

@@ -1,5 +1,5 @@
 //! The line.
-ghost use Rattle.std.specs.Prelude.{◌≡◌, ◌+◌, ◌<◌, ◌≤◌, [], ◌∷◌, ◌++◌, length, IfOk, IsOk, OnOk, OnErr, IsTrue, Some, false, reverse};
+ghost use Rattle.std.specs.Prelude.{◌≡◌, ◌+◌, ◌<◌, ◌≤◌, [], ◌∷◌, ◌++◌, length, IfOk, IsOk, OnOk, OnErr, IsTrue, Some, true, false, reverse};
 ghost use Rattle.irq_base.specs.Cell.{fresh_cell};
 ghost use Rattle.irq_model.specs.Kinds.{is_linked_request};
 ghost use Rattle.irq_model.specs.Lines.{serves};
@@ -8,8 +8,7 @@ ghost use Rattle.irq_model.specs.Signal.{target};
 ghost use Rattle.irq_model.specs.Up.{is_up};
 ghost use Rattle.irq_model.specs.Valid.{IsValid};
 ghost use Rattle.irq_laws.specs.Driven.{cell_after};
-ghost use Rattle.irq_line.specs.Answers.{Answers};
-ghost use Rattle.line_core.specs.Room.{WantsMemory};
+ghost use Rattle.line_core.specs.Room.{links_next};
 ghost use Rattle.line_core.specs.Blocking.{freed_in, blocks_by};
 
 use crate::due::due_by;
@@ -17,8 +16,8 @@ use crate::moving::advance;
 use crate::room::make_room;
 use crate::running::unanswered;
 use callbacks::Said;
-use irq_base::{Actor, Chip, CpuNo, DevNo, DriverNo, Entry, History, LineDef, NoMemory};
-use irq_line::{Blocks, IrqLine, StepRefused, Stepped};
+use irq_base::{Actor, Blocks, Chip, CpuNo, DevNo, DriverNo, Entry, History, LineDef, NoMemory};
+use irq_line::{IrqLine, StepRefused, Stepped};
 use line_scripts::Scripts;
 use line_state::LineState;
 use std::alloc::Global;
@@ -150,12 +149,10 @@ fn blocks_by<C: Chip>(state: &LineState<C>) -> Blocks
 impl<C: Chip + Drop> IrqLine for Line<C> {
     ghost seen = { λ l. l };
 
+    ghost may_want = { λ due. links_next due ≡ true };
+
     #[inline(always)]
-    fn step(&mut self, actor: Actor, said: Option<Said>) -> Result<Stepped, StepRefused>
-        ensures def { self.new.def ≡ self.old.def }
-        ensures answer { Answers self.old actor said result self.new }
-        ensures memory { WantsMemory self.old actor result }
-    {
+    fn step(&mut self, actor: Actor, said: Option<Said>) -> Result<Stepped, StepRefused> {
         let Some(entry) = self.due(actor) else {
             return Ok(Stepped::NotYet);
         };
@@ -164,11 +161,7 @@ impl<C: Chip + Drop> IrqLine for Line<C> {
             return Err(StepRefused::Full { len: len as u32 });
         }
         if let Some(run) = unanswered(&self.def, &self.state, &entry, &said) {
-            return Ok(Stepped::Run {
-                def: run.def,
-                part: run.part,
-                unserved: run.unserved,
-            });
+            return Ok(Stepped::Run(run));
         }
         self.add(actor, entry)?;
         Ok(Stepped::Added(entry))

@@ -4,36 +4,17 @@ ghost use Rattle.irq_line.specs.Answers.{IsSaidFor};
 ghost use Rattle.line_core.specs.Running.{device_by, run_by};
 
 use callbacks::Said;
-use irq_base::{Chip, DevNo, DeviceDef, Entry, LineDef, Part};
+use irq_base::{Chip, DevNo, DeviceDef, Entry, LineDef, Part, Run};
 use line_state::LineState;
-use std::marker::Model;
 
-/// A run: of which device, which part, and how many asks were unserved as it began.
-#[derive(Drop)]
-pub(crate) struct Running {
-    pub(crate) def: DeviceDef,
-    pub(crate) part: Part,
-    pub(crate) unserved: u32,
-}
-
-impl Model for Running {
-    ghost use Rattle.callbacks.specs.Seen.{Run};
-
-    ghost Value = { Run };
-
-    ghost view = { λ r. record { def = r.def; part = r.part; unserved = r.unserved } };
-}
-
-impl Running {
-    /// Whether what was handed in is the run's answer.
-    #[inline(always)]
-    fn is_answered(&self, said: &Option<Said>) -> bool
-        ensures { IsTrue result ↔ IsSaidFor said.now self.now }
-    {
-        match said {
-            Some(said) => said.is_for(self.def, self.part, self.unserved),
-            None => false,
-        }
+/// Whether the answer that was handed in is this run's answer.
+#[inline(always)]
+fn is_answered(run: Run, said: &Option<Said>) -> bool
+    ensures { IsTrue result ↔ IsSaidFor said.now run }
+{
+    match said {
+        Some(said) => said.is_for(run),
+        None => false,
     }
 }
 
@@ -44,7 +25,7 @@ pub(crate) fn unanswered<C: Chip>(
     state: &LineState<C>,
     entry: &Entry,
     said: &Option<Said>,
-) -> Option<Running>
+) -> Option<Run>
     ensures some { IfSome result
         (λ run. (run_by def.now state.now.state entry.now ≡ Some run)
         × (IsSaidFor said.now run → ⊥)) }
@@ -52,7 +33,7 @@ pub(crate) fn unanswered<C: Chip>(
         → IfSome (run_by def.now state.now.state entry.now) (IsSaidFor said.now) }
 {
     let run = run_by(def, state, entry)?;
-    if run.is_answered(said) {
+    if is_answered(run, said) {
         return None;
     }
     Some(run)
@@ -72,16 +53,16 @@ fn device<C: Chip>(def: &LineDef, state: &LineState<C>, dev: DevNo) -> DeviceDef
 
 /// The run that the entry ends.
 #[inline(always)]
-fn run_by<C: Chip>(def: &LineDef, state: &LineState<C>, entry: &Entry) -> Option<Running>
+fn run_by<C: Chip>(def: &LineDef, state: &LineState<C>, entry: &Entry) -> Option<Run>
     ensures { result ≡ run_by def.now state.now.state entry.now }
 {
     match *entry {
-        Entry::Return { dev, .. } => Some(Running {
+        Entry::Return { dev, .. } => Some(Run {
             def: device(def, state, dev),
             part: Part::Primary,
             unserved: state.met_by_handler(dev),
         }),
-        Entry::ThreadReturn { dev, .. } => Some(Running {
+        Entry::ThreadReturn { dev, .. } => Some(Run {
             def: device(def, state, dev),
             part: Part::Thread,
             unserved: state.met_by_thread(dev),

@@ -1,7 +1,7 @@
 //! Two lines that take the same steps.
 use callbacks::{ByKind, Callbacks};
-use irq_base::{Actor, NoMemory};
-use irq_line::{IrqLine, StepRefused, Stepped};
+use irq_base::{Actor, Entry, NoMemory};
+use irq_line::{IrqLine, StepRefused, step_heard};
 
 /// What a step of both lines did.
 #[derive(Clone, Copy, PartialEq, Eq)]
@@ -23,8 +23,9 @@ pub(crate) struct Pair<L: Drop, M: Drop> {
 impl<L: IrqLine, M: IrqLine> Pair<L, M> {
     /// Makes the step of the actor on both.
     pub(crate) fn step(&mut self, actor: Actor) -> Result<Both, NoMemory> {
-        let stepped = step(&mut self.line, actor);
-        let other = step(&mut self.other, actor);
+        let handlers = Callbacks::new(ByKind);
+        let stepped = step_heard(&mut self.line, actor, &handlers);
+        let other = step_heard(&mut self.other, actor, &handlers);
         if is_want(&stepped) || is_want(&other) {
             return Err(NoMemory);
         }
@@ -32,7 +33,7 @@ impl<L: IrqLine, M: IrqLine> Pair<L, M> {
             return Ok(Both::Differ);
         }
         match stepped {
-            Ok(Stepped::Added(_)) => Ok(Both::Moved),
+            Ok(Some(_)) => Ok(Both::Moved),
             _ => Ok(Both::Rested),
         }
     }
@@ -58,21 +59,6 @@ impl<L: IrqLine, M: IrqLine> Pair<L, M> {
     }
 }
 
-/// One step, with the call of the device's handler if its answer is needed.
-fn step<L: IrqLine>(line: &mut L, actor: Actor) -> Result<Stepped, StepRefused> {
-    match line.step(actor, None)? {
-        Stepped::Run {
-            def,
-            part,
-            unserved,
-        } => {
-            let said = Callbacks::new(ByKind).call(def, part, unserved);
-            line.step(actor, Some(said))
-        }
-        other => Ok(other),
-    }
-}
-
-fn is_want(stepped: &Result<Stepped, StepRefused>) -> bool {
+fn is_want(stepped: &Result<Option<Entry>, StepRefused>) -> bool {
     *stepped == Err(StepRefused::NoMemory)
 }

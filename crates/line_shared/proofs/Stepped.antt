@@ -33,7 +33,7 @@ module _ (key : LineDef) (who : Actor) (old new : Known) (line after : LineSeen)
         ap (λ (k : Known). k.seen) seen ∙ a.entries,
         mine_is (line.entries ++ e ∷ []) a.entries ∙ (placed_own key.line who line.entries e by ∙ ap (λ (xs : List Placed). xs ++ record { place = length line.entries; entry = e } ∷ []) (sym mine)),
       )
-  gains said (Ok (stepped.Run d part unserved)) a = unchanged a.1
+  gains said (Ok (stepped.Run run)) a = unchanged a.1
   gains said (Ok stepped.NotYet) a = unchanged a.1
   gains said (Err (refusals.Full len)) a = unchanged a.1
   gains said (Err refusals.NoMemory) a = unchanged a

@@ -19,8 +19,7 @@ use Rattle.line_lock.specs.declared.view.Known.{Known}
 abbrev pub Gains : Known → List Entry → Result Stepped StepRefused → Known → Type 0
 Gains old history (Ok (stepped.Added e)) new = (new.seen ≡ history ++ e ∷ [])
     × (new.mine ≡ old.mine ++ record { place = length history; entry = e } ∷ [])
-Gains old history (Ok (stepped.Run def part unserved)) new =
-    (new.seen ≡ history) × (new.mine ≡ old.mine)
+Gains old history (Ok (stepped.Run run)) new = (new.seen ≡ history) × (new.mine ≡ old.mine)
 Gains old history (Ok stepped.NotYet) new = (new.seen ≡ history) × (new.mine ≡ old.mine)
 Gains old history (Err refused) new = (new.seen ≡ history) × (new.mine ≡ old.mine)
 

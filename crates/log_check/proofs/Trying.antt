@@ -1,26 +1,31 @@
 -- A history is tried entry by entry.
-use Rattle.std.proofs.Common.{◌≡◌, ℕ, zero, suc, ◌+◌, ◌-◌, ◌≤◌, Bool, true, false, Option, Some, List, [], ◌∷◌, ◌++◌, length, take, reverse, refl, sym, ap, subst, ◌∙◌, arith}
+use Rattle.std.proofs.Common.{◌≡◌, ℕ, zero, suc, ◌+◌, ◌-◌, ◌≤◌, Bool, true, false, Option, Some, None, Ok, List, [], ◌∷◌, ◌++◌, length, take, reverse, refl, sym, ap, subst, ◌∙◌, arith}
 use Rattle.std.specs.List.{slice_get}
 use Rattle.std.specs.Option.{option_eq}
-use Rattle.std.specs.Prelude.{IfSome}
 use Rattle.std.proofs.lemmas.Bool.{false≢true}
 use Rattle.std.proofs.lemmas.Option.{same_Some}
 use Rattle.std.proofs.lemmas.List.{reverse-append, take_all}
 use Rattle.irq_base.specs.Who.{actor_of}
 use Rattle.irq_base.specs.contracts.entries.EntryPartialEq.TheImpl as entry_eq
+use Rattle.irq_base.specs.declared.entries.Actor.{Actor}
 use Rattle.irq_base.specs.declared.entries.Entry.{Entry}
 use Rattle.irq_base.specs.declared.lines.LineDef.{LineDef}
 use Rattle.irq_base.proofs.SameEntries.{found_same}
+use Rattle.irq_line.specs.Heard.{Heard}
 use Rattle.irq_line.specs.Seen.{LineSeen}
 use Rattle.irq_model.specs.Legal.{IsDue, IsLegal, IsLegalPast}
 use Rattle.irq_model.specs.Next.{next}
 use Rattle.log_check.specs.Judged.{Tried, IsFirstUndue}
 
-pub tried : (old new : LineSeen) (e : Entry) (due : Option Entry) (t : Bool) → due ≡ next old.def old.entries (actor_of old.def.line e)
-    → IfSome due (λ f. new.entries ≡ old.entries ++ f ∷ []) → t ≡ option_eq (entry_eq.eq-value).it due (Some e) → Tried old e t new
-tried old new e due true is added h =
-    let found = (found_same due e true h).0 refl in (sym is ∙ found, subst (λ (o : Option Entry). IfSome o (λ f. new.entries ≡ old.entries ++ f ∷ [])) found added)
-tried old new e due false is added h = λ owed. false≢true ((found_same due e false h).1 (is ∙ owed))
+heard_due : (old new : LineSeen) (a : Actor) (due : Option Entry) → Heard old a (Ok due) new → due ≡ next old.def old.entries a
+heard_due old new a None heard = sym heard.0
+heard_due old new a (Some e) heard = sym heard.due
+
+pub tried : (old new : LineSeen) (e : Entry) (due : Option Entry) (t : Bool) → Heard old (actor_of old.def.line e) (Ok due) new
+    → t ≡ option_eq (entry_eq.eq-value).it due (Some e) → Tried old e t new
+tried old new e due true heard h =
+    let added = subst (λ (o : Option Entry). Heard old (actor_of old.def.line e) (Ok o) new) ((found_same due e true h).0 refl) heard in (added.due, added.entries)
+tried old new e due false heard h = λ owed. false≢true ((found_same due e false h).1 (heard_due old new (actor_of old.def.line e) due heard ∙ owed))
 
 take_suc : {X : Type 0} (xs : List X) (n : ℕ) (x : X) → slice_get xs n ≡ Some x → take (suc n) xs ≡ take n xs ++ x ∷ []
 take_suc [] n x at = cc

@@ -3,17 +3,21 @@ ghost use Rattle.std.specs.Prelude.{◌≡◌};
 ghost use Rattle.irq_base.specs.Handlers.{answer_of};
 
 use callbacks::{Boxed, ByKind, Callbacks, Handler};
-use irq_base::{Answer, DevNo, DeviceDef, Kind, LineNo, Part};
+use irq_base::{Answer, DevNo, DeviceDef, Kind, LineNo, Part, Run};
 use std::alloc::{AllocError, Global};
 use std::sync::Arc;
 use std::sync::atomic::{AtomicU64, Ordering};
 use std::test::Fail;
 
-/// A device whose handler wakes its thread if something was asked.
-const DEVICE: DeviceDef = DeviceDef {
-    dev: DevNo(3),
-    line: LineNo(1),
-    kind: Kind::Check,
+/// A run of a handler that wakes its device's thread, since something was asked.
+const RUN: Run = Run {
+    def: DeviceDef {
+        dev: DevNo(3),
+        line: LineNo(1),
+        kind: Kind::Check,
+    },
+    part: Part::Primary,
+    unserved: 1,
 };
 
 /// Handlers that count how often they are called.
@@ -36,7 +40,7 @@ fn each_call_calls_the_kept_handler_once(rt: HostRuntime) -> Result<(), Fail> {
     let handlers = Callbacks::new(counting(rt.alloc(), Arc::try_clone(&calls)?)?);
     for made in 0..5 {
         assert_eq!(rt; calls.load(Ordering::SeqCst), made);
-        assert!(rt; handlers.call(DEVICE, Part::Primary, 1).answer() == Answer::Wake);
+        assert!(rt; handlers.call(RUN).answer() == Answer::Wake);
     }
     Ok(())
 }

@@ -7,8 +7,8 @@ ghost use Rattle.plain_line.specs.Line.{IsPlain};
 use crate::looking::{Looked, look};
 use crate::running::unanswered;
 use callbacks::Said;
-use irq_base::{Actor, CpuNo, DevNo, Entry, History, LineDef, NoMemory};
-use irq_line::{Blocks, IrqLine, StepRefused, Stepped};
+use irq_base::{Actor, Blocks, CpuNo, DevNo, Entry, History, LineDef, NoMemory};
+use irq_line::{IrqLine, StepRefused, Stepped};
 use plain_next::{newest_first, next_past};
 use std::alloc::Global;
 use std::marker::Model;
@@ -97,6 +97,9 @@ fn is_that(taker: Option<CpuNo>, cpu: CpuNo) -> bool
 impl IrqLine for PlainLine {
     ghost seen = { λ l. l };
 
+    // the history is copied at each step, so that memory may be refused even where nothing is due
+    ghost may_want = { λ due. Unit {0} };
+
     #[tactic(auto, using(crate::proofs::Steps::due_there, crate::proofs::Steps::adds))]
     fn step(&mut self, actor: Actor, said: Option<Said>) -> Result<Stepped, StepRefused> {
         let past = newest_first(self.alloc, &self.history)?;
@@ -108,11 +111,7 @@ impl IrqLine for PlainLine {
             return Err(StepRefused::Full { len: len as u32 });
         }
         if let Some(run) = unanswered(&self.def, &past, entry, &said) {
-            return Ok(Stepped::Run {
-                def: run.def,
-                part: run.part,
-                unserved: run.unserved,
-            });
+            return Ok(Stepped::Run(run));
         }
         self.add(&past, entry)?;
         Ok(Stepped::Added(entry))

@@ -5,8 +5,7 @@ ghost use Rattle.irq_model.specs.Valid.{IsValid};
 ghost use Rattle.irq_line.specs.Queries.{is_some_take, blocks_at};
 ghost use Rattle.plain_line.specs.Looked.{IsLooked, IsTakerAt, IsLowestAt, is_thread_due, lower_of};
 
-use irq_base::{Actor, CpuNo, DevNo, DeviceDef, Entry, LineDef, NoMemory};
-use irq_line::Blocks;
+use irq_base::{Actor, Blocks, CpuNo, DevNo, DeviceDef, Entry, LineDef, NoMemory};
 use plain_next::{
     any_device, flow, holds_mutex, is_being_freed, is_running, is_woken, next_past, target,
 };

@@ -3,7 +3,7 @@ ghost use Rattle.std.specs.Prelude.{◌≡◌};
 ghost use Rattle.irq_base.specs.Handlers.{answer_of};
 
 use callbacks::{Boxed, ByKind, Callbacks, Handler};
-use irq_base::{Answer, DevNo, DeviceDef, Kind, LineNo, Part};
+use irq_base::{Answer, DevNo, DeviceDef, Kind, LineNo, Part, Run};
 use std::alloc::{AllocError, Global};
 use std::sync::Arc;
 use std::sync::atomic::{AtomicU64, Ordering};
@@ -16,7 +16,12 @@ fn said<H: Handler>(handlers: &Callbacks<H>) -> Answer {
         line: LineNo(1),
         kind: Kind::Check,
     };
-    handlers.call(def, Part::Primary, 1).answer()
+    let run = Run {
+        def,
+        part: Part::Primary,
+        unserved: 1,
+    };
+    handlers.call(run).answer()
 }
 
 /// Handlers that count how often they are called.

@@ -2,7 +2,9 @@
 //! the answer of a run, when no answer or another run's answer is handed in.
 use board_text::read_board;
 use callbacks::{ByKind, Callbacks, Said};
-use irq_base::{Actor, CpuNo, DevNo, DeviceDef, DriverNo, Kind, LineDef, LineNo, NoMemory, Part};
+use irq_base::{
+    Actor, CpuNo, DevNo, DeviceDef, DriverNo, Kind, LineDef, LineNo, NoMemory, Part, Run,
+};
 use irq_line::{IrqLine, MakesLine, StepRefused, Stepped};
 use line_core::MakesCellLine;
 use line_valid::is_valid;
@@ -60,21 +62,23 @@ const STEPS: [(Actor, Wanted); 12] = [
     (Actor::Driver(DriverNo(2)), Wanted::NotYet),
 ];
 
-/// The handler's answer in a run with `unserved` unserved asks.
+/// The run of the device's handler with `unserved` unserved asks.
+fn run(unserved: u32) -> Run {
+    Run {
+        def: DEVICE,
+        part: Part::Primary,
+        unserved,
+    }
+}
+
+/// The handler's answer in that run.
 fn said(unserved: u32) -> Option<Said> {
-    Some(Callbacks::new(ByKind).call(DEVICE, Part::Primary, unserved))
+    Some(Callbacks::new(ByKind).call(run(unserved)))
 }
 
 /// Whether the line asks for the answer of the primary's run.
 fn asks<L: IrqLine>(line: &mut L, answer: Option<Said>) -> bool {
-    matches!(
-        line.step(CPU, answer),
-        Ok(Stepped::Run {
-            def: DEVICE,
-            part: Part::Primary,
-            unserved: 1
-        })
-    )
+    line.step(CPU, answer) == Ok(Stepped::Run(run(1)))
 }
 
 /// Whether the step answers what is wanted.

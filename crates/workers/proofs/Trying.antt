@@ -1,5 +1,6 @@
 -- One try of a worker: steps of the shared line until none of them needs an answer first.
 use Rattle.std.proofs.Common.{◌≡◌, ◌<◌, false, IsSome, Option, Some, None, Ok, Err, List, [], ◌∷◌, ◌++◌, length, refl, sym, ap, subst, ◌∙◌, append_assoc}
+use Rattle.irq_base.specs.declared.devices.Run.{Run}
 use Rattle.irq_base.specs.declared.entries.Actor.{Actor}
 use Rattle.irq_base.specs.declared.entries.Actor.TheVariants as actors
 use Rattle.irq_base.specs.declared.entries.Entry.{Entry}
@@ -94,8 +95,8 @@ module _ (line : LockSeen) (who : Actor) (old mid new : PassSeen) (said : Option
         came = s.gains.1 ∙ w.mine;
       }
 
-  pub waits_on : (def : _) (part : _) (n : _) → Steps line.def who mid.knows said (Ok (stepped.Run def part n)) new.knows → IsPassOf line new → new.turn ≡ false → new.knows.actor ≡ mid.knows.actor → Waits line old new
-  waits_on def part n s of_line idle actor =
+  pub waits_on : (run : Run) → Steps line.def who mid.knows said (Ok (stepped.Run run)) new.knows → IsPassOf line new → new.turn ≡ false → new.knows.actor ≡ mid.knows.actor → Waits line old new
+  waits_on run s of_line idle actor =
       record {
         of_line = of_line;
         idle = idle;

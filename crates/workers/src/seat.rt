@@ -90,13 +90,7 @@ fn step_heard<L: IrqLine, R: Wait, H: Handler>(
         match line.step(rt, pass, said.take()) {
             Ok(Stepped::Added(entry)) => return Ok(Some(entry)),
             Ok(Stepped::NotYet) => return Ok(None),
-            Ok(
-                Stepped::Run {
-                    def,
-                    part,
-                    unserved,
-                },
-            ) => said = Some(handlers.call(def, part, unserved)),
+            Ok(Stepped::Run(run)) => said = Some(handlers.call(run)),
             Err(refused) => return Err(refused),
         }
     }

@@ -1,0 +1,40 @@
+//! A step with the handlers of the line's devices at hand.
+ghost use Rattle.std.specs.Prelude.{◌≡◌};
+ghost use Rattle.irq_line.specs.Heard.{Heard};
+ghost use Rattle.irq_line.specs.Memory.{WantsMemory};
+
+use crate::answers::{StepRefused, Stepped};
+use crate::line::IrqLine;
+use callbacks::{Callbacks, Handler};
+use irq_base::{Actor, Entry};
+
+/// Adds the entry that is due of the actor, if there is one, and answers it. If it ends a run of a
+/// handler, that handler is called.
+///
+/// # Errors
+///
+/// Those of the line's step. Nothing has changed then.
+#[inline(always)]
+pub fn step_heard<L: IrqLine, H: Handler>(
+    line: &mut L,
+    actor: Actor,
+    handlers: &Callbacks<H>,
+) -> Result<Option<Entry>, StepRefused>
+    ensures def { (L.seen line.new).def ≡ (L.seen line.old).def }
+    ensures heard { Heard (L.seen line.old) actor result (L.seen line.new) }
+    ensures memory { WantsMemory L.may_want (L.seen line.old) actor result }
+{
+    match line.step(actor, None)? {
+        Stepped::Added(entry) => Ok(Some(entry)),
+        Stepped::NotYet => Ok(None),
+        Stepped::Run(run) => {
+            let said = handlers.call(run);
+            match line.step(actor, Some(said))? {
+                Stepped::Added(entry) => Ok(Some(entry)),
+                Stepped::NotYet => Ok(None),
+                // what was said is the answer of the run
+                Stepped::Run(_) => unreachable!(),
+            }
+        }
+    }
+}
