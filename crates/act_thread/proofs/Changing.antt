@@ -1,4 +1,4 @@
--- What a row weighs, and that a device keeps its rank.
+-- What a row contributes to the counts; and a device keeps its rank.
 use Rattle.std.proofs.Common.{◌≡◌, ℕ, ◌≤◌, Bool, true, false, Some, List, refl, sym, ◌∙◌, ap, arith}
 use Rattle.irq_base.specs.declared.numbers.DevNo.{DevNo}
 use Rattle.irq_model.specs.Kinds.{same_dev}

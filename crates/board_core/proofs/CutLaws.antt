@@ -1,4 +1,4 @@
--- A driver's script without the calls that are passed over says the same of its current call.
+-- A driver's script without the calls on refused lines has the same current call.
 use Rattle.std.proofs.Common.{◌≡◌, ℕ, zero, suc, ◌+◌, ◌==◌, Bool, true, false, ◌&&◌, ◌||◌, cond, is_some, Option, Some, None, List, [], ◌∷◌, map, filter, take, slice_get, refl, sym, ap, ◌∙◌, subst, add-one}
 use Rattle.std.proofs.lemmas.Bool.{and_parts}
 use Rattle.irq_base.specs.declared.lines.LineDef.{LineDef}

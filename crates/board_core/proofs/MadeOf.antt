@@ -1,4 +1,4 @@
--- One more of what a system is made of.
+-- One more of the things that a system is made of: a line, a script, a call.
 use Rattle.std.proofs.Common.{◌≡◌, ℕ, zero, suc, ◌+◌, ◌<◌, ◌≤◌, ◌==◌, ◌⊎◌, inl, inr, IsSomeAnd, Option, Some, List, [], ◌∷◌, ◌++◌, map, length, get_or, take, slice_get, refl, sym, ap, ◌∙◌, subst, arith, add-one}
 use Rattle.irq_base.specs.declared.lines.LineDef.{LineDef}
 use Rattle.irq_base.specs.declared.numbers.DriverNo.{DriverNo}
@@ -48,7 +48,7 @@ pub map_more : {A B : Type 0} (f : A → B) (xs : List A) (x : A) → map f (xs 
 map_more f [] x = refl
 map_more f (y ∷ ys) x = ap (λ (zs : List _). f y ∷ zs) (map_more f ys x)
 
--- ---- a script of which nothing is complete
+-- ---- a script with no call complete
 
 pub number_back : (lines : List BoardLine) (k : ℕ) (line : LineNo) → slice_get (numbers_of_defs (map (λ (x : BoardLine). x.def) lines)) k ≡ Some line.0 → IsSomeAnd (slice_get lines k) (λ y. y.def.line ≡ line)
 number_back [] k line at = cc

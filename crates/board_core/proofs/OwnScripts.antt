@@ -37,7 +37,7 @@ use Rattle.board_core.proofs.TurnLaws.{map_there, one_place, set_cases, set_same
 
 -- ---- one driver's script is changed
 
--- the script at the place, if there is one, changed by f
+-- the script at place j, if there is one, changed by f
 abbrev put : (ScriptSeen → ScriptSeen) → Option ScriptSeen → ℕ → List ScriptSeen → List ScriptSeen
 put f None j scripts = scripts
 put f (Some s) j scripts = slice_set scripts j (f s)

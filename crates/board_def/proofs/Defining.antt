@@ -75,7 +75,7 @@ nowhere rows line none =
     let test : LineRow → Bool = λ row. line.0 == row.line.0 in
     none_by test rows (not_some (nat_lt (position_or_len test rows) (length rows)) (position_or_len test rows) none)
 
--- the row at the place that is found
+-- the row that stands at the place found for the number
 record IsAt (rows : List LineRow) (line : LineNo) (place : ℕ) : Type 0 where
   row : LineRow
   at : slice_get rows place ≡ Some row

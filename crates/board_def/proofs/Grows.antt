@@ -1,4 +1,4 @@
--- A board with one thing more, which meets its rule after those before it, is a board.
+-- A board with one more row is a board, if the row meets its rule after the rows before it.
 use Rattle.std.proofs.Common.{◌≡◌, ℕ, zero, suc, ◌+◌, ◌*◌, ◌<◌, ◌≤◌, ◌==◌, Bool, true, false, cond, ◌||◌, ◌&&◌, not, Option, Some, None, List, [], ◌∷◌, ◌++◌, length, take, All, refl, sym, ap, subst, ◌∙◌, arith}
 use Rattle.std.specs.List.{list_any}
 use Rattle.std.proofs.lemmas.List.{length_push}
@@ -86,7 +86,7 @@ module _ (xs : List DomainRow) (x : DomainRow) where
       ap (λ defs. is_bad_unlazy defs place unlazy) defs_more
       ∙ ap (λ ks. unlazy && (is_edge_trigger (trigger_of_root (root_kind ks)) && not (keeps ks))) (kinds_stay (defs_of xs) (def_of x) place each declared)
 
--- an actor stays, as far as it rests on the same
+-- an actor of one board is an actor of another with the same devices, processors and drivers
 same_actors : (b c : BoardSeen) → b.devices ≡ c.devices → b.cpus ≡ c.cpus → b.drivers ≡ c.drivers → (a : Actor) → IsActorOf b a → IsActorOf c a
 same_actors b c d n r (actors.Thread line dev) p = subst (λ xs. is_threaded_on line (find_device xs dev) ≡ true) d p
 same_actors b c d n r (actors.Cpu cpu) p = subst (λ m. cpu.0 < m) n p

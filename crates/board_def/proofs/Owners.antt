@@ -1,5 +1,5 @@
--- Each device's requests and frees are one driver's, and a free stands between two requests: from
--- what each call meets after those before it, to what the calls on one line meet.
+-- One driver requests and frees a device, and a free stands between two requests: the rule for each
+-- call after the calls before it gives the rule for the calls on one line.
 use Rattle.std.proofs.Common.{◌≡◌, ℕ, zero, suc, ◌<◌, ◌==◌, Bool, true, false, cond, ◌||◌, Option, Some, None, List, [], ◌∷◌, ◌++◌, filter, map, reverse, take, refl, sym, ap, subst, ◌∙◌, arith}
 use Rattle.std.specs.List.{slice_get}
 use Rattle.std.specs.Option.{option_map}
@@ -157,7 +157,7 @@ owned_on_line b line each = each_kept keep (IsCallAfter b) IsOwnedAfter step b.c
 
 -- one owner
 
--- the first stands where it stood before the place, or at the place
+-- the first request or free of d is the first before place j, or the one at j
 first_at : (d : DevNo) (cs : List ScriptCall) (j : ℕ) (c : ScriptCall) → slice_get cs j ≡ Some c → is_owning d c ≡ true → first_owning d cs ≡ or_else (first_owning d (take j cs)) (Some c)
 first_at d [] j c at own = absurd cc
 first_at d (x ∷ cs) zero c at own = let same : x ≡ c = cc in subst (λ (y : ScriptCall). cond (is_owning d x) (Some x) (first_owning d cs) ≡ Some y) same (ap (λ b. cond b (Some x) (first_owning d cs)) (subst (λ (y : ScriptCall). is_owning d y ≡ true) (sym same) own))

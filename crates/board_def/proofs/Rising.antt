@@ -70,7 +70,7 @@ no_driver driver (x ∷ xs) all =
     ap (λ b. b || has_driver xs driver) (differ x.0 driver.0 (head_of (λ e. e.0 < driver.0) x xs all))
     ∙ no_driver driver xs (tail_of (λ e. e.0 < driver.0) x xs all)
 
--- the line at a place is the one of its number
+-- the row at a place is the row found by its number
 pub line_at : (xs : List LineRow) (i : ℕ) (row : LineRow) → Rises (λ row. row.line.0) xs → slice_get xs i ≡ Some row → find_line xs row.line ≡ Some row
 line_at [] i row rises at = absurd cc
 line_at (x ∷ xs) zero row rises at =

@@ -22,7 +22,7 @@ number_by false true c n virq own path e = absurd cc
 number_by false false true n virq own path e = absurd cc
 number_by false false false n virq own path e = cc
 
--- a line that has a place has the virq after those of the lines laid before
+-- a line that isn't refused has the virq after the virqs of the lines laid before it
 number_of : (domains : List DomainDef) (earlier : List Placement) (leaf : ℕ × ℕ) (virq : ℕ) (path : List (ℕ × ℕ)) → placement_of domains earlier leaf ≡ placements.Mapped virq path → count_of_mapped earlier + 1 ≡ virq
 number_of domains earlier leaf virq path e =
     let own = path_of domains earlier leaf in
@@ -52,7 +52,7 @@ among domains earlier (leaf ∷ leaves) (suc i) virq path at =
     let p = placement_of domains earlier leaf in
     subst (λ (all : List Placement). IsAmong all virq path) (append_assoc earlier (p ∷ []) (layout_after domains (earlier ++ p ∷ []) leaves)) (among domains (earlier ++ p ∷ []) leaves i virq path at)
 
--- after so many mapped lines stands the next one's path
+-- behind the paths of the mapped lines before it stands the path of the next mapped line
 path_after : (before after : List Placement) (virq : ℕ) (path : List (ℕ × ℕ)) → slot (paths_of (before ++ placements.Mapped virq path ∷ after)) (count_of_mapped before) ≡ Some path
 path_after [] after virq path = refl
 path_after (placements.Mapped v p ∷ before) after virq path =
@@ -69,7 +69,7 @@ virqs_have_paths domains leaves i virq path at =
     ap (λ v. path_in (paths_of (layout_of domains leaves)) v) number
     ∙ (ap (λ ls. slot (paths_of ls) (count_of_mapped own.before)) own.all_of ∙ path_after own.before own.after virq path)
 
--- the paths and the layout that are those of the domains and the lines asked for
+-- the paths and the layout of the domains and the lines asked for agree
 pub have_paths : (domains : List DomainDef) (leaves : List (ℕ × ℕ)) (paths : List (Option (List (ℕ × ℕ)))) (layout : List Placement)
     → paths ≡ paths_of (layout_of domains leaves) → layout ≡ layout_of domains leaves → HavePaths paths layout
 have_paths domains leaves paths layout are is =

@@ -1,4 +1,5 @@
--- An allocation after those of the lines laid before is the line's placement in the layout.
+-- An allocation after the allocations for the lines before it gives the line's placement in the
+-- layout.
 use Rattle.std.proofs.Common.{◌≡◌, ◌≢◌, ℕ, zero, suc, ◌+◌, ◌<◌, ◌≤◌, Bool, true, false, cond, ◌||◌, ◌==◌, is_none, Option, Some, List, [], ◌∷◌, ◌++◌, append_assoc, drop, length, refl, sym, ap, subst, ◌∙◌, eqb-true, arith}
 use Rattle.std.specs.List.{slice_get, list_any}
 use Rattle.std.proofs.lemmas.Bool.{false≢true, eqb-false}
@@ -21,7 +22,7 @@ use Rattle.domain_hier.proofs.Keeps.{places_of_path, virq_taken}
 use Rattle.domain_hier.proofs.Ways.{Falls, places, one_number, way_falls}
 use Rattle.board_layout.specs.Laid.{paths_of, AllFall}
 
--- ---- the paths in use are those of the layout
+-- ---- the paths in use are the paths of the layout
 
 used_same : (n d k : ℕ) (earlier : List Placement) → is_used (in_use_from n (paths_of earlier)) d k ≡ is_used earlier d k
 used_same n d k [] = refl

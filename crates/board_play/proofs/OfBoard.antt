@@ -1,5 +1,5 @@
--- What is known of the definitions of a board's lines: whatever the layout refuses, they are
--- definitions of rows.
+-- What is known of the definitions of a board's lines: each is the definition of a row, whatever
+-- the layout refuses.
 use Rattle.std.proofs.Common.{◌≡◌, ℕ, zero, suc, ◌+◌, ◌<◌, ◌==◌, Bool, true, false, ◌&&◌, cond, Some, List, [], ◌∷◌, map, filter, length, take, slice_get, refl, ap, ◌∙◌, subst, arith}
 use Rattle.irq_base.specs.declared.calls.Call.{Call}
 use Rattle.irq_base.specs.declared.lines.LineDef.{LineDef}
@@ -23,7 +23,7 @@ use Rattle.board_play.specs.Current.{calls_on}
 use Rattle.board_play.specs.Lines.{mapped, defs_of}
 use Rattle.board_play.proofs.Members.{AreApart}
 
--- the definition is that of one of the rows
+-- the definition is made of one of the rows
 pub record OfRow (b : BoardSeen) (rows : List LineRow) (d : LineDef) : Type 0 where
   pub place : ℕ
   pub row : LineRow

@@ -1,4 +1,4 @@
--- Whose entry is due, and that what isn't a line's has no entry in a play.
+-- Whose entry is due; and a number that is no line's has no entry in a play.
 use Rattle.std.proofs.Common.{◌≡◌, ℕ, zero, suc, Bool, true, false, cond, Some, None, List, [], ◌∷◌, map, slice_get, refl, sym, ap, ◌∙◌}
 use Rattle.irq_base.specs.declared.entries.Actor.{Actor}
 use Rattle.irq_base.specs.declared.entries.Entry.{Entry}

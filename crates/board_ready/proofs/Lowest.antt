@@ -1,4 +1,4 @@
--- What the definitions by search say of what they find, for callers.
+-- What callers may conclude of the thread or number that a search finds.
 use Rattle.std.proofs.Common.{◌≡◌, ℕ, zero, suc, ◌+◌, ◌<◌, ◌≤◌, Bool, true, false, cond, eqb, nat_lt, Option, Some, None, List, [], ◌∷◌, slice_get, refl, sym, ap, ◌∙◌, eqb-true, subst, arith}
 use Rattle.std.proofs.lemmas.Bool.{eqb-false, ltb-true, ltb-false}
 use Rattle.irq_base.specs.declared.numbers.DevNo.{DevNo}

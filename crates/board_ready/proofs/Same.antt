@@ -1,4 +1,5 @@
--- What is the same in each field is the same, and a part put in its own place changes nothing.
+-- Two parts that agree in each field are the same; and putting a part where it already stands
+-- changes nothing.
 use Rattle.std.proofs.Common.{◌≡◌, ℕ, Bool, Option, Some, List, set, get_or, sym, ap, ◌∙◌}
 use Rattle.std.proofs.lemmas.List.{set-get_or}
 use Rattle.irq_base.specs.declared.numbers.CpuNo.{CpuNo}

@@ -39,7 +39,7 @@ actors_there b (p ∷ ps) h =
     All-append (IsActorOf b) (actors_picked b.devices p) (flat_map (actors_picked b.devices) ps)
     (All-replicate (IsActorOf b) p.times (actor_picked b.devices p.who) (actor_there b p.who parts.0)) (actors_there b ps parts.1)
 
--- ---- they are as many as the words tell
+-- ---- the number of picks is what the words tell
 
 count_told : (devices : List DeviceDef) (picks : List PickWord) → length (flat_map (actors_picked devices) picks) ≡ count_of_picks picks
 count_told devices [] = refl

@@ -192,8 +192,8 @@ second_version = refl
 no_third_version : board_of_text (codes "board 3") ≡ fault 1 faults.BadNumber
 no_third_version = refl
 
--- an Lpi, two lines on it, of which the second is seen through messages, and a driver; and then
--- those lines
+-- an LPI controller, two lines on it, the second through messages, and a driver; and then these
+-- text lines
 abbrev on_lpi : List (List ℕ) → List ℕ
 on_lpi lines = text (codes "board 2" ∷ codes "domain its tree lpi" ∷ codes "domain m tree msi parent its" ∷ codes "line 1 its 2 unlazy" ∷ codes "line 2 m 2 unlazy" ∷ codes "driver 1" ∷ lines)
 

@@ -1,5 +1,5 @@
--- A statement without a fault in itself has its numbers in their ranges, and its name is spelled as
--- one.
+-- A statement without a fault in itself has its numbers in their ranges, and its name is spelled
+-- right.
 use Rattle.std.proofs.Common.{◌≡◌, ℕ, ◌-◌, ◌≤◌, Bool, true, false, ◌&&◌, cond, Option, Some, None, List, [], ◌∷◌, ◌++◌, codes, drop, nat_lt, nat_le, is_some, refl, arith}
 use Rattle.std.proofs.lemmas.Bool.{leb-true}
 use Rattle.board_def.specs.Names.{is_name, name_of, name_bytes}

@@ -1,4 +1,4 @@
--- The place of a domain's name, or that of the first.
+-- The place of a domain's name; 0 if the name isn't there.
 use Rattle.std.proofs.Common.{◌≡◌, ℕ, Option, Some, None, unwrap_or, refl}
 use Rattle.board_stated.specs.Stated.{place_or_first}
 

@@ -9,7 +9,7 @@ use Rattle.irq_steps.proofs.Same.{dev_from_same, same_both}
 use Rattle.device_table.specs.Rows.{put, is_row_of}
 
 module _ {R : Type 0} where
-  -- a device that is at a place isn't one from which all are apart
+  -- a device that stands at some place differs from a device that no row has
   apart_at : (es : List (DevNo × R)) (k d : DevNo) (i : ℕ) → AllByRecursion (λ y. same_dev k y ≡ false) (keys_of es) → is_row_of d (slice_get es i) ≡ true → same_dev d k ≡ false
   apart_at [] k d i h there = cc
   apart_at (e ∷ es) k d zero h there = same_both d k ∙ (ap (same_dev k) (dev_from_same d e.0 there) ∙ h.0)

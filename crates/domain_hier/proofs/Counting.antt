@@ -1,5 +1,5 @@
--- As many lines use no more numbers of a domain: the lowest unused number, found by a search as
--- long as there are lines, is the lowest one that isn't mapped.
+-- n lines use at most n numbers of a domain. So a search over n numbers finds the lowest unused
+-- one, which is the lowest number that isn't mapped.
 use Rattle.std.proofs.Common.{◌≡◌, ◌≢◌, ℕ, zero, suc, ◌+◌, ◌<◌, ◌≤◌, Bool, true, false, cond, ◌||◌, ◌==◌, ◌⊎◌, inl, inr, List, [], ◌∷◌, length, refl, sym, ap, ◌∙◌, eqb-true, arith}
 use Rattle.std.proofs.lemmas.Bool.{false≢true, eqb-false}
 use Rattle.domain_rules.specs.Layout.{has_number, is_used, unused_from, lowest_unused}
@@ -50,7 +50,7 @@ tally_used c d [] one = omega (arith, tally_none c (is_used [] d) (λ j below. r
 tally_used c d (p ∷ ps) one =
     omega (arith, tally_or c (λ j. has_number d j p) (is_used ps d), tally_one c (λ j. has_number d j p) one.0, tally_used c d ps one.1)
 
--- if all numbers below c are used, there are as many lines
+-- if all numbers below c are used, there are at least c lines
 pub used_below : (c d : ℕ) (earlier : List Placement) → OneEach d earlier → ((j : ℕ) → j < c → is_used earlier d j ≡ true) → c ≤ length earlier
 used_below c d earlier one all = omega (arith, tally_all c (is_used earlier d) all, tally_used c d earlier one)
 

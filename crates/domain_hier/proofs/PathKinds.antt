@@ -1,5 +1,5 @@
--- The kinds on a path are those of a chain: children, and a root at the end; and the root of
--- messages presents edges.
+-- The kinds on a path make a chain: children, and a root at the end; and a path with messages has a
+-- root that presents edges.
 use Rattle.std.proofs.Common.{◌≡◌, ℕ, zero, suc, ◌+◌, ◌<◌, ◌≤◌, Bool, true, false, not, ◌&&◌, ◌||◌, Option, Some, None, List, [], ◌∷◌, ◌++◌, length, map, take, refl, sym, ap, subst, ◌∙◌, arith}
 use Rattle.std.proofs.Math.ListN.{set, length-map}
 use Rattle.std.specs.List.{slice_get}

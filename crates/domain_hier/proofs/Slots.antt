@@ -60,7 +60,7 @@ placed_elsewhere (None ∷ paths) new (suc i) other = refl
 placed_elsewhere (Some path ∷ paths) new zero other = refl
 placed_elsewhere (Some path ∷ paths) new (suc i) other = placed_elsewhere paths new i (λ e. other (ap suc e ∙ sym (add-one (first_free paths))))
 
--- as many virqs are in use as stand before the first that isn't, at least
+-- at least the virqs before the first free one are in use
 pub free_few : (n : ℕ) (paths : Paths) → first_free paths ≤ length (in_use_from n paths)
 free_few n [] = omega arith
 free_few n (None ∷ paths) = omega arith

@@ -1,4 +1,4 @@
--- Lists each of whose items meets a condition after those before it.
+-- Lists in which each item meets a condition that depends on the items before it.
 use Rattle.std.proofs.Common.{◌≡◌, zero, suc, List, [], ◌∷◌, ◌++◌, refl, subst}
 use Rattle.domain_rules.specs.Domains.{EachAfter}
 

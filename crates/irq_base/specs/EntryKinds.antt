@@ -11,7 +11,7 @@ abbrev pub kind_of_end : Note → EntryKind
 kind_of_end notes.Killed = kinds.Standing
 kind_of_end _ = kinds.Other
 
--- the kind of an entry, as far as a summary tells them apart
+-- the kind of an entry, among the kinds that a summary tells apart
 abbrev pub kind_of_entry : Entry → EntryKind
 kind_of_entry (entries.Ask driver dev) = kinds.Ask
 kind_of_entry (entries.Take cpu way answer) = kinds.Take

@@ -101,8 +101,8 @@ impl History {
         Some(word.unpack(&self.wide))
     }
 
-    /// The kind of the entry at the place, counted from 0; none from the length on. The entry isn't
-    /// made.
+    /// The kind of the entry at index `place`, counted from 0; none from the length on. The entry
+    /// itself isn't made.
     pub fn kind(&self, place: usize) -> Option<EntryKind>
         ensures { result ≡ option_map kind_of_entry (slice_get self.now.entries place) }
     {

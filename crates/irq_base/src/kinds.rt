@@ -1,10 +1,10 @@
-//! What a summary tells apart of entries.
+//! The kinds of entries that a summary tells apart.
 ghost use Rattle.std.specs.Prelude.{◌≡◌};
 ghost use Rattle.irq_base.specs.EntryKinds.{kind_of_end, kind_of_entry};
 
 use crate::entries::{Entry, Note};
 
-/// The kind of an entry, as far as a summary tells them apart.
+/// The kind of an entry, among the kinds that a summary tells apart.
 #[derive(Clone, Copy, PartialEq, Eq)]
 pub enum EntryKind {
     /// A device asks for service.

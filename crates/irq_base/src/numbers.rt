@@ -1,8 +1,8 @@
 //! The numbers by which a board names its parts. Each is a type of its own, so that none is taken
 //! for another.
 
-/// The number of an interrupt line, 1 to 65,535 (`irq` of `struct irq_data`,
-/// `include/linux/irq.h`).
+/// The number of an interrupt line, 1 to 65,535, by which a driver's call names it (`irq` of
+/// `request_irq`, `include/linux/interrupt.h`).
 #[derive(Clone, Copy, PartialEq, Eq, PartialOrd, Ord, Hash)]
 pub struct LineNo(pub u32);
 

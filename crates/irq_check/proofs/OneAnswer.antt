@@ -1,4 +1,4 @@
--- One thing is said of a log, and of an input.
+-- A log has one judgement, and so has an input.
 use Rattle.std.proofs.Common.{◌≡◌, ℕ, Result, Ok, Err, List, length, refl, sym, ap, subst, ◌∙◌}
 use Rattle.std.proofs.lemmas.List.{length-map}
 use Rattle.board_def.specs.Seen.{BoardSeen}

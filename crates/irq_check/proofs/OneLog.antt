@@ -1,5 +1,5 @@
--- The text of a log says one thing: its rows tell one list of histories, or one of them is the
--- first malformed one.
+-- The text of a log has one meaning: its rows tell one list of histories, or one row is the first
+-- malformed one.
 use Rattle.std.proofs.Common.{◌≡◌, ℕ, zero, suc, ◌-◌, ◌<◌, ◌≤◌, ◌⊎◌, inl, inr, Bool, true, false, not, cond, Some, List, [], ◌∷◌, map, take, refl, sym, ap, subst, ◌∙◌, arith}
 use Rattle.std.specs.List.{slice_get, AllZip, All}
 use Rattle.std.proofs.lemmas.Bool.{cases_lt}
@@ -70,7 +70,7 @@ earlier lines rows m n x y less =
     let below : m - 1 < n - 1 = omega (arith, counted, less) in
     x.malformed.2 (at_place (IsRow lines) (take (n - 1) rows) (m - 1) x.malformed.0 y.before (get_take rows (m - 1) (n - 1) below ∙ x.malformed.1))
 
--- numbers of which neither is below the other
+-- two numbers are equal if neither is below the other
 pub neither_below : (m n : ℕ) → (m < n → ⊥) → (n < m → ⊥) → m ≡ n
 neither_below m n not_less not_more = by (cases_lt m n) (cases_lt n m)
   where

@@ -1,5 +1,5 @@
--- An input isn't longer than what is read, so reading it reaches the end of the source; and one
--- that was cut is too long as a whole too.
+-- An input isn't longer than what is read, so reading it reaches the end of the source. And if the
+-- bytes that were cut off there are too long, the whole is too.
 use Rattle.std.proofs.Common.{◌≡◌, ℕ, ◌+◌, ◌<◌, ◌≤◌, Bool, true, false, cond, nat_lt, Option, Some, None, Result, Ok, Err, List, [], take, length, refl, sym, ap, subst, ◌∙◌, inl, inr, ◌⊎◌, arith, length-take}
 use Rattle.std.proofs.lemmas.List.{take_all, drop_all}
 use Rattle.std.proofs.lemmas.Bool.{ltb-true}

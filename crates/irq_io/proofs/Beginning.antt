@@ -1,4 +1,4 @@
--- What begins with what.
+-- Lists that begin with others.
 use Rattle.std.proofs.Common.{◌≡◌, ℕ, List, [], ◌++◌, Option, Some, None, take, drop, sym, ap, ◌∙◌, append_assoc}
 use Rattle.std.proofs.lemmas.List.{append-nil, take-append-drop}
 use Rattle.irq_io.specs.Told.{IsBeginning, GrowsTo}

@@ -1,4 +1,5 @@
--- Each entry keeps: one free at a time, and its driver is within it.
+-- Each entry keeps: at most one free is under way, and a driver that is within a free is its
+-- driver.
 use Rattle.std.proofs.Common.{◌≡◌, ℕ, suc, ◌<◌, ◌==◌, ◌⊎◌, inl, inr, Bool, true, false, not, ◌&&◌, cond, Option, Some, List, [], ◌∷◌, filter, nat_lt, refl, sym, ap, ◌∙◌, subst, arith}
 use Rattle.std.proofs.lemmas.Bool.{and_parts, or_cases, and_right, or_from, ltb-true, eqb-false, false_from_ne_true}
 use Rattle.irq_base.specs.declared.numbers.CpuNo.{CpuNo}

@@ -1,5 +1,5 @@
--- Each entry keeps: the handler that is at work is the one that was called and hasn't returned, in
--- the round of the flow.
+-- Each entry keeps: a handler is at work exactly if it was called and hasn't returned; it was
+-- called in the current round of the flow.
 use Rattle.std.proofs.Common.{◌≡◌, ◌⊎◌, inl, inr, Bool, true, false, not, ◌||◌, cond, Some, is_some, List, [], ◌∷◌, refl, sym, ap, ◌∙◌, subst}
 use Rattle.std.proofs.lemmas.Bool.{and_parts, or_cases, or_left}
 use Rattle.irq_base.specs.declared.numbers.DevNo.{DevNo}

@@ -1,4 +1,4 @@
--- Each driver's entries are those of its calls, in the order of its script, each once.
+-- A driver's entries are the entries of its calls, in the order of its script, each once.
 use Rattle.std.proofs.Common.{◌≡◌, ℕ, ◌<◌, ◌≤◌, ◌==◌, ◌⊎◌, inl, inr, Bool, true, false, cond, Some, List, [], ◌∷◌, ◌++◌, filter, reverse, length, drop, nat_lt, refl, sym, ap, ◌∙◌, subst, arith, length-append, drop_of_length-le, append_assoc, append-nil}
 use Rattle.std.proofs.lemmas.List.{drop_at}
 use Rattle.std.proofs.lemmas.Bool.{ltb-true, ltb-false, eqb-false}

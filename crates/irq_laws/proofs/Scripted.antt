@@ -1,5 +1,4 @@
--- The complete calls of a script, and that no two requests of a device stand without a free between
--- them.
+-- The complete calls of a script; and a free stands between any two requests of a device.
 use Rattle.std.proofs.Common.{◌≡◌, ℕ, zero, suc, ◌<◌, ◌≤◌, ◌⊎◌, inl, inr, Bool, true, false, ◌||◌, cond, Option, Some, List, [], ◌∷◌, ◌++◌, length, drop, nat_lt, slice_get, refl, sym, ap, ◌∙◌, subst, arith, length-append, drop_of_length-le}
 use Rattle.std.proofs.lemmas.Bool.{or_right, ltb-false, ltb-true, lt-ltb, le-ltb, false_from_ne_true}
 use Rattle.std.proofs.lemmas.List.{drop-append-le}

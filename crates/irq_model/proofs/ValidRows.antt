@@ -1,4 +1,5 @@
--- A valid definition exists for each kind of line: those of worked histories are.
+-- A valid definition exists for each kind of line: the definitions of the worked histories are
+-- valid.
 use Rattle.std.proofs.Common.{◌≡◌, ℕ, zero, suc, ◌<◌, Bool, true, false, not, ◌&&◌, ◌||◌, nat_lt, IsSome, Some, List, [], ◌∷◌, length, All, refl, sym, ap, ◌∙◌, eqb-true, arith}
 use Rattle.std.specs.List.{slice_get, list_all, list_any}
 use Rattle.std.proofs.lemmas.Bool.{ltb-true, not-true}
@@ -20,7 +21,7 @@ use Rattle.irq_model.proofs.EdgeRows.{busy_plain_line, busy_lpi_line, later_line
 use Rattle.irq_model.proofs.LevelRows.{storm_line}
 use Rattle.irq_model.proofs.ThreadRows.{two_threads_line, eoi_thread_line}
 
--- ---- conditions that compute, for lines all of whose calls are driver 1's, which requests no device twice
+-- ---- conditions that compute, for lines on which driver 1 makes all calls, none requesting twice
 
 abbrev has_distinct_devices : List DeviceDef → Bool
 has_distinct_devices [] = true

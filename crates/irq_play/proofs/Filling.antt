@@ -76,7 +76,7 @@ next_mapped (r ∷ rows) (p ∷ places) (suc i) row at = next_mapped rows places
 
 -- ---- a report more
 
--- so many of the board's lines have their reports, and the lines that are left are those of the
+-- the first i of the board's lines have their reports, and the lines that are left belong to the
 -- rows that are left
 pub record IsFilled (b : BoardSeen) (all left : List BoardLine) (i : ℕ) (reports : List LineReport) : Type 0 where
   pub told : map told_by reports ≡ map (history_among all) (take i b.lines)

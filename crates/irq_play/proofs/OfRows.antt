@@ -1,4 +1,4 @@
--- Which lines of a board take part, by the rows: those that the layout maps, and no others.
+-- Which lines of a board take part, by the rows: exactly the lines that the layout maps.
 use Rattle.std.proofs.Common.{◌≡◌, ℕ, zero, suc, ◌<◌, Bool, true, false, cond, Option, Some, None, List, [], ◌∷◌, map, take, slice_get, refl, sym, ap, ◌∙◌, subst}
 use Rattle.irq_base.specs.declared.lines.LineDef.{LineDef}
 use Rattle.irq_base.specs.declared.numbers.LineNo.{LineNo}

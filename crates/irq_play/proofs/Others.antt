@@ -1,4 +1,4 @@
--- What isn't a line's has no entry among the moves so far.
+-- A number that is no line's has no entry among the moves so far.
 use Rattle.std.proofs.Common.{◌≡◌, Bool, true, false, cond, Option, Some, None, List, [], ◌∷◌, map, refl, sym, ap, ◌∙◌, subst}
 use Rattle.irq_base.specs.declared.entries.Actor.{Actor}
 use Rattle.irq_base.specs.declared.lines.LineDef.{LineDef}

@@ -23,7 +23,7 @@ use Rattle.irq_play.proofs.OfRows.{is_mapped_at}
 use Rattle.irq_run.proofs.Laid.{HasLine, entries_in, its_entries, line_laid, no_entries}
 
 module _ (b : BoardSeen) (board : IsBoard b) (lines : List BoardLine) (k : AreKept b lines) where
-  -- what holds of the entries of a line that stands there holds of those of its row
+  -- what holds of the entries of the line that a row has holds of the entries of the row's number
   of_row : (P : LineDef → List Entry → Type 0) (i : ℕ) (row : LineRow) (at : slice_get b.lines i ≡ Some row) (h : HasLine lines (line_of_row b row))
       → P h.line.def (reverse h.line.past) → P (line_of_row b row) (entries_in lines row.line)
   of_row P i row at h p =

@@ -1,4 +1,4 @@
--- Where the line of a row stands among a board's lines, and that its entries are those of its
+-- Where the line of a row stands among a board's lines; and its entries are the entries of its
 -- number.
 use Rattle.std.proofs.Common.{◌≡◌, ℕ, zero, suc, true, false, Some, List, [], ◌∷◌, map, reverse, slice_get, refl, sym, ap, ◌∙◌, subst}
 use Rattle.irq_base.specs.declared.lines.LineDef.{LineDef}

@@ -1,5 +1,4 @@
--- What one more entry makes of the due call: the place of the call, and how many of its entries are
--- there.
+-- What one more entry makes of the due call: the call's place, and how many entries it has made.
 use Rattle.std.proofs.Common.{◌≡◌, ℕ, zero, suc, ◌+◌, ◌<◌, ◌≤◌, Bool, true, false, cond, subst, eq-eqb, option_map, Some, List, [], ◌∷◌, ◌++◌, length, drop, filter, slice_get, refl, sym, ap, ◌∙◌, arith, length-append}
 use Rattle.std.proofs.lemmas.Bool.Decides.{nat_tests}
 use Rattle.std.proofs.lemmas.List.{drop-append-le, drop_all, reverse-append}
@@ -19,7 +18,7 @@ first_due c cs es k e lt = grind (arith, nat_tests)
 later_due : (c : Call) (cs : List Call) (es : List Entry) → entries_of_call c es ≤ length es → due_of (c ∷ cs) es ≡ due_of cs (drop (entries_of_call c es) es)
 later_due c cs es le = grind (arith, nat_tests)
 
--- the due call is the one at the place
+-- the due call is the call at place p, which has made k entries
 pub due_laid : (cs : List Call) (es : List Entry) (p k : ℕ) → Laid cs es p k → due_of cs es ≡ with_count (slice_get cs p) k
 due_laid [] es zero k h = refl
 due_laid [] es (suc p) k h = absurd h

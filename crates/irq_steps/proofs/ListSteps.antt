@@ -1,5 +1,5 @@
--- What one more entry makes of the list of linked devices, also when it is refused, and that the
--- list names each once.
+-- What one more entry, refused or not, makes of the list of linked devices; and that no device
+-- stands twice in the list.
 use Rattle.std.proofs.Common.{◌≡◌, ℕ, ◌+◌, ◌≤◌, Bool, true, false, not, ◌||◌, ◌&&◌, cond, List, [], ◌∷◌, ◌++◌, filter, refl, sym, ap, ◌∙◌, subst, arith}
 use Rattle.irq_base.specs.declared.numbers.DevNo.{DevNo}
 use Rattle.irq_base.specs.declared.numbers.DriverNo.{DriverNo}

@@ -1,5 +1,5 @@
--- What drivers add to a history: each the entries of its calls, and so all together no more than
--- the calls of the line make.
+-- What drivers add to a history: each driver adds the entries of its calls, so all drivers together
+-- add no more entries than the calls of the line make.
 use Rattle.std.proofs.Common.{◌≡◌, ℕ, ◌+◌, ◌*◌, ◌≤◌, ◌==◌, inl, inr, Bool, true, false, not, ◌&&◌, cond, List, [], ◌∷◌, ◌++◌, filter, reverse, refl, ap, arith}
 use Rattle.std.proofs.lemmas.Grind.{reverse_onto}
 use Rattle.irq_base.specs.declared.numbers.DriverNo.{DriverNo}

@@ -1,4 +1,4 @@
--- Over the devices of a line: the asks that were served and those that weren't are all the asks.
+-- Over all devices of a line: the served asks and the unserved asks together are all asks.
 use Rattle.std.proofs.Common.{◌≡◌, ℕ, zero, suc, ◌+◌, ◌==◌, Bool, true, false, ◌||◌, cond, List, [], ◌∷◌, refl, sym, ap, subst, arith}
 use Rattle.std.specs.List.{list_any}
 use Rattle.std.proofs.lemmas.Bool.{or_parts, false_from_ne_true}
@@ -47,7 +47,7 @@ module _ {A B C : Type 0} (ka : A → ℕ) (va : A → ℕ) (xs : List A) (kb : 
       let r = sums_below m h in
       omega (arith, a, b, c, r)
 
--- ---- one device among those of the line
+-- ---- one device among the devices of the line
 
 abbrev number : DeviceDef → ℕ
 number x = x.dev.0

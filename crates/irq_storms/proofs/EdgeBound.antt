@@ -1,4 +1,4 @@
--- How long a history is, by its counts, and so the bound on that of an edge line.
+-- How long a history is, by its counts; and so the bound on the history of an edge line.
 use Rattle.std.proofs.Common.{◌≡◌, ℕ, ◌+◌, ◌*◌, ◌≤◌, true, List, [], ◌∷◌, reverse, length, refl, sym, subst, arith}
 use Rattle.std.proofs.lemmas.List.{reverse-reverse}
 use Rattle.std.proofs.Math.Nat.{mul-add, add-mul, mul-le-mul_left, mul-one, mul_assoc}

@@ -1,5 +1,5 @@
--- A level line that was killed is disabled, and has no flow, until it is started; and so is one
--- that answered a take with Off masked and disabled.
+-- A level line that was killed is disabled, and has no flow, until it is started. A level line that
+-- answered a take with Off is masked and disabled until it is started.
 use Rattle.std.proofs.Common.{◌≡◌, ◌+◌, ◌≤◌, ◌⊎◌, inl, inr, Bool, true, false, not, ◌||◌, ◌&&◌, cond, List, [], ◌∷◌, refl, sym, ap, ◌∙◌, subst, arith}
 use Rattle.std.proofs.lemmas.Bool.{or_parts, or_left, false_from_ne_true, true_from_ne_false}
 use Rattle.irq_base.specs.declared.numbers.CpuNo.{CpuNo}

@@ -1,4 +1,4 @@
--- The bound on the histories of a level line, and the bound on those of every line.
+-- The bound on the histories of a level line, and the bound on the histories of every line.
 use Rattle.std.proofs.Common.{◌≡◌, ℕ, ◌+◌, ◌*◌, ◌≤◌, Bool, true, false, not, ◌&&◌, cond, List, [], ◌∷◌, reverse, length, refl, sym, ap, ◌∙◌, arith}
 use Rattle.std.proofs.Math.Nat.{mul-add, add-mul, mul-le-mul_left, mul_assoc, mul_comm}
 use Rattle.irq_base.specs.declared.lines.LineDef.{LineDef}

@@ -1,5 +1,5 @@
--- A count that every entry keeps: the entries of one kind, with what is still owed to them, are at
--- most those of another.
+-- A bound that every entry keeps: the number of entries of one kind, plus what is still owed to
+-- them, is at most the number of entries of another kind.
 use Rattle.std.proofs.Common.{◌≡◌, ℕ, ◌+◌, ◌≤◌, Bool, List, [], ◌∷◌, arith}
 use Rattle.irq_base.specs.declared.lines.LineDef.{LineDef}
 use Rattle.irq_base.specs.declared.entries.Entry.{Entry}

@@ -114,7 +114,7 @@ pub longest_window :
 longest_window = (refl, refl, refl, refl, refl)
 
 -- Past 100 ms the next unhandled end begins the count anew: the rest of the window is allowed, and
--- all of the next. Just as many ends follow.
+-- the whole next window. Exactly this number of ends follows.
 abbrev pub late_line : LineDef
 late_line = record longest_line { calls = (driver 1, calls.Request (dev 1) no_flags) ∷ (driver 1, calls.Ask (dev 1)) ∷ (driver 1, calls.Moment 101) ∷ [] }
 

@@ -146,7 +146,7 @@ judged_nothing window limit at w h c no_clear =
       allows = λ lim small. (let n = nothing_window window limit at c lim small in omega (arith, n));
     }
 
--- d: the counts that are judged, the deferred mark or the last of which may have changed
+-- d: the counts that are judged; its deferred mark and its `last` may differ from those of c
 judged_handled : (window limit at : ℕ) (w h : Bool) (c d : Counts) → d.irq_count ≡ c.irq_count → 1 + one_if (not (d.threads_handled == d.last)) ≤ one_if h + one_if (not (c.threads_handled == c.last))
     → one_if c.deferred ≤ one_if (w && h) + one_if d.deferred → EndFacts window limit at w h c (judged window limit at true d) Handled
 judged_handled window limit at w h c d same marks cleared =

@@ -1,4 +1,4 @@
--- What a whole command comes to.
+-- What a whole command answers.
 use Rattle.std.proofs.Common.{◌≡◌, ℕ, Bool, true, false, Option, Some, None, Ok, Err, List, [], refl}
 use Rattle.irq_base.specs.declared.reporting.LineReport.{LineReport}
 use Rattle.board_def.specs.Rules.{IsBoard}

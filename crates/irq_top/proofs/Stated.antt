@@ -1,5 +1,5 @@
--- A board's text isn't longer than what is read, so reading it reaches the end of the source; and a
--- text that was cut is too long as a whole too.
+-- A board's text isn't longer than what is read, so reading it reaches the end of the source. And
+-- if the bytes that were cut off there are too long, the whole text is too.
 use Rattle.std.proofs.Common.{◌≡◌, ℕ, ◌+◌, ◌<◌, ◌≤◌, Bool, true, false, cond, nat_lt, Option, Some, None, Result, Ok, Err, List, [], take, length, refl, sym, ap, ◌∙◌, inl, inr, ◌⊎◌, arith, length-take}
 use Rattle.std.proofs.lemmas.List.{take_all, drop_all}
 use Rattle.std.proofs.lemmas.Bool.{ltb-true}

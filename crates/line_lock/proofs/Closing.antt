@@ -1,4 +1,4 @@
--- With nobody out, the closed table has the value, and the first pass has seen its history.
+-- If no actor is out, the closed table has the value, and the first pass has seen its history.
 use Rattle.std.proofs.Common.{◌≡◌, ◌⊎◌, ℕ, false, Option, Some, None, List, [], sym, ap, ◌∙◌, inl, inr}
 use Rattle.std.proofs.lemmas.Bool.{false≢true}
 use mathlib.Core.Option.{some}

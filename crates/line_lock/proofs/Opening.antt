@@ -1,4 +1,4 @@
--- A new lock keeps the rule, and the first pass is one still after it gave one.
+-- A new lock keeps the rule; and the first pass is still right after it gave a pass.
 use Rattle.std.proofs.Common.{◌≡◌, ℕ, true, false, Option, Some, List, [], ◌∷◌, ◌++◌, refl, sym, ap, subst, inl, inr}
 use Rattle.atomic_table.specs.Table.{Me, opening}
 use Rattle.irq_base.specs.declared.entries.Actor.{Actor}

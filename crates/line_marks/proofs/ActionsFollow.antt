@@ -1,5 +1,4 @@
--- The list of a line's actions follows its history: its devices and flags are those that are
--- linked.
+-- The list of a line's actions follows its history: it has the linked devices with their flags.
 use Rattle.std.proofs.Common.{◌≡◌, ◌+◌, ◌≤◌, Bool, true, false, not, cond, List, [], ◌∷◌, ◌++◌, filter, refl, sym, ap, ◌∙◌, arith}
 use Rattle.std.specs.Map.{remove_entry}
 use Rattle.irq_base.specs.declared.calls.Flags.{Flags}

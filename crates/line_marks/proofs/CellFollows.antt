@@ -1,5 +1,4 @@
--- The cell of a line follows its history: what an entry does to it follows from the state; and what
--- it is.
+-- The cell of a line follows its history: what an entry does to the cell follows from the state.
 use Rattle.std.proofs.Common.{◌≡◌, Bool, true, false, not, ◌||◌, ◌&&◌, cond, ltb, List, [], ◌∷◌, reverse, refl, sym, ap, ◌∙◌, subst}
 use Rattle.std.proofs.lemmas.List.{reverse-reverse}
 use Rattle.std.specs.List.{list_any}

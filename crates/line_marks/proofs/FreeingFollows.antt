@@ -1,4 +1,4 @@
--- Who frees what follows the history, and holds the request mutex.
+-- The free under way follows the history, and holds the request mutex.
 use Rattle.std.proofs.Common.{◌≡◌, Bool, true, false, is_some, Option, Some, None, List, ◌∷◌, refl, sym, ◌∙◌}
 use Rattle.irq_base.specs.declared.entries.Entry.{Entry}
 use Rattle.irq_base.specs.declared.entries.Entry.TheVariants as entries

@@ -1,4 +1,4 @@
--- A device's kind is what the table of kinds has of it.
+-- A device's kind is the kind that the table has for it.
 use Rattle.std.proofs.Common.{◌≡◌, Bool, true, false, ◌||◌, cond, Option, unwrap_or, List, [], ◌∷◌, refl, sym, ap, ◌∙◌}
 use Rattle.std.specs.List.{list_any}
 use Rattle.irq_base.specs.declared.devices.Kind.{Kind}

@@ -1,4 +1,4 @@
--- The list of actions, with whose handler was called in the round, follows the history.
+-- The list of actions, and whose handlers were called in the round, follow the history.
 use Rattle.std.proofs.Common.{◌≡◌, Bool, true, false, ◌||◌, cond, List, [], ◌∷◌, refl, ap, ◌∙◌}
 use Rattle.irq_base.specs.declared.devices.DeviceDef.{DeviceDef}
 use Rattle.irq_base.specs.declared.entries.Entry.{Entry}

@@ -20,7 +20,7 @@ use Rattle.irq_laws.proofs.ImpliesDriver.{Row, ask, request, unlink, free_clear,
 use Rattle.line_scripts.specs.Endings.{completes}
 use Rattle.line_marks.specs.Scripts.{IsAt, place_after, within_after}
 
--- one more entry of the call, of which n are there, completes it or not
+-- one more entry of a call that has made n entries completes the call, or doesn't
 abbrev Goes : Bool → Call → List Entry → Entry → ℕ → Type 0
 Goes true c es e n = n + 1 ≡ entries_of_call c (es ++ e ∷ [])
 Goes false c es e n = n + 1 < entries_of_call c (es ++ e ∷ [])

@@ -128,7 +128,7 @@ no_last def (entries.Unlink r x (unlinks.Unlinked last) ∷ past) legal some = b
 no_last def (entries.Unlink r x unlinks.NotThere ∷ past) legal some = no_last def past legal.1 (sym (ap is_empty (linked_not_there r x past)) ∙ some)
 no_last def (e ∷ past) legal some = no_last def past legal.1 some
 
--- ---- while nothing is, the last unlink is that of the driver that frees
+-- ---- while nothing is linked, the driver that frees made the last unlink
 
 abbrev last_by : DriverNo → Entry → Bool
 last_by r (entries.Unlink driver dev (unlinks.Unlinked last)) = same_driver r driver && last

@@ -1,4 +1,4 @@
--- Who has seen a free sees no later run without a request between.
+-- A pass that has seen a free of a device sees no later run of it without a request between.
 use Rattle.std.proofs.Common.{◌≡◌, Bool, true, false, not, ◌&&◌, ◌||◌, List, [], ◌∷◌, ◌++◌, reverse, refl, sym, ap, subst, ◌∙◌, append_assoc}
 use Rattle.std.proofs.lemmas.Bool.{false≢true, or_parts, and_from}
 use Rattle.std.proofs.lemmas.List.{reverse-append}

@@ -1,4 +1,4 @@
--- What a first pass keeps of those that it met.
+-- What a first pass knows of the actors that it met.
 use Rattle.std.proofs.Common.{◌≡◌, ℕ, suc, ◌+◌, Bool, true, false, cond, IfSome, Option, Some, List, [], ◌∷◌, All, Contains, slice_get, refl, sym, ap, subst, ◌∙◌, inl, inr, arith}
 use Rattle.std.proofs.lemmas.Bool.{false≢true}
 use Rattle.std.proofs.lemmas.List.Elements.{All-nil, All-cons, All-weaker, All-contains}

@@ -1,5 +1,4 @@
--- Entries, entry kind by entry kind: what is read of one is written so, and what is written of one
--- is read.
+-- Entries, kind by kind: each is read exactly as it is written.
 use Rattle.std.proofs.Common.{◌≡◌, ℕ, ◌<◌, Bool, true, false, Option, Some, None, List, [], ◌∷◌, ◌++◌, codes, decimal, refl, sym, ap, subst, ◌∙◌}
 use Rattle.std.proofs.lemmas.Bool.{false≢true}
 use Rattle.irq_base.specs.declared.entries.AffinityAnswer.{AffinityAnswer}

@@ -1,4 +1,4 @@
--- The counts for the rule on spurious interrupts are at most as many as the entries.
+-- The counts for the rule on spurious interrupts are at most the number of entries.
 use Rattle.std.proofs.Common.{◌≡◌, ℕ, ◌+◌, ◌≤◌, Bool, true, false, List, [], ◌∷◌, length, suc, subst, sym, arith, cond, nat_lt, ◌==◌}
 use Rattle.irq_base.specs.declared.lines.LineDef.{LineDef}
 use Rattle.irq_base.specs.declared.entries.Entry.{Entry}

@@ -12,7 +12,7 @@ use Rattle.state_search.proofs.Inducing.{IsMet, HasOpen, met}
 use Rattle.state_search.proofs.Places.{there, at_take, map_at, map_from, all_from, contains_from}
 
 module _ {L : Type 0} (can : L → List L → Type 0) (node : List L → List ℕ) (i : ℕ) (ps : List (List L)) (u : AreUnder can node i ps) where
-  -- the length from which on not all is known
+  -- the length of paths from which on states may be unknown
   abbrev cut : Option ℕ
   cut = option_map length (slice_get ps i)
 

@@ -13,7 +13,7 @@ module _ {L : Type 0} (es : List (List ℕ × Option (Came L))) where
   pub paths_len : length (paths_of es) ≡ length es
   paths_len = let n : length (paths_of es) ≡ 0 + length es = paths_long [] es in omega (arith, n)
 
-  -- the path at the place
+  -- the path at place k
   abbrev pub path_to : ℕ → List L
   path_to k = get_or (paths_of es) k []
 

@@ -17,6 +17,6 @@ module _ {L : Type 0} where
   abbrev pub search_seen : List (List ℕ × Option (Came L)) → List (First L) → ℕ → SearchSeen L
   search_seen es fs looked = record { paths = paths_of es; states = states_of es; firsts = fs; looked = looked }
 
-  -- the length of the path to the first state after which it wasn't looked, if there is one
+  -- the length of the path to the first state that wasn't looked at, if there is one
   abbrev pub cut_of : SearchSeen L → Option ℕ
   cut_of seen = option_map length (slice_get seen.paths seen.looked)

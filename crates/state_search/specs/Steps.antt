@@ -22,9 +22,9 @@ module _ {L : Type 0} where
       pub short : (k : ℕ) (p : List L) → slice_get paths k ≡ Some p → length p ≤ k
       pub apart : (j k : ℕ) (p q : List L) → slice_get paths j ≡ Some p → slice_get paths k ≡ Some q → node p ≡ node q → j ≡ k
       pub rising : (j k : ℕ) (p q : List L) → j ≤ k → slice_get paths j ≡ Some p → slice_get paths k ≡ Some q → length p ≤ length q
-      -- no path is longer by two than that of the next to be looked at
+      -- each path is at most one longer than the path of the next state to be looked at
       pub near : (k : ℕ) (p q : List L) → slice_get paths looked ≡ Some p → slice_get paths k ≡ Some q → length q ≤ length p + 1
-      -- what comes after those that were looked at is there
+      -- the states that come after those that were looked at are there
       pub closed : (j : ℕ) (p : List L) → j < looked → slice_get paths j ≡ Some p
           → (g : List L) (l : L) → IsPath can g → node g ≡ node p → can l g
           → (k : ℕ) × (q : List L) × (slice_get paths k ≡ Some q) × (node q ≡ node (l ∷ g)) × (length q ≤ length p + 1)

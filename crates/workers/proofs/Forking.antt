@@ -28,7 +28,7 @@ none_forked lines first who old =
     }
 
 module _ (lines : List LockSeen) (first i : ℕ) (who : Actor) (old mid new : List PassSeen) (seats : List SeatSeen) (f : Forks lines first i who old mid seats) (from : first ≤ i) where
-  -- the first pass at the place hasn't given one yet
+  -- the first pass at place i hasn't given a pass yet
   pub untouched : (p : PassSeen) → slice_get mid i ≡ Some p → slice_get old i ≡ Some p
   untouched p at =
       let q = f.left i p at in

@@ -23,7 +23,7 @@ abbrev is_not_there : Entry → Bool
 is_not_there (entries.Unlink driver dev unlinks.NotThere) = true
 is_not_there _ = false
 
--- the entry is the last of its call, of which n entries stand before it
+-- the entry is the last of its call, which has made n entries before it
 abbrev pub completes : Call → ℕ → Entry → Bool
 completes (calls.Free dev) n e = if n == 0 then is_not_there e else nat_le 2 n
 completes calls.Disable n e = nat_le 2 n
@@ -100,7 +100,7 @@ begins_is (entries.Unlink driver dev unlinks.NotThere) = refl
 begins_is (entries.Unlink driver dev (unlinks.Unlinked last)) = refl
 begins_is e = refl
 
--- a call of so many entries
+-- with one entry more than n, a call of 1, 2 or 3 entries is incomplete or not
 of_one : (n : ℕ) → nat_lt (n + 1) 1 ≡ false
 of_one n = le-ltb (n + 1) 1 (omega arith)
 

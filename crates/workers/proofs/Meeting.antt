@@ -1,4 +1,4 @@
--- The first passes meet those of one job, from its last pass down.
+-- The first passes meet the passes of one job, from its last pass down.
 use Rattle.std.proofs.Common.{◌≡◌, ℕ, ◌+◌, ◌<◌, ◌≤◌, ◌⊎◌, inl, inr, false, IsSomeAnd, Option, Some, None, List, [], ◌∷◌, ◌++◌, length, get_or, set, slice_get, refl, sym, ap, ◌∙◌, subst, arith}
 use Rattle.std.proofs.Math.ListN.{length-set}
 use Rattle.line_lock.specs.Knows.{Meets}

@@ -79,7 +79,7 @@ same_places line r h k same =
 
 -- ---- scripts look at the driver's entries alone
 
--- each line has its definition and the driver's entries of some line at the place
+-- at each place both lists have a line with the same definition and the same entries of the driver
 abbrev pub AreAlike : DriverNo → List BoardLine → List BoardLine → Type 0
 AreAlike r new old = (i : ℕ) (x : BoardLine) → slice_get new i ≡ Some x → (y : BoardLine) × (slice_get old i ≡ Some y) × (x.def ≡ y.def) × (entries_by r x.past ≡ entries_by r y.past)
 

@@ -17,7 +17,7 @@ use Rattle.workers.specs.Turns.{turn_of, FlowMoves, StepsSeat}
 use Rattle.workers.specs.declared.turns.Turn.{Turn}
 use Rattle.workers.proofs.Lists.{at_map, at_set, there, there_or, within}
 
--- the line of the pass at the place
+-- the line of the pass at index `place`
 pub record AtPlace (lines : List LockSeen) (j : JobSeen) (place : ℕ) : Type 0 where
   pub line : LockSeen
   pub seat : SeatSeen
