@@ -1,4 +1,4 @@
--- What a summary tells apart of entries.
+-- The kinds of entries that a summary tells apart.
 use Rattle.irq_base.specs.declared.entries.Entry.{Entry}
 use Rattle.irq_base.specs.declared.entries.Entry.TheVariants as entries
 use Rattle.irq_base.specs.declared.entries.Note.{Note}
