@@ -17,7 +17,7 @@ module _ {A : Type 0} (P : List A → A → Type 0) (Q : List A → Type 0) (non
       λ i y at. subst (λ earlier. P earlier y) (sym (append_assoc done (x ∷ []) (take i xs))) (each (suc i) y at) in
       subst Q (append_assoc done (x ∷ []) xs) (goes_on (done ++ x ∷ []) xs (more done x q here) rest)
 
-  -- what holds of no items, and of one more after those before it
+  -- what holds of the empty list, and of one more item after the items before it
   pub by_one_more : (xs : List A) → EachAfter P xs → Q xs
   by_one_more xs each = goes_on [] xs none each
 

@@ -33,7 +33,7 @@ differ_back m n h = grind (arith, nat_tests)
 pub equals_itself : (n : ℕ) → (n == n) ≡ true
 equals_itself n = grind (arith, nat_tests)
 
--- each item's number is above those before it
+-- each item's number is above the numbers before it
 abbrev pub Rises : {A : Type 0} → (A → ℕ) → List A → Type 0
 Rises {A} key xs = EachAfter (λ earlier x. All (λ e. key e < key x) earlier) xs
 

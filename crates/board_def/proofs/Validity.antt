@@ -93,7 +93,7 @@ distinct keep (x ∷ xs) rises =
     by true none rest = (none, rest)
     by false none rest = rest
 
--- a device of the line is among those that the line has
+-- a device whose line this is stands among the devices of the line's definition
 among : (line : LineNo) (dev : DevNo) (xs : List DeviceDef) → is_on_line line (find_device xs dev) ≡ true → list_any (is_device dev) (filter (λ x. x.line.0 == line.0) xs) ≡ true
 among line dev [] h = absurd cc
 among line dev (x ∷ xs) h = by (same_dev dev x.dev) refl (x.line.0 == line.0) refl h (among line dev xs)

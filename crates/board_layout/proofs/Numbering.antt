@@ -28,7 +28,7 @@ number_of domains earlier leaf virq path e =
     let own = path_of domains earlier leaf in
     number_by (is_none (masking_kind (kinds_from domains (Some leaf.0)))) (list_any (is_past_path domains) own) (is_used earlier leaf.0 leaf.1) (count_of_mapped earlier + 1) virq own path e
 
--- a mapped line of the layout, and those before and after it
+-- a mapped line of the layout, and the lines before it and after it
 record IsAmong (all : List Placement) (virq : ℕ) (path : List (ℕ × ℕ)) : Type 0 where
   before : List Placement
   after : List Placement

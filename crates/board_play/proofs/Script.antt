@@ -63,7 +63,7 @@ abbrev pub IsThe : List BoardLine → BoardLine → Type 0
 IsThe lines x = find_line lines x.def.line ≡ Some x
 
 module _ (lines : List BoardLine) (r : DriverNo) where
-  -- the current call among these, behind those before them
+  -- the current call among `cs`, which stand behind the calls of `before`
   pub record Current (before cs : List ScriptCall) (x : BoardLine) : Type 0 where
     pub place : ℕ
     pub call : ScriptCall

@@ -70,7 +70,7 @@ drivers_set test drivers d before call old new inside at_d was is r small =
     by_test true = refl
     by_test false = refl
 
--- those that can go on
+-- the drivers that can go on
 pub ready_driver : (lines : List LinePart) (drivers : List (Option CurrentCall)) (d old new : ℕ) (call : Option CurrentCall) → d < length drivers → AreReady lines drivers old
     → ((r : ℕ) → r < 64 → has new r ≡ cond (eqb r d) (can_go_on lines call) (has old r)) → AreReady lines (set drivers d call) new
 ready_driver lines drivers d old new call inside was is r small =

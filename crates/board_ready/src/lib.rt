@@ -1,9 +1,9 @@
 //! Who can move on a board, found at once.
 //!
 //! `ReadyActors` keeps, for each line, the few facts that say who waits there, and for each driver
-//! its current call. To whoever looks these are two plain lists, and each answer is what a search
-//! over the lists finds. It names nothing of interrupts but numbers. Each call takes the same time
-//! whether one actor waits or three hundred, and but for `new` none takes memory.
+//! its current call. Contracts see these as two lists, and each answer is what a search over the
+//! lists finds. It names nothing of interrupts but numbers. Each call takes the same time whether
+//! one actor waits or three hundred, and but for `new` none takes memory.
 #![tactic(auto)]
 
 mod bits;

@@ -29,7 +29,7 @@ last_among : (d : DriverNo) (ds : List DriverNo) → has_driver (d ∷ ds) (last
 last_among d [] = or_left (d.0 == d.0) false (eq-eqb d.0 d.0 refl)
 last_among d (e ∷ es) = or_right (d.0 == (last_from e es).0) (has_driver (e ∷ es) (last_from e es)) (last_among e es)
 
--- it is one of them
+-- the driver is one of the declared ones
 pub last_declared : (drivers : List DriverNo) → is_empty drivers ≡ false → has_driver drivers (driver_writing drivers) ≡ true
 last_declared [] h = absurd cc
 last_declared (d ∷ ds) h = last_among d ds

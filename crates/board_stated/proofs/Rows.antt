@@ -28,7 +28,7 @@ is_board (Err x) = false
 abbrev with_header : List ℕ → List ℕ
 with_header line = text (codes "board 1" ∷ line ∷ [])
 
--- a latch with a line, a device on it, and a driver, and then those lines
+-- a latch with a line, a device on it, and a driver; and then these text lines
 abbrev on_latch : List (List ℕ) → List ℕ
 on_latch lines = text (codes "board 1" ∷ codes "domain a linear 4 latch" ∷ codes "line 1 a 0" ∷ codes "device 1 1 direct" ∷ codes "driver 1" ∷ lines)
 

@@ -7,7 +7,7 @@ use Rattle.board_words.specs.declared.statements.Statement.{Statement}
 use Rattle.board_text.specs.Kept.{Keeps}
 use Rattle.board_text.specs.declared.reader.Reader.{Reader}
 
--- the lines up to some place were read, and those are left
+-- the text lines before some place were read, and the others are left
 pub record ReadSoFar (all left : List (List ℕ)) (at : ℕ) (r : Reader) : Type 0 where
   pub past : List Statement
   pub keeps : Keeps past r

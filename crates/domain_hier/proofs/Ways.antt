@@ -75,7 +75,7 @@ not_on d k (level ∷ levels) below =
     other true is = absurd (omega (arith, eqb-true level.0 d is, below.0))
     other false is = is
 
--- such a path has one number at a domain
+-- a path along which the domains' places fall has one number at a domain
 pub one_number : (d j k : ℕ) (path : List (ℕ × ℕ)) → Falls (places path) → is_on path d j ≡ true → is_on path d k ≡ true → j ≡ k
 one_number d j k [] falls a b = absurd (false≢true a)
 one_number d j k (level ∷ levels) falls a b = by (level.0 == d) refl a b (λ x y. one_number d j k levels falls.1 x y)

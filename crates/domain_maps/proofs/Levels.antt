@@ -102,7 +102,7 @@ gone_both true true x = refl
 gone_both true false x = refl
 gone_both false b x = refl
 
--- one level is given up, and then those after it
+-- one level is given up, and then the levels after it
 pub gives_up_more : (level : ℕ × ℕ) (rest : List (ℕ × ℕ)) (d k : ℕ) (old mid new : Option ℕ) → mid ≡ cond (is_level d k level) None old → new ≡ cond (is_on rest d k) None mid → new ≡ cond (is_on (level ∷ rest) d k) None old
 gives_up_more level rest d k old mid new m n = n ∙ (ap (cond (is_on rest d k) None) m ∙ gone_both (is_level d k level) (is_on rest d k) old)
 

@@ -42,7 +42,7 @@ kinds_above : (domains : List DomainDef) (f : ℕ → ℕ) (places : List ℕ) �
 kinds_above domains f [] = refl
 kinds_above domains f (place ∷ places) = ap (λ ks. kind_in (slice_get domains place) ∷ ks) (kinds_above domains f places)
 
--- the kinds on a line's path are those from its domain
+-- the kinds on a line's path are the kinds on the way from its domain
 pub path_kinds : (domains : List DomainDef) (earlier : List Placement) (leaf : ℕ × ℕ) → kinds_on domains (path_of domains earlier leaf) ≡ kinds_from domains (Some leaf.0)
 path_kinds domains earlier leaf =
     ap (λ ks. kind_in (slice_get domains leaf.0) ∷ ks) (kinds_above domains (lowest_unused earlier) (way 7 domains (parent_in (slice_get domains leaf.0))))

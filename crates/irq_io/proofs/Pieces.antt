@@ -31,7 +31,7 @@ pub WritesAll-none : (told : Option (List ℕ)) (bytes : List ℕ) → WritesAll
 WritesAll-none None bytes = tt
 WritesAll-none (Some xs) bytes = ap Some (sym (append-nil xs))
 
--- a write took n bytes more of those that were left after the first `done`
+-- a write took n more of the bytes that were left after the first `done`
 pub WritesAll-more : (told mid now : Option (List ℕ)) (bytes : List ℕ) (done n : ℕ)
     → WritesAll told mid (take done bytes) ends.Done → Writes mid now (drop done bytes) (writes.Took n)
     → WritesAll told now (take (done + n) bytes) ends.Done

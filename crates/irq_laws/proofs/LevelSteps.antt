@@ -65,7 +65,7 @@ module _ (a p q : Entry → Bool) where
   first true n m h = cc
   first false n m h = omega arith
 
-  -- within a run: those since its beginning, and those that it met
+  -- within a run: the asks since its beginning, and the asks that it met
   within_run : ((e : Entry) → p e ≡ true → (a e ≡ false) × (q e ≡ false)) → (past : List Entry) → stands p q past ≡ true → left past ≡ count_of a (since p past) + left (before p past)
   within_run alone [] h = cc
   within_run alone (e ∷ past) h = by_tests (p e) (q e) refl refl (within_run alone past)
@@ -80,7 +80,7 @@ module _ (a p q : Entry → Bool) where
           let s : stands p q past ≡ true = sym (ap (λ (b : Bool). b || (not (q e) && stands p q past)) ip ∙ ap (λ (b : Bool). not b && stands p q past) iq) ∙ h in
           rw (ip, iq) (one_more (a e) _ _ _ _ (deeper s))
 
-  -- its return leaves those since its beginning; if it met no ask, that is what there was
+  -- its return leaves the asks since its beginning; if it met no ask, these are all there were
   returns_none : ((e : Entry) → p e ≡ true → (a e ≡ false) × (q e ≡ false)) → (e : Entry) (past : List Entry) → stands p q past ≡ true → q e ≡ true → left (before p past) ≡ 0 → left (e ∷ past) ≡ left past
   returns_none alone e past run is none =
       let w = within_run alone past run in

@@ -154,7 +154,7 @@ oneshot_plain def e past due kd k no_take stays level eoi m zero = by_case (enab
     by_case (inl starts) = both_ways (is_masked def (e ∷ past)) m (start_opens def e past starts)
     by_case (inr q) = stays q (k level eoi (masked_before def e past no_take q m).0 q.was)
 
--- a further request has the flag of those before it
+-- a further request has the flag of the requests before it
 request_oneshot : (def : LineDef) (s : DriverNo) (x : DevNo) (flags : Flags) (opened : Opened) (past : List Entry) → IsDue def (entries.Request s x flags links.Linked opened) past → Kept def past → is_none_linked past ≡ false → is_oneshot past ≡ true → flags.oneshot ≡ true
 request_oneshot def s x flags opened past due kept some one =
     let y = some_passes (is_linked past) (requested past) some in

@@ -92,7 +92,7 @@ standing (x ∷ cs) es c n h = at_head (nat_lt (length es) (entries_of_call x es
     at_head true is deeper = let s = same_call x c (length es) n (ap (λ (b : Bool). cond b (due_at x (length es)) (due_of cs (drop (entries_of_call x es) es))) (sym is) ∙ h) in here s.0 (sym s.1) is
     at_head false is deeper = later es is (deeper (ap (λ (b : Bool). cond b (due_at x (length es)) (due_of cs (drop (entries_of_call x es) es))) (sym is) ∙ h))
 
--- the first call of those that are left has none of its entries
+-- the first call that is left has made no entry
 pub fresh : (cs : List Call) (c : Call) (n : ℕ) → due_of cs [] ≡ Some (c, n) → n ≡ 0
 fresh [] c n h = cc
 fresh (x ∷ cs) c n h =

@@ -15,7 +15,7 @@ use Rattle.irq_laws.proofs.Lists.{any_ext}
 moved : (o s t b : Bool) → s ≡ t → (o && (not s && b)) ≡ (not t && (o && b))
 moved o s t b h = grind arith
 
--- once d gives its bit up, those that are left are the others'
+-- once d gives its bit up, the bits that are left are other devices'
 pub others_left : (def : LineDef) (x : DevNo) (unmask : Bool) (past : List Entry) → is_some_unfinished def (entries.Finish x false unmask ∷ past) ≡ is_other_unfinished def past x
 others_left def x unmask past =
     any_ext (λ (y : DeviceDef). is_unfinished (entries.Finish x false unmask ∷ past) y.dev) (λ y. not (same_dev x y.dev) && is_unfinished past y.dev) def.devices

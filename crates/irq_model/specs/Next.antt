@@ -1,4 +1,4 @@
--- The table of steps: the one entry that an actor may add, a row a definition.
+-- The table of steps: the one entry that an actor may add. Each row is a definition.
 use Rattle.std.specs.Prelude.{ℕ, Bool, true, false, not, ◌||◌, ◌&&◌, ◌==◌, if◌then◌else◌, Option, Some, None, is_some, List, [], ◌∷◌, nat_lt, length, reverse}
 use Rattle.std.specs.List.{list_any}
 use Rattle.irq_base.specs.declared.numbers.CpuNo.{CpuNo}

@@ -95,7 +95,7 @@ none b (r ∷ rows) (p ∷ places) (x ∷ xs) rises are (suc i) row at not =
 pub numbers_rise : (b : BoardSeen) → IsBoard b → Rises (λ (row : LineRow). row.line.0) b.lines
 numbers_rise b board i row at = (board.lines i row at).rises
 
--- the line of a row that the layout doesn't map isn't among those that take part
+-- the line of a row that the layout doesn't map isn't among the lines that take part
 pub takes_no_part : (b : BoardSeen) → IsBoard b → (lines : List BoardLine) → map (λ (x : BoardLine). x.def) lines ≡ defs_of b → (i : ℕ) (row : LineRow) → slice_get b.lines i ≡ Some row → is_mapped_at (slice_get (layout_of b) i) ≡ false
     → find_line lines row.line ≡ None
 takes_no_part b board lines are i row at not = none b b.lines (layout_of b) lines (numbers_rise b board) are i row at not

@@ -63,7 +63,7 @@ module _ {A : Type 0} where
   total_none w [] h = refl
   total_none w (x ∷ xs) h = let a = h x in let r = total_none w xs h in omega (arith, a, r)
 
-  -- the weights of those whose key is k, and of those whose key is below m
+  -- the weights of the items whose key is k, and of the items whose key is below m
   abbrev pub total_at : (A → ℕ) → (A → ℕ) → ℕ → List A → ℕ
   total_at key w k xs = total (λ x. cond (k == key x) (w x) 0) xs
 

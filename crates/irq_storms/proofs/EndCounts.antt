@@ -235,8 +235,8 @@ nothing_more : (def : LineDef) (e : Entry) (past : List Entry) → IsValid def �
 nothing_more def (entries.End c again unmask note) past valid legal level due = end_more def c again unmask note past valid legal level due
 nothing_more def e past valid legal level due = other_more def e past refl refl
 
--- the ends judged nothing, and those that the open window allows, are at most two windows for each
--- break and one more
+-- the ends judged nothing, plus the ends that the open window allows, are at most two windows for
+-- each break and one more
 pub nothing_past : (def : LineDef) (past : List Entry) → IsValid def → IsLegalPast def past → is_level_line def ≡ true → nothing_ends def past + allowed def past ≤ 2 * def.window * (breaks def past + 1)
 nothing_past def [] valid legal level = let m = allowed_most def.window 0 (counts_of def []) in let o = mul-one (2 * def.window) in omega (arith, m, o)
 nothing_past def (e ∷ past) valid legal level =

@@ -53,7 +53,8 @@ module _ (a b r : Entry → Bool) where
       by_return true h = omega arith
       by_return false h = cc
 
-  -- while a run is in progress, what is unserved is what the run met and what came since
+  -- while a run is in progress, the unserved asks are those that the run met and those that came
+  -- since
   met : ((e : Entry) → b e ≡ true → (r e ≡ false) × (a e ≡ false)) → (past : List Entry) → stands b r past ≡ true → unserved past ≡ unserved (before b past) + count_of a (since b past)
   met apart [] h = cc
   met apart (e ∷ past) h = by_begin (b e) refl (stands_cases (b e) (r e) (stands b r past) h) (λ s. met apart past s)
@@ -264,7 +265,7 @@ none_unserved kinds.Check d = refl
 none_unserved kinds.Null d = refl
 none_unserved kinds.Stuck d = refl
 
--- of each device, the asks that were served and those that weren't are the asks
+-- the served asks and the unserved asks of a device together are its asks
 pub served_exactly : (def : LineDef) (d : DevNo) (past : List Entry) → IsValid def → IsLegalPast def past → total (asks_served d) past + unserved_asks def d past ≡ count_of (is_ask d) past
 served_exactly def d [] valid legal = let n = none_unserved (kind_of def d) d in omega (arith, n)
 served_exactly def d (e ∷ past) valid legal =

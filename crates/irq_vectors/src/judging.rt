@@ -1,4 +1,4 @@
-//! Judges the entries of a line by the plain program of the due entry.
+//! Judges the entries of a line by the reference program for the entry that is due (`plain_next`).
 ghost use Rattle.std.specs.Prelude.{◌≡◌, ◌+◌, ◌≤◌, ◌↔◌, length, reverse, IfOk, IsTrue};
 ghost use Rattle.irq_model.specs.Legal.{IsDue};
 ghost use Rattle.irq_vectors.specs.Verdict.{IsVerdict};

@@ -1,12 +1,12 @@
-//! The plain chip.
+//! The chip of one signal cell.
 ghost use Rattle.std.specs.Prelude.{◌≡◌, ℕ, ◌<◌, Bool, None, true, false};
 ghost use Rattle.irq_base.specs.Cell.{fresh_cell};
 
 use irq_base::{Chip, CpuNo, Trigger};
 
-/// The plain chip (ours): a controller's input that presents one line's signal to the processors,
-/// as the local interrupt controllers of `struct irq_chip` do (`include/linux/irq.h`). It has five
-/// properties, which never change, and five marks.
+/// The chip of one signal cell (ours): a controller's input that presents one line's signal to the
+/// processors, as the local interrupt controllers of `struct irq_chip` do (`include/linux/irq.h`).
+/// It has five properties, which never change, and five marks.
 #[derive(Drop)]
 pub struct Cell {
     trigger: Trigger,

@@ -46,7 +46,7 @@ filter_within p q (x ∷ xs) h = by_test (q x) refl (filter_within p q xs h)
     by_test true is rest = rw (h x is) (ap (λ (t : List DevNo). x ∷ t) rest)
     by_test false is rest = rest
 
--- the same actions of those that pass
+-- two functions that agree on the devices that pass give these the same flags
 same_flags : (f g : DevNo → Flags) (q : DevNo → Bool) (xs : List DevNo) → ((x : DevNo) → q x ≡ true → g x ≡ f x) → flags_by g (filter q xs) ≡ flags_by f (filter q xs)
 same_flags f g q [] h = refl
 same_flags f g q (x ∷ xs) h = by_test (q x) refl (same_flags f g q xs h)

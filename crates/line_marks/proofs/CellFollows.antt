@@ -70,7 +70,7 @@ cell_more def _ past c valid = refl
 
 -- ---- what it is
 
--- its marks are those that are read off the entries
+-- the cell's marks are as they are read off the entries
 pub cell_is : (def : LineDef) (past : List Entry) → IsValid def → IsLegalPast def past → cell_after def past ≡ cell_of def past
 cell_is def past valid legal =
     let turned_back : reverse (reverse past) ≡ past = reverse-reverse past in

@@ -1,5 +1,5 @@
--- A row cut at its spaces gives its words back, and rows cut at line feeds are those that were put
--- together.
+-- A row cut at its spaces gives its words back, and a text cut at line feeds gives back the rows
+-- that were put together.
 use Rattle.std.proofs.Common.{◌≡◌, ℕ, zero, suc, ◌+◌, ◌<◌, ◌≤◌, ◌^◌, ◌/◌, ◌%◌, Bool, true, false, ◌&&◌, cond, eqb, ltb, List, [], ◌∷◌, ◌++◌, codes, decimal, refl, ap, ◌∙◌, sym, arith}
 use Rattle.std.specs.List.{join_with_byte, slice_split, onto_first, list_all}
 use Rattle.std.proofs.lemmas.Bool.{and_from, and_parts, ltb-true, lt-ltb, ne_eqb}

@@ -9,7 +9,8 @@ use Rattle.irq_model.specs.Masks.{is_masked}
 use Rattle.irq_model.specs.Edges.{was_open, is_taken, is_alive, is_sent, is_sent_edge}
 use Rattle.plain_next.proofs.Somewhere.{some_at, some_nowhere}
 
--- the entries from a place on up to the edge, and those up to the edge, are all from that place on
+-- the entries from place i up to `place`, and then the entries from `place` on, are all entries
+-- from place i on
 front-append-rest : {A : Type 0} (past : List A) (place i : ℕ) → i ≤ place → place ≤ length past → drop i (take place past) ++ drop place past ≡ drop i past
 front-append-rest past place i h k =
     let long : length (take place past) ≡ place = length-take-le place past k in

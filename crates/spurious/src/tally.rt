@@ -1,4 +1,4 @@
-//! The counts as plain data, and what the rule makes of them.
+//! The counts as data, and what the rule makes of them.
 ghost use Rattle.std.specs.Prelude.{◌≡◌, ℕ, ◌+◌, ◌<◌, ◌≤◌};
 ghost use Rattle.irq_model.specs.Spurious.{no_counts, counted, judged, judged_by_threads, noted};
 ghost use Rattle.spurious.specs.Tallies.{rule_counts, IsWithin, IsNoted};

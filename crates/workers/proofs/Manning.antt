@@ -163,7 +163,7 @@ crew_rises board lines is =
     drivers_high : AreFrom 70000 (drivers_of board)
     drivers_high = from_less 70000 80000 (drivers_of board) (omega arith) drivers_higher
 
--- an actor of the crew is none of those before it
+-- an actor of the crew differs from the actors before it
 pub is_new : (board : BoardSeen) (lines : List LockSeen) → IsBoard board → (i : ℕ) (a : Actor) → slice_get (workers_of board lines) i ≡ Some a → is_among a (take i (workers_of board lines)) ≡ false
 is_new board lines is i a at = not_before (workers_of board lines) i a (crew_rises board lines is) at
 
@@ -237,7 +237,7 @@ pub map_more : {A B : Type 0} (f : A → B) (xs : List A) (x : A) → map f (xs 
 map_more f [] x = refl
 map_more f (y ∷ ys) x = ap (λ (zs : List _). f y ∷ zs) (map_more f ys x)
 
--- one more actor behind those that were there
+-- one more actor behind the actors that were there
 pub pushed : {A : Type 0} (f : A → Actor) (old now after : List Actor) (xs : List A) (i : ℕ) (x : A) → now ≡ old ++ map f (take i xs) → slice_get xs i ≡ Some x → after ≡ now ++ f x ∷ [] → after ≡ old ++ map f (take (i + 1) xs)
 pushed f old now after xs i x is at push =
     push ∙ (ap (λ (ps : List Actor). ps ++ f x ∷ []) is ∙ (append_assoc old (map f (take i xs)) (f x ∷ []) ∙ ap (λ (ps : List Actor). old ++ ps) (sym (ap (map f) (taken xs i x at) ∙ map_more f (take i xs) x))))

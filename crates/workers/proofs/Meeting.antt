@@ -9,7 +9,7 @@ use Rattle.workers.specs.Gathers.{IsHome, AreHome, HasMetOne, IsMet}
 use Rattle.workers.specs.Seen.{SeatSeen, JobSeen}
 use Rattle.workers.proofs.Lists.{at_set, at_old, at_end, there_or, within, length_snoc}
 
--- the passes from the place n on were met; those before it are left
+-- the passes from place n on were met; the passes before it are left
 pub record IsMeeting (lines : List LockSeen) (j : JobSeen) (old new : List PassSeen) (left : List SeatSeen) : Type 0 where
   pub home : AreHome lines new
   pub some : (i : ℕ) (s : SeatSeen) → slice_get left i ≡ Some s → slice_get j.seats i ≡ Some s
