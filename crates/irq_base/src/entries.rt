@@ -84,7 +84,7 @@ pub enum EnableAnswer {
 /// What a request that was linked made of the line's depth.
 #[derive(Clone, Copy, PartialEq, Eq)]
 pub enum Opened {
-    /// The depth is as it was.
+    /// Nothing; after a first request that doesn't start the line the depth is 1.
     No,
     /// Its enable found nothing to lower.
     Unbalanced,
@@ -151,8 +151,8 @@ pub enum Entry {
         served: u32,
     },
     /// The note (`note_interrupt`), and the rest of the flow handler once the last handler has
-    /// returned. `again`: the flow goes on with an interrupt that came meanwhile. `unmask`: the
-    /// chip's mask is opened.
+    /// returned. `again`: an interrupt that came meanwhile is handled too. `unmask`: the chip's
+    /// mask is opened.
     End {
         cpu: CpuNo,
         again: bool,

@@ -18,7 +18,7 @@ abbrev pub ends_in_edge : LineDef → List Entry → Bool
 ends_in_edge def [] = false
 ends_in_edge def (e ∷ past) = is_edge def e
 
--- the line was open at some moment since the place
+-- the line was open at some moment since the place; the moment just after it counts too
 abbrev pub was_open : LineDef → List Entry → List Entry → Bool
 was_open def [] upto = not (is_masked def upto)
 was_open def (e ∷ after) upto = not (is_masked def (e ∷ after ++ upto)) || was_open def after upto

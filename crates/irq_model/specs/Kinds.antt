@@ -129,7 +129,7 @@ abbrev pub is_off : Entry → Bool
 is_off (entries.Take cpu way takes.Off) = true
 is_off _ = false
 
--- an end whose flow goes on with an interrupt that came meanwhile
+-- an end that says `again`: an interrupt that came meanwhile is handled too
 abbrev pub is_again : Entry → Bool
 is_again (entries.End cpu again unmask note) = again
 is_again _ = false

@@ -58,6 +58,7 @@ abbrev pub dev_of_begin : Option Entry → Option DevNo
 dev_of_begin (Some (entries.Begin cpu dev)) = Some dev
 dev_of_begin _ = None
 
--- the device whose handler is at work: the one that was called last, if its handler hasn't returned
+-- the device whose handler is at work: the device of the last begin, unless a return, of any
+-- device, stands after that begin
 abbrev pub at_work : List Entry → Option DevNo
 at_work past = dev_of_begin (last_of is_begin_or_return past)

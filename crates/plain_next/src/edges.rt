@@ -52,7 +52,7 @@ fn shows_edge(def: &LineDef, is_masked_now: bool, opened: bool) -> bool
     !is_masked_now || (!def.recalls && opened)
 }
 
-/// The line was open at some moment since the place.
+/// The line was open at some moment since the place; the moment just after it counts too.
 fn was_open(def: &LineDef, past: &[Entry], masked: &[bool], place: usize) -> bool
     requires table { IsMaskTable def.now past.now masked.now }
     requires place { place < length past.now }

@@ -170,7 +170,7 @@ pub fn is_off(entry: Entry) -> bool
     )
 }
 
-/// An end that goes on with what came meanwhile.
+/// An end that says `again`: an interrupt that came meanwhile is handled too.
 pub fn is_again(entry: Entry) -> bool
     ensures { result ≡ is_again entry }
 {

@@ -43,8 +43,8 @@ pub fn first_left(def: &LineDef, past: &[Entry], linked: &[DevNo]) -> Option<Dev
     None
 }
 
-/// The device whose handler is at work: the one that was called last, if its handler hasn't
-/// returned.
+/// The device whose handler is at work: the device of the last begin, unless a return, of any
+/// device, stands after that begin.
 #[tactic(auto, unfolding(crate::specs::Passes::passes))]
 pub fn at_work(past: &[Entry]) -> Option<DevNo>
     ensures { result ≡ at_work past.now }
