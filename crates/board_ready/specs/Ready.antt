@@ -31,7 +31,7 @@ abbrev pub thread_on : ℕ → Option DevNo → Option ReadyThread
 thread_on k None = None
 thread_on k (Some d) = Some (record { line = k; dev = d })
 
--- the lowest thread of these lines, the first of which stands at place k
+-- the lowest thread of these lines; their first line stands at place k
 abbrev pub lowest_from : ℕ → List LinePart → Option ReadyThread
 lowest_from k [] = None
 lowest_from k (x ∷ xs) = lower_of (thread_on k x.thread) (lowest_from (k + 1) xs)

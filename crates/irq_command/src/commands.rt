@@ -21,8 +21,8 @@ use workers::NoGate;
 
 /// Does what the arguments say: reads `src`, prints to `out`, and says on `err` what went wrong.
 /// The handlers answer by their devices' kinds, and no gate holds a worker. Unless memory is
-/// refused, arguments that are no command's words end as a fault of usage; so do arguments of which
-/// one isn't UTF-8.
+/// refused, arguments that are no command's words end as a fault of usage; so do arguments that
+/// aren't all UTF-8.
 pub fn command<R: Threads + Wait + Sync, S: Source, O: Sink, E: Sink>(
     rt: &R,
     alloc: Global,
