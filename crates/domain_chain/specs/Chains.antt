@@ -58,7 +58,8 @@ fresh_chain cell levels number =
 abbrev pub wiring_of : ChainSeen → Wiring
 wiring_of c = record { levels = c.levels; number = c.number }
 
--- what chips that are so wired send while they are active, to the processor that they are aimed at
+-- what chips with this wiring send while they are active; it goes to the processor at which they
+-- are aimed
 abbrev pub sent_by : Bool → ℕ → Wiring → Option Message
 sent_by active aimed wiring = if active then option_map (message_of aimed) wiring.number else None
 

@@ -1,4 +1,4 @@
--- What a step comes to with the handlers of the line's devices at hand.
+-- What a step answers and leaves, with the handlers of the line's devices at hand.
 use Rattle.std.specs.Prelude.{◌≡◌, ◌+◌, ◌<◌, ◌≤◌, Option, Some, None, Result, Ok, Err, [], ◌∷◌, ◌++◌, length}
 use Rattle.irq_base.specs.Who.{actor_of}
 use Rattle.irq_base.specs.declared.entries.Actor.{Actor}

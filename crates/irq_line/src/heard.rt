@@ -13,7 +13,7 @@ use irq_base::{Actor, Entry};
 ///
 /// # Errors
 ///
-/// Those of the line's step. Nothing has changed then.
+/// The errors of the line's step. Nothing has changed then.
 #[inline(always)]
 pub fn step_heard<L: IrqLine, H: Handler>(
     line: &mut L,

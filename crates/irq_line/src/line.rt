@@ -17,7 +17,7 @@ pub trait IrqLine: Drop {
     ghost seen: { Self → LineSeen };
 
     /// Whether a step may need memory though the history has room, if this entry is due of the
-    /// actor; of `None`, if nothing is due.
+    /// actor; `None`: nothing is due.
     ghost may_want: { Option Entry → Type 0 };
 
     /// Adds the entry that is due of the actor, if there is one: one hold of the line's lock. If
