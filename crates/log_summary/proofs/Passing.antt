@@ -1,5 +1,5 @@
 -- A history is gone through entry by entry.
-use Rattle.std.proofs.Common.{◌≡◌, ℕ, zero, suc, ◌+◌, ◌≤◌, Bool, true, false, not, ◌&&◌, ◌||◌, cond, Some, List, [], ◌∷◌, ◌++◌, length, take, get_or, reverse, refl, sym, ap, ◌∙◌, subst, arith}
+use Rattle.std.proofs.Common.{◌≡◌, ℕ, zero, suc, ◌+◌, ◌≤◌, Bool, true, false, rules, not, ◌&&◌, ◌||◌, cond, Some, List, [], ◌∷◌, ◌++◌, length, take, get_or, reverse, refl, sym, ap, ◌∙◌, subst, arith}
 use Rattle.std.specs.List.{slice_get}
 use Rattle.std.specs.Prelude.{count_by, sum_by}
 use Rattle.std.proofs.lemmas.List.{reverse-append}
@@ -9,7 +9,11 @@ use Rattle.irq_base.specs.declared.entries.Entry.{Entry}
 use Rattle.irq_base.specs.declared.entries.Entry.TheVariants as entries
 use Rattle.irq_base.specs.declared.entries.LinkAnswer.TheVariants as links
 use Rattle.irq_base.specs.declared.entries.UnlinkAnswer.TheVariants as unlinks
+use Rattle.irq_base.specs.declared.entries.Note.TheVariants as notes
+use Rattle.irq_base.specs.declared.kinds.EntryKind.{EntryKind}
+use Rattle.irq_base.specs.declared.kinds.EntryKind.TheVariants as kinds
 use Rattle.irq_base.specs.declared.numbers.DevNo.{DevNo}
+use Rattle.irq_base.specs.EntryKinds.{kind_of_entry}
 use Rattle.irq_model.specs.Kinds.{is_any_ask, is_take, is_start, is_last_unlink, is_linked_request}
 use Rattle.irq_model.specs.Links.{is_none_linked, is_empty, is_reset, is_deepening, is_lowering}
 use Rattle.irq_model.specs.Places.{EachEntry}
@@ -17,7 +21,7 @@ use Rattle.irq_steps.proofs.LinkSteps.{linked_request}
 use Rattle.irq_steps.proofs.ListSteps.{linked_refused, linked_not_there}
 use Rattle.irq_steps.proofs.DepthSteps.{raised_reset, raised_more}
 use Rattle.log_summary.specs.Counted.{is_run, is_thread_run, served_by}
-use Rattle.log_summary.specs.Gained.{AreCountsOf, one_if, counts_with}
+use Rattle.log_summary.specs.Gained.{AreCountsOf, one_if, asks_of, takes_of, runs_of, thread_runs_of, served_of, counts_with}
 use Rattle.log_summary.specs.Lasts.{TellsLast, TellsLasts}
 use Rattle.log_summary.specs.Standings.{StandsAfter, raised, lowered, resets, is_unlinking, standing_with}
 use Rattle.log_summary.specs.declared.counts.Counts.{Counts}
@@ -48,16 +52,49 @@ count_next p h n e at = by_test (p e) (ap p (get_or_from_slice_get h n e e at))
 sum_last : {X : Type 0} (f : X → ℕ) (xs : List X) (x : X) → sum_by f (xs ++ x ∷ []) ≡ sum_by f xs + f x
 sum_last f xs x = sum_by-append f xs (x ∷ []) ∙ ap (λ n. sum_by f xs + n) (omega arith)
 
-pub counts_more : (h : List Entry) (n : ℕ) (e : Entry) (c : Counts) → slice_get h n ≡ Some e → AreCountsOf (take n h) c → AreCountsOf (take (n + 1) h) (counts_with c e)
+-- what an entry adds to each count, told by its kind
+record IsCountedAs (e : Entry) (k : EntryKind) : Type 0 where
+  asks : cond (is_any_ask e) 1 0 ≡ asks_of k
+  takes : cond (is_take e) 1 0 ≡ takes_of k
+  runs : cond (is_run e) 1 0 ≡ runs_of k
+  threads : cond (is_thread_run e) 1 0 ≡ thread_runs_of k
+  served : served_by e ≡ served_of k
+
+counted : (e : Entry) → IsCountedAs e (kind_of_entry e)
+counted (entries.Ask a b) = record { asks = refl; takes = refl; runs = refl; threads = refl; served = refl }
+counted (entries.Take a b c) = record { asks = refl; takes = refl; runs = refl; threads = refl; served = refl }
+counted (entries.Begin a b) = record { asks = refl; takes = refl; runs = refl; threads = refl; served = refl }
+counted (entries.Return a b c d) = record { asks = refl; takes = refl; runs = refl; threads = refl; served = refl }
+counted (entries.End a b c notes.Quiet) = record { asks = refl; takes = refl; runs = refl; threads = refl; served = refl }
+counted (entries.End a b c notes.Counted) = record { asks = refl; takes = refl; runs = refl; threads = refl; served = refl }
+counted (entries.End a b c notes.Killed) = record { asks = refl; takes = refl; runs = refl; threads = refl; served = refl }
+counted (entries.ThreadBegin a) = record { asks = refl; takes = refl; runs = refl; threads = refl; served = refl }
+counted (entries.ThreadReturn a b) = record { asks = refl; takes = refl; runs = refl; threads = refl; served = refl }
+counted (entries.Finish a b c) = record { asks = refl; takes = refl; runs = refl; threads = refl; served = refl }
+counted (entries.Done a) = record { asks = refl; takes = refl; runs = refl; threads = refl; served = refl }
+counted (entries.Disable a) = record { asks = refl; takes = refl; runs = refl; threads = refl; served = refl }
+counted (entries.HardClear a) = record { asks = refl; takes = refl; runs = refl; threads = refl; served = refl }
+counted (entries.Synced a) = record { asks = refl; takes = refl; runs = refl; threads = refl; served = refl }
+counted (entries.Enable a b) = record { asks = refl; takes = refl; runs = refl; threads = refl; served = refl }
+counted (entries.Request a b c d f) = record { asks = refl; takes = refl; runs = refl; threads = refl; served = refl }
+counted (entries.Unlink a b c) = record { asks = refl; takes = refl; runs = refl; threads = refl; served = refl }
+counted (entries.Freed a b) = record { asks = refl; takes = refl; runs = refl; threads = refl; served = refl }
+counted (entries.Affinity a b c) = record { asks = refl; takes = refl; runs = refl; threads = refl; served = refl }
+counted (entries.Moment a b) = record { asks = refl; takes = refl; runs = refl; threads = refl; served = refl }
+
+pub counts_more : (h : List Entry) (n : ℕ) (e : Entry) (c : Counts) → slice_get h n ≡ Some e → AreCountsOf (take n h) c
+    → AreCountsOf (take (n + 1) h) (counts_with c (kind_of_entry e))
 counts_more h n e c at k =
-    let one : (p : Entry → Bool) (m : ℕ) → m ≡ count_by p (take n h) → m + cond (p e) 1 0 ≡ count_by p (take (n + 1) h) =
-    λ p m is. ap (λ x. x + cond (p e) 1 0) is ∙ sym (count_next p h n e at) in
+    let told = counted e in
+    let one : (p : Entry → Bool) (m x : ℕ) → cond (p e) 1 0 ≡ x → m ≡ count_by p (take n h) → m + x ≡ count_by p (take (n + 1) h) =
+    λ p m x same is. ap (λ y. m + y) (sym same) ∙ (ap (λ y. y + cond (p e) 1 0) is ∙ sym (count_next p h n e at)) in
     record {
-      asks = one is_any_ask c.asks k.asks;
-      takes = one is_take c.takes k.takes;
-      runs = one is_run c.runs k.runs;
-      threads = one is_thread_run c.threads k.threads;
-      served = ap (λ x. x + served_by e) k.served ∙ (sym (sum_last served_by (take n h) e) ∙ ap (sum_by served_by) (sym (take_next h n e at)));
+      asks = one is_any_ask c.asks (asks_of (kind_of_entry e)) told.asks k.asks;
+      takes = one is_take c.takes (takes_of (kind_of_entry e)) told.takes k.takes;
+      runs = one is_run c.runs (runs_of (kind_of_entry e)) told.runs k.runs;
+      threads = one is_thread_run c.threads (thread_runs_of (kind_of_entry e)) told.threads k.threads;
+      served = ap (λ x. c.served + x) (sym told.served)
+          ∙ (ap (λ x. x + served_by e) k.served ∙ (sym (sum_last served_by (take n h) e) ∙ ap (sum_by served_by) (sym (take_next h n e at))));
     }
 
 -- no count is above the number of entries
@@ -167,3 +204,31 @@ lowered_small e s n h = by_tests (resets s e) (is_lowering e)
     by_tests true b = omega arith
     by_tests false true = omega arith
     by_tests false false = omega arith
+
+-- ---- an entry of another kind changes nothing of how the line stands
+
+unmoved : (e : Entry) (s : Standing) → is_unlinking e ≡ false → is_last_unlink e ≡ false → is_linked_request e ≡ false
+    → is_deepening e ≡ false → is_lowering e ≡ false → standing_with s e ≡ s
+unmoved e s a b c d f = rw (a, b, c, d, f) (let n = no_more s.linked in search (rules, n))
+
+pub stands_same : (e : Entry) (s : Standing) → (kind_of_entry e ≡ kinds.Standing → ⊥) → standing_with s e ≡ s
+stands_same (entries.Ask a b) s other = unmoved (entries.Ask a b) s refl refl refl refl refl
+stands_same (entries.Take a b c) s other = unmoved (entries.Take a b c) s refl refl refl refl refl
+stands_same (entries.Begin a b) s other = unmoved (entries.Begin a b) s refl refl refl refl refl
+stands_same (entries.Return a b c d) s other = unmoved (entries.Return a b c d) s refl refl refl refl refl
+stands_same (entries.End a b c notes.Quiet) s other = unmoved (entries.End a b c notes.Quiet) s refl refl refl refl refl
+stands_same (entries.End a b c notes.Counted) s other = unmoved (entries.End a b c notes.Counted) s refl refl refl refl refl
+stands_same (entries.End a b c notes.Killed) s other = absurd (other refl)
+stands_same (entries.ThreadBegin a) s other = unmoved (entries.ThreadBegin a) s refl refl refl refl refl
+stands_same (entries.ThreadReturn a b) s other = unmoved (entries.ThreadReturn a b) s refl refl refl refl refl
+stands_same (entries.Finish a b c) s other = unmoved (entries.Finish a b c) s refl refl refl refl refl
+stands_same (entries.Done a) s other = unmoved (entries.Done a) s refl refl refl refl refl
+stands_same (entries.Disable a) s other = absurd (other refl)
+stands_same (entries.HardClear a) s other = unmoved (entries.HardClear a) s refl refl refl refl refl
+stands_same (entries.Synced a) s other = unmoved (entries.Synced a) s refl refl refl refl refl
+stands_same (entries.Enable a b) s other = absurd (other refl)
+stands_same (entries.Request a b c d f) s other = absurd (other refl)
+stands_same (entries.Unlink a b c) s other = absurd (other refl)
+stands_same (entries.Freed a b) s other = unmoved (entries.Freed a b) s refl refl refl refl refl
+stands_same (entries.Affinity a b c) s other = unmoved (entries.Affinity a b c) s refl refl refl refl refl
+stands_same (entries.Moment a b) s other = unmoved (entries.Moment a b) s refl refl refl refl refl

@@ -2,7 +2,7 @@
 ghost use Rattle.std.specs.Prelude.{◌≡◌, ◌+◌, ◌^◌, ◌<◌, []};
 ghost use Rattle.log_summary.specs.Gained.{AreCountsOf, counts_with};
 
-use irq_base::Entry;
+use irq_base::EntryKind;
 
 /// What is counted of a history.
 #[derive(Clone, Copy)]
@@ -33,23 +33,23 @@ impl Counts {
         }
     }
 
-    /// Counts one more entry.
-    pub(crate) fn add(&mut self, entry: Entry)
+    /// Counts one more entry, which is of that kind.
+    pub(crate) fn add(&mut self, kind: EntryKind)
         requires runs { (self.old.runs < 2 ^ 32) × (self.old.threads < 2 ^ 32) }
         requires others { (self.old.asks < 2 ^ 32) × (self.old.takes < 2 ^ 32) }
         requires served { self.old.served < 2 ^ 63 }
-        ensures with { self.new ≡ counts_with self.old entry }
+        ensures with { self.new ≡ counts_with self.old kind }
         ensures few { self.new.served < self.old.served + 2 ^ 32 }
     {
-        match entry {
-            Entry::Ask { .. } => self.asks += 1,
-            Entry::Take { .. } => self.takes += 1,
-            Entry::Begin { .. } => self.runs += 1,
-            Entry::ThreadBegin { .. } => self.threads += 1,
-            Entry::Return { served, .. } | Entry::ThreadReturn { served, .. } => {
+        match kind {
+            EntryKind::Ask => self.asks += 1,
+            EntryKind::Take => self.takes += 1,
+            EntryKind::Begin => self.runs += 1,
+            EntryKind::ThreadBegin => self.threads += 1,
+            EntryKind::Return { served } | EntryKind::ThreadReturn { served } => {
                 self.served += u64::from(served);
             }
-            _ => {}
+            EntryKind::Standing | EntryKind::Other => {}
         }
     }
 }

@@ -1,5 +1,5 @@
 //! The row of a line's summary, and the row of the total.
-ghost use Rattle.std.specs.Prelude.{◌≡◌, ◌+◌, ◌≤◌, [], ◌∷◌, ◌++◌, length, reverse, codes, decimal};
+ghost use Rattle.std.specs.Prelude.{◌≡◌, ◌+◌, ◌<◌, ◌≤◌, Some, [], ◌∷◌, ◌++◌, length, slice_get, reverse, codes, decimal};
 ghost use Rattle.log_text.specs.Spaced.{spaced};
 ghost use Rattle.log_summary.specs.Gained.{AreCountsOf, count_words};
 ghost use Rattle.log_summary.specs.Lasts.{TellsLasts};
@@ -9,7 +9,7 @@ ghost use Rattle.log_summary.specs.Texts.{summary_text, total_text};
 use crate::counts::Counts;
 use crate::pieces::{push_count, push_number, push_word};
 use crate::standing::Standing;
-use irq_base::{History, LineNo};
+use irq_base::{Entry, EntryKind, History, LineNo};
 use text_row::TextRow;
 
 /// Writes the summary row of the line: how many entries its history has, how many of each kind, and
@@ -50,13 +50,26 @@ fn summarize(history: &History) -> (Counts, Standing)
     let mut counts = Counts::new();
     let mut standing = Standing::new();
     for i in 0..history.len() {
-        let Some(entry) = history.get(i) else {
+        let Some(kind) = history.kind(i) else {
             unreachable!();
         };
-        counts.add(entry);
-        standing.add(entry);
+        counts.add(kind);
+        if kind == EntryKind::Standing {
+            standing.add(entry_at(history, i));
+        }
     }
     (counts, standing)
+}
+
+// The entry at the place.
+fn entry_at(history: &History, place: usize) -> Entry
+    requires { place < length history.now.entries }
+    ensures { slice_get history.now.entries place ≡ Some result }
+{
+    let Some(entry) = history.get(place) else {
+        unreachable!();
+    };
+    entry
 }
 
 // Adds the counts, each behind its name.
