@@ -1,8 +1,9 @@
--- What it means that a row is kept: it is the row of its entry.
-use Rattle.std.specs.Prelude.{◌≡◌, ◌≤◌, take}
+-- What it means that a row is kept: it is the row of its word's entry.
+use Rattle.std.specs.Prelude.{◌≡◌, ◌≤◌, [], take}
+use Rattle.irq_base.specs.Packed.{unpack}
 use Rattle.log_text.specs.Rows.{entry_text}
 use Rattle.kept_rows.specs.declared.kept.KeptRow.{KeptRow}
 
 pub record IsKept (row : KeptRow) : Type 0 where
-  pub fits : row.len ≤ 320
-  pub text : take row.len row.bytes ≡ entry_text row.line row.entry
+  pub fits : row.len ≤ 101
+  pub text : take row.len row.bytes ≡ entry_text row.line (unpack [] row.word)

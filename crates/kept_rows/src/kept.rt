@@ -1,29 +1,35 @@
 //! The kept rows.
-ghost use Rattle.std.specs.Prelude.{◌≡◌, true};
+ghost use Rattle.std.specs.Prelude.{◌≡◌, [], true};
+ghost use Rattle.irq_base.specs.Packed.{unpack};
 ghost use Rattle.log_text.specs.EntryWords.{IsPrintable};
 ghost use Rattle.log_text.specs.Rows.{entry_text};
 ghost use Rattle.kept_rows.specs.Kept.{IsKept};
 
 use crate::places::{PLACES, place_of};
-use irq_base::{DevNo, Entry, LineNo};
-use log_text::entry_row;
+use irq_base::{DevNo, Entry, LineNo, Packed};
+use log_text::{MAX_ENTRY_ROW, entry_row};
 use std::marker::Model;
-use text_row::{MAX_ROW, TextRow};
+use text_row::TextRow;
 
-/// A row, with its line and its entry.
+/// A row, with its line and the word of its entry.
 #[derive(Clone, Copy)]
 struct KeptRow {
     line: LineNo,
-    entry: Entry,
-    // The row is the first `len` bytes.
+    word: Packed,
+    // The row is the first `len` bytes; what lies behind them is left of longer rows.
     len: usize,
-    bytes: [u8; MAX_ROW],
+    bytes: [u8; MAX_ENTRY_ROW],
 }
 
 /// The rows of a log that were made last: each of its places keeps one. It takes no memory.
+///
+/// A row is kept by the word that its entry is packed into. An entry that no word holds, since a
+/// number of it is too large, has its row made each time.
 #[derive(Drop)]
 pub struct KeptRows {
     rows: [KeptRow; PLACES],
+    // Where a row is made.
+    row: TextRow,
 }
 
 impl Model for KeptRows {
@@ -41,9 +47,11 @@ impl Model for KeptRows {
 impl KeptRows {
     /// One row in every place.
     pub fn new() -> KeptRows {
-        let row = KeptRow::made(LineNo(0), &Entry::Done { dev: DevNo(0) });
+        let mut row = TextRow::new();
+        let kept = KeptRow::first(&mut row);
         KeptRows {
-            rows: [row; PLACES],
+            rows: [kept; PLACES],
+            row,
         }
     }
 
@@ -52,67 +60,96 @@ impl KeptRows {
         requires { IsPrintable entry.now }
         ensures { result.now ≡ entry_text line entry.now }
     {
-        let place = place_of(line, entry);
-        self.rows[place].keep(line, entry);
+        match Packed::pack(*entry) {
+            Some(word) => self.kept(line, word, entry),
+            None => self.made(line, entry),
+        }
+    }
+
+    // The row of the entry, whose word this is: the kept one, or made anew and kept.
+    fn kept(&mut self, line: LineNo, word: Packed, entry: &Entry) -> &[u8]
+        requires printable { IsPrintable entry.now }
+        requires word { unpack [] word ≡ entry.now }
+        ensures { result.now ≡ entry_text line entry.now }
+    {
+        let place = place_of(line, word);
+        self.rows[place].keep(&mut self.row, line, word, entry);
         let kept = &*self;
         kept.rows[place].bytes()
+    }
+
+    // The row of an entry of the line that no word holds. It isn't kept.
+    #[inline(never)]
+    fn made(&mut self, line: LineNo, entry: &Entry) -> &[u8]
+        requires { IsPrintable entry.now }
+        ensures { result.now ≡ entry_text line entry.now }
+    {
+        entry_row(&mut self.row, line, entry);
+        self.row.bytes()
     }
 }
 
 impl KeptRow {
-    /// The row of an entry of the line, made anew.
-    fn made(line: LineNo, entry: &Entry) -> KeptRow
-        requires { IsPrintable entry.now }
-        ensures kept { IsKept result }
-        ensures of { (result.line ≡ line) × (result.entry ≡ entry.now) }
+    // The row that each place begins with.
+    fn first(row: &mut TextRow) -> KeptRow
+        ensures { IsKept result }
     {
-        let mut row = TextRow::new();
-        entry_row(&mut row, line, entry);
-        let mut bytes = [0; MAX_ROW];
-        let len = row.bytes().len();
-        bytes[..len].copy_from_slice(row.bytes());
-        KeptRow {
-            line,
-            entry: *entry,
-            len,
-            bytes,
-        }
+        let entry = Entry::Done { dev: DevNo(0) };
+        let Some(word) = Packed::pack(entry) else {
+            unreachable!();
+        };
+        let mut kept = KeptRow {
+            line: LineNo(0),
+            word,
+            len: 0,
+            bytes: [0; MAX_ENTRY_ROW],
+        };
+        kept.make(row, LineNo(0), word, &entry);
+        kept
     }
 
-    /// Makes it the row of this entry of this line, unless it is already.
-    fn keep(&mut self, line: LineNo, entry: &Entry)
+    // Makes it the row of the entry of the line, unless it is that. `word` is the entry's word, and
+    // `row` is where the row is made.
+    fn keep(&mut self, row: &mut TextRow, line: LineNo, word: Packed, entry: &Entry)
         requires printable { IsPrintable entry.now }
+        requires word { unpack [] word ≡ entry.now }
         requires kept { IsKept self.old }
         ensures kept { IsKept self.new }
-        ensures of { (self.new.line ≡ line) × (self.new.entry ≡ entry.now) }
+        ensures of { (self.new.line ≡ line) × (self.new.word ≡ word) }
     {
-        if !self.is_of(line, entry) {
-            self.make(line, entry);
+        if !self.is_of(line, word) {
+            self.make(row, line, word, entry);
         }
     }
 
-    /// Makes it the row of this entry of this line. It is a function of its own, so that a row that
-    /// is kept already costs no room on the stack for a new one.
+    // Makes it the row of the entry of the line. It stands apart, so that a row that is found costs
+    // no place on the stack for one that is made.
     #[inline(never)]
-    fn make(&mut self, line: LineNo, entry: &Entry)
-        requires { IsPrintable entry.now }
+    fn make(&mut self, row: &mut TextRow, line: LineNo, word: Packed, entry: &Entry)
+        requires printable { IsPrintable entry.now }
+        requires word { unpack [] word ≡ entry.now }
         ensures kept { IsKept self.new }
-        ensures of { (self.new.line ≡ line) × (self.new.entry ≡ entry.now) }
+        ensures of { (self.new.line ≡ line) × (self.new.word ≡ word) }
     {
-        *self = KeptRow::made(line, entry);
+        entry_row(row, line, entry);
+        let len = row.bytes().len();
+        self.bytes[..len].copy_from_slice(row.bytes());
+        self.len = len;
+        self.line = line;
+        self.word = word;
     }
 
-    /// Whether it is the row of this entry of this line.
-    fn is_of(&self, line: LineNo, entry: &Entry) -> bool
-        ensures { result ≡ true → (self.now.line ≡ line) × (self.now.entry ≡ entry.now) }
+    // Whether it is the row of the word's entry of the line.
+    fn is_of(&self, line: LineNo, word: Packed) -> bool
+        ensures { result ≡ true → (self.now.line ≡ line) × (self.now.word ≡ word) }
     {
-        self.line == line && self.entry == *entry
+        self.word == word && self.line == line
     }
 
-    /// The bytes of the row.
+    // The bytes of the row.
     fn bytes(&self) -> &[u8]
         requires { IsKept self.now }
-        ensures { result.now ≡ entry_text self.now.line self.now.entry }
+        ensures { result.now ≡ entry_text self.now.line (unpack [] self.now.word) }
     {
         &self.bytes[..self.len]
     }

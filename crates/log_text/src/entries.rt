@@ -13,6 +13,9 @@ use irq_base::{
 };
 use text_row::TextRow;
 
+/// The most bytes of an entry's row, the line feed among them.
+pub const MAX_ENTRY_ROW: usize = 101;
+
 /// Writes the row of an entry of the line: the line's number and the entry's words, with one space
 /// between each two, ended by a line feed. What the row held before is gone.
 ///
@@ -20,7 +23,8 @@ use text_row::TextRow;
 /// busy.
 pub fn entry_row(row: &mut TextRow, line: LineNo, entry: &Entry)
     requires { IsPrintable entry.now }
-    ensures { row.new ≡ entry_text line entry.now }
+    ensures text { row.new ≡ entry_text line entry.now }
+    ensures short { length row.new ≤ 101 }
 {
     row.clear();
     row.push_number(line.0);

@@ -10,6 +10,6 @@ mod layouts;
 mod pieces;
 mod words;
 
-pub use entries::entry_row;
+pub use entries::{MAX_ENTRY_ROW, entry_row};
 pub use laws::{rows_tell_entries, texts_tell_histories};
 pub use layouts::layout_row;

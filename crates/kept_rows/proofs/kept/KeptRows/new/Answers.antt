@@ -4,4 +4,4 @@ use Rattle.kept_rows.specs.Kept.{IsKept}
 use Rattle.kept_rows.proofs.kept.KeptRows.new.Goals as goal
 
 pub invariant_of-result : goal.invariant_of-result
-invariant_of-result c k d small = subst IsKept (sym (get_or-replicate 512 k c.made-row.result d small)) c.made-row.ensures.kept
+invariant_of-result c k d small = subst IsKept (sym (get_or-replicate 512 k c.first-kept.result d small)) c.first-kept.ensures

@@ -1,7 +1,7 @@
 use Rattle.std.proofs.Common.{rules, ◌<◌, length}
 use Rattle.std.proofs.lemmas.List.{get_or-set_same}
 use Rattle.kept_rows.specs.declared.kept.KeptRow.{KeptRow}
-use Rattle.kept_rows.proofs.kept.KeptRows.row_of.Goals as goal
+use Rattle.kept_rows.proofs.kept.KeptRows.kept.Goals as goal
 
 pub returns : goal.returns
 returns c =
@@ -12,5 +12,6 @@ returns c =
     let told = c.bytes.ensures in
     let kept = c.kept.view_is in
     let line = c.keep.ensures.of.0 in
-    let entry = c.keep.ensures.of.1 in
+    let word = c.keep.ensures.of.1 in
+    let entry = c.requires.word in
     search (rules, stands)
