@@ -5,7 +5,7 @@ ghost use Rattle.irq_base.specs.declared.entries.LinkAnswer.TheVariants as links
 ghost use Rattle.irq_model.specs.Kinds.{same_dev};
 ghost use Rattle.irq_model.specs.Valid.{HasDistinctDevices};
 ghost use Rattle.device_table.specs.Rows.{at, all_with};
-ghost use Rattle.act_list.specs.Actions.{has, is_bare, is_only_action, answer_where, answer_by, bit_of, is_oneshot_in, is_full, IsLowestFree};
+ghost use Rattle.act_list.specs.Actions.{has, is_bare, answer_where, answer_by, bit_of, is_oneshot_in, is_full, IsLowestFree};
 ghost use Rattle.act_list.specs.Lists.{first_list, action_by, begun_at, first_left, after_link, after_unlink, after_begin, after_begin_round, unlink_by};
 ghost use Rattle.act_list.specs.Stamps.{stamped, AreBegun};
 
@@ -58,20 +58,6 @@ impl ActList {
         ensures { result ≡ is_bare self.now.list.actions }
     {
         self.actions.is_empty()
-    }
-
-    /// Whether the device is linked.
-    pub fn contains(&self, dev: DevNo) -> bool
-        ensures { result ≡ has dev self.now.list.actions }
-    {
-        self.actions.contains(dev)
-    }
-
-    /// Whether the device is linked and nothing else is.
-    pub fn is_only(&self, dev: DevNo) -> bool
-        ensures { result ≡ is_only_action dev self.now.list.actions }
-    {
-        self.actions.is_only(dev)
     }
 
     /// The device's thread bit (`thread_mask`), as a word in which this one bit is set; none if it

@@ -1,12 +1,12 @@
 -- The threads of a line: what is read off all rows, and what an entry makes of them.
-use Rattle.std.specs.Prelude.{ℕ, Bool, true, false, Option, Some, None, List}
+use Rattle.std.specs.Prelude.{ℕ, Bool, true, Option, Some, None, List}
 use Rattle.irq_base.specs.declared.devices.Answer.TheVariants as answers
 use Rattle.irq_base.specs.declared.entries.Entry.{Entry}
 use Rattle.irq_base.specs.declared.entries.Entry.TheVariants as entries
 use Rattle.irq_base.specs.declared.numbers.DevNo.{DevNo}
 use Rattle.device_table.specs.Rows.{at, change}
 use Rattle.device_table.specs.Sums.{weigh_all, how_many}
-use Rattle.act_thread.specs.Steps.{is_idle_row, may_begin, may_return, may_end, finished_by, active_row, woken_row, begun_row, returned_row, finished_row, done_row}
+use Rattle.act_thread.specs.Steps.{is_idle_row, finished_by, active_row, woken_row, begun_row, returned_row, finished_row, done_row}
 use Rattle.act_thread.specs.declared.rows.Finished.{Finished}
 use Rattle.act_thread.specs.declared.rows.Finished.TheVariants as finishes
 use Rattle.act_thread.specs.declared.rows.ThreadRow.{ThreadRow}
@@ -26,15 +26,6 @@ row_passes p absent (Some r) = p r
 
 abbrev pub is_idle_at : List (DevNo × ThreadRow) → DevNo → Bool
 is_idle_at t d = row_passes is_idle_row true (at t d)
-
-abbrev pub begins_at : List (DevNo × ThreadRow) → DevNo → Bool
-begins_at t d = row_passes may_begin false (at t d)
-
-abbrev pub returns_at : List (DevNo × ThreadRow) → DevNo → Bool
-returns_at t d = row_passes may_return false (at t d)
-
-abbrev pub ends_at : Bool → List (DevNo × ThreadRow) → DevNo → Bool
-ends_at oneshot t d = row_passes (may_end oneshot) false (at t d)
 
 abbrev pub finish_of : Option ThreadRow → Finished
 finish_of None = finishes.NotDue

@@ -5,7 +5,7 @@ ghost use Rattle.device_table.specs.Rows.{at, put, change, all_with, lowest_wher
 ghost use Rattle.device_table.specs.Ranks.{IsRanking};
 ghost use Rattle.device_table.specs.RankSets.{holds};
 ghost use Rattle.act_thread.specs.Steps.{woken_row, begun_row, returned_row, finished_row, done_row, could_step, idle_row};
-ghost use Rattle.act_thread.specs.Threads.{active_in, held_in, is_idle_at, begins_at, returns_at, finishes_at, ends_at};
+ghost use Rattle.act_thread.specs.Threads.{active_in, held_in, is_idle_at, finishes_at};
 ghost use Rattle.act_thread.specs.Marked.{is_rank};
 
 use crate::rows::{Finished, Stage, ThreadRow};
@@ -115,34 +115,30 @@ impl Threads {
     }
 
     /// The thread begins a run: it finds that it is to run, and clears the mark
-    /// (`irq_wait_for_interrupt`). Answers whether it could.
-    pub fn begin(&mut self, dev: DevNo) -> bool
-        ensures could { result ≡ begins_at self.old dev }
-        ensures rows { self.new ≡ change begun_row self.old dev }
+    /// (`irq_wait_for_interrupt`). If it isn't to run, or is in a run, nothing changes.
+    pub fn begin(&mut self, dev: DevNo)
+        ensures { self.new ≡ change begun_row self.old dev }
     {
         let Some(row) = self.rows.get(dev) else {
-            return false;
+            return;
         };
         self.replace(dev, row, row.begun());
-        row.may_begin()
     }
 
-    /// The thread's handler returns. Answers whether it could.
-    pub fn returned(&mut self, dev: DevNo) -> bool
-        ensures could { result ≡ returns_at self.old dev }
-        ensures rows { self.new ≡ change returned_row self.old dev }
+    /// The thread's handler returns. If it isn't at work, nothing changes.
+    pub fn returned(&mut self, dev: DevNo)
+        ensures { self.new ≡ change returned_row self.old dev }
     {
         let Some(row) = self.rows.get(dev) else {
-            return false;
+            return;
         };
         self.replace(dev, row, row.returned());
-        row.may_return()
     }
 
     /// The thread gives its bit up, unless it is to run again (`irq_finalize_oneshot`). The caller
     /// looks whether the line is one-shot and a flow is in progress.
     pub fn finish(&mut self, dev: DevNo) -> Finished
-        ensures could { result ≡ finishes_at self.old dev }
+        ensures found { result ≡ finishes_at self.old dev }
         ensures rows { self.new ≡ change finished_row self.old dev }
     {
         let Some(row) = self.rows.get(dev) else {
@@ -153,16 +149,14 @@ impl Threads {
     }
 
     /// The run is over, and counted off `threads_active` (`wake_threads_waitq`). `oneshot`: the
-    /// line is one-shot. Answers whether it could end.
-    pub fn done(&mut self, dev: DevNo, oneshot: bool) -> bool
-        ensures could { result ≡ ends_at oneshot self.old dev }
-        ensures rows { self.new ≡ change (done_row oneshot) self.old dev }
+    /// line is one-shot. If the run isn't at its end, nothing changes.
+    pub fn done(&mut self, dev: DevNo, oneshot: bool)
+        ensures { self.new ≡ change (done_row oneshot) self.old dev }
     {
         let Some(row) = self.rows.get(dev) else {
-            return false;
+            return;
         };
         self.replace(dev, row, row.done(oneshot));
-        row.may_end(oneshot)
     }
 
     /// Puts another row in the place of the device's, and keeps the counts and the bits by rank.

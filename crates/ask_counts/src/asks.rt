@@ -109,18 +109,21 @@ impl Asks {
     }
 
     /// A run of the device returns. `serves`: it was its serving run; then only the asks that came
-    /// since it began stay unserved.
-    pub fn served(&mut self, dev: DevNo, serves: bool)
-        ensures { self.new ≡ change (served serves) self.old dev }
+    /// since it began stay unserved. Answers the row as it was, so that what the run met needs no
+    /// second look.
+    pub fn served(&mut self, dev: DevNo, serves: bool) -> Option<AskRow>
+        ensures met { result ≡ at self.old dev }
+        ensures rows { self.new ≡ change (served serves) self.old dev }
     {
         let Some(row) = self.rows.get(dev) else {
-            return;
+            return None;
         };
         let new = AskRow {
             unserved: if serves { row.fresh } else { row.unserved },
             ..row
         };
         self.replace(dev, row, new);
+        Some(row)
     }
 
     /// Puts another row in the place of the device's, and keeps the count.

@@ -160,7 +160,7 @@ impl Desc {
     }
 
     /// One disable less; the line is otherwise as it was (the last case of `__enable_irq`).
-    pub fn lower(&mut self)
+    fn lower(&mut self)
         requires { 1 ≤ self.old.depth }
         ensures { self.new ≡ record self.old { depth = self.old.depth - 1 } }
     {
@@ -179,10 +179,8 @@ impl Desc {
         self.masked = true;
     }
 
-    /// Opens the chip's mask, and answers whether it was closed (`unmask_irq`,
-    /// `kernel/irq/chip.c`).
-    pub fn unmask<C: Chip>(&mut self, chip: &mut C) -> bool
-        ensures answer { result ≡ self.old.masked }
+    /// Opens the chip's mask (`unmask_irq`, `kernel/irq/chip.c`).
+    pub fn unmask<C: Chip>(&mut self, chip: &mut C)
         ensures desc { self.new ≡ record self.old { masked = false } }
         ensures cell { C.cell chip.new ≡ after_unmask (C.cell chip.old) }
         ensures active { C.active chip.new ≡ C.active chip.old }
@@ -190,9 +188,7 @@ impl Desc {
         ensures wiring { C.wiring chip.new ≡ C.wiring chip.old }
     {
         chip.unmask();
-        let was_masked = self.masked;
         self.masked = false;
-        was_masked
     }
 
     /// One disable more (`__disable_irq`, `kernel/irq/manage.c`). Only an unlazy line is masked at

@@ -34,6 +34,9 @@ use Rattle.line_marks.specs.Line.{IsLine}
 use Rattle.line_marks.specs.Next.{due_call_in}
 use Rattle.line_marks.specs.Scripts.{IsAt, place_after, within_after}
 use Rattle.line_marks.specs.State.{StateSeen, IsOf, first_state, state_of, state_after}
+use Rattle.line_state.proofs.Asked.{can_make}
+use Rattle.line_state.specs.Entries.{entry_by, CanMake}
+use Rattle.line_state.specs.declared.due.DueStep.{DueStep}
 use Rattle.line_core.specs.Moves.{IsMoved, Moves, CanMove, ends_call}
 
 pub newest : (h : List Entry) (e : Entry) → reverse (h ++ e ∷ []) ≡ e ∷ reverse h
@@ -173,11 +176,20 @@ line_is_of def h s scripts is = subst (λ (x : StateSeen). IsOf def x) (sym is.s
 pub line_aim_of : (def : LineDef) (h : List Entry) (s : StateSeen) (scripts : List (DriverNo × RowSeen)) → IsLine def h s scripts → IsAimOf def s.aim
 line_aim_of def h s scripts is = record { cpus = ap (λ (x : StateSeen). x.aim.cpus) is.state; later = ap (λ (x : StateSeen). x.aim.later) is.state }
 
-pub line_expects : (def : LineDef) (h : List Entry) (s : StateSeen) (scripts : List (DriverNo × RowSeen)) (a : Actor) (e : Entry) → IsLine def h s scripts → next def h a ≡ Some e → IsExpected def e s
+line_expects : (def : LineDef) (h : List Entry) (s : StateSeen) (scripts : List (DriverNo × RowSeen)) (a : Actor) (e : Entry) → IsLine def h s scripts → next def h a ≡ Some e → IsExpected def e s
 line_expects def h s scripts a e is due =
     let long : length (reverse h) ≡ length h = length-reverse h in
     subst (λ (x : StateSeen). IsExpected def e x) (sym is.state)
     (expected def (reverse h) is.valid is.legal (omega (arith, long, is.room)) e (due_past def h s scripts scripts e is a due))
+
+-- the due step's entry, by the state at hand
+pub line_due : (def : LineDef) (h : List Entry) (s : StateSeen) (scripts : List (DriverNo × RowSeen)) (a : Actor) (step : DueStep) → IsLine def h s scripts
+    → next def h a ≡ Some (entry_by def (state_of def (reverse h)) step) → next def h a ≡ Some (entry_by def s step)
+line_due def h s scripts a step is due = due ∙ ap (λ (x : StateSeen). Some (entry_by def x step)) (sym is.state)
+
+pub line_can : (def : LineDef) (h : List Entry) (s : StateSeen) (scripts : List (DriverNo × RowSeen)) (a : Actor) (step : DueStep) → IsLine def h s scripts
+    → next def h a ≡ Some (entry_by def (state_of def (reverse h)) step) → CanMake def step s
+line_can def h s scripts a step is due = can_make def s step (line_expects def h s scripts a (entry_by def s step) is (line_due def h s scripts a step is due))
 
 -- ---- a new line
 

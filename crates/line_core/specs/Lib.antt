@@ -2,3 +2,4 @@ pub mod Moves
 pub mod Running
 pub mod Blocking
 pub mod Room
+pub mod Entries

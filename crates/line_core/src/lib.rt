@@ -1,8 +1,8 @@
 //! An interrupt line that keeps marks: its history beside the state that it comes to, so that a
 //! step looks at a few rows of tables and at no history.
 //!
-//! `Line` is a line over any chips. A step says which entry is due of an actor, adds it, and brings
-//! the state up to it; the queries after it read the state. Memory is taken when a line is made,
+//! `Line` is a line over any chips. A step decides what is due of an actor, makes it, and adds the
+//! entry that it came to; the queries after it read the state. Memory is taken when a line is made,
 //! for the history's room and for an action that is linked, and nowhere else.
 //!
 //! An entry, or a run to be answered, doesn't fit a register, and goes through memory at a call. So

@@ -1,5 +1,5 @@
 //! The line.
-ghost use Rattle.std.specs.Prelude.{◌≡◌, ◌+◌, ◌<◌, ◌≤◌, [], ◌∷◌, ◌++◌, length, IfOk, IsOk, OnOk, OnErr, IsTrue, Some, true, false, reverse};
+ghost use Rattle.std.specs.Prelude.{◌≡◌, ◌+◌, ◌<◌, ◌≤◌, [], ◌∷◌, ◌++◌, length, IfOk, IsOk, OnOk, OnErr, IsTrue, Some, option_map, true, false, reverse};
 ghost use Rattle.irq_base.specs.Cell.{fresh_cell};
 ghost use Rattle.irq_model.specs.Kinds.{is_linked_request};
 ghost use Rattle.irq_model.specs.Lines.{serves};
@@ -9,6 +9,7 @@ ghost use Rattle.irq_model.specs.Up.{is_up};
 ghost use Rattle.irq_model.specs.Valid.{IsValid};
 ghost use Rattle.irq_laws.specs.Driven.{cell_after};
 ghost use Rattle.line_core.specs.Room.{links_next};
+ghost use Rattle.line_core.specs.Entries.{entry_at};
 ghost use Rattle.line_core.specs.Blocking.{freed_in, blocks_by};
 
 use crate::due::due_by;
@@ -19,7 +20,7 @@ use callbacks::Said;
 use irq_base::{Actor, Blocks, Chip, CpuNo, DevNo, DriverNo, Entry, History, LineDef, NoMemory};
 use irq_line::{IrqLine, StepRefused, Stepped};
 use line_scripts::Scripts;
-use line_state::LineState;
+use line_state::{DueStep, LineState};
 use std::alloc::Global;
 use std::marker::Model;
 
@@ -83,31 +84,35 @@ impl<C: Chip> Line<C> {
         self.state.chip()
     }
 
-    /// The entry that is due of the actor, if there is one.
+    /// The step that is due of the actor, if there is one.
     #[inline(always)]
-    fn due(&self, actor: Actor) -> Option<Entry>
-        ensures { result ≡ next self.now.def self.now.entries actor }
+    fn due(&self, actor: Actor) -> Option<DueStep>
+        ensures { option_map (entry_at self.now) result
+            ≡ next self.now.def self.now.entries actor }
     {
         due_by(&self.def, &self.state, &self.scripts, actor)
     }
 
-    /// Adds the entry, which is due of the actor, and brings the state up to it. If the entry links
-    /// no action and the history has room, it takes no memory.
+    /// Makes the step, which is due of the actor, and adds its entry. If it links no action and the
+    /// history has room, it takes no memory.
     #[inline(always)]
-    fn add(&mut self, actor: Actor, entry: Entry) -> Result<(), NoMemory>
-        requires due { next self.old.def self.old.entries actor ≡ Some entry }
+    fn add(&mut self, actor: Actor, step: DueStep) -> Result<Entry, NoMemory>
+        requires due { next self.old.def self.old.entries actor ≡ Some (entry_at self.old step) }
         requires below { length self.old.entries < self.old.def.log }
         ensures def { self.new.def ≡ self.old.def }
-        ensures entries { OnOk result (self.new.entries ≡ self.old.entries ++ entry ∷ []) }
+        ensures entry { IfOk result (λ entry. entry ≡ entry_at self.old step) }
+        ensures entries { IfOk result
+            (λ entry. self.new.entries ≡ self.old.entries ++ entry ∷ []) }
         ensures spare { OnOk result (self.old.spare ≤ self.new.spare + 1) }
         ensures refused { OnErr result (self.new ≡ self.old) }
-        ensures needless { is_linked_request entry ≡ false → 1 ≤ self.old.spare → IsOk result }
+        ensures needless { is_linked_request (entry_at self.old step) ≡ false
+            → 1 ≤ self.old.spare → IsOk result }
     {
-        make_room(&mut self.state, &mut self.history, &entry)?;
-        self.state.apply(&self.def, entry);
+        make_room(&mut self.state, &mut self.history, step)?;
+        let entry = self.state.make(&self.def, step);
         advance(&mut self.scripts, actor, &entry);
         self.history.push(entry);
-        Ok(())
+        Ok(entry)
     }
 }
 
@@ -153,17 +158,17 @@ impl<C: Chip + Drop> IrqLine for Line<C> {
 
     #[inline(always)]
     fn step(&mut self, actor: Actor, said: Option<Said>) -> Result<Stepped, StepRefused> {
-        let Some(entry) = self.due(actor) else {
+        let Some(step) = self.due(actor) else {
             return Ok(Stepped::NotYet);
         };
         let len = self.history.len();
         if len >= self.def.log as usize {
             return Err(StepRefused::Full { len: len as u32 });
         }
-        if let Some(run) = unanswered(&self.def, &self.state, &entry, &said) {
+        if let Some(run) = unanswered(&self.def, &self.state, step, &said) {
             return Ok(Stepped::Run(run));
         }
-        self.add(actor, entry)?;
+        let entry = self.add(actor, step)?;
         Ok(Stepped::Added(entry))
     }
 

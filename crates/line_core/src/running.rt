@@ -1,11 +1,11 @@
-//! The run of a handler that an entry ends.
+//! The run of a handler that a step ends.
 ghost use Rattle.std.specs.Prelude.{◌≡◌, ◌↔◌, IsTrue, IfSome, Some, None};
 ghost use Rattle.irq_line.specs.Answers.{IsSaidFor};
 ghost use Rattle.line_core.specs.Running.{device_by, run_by};
 
 use callbacks::Said;
-use irq_base::{Chip, DevNo, DeviceDef, Entry, LineDef, Part, Run};
-use line_state::LineState;
+use irq_base::{Chip, DevNo, DeviceDef, LineDef, Part, Run};
+use line_state::{DueStep, LineState};
 
 /// Whether the answer that was handed in is this run's answer.
 #[inline(always)]
@@ -18,21 +18,21 @@ fn is_answered(run: Run, said: &Option<Said>) -> bool
     }
 }
 
-/// The run that the entry ends, unless what was handed in is its answer.
+/// The run that the step ends, unless what was handed in is its answer.
 #[inline(always)]
 pub(crate) fn unanswered<C: Chip>(
     def: &LineDef,
     state: &LineState<C>,
-    entry: &Entry,
+    step: DueStep,
     said: &Option<Said>,
 ) -> Option<Run>
     ensures some { IfSome result
-        (λ run. (run_by def.now state.now.state entry.now ≡ Some run)
+        (λ run. (run_by def.now state.now.state step ≡ Some run)
         × (IsSaidFor said.now run → ⊥)) }
     ensures none { result ≡ None
-        → IfSome (run_by def.now state.now.state entry.now) (IsSaidFor said.now) }
+        → IfSome (run_by def.now state.now.state step) (IsSaidFor said.now) }
 {
-    let run = run_by(def, state, entry)?;
+    let run = run_by(def, state, step)?;
     if is_answered(run, said) {
         return None;
     }
@@ -51,18 +51,18 @@ fn device<C: Chip>(def: &LineDef, state: &LineState<C>, dev: DevNo) -> DeviceDef
     }
 }
 
-/// The run that the entry ends.
+/// The run that the step ends.
 #[inline(always)]
-fn run_by<C: Chip>(def: &LineDef, state: &LineState<C>, entry: &Entry) -> Option<Run>
-    ensures { result ≡ run_by def.now state.now.state entry.now }
+fn run_by<C: Chip>(def: &LineDef, state: &LineState<C>, step: DueStep) -> Option<Run>
+    ensures { result ≡ run_by def.now state.now.state step }
 {
-    match *entry {
-        Entry::Return { dev, .. } => Some(Run {
+    match step {
+        DueStep::Return { dev, .. } => Some(Run {
             def: device(def, state, dev),
             part: Part::Primary,
             unserved: state.met_by_handler(dev),
         }),
-        Entry::ThreadReturn { dev, .. } => Some(Run {
+        DueStep::ThreadReturn { dev } => Some(Run {
             def: device(def, state, dev),
             part: Part::Thread,
             unserved: state.met_by_thread(dev),

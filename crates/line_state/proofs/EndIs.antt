@@ -1,12 +1,14 @@
 -- The end that is due makes of the state what its parts make of it, one after the other.
-use Rattle.std.proofs.Common.{◌≡◌, refl, sym, ap, ◌∙◌}
+use Rattle.std.proofs.Common.{◌≡◌, Bool, true, false, cond, refl, sym, ap, ◌∙◌}
+use Rattle.irq_base.specs.declared.entries.Entry.TheVariants as entries
 use Rattle.irq_base.specs.declared.entries.Note.{Note}
 use Rattle.irq_base.specs.declared.entries.Note.TheVariants as notes
+use Rattle.irq_base.specs.declared.lines.FlowKind.TheVariants as flows
 use Rattle.irq_base.specs.declared.lines.LineDef.{LineDef}
 use Rattle.irq_base.specs.declared.numbers.CpuNo.{CpuNo}
 use Rattle.flow_handlers.specs.declared.left.Left.{Left}
-use Rattle.line_marks.specs.Acts.{noted_at, killed_by, killed_if, left_by, left_at, gone_on}
-use Rattle.line_marks.specs.CpuDue.{is_held, note_by, end_by}
+use Rattle.line_marks.specs.Acts.{noted_at, killed_by, killed_if, left_by, left_at, gone_on, round_begun}
+use Rattle.line_marks.specs.CpuDue.{is_held, note_by, end_by, end_with}
 use Rattle.line_marks.specs.State.{StateSeen, state_after}
 use Rattle.line_marks.proofs.Ends.{end_is}
 
@@ -20,21 +22,28 @@ killed_held notes.Killed s = refl
 killed_held notes.Quiet s = refl
 killed_held notes.Counted s = refl
 
-end_at : (def : LineDef) (s : StateSeen) (c : CpuNo) → state_after def (end_by def s c) s
-    ≡ gone_on def (left_by def def.flow (is_held s) (killed_if (note_by s) s.desc)).again (left_at def def.flow (is_held s) (killed_by (note_by s) (noted_at s)))
-end_at def s c =
-    let left = left_by def def.flow (is_held s) (killed_if (note_by s) s.desc) in
-    end_is def c left.again left.unmask (note_by s) s refl
+-- the note, the kill and the flow handler's end, each of the state before it
+module _ (def : LineDef) (s noted killed last : StateSeen) (note : Note) (left : Left) (c : CpuNo)
+    (by_note : note ≡ note_by s) (by_noted : noted ≡ noted_at s) (by_killed : killed ≡ killed_by note noted)
+    (by_left : left ≡ left_by def def.flow (is_held killed) killed.desc) (by_last : last ≡ gone_on def left.again (left_at def def.flow (is_held killed) killed)) where
+  kills : killed ≡ killed_by (note_by s) (noted_at s)
+  kills = by_killed ∙ rw (by_note, by_noted) refl
 
--- the note, the kill, the flow handler's end, and the next round, each of the state before it
-pub end_joined : (def : LineDef) (s noted killed ended last : StateSeen) (note : Note) (left : Left)
-    → note ≡ note_by s → noted ≡ noted_at s → killed ≡ killed_by note noted
-    → left ≡ left_by def def.flow (is_held killed) killed.desc → ended ≡ left_at def def.flow (is_held killed) killed
-    → last ≡ gone_on def left.again ended
-    → (c : CpuNo) → last ≡ state_after def (end_by def s c) s
-end_joined def s noted killed ended last note left by_note by_noted by_killed by_left by_ended by_last c =
-    let k : killed ≡ killed_by (note_by s) (noted_at s) = by_killed ∙ rw (by_note, by_noted) refl in
-    let l : left ≡ left_by def def.flow (is_held s) (killed_if (note_by s) s.desc) = by_left ∙ (ap (λ (t : StateSeen). left_by def def.flow (is_held t) t.desc) k ∙ killed_left def (note_by s) (noted_at s)) in
-    let e : ended ≡ left_at def def.flow (is_held s) (killed_by (note_by s) (noted_at s)) =
-    by_ended ∙ (ap (λ (t : StateSeen). left_at def def.flow (is_held t) t) k ∙ ap (λ held. left_at def def.flow held (killed_by (note_by s) (noted_at s))) (killed_held (note_by s) (noted_at s))) in
-    by_last ∙ (ap (λ (x : Left). gone_on def x.again ended) l ∙ (ap (gone_on def (left_by def def.flow (is_held s) (killed_if (note_by s) s.desc)).again) e ∙ sym (end_at def s c)))
+  leaves : left ≡ left_by def def.flow (is_held s) (killed_if (note_by s) s.desc)
+  leaves = by_left ∙ (ap (λ (t : StateSeen). left_by def def.flow (is_held t) t.desc) kills ∙ killed_left def (note_by s) (noted_at s))
+
+  -- the entry is the one that is due
+  pub entry_joined : entries.End c left.again left.unmask note ≡ end_by def s c
+  entry_joined = ap (λ (n : Note). end_with c n left) by_note ∙ ap (λ (l : Left). end_with c (note_by s) l) leaves
+
+  pub end_joined : last ≡ state_after def (entries.End c left.again left.unmask note) s
+  end_joined =
+      by_last
+      ∙ (ap (λ (t : StateSeen). gone_on def left.again (left_at def def.flow (is_held t) t)) kills
+      ∙ (ap (λ held. gone_on def left.again (left_at def def.flow held (killed_by (note_by s) (noted_at s)))) (killed_held (note_by s) (noted_at s))
+      ∙ (ap (λ (n : Note). gone_on def left.again (left_at def def.flow (is_held s) (killed_by n (noted_at s)))) (sym by_note) ∙ sym (end_is def c left.again left.unmask note s entry_joined))))
+
+-- on the edge flow a flow that goes on begins a new round
+pub edge_goes_on : (def : LineDef) (again held : Bool) (s last : StateSeen) → def.flow ≡ flows.Edge → last ≡ cond again (round_begun (left_at def flows.Edge held s)) (left_at def flows.Edge held s) → last ≡ gone_on def again (left_at def def.flow held s)
+edge_goes_on def true held s last is h = rw is h
+edge_goes_on def false held s last is h = rw is h

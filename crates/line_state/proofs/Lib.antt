@@ -1,6 +1,6 @@
+pub mod Asked
 pub mod EndIs
+pub mod Finishing
 pub mod KindRows
 pub mod Targets
 pub mod Unlinking
-pub mod Expecting
-pub mod Keeping

@@ -1,9 +1,7 @@
-//! What the calls of drivers make of the state, but for requests.
+//! The calls of drivers, but for requests.
 ghost use Rattle.std.specs.Prelude.{◌≡◌, ◌≤◌, not};
 ghost use Rattle.irq_base.specs.declared.entries.Entry.TheVariants as entries;
 ghost use Rattle.irq_base.specs.declared.lines.LineDef.{LineDef};
-ghost use Rattle.irq_base.specs.declared.numbers.DevNo.{DevNo};
-ghost use Rattle.irq_base.specs.declared.numbers.DriverNo.{DriverNo};
 ghost use Rattle.act_list.specs.Actions.{is_bare};
 ghost use Rattle.act_list.specs.Lists.{unlink_by};
 ghost use Rattle.affinity.specs.Seen.{set_answer};
@@ -13,39 +11,48 @@ ghost use Rattle.line_marks.specs.Expected.{HasDepth};
 ghost use Rattle.line_marks.specs.State.{state_after};
 
 use crate::state::LineState;
-use irq_base::{AffinityAnswer, Chip, DevNo, DriverNo, LineDef, UnlinkAnswer};
+use irq_base::{AffinityAnswer, Chip, DevNo, DriverNo, Entry, LineDef, UnlinkAnswer};
 
 impl<C: Chip> LineState<C> {
     /// `__disable_irq`.
-    pub(crate) fn disable(&mut self)
+    pub(crate) fn disable(&mut self, driver: DriverNo) -> Entry
         requires { HasDepth self.old.state }
-        ensures { (def : LineDef) (driver : DriverNo)
-            → self.new.state ≡ state_after def (entries.Disable driver) self.old.state }
+        ensures entry { result ≡ entries.Disable driver }
+        ensures state { (def : LineDef)
+            → self.new.state ≡ state_after def result self.old.state }
     {
         self.desc.disable(&mut self.chip);
+        Entry::Disable { driver }
     }
 
     /// `enable_irq`.
-    pub(crate) fn enable(&mut self, def: &LineDef)
-        ensures { (driver : DriverNo) → self.new.state
-            ≡ state_after def.now (entries.Enable driver (enable_by (not (is_bare self.old.state.list.actions)) def.now.trigger self.old.state.desc self.old.state.cell)) self.old.state }
+    pub(crate) fn enable(&mut self, def: &LineDef, driver: DriverNo) -> Entry
+        ensures entry { result ≡ entries.Enable driver
+            (enable_by (not (is_bare self.old.state.list.actions)) def.now.trigger self.old.state.desc self.old.state.cell) }
+        ensures state { self.new.state ≡ state_after def.now result self.old.state }
     {
         let linked = !self.actions.is_empty();
-        self.desc.enable(&mut self.chip, linked, def.trigger);
+        let answer = self.desc.enable(&mut self.chip, linked, def.trigger);
+        Entry::Enable { driver, answer }
     }
 
     /// The first step of `__free_irq`: the device leaves, and the last one shuts the line down.
     #[tactic(auto, using(crate::proofs::Unlinking::left_alone))]
-    pub(crate) fn unlink(&mut self, driver: DriverNo, dev: DevNo)
-        ensures { (def : LineDef)
-            → self.new.state
-            ≡ state_after def
-            (entries.Unlink driver dev (unlink_by dev self.old.state.list.actions))
-            self.old.state }
+    pub(crate) fn unlink(&mut self, driver: DriverNo, dev: DevNo) -> Entry
+        ensures entry { result
+            ≡ entries.Unlink driver dev (unlink_by dev self.old.state.list.actions) }
+        ensures state { (def : LineDef)
+            → self.new.state ≡ state_after def result self.old.state }
     {
-        if let UnlinkAnswer::Unlinked { last } = self.actions.unlink(dev) {
+        let answer = self.actions.unlink(dev);
+        if let UnlinkAnswer::Unlinked { last } = answer {
             self.shut_if(last);
             self.freeing = Some((driver, dev));
+        }
+        Entry::Unlink {
+            driver,
+            dev,
+            answer,
         }
     }
 
@@ -59,34 +66,44 @@ impl<C: Chip> LineState<C> {
 
     /// The last step of `__free_irq`: if nothing is linked, the interrupt is deactivated in its
     /// domains.
-    pub(crate) fn freed(&mut self)
-        ensures { (def : LineDef) (driver : DriverNo) (dev : DevNo)
-            → self.new.state ≡ state_after def (entries.Freed driver dev) self.old.state }
+    pub(crate) fn freed(&mut self, driver: DriverNo, dev: DevNo) -> Entry
+        ensures entry { result ≡ entries.Freed driver dev }
+        ensures state { (def : LineDef)
+            → self.new.state ≡ state_after def result self.old.state }
     {
         self.freeing = None;
         if self.actions.is_empty() {
             self.chip.deactivate();
         }
+        Entry::Freed { driver, dev }
     }
 
     /// `irq_set_affinity`: if a mask is in force at once, the chip is aimed by it from now on.
-    pub(crate) fn affinity(&mut self, mask: u32)
+    pub(crate) fn affinity(&mut self, driver: DriverNo, mask: u32) -> Entry
         requires { self.old.state.aim.cpus ≤ 32 }
-        ensures { (def : LineDef) (driver : DriverNo)
-            → self.new.state
-            ≡ state_after def (entries.Affinity driver mask (set_answer self.old.state.aim mask))
-            self.old.state }
+        ensures entry { result
+            ≡ entries.Affinity driver mask (set_answer self.old.state.aim mask) }
+        ensures state { (def : LineDef)
+            → self.new.state ≡ state_after def result self.old.state }
     {
-        if self.aim.set(mask) == AffinityAnswer::Now {
+        let answer = self.aim.set(mask);
+        if answer == AffinityAnswer::Now {
             self.aim_chip();
+        }
+        Entry::Affinity {
+            driver,
+            mask,
+            answer,
         }
     }
 
     /// The time is handed in.
-    pub(crate) fn moment(&mut self, at: u32)
-        ensures { (def : LineDef) (driver : DriverNo)
-            → self.new.state ≡ state_after def (entries.Moment driver at) self.old.state }
+    pub(crate) fn moment(&mut self, driver: DriverNo, at: u32) -> Entry
+        ensures entry { result ≡ entries.Moment driver at }
+        ensures state { (def : LineDef)
+            → self.new.state ≡ state_after def result self.old.state }
     {
         self.round.set_moment(at);
+        Entry::Moment { driver, at }
     }
 }

@@ -1,8 +1,11 @@
-//! What the takes and ends of flow handlers make of the state.
-ghost use Rattle.std.specs.Prelude.{◌≡◌, ◌≤◌};
+//! Takes and ends: the two parts of a flow handler (`kernel/irq/chip.c`), before its handlers and
+//! after them.
+ghost use Rattle.std.specs.Prelude.{◌≡◌, ◌≤◌, if◌then◌else◌};
 ghost use Rattle.irq_base.specs.declared.entries.Entry.TheVariants as entries;
-ghost use Rattle.irq_base.specs.declared.numbers.CpuNo.{CpuNo};
+ghost use Rattle.irq_base.specs.declared.lines.FlowKind.TheVariants as flows;
+ghost use Rattle.irq_base.specs.declared.lines.LineDef.{LineDef};
 ghost use Rattle.irq_model.specs.Valid.{IsValid};
+ghost use Rattle.flow_handlers.specs.Flows.{edge_left};
 ghost use Rattle.line_marks.specs.Acts.{arrived, moved, entered, handling_from, round_begun, noted_at, killed_by, left_by, left_at, gone_on};
 ghost use Rattle.line_marks.specs.Aim.{aimed_by};
 ghost use Rattle.line_marks.specs.CpuDue.{is_held, take_by, note_by, end_by};
@@ -11,25 +14,27 @@ ghost use Rattle.line_marks.specs.State.{state_after};
 
 use crate::state::LineState;
 use flow_handlers::{Left, edge, fasteoi, level};
-use irq_base::{Chip, CpuNo, FlowKind, LineDef, Note, TakeAnswer, Way};
+use irq_base::{Chip, CpuNo, Entry, FlowKind, LineDef, Note, TakeAnswer, Way};
 
 impl<C: Chip> LineState<C> {
     /// A take, by the line's flow. Whatever its answer, a waiting mask is put in force.
     #[inline(always)]
-    pub(crate) fn take(&mut self, def: &LineDef, cpu: CpuNo, way: Way)
+    pub(crate) fn take(&mut self, def: &LineDef, cpu: CpuNo, way: Way) -> Entry
         requires valid { IsValid def.now }
         requires few { self.old.state.aim.cpus ≤ 32 }
         requires rounds { HasRounds self.old.state }
-        ensures { self.new.state
-            ≡ state_after def.now (entries.Take cpu way (take_by self.old.state)) self.old.state }
+        ensures entry { result ≡ entries.Take cpu way (take_by self.old.state) }
+        ensures state { self.new.state ≡ state_after def.now result self.old.state }
     {
         self.arrive(way);
         let answer = self.enter(def, cpu);
         self.move_affinity();
         self.begin_round_if(answer);
+        Entry::Take { cpu, way, answer }
     }
 
-    /// What is presented is accepted; what the software resends waits no more.
+    /// What is presented is accepted; what the software resends waits no more (`resend_irqs`,
+    /// `kernel/irq/resend.c`).
     fn arrive(&mut self, way: Way)
         ensures { self.new.state ≡ arrived way self.old.state }
     {
@@ -77,6 +82,7 @@ impl<C: Chip> LineState<C> {
         self.chip.aim(self.aim.target());
     }
 
+    /// The handlers are to run.
     fn begin_round_if(&mut self, answer: TakeAnswer)
         requires { HasRounds self.old.state }
         ensures { self.new.state ≡ handling_from answer self.old.state }
@@ -98,19 +104,23 @@ impl<C: Chip> LineState<C> {
     /// The end of a round: the note on spurious interrupts, the kill that it may make, and then
     /// what the flow handler does after its last handler.
     #[inline(always)]
-    pub(crate) fn end(&mut self, def: &LineDef)
+    pub(crate) fn end(&mut self, def: &LineDef, cpu: CpuNo) -> Entry
         requires valid { IsValid def.now }
         requires rounds { HasRounds self.old.state }
         requires depth { HasDepth self.old.state }
         requires open { IsOpen def.now self.old.state }
-        ensures { (cpu : CpuNo)
-            → self.new.state
-            ≡ state_after def.now (end_by def.now self.old.state cpu) self.old.state }
+        ensures entry { result ≡ end_by def.now self.old.state cpu }
+        ensures state { self.new.state ≡ state_after def.now result self.old.state }
     {
         let note = self.note_round();
         self.kill_by(note);
         let left = self.leave(def);
-        self.go_on(def, left.again);
+        Entry::End {
+            cpu,
+            again: left.again,
+            unmask: left.unmask,
+            note,
+        }
     }
 
     /// The rule on spurious interrupts counts the round (`note_interrupt`,
@@ -123,6 +133,7 @@ impl<C: Chip> LineState<C> {
         self.counts.note(self.round.moment(), wakes, handles)
     }
 
+    /// Its last part: the line is disabled.
     fn kill_by(&mut self, note: Note)
         requires { HasDepth self.old.state }
         ensures { self.new.state ≡ killed_by note self.old.state }
@@ -132,29 +143,42 @@ impl<C: Chip> LineState<C> {
         }
     }
 
-    /// The flow handler after its last handler.
+    /// The flow handler after its last handler. On the edge flow what came meanwhile is handled in
+    /// a new round; on the fast-EOI flow the flow is over.
     fn leave(&mut self, def: &LineDef) -> Left
-        requires { IsOpen def.now self.old.state }
+        requires rounds { HasRounds self.old.state }
+        requires open { IsOpen def.now self.old.state }
         ensures left { result
             ≡ left_by def.now def.now.flow (is_held self.old.state) self.old.state.desc }
-        ensures state { self.new.state
-            ≡ left_at def.now def.now.flow (is_held self.old.state) self.old.state }
+        ensures state { self.new.state ≡ gone_on def.now result.again (left_at def.now def.now.flow (is_held self.old.state) self.old.state) }
     {
         let held = self.is_held();
         match def.flow {
             FlowKind::Level => level::leave(&mut self.desc, &mut self.chip, held),
-            FlowKind::Edge => edge::leave(&mut self.desc, &mut self.chip, held),
+            FlowKind::Edge => self.leave_edge(held),
             FlowKind::Eoi => fasteoi::leave(&mut self.desc, &mut self.chip, held, def.trigger),
         }
     }
 
-    /// A flow that goes on begins a new round; on the fast-EOI flow it is over.
-    fn go_on(&mut self, def: &LineDef, again: bool)
+    /// The same on the edge flow.
+    fn leave_edge(&mut self, held: bool) -> Left
         requires { HasRounds self.old.state }
-        ensures { self.new.state ≡ gone_on def.now again self.old.state }
+        ensures left { result ≡ edge_left self.old.state.desc }
+        ensures state { (def : LineDef) → self.new.state
+            ≡ (if result.again then round_begun (left_at def flows.Edge held self.old.state)
+            else left_at def flows.Edge held self.old.state) }
     {
-        if again && def.flow != FlowKind::Eoi {
+        let left = edge::leave(&mut self.desc, &mut self.chip, held);
+        if left.again {
             self.begin_round();
         }
+        left
+    }
+
+    /// Whether some thread's bit stands (`threads_oneshot`).
+    pub(crate) fn is_held(&self) -> bool
+        ensures { result ≡ is_held self.now.state }
+    {
+        self.threads.held() > 0
     }
 }

@@ -1,61 +1,80 @@
-//! What asks and the runs of handlers and threads make of the state.
-ghost use Rattle.std.specs.Prelude.{◌≡◌, ◌-◌, ◌<◌, ◌^◌, Bool};
+//! Asks, and the runs of handlers and threads.
+ghost use Rattle.std.specs.Prelude.{◌≡◌, ◌-◌, ◌<◌, ◌^◌};
+ghost use Rattle.irq_base.specs.Handlers.{answer_of};
+ghost use Rattle.irq_base.specs.declared.devices.Part.TheVariants as parts;
 ghost use Rattle.irq_base.specs.declared.entries.Entry.TheVariants as entries;
 ghost use Rattle.irq_base.specs.declared.lines.LineDef.{LineDef};
-ghost use Rattle.irq_base.specs.declared.numbers.CpuNo.{CpuNo};
-ghost use Rattle.irq_base.specs.declared.numbers.DriverNo.{DriverNo};
-ghost use Rattle.device_table.specs.Rows.{at};
+ghost use Rattle.irq_model.specs.Next.{served_by_handler};
+ghost use Rattle.act_thread.specs.Steps.{woken_row};
+ghost use Rattle.device_table.specs.Rows.{at, change};
 ghost use Rattle.ask_counts.specs.Rows.{HasRoom};
 ghost use Rattle.line_marks.specs.Acts.{lowered};
 ghost use Rattle.line_marks.specs.Asks.{is_direct, is_threaded};
+ghost use Rattle.line_marks.specs.CpuDue.{met_by, return_by};
+ghost use Rattle.line_marks.specs.Due.{met_in};
 ghost use Rattle.line_marks.specs.Kinds.{kind_at};
 ghost use Rattle.line_marks.specs.State.{state_after, IsOf};
+ghost use Rattle.line_state.specs.Entries.{finish_by};
 
-use crate::state::LineState;
-use irq_base::{Answer, Chip, DevNo, Kind, LineDef, Trigger};
+use crate::state::{LineState, met_by_handler, met_by_thread};
+use act_thread::Finished;
+use irq_base::{Answer, Chip, CpuNo, DevNo, DriverNo, Entry, Kind, LineDef, Trigger};
 
 impl<C: Chip> LineState<C> {
     /// The device asks: an edge comes, or the level is high.
-    pub(crate) fn ask(&mut self, def: &LineDef, dev: DevNo)
+    pub(crate) fn ask(&mut self, def: &LineDef, driver: DriverNo, dev: DevNo) -> Entry
         requires is_of { IsOf def.now self.old.state }
         requires room { HasRoom (at self.old.state.asks dev) }
-        ensures { (driver : DriverNo)
-            → self.new.state ≡ state_after def.now (entries.Ask driver dev) self.old.state }
+        ensures entry { result ≡ entries.Ask driver dev }
+        ensures state { self.new.state ≡ state_after def.now result self.old.state }
     {
         self.asks.asked(dev);
         match def.trigger {
             Trigger::Edge => self.chip.edge(),
             Trigger::Level => self.chip.set_high(self.asks.is_high()),
         }
+        Entry::Ask { driver, dev }
     }
 
     /// The device's handler is called.
-    pub(crate) fn begin(&mut self, dev: DevNo)
-        ensures { (def : LineDef) (cpu : CpuNo)
-            → self.new.state ≡ state_after def (entries.Begin cpu dev) self.old.state }
+    #[inline(always)]
+    pub(crate) fn begin(&mut self, cpu: CpuNo, dev: DevNo) -> Entry
+        ensures entry { result ≡ entries.Begin cpu dev }
+        ensures state { (def : LineDef)
+            → self.new.state ≡ state_after def result self.old.state }
     {
-        let serves = self.is_direct(dev);
+        let serves = is_direct(self.kind(dev));
         self.asks.called(dev, serves);
         self.round.called(dev);
         self.actions.begin(dev);
+        Entry::Begin { cpu, dev }
     }
 
     /// The handler returns: what it met is served if it serves, and its thread is woken if it says
-    /// so.
-    pub(crate) fn returned(&mut self, def: &LineDef, dev: DevNo, answer: Answer, served: u32)
+    /// so (`__handle_irq_event_percpu`, `kernel/irq/handle.c`).
+    #[inline(always)]
+    pub(crate) fn returned(&mut self, def: &LineDef, cpu: CpuNo, dev: DevNo) -> Entry
         requires { IsOf def.now self.old.state }
-        ensures { (cpu : CpuNo)
-            → self.new.state
-            ≡ state_after def.now (entries.Return cpu dev answer served) self.old.state }
+        ensures entry { result
+            ≡ return_by self.old.state cpu dev (met_by (at self.old.state.asks dev)) }
+        ensures state { self.new.state ≡ state_after def.now result self.old.state }
     {
-        let serves = self.is_direct(dev);
-        self.asks.served(dev, serves);
+        let kind = self.kind(dev);
+        let met = met_by_handler(self.asks.served(dev, is_direct(kind)));
+        let answer = answer(kind, met);
+        let served = served(kind, met);
         self.lower(def, served);
         if answer == Answer::Wake {
             let oneshot = self.desc.oneshot();
             self.threads.wake(dev, oneshot);
         }
         self.round.returned(answer);
+        Entry::Return {
+            cpu,
+            dev,
+            answer,
+            served,
+        }
     }
 
     /// The level is what the asks make of it, once a run has served.
@@ -68,63 +87,107 @@ impl<C: Chip> LineState<C> {
         }
     }
 
-    /// The device's thread begins a run.
-    pub(crate) fn thread_begin(&mut self, dev: DevNo)
-        ensures { (def : LineDef)
-            → self.new.state ≡ state_after def (entries.ThreadBegin dev) self.old.state }
+    /// The device's thread begins a run (`irq_wait_for_interrupt`, `kernel/irq/manage.c`).
+    #[inline(always)]
+    pub(crate) fn thread_begin(&mut self, dev: DevNo) -> Entry
+        ensures entry { result ≡ entries.ThreadBegin dev }
+        ensures state { (def : LineDef)
+            → self.new.state ≡ state_after def result self.old.state }
     {
-        let serves = self.is_threaded(dev);
+        let serves = is_threaded(self.kind(dev));
         self.threads.begin(dev);
         self.asks.begun(dev, serves);
+        Entry::ThreadBegin { dev }
     }
 
-    /// Its handler returns: what the run met is served.
-    pub(crate) fn thread_returned(&mut self, def: &LineDef, dev: DevNo, served: u32)
+    /// Its handler returns: what the run met is served (`irq_thread_fn`, `kernel/irq/manage.c`).
+    #[inline(always)]
+    pub(crate) fn thread_returned(&mut self, def: &LineDef, dev: DevNo) -> Entry
         requires is_of { IsOf def.now self.old.state }
         requires room { self.old.state.counts.counts.threads_handled < 2 ^ 32 - 1 }
-        ensures { self.new.state
-            ≡ state_after def.now (entries.ThreadReturn dev served) self.old.state }
+        ensures entry { result
+            ≡ entries.ThreadReturn dev (met_in (at self.old.state.asks dev)) }
+        ensures state { self.new.state ≡ state_after def.now result self.old.state }
     {
-        let serves = self.is_threaded(dev);
+        let serves = is_threaded(self.kind(dev));
         self.threads.returned(dev);
-        self.asks.served(dev, serves);
+        let served = met_by_thread(self.asks.served(dev, serves));
         self.lower(def, served);
         if served > 0 {
             self.counts.thread_handled();
         }
+        Entry::ThreadReturn { dev, served }
     }
 
-    /// Its run is finalized, which may open the line.
-    pub(crate) fn finish(&mut self, dev: DevNo, unmask: bool)
-        ensures { (def : LineDef) (kept : Bool)
-            → self.new.state ≡ state_after def (entries.Finish dev kept unmask) self.old.state }
+    /// Its run is finalized (`irq_finalize_oneshot`, `kernel/irq/manage.c`): if the thread gives
+    /// its bit up, and no thread holds the line then, its mask opens (`unmask_threaded_irq`,
+    /// `kernel/irq/chip.c`).
+    #[inline(always)]
+    pub(crate) fn finish(&mut self, dev: DevNo) -> Entry
+        ensures entry { result ≡ finish_by self.old.state dev }
+        ensures state { (def : LineDef)
+            → self.new.state ≡ state_after def result self.old.state }
     {
-        self.threads.finish(dev);
+        let found = self.threads.finish(dev);
+        let unmask = found == Finished::Cleared
+            && !self.desc.disabled()
+            && self.desc.masked()
+            && !self.is_held();
         if unmask {
             self.desc.unmask(&mut self.chip);
         }
+        Entry::Finish {
+            dev,
+            kept: found == Finished::Kept,
+            unmask,
+        }
     }
 
-    /// Its run is over.
-    pub(crate) fn done(&mut self, dev: DevNo)
-        ensures { (def : LineDef)
-            → self.new.state ≡ state_after def (entries.Done dev) self.old.state }
+    /// Its run is over (`wake_threads_waitq`, `kernel/irq/manage.c`).
+    #[inline(always)]
+    pub(crate) fn done(&mut self, dev: DevNo) -> Entry
+        ensures entry { result ≡ entries.Done dev }
+        ensures state { (def : LineDef)
+            → self.new.state ≡ state_after def result self.old.state }
     {
         let oneshot = self.desc.oneshot();
         self.threads.done(dev, oneshot);
+        Entry::Done { dev }
     }
+}
 
-    /// Whether the device is served by its handler.
-    fn is_direct(&self, dev: DevNo) -> bool
-        ensures { result ≡ is_direct (kind_at self.now.state.kinds dev) }
-    {
-        self.kind(dev) == Kind::Direct
+/// Whether a device of the kind is served by its handler.
+fn is_direct(kind: Kind) -> bool
+    ensures { result ≡ is_direct kind }
+{
+    kind == Kind::Direct
+}
+
+/// Whether it is served by its thread.
+fn is_threaded(kind: Kind) -> bool
+    ensures { result ≡ is_threaded kind }
+{
+    matches!(kind, Kind::Check | Kind::Null)
+}
+
+/// What the device's handler answers if `unserved` of its asks are unserved.
+fn answer(kind: Kind, unserved: u32) -> Answer
+    ensures { result ≡ answer_of kind parts.Primary unserved }
+{
+    match kind {
+        Kind::Direct if unserved > 0 => Answer::Handled,
+        Kind::Check if unserved > 0 => Answer::Wake,
+        Kind::Null => Answer::Wake,
+        _ => Answer::Nothing,
     }
+}
 
-    /// Whether the device is served by its thread.
-    fn is_threaded(&self, dev: DevNo) -> bool
-        ensures { result ≡ is_threaded (kind_at self.now.state.kinds dev) }
-    {
-        matches!(self.kind(dev), Kind::Check | Kind::Null)
+/// How many of them it serves.
+fn served(kind: Kind, unserved: u32) -> u32
+    ensures { result ≡ served_by_handler kind unserved }
+{
+    match kind {
+        Kind::Direct => unserved,
+        _ => 0,
     }
 }

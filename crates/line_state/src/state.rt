@@ -14,7 +14,7 @@ use crate::round::Round;
 use act_list::ActList;
 use act_thread::Threads;
 use affinity::Aim;
-use ask_counts::Asks;
+use ask_counts::{AskRow, Asks};
 use desc_state::Desc;
 use irq_base::{Chip, CpuNo, DevNo, DriverNo, Kind, LineDef, NoMemory};
 use spurious::Counts;
@@ -160,19 +160,33 @@ impl<C: Chip> LineState<C> {
     pub fn met_by_handler(&self, dev: DevNo) -> u32
         ensures { result ≡ met_by (at self.now.state.asks dev) }
     {
-        match self.asks.get(dev) {
-            Some(row) => row.met_by_handler,
-            None => 0,
-        }
+        met_by_handler(self.asks.get(dev))
     }
 
     /// The asks of the device that were unserved as its thread's run last began.
     pub fn met_by_thread(&self, dev: DevNo) -> u32
         ensures { result ≡ met_in (at self.now.state.asks dev) }
     {
-        match self.asks.get(dev) {
-            Some(row) => row.met_by_thread,
-            None => 0,
-        }
+        met_by_thread(self.asks.get(dev))
+    }
+}
+
+/// Of a row of asks: those that were unserved as the handler was last called.
+pub(crate) fn met_by_handler(row: Option<AskRow>) -> u32
+    ensures { result ≡ met_by row }
+{
+    match row {
+        Some(row) => row.met_by_handler,
+        None => 0,
+    }
+}
+
+/// Those that were unserved as the thread's run last began.
+pub(crate) fn met_by_thread(row: Option<AskRow>) -> u32
+    ensures { result ≡ met_in row }
+{
+    match row {
+        Some(row) => row.met_by_thread,
+        None => 0,
     }
 }

@@ -43,19 +43,9 @@ impl Counts {
         }
     }
 
-    /// What the note would be of a round that ends at the moment `now`, in milliseconds. `wake`:
-    /// some handler of the round woke its thread; `handled`: some handler of it handled the
-    /// interrupt.
-    pub fn judge(&self, now: u32, wake: bool, handled: bool) -> Note
-        ensures { result ≡ (noted_at now wake handled self.now).note }
-    {
-        self.tally
-            .noted(self.window, self.limit, now, wake, handled)
-            .note
-    }
-
-    /// Notes a round that ends at the moment `now` (`note_interrupt`). If the note is Killed, the
-    /// caller is to disable the line.
+    /// Notes a round that ends at the moment `now`, in milliseconds (`note_interrupt`). `wake`: some
+    /// handler of the round woke its thread; `handled`: some handler of it handled the interrupt. If
+    /// the note is Killed, the caller is to disable the line.
     pub fn note(&mut self, now: u32, wake: bool, handled: bool) -> Note
         ensures note { result ≡ (noted_at now wake handled self.old).note }
         ensures counts { self.new ≡ after_note now wake handled self.old }

@@ -1,5 +1,4 @@
-use Rattle.std.proofs.Common.{◌≡◌, ◌∙◌, [], ap, sym, subst, List}
-use Rattle.irq_base.specs.declared.calls.Call.{Call}
+use Rattle.std.proofs.Common.{sym, subst, List}
 use Rattle.irq_base.specs.declared.entries.Entry.{Entry}
 use Rattle.irq_base.specs.declared.lines.LineDef.{LineDef}
 use Rattle.line_marks.specs.Line.{IsLine}

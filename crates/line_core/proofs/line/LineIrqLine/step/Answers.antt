@@ -1,34 +1,42 @@
-use Rattle.std.proofs.Common.{rules, ◌≡◌, ◌+◌, ◌<◌, ◌≤◌, ◌∙◌, [], ◌∷◌, ◌++◌, Some, length, refl, sym, ap, subst, arith}
-use Rattle.callbacks.specs.Seen.{Run}
+use Rattle.std.proofs.Common.{rules, ◌≡◌, ◌+◌, ◌<◌, ◌≤◌, ◌∙◌, [], ◌∷◌, ◌++◌, Some, option_map, length, refl, sym, ap, subst, arith}
 use Rattle.std.specs.Prelude.{IfSome}
 use Rattle.irq_line.specs.Answers.{AddsEntry, IsSaidFor, WantsRun}
 use Rattle.irq_line.specs.Seen.{LineSeen}
+use Rattle.irq_model.specs.Kinds.{is_linked_request}
 use Rattle.irq_model.specs.Next.{next}
-use Rattle.line_marks.specs.Line.{IsLine}
-use Rattle.line_core.proofs.Stepping.{adds, wants}
+use Rattle.line_core.proofs.Stepping.{adds, wants, wanted, wants_memory}
+use Rattle.line_core.specs.Room.{links_next}
+use Rattle.line_core.specs.Entries.{entry_at}
 use Rattle.line_core.specs.Running.{run_by}
 use Rattle.line_core.proofs.line.LineIrqLine.step.Goals as goal
 
 pub returns-in-Some-unanswered-clause-answer : goal.returns-in-Some-unanswered-clause-answer
 returns-in-Some-unanswered-clause-answer g c =
     let line : LineSeen = record { def = c.self.inside.def; entries = c.self.inside.history.entries; spare = c.self.inside.history.spare } in
-    let due : next line.def line.entries c.args.actor ≡ Some c.in-Some.entry = subst (λ (l : LineSeen). next l.def l.entries c.args.actor ≡ Some c.in-Some.entry) (sym c.self.view_is) (sym c.due.ensures ∙ c.in-Some.is) in
+    let due : next line.def line.entries c.args.actor ≡ Some (entry_at line c.in-Some.step) = subst (λ (l : LineSeen). next l.def l.entries c.args.actor ≡ Some (entry_at l c.in-Some.step)) (sym c.self.view_is) (sym c.due.ensures ∙ ap (option_map (entry_at c.args.self.now)) c.in-Some.is) in
     let below : length line.entries < line.def.log = search (rules, arith) in
+    let run = c.in-Some-unanswered.run' in
     let some = c.in-Some-unanswered.ensures.some in (
-      subst (λ (l : LineSeen). WantsRun l c.args.actor c.args.said (record { def = c.run.inside.def; part = c.run.inside.part; unserved = c.run.inside.unserved })) c.self.view_is
-          (subst (λ (r : Run). WantsRun line c.args.actor c.args.said r) (sym c.run.view_is)
-          (wants line c.self.inside.state.state c.self.inside.scripts c.args.actor c.args.said c.in-Some.entry c.self.invariant due c.in-Some-unanswered.run' some.0 some.1 below)),
+      subst (λ (l : LineSeen). WantsRun l c.args.actor c.args.said run) c.self.view_is
+          (wants line c.self.inside.state.state c.self.inside.scripts c.args.actor c.args.said c.in-Some.step c.self.invariant due run some.0 some.1 below),
       refl,
     )
 
 pub returns-clause-answer : goal.returns-clause-answer
 returns-clause-answer g c =
     let line : LineSeen = record { def = c.self.inside.def; entries = c.self.inside.history.entries; spare = c.self.inside.history.spare } in
-    let due : next line.def line.entries c.args.actor ≡ Some c.in-Some.entry = subst (λ (l : LineSeen). next l.def l.entries c.args.actor ≡ Some c.in-Some.entry) (sym c.self.view_is) (sym c.due.ensures ∙ c.in-Some.is) in
+    let due : next line.def line.entries c.args.actor ≡ Some (entry_at line c.in-Some.step) = subst (λ (l : LineSeen). next l.def l.entries c.args.actor ≡ Some (entry_at l c.in-Some.step)) (sym c.self.view_is) (sym c.due.ensures ∙ ap (option_map (entry_at c.args.self.now)) c.in-Some.is) in
     let below : length line.entries < line.def.log = search (rules, arith) in
-    let heard : IfSome (run_by line.def c.self.inside.state.state c.in-Some.entry) (IsSaidFor c.args.said) = search rules in
-    subst (λ (l : LineSeen). AddsEntry l c.args.actor c.args.said c.in-Some.entry c.add.new.self) c.self.view_is
-    (adds line c.self.inside.state.state c.self.inside.scripts c.args.actor c.args.said c.in-Some.entry c.self.invariant due c.add.new.self heard below
+    let heard : IfSome (run_by line.def c.self.inside.state.state c.in-Some.step) (IsSaidFor c.args.said) = search rules in
+    let e = c.in_ok-entry.entry in
+    subst (λ (l : LineSeen). AddsEntry l c.args.actor c.args.said e c.add.new.self) c.self.view_is
+    (adds line c.self.inside.state.state c.self.inside.scripts c.args.actor c.args.said c.in-Some.step c.self.invariant due e c.add.new.self
+    (c.in_ok-entry.ensures.entry ∙ ap (λ (l : LineSeen). entry_at l c.in-Some.step) (sym c.self.view_is)) heard below
     (c.add.ensures.def ∙ ap (λ (l : LineSeen). l.def) (sym c.self.view_is))
-    (c.in_ok-add.ensures.entries ∙ ap (λ (l : LineSeen). l.entries ++ c.in-Some.entry ∷ []) (sym c.self.view_is))
-    (subst (λ (l : LineSeen). l.spare ≤ c.add.new.self.spare + 1) (sym c.self.view_is) c.in_ok-add.ensures.spare))
+    (c.in_ok-entry.ensures.entries ∙ ap (λ (l : LineSeen). l.entries ++ e ∷ []) (sym c.self.view_is))
+    (subst (λ (l : LineSeen). l.spare ≤ c.add.new.self.spare + 1) (sym c.self.view_is) c.in_ok-entry.ensures.spare))
+
+pub returns-in_err-entry-clause-memory : goal.returns-in_err-entry-clause-memory
+returns-in_err-entry-clause-memory g c =
+    let due : next c.args.self.now.def c.args.self.now.entries c.args.actor ≡ Some (entry_at c.args.self.now c.in-Some.step) = sym c.due.ensures ∙ ap (option_map (entry_at c.args.self.now)) c.in-Some.is in
+    wants_memory c.args.self.now c.args.actor c.from_residual.result (λ room. ap links_next due ∙ wanted (is_linked_request (entry_at c.args.self.now c.in-Some.step)) c.add.result c.in_err-entry.was (λ f. c.add.ensures.needless f room))
