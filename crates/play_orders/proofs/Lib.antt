@@ -1,0 +1,2 @@
+pub mod OnePlay
+pub mod BoardsPlay
