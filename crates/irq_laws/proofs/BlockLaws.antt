@@ -1,8 +1,9 @@
 -- A driver with a due call may add its entry exactly if nothing that the call waits for stands in
 -- the way.
-use Rattle.std.proofs.Common.{◌≡◌, ℕ, ◌+◌, ◌≤◌, ◌==◌, Bool, true, false, not, ◌||◌, cond, Option, Some, None, is_some, List, [], ◌∷◌, refl, ap, ◌∙◌, arith, eqb-true}
+use Rattle.std.proofs.Common.{◌≡◌, ℕ, zero, suc, ◌+◌, ◌≤◌, ◌==◌, Bool, true, false, not, ◌||◌, ◌&&◌, cond, Option, Some, None, is_some, List, [], ◌∷◌, refl, sym, ap, subst, ◌∙◌, arith, eqb-true}
 use Rattle.std.specs.List.{list_any}
-use Rattle.std.proofs.lemmas.Bool.{false_from_ne_true}
+use Rattle.std.proofs.lemmas.Bool.{false_from_ne_true, and_from, and_parts}
+use Rattle.irq_base.specs.declared.numbers.DevNo.{DevNo}
 use Rattle.irq_base.specs.declared.numbers.DriverNo.{DriverNo}
 use Rattle.irq_base.specs.declared.calls.Call.{Call}
 use Rattle.irq_base.specs.declared.calls.Call.TheVariants as calls
@@ -10,13 +11,26 @@ use Rattle.irq_base.specs.declared.devices.DeviceDef.{DeviceDef}
 use Rattle.irq_base.specs.declared.lines.LineDef.{LineDef}
 use Rattle.irq_base.specs.declared.entries.Entry.{Entry}
 use Rattle.irq_base.specs.declared.entries.Entry.TheVariants as entries
+use Rattle.irq_base.specs.declared.waiting.WaitFor.{WaitFor}
+use Rattle.irq_base.specs.declared.waiting.WaitFor.TheVariants as waits
+use Rattle.irq_model.specs.Legal.{IsLegalPast}
+use Rattle.irq_model.specs.Lines.{is_device}
 use Rattle.irq_model.specs.Places.{count_of}
+use Rattle.irq_model.specs.Reason.{is_being_freed}
 use Rattle.irq_model.specs.Rounds.{has_flow}
 use Rattle.irq_model.specs.Threads.{is_woken, is_running, active_count}
 use Rattle.irq_model.specs.Due.{due_call, holds_mutex}
 use Rattle.irq_model.specs.Next.{next_of_call, hard_clear_of, synced_of, freed_of, request_of, unlink_answer, next_past}
+use Rattle.irq_model.specs.Valid.{IsValid}
 use Rattle.irq_base.specs.declared.entries.Actor.TheVariants as actors
-use Rattle.irq_laws.specs.Blocks.{Block, Nothing, Flow, Threads, Mutex, Device, block_of, stands_in_way}
+use Rattle.irq_steps.proofs.Same.{dev_from_same}
+use Rattle.irq_laws.specs.Blocks.{block_of, stands_in_way, is_freed_at_work}
+use Rattle.irq_laws.specs.Kept.{freeing}
+use Rattle.irq_laws.proofs.FreesKept.{same_free}
+use Rattle.irq_laws.proofs.KeptAlways.{kept}
+use Rattle.irq_laws.proofs.Lists.{any_imply}
+use Rattle.irq_laws.proofs.Mutex.{freeing_holds}
+use Rattle.irq_laws.proofs.ReasonLaws.{one_is_freed}
 
 -- ---- a count of none
 
@@ -34,6 +48,68 @@ none_counted p q (x ∷ xs) = by_tests (p x) (q x) (none_counted p q xs)
     by_tests false true h = not_none _ (omega arith)
     by_tests false false h = h
 
+-- ---- the device that is being freed
+
+same_tests : (a b : Bool) → (a ≡ true → b ≡ true) → (b ≡ true → a ≡ true) → a ≡ b
+same_tests true b f g = sym (f refl)
+same_tests false true f g = g refl
+same_tests false false f g = refl
+
+any_same : {A : Type 0} (b : Bool) (xs : List A) → list_any (λ x. b) xs ≡ true → b ≡ true
+any_same true xs h = refl
+any_same false [] h = h
+any_same false (x ∷ xs) h = any_same false xs h
+
+module _ (def : LineDef) (past : List Entry) (valid : IsValid def) (legal : IsLegalPast def past) where
+  -- the device of the free that is under way is the one that is being freed
+  being_freed : (r : DriverNo) (d : DevNo) → freeing past ≡ Some (r, d) → is_being_freed past d ≡ true
+  being_freed r d under =
+      let held = (one_is_freed def past valid legal).held (freeing_holds past (r, d) under) in
+      let one = (kept def past valid legal).frees.one_device held.0 held.1 in
+      subst (λ (x : DevNo). is_being_freed past x ≡ true) (same_free past one.0 r held.0 d one.1 under).1 held.1
+
+  abbrev at_work : DevNo → Bool
+  at_work d = is_woken past d || is_running past d
+
+  abbrev freed_at_work : DevNo → Bool
+  freed_at_work d = is_being_freed past d && at_work d
+
+  pub freed_is : (r : DriverNo) (d : DevNo) → freeing past ≡ Some (r, d) → (is_woken past d || is_running past d) ≡ is_freed_at_work def past
+  freed_is r d under = same_tests (at_work d) (is_freed_at_work def past) told meant
+    where
+      told : at_work d ≡ true → is_freed_at_work def past ≡ true
+      told h =
+          let freed = being_freed r d under in
+          any_imply (is_device d) (λ (x : DeviceDef). freed_at_work x.dev) def.devices
+          (λ x is. subst (λ (y : DevNo). freed_at_work y ≡ true) (dev_from_same d x.dev is) (and_from _ _ freed h))
+          ((kept def past valid legal).rest.freed_named d freed)
+
+      same_work : (x : DevNo) → freed_at_work x ≡ true → at_work d ≡ true
+      same_work x h =
+          let both = and_parts (is_being_freed past x) (at_work x) h in
+          let one = (kept def past valid legal).frees.one_device x both.0 in
+          subst (λ (y : DevNo). at_work y ≡ true) (same_free past one.0 r x d one.1 under).1 both.1
+
+      meant : is_freed_at_work def past ≡ true → at_work d ≡ true
+      meant h = any_same (at_work d) def.devices (any_imply (λ (x : DeviceDef). freed_at_work x.dev) (λ x. at_work d) def.devices (λ x is. same_work x.dev is) h)
+
+-- the device of a free that has begun is at work exactly if the one that is being freed is
+abbrev pub IsFreed : LineDef → List Entry → Call → ℕ → Type 0
+IsFreed def past (calls.Free d) (suc n) = (is_woken past d || is_running past d) ≡ is_freed_at_work def past
+IsFreed def past _ _ = Unit {0}
+
+pub its_free : (def : LineDef) (past : List Entry) → IsValid def → IsLegalPast def past → (r : DriverNo) (c : Call) (n : ℕ) → due_call def r past ≡ Some (c, n) → IsFreed def past c n
+its_free def past valid legal r (calls.Free d) zero is = tt
+its_free def past valid legal r (calls.Free d) (suc n) is = freed_is def past valid legal r d ((kept def past valid legal).frees.within r d n is)
+its_free def past valid legal r (calls.Ask d) n is = tt
+its_free def past valid legal r (calls.Request d flags) n is = tt
+its_free def past valid legal r calls.Disable n is = tt
+its_free def past valid legal r calls.DisableNosync n is = tt
+its_free def past valid legal r calls.Enable n is = tt
+its_free def past valid legal r calls.Sync n is = tt
+its_free def past valid legal r (calls.Affinity mask) n is = tt
+its_free def past valid legal r (calls.Moment at) n is = tt
+
 -- ---- the rows
 
 unless : (b : Bool) (e : Entry) → is_some (cond b None (Some e)) ≡ not b
@@ -44,30 +120,37 @@ when : (b : Bool) (e : Entry) → is_some (cond b (Some e) None) ≡ b
 when true e = refl
 when false e = refl
 
-synced : (def : LineDef) (r : DriverNo) (past : List Entry) → is_some (synced_of def r past) ≡ not (stands_in_way def past Threads)
+synced : (def : LineDef) (r : DriverNo) (past : List Entry) → is_some (synced_of def r past) ≡ not (stands_in_way def past waits.Threads)
 synced def r past =
     when (active_count def past == 0) (entries.Synced r) ∙ none_counted (λ (x : DeviceDef). is_woken past x.dev) (λ (x : DeviceDef). is_running past x.dev) def.devices
 
-either : (def : LineDef) (past : List Entry) (b : Bool) (x y : Option Entry) (v w : Block) → is_some x ≡ not (stands_in_way def past v) → is_some y ≡ not (stands_in_way def past w)
+either : (def : LineDef) (past : List Entry) (b : Bool) (x y : Option Entry) (v w : WaitFor) → is_some x ≡ not (stands_in_way def past v) → is_some y ≡ not (stands_in_way def past w)
     → is_some (cond b x y) ≡ not (stands_in_way def past (cond b v w))
 either def past true x y v w h i = h
 either def past false x y v w h i = i
 
-row : (def : LineDef) (r : DriverNo) (past : List Entry) (c : Call) (n : ℕ) → is_some (next_of_call def r past (Some (c, n))) ≡ not (stands_in_way def past (block_of c n))
-row def r past (calls.Ask d) n = refl
-row def r past (calls.Request d flags) n = unless (holds_mutex past) (request_of def r d flags past)
-row def r past (calls.Free d) n =
-    either def past (n == 0) (cond (holds_mutex past) None (Some (entries.Unlink r d (unlink_answer d past)))) (cond (n == 1) (hard_clear_of def r past) (freed_of r d past)) Mutex (cond (n == 1) Flow (Device d))
+row : (def : LineDef) (r : DriverNo) (past : List Entry) (c : Call) (n : ℕ) → IsFreed def past c n → is_some (next_of_call def r past (Some (c, n))) ≡ not (stands_in_way def past (block_of c n))
+row def r past (calls.Ask d) n freed = refl
+row def r past (calls.Request d flags) n freed = unless (holds_mutex past) (request_of def r d flags past)
+row def r past (calls.Free d) zero freed = unless (holds_mutex past) (entries.Unlink r d (unlink_answer d past))
+row def r past (calls.Free d) (suc n) freed =
+    either def past (suc n == 0) (cond (holds_mutex past) None (Some (entries.Unlink r d (unlink_answer d past)))) (cond (suc n == 1) (hard_clear_of def r past) (freed_of r d past)) waits.Mutex (cond (suc n == 1) waits.Flow waits.Freed)
     (unless (holds_mutex past) (entries.Unlink r d (unlink_answer d past)))
-    (either def past (n == 1) (hard_clear_of def r past) (freed_of r d past) Flow (Device d) (unless (has_flow def past) (entries.HardClear r)) (unless (is_woken past d || is_running past d) (entries.Freed r d)))
-row def r past calls.Disable n =
-    either def past (n == 0) (Some (entries.Disable r)) (cond (n == 1) (hard_clear_of def r past) (synced_of def r past)) Nothing (cond (n == 1) Flow Threads) refl
-    (either def past (n == 1) (hard_clear_of def r past) (synced_of def r past) Flow Threads (unless (has_flow def past) (entries.HardClear r)) (synced def r past))
-row def r past calls.DisableNosync n = refl
-row def r past calls.Enable n = refl
-row def r past calls.Sync n = either def past (n == 0) (hard_clear_of def r past) (synced_of def r past) Flow Threads (unless (has_flow def past) (entries.HardClear r)) (synced def r past)
-row def r past (calls.Affinity mask) n = refl
-row def r past (calls.Moment at) n = refl
+    (either def past (suc n == 1) (hard_clear_of def r past) (freed_of r d past) waits.Flow waits.Freed (unless (has_flow def past) (entries.HardClear r))
+    (unless (is_woken past d || is_running past d) (entries.Freed r d) ∙ ap not freed))
+row def r past calls.Disable n freed =
+    either def past (n == 0) (Some (entries.Disable r)) (cond (n == 1) (hard_clear_of def r past) (synced_of def r past)) waits.Nothing (cond (n == 1) waits.Flow waits.Threads) refl
+    (either def past (n == 1) (hard_clear_of def r past) (synced_of def r past) waits.Flow waits.Threads (unless (has_flow def past) (entries.HardClear r)) (synced def r past))
+row def r past calls.DisableNosync n freed = refl
+row def r past calls.Enable n freed = refl
+row def r past calls.Sync n freed =
+    either def past (n == 0) (hard_clear_of def r past) (synced_of def r past) waits.Flow waits.Threads (unless (has_flow def past) (entries.HardClear r)) (synced def r past)
+row def r past (calls.Affinity mask) n freed = refl
+row def r past (calls.Moment at) n freed = refl
 
-pub call_waits : (def : LineDef) (past : List Entry) (r : DriverNo) (c : Call) (n : ℕ) → due_call def r past ≡ Some (c, n) → is_some (next_past def past (actors.Driver r)) ≡ not (stands_in_way def past (block_of c n))
-call_waits def past r c n is = ap (λ (o : Option (Call × ℕ)). is_some (next_of_call def r past o)) is ∙ row def r past c n
+pub freed_waits : (def : LineDef) (past : List Entry) (r : DriverNo) (c : Call) (n : ℕ) → IsFreed def past c n → due_call def r past ≡ Some (c, n) → is_some (next_past def past (actors.Driver r)) ≡ not (stands_in_way def past (block_of c n))
+freed_waits def past r c n freed is = ap (λ (o : Option (Call × ℕ)). is_some (next_of_call def r past o)) is ∙ row def r past c n freed
+
+pub call_waits : (def : LineDef) (past : List Entry) → IsValid def → IsLegalPast def past → (r : DriverNo) (c : Call) (n : ℕ) → due_call def r past ≡ Some (c, n)
+    → is_some (next_past def past (actors.Driver r)) ≡ not (stands_in_way def past (block_of c n))
+call_waits def past valid legal r c n is = freed_waits def past r c n (its_free def past valid legal r c n is) is

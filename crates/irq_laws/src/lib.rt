@@ -156,7 +156,7 @@ pub fn flow_moves()
 /// A driver whose call isn't complete may add its next entry exactly if what it waits for isn't in
 /// the way.
 pub fn call_waits()
-    ensures law { (def : LineDef) (h : List Entry) (r : DriverNo) (c : Call) (n : ℕ) → due_call def r (reverse h) ≡ Some (c, n) → is_some (next def h (actors.Driver r)) ≡ not (stands_in_way def (reverse h) (block_of c n)) }
+    ensures law { (def : LineDef) (h : List Entry) → IsValid def → IsLegal def h → (r : DriverNo) (c : Call) (n : ℕ) → due_call def r (reverse h) ≡ Some (c, n) → is_some (next def h (actors.Driver r)) ≡ not (stands_in_way def (reverse h) (block_of c n)) }
 {}
 
 /// No standstill among drivers: if no thread and no processor may add an entry, a driver whose

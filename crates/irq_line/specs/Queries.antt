@@ -1,19 +1,18 @@
 -- What is asked of a line after each step, so that nobody goes over all its actors.
-use Rattle.std.specs.Prelude.{◌≡◌, ◌≤◌, ◌↔◌, Bool, false, ◌&&◌, ◌||◌, IsTrue, IsSome, Option, Some, None, List, reverse}
-use Rattle.std.specs.List.{list_any}
+use Rattle.std.specs.Prelude.{◌≡◌, ◌≤◌, ◌↔◌, Bool, false, IsTrue, IsSome, Option, Some, None, List, reverse}
 use Rattle.irq_base.specs.declared.numbers.CpuNo.{CpuNo}
 use Rattle.irq_base.specs.declared.numbers.DevNo.{DevNo}
 use Rattle.irq_base.specs.declared.entries.Actor.TheVariants as actors
 use Rattle.irq_base.specs.declared.entries.Entry.{Entry}
 use Rattle.irq_base.specs.declared.lines.LineDef.{LineDef}
 use Rattle.irq_base.specs.declared.waiting.Blocks.{Blocks}
+use Rattle.irq_base.specs.declared.waiting.WaitFor.{WaitFor}
+use Rattle.irq_base.specs.declared.waiting.WaitFor.TheVariants as waits
 use Rattle.irq_model.specs.Due.{holds_mutex}
 use Rattle.irq_model.specs.Kinds.{is_take}
 use Rattle.irq_model.specs.Next.{next}
-use Rattle.irq_model.specs.Reason.{is_being_freed}
 use Rattle.irq_model.specs.Rounds.{flow, has_flow}
-use Rattle.irq_model.specs.Threads.{is_woken, is_running}
-use Rattle.irq_laws.specs.Blocks.{Block, Nothing, Flow, Threads, Mutex, Device}
+use Rattle.irq_laws.specs.Blocks.{are_threads_at_work, is_freed_at_work}
 use Rattle.irq_line.specs.Seen.{LineSeen}
 
 abbrev pub is_some_take : Option Entry → Bool
@@ -42,16 +41,6 @@ IsLowestThread line None = (dev : DevNo) → IsThreadDue line dev → ⊥
 IsLowestThread line (Some lowest) =
     IsThreadDue line lowest × ((dev : DevNo) → IsThreadDue line dev → lowest.0 ≤ dev.0)
 
--- whether a thread of some device of the line is woken or in a run
-abbrev pub are_threads_at_work : LineDef → List Entry → Bool
-are_threads_at_work def past =
-    list_any (λ x. is_woken past x.dev || is_running past x.dev) def.devices
-
--- whether the thread of the device that is being freed is woken or in a run
-abbrev pub is_freed_at_work : LineDef → List Entry → Bool
-is_freed_at_work def past = list_any (λ x. is_being_freed past x.dev
-    && (is_woken past x.dev || is_running past x.dev)) def.devices
-
 -- what drivers' calls wait for
 abbrev pub blocks_at : LineDef → List Entry → Blocks
 blocks_at def past = record { flow = has_flow def past; threads = are_threads_at_work def past; mutex = holds_mutex past; freed = is_freed_at_work def past }
@@ -59,11 +48,10 @@ blocks_at def past = record { flow = has_flow def past; threads = are_threads_at
 abbrev pub blocks_of : LineSeen → Blocks
 blocks_of line = blocks_at line.def (reverse line.entries)
 
--- whether a call that waits for this can't go on; if it waits for a device, that is the device
--- being freed
-abbrev pub is_blocked : Block → Blocks → Bool
-is_blocked Nothing blocks = false
-is_blocked Flow blocks = blocks.flow
-is_blocked Threads blocks = blocks.threads
-is_blocked Mutex blocks = blocks.mutex
-is_blocked (Device d) blocks = blocks.freed
+-- whether a call that waits for this can't go on
+abbrev pub is_blocked : WaitFor → Blocks → Bool
+is_blocked waits.Nothing blocks = false
+is_blocked waits.Flow blocks = blocks.flow
+is_blocked waits.Threads blocks = blocks.threads
+is_blocked waits.Mutex blocks = blocks.mutex
+is_blocked waits.Freed blocks = blocks.freed

@@ -27,7 +27,8 @@ use Rattle.device_table.specs.Rows.{table_by}
 use Rattle.device_table.specs.Sums.{one_if}
 use Rattle.act_thread.specs.Steps.{is_in_run}
 use Rattle.act_thread.specs.Threads.{active_in}
-use Rattle.irq_line.specs.Queries.{blocks_at, is_freed_at_work}
+use Rattle.irq_laws.specs.Blocks.{is_freed_at_work}
+use Rattle.irq_line.specs.Queries.{blocks_at}
 use Rattle.line_marks.proofs.DriversDueIs.{idle_is}
 use Rattle.line_marks.proofs.FreeingFollows.{mutex_is}
 use Rattle.line_marks.proofs.Known.{in_run, same_test}

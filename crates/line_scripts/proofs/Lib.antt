@@ -1,1 +1,2 @@
 mod RowSteps
+pub mod LastEntry

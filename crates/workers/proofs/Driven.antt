@@ -23,7 +23,8 @@ use Rattle.workers.specs.Forks.{AreBoards}
 use Rattle.workers.specs.Room.{RoomAfter}
 use Rattle.workers.specs.Seen.{SeatSeen, JobSeen}
 use Rattle.workers.specs.Tries.{Gains, Tries, rests_after, IsIdle}
-use Rattle.workers.specs.Turns.{StepsSeat, KeepsSeats, IsDriven, WaitsAt, TurnsDriver, is_last}
+use Rattle.line_scripts.specs.Endings.{completes}
+use Rattle.workers.specs.Turns.{StepsSeat, KeepsSeats, IsDriven, WaitsAt, TurnsDriver}
 use Rattle.workers.specs.declared.turns.Turn.{Turn}
 use Rattle.workers.specs.declared.turns.Turn.TheVariants as turns
 use Rattle.workers.proofs.Driving.{AreAmong, passed_all, up_after, alike_after}
@@ -146,7 +147,7 @@ module _ (board : BoardSeen) (lines : List LockSeen) (boards : AreBoards board l
               rests = subst (λ (x : LineDef). IsIdle x (actors.Driver r) s.after.pass.knows) (sym s.sits.of_line.1) (subst (λ (a : Actor). IsIdle s.line.def a s.after.pass.knows) d.actor idle);
             }
 
-    pub driver_moved : (e : Entry) → turn ≡ turns.Moved e → (last : Bool) → is_last c.call e ≡ last → (new : JobSeen) → new ≡ record mid { at = cond last (mid.at + 1) mid.at } → TurnsDriver board lines r (turns.Moved e) j new
+    pub driver_moved : (e : Entry) → turn ≡ turns.Moved e → (last : Bool) → completes c.call e ≡ last → (new : JobSeen) → new ≡ record mid { at = cond last (mid.at + 1) mid.at } → TurnsDriver board lines r (turns.Moved e) j new
     driver_moved e is last is_l new now =
         record {
           keeps = subst (λ (x : JobSeen). KeepsSeats lines j x) (sym now) (same_seats (keeps_seats lines place turn j mid d.seated s));

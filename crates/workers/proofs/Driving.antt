@@ -29,8 +29,8 @@ use Rattle.board_play.proofs.Script.{is_on, one_longer, done, IsThe, Current, is
 use Rattle.line_lock.specs.Passes.{LockSeen}
 use Rattle.workers.specs.Fit.{IsPlaceOf, own_past, own_line, own_lines}
 use Rattle.workers.specs.Seen.{SeatSeen}
-use Rattle.workers.specs.Turns.{is_last}
-use Rattle.workers.proofs.LastEntry.{completes, last_is, goes, ends}
+use Rattle.line_scripts.specs.Endings.{completes}
+use Rattle.line_scripts.proofs.LastEntry.{completes_at, last_is, goes, ends}
 use Rattle.workers.proofs.Lists.{at_map, of_map, at_set, there}
 use Rattle.workers.proofs.Manning.{not_placed}
 use Rattle.workers.proofs.Own.{AreAlike}
@@ -133,7 +133,7 @@ module _ (board : BoardSeen) (isb : IsBoard board) (own : List BoardLine) (defs 
     by_r : is_by_driver r e ≡ true
     by_r = by_driver_is y.def.line r e ∙ (ap (λ (a : Actor). is_driver r a) (due_is_own y.def h (actors.Driver r) e due) ∙ same_self_driver r)
 
-    its_last : is_last c.call e ≡ completes c.call d.0 e
+    its_last : completes c.call e ≡ completes_at c.call d.0 e
     its_last =
         last_is y.def r (reverse h) c.call d.0 e
         (ap (λ (o : Option (Call × ℕ)). next_of_call y.def r (reverse h) o) (sym d.1 ∙ ap (λ (es : List Entry). due_of (calls_by r y.def.calls) es) alike) ∙ due)
@@ -141,7 +141,7 @@ module _ (board : BoardSeen) (isb : IsBoard board) (own : List BoardLine) (defs 
     m : Move
     m = (y.def.line, e)
 
-    pub up_after : (last : Bool) → is_last c.call e ≡ last → IsUpTo board.calls (lines_after (y.def.line, e) own) r (cond last (p + 1) p)
+    pub up_after : (last : Bool) → completes c.call e ≡ last → IsUpTo board.calls (lines_after (y.def.line, e) own) r (cond last (p + 1) p)
     unfolding now m
     up_after true is =
         subst (λ (n : ℕ). IsUpTo board.calls (lines_after (y.def.line, e) own) r n) (sym (add-one p))

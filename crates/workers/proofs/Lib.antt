@@ -13,7 +13,6 @@ pub mod Finishing
 pub mod Turning
 pub mod Rooms
 pub mod Flowing
-pub mod LastEntry
 pub mod Driving
 pub mod Driven
 pub mod Rounding

@@ -1,11 +1,7 @@
 -- What a worker's turn comes to.
 use Rattle.std.specs.Prelude.{◌≡◌, ℕ, ◌+◌, ◌≤◌, ◌⊎◌, Bool, true, false, ◌&&◌, ◌||◌, Option, Some, None, Result, Ok, Err, List, length, slice_get, slice_set, if◌then◌else◌}
 use Rattle.irq_base.specs.declared.entries.Actor.TheVariants as actors
-use Rattle.irq_base.specs.declared.calls.Call.{Call}
-use Rattle.irq_base.specs.declared.calls.Call.TheVariants as calls
 use Rattle.irq_base.specs.declared.entries.Entry.{Entry}
-use Rattle.irq_base.specs.declared.entries.Entry.TheVariants as entries
-use Rattle.irq_base.specs.declared.entries.UnlinkAnswer.TheVariants as unlinks
 use Rattle.irq_base.specs.declared.lines.FlowKind.{FlowKind}
 use Rattle.irq_base.specs.declared.lines.LineDef.{LineDef}
 use Rattle.irq_base.specs.declared.numbers.CpuNo.{CpuNo}
@@ -111,17 +107,6 @@ pub record TurnsCpu (lines : List LockSeen) (turn : Turn) (old new : JobSeen) : 
   pub room : RoomAfter turn old new
 
 -- ---- drivers
-
--- the entry is the last one of its call
-abbrev pub is_last : Call → Entry → Bool
-is_last (calls.Free dev) (entries.Unlink driver d unlinks.NotThere) = true
-is_last (calls.Free dev) (entries.Freed driver d) = true
-is_last (calls.Free dev) _ = false
-is_last calls.Disable (entries.Synced driver) = true
-is_last calls.Disable _ = false
-is_last calls.Sync (entries.Synced driver) = true
-is_last calls.Sync _ = false
-is_last _ _ = true
 
 -- the job is the driver's, and its entries are its script's calls up to its place
 pub record IsDriven (board : BoardSeen) (lines : List LockSeen) (r : DriverNo) (j : JobSeen) : Type 0 where

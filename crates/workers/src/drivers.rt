@@ -3,15 +3,16 @@ ghost use Rattle.std.specs.Prelude.{◌≡◌, ℕ, ◌<◌, ◌≤◌, true, fa
 ghost use Rattle.board_def.specs.declared.rows.ScriptCall.{ScriptCall};
 ghost use Rattle.workers.specs.Fit.{IsPlaceOf};
 ghost use Rattle.workers.specs.Forks.{AreBoards};
-ghost use Rattle.workers.specs.Turns.{IsDriven, TurnsDriver, is_last};
+ghost use Rattle.workers.specs.Turns.{IsDriven, TurnsDriver};
 
 use crate::job::Job;
 use crate::lines::SharedLines;
 use crate::turns::Turn;
 use board_def::{Board, ScriptCall};
 use callbacks::{Callbacks, Handler};
-use irq_base::{Call, DriverNo, Entry, UnlinkAnswer};
+use irq_base::DriverNo;
 use irq_line::IrqLine;
+use line_scripts::completes;
 use std::sync::Wait;
 
 impl<L: IrqLine> Job<L> {
@@ -57,7 +58,7 @@ impl<L: IrqLine> Job<L> {
         board.is_board();
         let turn = self.try_seat(rt, lines, place, handlers);
         if let Turn::Moved(entry) = turn {
-            if is_last(call.call, &entry) {
+            if completes(call.call, &entry) {
                 self.at += 1;
             }
         }
@@ -96,24 +97,4 @@ fn is_own<L: IrqLine>(call: ScriptCall, lines: &SharedLines<L>, driver: DriverNo
     ensures no { result ≡ false → call.driver ≡ driver → IsPlaceOf lines.now call.line None }
 {
     call.driver == driver && lines.place_of(call.line).is_some()
-}
-
-/// Whether this entry of the call is its last one.
-fn is_last(call: Call, entry: &Entry) -> bool
-    ensures { result ≡ is_last call entry.now }
-{
-    match (call, *entry) {
-        (
-            Call::Free { .. },
-            Entry::Unlink {
-                answer: UnlinkAnswer::NotThere,
-                ..
-            }
-            | Entry::Freed { .. },
-        ) => true,
-        (Call::Free { .. }, _) => false,
-        (Call::Disable | Call::Sync, Entry::Synced { .. }) => true,
-        (Call::Disable | Call::Sync, _) => false,
-        _ => true,
-    }
 }

@@ -17,22 +17,22 @@ use Rattle.irq_model.specs.Next.{next_of_call, unlink_answer, hard_clear_of, syn
 use Rattle.irq_laws.proofs.Chosen.{the_same, from_else, from_then}
 use Rattle.irq_laws.proofs.Lists.{both_ways}
 use Rattle.irq_laws.proofs.Progress.{Standing, standing, same_count, due_at, entries_more, goes_on}
-use Rattle.workers.specs.Turns.{is_last}
+use Rattle.line_scripts.specs.Endings.{completes}
 
 abbrev is_not_there : Entry → Bool
 is_not_there (entries.Unlink driver dev unlinks.NotThere) = true
 is_not_there _ = false
 
--- the entry is the last of its call, which has made n entries before it
-abbrev pub completes : Call → ℕ → Entry → Bool
-completes (calls.Free dev) n e = if n == 0 then is_not_there e else nat_le 2 n
-completes calls.Disable n e = nat_le 2 n
-completes calls.Sync n e = nat_le 1 n
-completes _ n e = true
+-- by the number of the entries that stand before it: the entry is the last of its call
+abbrev pub completes_at : Call → ℕ → Entry → Bool
+completes_at (calls.Free dev) n e = if n == 0 then is_not_there e else nat_le 2 n
+completes_at calls.Disable n e = nat_le 2 n
+completes_at calls.Sync n e = nat_le 1 n
+completes_at _ n e = true
 
 -- ---- what the entry itself tells
 
-of_unlink : (r : DriverNo) (d dev : DevNo) (a : UnlinkAnswer) → is_last (calls.Free dev) (entries.Unlink r d a) ≡ is_not_there (entries.Unlink r d a)
+of_unlink : (r : DriverNo) (d dev : DevNo) (a : UnlinkAnswer) → completes (calls.Free dev) (entries.Unlink r d a) ≡ is_not_there (entries.Unlink r d a)
 of_unlink r d dev unlinks.NotThere = refl
 of_unlink r d dev (unlinks.Unlinked last) = refl
 
@@ -43,18 +43,18 @@ synced : (def : LineDef) (r : DriverNo) (past : List Entry) (e : Entry) → sync
 synced def r past e is = (from_then _ (entries.Synced r) e is).1
 
 -- of the entries that a free makes after the first, the second isn't the last and the third is
-free_next : (def : LineDef) (r : DriverNo) (dev : DevNo) (n : ℕ) (past : List Entry) (e : Entry) → next_of_free def r dev n past ≡ Some e → is_last (calls.Free dev) e ≡ completes (calls.Free dev) n e
+free_next : (def : LineDef) (r : DriverNo) (dev : DevNo) (n : ℕ) (past : List Entry) (e : Entry) → next_of_free def r dev n past ≡ Some e → completes (calls.Free dev) e ≡ completes_at (calls.Free dev) n e
 free_next def r dev zero past e is =
     let u : entries.Unlink r dev (unlink_answer dev past) ≡ e = (from_else (holds_mutex past) (entries.Unlink r dev (unlink_answer dev past)) e is).1 in
-    subst (λ (f : Entry). is_last (calls.Free dev) f ≡ is_not_there f) u (of_unlink r dev dev (unlink_answer dev past))
-free_next def r dev (suc zero) past e is = subst (λ (f : Entry). is_last (calls.Free dev) f ≡ false) (hard def r past e is) refl
+    subst (λ (f : Entry). completes (calls.Free dev) f ≡ is_not_there f) u (of_unlink r dev dev (unlink_answer dev past))
+free_next def r dev (suc zero) past e is = subst (λ (f : Entry). completes (calls.Free dev) f ≡ false) (hard def r past e is) refl
 free_next def r dev (suc (suc n)) past e is = later (suc (suc n) == 0) (suc (suc n) == 1) (grind (arith, nat_tests)) (grind (arith, nat_tests)) is
   where
     later : (a b : Bool) → a ≡ false → b ≡ false → cond a (cond (holds_mutex past) None (Some (entries.Unlink r dev (unlink_answer dev past)))) (cond b (hard_clear_of def r past) (freed_of r dev past)) ≡ Some e
-        → is_last (calls.Free dev) e ≡ completes (calls.Free dev) (suc (suc n)) e
+        → completes (calls.Free dev) e ≡ completes_at (calls.Free dev) (suc (suc n)) e
     later false false x y is =
         let f : entries.Freed r dev ≡ e = (from_else _ (entries.Freed r dev) e is).1 in
-        subst (λ (f : Entry). is_last (calls.Free dev) f ≡ true) f refl ∙ sym (third (suc (suc n) == 0) (grind (arith, nat_tests)) (nat_le 2 (suc (suc n))) (grind (arith, nat_tests)))
+        subst (λ (f : Entry). completes (calls.Free dev) f ≡ true) f refl ∙ sym (third (suc (suc n) == 0) (grind (arith, nat_tests)) (nat_le 2 (suc (suc n))) (grind (arith, nat_tests)))
       where
         third : (a : Bool) → a ≡ false → (b : Bool) → b ≡ true → cond a (is_not_there e) b ≡ true
         third true x b y = cc
@@ -62,27 +62,27 @@ free_next def r dev (suc (suc n)) past e is = later (suc (suc n) == 0) (suc (suc
     later true b x y is = cc
     later false true x y is = cc
 
-disable_next : (def : LineDef) (r : DriverNo) (n : ℕ) (past : List Entry) (e : Entry) → next_of_disable def r n past ≡ Some e → is_last calls.Disable e ≡ completes calls.Disable n e
-disable_next def r zero past e is = subst (λ (f : Entry). is_last calls.Disable f ≡ false) (the_same (entries.Disable r) e is) refl
-disable_next def r (suc zero) past e is = subst (λ (f : Entry). is_last calls.Disable f ≡ false) (hard def r past e is) refl
+disable_next : (def : LineDef) (r : DriverNo) (n : ℕ) (past : List Entry) (e : Entry) → next_of_disable def r n past ≡ Some e → completes calls.Disable e ≡ completes_at calls.Disable n e
+disable_next def r zero past e is = subst (λ (f : Entry). completes calls.Disable f ≡ false) (the_same (entries.Disable r) e is) refl
+disable_next def r (suc zero) past e is = subst (λ (f : Entry). completes calls.Disable f ≡ false) (hard def r past e is) refl
 disable_next def r (suc (suc n)) past e is = later (suc (suc n) == 0) (suc (suc n) == 1) (grind (arith, nat_tests)) (grind (arith, nat_tests)) is
   where
-    later : (a b : Bool) → a ≡ false → b ≡ false → cond a (Some (entries.Disable r)) (cond b (hard_clear_of def r past) (synced_of def r past)) ≡ Some e → is_last calls.Disable e ≡ nat_le 2 (suc (suc n))
+    later : (a b : Bool) → a ≡ false → b ≡ false → cond a (Some (entries.Disable r)) (cond b (hard_clear_of def r past) (synced_of def r past)) ≡ Some e → completes calls.Disable e ≡ nat_le 2 (suc (suc n))
     later false false x y is =
-        subst (λ (f : Entry). is_last calls.Disable f ≡ true) (synced def r past e is) refl ∙ sym (let t : nat_le 2 (suc (suc n)) ≡ true = grind (arith, nat_tests) in t)
+        subst (λ (f : Entry). completes calls.Disable f ≡ true) (synced def r past e is) refl ∙ sym (let t : nat_le 2 (suc (suc n)) ≡ true = grind (arith, nat_tests) in t)
     later true b x y is = cc
     later false true x y is = cc
 
-sync_next : (def : LineDef) (r : DriverNo) (n : ℕ) (past : List Entry) (e : Entry) → next_of_sync def r n past ≡ Some e → is_last calls.Sync e ≡ completes calls.Sync n e
-sync_next def r zero past e is = subst (λ (f : Entry). is_last calls.Sync f ≡ false) (hard def r past e is) refl
+sync_next : (def : LineDef) (r : DriverNo) (n : ℕ) (past : List Entry) (e : Entry) → next_of_sync def r n past ≡ Some e → completes calls.Sync e ≡ completes_at calls.Sync n e
+sync_next def r zero past e is = subst (λ (f : Entry). completes calls.Sync f ≡ false) (hard def r past e is) refl
 sync_next def r (suc n) past e is = later (suc n == 0) (grind (arith, nat_tests)) is
   where
-    later : (a : Bool) → a ≡ false → cond a (hard_clear_of def r past) (synced_of def r past) ≡ Some e → is_last calls.Sync e ≡ nat_le 1 (suc n)
-    later false x is = subst (λ (f : Entry). is_last calls.Sync f ≡ true) (synced def r past e is) refl ∙ sym (let t : nat_le 1 (suc n) ≡ true = grind (arith, nat_tests) in t)
+    later : (a : Bool) → a ≡ false → cond a (hard_clear_of def r past) (synced_of def r past) ≡ Some e → completes calls.Sync e ≡ nat_le 1 (suc n)
+    later false x is = subst (λ (f : Entry). completes calls.Sync f ≡ true) (synced def r past e is) refl ∙ sym (let t : nat_le 1 (suc n) ≡ true = grind (arith, nat_tests) in t)
     later true x is = cc
 
 -- whether the entry that is due is the last one
-pub last_is : (def : LineDef) (r : DriverNo) (past : List Entry) (c : Call) (n : ℕ) (e : Entry) → next_of_call def r past (Some (c, n)) ≡ Some e → is_last c e ≡ completes c n e
+pub last_is : (def : LineDef) (r : DriverNo) (past : List Entry) (c : Call) (n : ℕ) (e : Entry) → next_of_call def r past (Some (c, n)) ≡ Some e → completes c e ≡ completes_at c n e
 last_is def r past (calls.Ask dev) n e is = refl
 last_is def r past (calls.Request dev flags) n e is = refl
 last_is def r past (calls.Free dev) n e is = free_next def r dev n past e is
@@ -122,7 +122,7 @@ free_later true n last some = absurd (let below = ltb-true (suc n) 1 some in ome
 free_later false n last some = of_three (suc n) ∙ ap (λ (b : Bool). not (cond b last (nat_le 2 (suc n)))) (sym (not_first n))
 
 -- with the entry the call isn't complete, unless it is its last
-last_test : (c : Call) (own : List Entry) (e : Entry) → nat_lt (length own) (entries_of_call c own) ≡ true → nat_lt (length own + 1) (entries_of_call c (own ++ e ∷ [])) ≡ not (completes c (length own) e)
+last_test : (c : Call) (own : List Entry) (e : Entry) → nat_lt (length own) (entries_of_call c own) ≡ true → nat_lt (length own + 1) (entries_of_call c (own ++ e ∷ [])) ≡ not (completes_at c (length own) e)
 last_test (calls.Ask dev) own e some = of_one (length own)
 last_test (calls.Request dev flags) own e some = of_one (length own)
 last_test (calls.Free dev) [] e some = ap (λ (b : Bool). nat_lt 1 (cond b 1 3)) (begins_is e) ∙ free_first (is_not_there e)
@@ -140,12 +140,12 @@ module _ (def : LineDef) (r : DriverNo) (e : Entry) (past : List Entry) (c : Cal
   after : (s : Standing (calls_by r def.calls) (entries_by r past) c n) → due_call def r (e ∷ past) ≡ due_of (c ∷ s.rest) (s.own ++ e ∷ [])
   after s = ap (λ (es : List Entry). due_of (calls_by r def.calls) es) (entries_more r e past mine) ∙ s.more e
 
-  tested : (s : Standing (calls_by r def.calls) (entries_by r past) c n) → nat_lt (length (s.own ++ e ∷ [])) (entries_of_call c (s.own ++ e ∷ [])) ≡ not (completes c n e)
+  tested : (s : Standing (calls_by r def.calls) (entries_by r past) c n) → nat_lt (length (s.own ++ e ∷ [])) (entries_of_call c (s.own ++ e ∷ [])) ≡ not (completes_at c n e)
   tested s =
       ap (λ (m : ℕ). nat_lt m (entries_of_call c (s.own ++ e ∷ []))) (length-append s.own (e ∷ []))
-      ∙ (last_test c s.own e s.incomplete ∙ ap (λ (m : ℕ). not (completes c m e)) (sym s.counts))
+      ∙ (last_test c s.own e s.incomplete ∙ ap (λ (m : ℕ). not (completes_at c m e)) (sym s.counts))
 
-  pub goes : completes c n e ≡ false → due_call def r (e ∷ past) ≡ Some (c, suc n)
+  pub goes : completes_at c n e ≡ false → due_call def r (e ∷ past) ≡ Some (c, suc n)
   goes last =
       let s = standing (calls_by r def.calls) (entries_by r past) c n was in
       let more : length (s.own ++ e ∷ []) ≡ suc n = (let l = length-append s.own (e ∷ []) in let k = s.counts in omega (arith, l, k)) in
@@ -153,7 +153,7 @@ module _ (def : LineDef) (r : DriverNo) (e : Entry) (past : List Entry) (c : Cal
       ∙ (ap (λ (b : Bool). cond b (due_at c (length (s.own ++ e ∷ []))) (due_of s.rest (drop (entries_of_call c (s.own ++ e ∷ [])) (s.own ++ e ∷ [])))) (tested s ∙ ap not last)
       ∙ ap (λ (m : ℕ). due_at c m) more)
 
-  pub ends : completes c n e ≡ true → (d : Call) (m : ℕ) → due_call def r (e ∷ past) ≡ Some (d, suc m) → ⊥
+  pub ends : completes_at c n e ≡ true → (d : Call) (m : ℕ) → due_call def r (e ∷ past) ≡ Some (d, suc m) → ⊥
   ends last d m is = by_case (goes_on c s.rest s.own e d (suc m) s.incomplete (sym (after s) ∙ is))
     where
       s : Standing (calls_by r def.calls) (entries_by r past) c n
