@@ -18,7 +18,9 @@ use Rattle.irq_model.specs.Next.{next, next_past, next_in_flow, next_take, next_
 use Rattle.irq_model.specs.Rounds.{flow, is_cpu, at_work}
 use Rattle.irq_model.specs.Valid.{IsValid}
 use Rattle.irq_steps.proofs.Same.{same_self_line, cpu_from_same}
-use Rattle.irq_laws.specs.Blocks.{Block, Nothing, Flow, Threads, Mutex, Device, block_of}
+use Rattle.irq_base.specs.declared.waiting.WaitFor.{WaitFor}
+use Rattle.irq_base.specs.declared.waiting.WaitFor.TheVariants as waits
+use Rattle.irq_laws.specs.Blocks.{block_of}
 use Rattle.irq_laws.proofs.Chosen.{the_same}
 use Rattle.irq_laws.proofs.KeptAlways.{kept}
 use Rattle.irq_line.specs.Queries.{IsLowestThread, IsTaker, IsThreadDue, is_some_take, blocks_of, is_blocked}
@@ -348,12 +350,12 @@ module _ (board : BoardSeen) (isb : IsBoard board) (lines : List LineSeen) (scri
 
   -- ---- drivers
 
-  barred_is : (b : Block) (blocks : Blocks) → is_barred (wait_for b) (barriers_of blocks) ≡ is_blocked b blocks
-  barred_is Nothing blocks = refl
-  barred_is Flow blocks = refl
-  barred_is Threads blocks = refl
-  barred_is Mutex blocks = refl
-  barred_is (Device d) blocks = refl
+  barred_is : (b : WaitFor) (blocks : Blocks) → is_barred (wait_for b) (barriers_of blocks) ≡ is_blocked b blocks
+  barred_is waits.Nothing blocks = refl
+  barred_is waits.Flow blocks = refl
+  barred_is waits.Threads blocks = refl
+  barred_is waits.Mutex blocks = refl
+  barred_is waits.Freed blocks = refl
 
   none_exactly : (o : Option Entry) (b : Bool) → (o ≡ None) ↔ IsTrue b → not b ≡ is_some o
   none_exactly None b iff = ap not (iff.0 refl)

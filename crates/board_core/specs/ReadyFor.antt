@@ -2,7 +2,9 @@
 -- current call.
 use Rattle.std.specs.Prelude.{◌≡◌, ℕ, Bool, false, nat_le, IsSomeAnd, Option, Some, None, List, length, slice_get}
 use Rattle.irq_base.specs.declared.numbers.DevNo.{DevNo}
-use Rattle.irq_laws.specs.Blocks.{Block, Nothing, Flow, Threads, Mutex, Device, block_of}
+use Rattle.irq_base.specs.declared.waiting.WaitFor.{WaitFor as LineWait}
+use Rattle.irq_base.specs.declared.waiting.WaitFor.TheVariants as line_waits
+use Rattle.irq_laws.specs.Blocks.{block_of}
 use Rattle.irq_line.specs.Queries.{IsTaker, IsLowestThread, flow_of, blocks_of}
 use Rattle.irq_line.specs.Seen.{LineSeen}
 use Rattle.irq_base.specs.declared.waiting.Blocks.{Blocks}
@@ -26,12 +28,12 @@ pub record IsPartOf (x : LineSeen) (part : LinePart) : Type 0 where
   pub taker : IsTaker x part.taker
   pub barriers : part.barriers ≡ barriers_of (blocks_of x)
 
-abbrev pub wait_for : Block → WaitFor
-wait_for Nothing = waits.Nothing
-wait_for Flow = waits.Flow
-wait_for Threads = waits.Threads
-wait_for Mutex = waits.Mutex
-wait_for (Device d) = waits.Device
+abbrev pub wait_for : LineWait → WaitFor
+wait_for line_waits.Nothing = waits.Nothing
+wait_for line_waits.Flow = waits.Flow
+wait_for line_waits.Threads = waits.Threads
+wait_for line_waits.Mutex = waits.Mutex
+wait_for line_waits.Freed = waits.Device
 
 abbrev pub call_at : Option Step → ℕ → Option CurrentCall
 call_at None made = None

@@ -3,12 +3,12 @@ ghost use Rattle.std.specs.Prelude.{◌≡◌, ◌+◌, false, ◌<◌, ◌≤�
 ghost use Rattle.board_core.specs.Placing.{joined};
 ghost use Rattle.board_core.specs.Scripts.{advanced, completes, due_at, is_not_there};
 ghost use Rattle.board_core.specs.ReadyFor.{call_of, wait_for};
-ghost use Rattle.irq_laws.specs.Blocks.{block_of};
 
 use crate::turns::DueCall;
 use board_def::ScriptCall;
 use board_ready::{CurrentCall, WaitFor};
 use irq_base::{Call, DriverNo, Entry, NoMemory, UnlinkAnswer};
+use line_scripts::wait_of;
 use std::alloc::Global;
 use std::marker::Model;
 
@@ -81,7 +81,7 @@ impl Script {
         match self.current() {
             Some(step) => Some(CurrentCall {
                 line: step.place,
-                wait: wait_of(step.call.call, self.made),
+                wait: wait_for(wait_of(step.call.call, self.made)),
             }),
             None => None,
         }
@@ -159,19 +159,15 @@ fn is_not_there(entry: &Entry) -> bool
     }
 }
 
-/// What the call waits for next. `made`: how many entries it has made.
-fn wait_of(call: Call, made: u32) -> WaitFor
-    ensures { result ≡ wait_for (block_of call made) }
+/// The same among the ready actors.
+fn wait_for(wait: irq_base::WaitFor) -> WaitFor
+    ensures { result ≡ wait_for wait }
 {
-    match (call, made) {
-        (Call::Request { .. }, _) => WaitFor::Mutex,
-        (Call::Free { .. }, 0) => WaitFor::Mutex,
-        (Call::Free { .. }, 1) => WaitFor::Flow,
-        (Call::Free { .. }, _) => WaitFor::Device,
-        (Call::Disable, 1) => WaitFor::Flow,
-        (Call::Disable, 2..) => WaitFor::Threads,
-        (Call::Sync, 0) => WaitFor::Flow,
-        (Call::Sync, _) => WaitFor::Threads,
-        _ => WaitFor::Nothing,
+    match wait {
+        irq_base::WaitFor::Nothing => WaitFor::Nothing,
+        irq_base::WaitFor::Flow => WaitFor::Flow,
+        irq_base::WaitFor::Threads => WaitFor::Threads,
+        irq_base::WaitFor::Mutex => WaitFor::Mutex,
+        irq_base::WaitFor::Freed => WaitFor::Device,
     }
 }
