@@ -1,5 +1,4 @@
 pub mod CutLaws
-pub mod LastEntry
 pub mod ScriptLaws
 pub mod AtPlaces
 pub mod Searches

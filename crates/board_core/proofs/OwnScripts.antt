@@ -27,11 +27,12 @@ use Rattle.board_core.specs.Inside.{drivers_of}
 use Rattle.board_core.specs.Making.{AreCut, call_put, with_call}
 use Rattle.board_core.specs.Numbers.{IsPlaceOfNumber, numbers_of_drivers}
 use Rattle.board_core.specs.Placing.{made_of, with_entry, IsOwn, AreOwn, IsPlaceOfActor}
-use Rattle.board_core.specs.Scripts.{ScriptSeen, cut, calls_of, completes, advanced_by, advanced_at, advanced}
+use Rattle.line_scripts.specs.Endings.{completes}
+use Rattle.board_core.specs.Scripts.{ScriptSeen, cut, calls_of, advanced_by, advanced_at, advanced}
 use Rattle.board_core.specs.Turned.{script_after, scripts_after}
 use Rattle.board_core.specs.declared.scripts.Step.{Step}
 use Rattle.board_core.proofs.Cutting.{script_there}
-use Rattle.board_core.proofs.LastEntry.{goes, ends}
+use Rattle.line_scripts.proofs.LastEntry.{completes_at, last_is, goes, ends, one_more}
 use Rattle.board_core.proofs.MadeOf.{taken, map_more}
 use Rattle.board_core.proofs.TurnLaws.{map_there, one_place, set_cases, set_same}
 
@@ -133,22 +134,25 @@ module _ (x : BoardLine) (e : Entry) where
 
   -- of the driver itself
   module _ (s : ScriptSeen) (is : IsOwn x s) (mine : is_by_driver s.driver e ≡ true) where
-    module _ (st : Step) (due : due_call x.def s.driver x.past ≡ Some (st.call.call, s.made)) where
-      further : completes st.call.call s.made e ≡ false → IsOwn (with_entry e x) (advanced_by false s)
+    module _ (st : Step) (due : due_call x.def s.driver x.past ≡ Some (st.call.call, s.made)) (owed : next_past x.def x.past (actors.Driver s.driver) ≡ Some e) where
+      its_last : completes st.call.call e ≡ completes_at st.call.call s.made e
+      its_last = last_is x.def s.driver x.past st.call.call s.made e (ap (next_of_call x.def s.driver x.past) (sym due) ∙ owed)
+
+      further : completes_at st.call.call s.made e ≡ false → IsOwn (with_entry e x) (advanced_by false s)
       further last =
           let now = goes x.def s.driver e x.past st.call.call s.made mine due last in
           record {
             calls = is.calls;
             at = is.at ∙ sym (not_completed x.def s.driver e x.past st.call.call s.made mine now);
-            made = add-one s.made ∙ sym (ap made_of now);
+            made = one_more st.call.call s.made e last ∙ sym (ap made_of now);
           }
 
-      none_begun : (o : Option (Call × ℕ)) → due_call x.def s.driver (e ∷ x.past) ≡ o → completes st.call.call s.made e ≡ true → 0 ≡ made_of o
+      none_begun : (o : Option (Call × ℕ)) → due_call x.def s.driver (e ∷ x.past) ≡ o → completes_at st.call.call s.made e ≡ true → 0 ≡ made_of o
       none_begun None is_due last = refl
       none_begun (Some (c, zero)) is_due last = refl
       none_begun (Some (c, suc n)) is_due last = absurd (ends x.def s.driver e x.past st.call.call s.made mine due last c n is_due)
 
-      past_it : completes st.call.call s.made e ≡ true → IsOwn (with_entry e x) (advanced_by true s)
+      past_it : completes_at st.call.call s.made e ≡ true → IsOwn (with_entry e x) (advanced_by true s)
       past_it last =
           record {
             calls = is.calls;
@@ -156,9 +160,9 @@ module _ (x : BoardLine) (e : Entry) where
             made = none_begun (due_call x.def s.driver (e ∷ x.past)) refl last;
           }
 
-      by_last : (b : Bool) → completes st.call.call s.made e ≡ b → IsOwn (with_entry e x) (advanced_by b s)
-      by_last true last = past_it last
-      by_last false last = further last
+      by_last : (b : Bool) → completes st.call.call e ≡ b → IsOwn (with_entry e x) (advanced_by b s)
+      by_last true last = past_it (sym its_last ∙ last)
+      by_last false last = further (sym its_last ∙ last)
 
     -- the call at the script's place is the one that is due
     due_here : (st : Step) → slice_get s.steps s.at ≡ Some st → due_call x.def s.driver x.past ≡ Some (st.call.call, s.made)
@@ -180,7 +184,7 @@ module _ (x : BoardLine) (e : Entry) where
             let end = past_end s.steps s.at at in
             let count = is.at in
             omega (arith, less, many, same, end, count))
-        by_step (Some st) at = by_last st (due_here st at) (completes st.call.call s.made e) refl
+        by_step (Some st) at = by_last st (due_here st at) due (completes st.call.call e) refl
 
 same_driver_put : (e : Entry) (s : ScriptSeen) → (advanced e s).driver ≡ s.driver
 same_driver_put e s = by_step (slice_get s.steps s.at)
@@ -191,7 +195,7 @@ same_driver_put e s = by_step (slice_get s.steps s.at)
 
     by_step : (o : Option Step) → (advanced_at o e s).driver ≡ s.driver
     by_step None = refl
-    by_step (Some st) = by_last (completes st.call.call s.made e)
+    by_step (Some st) = by_last (completes st.call.call e)
 
 -- the drivers' scripts on the line after one more entry, which was due
 pub own_more : (rs : List DriverNo) → Rises (λ (r : DriverNo). r.0) rs → (numbers : List ℕ) → numbers ≡ numbers_of_drivers rs → (x : BoardLine) (e : Entry) → IsDue x.def e x.past → (q : Option ℕ) → IsPlaceOfActor numbers (actor_of x.def.line e) q → (scripts new : List ScriptSeen)

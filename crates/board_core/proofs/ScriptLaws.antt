@@ -1,11 +1,13 @@
 -- Where a script stands, and what a move makes of it.
-use Rattle.std.proofs.Common.{◌≡◌, ℕ, zero, suc, ◌+◌, ◌<◌, ◌≤◌, ◌==◌, Bool, true, false, ◌&&◌, is_some, cond, IsSomeAnd, Option, Some, None, List, [], ◌∷◌, map, filter, take, slice_get, refl, sym, ap, ◌∙◌, subst, arith, add-one}
+use Rattle.std.proofs.Common.{◌≡◌, ℕ, zero, suc, ◌+◌, ◌<◌, ◌≤◌, ◌==◌, Bool, true, false, ◌&&◌, is_some, cond, IsSomeAnd, Option, Some, None, List, [], ◌∷◌, map, filter, min, take, slice_get, refl, sym, ap, ◌∙◌, subst, arith, add-one}
 use Rattle.irq_base.specs.declared.calls.Call.{Call}
+use Rattle.irq_base.specs.declared.entries.Actor.TheVariants as actors
 use Rattle.irq_base.specs.declared.lines.LineDef.{LineDef}
 use Rattle.irq_base.specs.declared.numbers.DriverNo.{DriverNo}
 use Rattle.irq_base.specs.declared.numbers.LineNo.{LineNo}
 use Rattle.irq_model.specs.Due.{calls_by, due_call}
 use Rattle.irq_model.specs.Kinds.{same_line, same_driver, is_by_driver}
+use Rattle.irq_model.specs.Next.{next_of_call, next_past}
 use Rattle.irq_steps.proofs.Same.{same_self_line}
 use Rattle.irq_laws.proofs.Chosen.{the_same}
 use Rattle.irq_laws.proofs.Progress.{no_more}
@@ -18,10 +20,11 @@ use Rattle.board_play.proofs.Counting.{kth_is_due}
 use Rattle.board_play.proofs.Members.{AreApart, find_there, found}
 use Rattle.board_play.proofs.Moving.{defs_moved, moved_at, not_own, goes_on, is_complete, none_begun}
 use Rattle.board_play.proofs.Script.{is_on, fewer, one_longer, done, IsThe, Current, current, is_current}
-use Rattle.board_core.specs.Scripts.{ScriptSeen, takes_part, cut, completes, advanced_by, advanced_at, advanced, calls_of, IsScript}
+use Rattle.line_scripts.specs.Endings.{completes}
+use Rattle.board_core.specs.Scripts.{ScriptSeen, takes_part, cut, advanced_by, advanced_at, advanced, calls_of, IsScript}
 use Rattle.board_core.specs.declared.scripts.Step.{Step}
 use Rattle.board_core.proofs.CutLaws.{part_found, cut_mine, current_cut, kth_call}
-use Rattle.board_core.proofs.LastEntry.{goes, ends}
+use Rattle.line_scripts.proofs.LastEntry.{completes_at, last_is, goes, ends, one_more}
 
 pub call_there : (steps : List Step) (i : ℕ) (x : Step) → slice_get steps i ≡ Some x → slice_get (calls_of steps) i ≡ Some x.call
 call_there [] i x at = cc
@@ -156,7 +159,7 @@ module _ (calls : List ScriptCall) (lines : List BoardLine) (m : Move) where
           subst (λ (z : BoardLine). due_call z.def s.driver z.past ≡ Some (x.call.call, s.made)) w.is (same_due w.line (same_line w.line.def.line m.0) ∙ is.due x w.line at w.at)
 
   module _ (apart : AreApart (map (λ (x : BoardLine). x.def) lines)) (have : HaveCalls calls lines) (s : ScriptSeen) (is : IsScript calls lines s)
-      (own : is_by_driver s.driver m.1 ≡ true) (x : Step) (at : slice_get s.steps s.at ≡ Some x) (y : BoardLine) (there : slice_get lines x.place ≡ Some y) (number : m.0 ≡ y.def.line) where
+      (own : is_by_driver s.driver m.1 ≡ true) (x : Step) (at : slice_get s.steps s.at ≡ Some x) (y : BoardLine) (there : slice_get lines x.place ≡ Some y) (number : m.0 ≡ y.def.line) (owed : next_past y.def y.past (actors.Driver s.driver) ≡ Some m.1) where
     its : current_from lines s.driver [] (calls_of s.steps) ≡ Some y
     its = at_step calls lines apart s is x y at there (line_of calls lines apart s is x y at there)
 
@@ -166,7 +169,10 @@ module _ (calls : List ScriptCall) (lines : List BoardLine) (m : Move) where
     cut_after : calls_of s.steps ≡ cut (map (λ (x : BoardLine). x.def) (lines_after m lines)) s.driver calls
     cut_after = is.cut ∙ ap (λ (ds : List LineDef). cut ds s.driver calls) (sym (defs_moved lines m))
 
-    goes_further : completes x.call.call s.made m.1 ≡ false → IsScript calls (lines_after m lines) (advanced_by false s)
+    its_last : completes x.call.call m.1 ≡ completes_at x.call.call s.made m.1
+    its_last = last_is y.def s.driver y.past x.call.call s.made m.1 (ap (next_of_call y.def s.driver y.past) (sym (is.due x y at there)) ∙ owed)
+
+    goes_further : completes_at x.call.call s.made m.1 ≡ false → IsScript calls (lines_after m lines) (advanced_by false s)
     unfolding at_place
     goes_further last =
         record {
@@ -179,14 +185,14 @@ module _ (calls : List ScriptCall) (lines : List BoardLine) (m : Move) where
         now : due_call y.def s.driver (m.1 ∷ y.past) ≡ Some (x.call.call, suc s.made)
         now = goes y.def s.driver m.1 y.past x.call.call s.made own (is.due x y at there) last
 
-        due : (z : Step) (w : BoardLine) → slice_get s.steps s.at ≡ Some z → slice_get (lines_after m lines) z.place ≡ Some w → due_call w.def s.driver w.past ≡ Some (z.call.call, s.made + 1)
+        due : (z : Step) (w : BoardLine) → slice_get s.steps s.at ≡ Some z → slice_get (lines_after m lines) z.place ≡ Some w → due_call w.def s.driver w.past ≡ Some (z.call.call, min (s.made + 1) 2)
         due z w at_z there_w =
             let same : x ≡ z = the_same x z (sym at ∙ at_z) in
             let here : line_after m y ≡ w = the_same (line_after m y) w (sym (after_at lines x.place y there) ∙ (ap (λ (v : Step). slice_get (lines_after m lines) v.place) same ∙ there_w)) in
-            subst (λ (v : BoardLine). due_call v.def s.driver v.past ≡ Some (z.call.call, s.made + 1)) (sym moved_here ∙ here)
-            (now ∙ (ap (λ (v : Step). Some (v.call.call, suc s.made)) same ∙ ap (λ (n : ℕ). Some (z.call.call, n)) (sym (add-one s.made))))
+            subst (λ (v : BoardLine). due_call v.def s.driver v.past ≡ Some (z.call.call, min (s.made + 1) 2)) (sym moved_here ∙ here)
+            (now ∙ (ap (λ (v : Step). Some (v.call.call, suc s.made)) same ∙ ap (λ (n : ℕ). Some (z.call.call, n)) (sym (one_more x.call.call s.made m.1 last))))
 
-    goes_past : completes x.call.call s.made m.1 ≡ true → IsScript calls (lines_after m lines) (advanced_by true s)
+    goes_past : completes_at x.call.call s.made m.1 ≡ true → IsScript calls (lines_after m lines) (advanced_by true s)
     unfolding at_place
     goes_past last =
         record {
@@ -216,8 +222,8 @@ module _ (calls : List ScriptCall) (lines : List BoardLine) (m : Move) where
                 absurd (none_begun (calls_of s.steps) lines apart m s.driver s.at is.up_to y x.place there number (at_place calls lines apart s is x y at there) not_now its z.place w z.call.call n there_w is_due)
 
     pub own_script : IsScript calls (lines_after m lines) (advanced m.1 s)
-    own_script = subst (λ (o : Option Step). IsScript calls (lines_after m lines) (advanced_at o m.1 s)) (sym at) (by_last (completes x.call.call s.made m.1) refl)
+    own_script = subst (λ (o : Option Step). IsScript calls (lines_after m lines) (advanced_at o m.1 s)) (sym at) (by_last (completes x.call.call m.1) refl)
       where
-        by_last : (b : Bool) → completes x.call.call s.made m.1 ≡ b → IsScript calls (lines_after m lines) (advanced_by b s)
-        by_last true last = goes_past last
-        by_last false last = goes_further last
+        by_last : (b : Bool) → completes x.call.call m.1 ≡ b → IsScript calls (lines_after m lines) (advanced_by b s)
+        by_last true last = goes_past (sym its_last ∙ last)
+        by_last false last = goes_further (sym its_last ∙ last)

@@ -35,7 +35,8 @@ use Rattle.board_play.proofs.OfBoard.{def_of_row, has_calls}
 use Rattle.board_core.specs.Inside.{seen_of, drivers_of, IsSystem}
 use Rattle.board_core.specs.Log.{without_newest, with_newest, merged}
 use Rattle.board_core.specs.Places.{StepsAt, SteppedAt}
-use Rattle.board_core.specs.Scripts.{ScriptSeen, completes, advanced_by, advanced_at, advanced, IsScript}
+use Rattle.line_scripts.specs.Endings.{completes}
+use Rattle.board_core.specs.Scripts.{ScriptSeen, advanced_by, advanced_at, advanced, IsScript}
 use Rattle.board_core.specs.Seen.{board_line, board_lines}
 use Rattle.irq_line.specs.Heard.{Adds}
 use Rattle.board_core.specs.Turned.{IsScriptOf, StepsBy, script_after, scripts_after, turn_of}
@@ -239,7 +240,7 @@ module _ (board : BoardSeen) (isb : IsBoard board) (layout : List Placement) (li
           absurd (not_some (line_for board (board_lines lines) (actors.Driver s.driver)) (script_line board.calls (board_lines lines) apart s (is.each j s at_s) None end) (subst (λ (o : Option BoardLine). IsSome o) (sym current) refl))
       by_step (Some step) here =
           let there : slice_get (board_lines lines) step.place ≡ Some (board_line x) = sym (script_line board.calls (board_lines lines) apart s (is.each j s at_s) (Some step) here) ∙ current in
-          own_script board.calls (board_lines lines) (x.def.line, e) apart have s (is.each j s at_s) own step here (board_line x) there refl
+          own_script board.calls (board_lines lines) (x.def.line, e) apart have s (is.each j s at_s) own step here (board_line x) there refl (subst (λ (b : Actor). next x.def x.entries b ≡ Some e) me due)
 
   -- if the actor is no driver, each script is another's
   no_driver : (b : Actor) → IsScriptOf board.drivers b None → (r : DriverNo) → is_driver r b ≡ false
@@ -288,7 +289,7 @@ module _ (board : BoardSeen) (isb : IsBoard board) (layout : List Placement) (li
     where
       same_driver_after : (o : Option Step) (s : ScriptSeen) → (advanced_at o e s).driver ≡ s.driver
       same_driver_after None s = refl
-      same_driver_after (Some step) s = by_last (completes step.call.call s.made e)
+      same_driver_after (Some step) s = by_last (completes step.call.call e)
         where
           by_last : (b : Bool) → (advanced_by b s).driver ≡ s.driver
           by_last true = refl

@@ -1,17 +1,14 @@
 -- The drivers' scripts, cut by driver: the calls on lines that take part, and how far each driver
 -- is.
-use Rattle.std.specs.Prelude.{◌≡◌, ℕ, ◌+◌, Bool, true, false, ◌&&◌, ◌==◌, nat_le, if◌then◌else◌, IsSomeAnd, Option, Some, None, List, [], ◌∷◌, map, slice_get}
+use Rattle.std.specs.Prelude.{◌≡◌, ℕ, ◌+◌, min, Bool, ◌&&◌, if◌then◌else◌, IsSomeAnd, Option, Some, None, List, [], ◌∷◌, map, slice_get}
 use Rattle.std.specs.List.{list_any}
-use Rattle.irq_base.specs.declared.calls.Call.{Call}
-use Rattle.irq_base.specs.declared.calls.Call.TheVariants as calls
 use Rattle.irq_base.specs.declared.entries.Entry.{Entry}
-use Rattle.irq_base.specs.declared.entries.Entry.TheVariants as entries
-use Rattle.irq_base.specs.declared.entries.UnlinkAnswer.TheVariants as unlinks
 use Rattle.irq_base.specs.declared.lines.LineDef.{LineDef}
 use Rattle.irq_base.specs.declared.numbers.DriverNo.{DriverNo}
 use Rattle.irq_base.specs.declared.numbers.LineNo.{LineNo}
 use Rattle.irq_model.specs.Due.{due_call}
 use Rattle.irq_model.specs.Kinds.{same_line, same_driver}
+use Rattle.line_scripts.specs.Endings.{completes}
 use Rattle.board_def.specs.declared.rows.ScriptCall.{ScriptCall}
 use Rattle.board_play.specs.Kept.{IsUpTo}
 use Rattle.board_play.specs.Lines.{BoardLine}
@@ -36,25 +33,15 @@ cut defs r [] = []
 cut defs r (c ∷ cs) =
     if same_driver r c.driver && takes_part defs c.line then (c ∷ cut defs r cs) else cut defs r cs
 
-abbrev pub is_not_there : Entry → Bool
-is_not_there (entries.Unlink driver dev unlinks.NotThere) = true
-is_not_there _ = false
-
--- the entry is the last of its call, which has made n entries before it
-abbrev pub completes : Call → ℕ → Entry → Bool
-completes (calls.Free dev) n e = if n == 0 then is_not_there e else nat_le 2 n
-completes calls.Disable n e = nat_le 2 n
-completes calls.Sync n e = nat_le 1 n
-completes _ n e = true
-
--- the script after one more entry of its driver
+-- The script after one more entry of its driver. No call has more than two entries before its last,
+-- so no more are counted.
 abbrev pub advanced_by : Bool → ScriptSeen → ScriptSeen
 advanced_by last s =
-    if last then record s { at = s.at + 1; made = 0 } else record s { made = s.made + 1 }
+    if last then record s { at = s.at + 1; made = 0 } else record s { made = min (s.made + 1) 2 }
 
 abbrev pub advanced_at : Option Step → Entry → ScriptSeen → ScriptSeen
 advanced_at None e s = s
-advanced_at (Some step) e s = advanced_by (completes step.call.call s.made e) s
+advanced_at (Some step) e s = advanced_by (completes step.call.call e) s
 
 abbrev pub advanced : Entry → ScriptSeen → ScriptSeen
 advanced e s = advanced_at (slice_get s.steps s.at) e s

@@ -1,14 +1,14 @@
 //! The drivers' scripts, cut by driver.
 ghost use Rattle.std.specs.Prelude.{◌≡◌, ◌+◌, false, ◌<◌, ◌≤◌, Some, [], ◌∷◌, ◌++◌, length, slice_get, OnOk};
 ghost use Rattle.board_core.specs.Placing.{joined};
-ghost use Rattle.board_core.specs.Scripts.{advanced, completes, due_at, is_not_there};
+ghost use Rattle.board_core.specs.Scripts.{advanced, due_at};
 ghost use Rattle.board_core.specs.ReadyFor.{call_of, wait_for};
 
 use crate::turns::DueCall;
 use board_def::ScriptCall;
 use board_ready::{CurrentCall, WaitFor};
-use irq_base::{Call, DriverNo, Entry, NoMemory, UnlinkAnswer};
-use line_scripts::wait_of;
+use irq_base::{DriverNo, Entry, NoMemory};
+use line_scripts::{completes, wait_of};
 use std::alloc::Global;
 use std::marker::Model;
 
@@ -31,11 +31,14 @@ pub struct Script {
 }
 
 impl Model for Script {
+    ghost use Rattle.std.specs.Prelude.{◌≤◌};
     ghost use Rattle.board_core.specs.Scripts.{ScriptSeen};
 
     ghost Value = { ScriptSeen };
 
     ghost view = { λ s. record { driver = s.driver; steps = s.steps.items; at = s.at; made = s.made } };
+
+    ghost invariant = { λ s. s.made ≤ 2 };
 }
 
 impl Script {
@@ -118,44 +121,12 @@ impl Script {
         let Some(step) = self.current() else {
             return;
         };
-        if completes(step.call.call, self.made, entry) {
+        if completes(step.call.call, entry) {
             self.at += 1;
             self.made = 0;
         } else {
-            self.made += 1;
+            self.made = (self.made + 1).min(2);
         }
-    }
-}
-
-/// Whether the entry is the last of its call. `made`: how many entries of the call came before it.
-fn completes(call: Call, made: u32, entry: &Entry) -> bool
-    ensures last { result ≡ completes call made entry.now }
-    ensures few { result ≡ false → made < 2 }
-{
-    match call {
-        Call::Free { .. } => {
-            if made == 0 {
-                is_not_there(entry)
-            } else {
-                made >= 2
-            }
-        }
-        Call::Disable => made >= 2,
-        Call::Sync => made >= 1,
-        _ => true,
-    }
-}
-
-/// Whether a free found nothing to free.
-fn is_not_there(entry: &Entry) -> bool
-    ensures { result ≡ is_not_there entry.now }
-{
-    match entry {
-        Entry::Unlink {
-            answer: UnlinkAnswer::NotThere,
-            ..
-        } => true,
-        _ => false,
     }
 }
 

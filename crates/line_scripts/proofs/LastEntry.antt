@@ -1,5 +1,5 @@
 -- Whether an entry is the last of its call.
-use Rattle.std.proofs.Common.{◌≡◌, ◌⊎◌, inl, inr, ℕ, zero, suc, ◌+◌, ◌==◌, Bool, true, false, not, cond, if◌then◌else◌, Some, None, List, [], ◌∷◌, ◌++◌, length, drop, nat_lt, nat_le, refl, sym, ap, subst, ◌∙◌, arith, length-append}
+use Rattle.std.proofs.Common.{◌≡◌, ◌⊎◌, inl, inr, ℕ, zero, suc, ◌+◌, ◌==◌, Bool, true, false, not, cond, if◌then◌else◌, Some, None, List, [], ◌∷◌, ◌++◌, length, drop, min, nat_lt, nat_le, refl, sym, ap, subst, ◌∙◌, arith, length-append}
 use Rattle.std.proofs.lemmas.Bool.{ltb-true, le-ltb}
 use Rattle.std.proofs.lemmas.Bool.Decides.{nat_tests}
 use Rattle.irq_base.specs.declared.calls.Call.{Call}
@@ -164,3 +164,22 @@ module _ (def : LineDef) (r : DriverNo) (e : Entry) (past : List Entry) (c : Cal
           both_ways (nat_lt (length (s.own ++ e ∷ [])) (entries_of_call c (s.own ++ e ∷ [])))
           (ap (λ (k : ℕ). nat_lt k (entries_of_call c (s.own ++ e ∷ []))) (length-append s.own (e ∷ []) ∙ sym h.1) ∙ h.2) (tested s ∙ ap not last)
       by_case (inr h) = omega (arith, h)
+
+below_two : (n : ℕ) → nat_le 2 n ≡ false → min (n + 1) 2 ≡ suc n
+below_two n h = grind (arith, nat_tests, h)
+
+-- before its last entry no call has more than two
+pub one_more : (c : Call) (n : ℕ) (e : Entry) → completes_at c n e ≡ false → min (n + 1) 2 ≡ suc n
+one_more (calls.Ask dev) n e more = cc
+one_more (calls.Request dev flags) n e more = cc
+one_more (calls.Free dev) zero e more = refl
+one_more (calls.Free dev) (suc n) e more = below_two (suc n) (sym (not_none n) ∙ more)
+  where
+    not_none : (n : ℕ) → cond (suc n == 0) (is_not_there e) (nat_le 2 (suc n)) ≡ nat_le 2 (suc n)
+    not_none n = ap (λ (b : Bool). cond b (is_not_there e) (nat_le 2 (suc n))) (not_first n)
+one_more calls.Disable n e more = below_two n more
+one_more calls.DisableNosync n e more = cc
+one_more calls.Enable n e more = cc
+one_more calls.Sync n e more = below_two n (let h : nat_le 2 n ≡ false = grind (arith, nat_tests, more) in h)
+one_more (calls.Affinity mask) n e more = cc
+one_more (calls.Moment at) n e more = cc

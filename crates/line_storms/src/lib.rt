@@ -5,6 +5,7 @@
 ghost use Rattle.std.specs.Prelude.{◌≡◌, ◌≤◌, ℕ, Option, Ok, Err, IfOk, OnErr};
 ghost use Rattle.irq_base.specs.declared.entries.Actor.{Actor};
 ghost use Rattle.irq_model.specs.Bounds.{bound};
+ghost use Rattle.irq_model.specs.Next.{next};
 ghost use Rattle.callbacks.specs.Seen.{SaidSeen};
 ghost use Rattle.irq_line.specs.Answers.{Answers};
 ghost use Rattle.irq_line.specs.Seen.{LineSeen};
@@ -27,7 +28,8 @@ pub fn next_step_is_not_full<L: IrqLine>(line: &L)
 ///
 /// # Errors
 ///
-/// `NoMemory` if memory was refused. Nothing has changed then.
+/// `NoMemory` if memory was refused; if the history had room, the line may want memory for what is
+/// due. Nothing has changed then.
 pub fn step_within_bound<L: IrqLine>(
     line: &mut L,
     actor: Actor,
@@ -37,6 +39,7 @@ pub fn step_within_bound<L: IrqLine>(
     ensures def { (L.seen line.new).def ≡ (L.seen line.old).def }
     ensures answer { IfOk result (λ answer. Answers (L.seen line.old) actor said (Ok answer) (L.seen line.new)) }
     ensures refused { OnErr result (L.seen line.new ≡ L.seen line.old) }
+    ensures memory { OnErr result (1 ≤ (L.seen line.old).spare → L.may_want (next (L.seen line.old).def (L.seen line.old).entries actor)) }
 {
     next_step_is_not_full(line);
     match line.step(actor, said) {

@@ -19,7 +19,7 @@ returns-in-Ok-NotYet-clause-tries g c = λ who is.
 pub loop-preserved : goal.loop-preserved
 loop-preserved g c =
     let who = its_actor c.args.pass.now.knows.actor c.requires.actor in
-    waits_on c.args.line.now who.0 c.args.pass.now c.loop.pass c.step.new.pass c.take.result c.loop.invariant c.in-Ok-Run.run
+    waits_on c.args.line.now who.0 c.args.pass.now c.loop.pass c.step.new.pass c.take.result c.loop.invariant c.in-Ok-Run.run'
     (subst (λ (s : Stepped). Steps c.args.line.now.def who.0 c.loop.pass.knows c.take.result (Ok s) c.step.new.pass.knows) c.in-Ok-Run.field-0-is (c.in-Ok-Run.ensures.steps who.0 (c.loop.invariant.actor ∙ who.1)))
     c.step.ensures.pass c.step.ensures.idle c.step.ensures.same_actor
 
