@@ -1,5 +1,5 @@
 -- A driver's script on one line alone goes on with the line's entries.
-use Rattle.std.proofs.Common.{◌≡◌, ℕ, zero, suc, ◌+◌, ◌<◌, ◌≤◌, ◌==◌, inl, inr, Bool, true, false, cond, IfSome, Option, Some, None, Ok, List, [], ◌∷◌, ◌++◌, map, length, take, slice_get, slice_set, refl, sym, ap, ◌∙◌, subst, arith, add-one, append-nil}
+use Rattle.std.proofs.Common.{◌≡◌, ℕ, zero, suc, ◌+◌, ◌<◌, ◌≤◌, ◌==◌, inl, inr, Bool, true, false, cond, IfSome, Option, Some, None, Ok, List, [], ◌∷◌, ◌++◌, map, length, take, slice_get, slice_set, refl, sym, ap, ◌∙◌, subst, arith, append-nil}
 use Rattle.std.proofs.Math.ListN.{length-map}
 use Rattle.std.proofs.lemmas.Bool.{false_from_ne_true}
 use Rattle.std.proofs.lemmas.List.{map-set}
@@ -10,7 +10,7 @@ use Rattle.irq_base.specs.declared.entries.Actor.TheVariants as actors
 use Rattle.irq_base.specs.declared.entries.Entry.{Entry}
 use Rattle.irq_base.specs.declared.lines.LineDef.{LineDef}
 use Rattle.irq_base.specs.declared.numbers.DriverNo.{DriverNo}
-use Rattle.irq_model.specs.Due.{calls_by, due_of, due_call}
+use Rattle.irq_model.specs.Due.{calls_by, due_call}
 use Rattle.irq_model.specs.Kinds.{same_driver, is_driver, is_by_driver}
 use Rattle.irq_model.specs.Legal.{IsDue}
 use Rattle.irq_model.specs.Next.{next_of_call, next_past}
@@ -20,7 +20,7 @@ use Rattle.irq_laws.proofs.Progress.{fresh, no_more}
 use Rattle.board_def.proofs.Rising.{Rises}
 use Rattle.board_def.specs.Seen.{BoardSeen}
 use Rattle.board_def.specs.declared.rows.ScriptCall.{ScriptCall}
-use Rattle.board_play.specs.Lines.{BoardLine, defs_of}
+use Rattle.board_play.specs.Lines.{BoardLine}
 use Rattle.board_play.proofs.Counting.{not_all_complete, not_completed, others_complete, one_completed, none_complete, kth_is_due}
 use Rattle.board_play.proofs.Moving.{by_driver_is}
 use Rattle.board_core.specs.Inside.{drivers_of}
@@ -28,7 +28,7 @@ use Rattle.board_core.specs.Making.{AreCut, call_put, with_call}
 use Rattle.board_core.specs.Numbers.{IsPlaceOfNumber, numbers_of_drivers}
 use Rattle.board_core.specs.Placing.{made_of, with_entry, IsOwn, AreOwn, IsPlaceOfActor}
 use Rattle.line_scripts.specs.Endings.{completes}
-use Rattle.board_core.specs.Scripts.{ScriptSeen, cut, calls_of, advanced_by, advanced_at, advanced}
+use Rattle.board_core.specs.Scripts.{ScriptSeen, calls_of, advanced_by, advanced_at, advanced}
 use Rattle.board_core.specs.Turned.{script_after, scripts_after}
 use Rattle.board_core.specs.declared.scripts.Step.{Step}
 use Rattle.board_core.proofs.Cutting.{script_there}

@@ -1,16 +1,14 @@
 -- The system of lines as they stand: its scripts are placed by what is counted on all lines.
-use Rattle.std.proofs.Common.{◌≡◌, ℕ, zero, suc, ◌+◌, ◌<◌, ◌≤◌, ◌⊎◌, inl, inr, max, IsSomeAnd, Option, Some, None, List, [], ◌∷◌, ◌++◌, map, length, get_or, take, reverse, replicate, slice_get, slice_set, refl, sym, ap, ◌∙◌, subst, arith}
+use Rattle.std.proofs.Common.{◌≡◌, ℕ, zero, suc, ◌+◌, ◌<◌, ◌≤◌, ◌⊎◌, inl, inr, max, IsSomeAnd, Option, Some, None, List, [], ◌∷◌, ◌++◌, map, length, get_or, take, reverse, slice_get, slice_set, refl, sym, ap, ◌∙◌, subst, arith}
 use Rattle.std.specs.List.{sum_by}
 use Rattle.std.proofs.Math.ListN.{length-map}
 use Rattle.std.proofs.lemmas.List.{map-set, length-set, reverse-append}
 use Rattle.std.proofs.lemmas.List.Sums.{sum_by_push, sum_by-take-le}
 use Rattle.std.proofs.lemmas.Option.{get_or_from_slice_get, slice_get_within}
-use Rattle.irq_base.specs.Who.{actor_of}
 use Rattle.irq_base.specs.declared.calls.Call.{Call}
 use Rattle.irq_base.specs.declared.entries.Entry.{Entry}
 use Rattle.irq_base.specs.declared.lines.LineDef.{LineDef}
 use Rattle.irq_base.specs.declared.numbers.DriverNo.{DriverNo}
-use Rattle.irq_base.specs.declared.numbers.LineNo.{LineNo}
 use Rattle.irq_line.specs.Seen.{LineSeen}
 use Rattle.irq_model.specs.Due.{due_call}
 use Rattle.irq_model.specs.Legal.{IsDue, IsLegal, IsLegalPast}
@@ -27,7 +25,7 @@ use Rattle.board_play.proofs.OfBoard.{has_calls}
 use Rattle.board_play.proofs.Parts.{the_line}
 use Rattle.board_core.specs.Inside.{drivers_of, IsSystem}
 use Rattle.board_core.specs.Log.{IsWalk}
-use Rattle.board_core.specs.Making.{IsCut, AreCut, AreNewScripts, AreSound}
+use Rattle.board_core.specs.Making.{IsCut, AreNewScripts, AreSound}
 use Rattle.board_core.specs.Numbers.{numbers_of_defs, numbers_of_lines}
 use Rattle.board_core.specs.Placing.{completed_on, made_of, made_on, most_made, placed, ArePlaced, HaveRoom, IsOwn, AreOwn, joined, CanJoin, AreJoined, AreLengths}
 use Rattle.board_core.specs.Scripts.{ScriptSeen, cut, calls_of, IsScript}
@@ -36,7 +34,7 @@ use Rattle.board_core.specs.declared.scripts.Step.{Step}
 use Rattle.board_core.proofs.CutCounts.{kept, kept_few, complete_all, cut_up_to}
 use Rattle.board_core.proofs.Few.{few_lines}
 use Rattle.board_core.proofs.InSystem.{numbers_are}
-use Rattle.board_core.proofs.MadeOf.{taken, all_taken, map_more, number_back}
+use Rattle.board_core.proofs.MadeOf.{taken, all_taken, number_back}
 use Rattle.board_core.proofs.Readiness.{seen_at}
 use Rattle.board_core.proofs.ScriptLaws.{HaveCalls, call_there, due_there}
 use Rattle.board_core.proofs.Searches.{there}

@@ -1,6 +1,5 @@
-use Rattle.std.proofs.Common.{rules, ◌≡◌, map, length, slice_get, Some, ◌∙◌, ap, sym, subst}
+use Rattle.std.proofs.Common.{rules, ◌≡◌, map, slice_get, ◌∙◌, ap, sym, subst}
 use Rattle.std.specs.Option.{option_map}
-use Rattle.irq_base.specs.declared.lines.LineDef.{LineDef}
 use Rattle.board_def.specs.Layout.{layout_of}
 use Rattle.board_core.specs.Making.{IsNewLine}
 use Rattle.board_core.specs.Seen.{board_lines}

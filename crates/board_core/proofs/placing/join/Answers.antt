@@ -1,6 +1,5 @@
-use Rattle.std.proofs.Common.{◌≡◌, Some, length, slice_get, slice_set, rules, refl, ap, ◌∙◌, arith}
+use Rattle.std.proofs.Common.{◌≡◌, Some, length, slice_get, slice_set, rules, refl, ap}
 use Rattle.std.proofs.lemmas.Option.{slice_get_read}
-use Rattle.std.proofs.Math.ListN.{length-map}
 use Rattle.board_core.proofs.Placed.{join_fits, one_joined, all_joined}
 use Rattle.board_core.proofs.placing.join.Goals as goal
 

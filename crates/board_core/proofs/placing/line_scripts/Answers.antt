@@ -1,4 +1,4 @@
-use Rattle.std.proofs.Common.{rules, refl, sym, ap, ◌∙◌, subst}
+use Rattle.std.proofs.Common.{rules, refl, sym}
 use Rattle.board_core.proofs.Cutting.{script_there}
 use Rattle.board_core.proofs.MadeOf.{all_taken}
 use Rattle.board_core.proofs.OwnScripts.{bare_first, bare_more, bare_own}

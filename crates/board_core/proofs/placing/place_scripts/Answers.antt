@@ -1,7 +1,5 @@
 use Rattle.std.proofs.Common.{map, length, sym, ap, ◌∙◌, subst}
-use Rattle.irq_line.specs.Seen.{LineSeen}
 use Rattle.board_core.specs.Placing.{CanJoin, AreJoined}
-use Rattle.board_core.specs.Scripts.{ScriptSeen}
 use Rattle.board_core.specs.Seen.{board_line, board_lines}
 use Rattle.board_core.proofs.Placed.{none_placed, as_many_own, can_join, placed_next, all_placed_seen, line_seen}
 use Rattle.board_core.proofs.placing.place_scripts.Goals as goal
