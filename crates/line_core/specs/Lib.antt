@@ -1,3 +1,4 @@
+pub mod Seen
 pub mod Moves
 pub mod Running
 pub mod Blocking

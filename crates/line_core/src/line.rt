@@ -8,6 +8,8 @@ ghost use Rattle.irq_model.specs.Signal.{target};
 ghost use Rattle.irq_model.specs.Up.{is_up};
 ghost use Rattle.irq_model.specs.Valid.{IsValid};
 ghost use Rattle.irq_laws.specs.Driven.{cell_after};
+ghost use Rattle.irq_line.specs.Answers.{Answers};
+ghost use Rattle.irq_line.specs.Memory.{WantsMemory};
 ghost use Rattle.line_core.specs.Room.{links_next};
 ghost use Rattle.line_core.specs.Entries.{entry_at};
 ghost use Rattle.line_core.specs.Blocking.{freed_in, blocks_by};
@@ -35,12 +37,12 @@ pub struct Line<C: Chip> {
 }
 
 impl<C: Chip> Model for Line<C> {
-    ghost use Rattle.irq_line.specs.Seen.{LineSeen};
+    ghost use Rattle.line_core.specs.Seen.{WiredSeen};
     ghost use Rattle.line_marks.specs.Line.{IsLine};
 
-    ghost Value = { LineSeen };
+    ghost Value = { WiredSeen };
 
-    ghost view = { λ l. record { def = l.def; entries = l.history.entries; spare = l.history.spare } };
+    ghost view = { λ l. record { line = record { def = l.def; entries = l.history.entries; spare = l.history.spare }; wiring = l.state.wiring } };
 
     ghost invariant = { λ l. IsLine l.def l.history.entries l.state.state l.scripts };
 }
@@ -56,8 +58,9 @@ impl<C: Chip + Drop> Line<C> {
             ≡ fresh_cell def.now.trigger def.now.keeps def.now.recalls def.now.retriggers
             (serves def.now) }
         requires inactive { C.active chip ≡ false }
-        ensures def { IfOk result (λ line. line.def ≡ def.now) }
-        ensures empty { IfOk result (λ line. line.entries ≡ []) }
+        ensures def { IfOk result (λ line. line.line.def ≡ def.now) }
+        ensures empty { IfOk result (λ line. line.line.entries ≡ []) }
+        ensures wiring { IfOk result (λ line. line.wiring ≡ C.wiring chip) }
     {
         let state = LineState::new(alloc, def, chip)?;
         let scripts = Scripts::new(alloc, &def.calls)?;
@@ -76,10 +79,12 @@ impl<C: Chip> Line<C> {
     /// The chips. Their cell is the one that the entries drive, they are active exactly while the
     /// line is up, and they are aimed at the line's target.
     pub fn chip(&self) -> &C
-        ensures cell { C.cell result.now ≡ cell_after self.now.def (reverse self.now.entries) }
-        ensures active { C.active result.now ≡ is_up (reverse self.now.entries) }
-        ensures aimed { target self.now.def (reverse self.now.entries)
+        ensures cell { C.cell result.now
+            ≡ cell_after self.now.line.def (reverse self.now.line.entries) }
+        ensures active { C.active result.now ≡ is_up (reverse self.now.line.entries) }
+        ensures aimed { target self.now.line.def (reverse self.now.line.entries)
             ≡ Some (record { 0 = C.aimed result.now }) }
+        ensures wiring { C.wiring result.now ≡ self.now.wiring }
     {
         self.state.chip()
     }
@@ -87,8 +92,8 @@ impl<C: Chip> Line<C> {
     /// The step that is due of the actor, if there is one.
     #[inline(always)]
     fn due(&self, actor: Actor) -> Option<DueStep>
-        ensures { option_map (entry_at self.now) result
-            ≡ next self.now.def self.now.entries actor }
+        ensures { option_map (entry_at self.now.line) result
+            ≡ next self.now.line.def self.now.line.entries actor }
     {
         due_by(&self.def, &self.state, &self.scripts, actor)
     }
@@ -97,16 +102,18 @@ impl<C: Chip> Line<C> {
     /// history has room, it takes no memory.
     #[inline(always)]
     fn add(&mut self, actor: Actor, step: DueStep) -> Result<Entry, NoMemory>
-        requires due { next self.old.def self.old.entries actor ≡ Some (entry_at self.old step) }
-        requires below { length self.old.entries < self.old.def.log }
-        ensures def { self.new.def ≡ self.old.def }
-        ensures entry { IfOk result (λ entry. entry ≡ entry_at self.old step) }
+        requires due { next self.old.line.def self.old.line.entries actor
+            ≡ Some (entry_at self.old.line step) }
+        requires below { length self.old.line.entries < self.old.line.def.log }
+        ensures def { self.new.line.def ≡ self.old.line.def }
+        ensures entry { IfOk result (λ entry. entry ≡ entry_at self.old.line step) }
         ensures entries { IfOk result
-            (λ entry. self.new.entries ≡ self.old.entries ++ entry ∷ []) }
-        ensures spare { OnOk result (self.old.spare ≤ self.new.spare + 1) }
+            (λ entry. self.new.line.entries ≡ self.old.line.entries ++ entry ∷ []) }
+        ensures spare { OnOk result (self.old.line.spare ≤ self.new.line.spare + 1) }
         ensures refused { OnErr result (self.new ≡ self.old) }
-        ensures needless { is_linked_request (entry_at self.old step) ≡ false
-            → 1 ≤ self.old.spare → IsOk result }
+        ensures needless { is_linked_request (entry_at self.old.line step) ≡ false
+            → 1 ≤ self.old.line.spare → IsOk result }
+        ensures wiring { self.new.wiring ≡ self.old.wiring }
     {
         make_room(&mut self.state, &mut self.history, step)?;
         let entry = self.state.make(&self.def, step);
@@ -152,12 +159,17 @@ fn blocks_by<C: Chip>(state: &LineState<C>) -> Blocks
 }
 
 impl<C: Chip + Drop> IrqLine for Line<C> {
-    ghost seen = { λ l. l };
+    ghost seen = { λ l. l.line };
 
     ghost may_want = { λ due. links_next due ≡ true };
 
     #[inline(always)]
-    fn step(&mut self, actor: Actor, said: Option<Said>) -> Result<Stepped, StepRefused> {
+    fn step(&mut self, actor: Actor, said: Option<Said>) -> Result<Stepped, StepRefused>
+        ensures def { self.new.line.def ≡ self.old.line.def }
+        ensures answer { Answers self.old.line actor said result self.new.line }
+        ensures memory { WantsMemory (λ due. links_next due ≡ true) self.old.line actor result }
+        ensures wiring { self.new.wiring ≡ self.old.wiring }
+    {
         let Some(step) = self.due(actor) else {
             return Ok(Stepped::NotYet);
         };
@@ -172,7 +184,15 @@ impl<C: Chip + Drop> IrqLine for Line<C> {
         Ok(Stepped::Added(entry))
     }
 
-    fn reserve(&mut self) -> Result<(), NoMemory> {
+    fn reserve(&mut self) -> Result<(), NoMemory>
+        ensures room { OnOk result (1 ≤ self.new.line.spare) }
+        ensures def { self.new.line.def ≡ self.old.line.def }
+        ensures entries { self.new.line.entries ≡ self.old.line.entries }
+        ensures grows { self.old.line.spare ≤ self.new.line.spare }
+        ensures needed { OnErr result (self.old.line.spare ≡ 0) }
+        ensures refused { OnErr result (self.new.line ≡ self.old.line) }
+        ensures wiring { self.new.wiring ≡ self.old.wiring }
+    {
         if self.history.spare() == 0 {
             self.history.reserve(1)?;
         }

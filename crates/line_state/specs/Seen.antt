@@ -1,26 +1,23 @@
 -- What is seen of the state of a line, and what is read off it.
-use Rattle.std.specs.Prelude.{◌≡◌, ℕ, Bool, false, not, ◌||◌, if◌then◌else◌, is_some, Option, Some, None}
+use Rattle.std.specs.Prelude.{◌≡◌, ℕ, Bool, not, ◌||◌, if◌then◌else◌, is_some, Option, Some, None}
 use Rattle.irq_base.specs.Cell.{signals}
-use Rattle.irq_base.specs.declared.calls.Call.{Call}
-use Rattle.irq_base.specs.declared.calls.Call.TheVariants as calls
+use Rattle.irq_base.specs.Wiring.{Wiring}
 use Rattle.irq_base.specs.declared.lines.LineDef.{LineDef}
 use Rattle.irq_base.specs.declared.numbers.CpuNo.{CpuNo}
 use Rattle.irq_base.specs.declared.numbers.DevNo.{DevNo}
 use Rattle.irq_model.specs.Rounds.{is_cpu}
 use Rattle.irq_model.specs.Signal.{lowest_in}
-use Rattle.device_table.specs.Rows.{at, lowest_where}
-use Rattle.act_list.specs.Actions.{has}
+use Rattle.device_table.specs.Rows.{lowest_where}
 use Rattle.act_thread.specs.Steps.{could_step}
-use Rattle.ask_counts.specs.Rows.{HasRoom}
 use Rattle.affinity.specs.Seen.{AimSeen}
 use Rattle.desc_state.specs.Desc.{DescSeen}
-use Rattle.line_marks.specs.Expected.{HasDepth}
 use Rattle.line_marks.specs.State.{StateSeen}
 
--- the state, and how many more actions fit without memory
+-- the state, how many more actions fit without memory, and how the chips are wired
 pub record LineStateSeen : Type 0 where
   pub state : StateSeen
   pub spare : ℕ
+  pub wiring : Wiring
 
 -- the target, unless the flow is its own
 abbrev pub unless_in_flow : StateSeen → Option CpuNo → Option CpuNo
@@ -46,11 +43,3 @@ lowest_due s = lowest_where (could_step (may_go_on s.desc)) s.threads
 pub record IsAimOf (def : LineDef) (a : AimSeen) : Type 0 where
   pub cpus : a.cpus ≡ def.cpus
   pub later : a.later ≡ def.later
-
--- the entries of the call fit the counts, and a request's device isn't linked
-abbrev pub HasCallRoom : Call → StateSeen → Type 0
-HasCallRoom (calls.Ask dev) s = HasRoom (at s.asks dev)
-HasCallRoom (calls.Request dev flags) s = has dev s.list.actions ≡ false
-HasCallRoom calls.Disable s = HasDepth s
-HasCallRoom calls.DisableNosync s = HasDepth s
-HasCallRoom _ s = Unit {0}

@@ -20,6 +20,7 @@ impl<C: Chip> LineState<C> {
         ensures entry { result ≡ entries.Disable driver }
         ensures state { (def : LineDef)
             → self.new.state ≡ state_after def result self.old.state }
+        ensures wiring { self.new.wiring ≡ self.old.wiring }
     {
         self.desc.disable(&mut self.chip);
         Entry::Disable { driver }
@@ -30,6 +31,7 @@ impl<C: Chip> LineState<C> {
         ensures entry { result ≡ entries.Enable driver
             (enable_by (not (is_bare self.old.state.list.actions)) def.now.trigger self.old.state.desc self.old.state.cell) }
         ensures state { self.new.state ≡ state_after def.now result self.old.state }
+        ensures wiring { self.new.wiring ≡ self.old.wiring }
     {
         let linked = !self.actions.is_empty();
         let answer = self.desc.enable(&mut self.chip, linked, def.trigger);
@@ -43,6 +45,7 @@ impl<C: Chip> LineState<C> {
             ≡ entries.Unlink driver dev (unlink_by dev self.old.state.list.actions) }
         ensures state { (def : LineDef)
             → self.new.state ≡ state_after def result self.old.state }
+        ensures wiring { self.new.wiring ≡ self.old.wiring }
     {
         let answer = self.actions.unlink(dev);
         if let UnlinkAnswer::Unlinked { last } = answer {
@@ -57,7 +60,8 @@ impl<C: Chip> LineState<C> {
     }
 
     fn shut_if(&mut self, last: bool)
-        ensures { self.new.state ≡ shut_if last self.old.state }
+        ensures state { self.new.state ≡ shut_if last self.old.state }
+        ensures wiring { self.new.wiring ≡ self.old.wiring }
     {
         if last {
             self.desc.shutdown(&mut self.chip);
@@ -70,6 +74,7 @@ impl<C: Chip> LineState<C> {
         ensures entry { result ≡ entries.Freed driver dev }
         ensures state { (def : LineDef)
             → self.new.state ≡ state_after def result self.old.state }
+        ensures wiring { self.new.wiring ≡ self.old.wiring }
     {
         self.freeing = None;
         if self.actions.is_empty() {
@@ -85,6 +90,7 @@ impl<C: Chip> LineState<C> {
             ≡ entries.Affinity driver mask (set_answer self.old.state.aim mask) }
         ensures state { (def : LineDef)
             → self.new.state ≡ state_after def result self.old.state }
+        ensures wiring { self.new.wiring ≡ self.old.wiring }
     {
         let answer = self.aim.set(mask);
         if answer == AffinityAnswer::Now {
@@ -102,6 +108,7 @@ impl<C: Chip> LineState<C> {
         ensures entry { result ≡ entries.Moment driver at }
         ensures state { (def : LineDef)
             → self.new.state ≡ state_after def result self.old.state }
+        ensures wiring { self.new.wiring ≡ self.old.wiring }
     {
         self.round.set_moment(at);
         Entry::Moment { driver, at }

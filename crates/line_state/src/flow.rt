@@ -25,6 +25,7 @@ impl<C: Chip> LineState<C> {
         requires rounds { HasRounds self.old.state }
         ensures entry { result ≡ entries.Take cpu way (take_by self.old.state) }
         ensures state { self.new.state ≡ state_after def.now result self.old.state }
+        ensures wiring { self.new.wiring ≡ self.old.wiring }
     {
         self.arrive(way);
         let answer = self.enter(def, cpu);
@@ -36,7 +37,8 @@ impl<C: Chip> LineState<C> {
     /// What is presented is accepted; what the software resends waits no more (`resend_irqs`,
     /// `kernel/irq/resend.c`).
     fn arrive(&mut self, way: Way)
-        ensures { self.new.state ≡ arrived way self.old.state }
+        ensures state { self.new.state ≡ arrived way self.old.state }
+        ensures wiring { self.new.wiring ≡ self.old.wiring }
     {
         match way {
             Way::Line => self.chip.accept(),
@@ -48,6 +50,7 @@ impl<C: Chip> LineState<C> {
     fn enter(&mut self, def: &LineDef, cpu: CpuNo) -> TakeAnswer
         ensures answer { result ≡ take_by self.old.state }
         ensures state { self.new.state ≡ entered def.now def.now.flow result cpu self.old.state }
+        ensures wiring { self.new.wiring ≡ self.old.wiring }
     {
         let linked = !self.actions.is_empty();
         match def.flow {
@@ -67,7 +70,8 @@ impl<C: Chip> LineState<C> {
     /// `kernel/irq/migration.c`).
     fn move_affinity(&mut self)
         requires { self.old.state.aim.cpus ≤ 32 }
-        ensures { self.new.state ≡ moved self.old.state }
+        ensures state { self.new.state ≡ moved self.old.state }
+        ensures wiring { self.new.wiring ≡ self.old.wiring }
     {
         self.aim.move_now();
         self.aim_chip();
@@ -77,7 +81,8 @@ impl<C: Chip> LineState<C> {
     #[tactic(auto, using(crate::proofs::Targets::target_below))]
     pub(crate) fn aim_chip(&mut self)
         requires { self.old.state.aim.cpus ≤ 32 }
-        ensures { self.new.state ≡ record self.old.state { aimed = aimed_by self.old.state.aim } }
+        ensures state { self.new.state ≡ record self.old.state { aimed = aimed_by self.old.state.aim } }
+        ensures wiring { self.new.wiring ≡ self.old.wiring }
     {
         self.chip.aim(self.aim.target());
     }
@@ -85,7 +90,8 @@ impl<C: Chip> LineState<C> {
     /// The handlers are to run.
     fn begin_round_if(&mut self, answer: TakeAnswer)
         requires { HasRounds self.old.state }
-        ensures { self.new.state ≡ handling_from answer self.old.state }
+        ensures state { self.new.state ≡ handling_from answer self.old.state }
+        ensures wiring { self.new.wiring ≡ self.old.wiring }
     {
         if answer == TakeAnswer::Handle {
             self.begin_round();
@@ -95,7 +101,8 @@ impl<C: Chip> LineState<C> {
     /// A round begins: no handler was called in it.
     fn begin_round(&mut self)
         requires { HasRounds self.old.state }
-        ensures { self.new.state ≡ round_begun self.old.state }
+        ensures state { self.new.state ≡ round_begun self.old.state }
+        ensures wiring { self.new.wiring ≡ self.old.wiring }
     {
         self.round.begin();
         self.actions.begin_round();
@@ -111,6 +118,7 @@ impl<C: Chip> LineState<C> {
         requires open { IsOpen def.now self.old.state }
         ensures entry { result ≡ end_by def.now self.old.state cpu }
         ensures state { self.new.state ≡ state_after def.now result self.old.state }
+        ensures wiring { self.new.wiring ≡ self.old.wiring }
     {
         let note = self.note_round();
         self.kill_by(note);
@@ -128,6 +136,7 @@ impl<C: Chip> LineState<C> {
     fn note_round(&mut self) -> Note
         ensures note { result ≡ note_by self.old.state }
         ensures state { self.new.state ≡ noted_at self.old.state }
+        ensures wiring { self.new.wiring ≡ self.old.wiring }
     {
         let (wakes, handles) = (self.round.wakes(), self.round.handles());
         self.counts.note(self.round.moment(), wakes, handles)
@@ -136,7 +145,8 @@ impl<C: Chip> LineState<C> {
     /// Its last part: the line is disabled.
     fn kill_by(&mut self, note: Note)
         requires { HasDepth self.old.state }
-        ensures { self.new.state ≡ killed_by note self.old.state }
+        ensures state { self.new.state ≡ killed_by note self.old.state }
+        ensures wiring { self.new.wiring ≡ self.old.wiring }
     {
         if note == Note::Killed {
             self.desc.kill(&mut self.chip);
@@ -151,6 +161,7 @@ impl<C: Chip> LineState<C> {
         ensures left { result
             ≡ left_by def.now def.now.flow (is_held self.old.state) self.old.state.desc }
         ensures state { self.new.state ≡ gone_on def.now result.again (left_at def.now def.now.flow (is_held self.old.state) self.old.state) }
+        ensures wiring { self.new.wiring ≡ self.old.wiring }
     {
         let held = self.is_held();
         match def.flow {
@@ -167,6 +178,7 @@ impl<C: Chip> LineState<C> {
         ensures state { (def : LineDef) → self.new.state
             ≡ (if result.again then round_begun (left_at def flows.Edge held self.old.state)
             else left_at def flows.Edge held self.old.state) }
+        ensures wiring { self.new.wiring ≡ self.old.wiring }
     {
         let left = edge::leave(&mut self.desc, &mut self.chip, held);
         if left.again {

@@ -34,6 +34,7 @@ impl<C: Chip> LineState<C> {
         requires room { links_by self.old.state step ≡ true → 1 ≤ self.old.spare }
         ensures entry { result ≡ entry_by def.now self.old.state step }
         ensures state { self.new.state ≡ state_after def.now result self.old.state }
+        ensures wiring { self.new.wiring ≡ self.old.wiring }
     {
         match step {
             DueStep::Ask { driver, dev } => self.ask(def, driver, dev),

@@ -32,6 +32,7 @@ impl<C: Chip> LineState<C> {
         ensures entry { result ≡ request_to def.now driver dev flags self.old.state
             (answer_by (kind_at self.old.state.kinds dev) flags self.old.state.list.actions) }
         ensures state { self.new.state ≡ state_after def.now result self.old.state }
+        ensures wiring { self.new.wiring ≡ self.old.wiring }
     {
         let first = self.actions.is_empty();
         let answer = self.link(dev, flags);
@@ -58,6 +59,7 @@ impl<C: Chip> LineState<C> {
             ≡ answer_by (kind_at self.old.state.kinds dev) flags self.old.state.list.actions }
         ensures state { self.new.state
             ≡ record self.old.state { list = after_link result dev flags self.old.state.list } }
+        ensures wiring { self.new.wiring ≡ self.old.wiring }
     {
         let kind = self.kind(dev);
         let Ok(answer) = self.actions.link(dev, kind, flags) else {
@@ -74,6 +76,7 @@ impl<C: Chip> LineState<C> {
         ensures opened { result ≡ (if first then (if flags.noauto then opens.No else opens.Started (resend_by trigger self.old.state.desc self.old.state.cell))
             else (if self.old.state.desc.spurious then opened_by_enable (enable_by (not first) trigger self.old.state.desc self.old.state.cell) else opens.No)) }
         ensures state { self.new.state ≡ opened_to first result (activated_if first (taken_over flags self.old.state)) }
+        ensures wiring { self.new.wiring ≡ self.old.wiring }
     {
         let spurious = self.desc.spurious();
         self.desc.set_oneshot(flags.oneshot);
@@ -92,6 +95,7 @@ impl<C: Chip> LineState<C> {
         ensures opened { result ≡ (if noauto then opens.No
             else opens.Started (resend_by trigger self.old.state.desc self.old.state.cell)) }
         ensures state { self.new.state ≡ opened_to true result (record self.old.state { active = true }) }
+        ensures wiring { self.new.wiring ≡ self.old.wiring }
     {
         self.chip.activate();
         if noauto {
@@ -107,6 +111,7 @@ impl<C: Chip> LineState<C> {
         ensures opened { result ≡ (if spurious then opened_by_enable (enable_by true trigger self.old.state.desc self.old.state.cell)
             else opens.No) }
         ensures state { self.new.state ≡ opened_to false result self.old.state }
+        ensures wiring { self.new.wiring ≡ self.old.wiring }
     {
         if !spurious {
             return Opened::No;

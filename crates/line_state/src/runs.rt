@@ -27,6 +27,7 @@ impl<C: Chip> LineState<C> {
         requires room { HasRoom (at self.old.state.asks dev) }
         ensures entry { result ≡ entries.Ask driver dev }
         ensures state { self.new.state ≡ state_after def.now result self.old.state }
+        ensures wiring { self.new.wiring ≡ self.old.wiring }
     {
         self.asks.asked(dev);
         match def.trigger {
@@ -42,6 +43,7 @@ impl<C: Chip> LineState<C> {
         ensures entry { result ≡ entries.Begin cpu dev }
         ensures state { (def : LineDef)
             → self.new.state ≡ state_after def result self.old.state }
+        ensures wiring { self.new.wiring ≡ self.old.wiring }
     {
         let serves = is_direct(self.kind(dev));
         self.asks.called(dev, serves);
@@ -58,6 +60,7 @@ impl<C: Chip> LineState<C> {
         ensures entry { result
             ≡ return_by self.old.state cpu dev (met_by (at self.old.state.asks dev)) }
         ensures state { self.new.state ≡ state_after def.now result self.old.state }
+        ensures wiring { self.new.wiring ≡ self.old.wiring }
     {
         let kind = self.kind(dev);
         let met = met_by_handler(self.asks.served(dev, is_direct(kind)));
@@ -80,7 +83,8 @@ impl<C: Chip> LineState<C> {
     /// The level is what the asks make of it, once a run has served.
     fn lower(&mut self, def: &LineDef, served: u32)
         requires { IsOf def.now self.old.state }
-        ensures { self.new.state ≡ lowered def.now served self.old.state }
+        ensures state { self.new.state ≡ lowered def.now served self.old.state }
+        ensures wiring { self.new.wiring ≡ self.old.wiring }
     {
         if def.trigger == Trigger::Level && served > 0 {
             self.chip.set_high(self.asks.is_high());
@@ -93,6 +97,7 @@ impl<C: Chip> LineState<C> {
         ensures entry { result ≡ entries.ThreadBegin dev }
         ensures state { (def : LineDef)
             → self.new.state ≡ state_after def result self.old.state }
+        ensures wiring { self.new.wiring ≡ self.old.wiring }
     {
         let serves = is_threaded(self.kind(dev));
         self.threads.begin(dev);
@@ -108,6 +113,7 @@ impl<C: Chip> LineState<C> {
         ensures entry { result
             ≡ entries.ThreadReturn dev (met_in (at self.old.state.asks dev)) }
         ensures state { self.new.state ≡ state_after def.now result self.old.state }
+        ensures wiring { self.new.wiring ≡ self.old.wiring }
     {
         let serves = is_threaded(self.kind(dev));
         self.threads.returned(dev);
@@ -127,6 +133,7 @@ impl<C: Chip> LineState<C> {
         ensures entry { result ≡ finish_by self.old.state dev }
         ensures state { (def : LineDef)
             → self.new.state ≡ state_after def result self.old.state }
+        ensures wiring { self.new.wiring ≡ self.old.wiring }
     {
         let found = self.threads.finish(dev);
         let unmask = found == Finished::Cleared
@@ -149,6 +156,7 @@ impl<C: Chip> LineState<C> {
         ensures entry { result ≡ entries.Done dev }
         ensures state { (def : LineDef)
             → self.new.state ≡ state_after def result self.old.state }
+        ensures wiring { self.new.wiring ≡ self.old.wiring }
     {
         let oneshot = self.desc.oneshot();
         self.threads.done(dev, oneshot);

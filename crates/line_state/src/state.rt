@@ -23,7 +23,8 @@ use std::marker::Model;
 
 /// All that a line keeps of its history but its drivers' places in their scripts (`struct
 /// irq_desc`, `include/linux/irqdesc.h`). Contracts see the state that the definitions read off a
-/// history, and how many more actions fit without memory.
+/// history, how many more actions fit without memory, and how the chips are wired, which no call
+/// changes.
 #[derive(Drop)]
 pub struct LineState<C: Chip> {
     pub(crate) desc: Desc,
@@ -43,7 +44,7 @@ impl<C: Chip> Model for LineState<C> {
 
     ghost Value = { LineStateSeen };
 
-    ghost view = { λ s. record { state = record { desc = s.desc; cell = C.cell s.chip; active = C.active s.chip; aimed = C.aimed s.chip; aim = s.aim; list = s.actions.list; threads = s.threads; asks = s.asks; kinds = s.kinds; round = s.round; counts = s.counts; freeing = s.freeing }; spare = s.actions.spare } };
+    ghost view = { λ s. record { state = record { desc = s.desc; cell = C.cell s.chip; active = C.active s.chip; aimed = C.aimed s.chip; aim = s.aim; list = s.actions.list; threads = s.threads; asks = s.asks; kinds = s.kinds; round = s.round; counts = s.counts; freeing = s.freeing }; spare = s.actions.spare; wiring = C.wiring s.chip } };
 }
 
 impl<C: Chip + Drop> LineState<C> {
@@ -54,7 +55,8 @@ impl<C: Chip + Drop> LineState<C> {
         requires valid { IsValid def.now }
         requires cell { C.cell chip ≡ (first_state def.now).cell }
         requires inactive { C.active chip ≡ false }
-        ensures { IfOk result (λ s. s.state ≡ first_state def.now) }
+        ensures state { IfOk result (λ s. s.state ≡ first_state def.now) }
+        ensures wiring { IfOk result (λ s. s.wiring ≡ C.wiring chip) }
     {
         let actions = ActList::new(alloc, def)?;
         let threads = Threads::new(alloc, def)?;
@@ -84,6 +86,7 @@ impl<C: Chip> LineState<C> {
     pub fn reserve(&mut self) -> Result<(), NoMemory>
         ensures room { OnOk result (1 ≤ self.new.spare) }
         ensures state { self.new.state ≡ self.old.state }
+        ensures wiring { self.new.wiring ≡ self.old.wiring }
     {
         self.actions.reserve()
     }
@@ -93,6 +96,7 @@ impl<C: Chip> LineState<C> {
         ensures cell { C.cell result.now ≡ self.now.state.cell }
         ensures active { C.active result.now ≡ self.now.state.active }
         ensures aimed { C.aimed result.now ≡ self.now.state.aimed }
+        ensures wiring { C.wiring result.now ≡ self.now.wiring }
     {
         &self.chip
     }

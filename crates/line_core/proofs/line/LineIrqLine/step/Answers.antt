@@ -8,16 +8,17 @@ use Rattle.line_core.proofs.Stepping.{adds, wants, wanted, wants_memory}
 use Rattle.line_core.specs.Room.{links_next}
 use Rattle.line_core.specs.Entries.{entry_at}
 use Rattle.line_core.specs.Running.{run_by}
+use Rattle.line_core.specs.Seen.{WiredSeen}
 use Rattle.line_core.proofs.line.LineIrqLine.step.Goals as goal
 
 pub returns-in-Some-unanswered-clause-answer : goal.returns-in-Some-unanswered-clause-answer
 returns-in-Some-unanswered-clause-answer g c =
     let line : LineSeen = record { def = c.self.inside.def; entries = c.self.inside.history.entries; spare = c.self.inside.history.spare } in
-    let due : next line.def line.entries c.args.actor ≡ Some (entry_at line c.in-Some.step) = subst (λ (l : LineSeen). next l.def l.entries c.args.actor ≡ Some (entry_at l c.in-Some.step)) (sym c.self.view_is) (sym c.due.ensures ∙ ap (option_map (entry_at c.args.self.now)) c.in-Some.is) in
+    let due : next line.def line.entries c.args.actor ≡ Some (entry_at line c.in-Some.step) = subst (λ (w : WiredSeen). next w.line.def w.line.entries c.args.actor ≡ Some (entry_at w.line c.in-Some.step)) (sym c.self.view_is) (sym c.due.ensures ∙ ap (option_map (entry_at c.args.self.now.line)) c.in-Some.is) in
     let below : length line.entries < line.def.log = search (rules, arith) in
     let run = c.in-Some-unanswered.run' in
     let some = c.in-Some-unanswered.ensures.some in (
-      subst (λ (l : LineSeen). WantsRun l c.args.actor c.args.said run) c.self.view_is
+      subst (λ (w : WiredSeen). WantsRun w.line c.args.actor c.args.said run) c.self.view_is
           (wants line c.self.inside.state.state c.self.inside.scripts c.args.actor c.args.said c.in-Some.step c.self.invariant due run some.0 some.1 below),
       refl,
     )
@@ -25,18 +26,18 @@ returns-in-Some-unanswered-clause-answer g c =
 pub returns-clause-answer : goal.returns-clause-answer
 returns-clause-answer g c =
     let line : LineSeen = record { def = c.self.inside.def; entries = c.self.inside.history.entries; spare = c.self.inside.history.spare } in
-    let due : next line.def line.entries c.args.actor ≡ Some (entry_at line c.in-Some.step) = subst (λ (l : LineSeen). next l.def l.entries c.args.actor ≡ Some (entry_at l c.in-Some.step)) (sym c.self.view_is) (sym c.due.ensures ∙ ap (option_map (entry_at c.args.self.now)) c.in-Some.is) in
+    let due : next line.def line.entries c.args.actor ≡ Some (entry_at line c.in-Some.step) = subst (λ (w : WiredSeen). next w.line.def w.line.entries c.args.actor ≡ Some (entry_at w.line c.in-Some.step)) (sym c.self.view_is) (sym c.due.ensures ∙ ap (option_map (entry_at c.args.self.now.line)) c.in-Some.is) in
     let below : length line.entries < line.def.log = search (rules, arith) in
     let heard : IfSome (run_by line.def c.self.inside.state.state c.in-Some.step) (IsSaidFor c.args.said) = search rules in
     let e = c.in_ok-entry.entry in
-    subst (λ (l : LineSeen). AddsEntry l c.args.actor c.args.said e c.add.new.self) c.self.view_is
-    (adds line c.self.inside.state.state c.self.inside.scripts c.args.actor c.args.said c.in-Some.step c.self.invariant due e c.add.new.self
-    (c.in_ok-entry.ensures.entry ∙ ap (λ (l : LineSeen). entry_at l c.in-Some.step) (sym c.self.view_is)) heard below
-    (c.add.ensures.def ∙ ap (λ (l : LineSeen). l.def) (sym c.self.view_is))
-    (c.in_ok-entry.ensures.entries ∙ ap (λ (l : LineSeen). l.entries ++ e ∷ []) (sym c.self.view_is))
-    (subst (λ (l : LineSeen). l.spare ≤ c.add.new.self.spare + 1) (sym c.self.view_is) c.in_ok-entry.ensures.spare))
+    subst (λ (w : WiredSeen). AddsEntry w.line c.args.actor c.args.said e c.add.new.self.line) c.self.view_is
+    (adds line c.self.inside.state.state c.self.inside.scripts c.args.actor c.args.said c.in-Some.step c.self.invariant due e c.add.new.self.line
+    (c.in_ok-entry.ensures.entry ∙ ap (λ (w : WiredSeen). entry_at w.line c.in-Some.step) (sym c.self.view_is)) heard below
+    (c.add.ensures.def ∙ ap (λ (w : WiredSeen). w.line.def) (sym c.self.view_is))
+    (c.in_ok-entry.ensures.entries ∙ ap (λ (w : WiredSeen). w.line.entries ++ e ∷ []) (sym c.self.view_is))
+    (subst (λ (w : WiredSeen). w.line.spare ≤ c.add.new.self.line.spare + 1) (sym c.self.view_is) c.in_ok-entry.ensures.spare))
 
 pub returns-in_err-entry-clause-memory : goal.returns-in_err-entry-clause-memory
 returns-in_err-entry-clause-memory g c =
-    let due : next c.args.self.now.def c.args.self.now.entries c.args.actor ≡ Some (entry_at c.args.self.now c.in-Some.step) = sym c.due.ensures ∙ ap (option_map (entry_at c.args.self.now)) c.in-Some.is in
-    wants_memory c.args.self.now c.args.actor c.from_residual.result (λ room. ap links_next due ∙ wanted (is_linked_request (entry_at c.args.self.now c.in-Some.step)) c.add.result c.in_err-entry.was (λ f. c.add.ensures.needless f room))
+    let due : next c.args.self.now.line.def c.args.self.now.line.entries c.args.actor ≡ Some (entry_at c.args.self.now.line c.in-Some.step) = sym c.due.ensures ∙ ap (option_map (entry_at c.args.self.now.line)) c.in-Some.is in
+    wants_memory c.args.self.now.line c.args.actor c.from_residual.result (λ room. ap links_next due ∙ wanted (is_linked_request (entry_at c.args.self.now.line c.in-Some.step)) c.add.result c.in_err-entry.was (λ f. c.add.ensures.needless f room))
