@@ -4,7 +4,7 @@ use Rattle.std.proofs.lemmas.Bool.Decides.{nat_tests}
 use Rattle.irq_base.specs.declared.devices.DeviceDef.{DeviceDef}
 use Rattle.irq_base.specs.declared.numbers.DevNo.{DevNo}
 use Rattle.irq_model.specs.Kinds.{same_dev}
-use Rattle.device_table.specs.Rows.{at, put, change, changed, all_with}
+use Rattle.device_table.specs.Rows.{at, put, change, changed, all_with, filled}
 use Rattle.act_list.specs.Lists.{cleared, begun_at}
 use Rattle.act_list.specs.Stamps.{stamped, AreStamps}
 
@@ -70,3 +70,12 @@ none_stamped (x ∷ xs) = ap (λ (t : List (DevNo × Bool)). (x.dev, false) ∷ 
 pub first_stamps : (xs : List DeviceDef) → AreStamps 1 (all_with 0 xs)
 first_stamps [] = tt
 first_stamps (x ∷ xs) = (omega arith, first_stamps xs)
+
+-- and nobody was once all stamps are gone
+pub none_filled : (n : ℕ) (t : List (DevNo × ℕ)) → stamped 1 (filled 0 t) ≡ cleared (stamped n t)
+none_filled n [] = refl
+none_filled n (e ∷ es) = ap (λ (t : List (DevNo × Bool)). (e.0, false) ∷ t) (none_filled n es)
+
+pub filled_stamps : (t : List (DevNo × ℕ)) → AreStamps 1 (filled 0 t)
+filled_stamps [] = tt
+filled_stamps (e ∷ es) = (omega arith, filled_stamps es)

@@ -68,3 +68,7 @@ cleared (e ∷ es) = (e.0, false) ∷ cleared es
 
 abbrev pub after_begin_round : ListSeen → ListSeen
 after_begin_round l = record l { begun = cleared l.begun; rounds = l.rounds + 1 }
+
+-- the list of the same devices of which nothing was linked yet
+abbrev pub unlinked : ListSeen → ListSeen
+unlinked l = record { actions = []; begun = cleared l.begun; rounds = 0 }

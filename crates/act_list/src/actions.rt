@@ -72,6 +72,16 @@ impl Actions {
         }
     }
 
+    /// The device at the place with its action; none from the length on.
+    pub(crate) fn action(&self, place: usize) -> Option<(DevNo, Action)>
+        ensures { result ≡ slice_get self.now.actions place }
+    {
+        match self.map.get_index(place) {
+            Some((dev, action)) => Some((*dev, *action)),
+            None => None,
+        }
+    }
+
     /// Whether the device is linked.
     pub(crate) fn contains(&self, dev: DevNo) -> bool
         ensures { result ≡ has dev self.now.actions }
@@ -213,6 +223,14 @@ impl Actions {
             return Err(NoMemory);
         }
         Ok(())
+    }
+
+    /// Takes all actions out. Their memory is kept.
+    pub(crate) fn clear(&mut self)
+        ensures actions { self.new.actions ≡ [] }
+        ensures spare { self.old.spare ≤ self.new.spare }
+    {
+        self.map.clear();
     }
 
     /// Takes the device's action out; the rest keeps its order.

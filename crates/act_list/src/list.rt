@@ -5,8 +5,8 @@ ghost use Rattle.irq_base.specs.declared.entries.LinkAnswer.TheVariants as links
 ghost use Rattle.irq_model.specs.Kinds.{same_dev};
 ghost use Rattle.irq_model.specs.Valid.{HasDistinctDevices};
 ghost use Rattle.device_table.specs.Rows.{at, all_with};
-ghost use Rattle.act_list.specs.Actions.{has, is_bare, answer_where, answer_by, bit_of, is_oneshot_in, is_full, IsLowestFree};
-ghost use Rattle.act_list.specs.Lists.{first_list, action_by, begun_at, first_left, after_link, after_unlink, after_begin, after_begin_round, unlink_by};
+ghost use Rattle.act_list.specs.Actions.{has, is_bare, answer_where, answer_by, bit_of, is_oneshot_in, is_full, is_mismatch, IsLowestFree};
+ghost use Rattle.act_list.specs.Lists.{first_list, unlinked, action_by, begun_at, first_left, after_link, after_unlink, after_begin, after_begin_round, unlink_by};
 ghost use Rattle.act_list.specs.Stamps.{stamped, AreBegun};
 
 use crate::actions::{Action, Actions};
@@ -58,6 +58,13 @@ impl ActList {
         ensures { result ≡ is_bare self.now.list.actions }
     {
         self.actions.is_empty()
+    }
+
+    /// The device at the place in the list with its action; none from the length on.
+    pub fn action(&self, place: usize) -> Option<(DevNo, Action)>
+        ensures { result ≡ slice_get self.now.list.actions place }
+    {
+        self.actions.action(place)
     }
 
     /// The device's thread bit (`thread_mask`), as a word in which this one bit is set; none if it
@@ -116,6 +123,34 @@ impl ActList {
             self.actions.add(dev, Action { flags, bit })?;
         }
         Ok(answer)
+    }
+
+    /// Links the device with these flags at the end, as in a list to which it was linked before. It
+    /// gets the lowest free thread bit if it is one-shot. The only error is `NoMemory`, which comes
+    /// only if there was no room.
+    pub fn relink(&mut self, dev: DevNo, flags: Flags) -> Result<(), NoMemory>
+        requires absent { has dev self.old.list.actions ≡ false }
+        requires goes { is_mismatch flags self.old.list.actions ≡ false }
+        requires bits { flags.oneshot ≡ true → length self.old.list.actions < 64 }
+        ensures list { OnOk result
+            (self.new.list ≡ after_link links.Linked dev flags self.old.list) }
+        ensures refused { OnErr result (self.new.list ≡ self.old.list) }
+        ensures room { 1 ≤ self.old.spare → IsOk result }
+        ensures spare { self.old.spare ≤ self.new.spare + 1 }
+    {
+        let bit = self.actions.new_bit(flags);
+        self.actions.add(dev, Action { flags, bit })
+    }
+
+    /// Makes the list as it was when nothing had been linked yet. Its memory is kept.
+    pub fn clear(&mut self)
+        ensures list { self.new.list ≡ unlinked self.old.list }
+        ensures spare { self.old.spare ≤ self.new.spare }
+    {
+        self.actions.clear();
+        self.stamps.fill(0);
+        self.rounds = 0;
+        self.hint = 0;
     }
 
     /// Takes the device's action out, and says whether it was there, and whether it was the last

@@ -159,6 +159,16 @@ impl Threads {
         self.replace(dev, row, row.done(oneshot));
     }
 
+    /// Puts another row in the place of the device's; nothing changes if the line lacks the device.
+    pub fn put(&mut self, dev: DevNo, row: ThreadRow)
+        ensures { self.new ≡ change (λ _. row) self.old dev }
+    {
+        let Some(old) = self.rows.get(dev) else {
+            return;
+        };
+        self.replace(dev, old, row);
+    }
+
     /// Puts another row in the place of the device's, and keeps the counts and the bits by rank.
     fn replace(&mut self, dev: DevNo, old: ThreadRow, new: ThreadRow)
         requires { at self.old dev ≡ Some old }

@@ -1,6 +1,7 @@
 //! The mask in force, and the one that waits.
 ghost use Rattle.std.specs.Prelude.{◌≡◌, ◌≤◌, ◌<◌, IsSome, Some, None, is_some};
 ghost use Rattle.irq_model.specs.Signal.{lowest_in};
+ghost use Rattle.affinity.specs.Kept.{HasProcessor};
 ghost use Rattle.affinity.specs.Seen.{set_answer, after_set, after_move};
 
 use irq_base::{AffinityAnswer, CpuNo, Errno};
@@ -42,6 +43,37 @@ impl Aim {
             mask,
             waiting: None,
         }
+    }
+
+    /// The aim with this mask in force, and this one that waits. Each has a processor of the
+    /// machine.
+    pub fn of(cpus: u32, later: bool, mask: u32, waiting: Option<u32>) -> Aim
+        requires few { cpus ≤ 32 }
+        requires some { IsSome (lowest_in cpus mask) }
+        requires waits { HasProcessor cpus waiting }
+        ensures { result ≡ record { cpus = cpus; later = later; mask = mask; waiting = waiting } }
+    {
+        Aim {
+            cpus,
+            later,
+            mask,
+            waiting,
+        }
+    }
+
+    /// The mask in force (`affinity` of `struct irq_common_data`, `include/linux/irq.h`).
+    pub fn mask(&self) -> u32
+        ensures { result ≡ self.now.mask }
+    {
+        self.mask
+    }
+
+    /// The mask that waits for the next interrupt, if one does (`pending_mask` of
+    /// `struct irq_desc`, `include/linux/irqdesc.h`).
+    pub fn waiting(&self) -> Option<u32>
+        ensures { result ≡ self.now.waiting }
+    {
+        self.waiting
     }
 
     /// Changes the mask, now or at the next interrupt. It is refused with EINVAL, and nothing

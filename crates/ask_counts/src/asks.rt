@@ -126,6 +126,16 @@ impl Asks {
         Some(row)
     }
 
+    /// Puts another row in the place of the device's; nothing changes if the line lacks the device.
+    pub fn put(&mut self, dev: DevNo, row: AskRow)
+        ensures { self.new ≡ change (λ _. row) self.old dev }
+    {
+        let Some(old) = self.rows.get(dev) else {
+            return;
+        };
+        self.replace(dev, old, row);
+    }
+
     /// Puts another row in the place of the device's, and keeps the count.
     fn replace(&mut self, dev: DevNo, old: AskRow, new: AskRow)
         requires { at self.old dev ≡ Some old }

@@ -1,34 +1,16 @@
 -- The state of a line's descriptor, and what each call makes of it and of the line's signal cell.
-use Rattle.std.specs.Prelude.{ℕ, ◌+◌, ◌-◌, ◌==◌, Bool, true, false, not, ◌||◌, ◌&&◌, if◌then◌else◌, nat_lt, Option, None}
+use Rattle.std.specs.Prelude.{◌+◌, ◌-◌, ◌==◌, Bool, true, false, not, ◌||◌, ◌&&◌, if◌then◌else◌, nat_lt, None}
 use Rattle.irq_base.specs.Cell.{Cell, is_edge_trigger, after_mask, after_unmask, after_retrigger, can_retrigger}
 use Rattle.irq_base.specs.declared.entries.EnableAnswer.{EnableAnswer}
 use Rattle.irq_base.specs.declared.entries.EnableAnswer.TheVariants as enables
 use Rattle.irq_base.specs.declared.entries.Resend.{Resend}
 use Rattle.irq_base.specs.declared.entries.Resend.TheVariants as resends
 use Rattle.irq_base.specs.declared.lines.Trigger.{Trigger}
-use Rattle.irq_base.specs.declared.numbers.CpuNo.{CpuNo}
+use Rattle.desc_state.specs.declared.marks.DescMarks.{DescMarks}
 
--- what is seen of a descriptor (`struct irq_desc`, `include/linux/irqdesc.h`)
-pub record DescSeen : Type 0 where
-  -- disabling masks the chip at once (`IRQ_DISABLE_UNLAZY`)
-  pub unlazy : Bool
-  -- how many disables stand
-  pub depth : ℕ
-  -- `IRQD_IRQ_STARTED`
-  pub started : Bool
-  -- `IRQD_IRQ_MASKED`
-  pub masked : Bool
-  -- `IRQS_PENDING`
-  pub pending : Bool
-  -- `IRQS_ONESHOT`
-  pub oneshot : Bool
-  -- `IRQS_SPURIOUS_DISABLED`
-  pub spurious : Bool
-  -- the software is to send an interrupt again (the bit of `desc->irq_data.irq` in `irqs_resend`,
-  -- `kernel/irq/resend.c`)
-  pub soft : Bool
-  -- the processor whose flow is in progress (`IRQD_IRQ_INPROGRESS`)
-  pub flow : Option CpuNo
+-- what is seen of a descriptor (`struct irq_desc`, `include/linux/irqdesc.h`): all its marks
+abbrev pub DescSeen : Type 0
+DescSeen = DescMarks
 
 -- a line to which nothing was done
 abbrev pub fresh_desc : Bool → DescSeen

@@ -3,6 +3,7 @@ ghost use Rattle.std.specs.Prelude.{◌≡◌, ℕ, ◌+◌, ◌-◌, ◌<◌, �
 ghost use Rattle.irq_base.specs.Cell.{after_mask, after_unmask};
 ghost use Rattle.desc_state.specs.Desc.{fresh_desc, is_disabled, disabled, killed, masked_if, resend_by, started_up, cell_started, shut_down, enable_by, enabled, cell_enabled};
 
+use crate::marks::DescMarks;
 use irq_base::{Chip, CpuNo, EnableAnswer, Resend, Trigger};
 use std::marker::Model;
 
@@ -45,6 +46,40 @@ impl Desc {
             spurious: false,
             soft: false,
             flow: None,
+        }
+    }
+
+    /// The descriptor with these marks.
+    pub fn of_marks(marks: DescMarks) -> Desc
+        ensures { result ≡ marks }
+    {
+        Desc {
+            unlazy: marks.unlazy,
+            depth: marks.depth,
+            started: marks.started,
+            masked: marks.masked,
+            pending: marks.pending,
+            oneshot: marks.oneshot,
+            spurious: marks.spurious,
+            soft: marks.soft,
+            flow: marks.flow,
+        }
+    }
+
+    /// All marks of the descriptor.
+    pub fn marks(&self) -> DescMarks
+        ensures { result ≡ self.now }
+    {
+        DescMarks {
+            unlazy: self.unlazy,
+            depth: self.depth,
+            started: self.started,
+            masked: self.masked,
+            pending: self.pending,
+            oneshot: self.oneshot,
+            spurious: self.spurious,
+            soft: self.soft,
+            flow: self.flow,
         }
     }
 

@@ -6,5 +6,7 @@
 #![tactic(auto)]
 
 pub mod desc;
+pub mod marks;
 
 pub use desc::Desc;
+pub use marks::DescMarks;

@@ -5,3 +5,4 @@ pub mod Ranking
 pub mod Words
 pub mod Lowest
 pub mod Placing
+pub mod Filling

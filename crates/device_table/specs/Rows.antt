@@ -37,6 +37,11 @@ module _ {R : Type 0} where
   abbrev pub all_with : R → List DeviceDef → List (DevNo × R)
   all_with r xs = table_by (λ d. r) xs
 
+  -- the table, with this value of every device
+  abbrev pub filled : R → List (DevNo × R) → List (DevNo × R)
+  filled r [] = []
+  filled r (e ∷ es) = (e.0, r) ∷ filled r es
+
   -- the table with h applied to d's value; as it was if d has none
   abbrev pub changed : (R → R) → List (DevNo × R) → DevNo → Option R → List (DevNo × R)
   changed h t d None = t

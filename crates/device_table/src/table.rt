@@ -1,9 +1,10 @@
 //! The table.
-ghost use Rattle.std.specs.Prelude.{◌≡◌, IfOk, OnOk, false, true, None, [], ◌∷◌, ◌++◌, slice_get};
+ghost use Rattle.std.specs.Prelude.{◌≡◌, ◌<◌, IfOk, OnOk, false, true, None, [], ◌∷◌, ◌++◌, length, slice_get};
 ghost use Rattle.std.specs.List.{list_any};
+ghost use Rattle.indexmap.specs.IndexMap.{set_value_at};
 ghost use Rattle.irq_model.specs.Lines.{is_device};
 ghost use Rattle.irq_model.specs.Valid.{HasDistinctDevices};
-ghost use Rattle.device_table.specs.Rows.{at, put, all_with, is_row_of};
+ghost use Rattle.device_table.specs.Rows.{at, put, all_with, filled, is_row_of};
 
 use crate::hints::Hints;
 use indexmap::IndexMap;
@@ -96,6 +97,26 @@ impl<R: Copy> DeviceTable<R> {
         } else {
             self.set_found(dev, row);
         }
+    }
+
+    /// Sets the value of every device.
+    pub fn fill(&mut self, row: R)
+        ensures { self.new ≡ filled row self.old }
+    {
+        for place in 0..self.rows.len() {
+            self.set_place(place, row);
+        }
+    }
+
+    /// Sets the value at `place`.
+    fn set_place(&mut self, place: usize, row: R)
+        requires { place < length self.old }
+        ensures { self.new ≡ set_value_at self.old place row }
+    {
+        let Some(value) = self.rows.get_index_mut(place) else {
+            return;
+        };
+        *value = row;
     }
 
     /// Whether the device's value stands at `place`.

@@ -1,7 +1,9 @@
 //! The chip of one signal cell.
 ghost use Rattle.std.specs.Prelude.{◌≡◌, ℕ, ◌<◌, Bool, None, true, false};
 ghost use Rattle.irq_base.specs.Cell.{fresh_cell};
+ghost use Rattle.line_cell.specs.Marks.{cell_told};
 
+use crate::marks::CellMarks;
 use irq_base::{Chip, CpuNo, Trigger};
 
 /// The chip of one signal cell (ours): a controller's input that presents one line's signal to the
@@ -49,6 +51,50 @@ impl Cell {
             in_service: false,
             active: false,
             target: CpuNo(0),
+        }
+    }
+
+    /// A chip of these properties and marks.
+    pub fn of_marks(marks: CellMarks) -> Cell
+        ensures cell { ⟦<Cell as Chip>⟧.cell result ≡ cell_told marks }
+        ensures active { ⟦<Cell as Chip>⟧.active result ≡ marks.active }
+        ensures aimed { ⟦<Cell as Chip>⟧.aimed result ≡ marks.target.0 }
+    {
+        Cell {
+            trigger: marks.trigger,
+            keeps: marks.keeps,
+            recalls: marks.recalls,
+            retriggers: marks.retriggers,
+            serves: marks.serves,
+            masked: marks.masked,
+            stored: marks.stored,
+            sent: marks.sent,
+            high: marks.high,
+            in_service: marks.in_service,
+            active: marks.active,
+            target: marks.target,
+        }
+    }
+
+    /// All properties and marks of the chip.
+    pub fn marks(&self) -> CellMarks
+        ensures cell { cell_told result ≡ ⟦<Cell as Chip>⟧.cell self.now }
+        ensures active { result.active ≡ ⟦<Cell as Chip>⟧.active self.now }
+        ensures aimed { result.target.0 ≡ ⟦<Cell as Chip>⟧.aimed self.now }
+    {
+        CellMarks {
+            trigger: self.trigger,
+            keeps: self.keeps,
+            recalls: self.recalls,
+            retriggers: self.retriggers,
+            serves: self.serves,
+            masked: self.masked,
+            stored: self.stored,
+            sent: self.sent,
+            high: self.high,
+            in_service: self.in_service,
+            active: self.active,
+            target: self.target,
         }
     }
 }

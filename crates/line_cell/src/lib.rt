@@ -6,5 +6,7 @@
 #![tactic(auto)]
 
 pub mod cell;
+pub mod marks;
 
 pub use cell::Cell;
+pub use marks::CellMarks;

@@ -1,6 +1,6 @@
 -- The scripts of a line: a row for each driver that has calls on it.
 use Rattle.std.specs.Prelude.{ℕ, ◌+◌, Bool, false, Option, Some, None, List, [], ◌∷◌, drop, unwrap_or, slice_get}
-use Rattle.std.specs.Map.{lookup}
+use Rattle.std.specs.Map.{lookup, set_value}
 use Rattle.irq_base.specs.declared.calls.Call.{Call}
 use Rattle.irq_base.specs.declared.numbers.DriverNo.{DriverNo}
 use Rattle.irq_model.specs.Bounds.{is_ask_call}
@@ -33,6 +33,16 @@ place_of s r = (row_of s r).place
 -- how many entries the driver's first incomplete call has made
 abbrev pub within_of : List (DriverNo × RowSeen) → DriverNo → ℕ
 within_of s r = (row_of s r).within
+
+-- the driver's row, if it is there, with another place
+abbrev pub placed : DriverNo → ℕ → ℕ → List (DriverNo × RowSeen) → Option RowSeen → List (DriverNo × RowSeen)
+placed r place within s None = s
+placed r place within s (Some x) =
+    set_value (same_driver r) s (record x { place = place; within = within })
+
+-- the driver goes to that place; nothing changes if it has no row
+abbrev pub gone_to : DriverNo → ℕ → ℕ → List (DriverNo × RowSeen) → List (DriverNo × RowSeen)
+gone_to r place within s = placed r place within s (lookup (same_driver r) s)
 
 -- the call at the row's place
 abbrev pub call_in : RowSeen → Option Call

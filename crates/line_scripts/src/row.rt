@@ -52,6 +52,21 @@ impl Row {
         Some((call, self.within))
     }
 
+    /// How many of the calls are complete.
+    pub fn place(&self) -> usize
+        ensures { result ≡ self.now.place }
+    {
+        self.place
+    }
+
+    /// Goes to the place, at which the call has made this many entries.
+    pub fn go_to(&mut self, place: usize, within: u32)
+        ensures { self.new ≡ record self.old { place = place; within = within } }
+    {
+        self.place = place;
+        self.within = within;
+    }
+
     /// One more entry of the due call was added. `completes`: it was the last one.
     pub fn advance(&mut self, completes: bool)
         requires due { IsSome (call_in self.old) }

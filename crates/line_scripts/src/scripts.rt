@@ -6,7 +6,7 @@ ghost use Rattle.irq_model.specs.Due.{calls_by};
 ghost use Rattle.irq_model.specs.Kinds.{same_driver};
 ghost use Rattle.irq_model.specs.Places.{count_of};
 ghost use Rattle.irq_steps.specs.Laid.{with_count};
-ghost use Rattle.line_scripts.specs.Rows.{row_of, calls_of, place_of, within_of, call_of, asks_left, is_some_ask};
+ghost use Rattle.line_scripts.specs.Rows.{row_of, calls_of, place_of, within_of, call_of, asks_left, is_some_ask, gone_to};
 
 use crate::row::Row;
 use indexmap::IndexMap;
@@ -76,6 +76,26 @@ impl Scripts {
         ensures { result ≡ with_count (call_of self.now who) (within_of self.now who) }
     {
         self.rows.get(&who)?.due()
+    }
+
+    /// How many of the driver's calls on the line are complete; none if it has none.
+    pub fn place(&self, who: DriverNo) -> usize
+        ensures { result ≡ place_of self.now who }
+    {
+        match self.rows.get(&who) {
+            Some(row) => row.place(),
+            None => 0,
+        }
+    }
+
+    /// The driver goes to the place in its script at which this many calls are complete, and the
+    /// next one has made `within` entries. Nothing changes if it has no calls on the line.
+    pub fn go_to(&mut self, who: DriverNo, place: usize, within: u32)
+        ensures { self.new ≡ gone_to who place within self.old }
+    {
+        if let Some(row) = self.rows.get_mut(&who) {
+            row.go_to(place, within);
+        }
     }
 
     /// One more entry of the driver's due call was added. `completes`: it was the last one.

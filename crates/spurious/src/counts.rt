@@ -2,6 +2,7 @@
 ghost use Rattle.std.specs.Prelude.{◌≡◌, ℕ, ◌+◌, ◌<◌, ◌^◌, ◌-◌};
 ghost use Rattle.irq_model.specs.Spurious.{no_counts};
 ghost use Rattle.spurious.specs.Seen.{noted_at, after_note, after_thread, after_reset};
+ghost use Rattle.spurious.specs.Tallies.{rule_counts, IsWithin};
 
 use crate::tally::Tally;
 use irq_base::Note;
@@ -41,6 +42,27 @@ impl Counts {
             limit,
             tally: Tally::new(),
         }
+    }
+
+    /// The counts of a line with this window and limit that come to this tally.
+    pub fn of_tally(window: u32, limit: u32, tally: Tally) -> Counts
+        requires { IsWithin window tally }
+        ensures { result
+            ≡ record { window = window; limit = limit; counts = rule_counts tally } }
+    {
+        Counts {
+            window,
+            limit,
+            tally,
+        }
+    }
+
+    /// What is counted so far.
+    pub fn tally(&self) -> Tally
+        ensures counts { rule_counts result ≡ self.now.counts }
+        ensures within { IsWithin self.now.window result }
+    {
+        self.tally
     }
 
     /// Notes a round that ends at the moment `now`, in milliseconds (`note_interrupt`). `wake`: some

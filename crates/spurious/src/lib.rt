@@ -6,6 +6,7 @@
 #![tactic(auto)]
 
 pub mod counts;
-mod tally;
+pub mod tally;
 
 pub use counts::Counts;
+pub use tally::Tally;

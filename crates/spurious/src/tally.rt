@@ -24,14 +24,14 @@ pub struct Tally {
 
 /// What the rule makes of a round.
 #[derive(Clone, Copy)]
-pub struct Noted {
-    pub note: Note,
-    pub tally: Tally,
+pub(crate) struct Noted {
+    pub(crate) note: Note,
+    pub(crate) tally: Tally,
 }
 
 impl Tally {
     /// Nothing has come yet.
-    pub fn new() -> Tally
+    pub(crate) fn new() -> Tally
         ensures { rule_counts result ≡ no_counts }
     {
         Tally {
@@ -45,7 +45,7 @@ impl Tally {
     }
 
     /// What the rule makes of a round that ends at the moment `now`.
-    pub fn noted(self, window: u32, limit: u32, now: u32, wake: bool, handled: bool) -> Noted
+    pub(crate) fn noted(self, window: u32, limit: u32, now: u32, wake: bool, handled: bool) -> Noted
         requires { IsWithin window self }
         ensures rule { IsNoted result (noted window limit now wake handled (rule_counts self)) }
         ensures within { IsWithin window result.tally }
