@@ -18,7 +18,7 @@ use Rattle.board_play.specs.Lines.{defs_of}
 use Rattle.board_core.specs.Making.{IsCut, AreCut, call_put, with_call}
 use Rattle.board_core.specs.Numbers.{IsPlaceOfNumber, numbers_of_defs, numbers_of_drivers}
 use Rattle.board_core.specs.Scripts.{ScriptSeen, takes_part, cut, calls_of}
-use Rattle.board_core.specs.declared.scripts.Step.{Step}
+use Rattle.board_core.specs.declared.scripts.PlacedCall.{PlacedCall}
 use Rattle.board_core.proofs.MadeOf.{taken, all_taken, map_more}
 use Rattle.board_core.proofs.TurnLaws.{set_cases, set_same, map_there, one_place}
 
@@ -31,17 +31,17 @@ cut_more ds r (d ∷ cs) c = by_test (same_driver r d.driver && takes_part ds d.
     by_test true deeper = ap (λ (zs : List ScriptCall). d ∷ zs) deeper
     by_test false deeper = deeper
 
-calls_more : (steps : List Step) (x : Step) → calls_of (steps ++ x ∷ []) ≡ calls_of steps ++ x.call ∷ []
-calls_more steps x = map_more (λ (x : Step). x.call) steps x
+calls_more : (steps : List PlacedCall) (x : PlacedCall) → calls_of (steps ++ x ∷ []) ≡ calls_of steps ++ x.call ∷ []
+calls_more steps x = map_more (λ (x : PlacedCall). x.call) steps x
 
 -- a call that is passed over
-cut_passed : (ds : List LineDef) (r : DriverNo) (calls : List ScriptCall) (steps : List Step) (i : ℕ) (c : ScriptCall) → slice_get calls i ≡ Some c → calls_of steps ≡ cut ds r (take i calls) → (same_driver r c.driver && takes_part ds c.line) ≡ false
+cut_passed : (ds : List LineDef) (r : DriverNo) (calls : List ScriptCall) (steps : List PlacedCall) (i : ℕ) (c : ScriptCall) → slice_get calls i ≡ Some c → calls_of steps ≡ cut ds r (take i calls) → (same_driver r c.driver && takes_part ds c.line) ≡ false
     → calls_of steps ≡ cut ds r (take (i + 1) calls)
 cut_passed ds r calls steps i c at is no_call =
     is ∙ sym (ap (cut ds r) (taken calls i c at) ∙ (cut_more ds r (take i calls) c ∙ (ap (λ (b : Bool). cut ds r (take i calls) ++ cond b (c ∷ []) []) no_call ∙ append-nil (cut ds r (take i calls)))))
 
 -- one that is the driver's, on a line that takes part
-cut_pushed : (ds : List LineDef) (r : DriverNo) (calls : List ScriptCall) (steps : List Step) (i : ℕ) (x : Step) → slice_get calls i ≡ Some x.call → calls_of steps ≡ cut ds r (take i calls) → (same_driver r x.call.driver && takes_part ds x.call.line) ≡ true
+cut_pushed : (ds : List LineDef) (r : DriverNo) (calls : List ScriptCall) (steps : List PlacedCall) (i : ℕ) (x : PlacedCall) → slice_get calls i ≡ Some x.call → calls_of steps ≡ cut ds r (take i calls) → (same_driver r x.call.driver && takes_part ds x.call.line) ≡ true
     → calls_of (steps ++ x ∷ []) ≡ cut ds r (take (i + 1) calls)
 cut_pushed ds r calls steps i x at is yes_call =
     calls_more steps x ∙ (ap (λ (zs : List ScriptCall). zs ++ x.call ∷ []) is
@@ -74,21 +74,21 @@ part_by_number ds line None none = nowhere ds none
 module _ (board : BoardSeen) (isb : IsBoard board) (i : ℕ) (c : ScriptCall) (at : slice_get board.calls i ≡ Some c) where
   -- of a script that the call isn't put to
   passed : (s : ScriptSeen) → IsCut board i s → (same_driver s.driver c.driver && takes_part (defs_of board) c.line) ≡ false → IsCut board (i + 1) s
-  passed s is none = record { at = is.at; made = is.made; cut = cut_passed (defs_of board) s.driver board.calls s.steps i c at is.cut none; places = is.places }
+  passed s is none = record { at = is.at; made = is.made; cut = cut_passed (defs_of board) s.driver board.calls s.calls i c at is.cut none; places = is.places }
 
   -- of the one that it is put to
-  pushed : (s : ScriptSeen) (k : ℕ) → IsCut board i s → same_driver s.driver c.driver ≡ true → IsPlaceOfNumber (numbers_of_defs (defs_of board)) c.line.0 (Some k) → IsCut board (i + 1) (record s { steps = s.steps ++ record { place = k; call = c } ∷ [] })
+  pushed : (s : ScriptSeen) (k : ℕ) → IsCut board i s → same_driver s.driver c.driver ≡ true → IsPlaceOfNumber (numbers_of_defs (defs_of board)) c.line.0 (Some k) → IsCut board (i + 1) (record s { calls = s.calls ++ record { place = k; call = c } ∷ [] })
   pushed s k is mine place =
       record {
         at = is.at;
         made = is.made;
-        cut = cut_pushed (defs_of board) s.driver board.calls s.steps i (record { place = k; call = c }) at is.cut (ap (λ (b : Bool). b && takes_part (defs_of board) c.line) mine ∙ part_by_number (defs_of board) c.line (Some k) place);
-        places = places s.steps is.places;
+        cut = cut_pushed (defs_of board) s.driver board.calls s.calls i (record { place = k; call = c }) at is.cut (ap (λ (b : Bool). b && takes_part (defs_of board) c.line) mine ∙ part_by_number (defs_of board) c.line (Some k) place);
+        places = places s.calls is.places;
       }
     where
-      places : (steps : List Step) → ((i : ℕ) (x : Step) → slice_get steps i ≡ Some x → slice_get (numbers_of_defs (defs_of board)) x.place ≡ Some x.call.line.0)
-          → (i : ℕ) (x : Step) → slice_get (steps ++ record { place = k; call = c } ∷ []) i ≡ Some x → slice_get (numbers_of_defs (defs_of board)) x.place ≡ Some x.call.line.0
-      places [] old zero x at_x = subst (λ (w : Step). slice_get (numbers_of_defs (defs_of board)) w.place ≡ Some w.call.line.0) (the_same (record { place = k; call = c }) x at_x) place
+      places : (steps : List PlacedCall) → ((i : ℕ) (x : PlacedCall) → slice_get steps i ≡ Some x → slice_get (numbers_of_defs (defs_of board)) x.place ≡ Some x.call.line.0)
+          → (i : ℕ) (x : PlacedCall) → slice_get (steps ++ record { place = k; call = c } ∷ []) i ≡ Some x → slice_get (numbers_of_defs (defs_of board)) x.place ≡ Some x.call.line.0
+      places [] old zero x at_x = subst (λ (w : PlacedCall). slice_get (numbers_of_defs (defs_of board)) w.place ≡ Some w.call.line.0) (the_same (record { place = k; call = c }) x at_x) place
       places [] old (suc i) x at_x = cc
       places (w ∷ ws) old zero x at_x = old zero x at_x
       places (w ∷ ws) old (suc i) x at_x = places ws (λ j y h. old (suc j) y h) i x at_x
@@ -166,7 +166,7 @@ pub record AreEmpty (board : BoardSeen) (i : ℕ) (scripts : List ScriptSeen) : 
   pub drivers : map (λ (s : ScriptSeen). s.driver) scripts ≡ take i board.drivers
   pub each : (j : ℕ) (s : ScriptSeen) → slice_get scripts j ≡ Some s → IsCut board 0 s
 
-pub empty_more : (board : BoardSeen) (i : ℕ) (r : DriverNo) (scripts now : List ScriptSeen) (s : ScriptSeen) → slice_get board.drivers i ≡ Some r → s ≡ record { driver = r; steps = []; at = 0; made = 0 } → now ≡ scripts ++ s ∷ []
+pub empty_more : (board : BoardSeen) (i : ℕ) (r : DriverNo) (scripts now : List ScriptSeen) (s : ScriptSeen) → slice_get board.drivers i ≡ Some r → s ≡ record { driver = r; calls = []; at = 0; made = 0 } → now ≡ scripts ++ s ∷ []
     → AreEmpty board i scripts → AreEmpty board (i + 1) now
 empty_more board i r scripts now s at is push are =
     record {
@@ -175,10 +175,10 @@ empty_more board i r scripts now s at is push are =
       each = λ j t at_t. each scripts are.each j t (ap (λ (ss : List ScriptSeen). slice_get ss j) (sym push) ∙ at_t);
     }
   where
-    empty : IsCut board 0 (record { driver = r; steps = []; at = 0; made = 0 })
+    empty : IsCut board 0 (record { driver = r; calls = []; at = 0; made = 0 })
     empty = record { at = refl; made = refl; cut = refl; places = λ i x at. nothing i x at }
       where
-        nothing : (i : ℕ) (x : Step) → slice_get [] i ≡ Some x → slice_get (numbers_of_defs (defs_of board)) x.place ≡ Some x.call.line.0
+        nothing : (i : ℕ) (x : PlacedCall) → slice_get [] i ≡ Some x → slice_get (numbers_of_defs (defs_of board)) x.place ≡ Some x.call.line.0
         nothing i x at = cc
 
     each : (scripts : List ScriptSeen) → ((j : ℕ) (t : ScriptSeen) → slice_get scripts j ≡ Some t → IsCut board 0 t) → (j : ℕ) (t : ScriptSeen) → slice_get (scripts ++ s ∷ []) j ≡ Some t → IsCut board 0 t

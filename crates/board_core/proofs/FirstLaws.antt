@@ -12,16 +12,16 @@ use Rattle.board_def.specs.Seen.{BoardSeen}
 use Rattle.domain_rules.specs.declared.layouts.Placement.{Placement}
 use Rattle.board_play.specs.Lines.{BoardLine, Move}
 use Rattle.board_play.specs.Order.{threads_of, cpus_of, drivers_of}
-use Rattle.board_ready.specs.Ready.{lowest_thread, lowest_cpu, lowest_driver, lowest_thread_or_cpu, thread_or, cpu_mover}
-use Rattle.board_ready.specs.declared.parts.LinePart.{LinePart}
-use Rattle.board_ready.specs.declared.parts.Mover.{Mover}
-use Rattle.board_ready.specs.declared.parts.Mover.TheVariants as movers
+use Rattle.board_ready.specs.Ready.{lowest_thread, lowest_cpu, lowest_driver, lowest_thread_or_cpu, thread_or, cpu_actor}
+use Rattle.board_ready.specs.declared.parts.LineReadiness.{LineReadiness}
+use Rattle.board_ready.specs.declared.parts.ReadyActor.{ReadyActor}
+use Rattle.board_ready.specs.declared.parts.ReadyActor.TheVariants as readies
 use Rattle.board_ready.specs.declared.parts.ReadyThread.{ReadyThread}
 use Rattle.board_core.specs.Firsts.{IsFirstOf, with_line, call_on}
 use Rattle.board_core.specs.Inside.{Parts, seen_of, IsKept}
 use Rattle.board_core.specs.Scripts.{ScriptSeen, IsScript, due_at}
 use Rattle.board_core.specs.Seen.{SystemSeen, board_lines}
-use Rattle.board_core.specs.declared.scripts.Step.{Step}
+use Rattle.board_core.specs.declared.scripts.PlacedCall.{PlacedCall}
 use Rattle.board_core.specs.declared.turns.DueCall.{DueCall}
 use Rattle.irq_laws.proofs.Chosen.{the_same}
 use Rattle.board_play.specs.Current.{current_line}
@@ -32,30 +32,30 @@ use Rattle.board_core.proofs.Movers.{some_with}
 use Rattle.board_core.proofs.ScriptLaws.{script_line}
 use Rattle.board_core.proofs.Standing.{line_at, driver_at, no_call, line_number_within, driver_number_within}
 
-module _ (lines : List LinePart) where
-  abbrev Says : Option Mover → Option ReadyThread → Option ℕ → Type 0
+module _ (lines : List LineReadiness) where
+  abbrev Says : Option ReadyActor → Option ReadyThread → Option ℕ → Type 0
   Says None a b = (a ≡ None) × (b ≡ None)
-  Says (Some (movers.Thread t)) a b = a ≡ Some t
-  Says (Some (movers.Cpu cpu)) a b = (a ≡ None) × (b ≡ Some cpu.0)
-  Says (Some (movers.Driver j)) a b = (a ≡ None) × (b ≡ None)
+  Says (Some (readies.Thread t)) a b = a ≡ Some t
+  Says (Some (readies.Cpu cpu)) a b = (a ≡ None) × (b ≡ Some cpu.0)
+  Says (Some (readies.Driver j)) a b = (a ≡ None) × (b ≡ None)
 
-  said : (a : Option ReadyThread) (b : Option ℕ) → Says (thread_or a (cpu_mover b)) a b
+  said : (a : Option ReadyThread) (b : Option ℕ) → Says (thread_or a (cpu_actor b)) a b
   said (Some t) b = refl
   said None (Some n) = (refl, refl)
   said None None = (refl, refl)
 
-  says : (o : Option Mover) → o ≡ lowest_thread_or_cpu lines → Says o (lowest_thread lines) (lowest_cpu lines)
-  says o is = subst (λ (x : Option Mover). Says x (lowest_thread lines) (lowest_cpu lines)) (sym is) (said (lowest_thread lines) (lowest_cpu lines))
+  says : (o : Option ReadyActor) → o ≡ lowest_thread_or_cpu lines → Says o (lowest_thread lines) (lowest_cpu lines)
+  says o is = subst (λ (x : Option ReadyActor). Says x (lowest_thread lines) (lowest_cpu lines)) (sym is) (said (lowest_thread lines) (lowest_cpu lines))
 
 module _ (board : BoardSeen) (isb : IsBoard board) (layout : List Placement) (lines : List LineSeen) (scripts : List ScriptSeen) (order : List ℕ) (parts : Parts) (is : IsKept board lines scripts order parts) (view : SystemSeen) (v : seen_of board layout lines order ≡ view) where
   abbrev seen : SystemSeen
   seen = seen_of board layout lines order
 
-  pub first_thread : (t : ReadyThread) (line : LineNo) → Some (movers.Thread t) ≡ lowest_thread_or_cpu parts.ready.lines → slice_get parts.line_numbers t.line ≡ Some line.0
+  pub first_thread : (t : ReadyThread) (line : LineNo) → Some (readies.Thread t) ≡ lowest_thread_or_cpu parts.ready.lines → slice_get parts.line_numbers t.line ≡ Some line.0
       → IsFirstOf view (threads_of view.board ++ cpus_of view.board) (Some (actors.Thread line t.dev))
   first_thread t line found at =
       let x = line_at board isb layout lines scripts order parts is view v t.line line at in
-      let h = thread_first board isb lines scripts is.system parts.ready is.ready t x.0 (says parts.ready.lines (Some (movers.Thread t)) found) x.1 in
+      let h = thread_first board isb lines scripts is.system parts.ready is.ready t x.0 (says parts.ready.lines (Some (readies.Thread t)) found) x.1 in
       let its : IsFirstOf seen (threads_of board ++ cpus_of board) (Some (actors.Thread x.0.def.line t.dev)) =
       record {
         place = h.place;
@@ -68,9 +68,9 @@ module _ (board : BoardSeen) (isb : IsBoard board) (layout : List Placement) (li
       } in
       subst (λ (s : SystemSeen). IsFirstOf s (threads_of s.board ++ cpus_of s.board) (Some (actors.Thread line t.dev))) v (subst (λ (l : LineNo). IsFirstOf seen (threads_of board ++ cpus_of board) (Some (actors.Thread l t.dev))) x.2 its)
 
-  pub first_cpu : (c : CpuNo) → Some (movers.Cpu c) ≡ lowest_thread_or_cpu parts.ready.lines → IsFirstOf view (threads_of view.board ++ cpus_of view.board) (Some (actors.Cpu c))
+  pub first_cpu : (c : CpuNo) → Some (readies.Cpu c) ≡ lowest_thread_or_cpu parts.ready.lines → IsFirstOf view (threads_of view.board ++ cpus_of view.board) (Some (actors.Cpu c))
   first_cpu c found =
-      let low = says parts.ready.lines (Some (movers.Cpu c)) found in
+      let low = says parts.ready.lines (Some (readies.Cpu c)) found in
       let h = (cpu_first board isb lines scripts is.system parts.ready is.ready c low.1).0 in
       let none = no_thread board isb lines scripts is.system parts.ready is.ready low.0 in
       let its : IsFirstOf seen (threads_of board ++ cpus_of board) (Some (actors.Cpu c)) =
@@ -114,12 +114,12 @@ module _ (board : BoardSeen) (isb : IsBoard board) (layout : List Placement) (li
   pub script_at : (j : ℕ) (d : DriverNo) → slice_get parts.driver_numbers j ≡ Some d.0 → (s : ScriptSeen) × (slice_get scripts j ≡ Some s) × (s.driver ≡ d)
   script_at j d at = script_of board isb lines scripts is.system parts.ready is.ready j d (driver_at board isb layout lines scripts order parts is view v j d at)
 
-  pub due_is : (j : ℕ) (d : DriverNo) (s : ScriptSeen) (o : Option DueCall) → slice_get parts.driver_numbers j ≡ Some d.0 → slice_get scripts j ≡ Some s → o ≡ due_at (slice_get s.steps s.at) s.made → o ≡ call_on (current_line view.board.calls (board_lines view.lines) d) d
+  pub due_is : (j : ℕ) (d : DriverNo) (s : ScriptSeen) (o : Option DueCall) → slice_get parts.driver_numbers j ≡ Some d.0 → slice_get scripts j ≡ Some s → o ≡ due_at (slice_get s.calls s.at) s.made → o ≡ call_on (current_line view.board.calls (board_lines view.lines) d) d
   due_is j d s o at at_s is_o =
       let t = script_at j d at in
       let mine : s.driver ≡ d = ap (λ (x : ScriptSeen). x.driver) (the_same s t.0 (sym at_s ∙ t.1)) ∙ t.2 in
       subst (λ (w : SystemSeen). o ≡ call_on (current_line w.board.calls (board_lines w.lines) d) d) v
-      (subst (λ (x : DriverNo). o ≡ call_on (current_line board.calls (board_lines lines) x) x) mine (is_o ∙ by_step (slice_get s.steps s.at) refl))
+      (subst (λ (x : DriverNo). o ≡ call_on (current_line board.calls (board_lines lines) x) x) mine (is_o ∙ by_step (slice_get s.calls s.at) refl))
     where
       its : IsScript board.calls (board_lines lines) s
       its = is.system.each j s at_s
@@ -127,7 +127,7 @@ module _ (board : BoardSeen) (isb : IsBoard board) (layout : List Placement) (li
       apart : AreApart (map (λ (x : BoardLine). x.def) (board_lines lines))
       apart = apart_kept board isb (board_lines lines) is.system.kept
 
-      by_step : (x : Option Step) → slice_get s.steps s.at ≡ x → due_at x s.made ≡ call_on (current_line board.calls (board_lines lines) s.driver) s.driver
+      by_step : (x : Option PlacedCall) → slice_get s.calls s.at ≡ x → due_at x s.made ≡ call_on (current_line board.calls (board_lines lines) s.driver) s.driver
       by_step None end = sym (ap (λ (l : Option BoardLine). call_on l s.driver) (script_line board.calls (board_lines lines) apart s its None end))
       by_step (Some step) here =
           let y = some_with (λ z. z.def.line ≡ step.call.line) (slice_get (board_lines lines) step.place) (its.places s.at step here) in
@@ -144,8 +144,8 @@ module _ (board : BoardSeen) (isb : IsBoard board) (layout : List Placement) (li
 
   -- ---- the bounds of places
 
-  pub number_within : (t : ReadyThread) → Some (movers.Thread t) ≡ lowest_thread_or_cpu parts.ready.lines → t.line < length parts.line_numbers
-  number_within t found = line_number_within board isb layout lines scripts order parts is view v t (says parts.ready.lines (Some (movers.Thread t)) found)
+  pub number_within : (t : ReadyThread) → Some (readies.Thread t) ≡ lowest_thread_or_cpu parts.ready.lines → t.line < length parts.line_numbers
+  number_within t found = line_number_within board isb layout lines scripts order parts is view v t (says parts.ready.lines (Some (readies.Thread t)) found)
 
   pub driver_within : (j : ℕ) → Some j ≡ lowest_driver parts.ready → j < length parts.driver_numbers
   driver_within j found = driver_number_within board isb layout lines scripts order parts is view v j (sym found)

@@ -14,6 +14,7 @@ pub mod InSystem
 pub mod Movers
 pub mod LowestMover
 pub mod Standing
+pub mod OfProcessors
 pub mod FirstLaws
 pub mod Underway
 pub mod OwnScripts

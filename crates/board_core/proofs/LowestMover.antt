@@ -23,12 +23,12 @@ use Rattle.board_play.specs.Lines.{Move}
 use Rattle.board_play.specs.Order.{due_move, threads_of, cpus_of, drivers_of, actors_of}
 use Rattle.board_play.specs.Play.{or_move, first_move}
 use Rattle.board_ready.specs.Kept.{thread_of}
-use Rattle.board_ready.specs.Ready.{lowest_thread, lowest_cpu, is_cpu_ready, cpu_line, is_driver_ready, current_call, can_go_on, lowest_driver, thread_or, cpu_mover, driver_mover, or_driver, lowest}
+use Rattle.board_ready.specs.Ready.{lowest_thread, lowest_cpu, is_cpu_ready, cpu_line, is_driver_ready, current_call, can_go_on, lowest_driver, thread_or, cpu_actor, driver_actor, or_driver, lowest}
 use Rattle.board_ready.specs.Seen.{ReadySeen}
 use Rattle.board_ready.specs.declared.parts.CurrentCall.{CurrentCall}
-use Rattle.board_ready.specs.declared.parts.LinePart.{LinePart}
-use Rattle.board_ready.specs.declared.parts.Mover.{Mover}
-use Rattle.board_ready.specs.declared.parts.Mover.TheVariants as movers
+use Rattle.board_ready.specs.declared.parts.LineReadiness.{LineReadiness}
+use Rattle.board_ready.specs.declared.parts.ReadyActor.{ReadyActor}
+use Rattle.board_ready.specs.declared.parts.ReadyActor.TheVariants as readies
 use Rattle.board_ready.specs.declared.parts.ReadyThread.{ReadyThread}
 use Rattle.board_ready.proofs.Lowest.{first_some, first_none, thread_some, thread_least, thread_none}
 use Rattle.board_core.specs.Inside.{IsSystem}
@@ -58,27 +58,27 @@ module _ {A : Type 0} where
 -- ---- which it is
 
 module _ (s : ReadySeen) where
-  by_three : (a : Option ReadyThread) (b c : Option ℕ) → (lowest_thread s.lines ≡ a) → (lowest_cpu s.lines ≡ b) → (lowest_driver s ≡ c) → lowest s ≡ or_driver (thread_or a (cpu_mover b)) (driver_mover c)
+  by_three : (a : Option ReadyThread) (b c : Option ℕ) → (lowest_thread s.lines ≡ a) → (lowest_cpu s.lines ≡ b) → (lowest_driver s ≡ c) → lowest s ≡ or_driver (thread_or a (cpu_actor b)) (driver_actor c)
   by_three a b c is_a is_b is_c =
-      ap (λ (o : Option ReadyThread). or_driver (thread_or o (cpu_mover (lowest_cpu s.lines))) (driver_mover (lowest_driver s))) is_a
-      ∙ (ap (λ (o : Option ℕ). or_driver (thread_or a (cpu_mover o)) (driver_mover (lowest_driver s))) is_b ∙ ap (λ (o : Option ℕ). or_driver (thread_or a (cpu_mover b)) (driver_mover o)) is_c)
+      ap (λ (o : Option ReadyThread). or_driver (thread_or o (cpu_actor (lowest_cpu s.lines))) (driver_actor (lowest_driver s))) is_a
+      ∙ (ap (λ (o : Option ℕ). or_driver (thread_or a (cpu_actor o)) (driver_actor (lowest_driver s))) is_b ∙ ap (λ (o : Option ℕ). or_driver (thread_or a (cpu_actor b)) (driver_actor o)) is_c)
 
   -- what each answer says
-  abbrev Says : Option Mover → Option ReadyThread → Option ℕ → Option ℕ → Type 0
+  abbrev Says : Option ReadyActor → Option ReadyThread → Option ℕ → Option ℕ → Type 0
   Says None a b c = (a ≡ None) × (b ≡ None) × (c ≡ None)
-  Says (Some (movers.Thread t)) a b c = a ≡ Some t
-  Says (Some (movers.Cpu cpu)) a b c = (a ≡ None) × (b ≡ Some cpu.0)
-  Says (Some (movers.Driver j)) a b c = (a ≡ None) × (b ≡ None) × (c ≡ Some j)
+  Says (Some (readies.Thread t)) a b c = a ≡ Some t
+  Says (Some (readies.Cpu cpu)) a b c = (a ≡ None) × (b ≡ Some cpu.0)
+  Says (Some (readies.Driver j)) a b c = (a ≡ None) × (b ≡ None) × (c ≡ Some j)
 
-  said : (a : Option ReadyThread) (b c : Option ℕ) → Says (or_driver (thread_or a (cpu_mover b)) (driver_mover c)) a b c
+  said : (a : Option ReadyThread) (b c : Option ℕ) → Says (or_driver (thread_or a (cpu_actor b)) (driver_actor c)) a b c
   said (Some t) b c = refl
   said None (Some n) c = (refl, refl)
   said None None (Some j) = (refl, refl, refl)
   said None None None = (refl, refl, refl)
 
-  pub lowest_says : (o : Option Mover) → o ≡ lowest s → Says o (lowest_thread s.lines) (lowest_cpu s.lines) (lowest_driver s)
+  pub lowest_says : (o : Option ReadyActor) → o ≡ lowest s → Says o (lowest_thread s.lines) (lowest_cpu s.lines) (lowest_driver s)
   lowest_says o is =
-      subst (λ (x : Option Mover). Says x (lowest_thread s.lines) (lowest_cpu s.lines) (lowest_driver s)) (sym (is ∙ by_three (lowest_thread s.lines) (lowest_cpu s.lines) (lowest_driver s) refl refl refl))
+      subst (λ (x : Option ReadyActor). Says x (lowest_thread s.lines) (lowest_cpu s.lines) (lowest_driver s)) (sym (is ∙ by_three (lowest_thread s.lines) (lowest_cpu s.lines) (lowest_driver s) refl refl refl))
       (said (lowest_thread s.lines) (lowest_cpu s.lines) (lowest_driver s))
 
 -- ---- lists of actors
@@ -166,7 +166,7 @@ module _ (board : BoardSeen) (isb : IsBoard board) (lines : List LineSeen) (scri
       of_device : ((x : DeviceDef) × (slice_get board.devices j ≡ Some x) × (actors.Thread x.line x.dev ≡ a)) → due a ≡ None
       of_device h = subst (λ (b : Actor). due b ≡ None) h.2 (rests (actors.Thread h.0.line h.0.dev) (λ m is_due.
           (let t = thread_ready board isb lines scripts is ready r h.0.line h.0.dev m is_due in
-          not_both (thread_of (slice_get ready.lines t.0)) t.3 (thread_none ready.lines t.0 none) (ap (λ (o : Option LinePart). thread_of o) t.6 ∙ t.7))))
+          not_both (thread_of (slice_get ready.lines t.0)) t.3 (thread_none ready.lines t.0 none) (ap (λ (o : Option LineReadiness). thread_of o) t.6 ∙ t.7))))
 
   pub thread_first : (t : ReadyThread) (x : LineSeen) → lowest_thread ready.lines ≡ Some t → slice_get lines t.line ≡ Some x → At (threads_of board) (actors.Thread x.def.line t.dev)
   thread_first t x low at =
@@ -185,7 +185,7 @@ module _ (board : BoardSeen) (isb : IsBoard board) (lines : List LineSeen) (scri
           (let u = thread_ready board isb lines scripts is ready r h.0.line h.0.dev m is_due in
           let below = rising_key (λ (y : DeviceDef). y.dev.0) board.devices rises j p.place h.0 p.device h.1 p.at less in
           let same = ap (λ (d : DevNo). d.0) p.dev_is in
-          let least = thread_least ready.lines t u.0 u.3 low (ap (λ (o : Option LinePart). thread_of o) u.6 ∙ u.7) in
+          let least = thread_least ready.lines t u.0 u.3 low (ap (λ (o : Option LineReadiness). thread_of o) u.6 ∙ u.7) in
           let le = u.8 in
           omega (arith, below, same, least, le))))
 

@@ -27,7 +27,7 @@ use Rattle.board_core.specs.Seen.{board_lines}
 use Rattle.board_core.proofs.Few.{few_lines}
 use Rattle.board_core.proofs.ScriptLaws.{HaveCalls, due_there}
 use Rattle.board_core.specs.Scripts.{ScriptSeen, cut, calls_of, IsScript}
-use Rattle.board_core.specs.declared.scripts.Step.{Step}
+use Rattle.board_core.specs.declared.scripts.PlacedCall.{PlacedCall}
 
 module _ {A : Type 0} where
   pub taken : (xs : List A) (i : ℕ) (x : A) → slice_get xs i ≡ Some x → take (i + 1) xs ≡ take i xs ++ x ∷ []
@@ -79,22 +79,22 @@ module _ (board : BoardSeen) (lines : List LineSeen) (new : AreNew board lines) 
           due = due;
         }
       where
-        its_cut : calls_of s.steps ≡ cut (map (λ (x : BoardLine). x.def) (board_lines lines)) s.driver board.calls
+        its_cut : calls_of s.calls ≡ cut (map (λ (x : BoardLine). x.def) (board_lines lines)) s.driver board.calls
         its_cut =
             is.cut ∙ (ap (λ (cs : List ScriptCall). cut (defs_of board) s.driver cs) (all_taken board.calls (length board.calls) (omega arith)) ∙ ap (λ (ds : List LineDef). cut ds s.driver board.calls) (sym defs_new))
 
-        up : IsUpTo (calls_of s.steps) (board_lines lines) s.driver s.at
+        up : IsUpTo (calls_of s.calls) (board_lines lines) s.driver s.at
         up =
-            subst (λ (n : ℕ). IsUpTo (calls_of s.steps) (board_lines lines) s.driver n) (sym is.at)
-            (subst (λ (ls : List BoardLine). IsUpTo (calls_of s.steps) ls s.driver 0) (sym new) (nothing_yet board (calls_of s.steps) s.driver))
+            subst (λ (n : ℕ). IsUpTo (calls_of s.calls) (board_lines lines) s.driver n) (sym is.at)
+            (subst (λ (ls : List BoardLine). IsUpTo (calls_of s.calls) ls s.driver 0) (sym new) (nothing_yet board (calls_of s.calls) s.driver))
 
         no_past : (i : ℕ) (y : BoardLine) → slice_get (board_lines lines) i ≡ Some y → y.past ≡ []
         no_past i y at = past_at (defs_of board) [] i y (subst (λ (ls : List BoardLine). slice_get ls i ≡ Some y) new at)
 
-        due : (x : Step) (y : BoardLine) → slice_get s.steps s.at ≡ Some x → slice_get (board_lines lines) x.place ≡ Some y → due_call y.def s.driver y.past ≡ Some (x.call.call, s.made)
+        due : (x : PlacedCall) (y : BoardLine) → slice_get s.calls s.at ≡ Some x → slice_get (board_lines lines) x.place ≡ Some y → due_call y.def s.driver y.past ≡ Some (x.call.call, s.made)
         due x y at there =
             let line : y.def.line ≡ x.call.line = subst (λ (o : Option BoardLine). IsSomeAnd o (λ z. z.def.line ≡ x.call.line)) there (line_there x.place x.call.line (is.places s.at x at)) in
-            let d = due_there board.calls (board_lines lines) have_new apart_new s.driver s.steps its_cut s.at up x y at there line in
+            let d = due_there board.calls (board_lines lines) have_new apart_new s.driver s.calls its_cut s.at up x y at there line in
             let first : due_of (calls_by s.driver y.def.calls) [] ≡ Some (x.call.call, d.0) = ap (λ (past : List Entry). due_call y.def s.driver past) (sym (no_past x.place y there)) ∙ d.1 in
             d.1 ∙ ap (λ (n : ℕ). Some (x.call.call, n)) (fresh (calls_by s.driver y.def.calls) x.call.call d.0 first ∙ sym is.made)
 

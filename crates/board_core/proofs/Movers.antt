@@ -1,10 +1,11 @@
 -- Who can move, by what the ready actors are.
-use Rattle.std.proofs.Common.{◌≡◌, ℕ, zero, suc, ◌+◌, ◌<◌, ◌≤◌, ◌==◌, ◌⊎◌, inl, inr, Bool, true, false, not, cond, is_some, IsTrue, ◌↔◌, nat_lt, IsSome, IsSomeAnd, Option, Some, None, List, [], ◌∷◌, ◌++◌, map, length, reverse, filter, slice_get, refl, sym, ap, ◌∙◌, subst, arith, eq-eqb}
+use Rattle.std.proofs.Common.{◌≡◌, ℕ, zero, suc, ◌+◌, ◌<◌, ◌≤◌, ◌==◌, ◌⊎◌, inl, inr, Bool, true, false, not, ◌&&◌, cond, is_some, IsTrue, ◌↔◌, nat_lt, IsSome, IsSomeAnd, Option, Some, None, List, [], ◌∷◌, ◌++◌, map, length, reverse, filter, slice_get, refl, sym, ap, ◌∙◌, subst, arith, eq-eqb}
 use Rattle.std.specs.List.{list_any}
+use Rattle.std.specs.Option.{option_map}
 use Rattle.std.proofs.Math.ListN.{length-map}
-use Rattle.std.proofs.lemmas.Bool.{ltb-false}
+use Rattle.std.proofs.lemmas.Bool.{lt-ltb, ltb-false}
 use Rattle.std.proofs.lemmas.Bool.Decides.{nat_tests}
-use Rattle.std.proofs.lemmas.Option.{slice_get_within}
+use Rattle.std.proofs.lemmas.Option.{slice_get-map, slice_get_within}
 use Rattle.irq_base.specs.declared.entries.Actor.{Actor}
 use Rattle.irq_base.specs.declared.entries.Actor.TheVariants as actors
 use Rattle.irq_base.specs.declared.entries.Entry.{Entry}
@@ -25,7 +26,6 @@ use Rattle.irq_laws.proofs.Chosen.{the_same}
 use Rattle.irq_laws.proofs.KeptAlways.{kept}
 use Rattle.irq_line.specs.Queries.{IsLowestThread, IsTaker, IsThreadDue, is_some_take, blocks_of, is_blocked}
 use Rattle.irq_line.specs.Seen.{LineSeen}
-use Rattle.irq_base.specs.declared.waiting.Blocks.{Blocks}
 use Rattle.irq_line.proofs.Waits.{call_waits}
 use Rattle.play_laws.specs.Actors.{count_up, IsOneOf, threads_of as threads_of_line, cpus_of as cpus_of_line, drivers_of as drivers_of_line, actors_of as actors_of_line}
 use Rattle.play_laws.proofs.Listed.{thread_device, mover_listed}
@@ -44,15 +44,16 @@ use Rattle.board_ready.specs.Kept.{thread_of}
 use Rattle.board_ready.specs.Ready.{has_flow, has_take, flow_line as flow_place, take_line, flow_or_take, cpu_line, is_barred, is_open, can_go_on}
 use Rattle.board_ready.specs.Ready.{is_cpu as is_number}
 use Rattle.board_ready.specs.Seen.{ReadySeen}
-use Rattle.board_ready.specs.declared.parts.Barriers.{Barriers}
+use Rattle.irq_base.specs.declared.waiting.Blocks.{Blocks}
 use Rattle.board_ready.specs.declared.parts.CurrentCall.{CurrentCall}
-use Rattle.board_ready.specs.declared.parts.LinePart.{LinePart}
+use Rattle.board_ready.specs.declared.parts.LineReadiness.{LineReadiness}
+use Rattle.board_core.specs.Firsts.{is_take_due}
 use Rattle.board_core.specs.Inside.{IsSystem}
 use Rattle.board_core.specs.Places.{IsPlace}
-use Rattle.board_core.specs.ReadyFor.{IsPartOf, IsReadyFor, barriers_of, wait_for, call_at, call_of}
+use Rattle.board_core.specs.ReadyFor.{IsReadinessOf, IsReadyFor, call_at, call_of}
 use Rattle.board_core.specs.Scripts.{ScriptSeen, IsScript}
 use Rattle.board_core.specs.Seen.{board_line, board_lines}
-use Rattle.board_core.specs.declared.scripts.Step.{Step}
+use Rattle.board_core.specs.declared.scripts.PlacedCall.{PlacedCall}
 use Rattle.board_core.proofs.ScriptLaws.{script_line}
 use Rattle.board_core.proofs.Searches.{first_that, in_flow_of, due_of_cpu, flow_is, due_is, first_place, due_is_take, same_truth, no_flow_at}
 use Rattle.board_core.proofs.TurnLaws.{map_there, map_back}
@@ -139,10 +140,10 @@ module _ (board : BoardSeen) (isb : IsBoard board) (lines : List LineSeen) (scri
   at_line : (k : ℕ) (x : LineSeen) → slice_get lines k ≡ Some x → slice_get (board_lines lines) k ≡ Some (board_line x)
   at_line k x at = map_there board_line lines k x at
 
-  part_of : (k : ℕ) (x : LineSeen) → slice_get lines k ≡ Some x → (p : LinePart) × (slice_get ready.lines k ≡ Some p) × IsPartOf x p
-  part_of k x at = some_with (IsPartOf x) (slice_get ready.lines k) (r.each_line k x at)
+  part_of : (k : ℕ) (x : LineSeen) → slice_get lines k ≡ Some x → (p : LineReadiness) × (slice_get ready.lines k ≡ Some p) × IsReadinessOf x p
+  part_of k x at = some_with (IsReadinessOf x) (slice_get ready.lines k) (r.each_line k x at)
 
-  pub line_of : (k : ℕ) (p : LinePart) → slice_get ready.lines k ≡ Some p → (x : LineSeen) × (slice_get lines k ≡ Some x) × IsPartOf x p
+  pub line_of : (k : ℕ) (p : LineReadiness) → slice_get ready.lines k ≡ Some p → (x : LineSeen) × (slice_get lines k ≡ Some x) × IsReadinessOf x p
   line_of k p at =
       let l = slice_get_within ready.lines k p at in
       let m = r.all_lines in
@@ -154,11 +155,11 @@ module _ (board : BoardSeen) (isb : IsBoard board) (lines : List LineSeen) (scri
       some_there (x ∷ xs) zero h = refl
       some_there (x ∷ xs) (suc k) h = some_there xs k (omega (arith, h))
 
-      by_line : (o : Option LineSeen) → slice_get lines k ≡ o → IsSome o → (x : LineSeen) × (slice_get lines k ≡ Some x) × IsPartOf x p
+      by_line : (o : Option LineSeen) → slice_get lines k ≡ o → IsSome o → (x : LineSeen) × (slice_get lines k ≡ Some x) × IsReadinessOf x p
       by_line None there some = cc
       by_line (Some x) there some =
           let q = part_of k x there in
-          (x, there, subst (λ (y : LinePart). IsPartOf x y) (the_same q.0 p (sym q.1 ∙ at)) q.2)
+          (x, there, subst (λ (y : LineReadiness). IsReadinessOf x y) (the_same q.0 p (sym q.1 ∙ at)) q.2)
 
   definition : (k : ℕ) (x : LineSeen) → slice_get lines k ≡ Some x → slice_get (defs_of board) k ≡ Some x.def
   definition k x at = def_at board (board_lines lines) is.kept k (board_line x) (at_line k x at)
@@ -201,7 +202,7 @@ module _ (board : BoardSeen) (isb : IsBoard board) (lines : List LineSeen) (scri
 
   -- a thread that can move is at its line no lower than the lowest
   pub thread_ready : (line : LineNo) (d : DevNo) (m : Move) → due_move board (board_lines lines) (actors.Thread line d) ≡ Some m
-      → (k : ℕ) × (x : LineSeen) × (p : LinePart) × (lowest : DevNo) × (slice_get lines k ≡ Some x) × (line ≡ x.def.line) × (slice_get ready.lines k ≡ Some p) × (p.thread ≡ Some lowest) × (lowest.0 ≤ d.0)
+      → (k : ℕ) × (x : LineSeen) × (p : LineReadiness) × (lowest : DevNo) × (slice_get lines k ≡ Some x) × (line ≡ x.def.line) × (slice_get ready.lines k ≡ Some p) × (p.thread ≡ Some lowest) × (lowest.0 ≤ d.0)
   thread_ready line d m due =
       let v = is_move (actors.Thread line d) m due in
       let f = found (board_lines lines) line (board_line v.line) v.its in
@@ -209,8 +210,8 @@ module _ (board : BoardSeen) (isb : IsBoard board) (lines : List LineSeen) (scri
       let is_due : IsThreadDue v.line d = ap (λ (l : LineNo). is_some (next v.line.def v.line.entries (actors.Thread l d))) (sym f.number) ∙ ap (λ (o : Option Entry). is_some o) v.due in
       by_lowest v.place v.line p.0 v.at f.number p.1 p.0.thread refl p.2.thread is_due
     where
-      by_lowest : (k : ℕ) (x : LineSeen) (p : LinePart) → slice_get lines k ≡ Some x → line ≡ x.def.line → slice_get ready.lines k ≡ Some p → (o : Option DevNo) → p.thread ≡ o → IsLowestThread x o → IsThreadDue x d
-          → (k : ℕ) × (x : LineSeen) × (p : LinePart) × (lowest : DevNo) × (slice_get lines k ≡ Some x) × (line ≡ x.def.line) × (slice_get ready.lines k ≡ Some p) × (p.thread ≡ Some lowest) × (lowest.0 ≤ d.0)
+      by_lowest : (k : ℕ) (x : LineSeen) (p : LineReadiness) → slice_get lines k ≡ Some x → line ≡ x.def.line → slice_get ready.lines k ≡ Some p → (o : Option DevNo) → p.thread ≡ o → IsLowestThread x o → IsThreadDue x d
+          → (k : ℕ) × (x : LineSeen) × (p : LineReadiness) × (lowest : DevNo) × (slice_get lines k ≡ Some x) × (line ≡ x.def.line) × (slice_get ready.lines k ≡ Some p) × (p.thread ≡ Some lowest) × (lowest.0 ≤ d.0)
       by_lowest k x p at number at_p None thread least is_due = absurd (least d is_due)
       by_lowest k x p at number at_p (Some lowest) thread least is_due = (k, x, p, lowest, at, number, at_p, thread, least.1 d is_due)
 
@@ -219,7 +220,7 @@ module _ (board : BoardSeen) (isb : IsBoard board) (lines : List LineSeen) (scri
       → ((m : Move) × (due_move board (board_lines lines) (actors.Thread x.def.line d) ≡ Some m)) × (list_any (is_device d) (filter (λ y. y.line.0 == x.def.line.0) board.devices) ≡ true)
   thread_device_of k x d at its =
       let p = part_of k x at in
-      let low : p.0.thread ≡ Some d = ap (λ (o : Option LinePart). thread_of o) (sym p.1) ∙ its in
+      let low : p.0.thread ≡ Some d = ap (λ (o : Option LineReadiness). thread_of o) (sym p.1) ∙ its in
       let due : IsThreadDue x d = (subst (λ (o : Option DevNo). IsLowestThread x o) low p.2.thread).0 in
       let e = some_of (next x.def x.entries (actors.Thread x.def.line d)) due in
       let own : next_of_thread x.def d (reverse x.entries) ≡ Some e.0 = ap (λ (b : Bool). cond b (next_of_thread x.def d (reverse x.entries)) None) (sym (same_self_line x.def.line)) ∙ e.1 in
@@ -240,18 +241,21 @@ module _ (board : BoardSeen) (isb : IsBoard board) (lines : List LineSeen) (scri
     ]
   ]
 
-  pub few_cpus : (c : CpuNo) (m : Move) → due_move board (board_lines lines) (actors.Cpu c) ≡ Some m → c.0 < board.cpus
-  few_cpus c m due =
-      let v = is_move (actors.Cpu c) m due in
-      let l = only_cpu c v.line.def (mover_listed v.line.def (reverse v.line.entries) (actors.Cpu c) m.1 (valid v.place v.line v.at) (legal v.place v.line v.at) v.due) in
-      let o = def_of_row board v.place v.line.def (definition v.place v.line v.at) in
+  -- a processor of which an entry is due is the board's
+  due_below : (c : CpuNo) (k : ℕ) (x : LineSeen) (e : Entry) → slice_get lines k ≡ Some x → next x.def x.entries (actors.Cpu c) ≡ Some e → c.0 < board.cpus
+  due_below c k x e at due =
+      let l = only_cpu c x.def (mover_listed x.def (reverse x.entries) (actors.Cpu c) e (valid k x at) (legal k x at) due) in
+      let o = def_of_row board k x.def (definition k x at) in
       subst (λ (def : LineDef). c.0 < def.cpus) (sym o.is) l
+
+  pub few_cpus : (c : CpuNo) (m : Move) → due_move board (board_lines lines) (actors.Cpu c) ≡ Some m → c.0 < board.cpus
+  few_cpus c m due = let v = is_move (actors.Cpu c) m due in due_below c v.place v.line m.1 v.at v.due
 
   flow_test : (c : CpuNo) (k : ℕ) (y : BoardLine) → slice_get (board_lines lines) k ≡ Some y → has_flow c.0 (slice_get ready.lines k) ≡ in_flow_of c y
   flow_test c k y at =
       let x = map_back board_line lines k y at in
       let p = part_of k x.0 x.1 in
-      ap (λ (o : Option LinePart). has_flow c.0 o) p.1 ∙ (same_cpu p.0.flow ∙ (ap (λ (o : Option CpuNo). is_cpu c o) p.2.flow ∙ ap (λ (z : BoardLine). in_flow_of c z) x.2))
+      ap (λ (o : Option LineReadiness). has_flow c.0 o) p.1 ∙ (same_cpu p.0.flow ∙ (ap (λ (o : Option CpuNo). is_cpu c o) p.2.flow ∙ ap (λ (z : BoardLine). in_flow_of c z) x.2))
     where
       same_cpu : (o : Option CpuNo) → is_number c.0 o ≡ is_cpu c o
       same_cpu None = refl
@@ -260,35 +264,69 @@ module _ (board : BoardSeen) (isb : IsBoard board) (lines : List LineSeen) (scri
           equal_ways : (m n : ℕ) → (m == n) ≡ (n == m)
           equal_ways m n = grind (arith, nat_tests)
 
+  taker_is : (c : CpuNo) (x : LineSeen) (o : Option CpuNo) → IsTaker x o → is_number c.0 o ≡ is_some_take (next_past x.def (reverse x.entries) (actors.Cpu c))
+  taker_is c x o taker = same_truth (is_number c.0 o) (is_some_take (next_past x.def (reverse x.entries) (actors.Cpu c))) (λ is. (taker c).0 (its o is)) (λ h. back o ((taker c).1 h))
+    where
+      its : (o : Option CpuNo) → is_number c.0 o ≡ true → o ≡ Some c
+      its None is = cc
+      its (Some b) is = ap (λ (z : CpuNo). Some z) (cpu_from_same b c is)
+
+      back : (o : Option CpuNo) → o ≡ Some c → is_number c.0 o ≡ true
+      back o is = ap (λ (z : Option CpuNo). is_number c.0 z) is ∙ eq-eqb c.0 c.0 refl
+
   take_test : (c : CpuNo) → flow_line (board_lines lines) c ≡ None → (k : ℕ) (y : BoardLine) → slice_get (board_lines lines) k ≡ Some y → has_take c.0 (slice_get ready.lines k) ≡ due_of_cpu c y
   take_test c none k y at =
       let x = map_back board_line lines k y at in
       let p = part_of k x.0 x.1 in
-      ap (λ (o : Option LinePart). has_take c.0 o) p.1 ∙ (by_taker x.0 p.0.taker p.2.taker
+      ap (λ (o : Option LineReadiness). has_take c.0 o) p.1 ∙ (taker_is c x.0 p.0.taker p.2.taker
       ∙ (sym (due_is_take x.0.def (reverse x.0.entries) c (no_flow_at (board_lines lines) c none k (board_line x.0) (at_line k x.0 x.1))) ∙ ap (λ (z : BoardLine). due_of_cpu c z) x.2))
-    where
-      by_taker : (x : LineSeen) (o : Option CpuNo) → IsTaker x o → is_number c.0 o ≡ is_some_take (next_past x.def (reverse x.entries) (actors.Cpu c))
-      by_taker x o taker = same_truth (is_number c.0 o) (is_some_take (next_past x.def (reverse x.entries) (actors.Cpu c))) (λ is. (taker c).0 (its o is)) (λ h. back o ((taker c).1 h))
-        where
-          its : (o : Option CpuNo) → is_number c.0 o ≡ true → o ≡ Some c
-          its None is = cc
-          its (Some b) is = ap (λ (z : CpuNo). Some z) (cpu_from_same b c is)
 
-          back : (o : Option CpuNo) → o ≡ Some c → is_number c.0 o ≡ true
-          back o is = ap (λ (z : Option CpuNo). is_number c.0 z) is ∙ eq-eqb c.0 c.0 refl
+  -- the lines on which a take of it is due
+  pub take_told : (c : CpuNo) (k : ℕ) (b : Bool) → b ≡ (nat_lt c.0 32 && has_take c.0 (slice_get ready.lines k)) → b ≡ is_take_due c (slice_get (board_lines lines) k)
+  take_told c k b is = is ∙ by_line (slice_get lines k) refl
+    where
+      and_false : (b : Bool) → (b && false) ≡ false
+      and_false true = refl
+      and_false false = refl
+
+      some_take : (o : Option Entry) → is_some_take o ≡ true → (e : Entry) × (o ≡ Some e)
+      some_take None h = cc
+      some_take (Some e) h = (e, refl)
+
+      low : (x : LineSeen) → slice_get lines k ≡ Some x → (t : Bool) → is_some_take (next_past x.def (reverse x.entries) (actors.Cpu c)) ≡ t → (nat_lt c.0 32 && t) ≡ t
+      low x at false none = and_false (nat_lt c.0 32)
+      low x at true some =
+          let e = some_take (next_past x.def (reverse x.entries) (actors.Cpu c)) some in
+          let l = due_below c k x e.0 at e.1 in
+          let f = isb.few_cpus in
+          ap (λ (b : Bool). b && true) (lt-ltb c.0 32 (omega (arith, l, f)))
+
+      no_part : slice_get lines k ≡ None → (o : Option LineReadiness) → slice_get ready.lines k ≡ o → slice_get ready.lines k ≡ None
+      no_part none None is = is
+      no_part none (Some p) is = let x = line_of k p is in absurd (not_both (slice_get lines k) x.0 none x.1)
+
+      by_line : (o : Option LineSeen) → slice_get lines k ≡ o → (nat_lt c.0 32 && has_take c.0 (slice_get ready.lines k)) ≡ is_take_due c (slice_get (board_lines lines) k)
+      by_line None none =
+          ap (λ (o : Option LineReadiness). nat_lt c.0 32 && has_take c.0 o) (no_part none (slice_get ready.lines k) refl)
+          ∙ (and_false (nat_lt c.0 32) ∙ sym (ap (λ (o : Option BoardLine). is_take_due c o) (slice_get-map board_line lines k ∙ ap (option_map board_line) none)))
+      by_line (Some x) at =
+          let p = part_of k x at in
+          ap (λ (o : Option LineReadiness). nat_lt c.0 32 && has_take c.0 o) p.1
+          ∙ (ap (λ (t : Bool). nat_lt c.0 32 && t) (taker_is c x p.0.taker p.2.taker)
+          ∙ (low x at (is_some_take (next_past x.def (reverse x.entries) (actors.Cpu c))) refl ∙ ap (λ (o : Option BoardLine). is_take_due c o) (sym (at_line k x at))))
 
   many : length (board_lines lines) ≡ length ready.lines
   many = let a = length-map lines board_line in let b = r.all_lines in omega (arith, a, b)
 
+  flow_at : (c : CpuNo) (f : Option ℕ) → flow_place ready.lines c.0 ≡ f → IsPlace (board_lines lines) f (flow_line (board_lines lines) c)
+  flow_at c f flows =
+      subst (λ (o : Option BoardLine). IsPlace (board_lines lines) f o) (flow_is (board_lines lines) c)
+      (first_place (in_flow_of c) (board_lines lines) (λ k. has_flow c.0 (slice_get ready.lines k)) (flow_test c) f (ap (λ (n : ℕ). first_of (λ k. has_flow c.0 (slice_get ready.lines k)) n) many ∙ flows))
+
   -- the processor's line
   cpu_place : (c : CpuNo) (f t : Option ℕ) → flow_place ready.lines c.0 ≡ f → take_line ready.lines c.0 ≡ t → IsPlace (board_lines lines) (flow_or_take f t) (line_for board (board_lines lines) (actors.Cpu c))
-  cpu_place c f t flows takes = by_flow f (flow_line (board_lines lines) c) refl in_flow
+  cpu_place c f t flows takes = by_flow f (flow_line (board_lines lines) c) refl (flow_at c f flows)
     where
-      in_flow : IsPlace (board_lines lines) f (flow_line (board_lines lines) c)
-      in_flow =
-          subst (λ (o : Option BoardLine). IsPlace (board_lines lines) f o) (flow_is (board_lines lines) c)
-          (first_place (in_flow_of c) (board_lines lines) (λ k. has_flow c.0 (slice_get ready.lines k)) (flow_test c) f (ap (λ (n : ℕ). first_of (λ k. has_flow c.0 (slice_get ready.lines k)) n) many ∙ flows))
-
       taken : flow_line (board_lines lines) c ≡ None → IsPlace (board_lines lines) t (due_line (board_lines lines) c)
       taken none =
           subst (λ (o : Option BoardLine). IsPlace (board_lines lines) t o) (due_is (board_lines lines) c)
@@ -328,6 +366,22 @@ module _ (board : BoardSeen) (isb : IsBoard board) (lines : List LineSeen) (scri
       let e = some_of (next_past y.0.def y.0.past (actors.Cpu c)) (line_is_due c y.0 y.1) in
       ((y.0.def.line, e.0), ap (λ (o : Option BoardLine). due_on o (actors.Cpu c)) y.1 ∙ ap (λ (o : Option Entry). move_on y.0.def.line o) e.1)
 
+  -- the line of its flow
+  pub flow_there : (c : CpuNo) (o : Option ℕ) → o ≡ cond (nat_lt c.0 32) (flow_place ready.lines c.0) None → IsPlace (board_lines lines) o (flow_line (board_lines lines) c)
+  flow_there c o is = by_number (nat_lt c.0 32) refl is
+    where
+      no_flow : nat_lt c.0 32 ≡ false → (z : Option BoardLine) → flow_line (board_lines lines) c ≡ z → flow_line (board_lines lines) c ≡ None
+      no_flow high None is = is
+      no_flow high (Some y) is =
+          let its : line_for board (board_lines lines) (actors.Cpu c) ≡ Some y = ap (λ (x : Option BoardLine). or_line x (due_line (board_lines lines) c)) is in
+          let e = some_of (next_past y.def y.past (actors.Cpu c)) (line_is_due c y its) in
+          let move : due_move board (board_lines lines) (actors.Cpu c) ≡ Some (y.def.line, e.0) = ap (λ (x : Option BoardLine). due_on x (actors.Cpu c)) its ∙ ap (λ (x : Option Entry). move_on y.def.line x) e.1 in
+          absurd (let l = few_cpus c (y.def.line, e.0) move in let f = isb.few_cpus in let h = ltb-false c.0 32 high in omega (arith, l, f, h))
+
+      by_number : (b : Bool) → nat_lt c.0 32 ≡ b → o ≡ cond b (flow_place ready.lines c.0) None → IsPlace (board_lines lines) o (flow_line (board_lines lines) c)
+      by_number true low is = flow_at c o (sym is)
+      by_number false high is = subst (λ (x : Option ℕ). IsPlace (board_lines lines) x (flow_line (board_lines lines) c)) (sym is) (no_flow high (flow_line (board_lines lines) c) refl)
+
   -- what the ready actors answer for a processor
   abbrev CpuStands : CpuNo → Option ℕ → Type 0
   CpuStands c None = due_move board (board_lines lines) (actors.Cpu c) ≡ None
@@ -350,7 +404,7 @@ module _ (board : BoardSeen) (isb : IsBoard board) (lines : List LineSeen) (scri
 
   -- ---- drivers
 
-  barred_is : (b : WaitFor) (blocks : Blocks) → is_barred (wait_for b) (barriers_of blocks) ≡ is_blocked b blocks
+  barred_is : (b : WaitFor) (blocks : Blocks) → is_barred b blocks ≡ is_blocked b blocks
   barred_is waits.Nothing blocks = refl
   barred_is waits.Flow blocks = refl
   barred_is waits.Threads blocks = refl
@@ -364,34 +418,34 @@ module _ (board : BoardSeen) (isb : IsBoard board) (lines : List LineSeen) (scri
 
   -- the place of the driver's line
   pub script_place : (j : ℕ) (s : ScriptSeen) (call : CurrentCall) → slice_get scripts j ≡ Some s → call_of s ≡ Some call → IsPlace (board_lines lines) (Some call.line) (line_for board (board_lines lines) (actors.Driver s.driver))
-  script_place j s call at called = by_step (slice_get s.steps s.at) refl called
+  script_place j s call at called = by_step (slice_get s.calls s.at) refl called
     where
       its : IsScript board.calls (board_lines lines) s
       its = is.each j s at
 
-      by_step : (o : Option Step) → slice_get s.steps s.at ≡ o → call_at o s.made ≡ Some call → IsPlace (board_lines lines) (Some call.line) (line_for board (board_lines lines) (actors.Driver s.driver))
+      by_step : (o : Option PlacedCall) → slice_get s.calls s.at ≡ o → call_at o s.made ≡ Some call → IsPlace (board_lines lines) (Some call.line) (line_for board (board_lines lines) (actors.Driver s.driver))
       by_step None here is = cc
       by_step (Some step) here is =
           let line = script_line board.calls (board_lines lines) apart s its (Some step) here in
           let y = some_with (λ z. z.def.line ≡ step.call.line) (slice_get (board_lines lines) step.place) (its.places s.at step here) in
-          let made : CurrentCall = record { line = step.place; wait = wait_for (block_of step.call.call s.made) } in
+          let made : CurrentCall = record { line = step.place; wait = block_of step.call.call s.made } in
           subst (λ (c : CurrentCall). IsPlace (board_lines lines) (Some c.line) (line_for board (board_lines lines) (actors.Driver s.driver))) (the_same made call is)
           (ap (λ (o : Option BoardLine). is_some o) (line ∙ y.1), sym line)
 
   pub driver_can : (j : ℕ) (s : ScriptSeen) → slice_get scripts j ≡ Some s → can_go_on ready.lines (call_of s) ≡ is_some (due_move board (board_lines lines) (actors.Driver s.driver))
-  driver_can j s at = by_step (slice_get s.steps s.at) refl
+  driver_can j s at = by_step (slice_get s.calls s.at) refl
     where
       its : IsScript board.calls (board_lines lines) s
       its = is.each j s at
 
-      by_line : (step : Step) (k : ℕ) (y : BoardLine) → slice_get s.steps s.at ≡ Some step → slice_get (board_lines lines) step.place ≡ Some y → is_open (wait_for (block_of step.call.call s.made)) (slice_get ready.lines step.place) ≡ is_some (due_on (Some y) (actors.Driver s.driver))
+      by_line : (step : PlacedCall) (k : ℕ) (y : BoardLine) → slice_get s.calls s.at ≡ Some step → slice_get (board_lines lines) step.place ≡ Some y → is_open (block_of step.call.call s.made) (slice_get ready.lines step.place) ≡ is_some (due_on (Some y) (actors.Driver s.driver))
       by_line step k y here there =
           let x = map_back board_line lines step.place y there in
           let p = part_of step.place x.0 x.1 in
           let due = its.due step (board_line x.0) here (at_line step.place x.0 x.1) in
           let law = call_waits x.0 s.driver step.call.call s.made (is.sound step.place x.0 x.1) due in
-          ap (λ (o : Option LinePart). is_open (wait_for (block_of step.call.call s.made)) o) p.1
-          ∙ (ap (λ (b : Barriers). not (is_barred (wait_for (block_of step.call.call s.made)) b)) p.2.barriers
+          ap (λ (o : Option LineReadiness). is_open (block_of step.call.call s.made) o) p.1
+          ∙ (ap (λ (b : Blocks). not (is_barred (block_of step.call.call s.made) b)) p.2.blocks
           ∙ (ap not (barred_is (block_of step.call.call s.made) (blocks_of x.0))
           ∙ (none_exactly (next x.0.def x.0.entries (actors.Driver s.driver)) (is_blocked (block_of step.call.call s.made) (blocks_of x.0)) law
           ∙ (moved x.0.def.line (next x.0.def x.0.entries (actors.Driver s.driver)) ∙ ap (λ (z : BoardLine). is_some (due_on (Some z) (actors.Driver s.driver))) x.2))))
@@ -400,7 +454,7 @@ module _ (board : BoardSeen) (isb : IsBoard board) (lines : List LineSeen) (scri
           moved line None = refl
           moved line (Some e) = refl
 
-      by_step : (o : Option Step) → slice_get s.steps s.at ≡ o → can_go_on ready.lines (call_at o s.made) ≡ is_some (due_move board (board_lines lines) (actors.Driver s.driver))
+      by_step : (o : Option PlacedCall) → slice_get s.calls s.at ≡ o → can_go_on ready.lines (call_at o s.made) ≡ is_some (due_move board (board_lines lines) (actors.Driver s.driver))
       by_step None here = sym (ap (λ (o : Option BoardLine). is_some (due_on o (actors.Driver s.driver))) (script_line board.calls (board_lines lines) apart s its None here))
       by_step (Some step) here =
           let y = some_with (λ z. z.def.line ≡ step.call.line) (slice_get (board_lines lines) step.place) (its.places s.at step here) in

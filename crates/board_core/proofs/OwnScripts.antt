@@ -30,7 +30,7 @@ use Rattle.board_core.specs.Placing.{made_of, with_entry, IsOwn, AreOwn, IsPlace
 use Rattle.line_scripts.specs.Endings.{completes}
 use Rattle.board_core.specs.Scripts.{ScriptSeen, calls_of, advanced_by, advanced_at, advanced}
 use Rattle.board_core.specs.Turned.{script_after, scripts_after}
-use Rattle.board_core.specs.declared.scripts.Step.{Step}
+use Rattle.board_core.specs.declared.scripts.PlacedCall.{PlacedCall}
 use Rattle.board_core.proofs.Cutting.{script_there}
 use Rattle.line_scripts.proofs.LastEntry.{completes_at, last_is, goes, ends, one_more}
 use Rattle.board_core.proofs.MadeOf.{taken, map_more}
@@ -48,7 +48,7 @@ put_at f None scripts = scripts
 put_at f (Some j) scripts = put f (slice_get scripts j) j scripts
 
 abbrev longer : ℕ → ScriptCall → ScriptSeen → ScriptSeen
-longer k c s = record s { steps = s.steps ++ record { place = k; call = c } ∷ [] }
+longer k c s = record s { calls = s.calls ++ record { place = k; call = c } ∷ [] }
 
 call_is : (q : Option ℕ) (k : ℕ) (c : ScriptCall) (scripts : List ScriptSeen) → with_call q (Some k) c scripts ≡ put_at (longer k c) q scripts
 call_is None k c scripts = refl
@@ -134,7 +134,7 @@ module _ (x : BoardLine) (e : Entry) where
 
   -- of the driver itself
   module _ (s : ScriptSeen) (is : IsOwn x s) (mine : is_by_driver s.driver e ≡ true) where
-    module _ (st : Step) (due : due_call x.def s.driver x.past ≡ Some (st.call.call, s.made)) (owed : next_past x.def x.past (actors.Driver s.driver) ≡ Some e) where
+    module _ (st : PlacedCall) (due : due_call x.def s.driver x.past ≡ Some (st.call.call, s.made)) (owed : next_past x.def x.past (actors.Driver s.driver) ≡ Some e) where
       its_last : completes st.call.call e ≡ completes_at st.call.call s.made e
       its_last = last_is x.def s.driver x.past st.call.call s.made e (ap (next_of_call x.def s.driver x.past) (sym due) ∙ owed)
 
@@ -165,35 +165,35 @@ module _ (x : BoardLine) (e : Entry) where
       by_last false last = further (sym its_last ∙ last)
 
     -- the call at the script's place is the one that is due
-    due_here : (st : Step) → slice_get s.steps s.at ≡ Some st → due_call x.def s.driver x.past ≡ Some (st.call.call, s.made)
+    due_here : (st : PlacedCall) → slice_get s.calls s.at ≡ Some st → due_call x.def s.driver x.past ≡ Some (st.call.call, s.made)
     due_here st at =
-        let kth : slice_get (calls_by s.driver x.def.calls) s.at ≡ Some st.call.call = ap (λ (cs : List Call). slice_get cs s.at) (sym is.calls) ∙ map_there (λ (y : Step). y.call.call) s.steps s.at st at in
+        let kth : slice_get (calls_by s.driver x.def.calls) s.at ≡ Some st.call.call = ap (λ (cs : List Call). slice_get cs s.at) (sym is.calls) ∙ map_there (λ (y : PlacedCall). y.call.call) s.calls s.at st at in
         let d = kth_is_due x.def s.driver x.past st.call.call (ap (λ (n : ℕ). slice_get (calls_by s.driver x.def.calls) n) (sym is.at) ∙ kth) in
         d.1 ∙ ap (λ (n : ℕ). Some (st.call.call, n)) (sym (ap made_of d.1) ∙ sym is.made)
 
     own_goes : next_past x.def x.past (actors.Driver s.driver) ≡ Some e → IsOwn (with_entry e x) (advanced e s)
-    own_goes due = by_step (slice_get s.steps s.at) refl
+    own_goes due = by_step (slice_get s.calls s.at) refl
       where
-        by_step : (o : Option Step) → slice_get s.steps s.at ≡ o → IsOwn (with_entry e x) (advanced_at o e s)
+        by_step : (o : Option PlacedCall) → slice_get s.calls s.at ≡ o → IsOwn (with_entry e x) (advanced_at o e s)
         by_step None at =
             absurd
             (let d = due_some x.def s.driver x.past e due in
             let less = not_all_complete x.def s.driver x.past d.0 d.1 in
-            let many = length-map s.steps (λ (y : Step). y.call.call) in
+            let many = length-map s.calls (λ (y : PlacedCall). y.call.call) in
             let same = ap (λ (cs : List Call). length cs) is.calls in
-            let end = past_end s.steps s.at at in
+            let end = past_end s.calls s.at at in
             let count = is.at in
             omega (arith, less, many, same, end, count))
         by_step (Some st) at = by_last st (due_here st at) due (completes st.call.call e) refl
 
 same_driver_put : (e : Entry) (s : ScriptSeen) → (advanced e s).driver ≡ s.driver
-same_driver_put e s = by_step (slice_get s.steps s.at)
+same_driver_put e s = by_step (slice_get s.calls s.at)
   where
     by_last : (b : Bool) → (advanced_by b s).driver ≡ s.driver
     by_last true = refl
     by_last false = refl
 
-    by_step : (o : Option Step) → (advanced_at o e s).driver ≡ s.driver
+    by_step : (o : Option PlacedCall) → (advanced_at o e s).driver ≡ s.driver
     by_step None = refl
     by_step (Some st) = by_last (completes st.call.call e)
 
@@ -237,7 +237,7 @@ actor_fits board scripts numbers (actors.Thread line d) q are is place = subst (
 
 -- the driver's calls among cs, with no call complete
 pub record IsBare (cs : List (DriverNo × Call)) (s : ScriptSeen) : Type 0 where
-  pub calls : map (λ (y : Step). y.call.call) s.steps ≡ calls_by s.driver cs
+  pub calls : map (λ (y : PlacedCall). y.call.call) s.calls ≡ calls_by s.driver cs
   pub at : s.at ≡ 0
   pub made : s.made ≡ 0
 
@@ -254,12 +254,12 @@ calls_more r (d ∷ cs) c = by_test (same_driver r d.0) (calls_more r cs c)
     by_test true deeper = ap (λ (zs : List Call). d.1 ∷ zs) deeper
     by_test false deeper = deeper
 
-no_calls : (steps : List Step) → calls_of steps ≡ [] → map (λ (y : Step). y.call.call) steps ≡ []
+no_calls : (steps : List PlacedCall) → calls_of steps ≡ [] → map (λ (y : PlacedCall). y.call.call) steps ≡ []
 no_calls [] is = refl
 no_calls (y ∷ ys) is = cc
 
 pub bare_first : (board : BoardSeen) (scripts : List ScriptSeen) → AreCut board 0 scripts → (cs : List (DriverNo × Call)) → AreBare board.drivers (take 0 cs) scripts
-bare_first board scripts are cs = record { drivers = are.drivers; each = λ j s at. (let c = are.each j s at in record { calls = no_calls s.steps c.cut; at = c.at; made = c.made }) }
+bare_first board scripts are cs = record { drivers = are.drivers; each = λ j s at. (let c = are.each j s at in record { calls = no_calls s.calls c.cut; at = c.at; made = c.made }) }
 
 pub bare_more : (rs : List DriverNo) → Rises (λ (r : DriverNo). r.0) rs → (numbers : List ℕ) → numbers ≡ numbers_of_drivers rs → (cs : List (DriverNo × Call)) (i : ℕ) (r : DriverNo) (c : ScriptCall) (pair : DriverNo × Call) → slice_get cs i ≡ Some pair → pair.0 ≡ r → pair.1 ≡ c.call → (q : Option ℕ)
     → IsPlaceOfNumber numbers r.0 q → (scripts new : List ScriptSeen) → new ≡ with_call q (Some 0) c scripts → AreBare rs (take i cs) scripts → AreBare rs (take (i + 1) cs) new
@@ -278,7 +278,7 @@ bare_more rs rises numbers are cs i r c pair at first second q place scripts new
     its : (s : ScriptSeen) → s.driver ≡ r → IsBare (take i cs) s → IsBare (take (i + 1) cs) (longer 0 c s)
     its s mine b =
         record {
-          calls = map_more (λ (y : Step). y.call.call) s.steps (record { place = 0; call = c }) ∙ (ap (λ (zs : List Call). zs ++ c.call ∷ []) b.calls
+          calls = map_more (λ (y : PlacedCall). y.call.call) s.calls (record { place = 0; call = c }) ∙ (ap (λ (zs : List Call). zs ++ c.call ∷ []) b.calls
               ∙ sym (next s ∙ ap (λ (t : Bool). calls_by s.driver (take i cs) ++ cond t (c.call ∷ []) []) (ap (λ (d : DriverNo). same_driver d r) mine ∙ same_self_driver r)));
           at = b.at;
           made = b.made;

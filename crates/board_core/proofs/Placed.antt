@@ -30,7 +30,7 @@ use Rattle.board_core.specs.Numbers.{numbers_of_defs, numbers_of_lines}
 use Rattle.board_core.specs.Placing.{completed_on, made_of, made_on, most_made, placed, ArePlaced, HaveRoom, IsOwn, AreOwn, joined, CanJoin, AreJoined, AreLengths}
 use Rattle.board_core.specs.Scripts.{ScriptSeen, cut, calls_of, IsScript}
 use Rattle.board_core.specs.Seen.{board_line, board_lines}
-use Rattle.board_core.specs.declared.scripts.Step.{Step}
+use Rattle.board_core.specs.declared.scripts.PlacedCall.{PlacedCall}
 use Rattle.board_core.proofs.CutCounts.{kept, kept_few, complete_all, cut_up_to}
 use Rattle.board_core.proofs.Few.{few_lines}
 use Rattle.board_core.proofs.InSystem.{numbers_are}
@@ -124,8 +124,8 @@ module _ (lines : List BoardLine) (k : ℕ) (x : BoardLine) (at : slice_get line
       let more = ap (λ (ls : List BoardLine). sum_by (completed_on s.0.driver) ls) (taken lines k x at) in
       let push = sum_by_push (completed_on s.0.driver) (take k lines) x in
       let its_at : o.0.at ≡ completed_on s.0.driver x = (its.each j o.0 o.1).at ∙ ap (λ (r : DriverNo). completed_on r x) (sym o.2) in
-      subst (λ (p : Option ScriptSeen). IsSomeAnd p (λ o. t.at + o.at ≤ length t.steps)) (sym o.1)
-      (subst (λ (u : ScriptSeen). u.at + o.0.at ≤ length u.steps) s.2 (omega (arith, r, le, more, push, its_at)))
+      subst (λ (p : Option ScriptSeen). IsSomeAnd p (λ o. t.at + o.at ≤ length t.calls)) (sym o.1)
+      (subst (λ (u : ScriptSeen). u.at + o.0.at ≤ length u.calls) s.2 (omega (arith, r, le, more, push, its_at)))
 
   pub as_many_own : length now ≡ length own
   as_many_own = as_many now own (are.drivers ∙ own_drivers)
@@ -181,9 +181,9 @@ pub all_joined : (own old now : List ScriptSeen) (n : ℕ) → length old ≤ n 
 all_joined own old now n end so = record { drivers = so.drivers; each = λ j s o at at_o. (let l = slice_get_within old j s at in so.each j s o (omega (arith, l, end)) at at_o) }
 
 -- the one at a place can join
-pub join_fits : (own old now : List ScriptSeen) (n : ℕ) (s o : ScriptSeen) → CanJoin own old → JoinedTo own old n now → slice_get now n ≡ Some s → slice_get own n ≡ Some o → s.at + o.at ≤ length s.steps
+pub join_fits : (own old now : List ScriptSeen) (n : ℕ) (s o : ScriptSeen) → CanJoin own old → JoinedTo own old n now → slice_get now n ≡ Some s → slice_get own n ≡ Some o → s.at + o.at ≤ length s.calls
 join_fits own old now n s o can so at at_own =
-    subst (λ (p : Option ScriptSeen). IsSomeAnd p (λ o. s.at + o.at ≤ length s.steps)) at_own (can n s (sym (so.rest n (omega arith)) ∙ at))
+    subst (λ (p : Option ScriptSeen). IsSomeAnd p (λ o. s.at + o.at ≤ length s.calls)) at_own (can n s (sym (so.rest n (omega arith)) ∙ at))
 
 -- ---- entry by entry
 
@@ -259,7 +259,7 @@ module _ (board : BoardSeen) (isb : IsBoard board) (lines : List LineSeen) (k : 
     abbrev here : List LineDef
     here = map (λ (x : BoardLine). x.def) (board_lines lines)
 
-    its_cut : calls_of s.steps ≡ cut here s.driver board.calls
+    its_cut : calls_of s.calls ≡ cut here s.driver board.calls
     its_cut = is.cut ∙ (ap (λ (cs : List ScriptCall). cut (defs_of board) s.driver cs) (all_taken board.calls (length board.calls) (omega arith)) ∙ ap (λ (ds : List LineDef). cut ds s.driver board.calls) (sym k.defs))
 
     -- the place up to which the driver's calls are complete, in the scripts and in its own
@@ -275,28 +275,28 @@ module _ (board : BoardSeen) (isb : IsBoard board) (lines : List LineSeen) (k : 
     at_is : s.at + sum_by (completed_on s.driver) (board_lines lines) ≡ own_place
     at_is = let a = is.at in let c = counted in omega (arith, a, c)
 
-    script_room : s.at + sum_by (completed_on s.driver) (board_lines lines) ≤ length s.steps
+    script_room : s.at + sum_by (completed_on s.driver) (board_lines lines) ≤ length s.calls
     script_room =
         let a = at_is in
         let le = kept_few here s.driver board.calls whole.0 in
-        let many = length-map s.steps (λ (x : Step). x.call) in
+        let many = length-map s.calls (λ (x : PlacedCall). x.call) in
         let same = ap (λ (cs : List ScriptCall). length cs) its_cut in
         omega (arith, a, le, many, same)
 
-    up : IsUpTo (calls_of s.steps) (board_lines lines) s.driver (s.at + sum_by (completed_on s.driver) (board_lines lines))
+    up : IsUpTo (calls_of s.calls) (board_lines lines) s.driver (s.at + sum_by (completed_on s.driver) (board_lines lines))
     up =
-        subst (λ (n : ℕ). IsUpTo (calls_of s.steps) (board_lines lines) s.driver n) (sym at_is)
+        subst (λ (n : ℕ). IsUpTo (calls_of s.calls) (board_lines lines) s.driver n) (sym at_is)
         (subst (λ (cs : List ScriptCall). IsUpTo cs (board_lines lines) s.driver own_place) (sym its_cut) (cut_up_to (board_lines lines) apart s.driver board.calls whole.0 whole.1))
 
-    line_is : (x : Step) (i : ℕ) → slice_get s.steps i ≡ Some x → IsSomeAnd (slice_get (board_lines lines) x.place) (λ y. y.def.line ≡ x.call.line)
+    line_is : (x : PlacedCall) (i : ℕ) → slice_get s.calls i ≡ Some x → IsSomeAnd (slice_get (board_lines lines) x.place) (λ y. y.def.line ≡ x.call.line)
     line_is x i at = number_back (board_lines lines) x.place x.call.line (ap (λ (ds : List LineDef). slice_get (numbers_of_defs ds) x.place) k.defs ∙ is.places i x at)
 
-    module _ (x : Step) (y : BoardLine) (at : slice_get s.steps (placed (board_lines lines) s).at ≡ Some x) (there_y : slice_get (board_lines lines) x.place ≡ Some y) where
+    module _ (x : PlacedCall) (y : BoardLine) (at : slice_get s.calls (placed (board_lines lines) s).at ≡ Some x) (there_y : slice_get (board_lines lines) x.place ≡ Some y) where
       of_line : y.def.line ≡ x.call.line
       of_line = subst (λ (o : Option BoardLine). IsSomeAnd o (λ z. z.def.line ≡ x.call.line)) there_y (line_is x (placed (board_lines lines) s).at at)
 
       due : (n : ℕ) × (due_call y.def s.driver y.past ≡ Some (x.call.call, n))
-      due = due_there board.calls (board_lines lines) have apart s.driver s.steps its_cut (placed (board_lines lines) s).at up x y at there_y of_line
+      due = due_there board.calls (board_lines lines) have apart s.driver s.calls its_cut (placed (board_lines lines) s).at up x y at there_y of_line
 
       -- only on this line has a call begun
       only : (i : ℕ) (z : BoardLine) → slice_get (board_lines lines) i ≡ Some z → made_on s.driver z ≤ made_on s.driver y
@@ -307,7 +307,7 @@ module _ (board : BoardSeen) (isb : IsBoard board) (lines : List LineSeen) (k : 
           by_due (Some (c, zero)) is_due = omega arith
           by_due (Some (c, suc n)) is_due =
               let on : IsCallOn z.def.line s.driver x.call =
-              subst (λ (o : Option ScriptCall). IsSomeAnd o (IsCallOn z.def.line s.driver)) (call_there s.steps (placed (board_lines lines) s).at x at) (up.begun i z c n at_z is_due) in
+              subst (λ (o : Option ScriptCall). IsSomeAnd o (IsCallOn z.def.line s.driver)) (call_there s.calls (placed (board_lines lines) s).at x at) (up.begun i z c n at_z is_due) in
               let same : z ≡ y = the_line (board_lines lines) apart i x.place z y at_z there_y (sym on.0 ∙ sym of_line) in
               let e : made_on s.driver z ≡ suc n = ap made_of is_due in
               let f : made_on s.driver z ≡ made_on s.driver y = ap (λ (w : BoardLine). made_on s.driver w) same in

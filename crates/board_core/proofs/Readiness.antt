@@ -11,8 +11,8 @@ use Rattle.irq_laws.proofs.Chosen.{the_same}
 use Rattle.board_ready.specs.Ready.{idle}
 use Rattle.board_ready.specs.Seen.{ReadySeen}
 use Rattle.board_ready.specs.declared.parts.CurrentCall.{CurrentCall}
-use Rattle.board_ready.specs.declared.parts.LinePart.{LinePart}
-use Rattle.board_core.specs.ReadyFor.{IsPartOf, IsReadyFor, call_of}
+use Rattle.board_ready.specs.declared.parts.LineReadiness.{LineReadiness}
+use Rattle.board_core.specs.ReadyFor.{IsReadinessOf, IsReadyFor, call_of}
 use Rattle.board_core.specs.Refreshed.{HasLines, HasDrivers, AsksScript, IsRefreshed}
 use Rattle.board_core.specs.Scripts.{ScriptSeen}
 use Rattle.board_core.proofs.Searches.{there}
@@ -29,13 +29,13 @@ same_or_other i k = by_test (i == k) refl
 set_within : {A : Type 0} (xs : List A) (k : ℕ) (y : A) → k < length xs → slice_get (slice_set xs k y) k ≡ Some y
 set_within xs k y less = let x = there xs k less in set_there xs k x.0 y x.1
 
-module _ (new : List LineSeen) (k : ℕ) (part : LinePart) (its : (x : LineSeen) → slice_get new k ≡ Some x → IsPartOf x part) (parts : List LinePart) (within : k < length parts) where
-  pub part_set : (i : ℕ) (x : LineSeen) → slice_get new i ≡ Some x → (((i ≡ k) → ⊥) → IsSomeAnd (slice_get parts i) (IsPartOf x)) → IsSomeAnd (slice_get (slice_set parts k part) i) (IsPartOf x)
+module _ (new : List LineSeen) (k : ℕ) (part : LineReadiness) (its : (x : LineSeen) → slice_get new k ≡ Some x → IsReadinessOf x part) (parts : List LineReadiness) (within : k < length parts) where
+  pub part_set : (i : ℕ) (x : LineSeen) → slice_get new i ≡ Some x → (((i ≡ k) → ⊥) → IsSomeAnd (slice_get parts i) (IsReadinessOf x)) → IsSomeAnd (slice_get (slice_set parts k part) i) (IsReadinessOf x)
   part_set i x at others = elim (same_or_other i k) [
     | inl same ↦
-        subst (λ (n : ℕ). IsSomeAnd (slice_get (slice_set parts k part) n) (IsPartOf x)) (sym same)
-        (subst (λ (o : Option LinePart). IsSomeAnd o (IsPartOf x)) (sym (set_within parts k part within)) (its x (ap (λ (n : ℕ). slice_get new n) (sym same) ∙ at)))
-    | inr other ↦ subst (λ (o : Option LinePart). IsSomeAnd o (IsPartOf x)) (sym (set_other parts k i part other)) (others other)
+        subst (λ (n : ℕ). IsSomeAnd (slice_get (slice_set parts k part) n) (IsReadinessOf x)) (sym same)
+        (subst (λ (o : Option LineReadiness). IsSomeAnd o (IsReadinessOf x)) (sym (set_within parts k part within)) (its x (ap (λ (n : ℕ). slice_get new n) (sym same) ∙ at)))
+    | inr other ↦ subst (λ (o : Option LineReadiness). IsSomeAnd o (IsReadinessOf x)) (sym (set_other parts k i part other)) (others other)
   ]
 
 call_set : (news : List ScriptSeen) (script : Option ℕ) (old new : List (Option CurrentCall)) → AsksScript news script old new → (j : ℕ) (s : ScriptSeen) → slice_get news j ≡ Some s → j < length old
@@ -59,12 +59,12 @@ asked_many news (Some i) old new asks = ap (λ (cs : List (Option CurrentCall)).
 pub ready_after : (old new : List LineSeen) (olds news : List ScriptSeen) (k : ℕ) (script : Option ℕ) (ready after : ReadySeen) → k < length old → IsReadyFor old olds ready → length new ≡ length old → ((i : ℕ) → ((i ≡ k) → ⊥) → slice_get new i ≡ slice_get old i)
     → length news ≡ length olds → ((j : ℕ) → (script ≡ Some j → ⊥) → slice_get news j ≡ slice_get olds j) → IsRefreshed new news k script ready after → IsReadyFor new news after
 ready_after old new olds news k script ready after within is many others many_scripts other_scripts r =
-    let set : length after.lines ≡ length ready.lines = ap (λ (ps : List LinePart). length ps) r.of_lines ∙ length-set ready.lines k r.part in
+    let set : length after.lines ≡ length ready.lines = ap (λ (ps : List LineReadiness). length ps) r.of_lines ∙ length-set ready.lines k r.told in
     record {
       all_lines = set ∙ (is.all_lines ∙ sym many);
       each_line = λ i x at.
-          subst (λ (ps : List LinePart). IsSomeAnd (slice_get ps i) (IsPartOf x)) (sym r.of_lines)
-          (part_set new k r.part r.is ready.lines (let m = is.all_lines in omega (arith, within, m)) i x at (λ other. is.each_line i x (sym (others i other) ∙ at)));
+          subst (λ (ps : List LineReadiness). IsSomeAnd (slice_get ps i) (IsReadinessOf x)) (sym r.of_lines)
+          (part_set new k r.told r.is ready.lines (let m = is.all_lines in omega (arith, within, m)) i x at (λ other. is.each_line i x (sym (others i other) ∙ at)));
       all_drivers = asked_many news script ready.drivers after.drivers r.of_drivers ∙ (is.all_drivers ∙ sym many_scripts);
       each_driver = λ j s at.
           call_set news script ready.drivers after.drivers r.of_drivers j s at
@@ -73,10 +73,10 @@ ready_after old new olds news k script ready after within is many others many_sc
 
 -- ---- all lines and all drivers, one after another
 
-pub more_lines : (lines : List LineSeen) (i : ℕ) (x : LineSeen) (part : LinePart) (ready after : ReadySeen) → slice_get lines i ≡ Some x → i < length ready.lines → IsPartOf x part → after.lines ≡ slice_set ready.lines i part → HasLines lines i ready → HasLines lines (i + 1) after
+pub more_lines : (lines : List LineSeen) (i : ℕ) (x : LineSeen) (part : LineReadiness) (ready after : ReadySeen) → slice_get lines i ≡ Some x → i < length ready.lines → IsReadinessOf x part → after.lines ≡ slice_set ready.lines i part → HasLines lines i ready → HasLines lines (i + 1) after
 more_lines lines i x part ready after at within its set old k y less at_y =
-    subst (λ (ps : List LinePart). IsSomeAnd (slice_get ps k) (IsPartOf y)) (sym set)
-    (part_set lines i part (λ z at_z. subst (λ (w : LineSeen). IsPartOf w part) (the_same x z (sym at ∙ at_z)) its) ready.lines within k y at_y (λ other. old k y (omega (arith, less, other)) at_y))
+    subst (λ (ps : List LineReadiness). IsSomeAnd (slice_get ps k) (IsReadinessOf y)) (sym set)
+    (part_set lines i part (λ z at_z. subst (λ (w : LineSeen). IsReadinessOf w part) (the_same x z (sym at ∙ at_z)) its) ready.lines within k y at_y (λ other. old k y (omega (arith, less, other)) at_y))
 
 pub more_drivers : (scripts : List ScriptSeen) (i : ℕ) (s : ScriptSeen) (call : Option CurrentCall) (ready after : ReadySeen) → slice_get scripts i ≡ Some s → i < length ready.drivers → call ≡ call_of s → after.drivers ≡ slice_set ready.drivers i call
     → HasDrivers scripts i ready → HasDrivers scripts (i + 1) after
@@ -105,7 +105,7 @@ pub all_ready : {X : Type 0} (f : X → LineSeen) (xs : List X) (scripts : List 
     → IsReadyFor (map f xs) scripts ready
 all_ready f xs scripts fresh asked ready new_lines new_drivers of_lines many drivers of_drivers many_drivers lines =
     let n = length-map xs f in
-    let a = ap (λ (ps : List LinePart). length ps) new_lines ∙ length-replicate (length xs) idle in
+    let a = ap (λ (ps : List LineReadiness). length ps) new_lines ∙ length-replicate (length xs) idle in
     let b = ap (λ (cs : List (Option CurrentCall)). length cs) new_drivers ∙ length-replicate (length scripts) None in
-    all_asked (map f xs) scripts ready (ap (λ (ps : List LinePart). length ps) lines ∙ (many ∙ (a ∙ sym n))) (many_drivers ∙ (ap (λ (cs : List (Option CurrentCall)). length cs) drivers ∙ b))
-    (λ k x less at. subst (λ (ps : List LinePart). IsSomeAnd (slice_get ps k) (IsPartOf x)) (sym lines) (of_lines k x (omega (arith, less, n)) at)) of_drivers
+    all_asked (map f xs) scripts ready (ap (λ (ps : List LineReadiness). length ps) lines ∙ (many ∙ (a ∙ sym n))) (many_drivers ∙ (ap (λ (cs : List (Option CurrentCall)). length cs) drivers ∙ b))
+    (λ k x less at. subst (λ (ps : List LineReadiness). IsSomeAnd (slice_get ps k) (IsReadinessOf x)) (sym lines) (of_lines k x (omega (arith, less, n)) at)) of_drivers

@@ -29,15 +29,15 @@ use Rattle.board_play.proofs.Script.{current}
 use Rattle.board_ready.specs.Kept.{thread_of}
 use Rattle.board_ready.specs.Ready.{cpu_line, can_go_on, current_call, is_driver_ready, lowest_thread, lowest_driver, lowest}
 use Rattle.board_ready.specs.declared.parts.CurrentCall.{CurrentCall}
-use Rattle.board_ready.specs.declared.parts.LinePart.{LinePart}
-use Rattle.board_ready.specs.declared.parts.Mover.TheVariants as movers
+use Rattle.board_ready.specs.declared.parts.LineReadiness.{LineReadiness}
+use Rattle.board_ready.specs.declared.parts.ReadyActor.TheVariants as readies
 use Rattle.board_ready.specs.declared.parts.ReadyThread.{ReadyThread}
 use Rattle.board_ready.proofs.Lowest.{first_some, thread_some}
 use Rattle.board_core.specs.Inside.{Parts, seen_of, IsKept}
 use Rattle.board_core.specs.Scripts.{ScriptSeen}
 use Rattle.board_core.specs.Numbers.{IsPlaceOfNumber, numbers_of_drivers}
 use Rattle.board_core.specs.Places.{IsPlace}
-use Rattle.board_core.specs.ReadyFor.{IsPartOf, is_up_to, has_thread_up_to}
+use Rattle.board_core.specs.ReadyFor.{IsReadinessOf, is_up_to, has_thread_up_to}
 use Rattle.board_core.specs.Seen.{SystemSeen, board_line, board_lines}
 use Rattle.board_core.specs.Stands.{IsCurrentAt, CanStepAt, IsCurrentOn, IsAt, IsStand, IsLowestStand, IsScriptPlace, IsStandOn}
 use Rattle.board_core.specs.Turned.{IsScriptOf, StepsBy}
@@ -80,14 +80,14 @@ module _ (board : BoardSeen) (isb : IsBoard board) (layout : List Placement) (li
       let f = find_there (board_lines lines) apart k (board_line x) (map_there board_line lines k x at) in
       (ap (λ (o : Option BoardLine). is_some o) f, map_there board_line lines k x at ∙ sym f)
 
-  part_there : (k : ℕ) (x : LineSeen) → slice_get lines k ≡ Some x → (p : LinePart) × (slice_get parts.ready.lines k ≡ Some p) × IsPartOf x p
-  part_there k x at = some_with (IsPartOf x) (slice_get parts.ready.lines k) (is.ready.each_line k x at)
+  part_there : (k : ℕ) (x : LineSeen) → slice_get lines k ≡ Some x → (p : LineReadiness) × (slice_get parts.ready.lines k ≡ Some p) × IsReadinessOf x p
+  part_there k x at = some_with (IsReadinessOf x) (slice_get parts.ready.lines k) (is.ready.each_line k x at)
 
   pub thread_there : (line : LineNo) (d : DevNo) (k : ℕ) (stand : Stand) → slice_get parts.line_numbers k ≡ Some line.0 → has_thread_up_to (slice_get parts.ready.lines k) d ≡ true → stand ≡ record { line = k; script = None } → IsStand view (actors.Thread line d) (Some stand)
   thread_there line d k stand at up_to same =
       let x = line_at k line at in
       let p = part_there k x.0 x.1 in
-      let h = by_thread x.0 x.1 p.0.thread p.2.thread (ap (λ (o : Option LinePart). has_thread_up_to o d) (sym p.1) ∙ up_to) in
+      let h = by_thread x.0 x.1 p.0.thread p.2.thread (ap (λ (o : Option LineReadiness). has_thread_up_to o d) (sym p.1) ∙ up_to) in
       subst (λ (s : SystemSeen). IsStand s (actors.Thread line d) (Some stand)) v
       (subst (λ (t : Stand). IsStand seen (actors.Thread line d) (Some t)) (sym same) (subst (λ (l : LineNo). IsStand seen (actors.Thread l d) (Some (record { line = k; script = None }))) x.2 h))
     where
@@ -108,7 +108,7 @@ module _ (board : BoardSeen) (isb : IsBoard board) (layout : List Placement) (li
       let x = line_at k line at in
       let p = part_there k x.0 x.1 in
       subst (λ (s : SystemSeen). IsStand s (actors.Thread line d) None) v
-      (subst (λ (l : LineNo). IsStand seen (actors.Thread l d) None) x.2 (by_thread x.0 x.1 p.0.thread p.2.thread (ap (λ (o : Option LinePart). has_thread_up_to o d) (sym p.1) ∙ above) (next x.0.def x.0.entries (actors.Thread x.0.def.line d)) refl))
+      (subst (λ (l : LineNo). IsStand seen (actors.Thread l d) None) x.2 (by_thread x.0 x.1 p.0.thread p.2.thread (ap (λ (o : Option LineReadiness). has_thread_up_to o d) (sym p.1) ∙ above) (next x.0.def x.0.entries (actors.Thread x.0.def.line d)) refl))
     where
       by_thread : (x : LineSeen) → slice_get lines k ≡ Some x → (o : Option DevNo) → IsLowestThread x o → is_up_to d o ≡ false → (e : Option Entry) → next x.def x.entries (actors.Thread x.def.line d) ≡ e → IsStand seen (actors.Thread x.def.line d) None
       by_thread x at o low above None due =
@@ -185,10 +185,10 @@ module _ (board : BoardSeen) (isb : IsBoard board) (layout : List Placement) (li
 
   -- ---- the lowest
 
-  pub lowest_thread_stands : (t : ReadyThread) (line : LineNo) (stand : Stand) → Some (movers.Thread t) ≡ lowest parts.ready → slice_get parts.line_numbers t.line ≡ Some line.0 → stand ≡ record { line = t.line; script = None }
+  pub lowest_thread_stands : (t : ReadyThread) (line : LineNo) (stand : Stand) → Some (readies.Thread t) ≡ lowest parts.ready → slice_get parts.line_numbers t.line ≡ Some line.0 → stand ≡ record { line = t.line; script = None }
       → IsLowestStand view (Some (actors.Thread line t.dev, stand))
   lowest_thread_stands t line stand is_lowest at same =
-      let low = lowest_says parts.ready (Some (movers.Thread t)) is_lowest in
+      let low = lowest_says parts.ready (Some (readies.Thread t)) is_lowest in
       let x = line_at t.line line at in
       let h = lowest_is_thread board isb lines scripts is.system parts.ready is.ready t x.0 low x.1 in
       let stands : IsLowestStand seen (Some (actors.Thread x.0.def.line t.dev, record { line = t.line; script = None })) =
@@ -196,33 +196,33 @@ module _ (board : BoardSeen) (isb : IsBoard board) (layout : List Placement) (li
       subst (λ (w : SystemSeen). IsLowestStand w (Some (actors.Thread line t.dev, stand))) v
       (subst (λ (u : Stand). IsLowestStand seen (Some (actors.Thread line t.dev, u))) (sym same) (subst (λ (l : LineNo). IsLowestStand seen (Some (actors.Thread l t.dev, record { line = t.line; script = None }))) x.2 stands))
 
-  pub lowest_cpu_stands : (c : CpuNo) (k : ℕ) (stand : Stand) → Some (movers.Cpu c) ≡ lowest parts.ready → Some k ≡ cpu_line parts.ready.lines c.0 → stand ≡ record { line = k; script = None } → IsLowestStand view (Some (actors.Cpu c, stand))
+  pub lowest_cpu_stands : (c : CpuNo) (k : ℕ) (stand : Stand) → Some (readies.Cpu c) ≡ lowest parts.ready → Some k ≡ cpu_line parts.ready.lines c.0 → stand ≡ record { line = k; script = None } → IsLowestStand view (Some (actors.Cpu c, stand))
   lowest_cpu_stands c k stand is_lowest at same =
-      let low = lowest_says parts.ready (Some (movers.Cpu c)) is_lowest in
+      let low = lowest_says parts.ready (Some (readies.Cpu c)) is_lowest in
       let h = lowest_is_cpu board isb lines scripts is.system parts.ready is.ready c low.0 low.1 in
       let p = cpu_stands board isb lines scripts is.system parts.ready is.ready c (Some k) at in
       let stands : IsLowestStand seen (Some (actors.Cpu c, record { line = k; script = None })) = (record { line = p.0; script = tt }, h.4 ∙ sym h.3, ap (λ (o : Option Move). is_some o) h.3) in
       subst (λ (w : SystemSeen). IsLowestStand w (Some (actors.Cpu c, stand))) v (subst (λ (u : Stand). IsLowestStand seen (Some (actors.Cpu c, u))) (sym same) stands)
 
-  pub lowest_cpu_there : (c : CpuNo) → Some (movers.Cpu c) ≡ lowest parts.ready → None ≡ cpu_line parts.ready.lines c.0 → IsLowestStand view None
+  pub lowest_cpu_there : (c : CpuNo) → Some (readies.Cpu c) ≡ lowest parts.ready → None ≡ cpu_line parts.ready.lines c.0 → IsLowestStand view None
   lowest_cpu_there c is_lowest none =
-      let low = lowest_says parts.ready (Some (movers.Cpu c)) is_lowest in
+      let low = lowest_says parts.ready (Some (readies.Cpu c)) is_lowest in
       let h = lowest_is_cpu board isb lines scripts is.system parts.ready is.ready c low.0 low.1 in
       absurd (not_both (cpu_line parts.ready.lines c.0) h.1 (sym none) h.2)
 
-  pub lowest_driver_stands : (j : ℕ) (d : DriverNo) (call : CurrentCall) (stand : Stand) → Some (movers.Driver j) ≡ lowest parts.ready → slice_get parts.driver_numbers j ≡ Some d.0 → Some call ≡ current_call parts.ready.drivers j
+  pub lowest_driver_stands : (j : ℕ) (d : DriverNo) (call : CurrentCall) (stand : Stand) → Some (readies.Driver j) ≡ lowest parts.ready → slice_get parts.driver_numbers j ≡ Some d.0 → Some call ≡ current_call parts.ready.drivers j
       → stand ≡ record { line = call.line; script = Some j } → IsLowestStand view (Some (actors.Driver d, stand))
   lowest_driver_stands j d call stand is_lowest at called same =
-      let low = lowest_says parts.ready (Some (movers.Driver j)) is_lowest in
+      let low = lowest_says parts.ready (Some (readies.Driver j)) is_lowest in
       let h = lowest_is_driver board isb lines scripts is.system parts.ready is.ready j d low.0 low.1 low.2 (driver_at j d at) in
       let s = script_of board isb lines scripts is.system parts.ready is.ready j d (driver_at j d at) in
       let stands : IsLowestStand seen (Some (actors.Driver d, record { line = call.line; script = Some j })) =
       (subst (λ (x : DriverNo). IsAt seen (actors.Driver x) (record { line = call.line; script = Some j })) s.2 (at_script j s.0 call h.0 s.1 (sym called) (ap (λ (x : DriverNo). due_move board (board_lines lines) (actors.Driver x)) s.2 ∙ h.1)).0, h.2 ∙ sym h.1, ap (λ (o : Option Move). is_some o) h.1) in
       subst (λ (w : SystemSeen). IsLowestStand w (Some (actors.Driver d, stand))) v (subst (λ (u : Stand). IsLowestStand seen (Some (actors.Driver d, u))) (sym same) stands)
 
-  pub lowest_driver_there : (j : ℕ) → Some (movers.Driver j) ≡ lowest parts.ready → None ≡ current_call parts.ready.drivers j → IsLowestStand view None
+  pub lowest_driver_there : (j : ℕ) → Some (readies.Driver j) ≡ lowest parts.ready → None ≡ current_call parts.ready.drivers j → IsLowestStand view None
   lowest_driver_there j is_lowest none =
-      let low = lowest_says parts.ready (Some (movers.Driver j)) is_lowest in
+      let low = lowest_says parts.ready (Some (readies.Driver j)) is_lowest in
       let f = first_some (is_driver_ready parts.ready) (length parts.ready.drivers) j low.2 in
       absurd (both_ways (is_driver_ready parts.ready j) f.1 (ap (λ (o : Option CurrentCall). can_go_on parts.ready.lines o) (sym none)))
 
@@ -239,12 +239,12 @@ module _ (board : BoardSeen) (isb : IsBoard board) (layout : List Placement) (li
       let c = length-map lines (λ (x : LineSeen). x.def.line.0) in
       omega (arith, within, a, b, c)
     where
-      part_within : (o : Option LinePart) → thread_of o ≡ Some t.dev → slice_get parts.ready.lines t.line ≡ o → t.line < length parts.ready.lines
+      part_within : (o : Option LineReadiness) → thread_of o ≡ Some t.dev → slice_get parts.ready.lines t.line ≡ o → t.line < length parts.ready.lines
       part_within None h at = cc
       part_within (Some p) h at = slice_get_within parts.ready.lines t.line p at
 
-  pub line_number_there : (t : ReadyThread) → Some (movers.Thread t) ≡ lowest parts.ready → t.line < length parts.line_numbers
-  line_number_there t is_lowest = line_number_within t (lowest_says parts.ready (Some (movers.Thread t)) is_lowest)
+  pub line_number_there : (t : ReadyThread) → Some (readies.Thread t) ≡ lowest parts.ready → t.line < length parts.line_numbers
+  line_number_there t is_lowest = line_number_within t (lowest_says parts.ready (Some (readies.Thread t)) is_lowest)
 
   pub driver_number_within : (j : ℕ) → lowest_driver parts.ready ≡ Some j → j < length parts.driver_numbers
   driver_number_within j low =
@@ -256,8 +256,8 @@ module _ (board : BoardSeen) (isb : IsBoard board) (layout : List Placement) (li
       let e = length-map scripts (λ (s : ScriptSeen). s.driver) in
       omega (arith, f, a, b, c, d, e)
 
-  pub driver_number_there : (j : ℕ) → Some (movers.Driver j) ≡ lowest parts.ready → j < length parts.driver_numbers
-  driver_number_there j is_lowest = driver_number_within j (lowest_says parts.ready (Some (movers.Driver j)) is_lowest).2
+  pub driver_number_there : (j : ℕ) → Some (readies.Driver j) ≡ lowest parts.ready → j < length parts.driver_numbers
+  driver_number_there j is_lowest = driver_number_within j (lowest_says parts.ready (Some (readies.Driver j)) is_lowest).2
 
   -- ---- a line by its number
 

@@ -41,7 +41,7 @@ use Rattle.board_core.specs.Seen.{board_line, board_lines}
 use Rattle.irq_line.specs.Heard.{Adds}
 use Rattle.board_core.specs.Turned.{IsScriptOf, StepsBy, script_after, scripts_after, turn_of}
 use Rattle.board_core.specs.Turns.{Moves, IsFullFor}
-use Rattle.board_core.specs.declared.scripts.Step.{Step}
+use Rattle.board_core.specs.declared.scripts.PlacedCall.{PlacedCall}
 use Rattle.board_core.proofs.ScriptLaws.{HaveCalls, script_line, other_script, own_script}
 
 -- ---- lists
@@ -224,7 +224,7 @@ module _ (board : BoardSeen) (isb : IsBoard board) (layout : List Placement) (li
 
   -- the driver's own
   of_own : (x : LineSeen) (e : Entry) → slice_get lines k ≡ Some x → next x.def x.entries a ≡ Some e → (j : ℕ) (s : ScriptSeen) → slice_get scripts j ≡ Some s → a ≡ actors.Driver s.driver → IsScript board.calls (lines_after (x.def.line, e) (board_lines lines)) (advanced e s)
-  of_own x e at due j s at_s me = by_step (slice_get s.steps s.at) refl
+  of_own x e at due j s at_s me = by_step (slice_get s.calls s.at) refl
     where
       apart : AreApart (map (λ (x : BoardLine). x.def) (board_lines lines))
       apart = apart_kept board isb (board_lines lines) is.kept
@@ -235,7 +235,7 @@ module _ (board : BoardSeen) (isb : IsBoard board) (layout : List Placement) (li
       current : line_for board (board_lines lines) (actors.Driver s.driver) ≡ Some (board_line x)
       current = subst (λ (b : Actor). IsCurrentAt (seen_of board layout lines order) b k) me cur ∙ line_is x at
 
-      by_step : (o : Option Step) → slice_get s.steps s.at ≡ o → IsScript board.calls (lines_after (x.def.line, e) (board_lines lines)) (advanced e s)
+      by_step : (o : Option PlacedCall) → slice_get s.calls s.at ≡ o → IsScript board.calls (lines_after (x.def.line, e) (board_lines lines)) (advanced e s)
       by_step None end =
           absurd (not_some (line_for board (board_lines lines) (actors.Driver s.driver)) (script_line board.calls (board_lines lines) apart s (is.each j s at_s) None end) (subst (λ (o : Option BoardLine). IsSome o) (sym current) refl))
       by_step (Some step) here =
@@ -287,7 +287,7 @@ module _ (board : BoardSeen) (isb : IsBoard board) (layout : List Placement) (li
   drivers_after (Some j) (Err refused) = refl
   drivers_after (Some j) (Ok (Some e)) = by_script (slice_get scripts j) refl
     where
-      same_driver_after : (o : Option Step) (s : ScriptSeen) → (advanced_at o e s).driver ≡ s.driver
+      same_driver_after : (o : Option PlacedCall) (s : ScriptSeen) → (advanced_at o e s).driver ≡ s.driver
       same_driver_after None s = refl
       same_driver_after (Some step) s = by_last (completes step.call.call e)
         where
@@ -298,7 +298,7 @@ module _ (board : BoardSeen) (isb : IsBoard board) (layout : List Placement) (li
       by_script : (o : Option ScriptSeen) → slice_get scripts j ≡ o → drivers_of (script_after o j e scripts) ≡ drivers_of scripts
       by_script None none = refl
       by_script (Some s) there =
-          map-set (λ (s : ScriptSeen). s.driver) scripts j (advanced e s) ∙ (ap (λ (d : DriverNo). slice_set (drivers_of scripts) j d) (same_driver_after (slice_get s.steps s.at) s)
+          map-set (λ (s : ScriptSeen). s.driver) scripts j (advanced e s) ∙ (ap (λ (d : DriverNo). slice_set (drivers_of scripts) j d) (same_driver_after (slice_get s.calls s.at) s)
           ∙ set_same (drivers_of scripts) j s.driver (map_there (λ (s : ScriptSeen). s.driver) scripts j s there))
 
   -- ---- the system after the step

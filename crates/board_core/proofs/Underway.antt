@@ -1,7 +1,7 @@
 -- A play of a system, move by move.
-use Rattle.std.proofs.Common.{◌≡◌, ℕ, ◌+◌, ◌-◌, ◌<◌, ◌≤◌, Bool, true, false, cond, is_some, IsSome, IsSomeAnd, Option, Some, None, List, [], ◌∷◌, length, reverse, get_or, drop, refl, sym, ap, ◌∙◌, subst, arith, add-one}
+use Rattle.std.proofs.Common.{◌≡◌, ℕ, ◌+◌, ◌-◌, ◌<◌, ◌≤◌, Bool, true, false, cond, is_some, IsSome, IsSomeAnd, Option, Some, None, List, [], ◌∷◌, ◌++◌, length, reverse, get_or, drop, refl, sym, ap, ◌∙◌, subst, arith, add-one}
 use Rattle.std.proofs.Math.Seq.{drop-cons}
-use Rattle.std.proofs.lemmas.List.{reverse-append}
+use Rattle.std.proofs.lemmas.List.{append-nil, append_assoc, reverse-append}
 use Rattle.irq_base.specs.declared.entries.Actor.{Actor}
 use Rattle.irq_base.specs.declared.entries.Entry.{Entry}
 use Rattle.irq_base.specs.declared.numbers.LineNo.{LineNo}
@@ -13,7 +13,7 @@ use Rattle.board_play.specs.Lines.{BoardLine, Move, part, defs_of, lines_of, lin
 use Rattle.board_play.specs.Play.{with_picks, or_choice, choice, IsChosen}
 use Rattle.board_play.proofs.Members.{found, past_at}
 use Rattle.board_play.proofs.Moving.{lines_more}
-use Rattle.board_core.specs.Playing.{IsFresh, IsUnderway, IsPlay, Ends}
+use Rattle.board_core.specs.Playing.{IsFresh, IsUnderway, IsPlay, Ends, IsLowestMove, Settles}
 use Rattle.board_core.specs.Seen.{SystemSeen, board_lines}
 use Rattle.board_core.specs.Turned.{StepsBy}
 use Rattle.board_core.specs.Turns.{move_of, Moves, IsFullFor, TurnsBy, MayWant, Turns, lowest_move}
@@ -181,6 +181,27 @@ ends_done old new turn same t =
 pub ends_full : (old new : SystemSeen) (line : LineNo) (len : ℕ) (turn : Turn) → turn ≡ turns.Full line len → TurnsBy old (lowest_move old) turn new → Ends new (ends.Full line len)
 ends_full old new line len turn same t =
     let full = subst (λ (x : Turn). TurnsBy old (lowest_move old) x new) same t in subst (λ (s : SystemSeen). Ends s (ends.Full line len)) (sym full.1) full.0
+
+-- ---- the lowest actors alone
+
+pub settles_none : (s : SystemSeen) → Settles s s
+settles_none s = record { moves = []; lowest = tt; log = sym (append-nil s.log); lines = refl }
+
+pub settles_same : (first old new : SystemSeen) → new ≡ old → Settles first old → Settles first new
+settles_same first old new same s = subst (λ (x : SystemSeen). Settles first x) (sym same) s
+
+pub settles_moved : (first old new : SystemSeen) (line : LineNo) (e : Entry) (turn : Turn) → old.board ≡ first.board → turn ≡ turns.Moved line e → TurnsBy old (lowest_move old) turn new → Settles first old → Settles first new
+settles_moved first old new line e turn board same t s =
+    let m : Move = (line, e) in
+    let moves : Moves old (lowest_move old) (line, e) new = subst (λ (x : Turn). TurnsBy old (lowest_move old) x new) same t in
+    let here : IsLowestMove old.board (board_lines old.lines) m = record { is = moves.is; room = moves.room } in
+    let more : reverse (m ∷ s.moves) ≡ reverse s.moves ++ m ∷ [] = reverse-append (m ∷ []) s.moves in
+    record {
+      moves = m ∷ s.moves;
+      lowest = (s.lowest, subst (λ (ls : List BoardLine). IsLowestMove first.board ls m) s.lines (subst (λ (b : BoardSeen). IsLowestMove b (board_lines old.lines) m) board here));
+      log = moves.log ∙ (ap (λ (g : List Move). g ++ m ∷ []) s.log ∙ (append_assoc first.log (reverse s.moves) (m ∷ []) ∙ ap (λ (g : List Move). first.log ++ g) (sym more)));
+      lines = moves.lines ∙ ap (λ (ls : List BoardLine). lines_after m ls) s.lines;
+    }
 
 -- ---- board and layout stay
 

@@ -12,7 +12,7 @@ use Rattle.board_play.specs.Lines.{defs_of, lines_of}
 use Rattle.board_core.specs.Numbers.{numbers_of_defs}
 use Rattle.board_core.specs.Scripts.{ScriptSeen, cut, calls_of}
 use Rattle.board_core.specs.Seen.{board_line, board_lines}
-use Rattle.board_core.specs.declared.scripts.Step.{Step}
+use Rattle.board_core.specs.declared.scripts.PlacedCall.{PlacedCall}
 
 -- the maker makes each line that takes part, of its virq and its definition
 abbrev pub MakesAll : (ℕ → LineDef → Type 0) → BoardSeen → List Placement → Type 0
@@ -35,8 +35,8 @@ AreNew board lines = board_lines lines ≡ lines_of board []
 pub record IsCut (board : BoardSeen) (n : ℕ) (s : ScriptSeen) : Type 0 where
   pub at : s.at ≡ 0
   pub made : s.made ≡ 0
-  pub cut : calls_of s.steps ≡ cut (defs_of board) s.driver (take n board.calls)
-  pub places : (i : ℕ) (x : Step) → slice_get s.steps i ≡ Some x
+  pub cut : calls_of s.calls ≡ cut (defs_of board) s.driver (take n board.calls)
+  pub places : (i : ℕ) (x : PlacedCall) → slice_get s.calls i ≡ Some x
       → slice_get (numbers_of_defs (defs_of board)) x.place ≡ Some x.call.line.0
 
 -- each driver's script of the first n calls
@@ -53,7 +53,7 @@ AreNewScripts board scripts = AreCut board (length board.calls) scripts
 abbrev pub call_put : Option ScriptSeen → ℕ → ℕ → ScriptCall → List ScriptSeen → List ScriptSeen
 call_put None j k c scripts = scripts
 call_put (Some s) j k c scripts =
-    slice_set scripts j (record s { steps = s.steps ++ record { place = k; call = c } ∷ [] })
+    slice_set scripts j (record s { calls = s.calls ++ record { place = k; call = c } ∷ [] })
 
 abbrev pub with_call : Option ℕ → Option ℕ → ScriptCall → List ScriptSeen → List ScriptSeen
 with_call (Some j) (Some k) c scripts = call_put (slice_get scripts j) j k c scripts

@@ -13,7 +13,7 @@ use Rattle.board_play.specs.Lines.{BoardLine}
 use Rattle.board_core.specs.Inside.{drivers_of}
 use Rattle.board_core.specs.Numbers.{IsPlaceOfNumber}
 use Rattle.board_core.specs.Scripts.{ScriptSeen}
-use Rattle.board_core.specs.declared.scripts.Step.{Step}
+use Rattle.board_core.specs.declared.scripts.PlacedCall.{PlacedCall}
 
 -- how many of the driver's calls on the line are complete
 abbrev pub completed_on : DriverNo → BoardLine → ℕ
@@ -46,7 +46,7 @@ pub record ArePlaced (lines : List BoardLine) (old new : List ScriptSeen) : Type
 -- each script has at least as many calls left as its driver has complete on the lines
 abbrev pub HaveRoom : List BoardLine → List ScriptSeen → Type 0
 HaveRoom lines scripts = (j : ℕ) (s : ScriptSeen) → slice_get scripts j ≡ Some s
-    → s.at + sum_by (completed_on s.driver) lines ≤ length s.steps
+    → s.at + sum_by (completed_on s.driver) lines ≤ length s.calls
 
 -- the line with one entry more
 abbrev pub with_entry : Entry → BoardLine → BoardLine
@@ -54,7 +54,7 @@ with_entry e x = record { def = x.def; past = e ∷ x.past }
 
 -- a driver's script on one line alone: its calls there, after what the line's entries tell
 pub record IsOwn (x : BoardLine) (s : ScriptSeen) : Type 0 where
-  pub calls : map (λ (y : Step). y.call.call) s.steps ≡ calls_by s.driver x.def.calls
+  pub calls : map (λ (y : PlacedCall). y.call.call) s.calls ≡ calls_by s.driver x.def.calls
   pub at : s.at ≡ completed_on s.driver x
   pub made : s.made ≡ made_on s.driver x
 
@@ -70,7 +70,7 @@ joined own s = record s { at = s.at + own.at; made = max s.made own.made }
 -- at each place both lists have a script, and the second has room for what `own` has done
 abbrev pub CanJoin : List ScriptSeen → List ScriptSeen → Type 0
 CanJoin own scripts = (j : ℕ) (s : ScriptSeen) → slice_get scripts j ≡ Some s
-    → IsSomeAnd (slice_get own j) (λ o. s.at + o.at ≤ length s.steps)
+    → IsSomeAnd (slice_get own j) (λ o. s.at + o.at ≤ length s.calls)
 
 pub record AreJoined (own old new : List ScriptSeen) : Type 0 where
   pub drivers : drivers_of new ≡ drivers_of old

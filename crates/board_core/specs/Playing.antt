@@ -1,8 +1,10 @@
 -- What a play of a system comes to.
-use Rattle.std.specs.Prelude.{◌≡◌, IsSome, None, List, [], length, reverse}
+use Rattle.std.specs.Prelude.{◌≡◌, ◌<◌, IsSome, IsSomeAnd, Some, None, List, [], ◌∷◌, ◌++◌, length, reverse}
 use Rattle.irq_base.specs.declared.entries.Actor.{Actor}
-use Rattle.board_play.specs.Lines.{part, lines_of}
-use Rattle.board_play.specs.Play.{Done, Full, choice, IsChosen, Plays}
+use Rattle.board_def.specs.Seen.{BoardSeen}
+use Rattle.board_play.specs.Lines.{BoardLine, Move, find_line, lines_after, lines_of, part}
+use Rattle.board_play.specs.Order.{actors_of}
+use Rattle.board_play.specs.Play.{Done, Full, first_move, choice, IsChosen, Plays}
 use Rattle.board_core.specs.Seen.{SystemSeen, board_lines}
 use Rattle.board_core.specs.Turns.{IsFullFor, lowest_move}
 use Rattle.board_core.specs.declared.turns.PlayEnd.{PlayEnd}
@@ -36,3 +38,28 @@ abbrev pub Ends : SystemSeen → PlayEnd → Type 0
 Ends s ends.Done = lowest_move s ≡ None
 Ends s (ends.Full line len) = IsFullFor s (lowest_move s) line len
 Ends s ends.NoMemory = IsSome (lowest_move s)
+
+-- the lines after all these moves, of which the newest comes first
+abbrev pub lines_after_all : List Move → List BoardLine → List BoardLine
+lines_after_all [] lines = lines
+lines_after_all (m ∷ g) lines = lines_after m (lines_after_all g lines)
+
+-- it is the move of the lowest actor that can move on these lines, and its line has room for it
+pub record IsLowestMove (board : BoardSeen) (lines : List BoardLine) (m : Move) : Type 0 where
+  pub is : first_move board lines (actors_of board) ≡ Some m
+  pub room : IsSomeAnd (find_line lines m.0) (λ x. length x.past < board.log)
+
+-- each of the moves was that of the lowest actor, on the lines as the moves before it left them
+abbrev pub AreLowestMoves : BoardSeen → List BoardLine → List Move → Type 0
+AreLowestMoves board lines [] = Unit {0}
+AreLowestMoves board lines (m ∷ g) =
+    AreLowestMoves board lines g × IsLowestMove board (lines_after_all g lines) m
+
+-- From the old system to the new one the lowest actors moved and nobody else did: the log has their
+-- moves behind the moves that it had, and each history its entries among them.
+pub record Settles (old new : SystemSeen) : Type 0 where
+  -- the newest first
+  pub moves : List Move
+  pub lowest : AreLowestMoves old.board (board_lines old.lines) moves
+  pub log : new.log ≡ old.log ++ reverse moves
+  pub lines : board_lines new.lines ≡ lines_after_all moves (board_lines old.lines)

@@ -1,16 +1,16 @@
--- Ready actors whose parts are asked one after another.
+-- Ready actors that are asked one after another.
 use Rattle.std.specs.Prelude.{◌≡◌, ◌<◌, ℕ, IsSomeAnd, Option, Some, None, List, slice_get, slice_set}
 use Rattle.irq_line.specs.Seen.{LineSeen}
 use Rattle.board_ready.specs.Seen.{ReadySeen}
 use Rattle.board_ready.specs.declared.parts.CurrentCall.{CurrentCall}
-use Rattle.board_ready.specs.declared.parts.LinePart.{LinePart}
-use Rattle.board_core.specs.ReadyFor.{IsPartOf, call_of}
+use Rattle.board_ready.specs.declared.parts.LineReadiness.{LineReadiness}
+use Rattle.board_core.specs.ReadyFor.{IsReadinessOf, call_of}
 use Rattle.board_core.specs.Scripts.{ScriptSeen}
 
--- the parts of the first n lines, and the calls of the first n drivers
+-- what the first n lines tell, and the calls of the first n drivers
 abbrev pub HasLines : List LineSeen → ℕ → ReadySeen → Type 0
 HasLines lines n ready = (k : ℕ) (x : LineSeen) → k < n → slice_get lines k ≡ Some x
-    → IsSomeAnd (slice_get ready.lines k) (IsPartOf x)
+    → IsSomeAnd (slice_get ready.lines k) (IsReadinessOf x)
 
 abbrev pub HasDrivers : List ScriptSeen → ℕ → ReadySeen → Type 0
 HasDrivers scripts n ready = (j : ℕ) (s : ScriptSeen) → j < n → slice_get scripts j ≡ Some s
@@ -28,9 +28,9 @@ abbrev pub AsksScript : List ScriptSeen → Option ℕ → List (Option CurrentC
 AsksScript scripts None old new = new ≡ old
 AsksScript scripts (Some j) old new = AsksCall scripts j old new
 
--- the part of the line at place k is put in, and the driver's call; all else is as it was
+-- what the line at place k tells is put in, and the driver's call; all else is as it was
 pub record IsRefreshed (lines : List LineSeen) (scripts : List ScriptSeen) (k : ℕ) (script : Option ℕ) (old new : ReadySeen) : Type 0 where
-  pub part : LinePart
-  pub is : (x : LineSeen) → slice_get lines k ≡ Some x → IsPartOf x part
-  pub of_lines : new.lines ≡ slice_set old.lines k part
+  pub told : LineReadiness
+  pub is : (x : LineSeen) → slice_get lines k ≡ Some x → IsReadinessOf x told
+  pub of_lines : new.lines ≡ slice_set old.lines k told
   pub of_drivers : AsksScript scripts script old.drivers new.drivers

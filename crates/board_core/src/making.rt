@@ -8,7 +8,7 @@ ghost use Rattle.board_core.specs.Making.{MakesAll, IsNewLine, AreNew, AreCut, A
 ghost use Rattle.board_core.specs.Numbers.{numbers_of_defs, numbers_of_drivers};
 
 use crate::numbers::place_of;
-use crate::scripts::{Script, Step};
+use crate::scripts::{PlacedCall, Script};
 use board_def::{Board, Layout, Placement, ScriptCall};
 use irq_base::{LineDef, NoMemory};
 use irq_line::{IrqLine, MakesLine};
@@ -102,7 +102,7 @@ pub(crate) fn push_call(
     ensures { OnOk result (scripts.new.items ≡ with_call script place call scripts.old.items) }
 {
     if let (Some(j), Some(place)) = (script, place) {
-        scripts[j].push(Step { place, call })?;
+        scripts[j].push(PlacedCall { place, call })?;
     }
     Ok(())
 }

@@ -1,14 +1,14 @@
 //! What a system keeps of its lines and scripts, to find its next actor at once.
 ghost use Rattle.std.specs.Prelude.{◌≡◌, ◌<◌, ◌≤◌, IfOk, IfSome, length, map};
 ghost use Rattle.board_core.specs.Numbers.{numbers_of_lines, numbers_of_drivers};
-ghost use Rattle.board_core.specs.ReadyFor.{IsPartOf, IsReadyFor, barriers_of};
+ghost use Rattle.board_core.specs.ReadyFor.{IsReadinessOf, IsReadyFor};
 ghost use Rattle.board_core.specs.Refreshed.{HasLines, HasDrivers, IsRefreshed};
 
 use crate::scripts::Script;
 use board_def::Board;
-use board_ready::{Barriers, LinePart, ReadyActors};
+use board_ready::{LineReadiness, ReadyActors};
 use irq_base::NoMemory;
-use irq_line::{Blocks, IrqLine};
+use irq_line::IrqLine;
 use std::alloc::Global;
 
 /// The line and the driver at these places are asked again.
@@ -26,7 +26,7 @@ pub(crate) fn refresh<L: IrqLine>(
     requires driver { IfSome script (λ j. j < length ready.old.drivers) }
     ensures { IsRefreshed (map L.seen lines.now) scripts.now line script ready.old ready.new }
 {
-    ready.set_line(line, part_of(&lines[line]));
+    ready.set_line(line, readiness_of(&lines[line]));
     if let Some(j) = script {
         ready.set_driver(j, scripts[j].call());
     }
@@ -73,27 +73,16 @@ pub(crate) fn numbers_of_drivers(alloc: Global, board: &Board) -> Result<Vec<u32
     Ok(numbers)
 }
 
-/// The part of the line among the ready actors.
+/// Who waits on the line, and what stands in the way there.
 #[inline(always)]
-fn part_of<L: IrqLine>(line: &L) -> LinePart
-    ensures { IsPartOf (L.seen line.now) result }
+fn readiness_of<L: IrqLine>(line: &L) -> LineReadiness
+    ensures { IsReadinessOf (L.seen line.now) result }
 {
-    LinePart {
+    LineReadiness {
         thread: line.lowest_thread(),
         flow: line.in_flow(),
         taker: line.taker(),
-        barriers: barriers_of(line.blocks()),
-    }
-}
-
-fn barriers_of(blocks: Blocks) -> Barriers
-    ensures { result ≡ barriers_of blocks }
-{
-    Barriers {
-        flow: blocks.flow,
-        threads: blocks.threads,
-        mutex: blocks.mutex,
-        device: blocks.freed,
+        blocks: line.blocks(),
     }
 }
 
@@ -105,7 +94,7 @@ fn ask_lines<L: IrqLine>(ready: &mut ReadyActors, lines: &[L])
     ensures drivers { ready.new.drivers ≡ ready.old.drivers }
 {
     for k in 0..lines.len() {
-        ready.set_line(k, part_of(&lines[k]));
+        ready.set_line(k, readiness_of(&lines[k]));
     }
 }
 

@@ -2,11 +2,11 @@
 ghost use Rattle.std.specs.Prelude.{◌≡◌, ◌+◌, false, ◌<◌, ◌≤◌, Some, [], ◌∷◌, ◌++◌, length, slice_get, OnOk};
 ghost use Rattle.board_core.specs.Placing.{joined};
 ghost use Rattle.board_core.specs.Scripts.{advanced, due_at};
-ghost use Rattle.board_core.specs.ReadyFor.{call_of, wait_for};
+ghost use Rattle.board_core.specs.ReadyFor.{call_of};
 
 use crate::turns::DueCall;
 use board_def::ScriptCall;
-use board_ready::{CurrentCall, WaitFor};
+use board_ready::CurrentCall;
 use irq_base::{DriverNo, Entry, NoMemory};
 use line_scripts::{completes, wait_of};
 use std::alloc::Global;
@@ -14,7 +14,7 @@ use std::marker::Model;
 
 /// A call of a script.
 #[derive(Clone, Copy)]
-pub struct Step {
+pub struct PlacedCall {
     /// The place of its line among the lines that take part.
     pub place: usize,
     /// The call.
@@ -25,7 +25,7 @@ pub struct Step {
 #[derive(Drop)]
 pub struct Script {
     driver: DriverNo,
-    steps: Vec<Step>,
+    calls: Vec<PlacedCall>,
     at: usize,
     made: u32,
 }
@@ -36,7 +36,7 @@ impl Model for Script {
 
     ghost Value = { ScriptSeen };
 
-    ghost view = { λ s. record { driver = s.driver; steps = s.steps.items; at = s.at; made = s.made } };
+    ghost view = { λ s. record { driver = s.driver; calls = s.calls.items; at = s.at; made = s.made } };
 
     ghost invariant = { λ s. s.made ≤ 2 };
 }
@@ -44,22 +44,22 @@ impl Model for Script {
 impl Script {
     /// A driver without calls.
     pub fn new(alloc: Global, driver: DriverNo) -> Script
-        ensures { result ≡ record { driver = driver; steps = []; at = 0; made = 0 } }
+        ensures { result ≡ record { driver = driver; calls = []; at = 0; made = 0 } }
     {
         Script {
             driver,
-            steps: Vec::new(alloc),
+            calls: Vec::new(alloc),
             at: 0,
             made: 0,
         }
     }
 
     /// Adds the call at the end.
-    pub fn push(&mut self, step: Step) -> Result<(), NoMemory>
+    pub fn push(&mut self, call: PlacedCall) -> Result<(), NoMemory>
         ensures ok { OnOk result
-            (self.new ≡ record self.old { steps = self.old.steps ++ step ∷ [] }) }
+            (self.new ≡ record self.old { calls = self.old.calls ++ call ∷ [] }) }
     {
-        self.steps.push(step)?;
+        self.calls.push(call)?;
         Ok(())
     }
 
@@ -71,10 +71,10 @@ impl Script {
     }
 
     /// The call that the driver is at; none if all are complete.
-    pub fn current(&self) -> Option<Step>
-        ensures { result ≡ slice_get self.now.steps self.now.at }
+    pub fn current(&self) -> Option<PlacedCall>
+        ensures { result ≡ slice_get self.now.calls self.now.at }
     {
-        self.steps.get(self.at).copied()
+        self.calls.get(self.at).copied()
     }
 
     /// The current call, by its line and by what it waits for; none if all calls are complete.
@@ -82,9 +82,9 @@ impl Script {
         ensures { result ≡ call_of self.now }
     {
         match self.current() {
-            Some(step) => Some(CurrentCall {
-                line: step.place,
-                wait: wait_for(wait_of(step.call.call, self.made)),
+            Some(placed) => Some(CurrentCall {
+                line: placed.place,
+                wait: wait_of(placed.call.call, self.made),
             }),
             None => None,
         }
@@ -92,12 +92,12 @@ impl Script {
 
     /// The current call, with how many of its entries are there; none if all calls are complete.
     pub fn due(&self) -> Option<DueCall>
-        ensures { result ≡ due_at (slice_get self.now.steps self.now.at) self.now.made }
+        ensures { result ≡ due_at (slice_get self.now.calls self.now.at) self.now.made }
     {
         match self.current() {
-            Some(step) => Some(DueCall {
-                line: step.call.line,
-                call: step.call.call,
+            Some(placed) => Some(DueCall {
+                line: placed.call.line,
+                call: placed.call.call,
                 made: self.made,
             }),
             None => None,
@@ -106,10 +106,10 @@ impl Script {
 
     /// Goes on by what `own`, the driver's script on one line alone, has done.
     pub fn join(&mut self, own: &Script)
-        requires { self.old.at + own.now.at ≤ length self.old.steps }
+        requires { self.old.at + own.now.at ≤ length self.old.calls }
         ensures { self.new ≡ joined own.now self.old }
     {
-        let _end = self.steps.len();
+        let _end = self.calls.len();
         self.at += own.at;
         self.made = self.made.max(own.made);
     }
@@ -118,27 +118,14 @@ impl Script {
     pub fn advance(&mut self, entry: &Entry)
         ensures { self.new ≡ advanced entry.now self.old }
     {
-        let Some(step) = self.current() else {
+        let Some(placed) = self.current() else {
             return;
         };
-        if completes(step.call.call, entry) {
+        if completes(placed.call.call, entry) {
             self.at += 1;
             self.made = 0;
         } else {
             self.made = (self.made + 1).min(2);
         }
-    }
-}
-
-/// The same among the ready actors.
-fn wait_for(wait: irq_base::WaitFor) -> WaitFor
-    ensures { result ≡ wait_for wait }
-{
-    match wait {
-        irq_base::WaitFor::Nothing => WaitFor::Nothing,
-        irq_base::WaitFor::Flow => WaitFor::Flow,
-        irq_base::WaitFor::Threads => WaitFor::Threads,
-        irq_base::WaitFor::Mutex => WaitFor::Mutex,
-        irq_base::WaitFor::Freed => WaitFor::Device,
     }
 }

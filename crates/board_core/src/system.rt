@@ -1,5 +1,5 @@
 //! The lines of a board, and their moves.
-ghost use Rattle.std.specs.Prelude.{◌≡◌, ◌++◌, List, [], IfOk, length, map, reverse, slice_get};
+ghost use Rattle.std.specs.Prelude.{◌≡◌, ◌<◌, ◌++◌, ℕ, List, [], IfOk, length, map, reverse, slice_get};
 ghost use Rattle.std.specs.Option.{option_map};
 ghost use Rattle.irq_base.specs.declared.entries.Actor.{Actor};
 ghost use Rattle.irq_base.specs.declared.entries.Actor.TheVariants as actors;
@@ -7,10 +7,11 @@ ghost use Rattle.board_def.specs.Layout.{layout_of};
 ghost use Rattle.board_play.specs.Kept.{AreKept};
 ghost use Rattle.board_play.specs.Current.{current_line};
 ghost use Rattle.board_play.specs.Lines.{find_line, lines_of};
-ghost use Rattle.board_play.specs.Order.{cpus_of, drivers_of, due_on, threads_of};
-ghost use Rattle.board_core.specs.Firsts.{IsFirstOf, call_on};
+ghost use Rattle.board_play.specs.Order.{cpus_of, drivers_of, due_on, flow_line, threads_of};
+ghost use Rattle.board_ready.specs.Sets.{has};
+ghost use Rattle.board_core.specs.Firsts.{IsFirstOf, call_on, is_take_due, number_of};
 ghost use Rattle.board_core.specs.Making.{AreNew, MakesAll};
-ghost use Rattle.board_core.specs.Playing.{IsFresh, IsUnderway, IsPlay, Ends};
+ghost use Rattle.board_core.specs.Playing.{IsFresh, IsUnderway, IsPlay, Ends, Settles};
 ghost use Rattle.board_core.specs.ReadyFor.{has_thread_up_to};
 ghost use Rattle.board_core.specs.Seen.{board_lines};
 ghost use Rattle.board_core.specs.Stands.{CanStepAt, IsAt, IsCurrentOn, IsStand, IsLowestStand, IsScriptPlace, IsStandOn};
@@ -28,7 +29,7 @@ use crate::stands::Stand;
 use crate::turning::{advance, turn_of};
 use crate::turns::{DueCall, PlayEnd, Turn};
 use board_def::{Board, Layout};
-use board_ready::{LinePart, Mover, ReadyActors};
+use board_ready::{LineReadiness, ReadyActor, ReadyActors};
 use callbacks::{Callbacks, Handler};
 use irq_base::{Actor, CpuNo, DevNo, DriverNo, LineNo, NoMemory};
 use irq_line::{IrqLine, MakesLine};
@@ -211,12 +212,12 @@ impl<'b, L: IrqLine> System<'b, L> {
     {
         self.board.is_board();
         match self.ready.lowest_thread_or_cpu() {
-            Some(Mover::Thread(thread)) => {
+            Some(ReadyActor::Thread(thread)) => {
                 let line = LineNo(self.line_numbers[thread.line]);
                 Some(Actor::Thread(line, thread.dev))
             }
-            Some(Mover::Cpu(cpu)) => Some(Actor::Cpu(cpu)),
-            Some(Mover::Driver(_)) => unreachable!(),
+            Some(ReadyActor::Cpu(cpu)) => Some(Actor::Cpu(cpu)),
+            Some(ReadyActor::Driver(_)) => unreachable!(),
             None => None,
         }
     }
@@ -245,6 +246,27 @@ impl<'b, L: IrqLine> System<'b, L> {
             return None;
         };
         self.scripts[j].due()
+    }
+
+    /// The lines on which a take of the processor is due: of the line at place k bit k. It takes
+    /// the same time however many lines there are.
+    pub fn takes(&self, cpu: CpuNo) -> u64
+        ensures { (k : ℕ) → k < 64
+            → has result k ≡ is_take_due cpu (slice_get (board_lines self.now.lines) k) }
+    {
+        self.board.is_board();
+        self.ready.takes(cpu)
+    }
+
+    /// The first line on which the processor has a flow in progress.
+    pub fn flow_line(&self, cpu: CpuNo) -> Option<LineNo>
+        ensures { result ≡ number_of (flow_line (board_lines self.now.lines) cpu) }
+    {
+        self.board.is_board();
+        match self.ready.flow_line(cpu) {
+            Some(k) => Some(LineNo(self.line_numbers[k])),
+            None => None,
+        }
     }
 
     /// One step of the actor on its line, if it can move. If the entry ends a run of a handler,
@@ -311,7 +333,7 @@ impl<'b, L: IrqLine> System<'b, L> {
         let Some(j) = place_of(&self.driver_numbers, driver.0) else {
             return None;
         };
-        if !self.ready.is_ready(Mover::Driver(j)) {
+        if !self.ready.is_ready(ReadyActor::Driver(j)) {
             return None;
         }
         match self.ready.call(j) {
@@ -330,7 +352,7 @@ impl<'b, L: IrqLine> System<'b, L> {
     {
         self.board.is_board();
         match self.ready.lowest() {
-            Some(Mover::Thread(thread)) => {
+            Some(ReadyActor::Thread(thread)) => {
                 let line = LineNo(self.line_numbers[thread.line]);
                 Some((
                     Actor::Thread(line, thread.dev),
@@ -340,7 +362,7 @@ impl<'b, L: IrqLine> System<'b, L> {
                     },
                 ))
             }
-            Some(Mover::Cpu(cpu)) => match self.ready.cpu_line(cpu) {
+            Some(ReadyActor::Cpu(cpu)) => match self.ready.cpu_line(cpu) {
                 Some(k) => Some((
                     Actor::Cpu(cpu),
                     Stand {
@@ -350,7 +372,7 @@ impl<'b, L: IrqLine> System<'b, L> {
                 )),
                 None => None,
             },
-            Some(Mover::Driver(j)) => match self.ready.call(j) {
+            Some(ReadyActor::Driver(j)) => match self.ready.call(j) {
                 Some(call) => {
                     let driver = DriverNo(self.driver_numbers[j]);
                     Some((
@@ -441,9 +463,9 @@ impl<'b, L: IrqLine> System<'b, L> {
         turn_of(line, stepped)
     }
 
-    /// A step of the lowest actor that can move.
+    /// One step of the lowest actor that can move; `NotYet` if none can.
     #[inline(always)]
-    fn turn_lowest<H: Handler>(&mut self, handlers: &Callbacks<H>) -> Turn
+    pub fn turn_lowest<H: Handler>(&mut self, handlers: &Callbacks<H>) -> Turn
         ensures { TurnsBy self.old (lowest_move self.old) result self.new }
     {
         match self.lowest_stand() {
@@ -456,6 +478,7 @@ impl<'b, L: IrqLine> System<'b, L> {
     pub fn settle<H: Handler>(&mut self, handlers: &Callbacks<H>) -> PlayEnd
         ensures board { self.new.board ≡ self.old.board }
         ensures layout { self.new.layout ≡ self.old.layout }
+        ensures moves { Settles self.old self.new }
         ensures end { Ends self.new result }
         ensures play { (picks : List Actor) → IsUnderway self.old picks []
             → IsPlay self.new picks result }
@@ -494,11 +517,11 @@ impl<'b, L: IrqLine> System<'b, L> {
 }
 
 /// Whether the line's lowest ready thread is the device's, or that of a device with a lower number.
-fn has_thread_up_to(part: Option<LinePart>, dev: DevNo) -> bool
-    ensures { result ≡ has_thread_up_to part dev }
+fn has_thread_up_to(readiness: Option<LineReadiness>, dev: DevNo) -> bool
+    ensures { result ≡ has_thread_up_to readiness dev }
 {
-    match part {
-        Some(part) => match part.thread {
+    match readiness {
+        Some(readiness) => match readiness.thread {
             Some(lowest) => lowest.0 <= dev.0,
             None => false,
         },

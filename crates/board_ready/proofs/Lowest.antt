@@ -5,7 +5,7 @@ use Rattle.irq_base.specs.declared.numbers.DevNo.{DevNo}
 use Rattle.board_ready.specs.First.{first_from, first_of}
 use Rattle.board_ready.specs.Kept.{thread_of}
 use Rattle.board_ready.specs.Ready.{lower_of, thread_on, lowest_from, lowest_thread}
-use Rattle.board_ready.specs.declared.parts.LinePart.{LinePart}
+use Rattle.board_ready.specs.declared.parts.LineReadiness.{LineReadiness}
 use Rattle.board_ready.specs.declared.parts.ReadyThread.{ReadyThread}
 
 -- if none is found none passes
@@ -42,7 +42,7 @@ pub first_some : (p : ℕ → Bool) (n t : ℕ) → first_of p n ≡ Some t → 
 first_some p n t h = let r = from_some p 0 n t h in (omega (arith, r.1), r.2, λ i less. r.3 i (omega arith) less)
 
 -- no line has a thread
-nobody_from : (lines : List LinePart) (k : ℕ) → lowest_from k lines ≡ None → (i : ℕ) → thread_of (slice_get lines i) ≡ None
+nobody_from : (lines : List LineReadiness) (k : ℕ) → lowest_from k lines ≡ None → (i : ℕ) → thread_of (slice_get lines i) ≡ None
 nobody_from [] k h i = refl
 nobody_from (x ∷ xs) k h i = by_thread x.thread refl (lowest_from (k + 1) xs) refl h (nobody_from xs (k + 1)) i
   where
@@ -54,7 +54,7 @@ nobody_from (x ∷ xs) k h i = by_thread x.thread refl (lowest_from (k + 1) xs) 
     by_thread (Some d) is (Some u) found g rest i = cc
 
 -- the lowest is its line's, and no line's is lower
-pub record IsLowest (lines : List LinePart) (k : ℕ) (t : ReadyThread) : Type 0 where
+pub record IsLowest (lines : List LineReadiness) (k : ℕ) (t : ReadyThread) : Type 0 where
   pub place : ℕ
   pub at : t.line ≡ k + place
   pub there : thread_of (slice_get lines place) ≡ Some t.dev
@@ -63,7 +63,7 @@ pub record IsLowest (lines : List LinePart) (k : ℕ) (t : ReadyThread) : Type 0
 same_dev : (d e : DevNo) → Some d ≡ Some e → d.0 ≡ e.0
 same_dev d e h = cc
 
-lowest_is : (lines : List LinePart) (k : ℕ) (t : ReadyThread) → lowest_from k lines ≡ Some t → IsLowest lines k t
+lowest_is : (lines : List LineReadiness) (k : ℕ) (t : ReadyThread) → lowest_from k lines ≡ Some t → IsLowest lines k t
 lowest_is [] k t h = cc
 lowest_is (x ∷ xs) k t h = by_thread x.thread refl (lowest_from (k + 1) xs) refl h (lowest_is xs (k + 1))
   where
@@ -93,13 +93,13 @@ lowest_is (x ∷ xs) k t h = by_thread x.thread refl (lowest_from (k + 1) xs) re
     by_thread (Some e) is None found g rest = same_thread (record { line = k; dev = e }) g (here e is (λ i d j. let bad : None ≡ Some d = sym (nobody_from xs (k + 1) found i) ∙ j in cc))
     by_thread (Some e) is (Some u) found g rest = same_thread (cond (nat_lt u.dev.0 e.0) u (record { line = k; dev = e })) g (by_order e u (nat_lt u.dev.0 e.0) refl is (rest u found))
 
-pub thread_none : (lines : List LinePart) (k : ℕ) → lowest_thread lines ≡ None → thread_of (slice_get lines k) ≡ None
+pub thread_none : (lines : List LineReadiness) (k : ℕ) → lowest_thread lines ≡ None → thread_of (slice_get lines k) ≡ None
 thread_none lines k h = nobody_from lines 0 h k
 
-pub thread_some : (lines : List LinePart) (t : ReadyThread) → lowest_thread lines ≡ Some t → thread_of (slice_get lines t.line) ≡ Some t.dev
+pub thread_some : (lines : List LineReadiness) (t : ReadyThread) → lowest_thread lines ≡ Some t → thread_of (slice_get lines t.line) ≡ Some t.dev
 thread_some lines t h =
     let low = lowest_is lines 0 t h in
     ap (λ k. thread_of (slice_get lines k)) (let e : t.line ≡ low.place = omega (arith, low.at) in e) ∙ low.there
 
-pub thread_least : (lines : List LinePart) (t : ReadyThread) (k : ℕ) (d : DevNo) → lowest_thread lines ≡ Some t → thread_of (slice_get lines k) ≡ Some d → t.dev.0 ≤ d.0
+pub thread_least : (lines : List LineReadiness) (t : ReadyThread) (k : ℕ) (d : DevNo) → lowest_thread lines ≡ Some t → thread_of (slice_get lines k) ≡ Some d → t.dev.0 ≤ d.0
 thread_least lines t k d h there = (lowest_is lines 0 t h).least k d there

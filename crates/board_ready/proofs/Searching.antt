@@ -1,33 +1,46 @@
 -- What the sets tell is what a search over the lists finds.
-use Rattle.std.proofs.Common.{IfSome, ◌≡◌, ℕ, zero, suc, ◌+◌, ◌<◌, ◌≤◌, Bool, false, ◌||◌, cond, is_some, unwrap_or, Option, Some, None, List, [], ◌∷◌, length, slice_get, bit_or, refl, sym, ap, ◌∙◌, subst, arith}
-use Rattle.std.proofs.lemmas.Bool.{lt-ltb}
+use Rattle.std.proofs.Common.{IfSome, ◌≡◌, ℕ, zero, suc, ◌+◌, ◌<◌, ◌≤◌, Bool, false, ◌||◌, ◌&&◌, cond, nat_lt, is_some, unwrap_or, Option, Some, None, List, [], ◌∷◌, length, slice_get, bit_or, refl, sym, ap, ◌∙◌, subst, arith}
+use Rattle.std.proofs.lemmas.Bool.{lt-ltb, le-ltb}
 use Rattle.std.proofs.lemmas.Option.{slice_get_past}
 use Rattle.board_ready.specs.First.{first_of}
 use Rattle.board_ready.specs.Kept.{thread_of, AreThreads, AreFlows, AreTakes, AreReady}
 use Rattle.board_ready.specs.Ready.{lower_of, thread_on, lowest_from, lowest_thread, has_flow, has_take, flow_line, take_line, flow_or_take, cpu_line, is_cpu_ready, lowest_cpu, current_call, can_go_on}
 use Rattle.board_ready.specs.Sets.{has, leaf, lowest_in, is_of}
 use Rattle.board_ready.specs.declared.parts.CurrentCall.{CurrentCall}
-use Rattle.board_ready.specs.declared.parts.LinePart.{LinePart}
+use Rattle.board_ready.specs.declared.parts.LineReadiness.{LineReadiness}
 use Rattle.board_ready.specs.declared.parts.ReadyThread.{ReadyThread}
 use Rattle.board_ready.proofs.First.{first_within, found_below}
 use Rattle.board_ready.proofs.Numbers.{either_has}
+use Rattle.board_ready.proofs.Processors.{nothing_in}
 
 -- a search over 64 places finds the first of the lines that there are
-parts_first : (test : Option LinePart → Bool) (lines : List LinePart) (on : ℕ → Bool) → test None ≡ false → length lines ≤ 64 → ((k : ℕ) → k < 64 → on k ≡ test (slice_get lines k))
+parts_first : (test : Option LineReadiness → Bool) (lines : List LineReadiness) (on : ℕ → Bool) → test None ≡ false → length lines ≤ 64 → ((k : ℕ) → k < 64 → on k ≡ test (slice_get lines k))
     → first_of on 64 ≡ first_of (λ k. test (slice_get lines k)) (length lines)
 parts_first test lines on none few is =
     first_within (λ k. test (slice_get lines k)) on (length lines) 64 few (λ k inside. is k (omega (arith, inside, few))) (λ k past small. is k small ∙ (ap test (slice_get_past lines k past) ∙ none))
 
 -- flows go before takes
-pub chosen_line : (lines : List LinePart) (flows takes : List ℕ) (c : ℕ) → length lines ≤ 64 → c < 32 → AreFlows lines flows → AreTakes lines takes
+pub chosen_line : (lines : List LineReadiness) (flows takes : List ℕ) (c : ℕ) → length lines ≤ 64 → c < 32 → AreFlows lines flows → AreTakes lines takes
     → flow_or_take (first_of (is_of flows c) 64) (first_of (is_of takes c) 64) ≡ cpu_line lines c
 chosen_line lines flows takes c few small are_flows are_takes =
     ap (λ (o : Option ℕ). flow_or_take o (first_of (is_of takes c) 64)) (parts_first (has_flow c) lines (is_of flows c) refl few (λ k less. are_flows c k small less))
     ∙ (ap (flow_or_take (flow_line lines c)) (parts_first (has_take c) lines (is_of takes c) refl few (λ k less. are_takes c k small less))
     ∙ sym (ap (λ b. cond b (flow_or_take (flow_line lines c) (take_line lines c)) None) (lt-ltb c 32 small)))
 
+-- the first line with its flow
+pub flow_found : (lines : List LineReadiness) (flows : List ℕ) (c : ℕ) → length lines ≤ 64 → c < 32 → AreFlows lines flows → first_of (is_of flows c) 64 ≡ cond (nat_lt c 32) (flow_line lines c) None
+flow_found lines flows c few small are =
+    parts_first (has_flow c) lines (is_of flows c) refl few (λ k less. are c k small less) ∙ sym (ap (λ b. cond b (flow_line lines c) None) (lt-ltb c 32 small))
+
+-- the lines with a take due of it
+pub take_found : (lines : List LineReadiness) (takes : List ℕ) (c k : ℕ) → c < 32 → k < 64 → AreTakes lines takes → is_of takes c k ≡ (nat_lt c 32 && has_take c (slice_get lines k))
+take_found lines takes c k small less are = are c k small less ∙ sym (ap (λ b. b && has_take c (slice_get lines k)) (lt-ltb c 32 small))
+
+pub no_take_kept : (lines : List LineReadiness) (c k : ℕ) → 32 ≤ c → has 0 k ≡ (nat_lt c 32 && has_take c (slice_get lines k))
+no_take_kept lines c k high = nothing_in 0 k refl ∙ sym (ap (λ b. b && has_take c (slice_get lines k)) (le-ltb c 32 high))
+
 -- the processors that have a flow or a take
-pub cpu_found : (lines : List LinePart) (flows takes : List ℕ) (a b : ℕ) → length lines ≤ 64 → AreFlows lines flows → AreTakes lines takes
+pub cpu_found : (lines : List LineReadiness) (flows takes : List ℕ) (a b : ℕ) → length lines ≤ 64 → AreFlows lines flows → AreTakes lines takes
     → ((c : ℕ) → c < 32 → has a c ≡ is_some (first_of (is_of flows c) 64)) → ((c : ℕ) → c < 32 → has b c ≡ is_some (first_of (is_of takes c) 64))
     → ((c : ℕ) → 32 ≤ c → c < 64 → has a c ≡ false) → ((c : ℕ) → 32 ≤ c → c < 64 → has b c ≡ false)
     → first_of (has (bit_or a b)) 64 ≡ lowest_cpu lines
@@ -44,12 +57,12 @@ cpu_found lines flows takes a b few are_flows are_takes of_a of_b past_a past_b 
     either_some None y = refl
     either_some (Some k) y = refl
 
-pub cpu_below : (lines : List LinePart) (o : Option ℕ) → o ≡ lowest_cpu lines → IfSome o (λ c. c < 32)
+pub cpu_below : (lines : List LineReadiness) (o : Option ℕ) → o ≡ lowest_cpu lines → IfSome o (λ c. c < 32)
 unfolding lowest_cpu
 cpu_below lines o is = found_below (is_cpu_ready lines) 32 o is
 
 -- the drivers that can go on
-pub driver_found : (lines : List LinePart) (drivers : List (Option CurrentCall)) (word : ℕ) → length drivers ≤ 64 → AreReady lines drivers word
+pub driver_found : (lines : List LineReadiness) (drivers : List (Option CurrentCall)) (word : ℕ) → length drivers ≤ 64 → AreReady lines drivers word
     → first_of (has word) 64 ≡ first_of (λ r. can_go_on lines (current_call drivers r)) (length drivers)
 driver_found lines drivers word few is =
     first_within (λ r. can_go_on lines (current_call drivers r)) (has word) (length drivers) 64 few (λ r inside. is r (omega (arith, inside, few)))
@@ -67,7 +80,7 @@ nobody f k (suc n) none =
     next : (j : ℕ) → k + 1 + j ≡ k + suc j
     next j = omega arith
 
-listed : (lines : List LinePart) (f : ℕ → Option ReadyThread) (k n : ℕ) → length lines ≤ n → ((j : ℕ) → j < n → f (k + j) ≡ thread_on (k + j) (thread_of (slice_get lines j))) → lowest_in f k n ≡ lowest_from k lines
+listed : (lines : List LineReadiness) (f : ℕ → Option ReadyThread) (k n : ℕ) → length lines ≤ n → ((j : ℕ) → j < n → f (k + j) ≡ thread_on (k + j) (thread_of (slice_get lines j))) → lowest_in f k n ≡ lowest_from k lines
 listed [] f k n few is = nobody f k n is
 listed (x ∷ xs) f k zero few is = absurd (omega (arith, few))
 listed (x ∷ xs) f k (suc n) few is =
@@ -80,7 +93,7 @@ listed (x ∷ xs) f k (suc n) few is =
     next : (j : ℕ) → k + suc j ≡ k + 1 + j
     next j = omega arith
 
-pub thread_found : (lines : List LinePart) (nodes : List (Option ReadyThread)) → length lines ≤ 64 → AreThreads lines nodes → lowest_in (leaf nodes) 0 64 ≡ lowest_thread lines
+pub thread_found : (lines : List LineReadiness) (nodes : List (Option ReadyThread)) → length lines ≤ 64 → AreThreads lines nodes → lowest_in (leaf nodes) 0 64 ≡ lowest_thread lines
 thread_found lines nodes few are = listed lines (leaf nodes) 0 64 few (λ j less. subst (λ i. leaf nodes i ≡ thread_on i (thread_of (slice_get lines j))) (from_zero j) (are j less))
   where
     from_zero : (j : ℕ) → j ≡ 0 + j

@@ -4,24 +4,24 @@ use Rattle.irq_base.specs.declared.numbers.DevNo.{DevNo}
 use Rattle.board_ready.specs.Sets.{has, leaf, is_of, CallsSeen, on_line, word_for, is_on, is_waiting}
 use Rattle.board_ready.specs.Ready.{thread_on, has_flow, has_take, current_call, can_go_on}
 use Rattle.board_ready.specs.declared.parts.CurrentCall.{CurrentCall}
-use Rattle.board_ready.specs.declared.parts.LinePart.{LinePart}
+use Rattle.board_ready.specs.declared.parts.LineReadiness.{LineReadiness}
 use Rattle.board_ready.specs.declared.parts.ReadyThread.{ReadyThread}
-use Rattle.board_ready.specs.declared.parts.WaitFor.{WaitFor}
+use Rattle.irq_base.specs.declared.waiting.WaitFor.{WaitFor}
 
 -- the ready thread of a line; none if there is no such line
-abbrev pub thread_of : Option LinePart → Option DevNo
+abbrev pub thread_of : Option LineReadiness → Option DevNo
 thread_of None = None
 thread_of (Some x) = x.thread
 
-abbrev pub AreThreads : List LinePart → List (Option ReadyThread) → Type 0
+abbrev pub AreThreads : List LineReadiness → List (Option ReadyThread) → Type 0
 AreThreads lines nodes =
     (k : ℕ) → k < 64 → leaf nodes k ≡ thread_on k (thread_of (slice_get lines k))
 
-abbrev pub AreFlows : List LinePart → List ℕ → Type 0
+abbrev pub AreFlows : List LineReadiness → List ℕ → Type 0
 AreFlows lines words =
     (c k : ℕ) → c < 32 → k < 64 → is_of words c k ≡ has_flow c (slice_get lines k)
 
-abbrev pub AreTakes : List LinePart → List ℕ → Type 0
+abbrev pub AreTakes : List LineReadiness → List ℕ → Type 0
 AreTakes lines words =
     (c k : ℕ) → c < 32 → k < 64 → is_of words c k ≡ has_take c (slice_get lines k)
 
@@ -34,6 +34,6 @@ AreWaiting drivers calls = (w : WaitFor) (r : ℕ) → r < 64
     → has (word_for w calls.waiting) r ≡ is_waiting w (current_call drivers r)
 
 -- the drivers that can go on
-abbrev pub AreReady : List LinePart → List (Option CurrentCall) → ℕ → Type 0
+abbrev pub AreReady : List LineReadiness → List (Option CurrentCall) → ℕ → Type 0
 AreReady lines drivers word =
     (r : ℕ) → r < 64 → has word r ≡ can_go_on lines (current_call drivers r)

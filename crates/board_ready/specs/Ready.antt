@@ -4,18 +4,18 @@ use Rattle.irq_base.specs.declared.numbers.CpuNo.{CpuNo}
 use Rattle.irq_base.specs.declared.numbers.DevNo.{DevNo}
 use Rattle.board_ready.specs.First.{first_of}
 use Rattle.board_ready.specs.Seen.{ReadySeen}
-use Rattle.board_ready.specs.declared.parts.Barriers.{Barriers}
+use Rattle.irq_base.specs.declared.waiting.Blocks.{Blocks}
 use Rattle.board_ready.specs.declared.parts.CurrentCall.{CurrentCall}
-use Rattle.board_ready.specs.declared.parts.LinePart.{LinePart}
-use Rattle.board_ready.specs.declared.parts.Mover.{Mover}
-use Rattle.board_ready.specs.declared.parts.Mover.TheVariants as movers
+use Rattle.board_ready.specs.declared.parts.LineReadiness.{LineReadiness}
+use Rattle.board_ready.specs.declared.parts.ReadyActor.{ReadyActor}
+use Rattle.board_ready.specs.declared.parts.ReadyActor.TheVariants as actors
 use Rattle.board_ready.specs.declared.parts.ReadyThread.{ReadyThread}
-use Rattle.board_ready.specs.declared.parts.WaitFor.{WaitFor}
-use Rattle.board_ready.specs.declared.parts.WaitFor.TheVariants as waits
+use Rattle.irq_base.specs.declared.waiting.WaitFor.{WaitFor}
+use Rattle.irq_base.specs.declared.waiting.WaitFor.TheVariants as waits
 
 -- nobody waits on the line, and nothing stands in the way
-abbrev pub idle : LinePart
-idle = record { thread = None; flow = None; taker = None; barriers = record { flow = false; threads = false; mutex = false; device = false } }
+abbrev pub idle : LineReadiness
+idle = record { thread = None; flow = None; taker = None; blocks = record { flow = false; threads = false; mutex = false; freed = false } }
 
 -- of two threads the one whose device has the lower number; with equal numbers the first
 abbrev pub lower : ReadyThread → ReadyThread → ReadyThread
@@ -32,12 +32,12 @@ thread_on k None = None
 thread_on k (Some d) = Some (record { line = k; dev = d })
 
 -- the lowest thread of these lines; their first line stands at place k
-abbrev pub lowest_from : ℕ → List LinePart → Option ReadyThread
+abbrev pub lowest_from : ℕ → List LineReadiness → Option ReadyThread
 lowest_from k [] = None
 lowest_from k (x ∷ xs) = lower_of (thread_on k x.thread) (lowest_from (k + 1) xs)
 
 -- the ready thread whose device has the lowest number
-abbrev pub lowest_thread : List LinePart → Option ReadyThread
+abbrev pub lowest_thread : List LineReadiness → Option ReadyThread
 lowest_thread lines = lowest_from 0 lines
 
 -- it is processor c
@@ -46,19 +46,19 @@ is_cpu c None = false
 is_cpu c (Some cpu) = cpu.0 == c
 
 -- the line's flow is on processor c; a take of the line is due of processor c
-abbrev pub has_flow : ℕ → Option LinePart → Bool
+abbrev pub has_flow : ℕ → Option LineReadiness → Bool
 has_flow c None = false
 has_flow c (Some x) = is_cpu c x.flow
 
-abbrev pub has_take : ℕ → Option LinePart → Bool
+abbrev pub has_take : ℕ → Option LineReadiness → Bool
 has_take c None = false
 has_take c (Some x) = is_cpu c x.taker
 
 -- the first line that has its flow on processor c, and the first on which a take is due of it
-abbrev pub flow_line : List LinePart → ℕ → Option ℕ
+abbrev pub flow_line : List LineReadiness → ℕ → Option ℕ
 flow_line lines c = first_of (λ k. has_flow c (slice_get lines k)) (length lines)
 
-abbrev pub take_line : List LinePart → ℕ → Option ℕ
+abbrev pub take_line : List LineReadiness → ℕ → Option ℕ
 take_line lines c = first_of (λ k. has_take c (slice_get lines k)) (length lines)
 
 -- flows go before takes
@@ -67,32 +67,32 @@ flow_or_take None take = take
 flow_or_take (Some k) take = Some k
 
 -- the line on which a processor moves; processors of 32 and above don't
-abbrev pub cpu_line : List LinePart → ℕ → Option ℕ
+abbrev pub cpu_line : List LineReadiness → ℕ → Option ℕ
 cpu_line lines c =
     if nat_lt c 32 then flow_or_take (flow_line lines c) (take_line lines c) else None
 
-abbrev pub is_cpu_ready : List LinePart → ℕ → Bool
+abbrev pub is_cpu_ready : List LineReadiness → ℕ → Bool
 is_cpu_ready lines c = is_some (cpu_line lines c)
 
 -- the first of processors 0 to 31 that moves; opened by name, so that a goal doesn't spell out all
 -- 32
-unfoldable pub lowest_cpu : List LinePart → Option ℕ
+unfoldable pub lowest_cpu : List LineReadiness → Option ℕ
 lowest_cpu lines = first_of (is_cpu_ready lines) 32
 
 -- what is waited for stands in the way
-abbrev pub is_barred : WaitFor → Barriers → Bool
+abbrev pub is_barred : WaitFor → Blocks → Bool
 is_barred waits.Nothing x = false
 is_barred waits.Flow x = x.flow
 is_barred waits.Threads x = x.threads
 is_barred waits.Mutex x = x.mutex
-is_barred waits.Device x = x.device
+is_barred waits.Freed x = x.freed
 
 -- a call can go on at its line; if there is no such line it can't
-abbrev pub is_open : WaitFor → Option LinePart → Bool
+abbrev pub is_open : WaitFor → Option LineReadiness → Bool
 is_open wait None = false
-is_open wait (Some x) = not (is_barred wait x.barriers)
+is_open wait (Some x) = not (is_barred wait x.blocks)
 
-abbrev pub can_go_on : List LinePart → Option CurrentCall → Bool
+abbrev pub can_go_on : List LineReadiness → Option CurrentCall → Bool
 can_go_on lines None = false
 can_go_on lines (Some call) = is_open call.wait (slice_get lines call.line)
 
@@ -107,27 +107,27 @@ abbrev pub lowest_driver : ReadySeen → Option ℕ
 lowest_driver s = first_of (is_driver_ready s) (length s.drivers)
 
 -- the order: threads, processors, drivers
-abbrev pub cpu_mover : Option ℕ → Option Mover
-cpu_mover None = None
-cpu_mover (Some c) = Some (movers.Cpu (record { 0 = c }))
+abbrev pub cpu_actor : Option ℕ → Option ReadyActor
+cpu_actor None = None
+cpu_actor (Some c) = Some (actors.Cpu (record { 0 = c }))
 
-abbrev pub driver_mover : Option ℕ → Option Mover
-driver_mover None = None
-driver_mover (Some r) = Some (movers.Driver r)
+abbrev pub driver_actor : Option ℕ → Option ReadyActor
+driver_actor None = None
+driver_actor (Some r) = Some (actors.Driver r)
 
-abbrev pub thread_or : Option ReadyThread → Option Mover → Option Mover
+abbrev pub thread_or : Option ReadyThread → Option ReadyActor → Option ReadyActor
 thread_or None m = m
-thread_or (Some t) m = Some (movers.Thread t)
+thread_or (Some t) m = Some (actors.Thread t)
 
-abbrev pub lowest_thread_or_cpu : List LinePart → Option Mover
-lowest_thread_or_cpu lines = thread_or (lowest_thread lines) (cpu_mover (lowest_cpu lines))
+abbrev pub lowest_thread_or_cpu : List LineReadiness → Option ReadyActor
+lowest_thread_or_cpu lines = thread_or (lowest_thread lines) (cpu_actor (lowest_cpu lines))
 
-abbrev pub or_driver : Option Mover → Option Mover → Option Mover
+abbrev pub or_driver : Option ReadyActor → Option ReadyActor → Option ReadyActor
 or_driver None m = m
 or_driver (Some first) m = Some first
 
-abbrev pub lowest : ReadySeen → Option Mover
-lowest s = or_driver (lowest_thread_or_cpu s.lines) (driver_mover (lowest_driver s))
+abbrev pub lowest : ReadySeen → Option ReadyActor
+lowest s = or_driver (lowest_thread_or_cpu s.lines) (driver_actor (lowest_driver s))
 
 -- it is this device
 abbrev pub is_device : DevNo → Option DevNo → Bool
@@ -135,11 +135,11 @@ is_device d None = false
 is_device d (Some x) = x.0 == d.0
 
 -- the line's ready thread is the device's
-abbrev pub has_thread : DevNo → Option LinePart → Bool
+abbrev pub has_thread : DevNo → Option LineReadiness → Bool
 has_thread d None = false
 has_thread d (Some x) = is_device d x.thread
 
-abbrev pub is_ready : ReadySeen → Mover → Bool
-is_ready s (movers.Thread t) = has_thread t.dev (slice_get s.lines t.line)
-is_ready s (movers.Cpu cpu) = is_cpu_ready s.lines cpu.0
-is_ready s (movers.Driver r) = is_driver_ready s r
+abbrev pub is_ready : ReadySeen → ReadyActor → Bool
+is_ready s (actors.Thread t) = has_thread t.dev (slice_get s.lines t.line)
+is_ready s (actors.Cpu cpu) = is_cpu_ready s.lines cpu.0
+is_ready s (actors.Driver r) = is_driver_ready s r

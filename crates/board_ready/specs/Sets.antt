@@ -4,11 +4,11 @@ use Rattle.std.specs.Int.{bit_at}
 use Rattle.board_ready.specs.First.{first_of}
 use Rattle.board_ready.specs.Ready.{lower_of}
 use Rattle.board_ready.specs.declared.calls.Waiting.{Waiting}
-use Rattle.board_ready.specs.declared.parts.Barriers.{Barriers}
+use Rattle.irq_base.specs.declared.waiting.Blocks.{Blocks}
 use Rattle.board_ready.specs.declared.parts.CurrentCall.{CurrentCall}
 use Rattle.board_ready.specs.declared.parts.ReadyThread.{ReadyThread}
-use Rattle.board_ready.specs.declared.parts.WaitFor.{WaitFor}
-use Rattle.board_ready.specs.declared.parts.WaitFor.TheVariants as waits
+use Rattle.irq_base.specs.declared.waiting.WaitFor.{WaitFor}
+use Rattle.irq_base.specs.declared.waiting.WaitFor.TheVariants as waits
 
 -- the number is in the word
 abbrev pub has : ℕ → ℕ → Bool
@@ -55,7 +55,7 @@ word_for waits.Nothing w = w.nothing
 word_for waits.Flow w = w.flow
 word_for waits.Threads w = w.threads
 word_for waits.Mutex w = w.mutex
-word_for waits.Device w = w.device
+word_for waits.Freed w = w.freed
 
 -- both are the same thing to wait for
 abbrev pub is_wait : WaitFor → WaitFor → Bool
@@ -63,7 +63,7 @@ is_wait waits.Nothing waits.Nothing = true
 is_wait waits.Flow waits.Flow = true
 is_wait waits.Threads waits.Threads = true
 is_wait waits.Mutex waits.Mutex = true
-is_wait waits.Device waits.Device = true
+is_wait waits.Freed waits.Freed = true
 is_wait _ _ = false
 
 -- the call is on line k; the call waits for this
@@ -76,7 +76,7 @@ is_waiting w None = false
 is_waiting w (Some call) = is_wait w call.wait
 
 -- the driver waits for nothing, or for what doesn't stand in the way
-abbrev pub may_go_on : Barriers → Waiting → ℕ → Bool
+abbrev pub may_go_on : Blocks → Waiting → ℕ → Bool
 may_go_on x w r = has w.nothing r || (has w.flow r && not x.flow)
     || (has w.threads r && not x.threads) || (has w.mutex r && not x.mutex)
-    || (has w.device r && not x.device)
+    || (has w.freed r && not x.freed)

@@ -1,10 +1,11 @@
 //! The drivers by the lines of their current calls, and by what those wait for.
 ghost use Rattle.std.specs.Prelude.{◌≡◌, ℕ, ◌<◌, ◌==◌, ◌&&◌, ◌||◌, not, false, if◌then◌else◌};
 ghost use Rattle.board_ready.specs.Sets.{has, is_on, is_wait, is_waiting, on_line, word_for, may_go_on};
-ghost use Rattle.board_ready.specs.declared.parts.WaitFor.{WaitFor};
+ghost use Rattle.irq_base.specs.declared.waiting.WaitFor.{WaitFor};
 
 use crate::bits::with_bit;
-use crate::parts::{Barriers, CurrentCall, WaitFor};
+use crate::parts::CurrentCall;
+use irq_base::{Blocks, WaitFor};
 use std::marker::Model;
 
 /// How many lines it has room for.
@@ -17,7 +18,7 @@ pub struct Waiting {
     pub flow: u64,
     pub threads: u64,
     pub mutex: u64,
-    pub device: u64,
+    pub freed: u64,
 }
 
 /// For each of 64 lines, the drivers whose current calls are on it, and for each thing, the drivers
@@ -49,7 +50,7 @@ impl CallSets {
                 flow: 0,
                 threads: 0,
                 mutex: 0,
-                device: 0,
+                freed: 0,
             },
         }
     }
@@ -82,15 +83,15 @@ impl CallSets {
     }
 
     /// The drivers whose calls wait for nothing that stands in the way.
-    pub fn open(&self, barriers: Barriers) -> u64
-        ensures { (r : ℕ) → has result r ≡ may_go_on barriers self.now.waiting r }
+    pub fn open(&self, blocks: Blocks) -> u64
+        ensures { (r : ℕ) → has result r ≡ may_go_on blocks self.now.waiting r }
     {
         let waiting = self.waiting;
-        let flow = unless(barriers.flow, waiting.flow);
-        let threads = unless(barriers.threads, waiting.threads);
-        let mutex = unless(barriers.mutex, waiting.mutex);
-        let device = unless(barriers.device, waiting.device);
-        waiting.nothing | flow | threads | mutex | device
+        let flow = unless(blocks.flow, waiting.flow);
+        let threads = unless(blocks.threads, waiting.threads);
+        let mutex = unless(blocks.mutex, waiting.mutex);
+        let freed = unless(blocks.freed, waiting.freed);
+        waiting.nothing | flow | threads | mutex | freed
     }
 }
 
@@ -114,7 +115,7 @@ fn moved(waiting: Waiting, wait: WaitFor, driver: usize, to: bool) -> Waiting
         WaitFor::Flow => waiting.flow = with_bit(waiting.flow, driver, to),
         WaitFor::Threads => waiting.threads = with_bit(waiting.threads, driver, to),
         WaitFor::Mutex => waiting.mutex = with_bit(waiting.mutex, driver, to),
-        WaitFor::Device => waiting.device = with_bit(waiting.device, driver, to),
+        WaitFor::Freed => waiting.freed = with_bit(waiting.freed, driver, to),
     }
     waiting
 }

@@ -60,6 +60,14 @@ impl CpuLines {
         }
     }
 
+    /// The lines of the processor.
+    pub fn lines(&self, cpu: CpuNo) -> u64
+        requires { cpu.0 < 32 }
+        ensures { (k : ℕ) → k < 64 → has result k ≡ is_of self.now cpu.0 k }
+    {
+        self.words[cpu.0 as usize]
+    }
+
     /// The first line of the processor.
     pub fn first(&self, cpu: CpuNo) -> Option<usize>
         requires { cpu.0 < 32 }

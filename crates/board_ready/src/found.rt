@@ -4,7 +4,7 @@ ghost use Rattle.irq_base.specs.declared.numbers.DevNo.{DevNo};
 ghost use Rattle.board_ready.specs.First.{first_of};
 ghost use Rattle.board_ready.specs.Kept.{thread_of};
 ghost use Rattle.board_ready.specs.Ready.{lowest_thread};
-ghost use Rattle.board_ready.specs.declared.parts.LinePart.{LinePart};
+ghost use Rattle.board_ready.specs.declared.parts.LineReadiness.{LineReadiness};
 ghost use Rattle.board_ready.specs.declared.parts.ReadyThread.{ReadyThread};
 
 /// The number that `first_of` finds is below the bound and passes, and none before it does; if it
@@ -20,10 +20,10 @@ pub fn first_is_first()
 /// device has a lower number; if it finds none, no line has a ready thread.
 #[tactic(auto, using(crate::proofs::Lowest::thread_some, crate::proofs::Lowest::thread_least, crate::proofs::Lowest::thread_none))]
 pub fn lowest_thread_is_lowest()
-    ensures there { (lines : List LinePart) (t : ReadyThread) → lowest_thread lines ≡ Some t
+    ensures there { (lines : List LineReadiness) (t : ReadyThread) → lowest_thread lines ≡ Some t
         → thread_of (slice_get lines t.line) ≡ Some t.dev }
-    ensures least { (lines : List LinePart) (t : ReadyThread) (k : ℕ) (d : DevNo)
+    ensures least { (lines : List LineReadiness) (t : ReadyThread) (k : ℕ) (d : DevNo)
         → lowest_thread lines ≡ Some t → thread_of (slice_get lines k) ≡ Some d → t.dev.0 ≤ d.0 }
-    ensures none { (lines : List LinePart) (k : ℕ) → lowest_thread lines ≡ None
+    ensures none { (lines : List LineReadiness) (k : ℕ) → lowest_thread lines ≡ None
         → thread_of (slice_get lines k) ≡ None }
 {}

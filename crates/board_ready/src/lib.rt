@@ -15,5 +15,5 @@ pub mod ready;
 mod tree;
 
 pub use found::{first_is_first, lowest_thread_is_lowest};
-pub use parts::{Barriers, CurrentCall, LinePart, Mover, ReadyThread, WaitFor};
+pub use parts::{CurrentCall, LineReadiness, ReadyActor, ReadyThread};
 pub use ready::ReadyActors;

@@ -2,39 +2,11 @@
 ghost use Rattle.std.specs.Prelude.{◌≡◌, IsTrue};
 ghost use Rattle.board_ready.specs.Ready.{idle};
 
-use irq_base::{CpuNo, DevNo};
-
-/// What stands in the way of drivers' calls on a line.
-#[derive(Clone, Copy, PartialEq, Eq)]
-pub struct Barriers {
-    /// A flow is in progress.
-    pub flow: bool,
-    /// Some thread is woken or in a run.
-    pub threads: bool,
-    /// The request mutex is held.
-    pub mutex: bool,
-    /// The device that is being freed is woken or in a run.
-    pub device: bool,
-}
-
-/// What a driver's call waits for.
-#[derive(Clone, Copy, PartialEq, Eq)]
-pub enum WaitFor {
-    /// Nothing.
-    Nothing,
-    /// The end of the flow.
-    Flow,
-    /// The rest of all threads.
-    Threads,
-    /// The request mutex.
-    Mutex,
-    /// The rest of the device that is being freed.
-    Device,
-}
+use irq_base::{Blocks, CpuNo, DevNo, WaitFor};
 
 /// Who waits on a line, and what stands in the way there.
 #[derive(Clone, Copy, PartialEq, Eq)]
-pub struct LinePart {
+pub struct LineReadiness {
     /// The lowest device by number whose thread is ready.
     pub thread: Option<DevNo>,
     /// The processor of the flow in progress.
@@ -42,7 +14,7 @@ pub struct LinePart {
     /// The processor that has a take due.
     pub taker: Option<CpuNo>,
     /// What stands in the way.
-    pub barriers: Barriers,
+    pub blocks: Blocks,
 }
 
 /// The call that a driver is at.
@@ -65,7 +37,7 @@ pub struct ReadyThread {
 
 /// An actor that can move.
 #[derive(Clone, Copy, PartialEq, Eq)]
-pub enum Mover {
+pub enum ReadyActor {
     /// The thread of a device.
     Thread(ReadyThread),
     /// A processor, 0 to 31.
@@ -74,34 +46,34 @@ pub enum Mover {
     Driver(usize),
 }
 
-impl LinePart {
-    /// The part of a line on which nobody waits and nothing stands in the way.
-    pub fn idle() -> LinePart
+impl LineReadiness {
+    /// The readiness of a line on which nobody waits and nothing stands in the way.
+    pub fn idle() -> LineReadiness
         ensures { result ≡ idle }
     {
-        LinePart {
+        LineReadiness {
             thread: None,
             flow: None,
             taker: None,
-            barriers: Barriers {
+            blocks: Blocks {
                 flow: false,
                 threads: false,
                 mutex: false,
-                device: false,
+                freed: false,
             },
         }
     }
 }
 
 /// Whether the two parts are the same in all that they say.
-#[tactic(auto, using(crate::proofs::Same::same_part))]
-pub(crate) fn is_same_part(first: LinePart, second: LinePart) -> bool
+#[tactic(auto, using(crate::proofs::Same::same_readiness))]
+pub(crate) fn is_same_readiness(first: LineReadiness, second: LineReadiness) -> bool
     ensures { IsTrue result → first ≡ second }
 {
     is_same_dev(first.thread, second.thread)
         && is_same_cpu(first.flow, second.flow)
         && is_same_cpu(first.taker, second.taker)
-        && is_same_barriers(first.barriers, second.barriers)
+        && is_same_blocks(first.blocks, second.blocks)
 }
 
 /// Whether the two threads are the same, line and device.
@@ -136,12 +108,12 @@ fn is_same_cpu(first: Option<CpuNo>, second: Option<CpuNo>) -> bool
     }
 }
 
-#[tactic(auto, using(crate::proofs::Same::same_barriers))]
-fn is_same_barriers(first: Barriers, second: Barriers) -> bool
+#[tactic(auto, using(crate::proofs::Same::same_blocks))]
+fn is_same_blocks(first: Blocks, second: Blocks) -> bool
     ensures { IsTrue result → first ≡ second }
 {
     first.flow == second.flow
         && first.threads == second.threads
         && first.mutex == second.mutex
-        && first.device == second.device
+        && first.freed == second.freed
 }

@@ -1,24 +1,25 @@
 //! The two lists, and the answers to a search over them.
-ghost use Rattle.std.specs.Prelude.{◌≡◌, ◌<◌, ◌≤◌, length, replicate, slice_get, slice_set, None, IfOk, IfSome};
-ghost use Rattle.board_ready.specs.Ready.{idle, lowest, lowest_thread_or_cpu, lowest_cpu, lowest_driver, cpu_line, can_go_on, is_ready, is_driver_ready, has_thread, is_barred, current_call};
+ghost use Rattle.std.specs.Prelude.{◌≡◌, ℕ, ◌<◌, ◌≤◌, ◌&&◌, nat_lt, if◌then◌else◌, length, replicate, slice_get, slice_set, None, IfOk, IfSome};
+ghost use Rattle.board_ready.specs.Ready.{idle, lowest, lowest_thread_or_cpu, lowest_cpu, lowest_driver, flow_line, cpu_line, has_take, can_go_on, is_ready, is_driver_ready, has_thread, is_barred, current_call};
+ghost use Rattle.board_ready.specs.Sets.{has};
 
 use crate::bits::{chosen, first_bit, with_bit};
 use crate::calls::CallSets;
 use crate::cpus::CpuLines;
-use crate::parts::{Barriers, CurrentCall, LinePart, Mover, ReadyThread, WaitFor, is_same_part};
+use crate::parts::{CurrentCall, LineReadiness, ReadyActor, ReadyThread, is_same_readiness};
 use crate::tree::ThreadTree;
-use irq_base::{CpuNo, NoMemory};
+use irq_base::{Blocks, CpuNo, NoMemory, WaitFor};
 use std::alloc::Global;
 use std::marker::Model;
 
 /// How many processors there are at most.
 const CPUS: u32 = 32;
 
-/// Who can move: a part for each line and the current call of each driver, at most 64 of either.
+/// Who can move: a readiness for each line and the current call of each driver, at most 64 of either.
 /// Contracts see the two lists.
 #[derive(Drop)]
 pub struct ReadyActors {
-    lines: Vec<LinePart>,
+    lines: Vec<LineReadiness>,
     drivers: Vec<Option<CurrentCall>>,
     threads: ThreadTree,
     flows: CpuLines,
@@ -48,7 +49,7 @@ impl ReadyActors {
         ensures lines { IfOk result (λ s. s.lines ≡ replicate lines idle) }
         ensures drivers { IfOk result (λ s. s.drivers ≡ replicate drivers None) }
     {
-        let lines = vec![in alloc; LinePart::idle(); lines]?;
+        let lines = vec![in alloc; LineReadiness::idle(); lines]?;
         let drivers = vec![in alloc; None; drivers]?;
         Ok(ReadyActors {
             lines,
@@ -61,36 +62,36 @@ impl ReadyActors {
         })
     }
 
-    /// Replaces the part of the line at place `line`. An equal part costs one comparison alone.
-    #[tactic(auto, using(crate::proofs::Same::part_stands))]
+    /// Replaces the readiness of the line at place `line`. An equal readiness costs one comparison alone.
+    #[tactic(auto, using(crate::proofs::Same::readiness_stands))]
     #[inline(always)]
-    pub fn set_line(&mut self, line: usize, part: LinePart)
+    pub fn set_line(&mut self, line: usize, readiness: LineReadiness)
         requires { line < length self.now.lines }
-        ensures { self.new ≡ record self.old { lines = slice_set self.old.lines line part } }
+        ensures { self.new ≡ record self.old { lines = slice_set self.old.lines line readiness } }
     {
-        if !is_same_part(self.lines[line], part) {
-            self.put_line(line, part);
+        if !is_same_readiness(self.lines[line], readiness) {
+            self.put_line(line, readiness);
         }
     }
 
-    /// Puts the part in the place of the line's, and the line into the sets where it belongs.
+    /// Puts the readiness in the place of the line's, and the line into the sets where it belongs.
     #[inline(always)]
-    fn put_line(&mut self, line: usize, part: LinePart)
+    fn put_line(&mut self, line: usize, readiness: LineReadiness)
         requires { line < length self.now.lines }
-        ensures { self.new ≡ record self.old { lines = slice_set self.old.lines line part } }
+        ensures { self.new ≡ record self.old { lines = slice_set self.old.lines line readiness } }
     {
         let old = self.lines[line];
-        self.threads.set(line, part.thread);
+        self.threads.set(line, readiness.thread);
         self.flows.put(old.flow, line, false);
-        self.flows.put(part.flow, line, true);
+        self.flows.put(readiness.flow, line, true);
         self.takes.put(old.taker, line, false);
-        self.takes.put(part.taker, line, true);
+        self.takes.put(readiness.taker, line, true);
         self.ready = chosen(
             self.ready,
             self.calls.on_line(line),
-            self.calls.open(part.barriers),
+            self.calls.open(readiness.blocks),
         );
-        self.lines[line] = part;
+        self.lines[line] = readiness;
     }
 
     /// Replaces the current call of the driver at place `driver`; none: its script is at its end.
@@ -105,8 +106,8 @@ impl ReadyActors {
         self.drivers[driver] = call;
     }
 
-    /// The part of the line at place `line`; none if there is no such line.
-    pub fn line(&self, line: usize) -> Option<LinePart>
+    /// The readiness of the line at place `line`; none if there is no such line.
+    pub fn line(&self, line: usize) -> Option<LineReadiness>
         ensures { result ≡ slice_get self.now.lines line }
     {
         self.lines.get(line).copied()
@@ -125,26 +126,26 @@ impl ReadyActors {
 
     /// The first that can move: threads by the numbers of their devices, then processors, then
     /// drivers.
-    pub fn lowest(&self) -> Option<Mover>
+    pub fn lowest(&self) -> Option<ReadyActor>
         ensures { result ≡ lowest self.now }
     {
         match self.lowest_thread_or_cpu() {
-            Some(mover) => Some(mover),
+            Some(actor) => Some(actor),
             None => match self.lowest_driver() {
-                Some(driver) => Some(Mover::Driver(driver)),
+                Some(driver) => Some(ReadyActor::Driver(driver)),
                 None => None,
             },
         }
     }
 
     /// The first thread or processor that can move.
-    pub fn lowest_thread_or_cpu(&self) -> Option<Mover>
+    pub fn lowest_thread_or_cpu(&self) -> Option<ReadyActor>
         ensures { result ≡ lowest_thread_or_cpu self.now.lines }
     {
         match self.threads.first() {
-            Some(thread) => Some(Mover::Thread(thread)),
+            Some(thread) => Some(ReadyActor::Thread(thread)),
             None => match self.lowest_cpu() {
-                Some(cpu) => Some(Mover::Cpu(CpuNo(cpu as u32))),
+                Some(cpu) => Some(ReadyActor::Cpu(CpuNo(cpu as u32))),
                 None => None,
             },
         }
@@ -167,13 +168,13 @@ impl ReadyActors {
 
     /// Whether the actor can move. Of a line's threads only the lowest ready one is known, so no
     /// other counts.
-    pub fn is_ready(&self, mover: Mover) -> bool
-        ensures { result ≡ is_ready self.now mover }
+    pub fn is_ready(&self, actor: ReadyActor) -> bool
+        ensures { result ≡ is_ready self.now actor }
     {
-        match mover {
-            Mover::Thread(thread) => self.is_thread_ready(thread),
-            Mover::Cpu(cpu) => self.cpu_line(cpu).is_some(),
-            Mover::Driver(driver) => self.is_driver_ready(driver),
+        match actor {
+            ReadyActor::Thread(thread) => self.is_thread_ready(thread),
+            ReadyActor::Cpu(cpu) => self.cpu_line(cpu).is_some(),
+            ReadyActor::Driver(driver) => self.is_driver_ready(driver),
         }
     }
 
@@ -182,7 +183,7 @@ impl ReadyActors {
         ensures { result ≡ has_thread thread.dev (slice_get self.now.lines thread.line) }
     {
         match self.lines.get(thread.line) {
-            Some(part) => part.thread == Some(thread.dev),
+            Some(readiness) => readiness.thread == Some(thread.dev),
             None => false,
         }
     }
@@ -192,6 +193,28 @@ impl ReadyActors {
         ensures { result ≡ is_driver_ready self.now driver }
     {
         driver < 64 && (self.ready >> driver) & 1 == 1
+    }
+
+    /// The lines on which a take of the processor is due, a bit for each. None for processors of 32
+    /// and above.
+    pub fn takes(&self, cpu: CpuNo) -> u64
+        ensures { (k : ℕ) → k < 64
+            → has result k ≡ (nat_lt cpu.0 32 && has_take cpu.0 (slice_get self.now.lines k)) }
+    {
+        if cpu.0 >= CPUS {
+            return 0;
+        }
+        self.takes.lines(cpu)
+    }
+
+    /// The first line on which the processor has its flow. None for processors of 32 and above.
+    pub fn flow_line(&self, cpu: CpuNo) -> Option<usize>
+        ensures { result ≡ (if nat_lt cpu.0 32 then flow_line self.now.lines cpu.0 else None) }
+    {
+        if cpu.0 >= CPUS {
+            return None;
+        }
+        self.flows.first(cpu)
     }
 
     /// The line on which a processor moves: the first on which it has its flow, else the first on
@@ -210,27 +233,27 @@ impl ReadyActors {
 }
 
 /// Whether the call can go on.
-fn can_go_on(lines: &[LinePart], call: Option<CurrentCall>) -> bool
+fn can_go_on(lines: &[LineReadiness], call: Option<CurrentCall>) -> bool
     ensures { result ≡ can_go_on lines.now call }
 {
     let Some(call) = call else {
         return false;
     };
     match lines.get(call.line) {
-        Some(part) => !is_barred(call.wait, part.barriers),
+        Some(readiness) => !is_barred(call.wait, readiness.blocks),
         None => false,
     }
 }
 
 /// Whether what is waited for stands in the way.
-fn is_barred(wait: WaitFor, barriers: Barriers) -> bool
-    ensures { result ≡ is_barred wait barriers }
+fn is_barred(wait: WaitFor, blocks: Blocks) -> bool
+    ensures { result ≡ is_barred wait blocks }
 {
     match wait {
         WaitFor::Nothing => false,
-        WaitFor::Flow => barriers.flow,
-        WaitFor::Threads => barriers.threads,
-        WaitFor::Mutex => barriers.mutex,
-        WaitFor::Device => barriers.device,
+        WaitFor::Flow => blocks.flow,
+        WaitFor::Threads => blocks.threads,
+        WaitFor::Mutex => blocks.mutex,
+        WaitFor::Freed => blocks.freed,
     }
 }

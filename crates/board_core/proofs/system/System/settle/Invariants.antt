@@ -1,6 +1,6 @@
 use Rattle.std.proofs.Common.{◌≡◌, List, []}
 use Rattle.irq_base.specs.declared.entries.Actor.{Actor}
-use Rattle.board_core.specs.Playing.{IsUnderway}
+use Rattle.board_core.specs.Playing.{IsUnderway, Settles}
 use Rattle.board_core.proofs.Underway.{room_of}
 use Rattle.board_core.proofs.system.System.settle.Given as goal
 
@@ -9,6 +9,7 @@ invariant-loop-line g l = record {
   board : l.self.board ≡ l.fn.self.board;
   layout : l.self.layout ≡ l.fn.self.layout;
   underway : (picks : List Actor) → IsUnderway l.fn.self picks [] → IsUnderway l.self picks [];
+  moves : Settles l.fn.self l.self;
 }
 
 abbrev pub decreases-loop-line : goal.decreases-loop-line

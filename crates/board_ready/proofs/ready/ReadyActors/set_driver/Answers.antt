@@ -5,7 +5,7 @@ use Rattle.board_ready.specs.Ready.{current_call, can_go_on}
 use Rattle.board_ready.specs.Seen.{ReadySeen}
 use Rattle.board_ready.specs.Sets.{has, on_line, word_for, is_on, is_waiting}
 use Rattle.board_ready.specs.declared.parts.CurrentCall.{CurrentCall}
-use Rattle.board_ready.specs.declared.parts.LinePart.{LinePart}
+use Rattle.board_ready.specs.declared.parts.LineReadiness.{LineReadiness}
 use Rattle.board_ready.proofs.Keeping.{drivers_set, ready_driver}
 use Rattle.board_ready.proofs.ready.ReadyActors.set_driver.Goals as goal
 
@@ -29,5 +29,5 @@ invariant_of-self c =
       waiting = λ w r small. drivers_set (is_waiting w) drivers d before c.args.call (has (word_for w c.self.inside.calls.waiting)) (has (word_for w c.put-2.new.self.waiting)) inside at_d (c.self.invariant.waiting w) (λ j less. c.put-2.ensures.waiting w j less
           ∙ ap (cond (is_waiting w c.args.call && eqb j d) true) (c.put.ensures.waiting w j less)) r small;
       ready = ready_driver c.self.inside.lines.items drivers d c.self.inside.ready c.with_bit-self-inside.result c.args.call inside c.self.invariant.ready (λ r small. c.with_bit-self-inside.ensures r small
-          ∙ ap (λ b. cond (eqb r d) b (has c.self.inside.ready r)) (c.can_go_on.ensures ∙ ap (λ (s : List LinePart). can_go_on s c.args.call) c.deref.ensures.value));
+          ∙ ap (λ b. cond (eqb r d) b (has c.self.inside.ready r)) (c.can_go_on.ensures ∙ ap (λ (s : List LineReadiness). can_go_on s c.args.call) c.deref.ensures.value));
     }
