@@ -5,6 +5,8 @@ use Rattle.std.proofs.lemmas.List.{set-get_or}
 use Rattle.irq_base.specs.declared.numbers.CpuNo.{CpuNo}
 use Rattle.irq_base.specs.declared.numbers.DevNo.{DevNo}
 use Rattle.irq_base.specs.declared.waiting.Blocks.{Blocks}
+use Rattle.irq_base.specs.declared.waiting.WaitFor.{WaitFor}
+use Rattle.board_ready.specs.declared.parts.CurrentCall.{CurrentCall}
 use Rattle.board_ready.specs.declared.parts.LineReadiness.{LineReadiness}
 use Rattle.board_ready.specs.declared.parts.ReadyThread.{ReadyThread}
 
@@ -18,6 +20,9 @@ same_readiness a b t f k x =
 pub same_thread : (a b : ReadyThread) → a.line ≡ b.line → a.dev ≡ b.dev → Some a ≡ Some b
 same_thread a b l d = ap (λ (z : ℕ). Some (record a { line = z })) l ∙ ap (λ (z : DevNo). Some (record b { dev = z })) d
 
+pub same_call : (a b : CurrentCall) → a.line ≡ b.line → a.wait ≡ b.wait → Some a ≡ Some b
+same_call a b l w = ap (λ (z : ℕ). Some (record a { line = z })) l ∙ ap (λ (z : WaitFor). Some (record b { wait = z })) w
+
 pub same_blocks : (a b : Blocks) → a.flow ≡ b.flow → a.threads ≡ b.threads → a.mutex ≡ b.mutex → a.freed ≡ b.freed → a ≡ b
 same_blocks a b f t m d =
     ap (λ (z : Bool). record a { flow = z }) f
@@ -27,3 +32,7 @@ same_blocks a b f t m d =
 -- the readiness is put in its own place
 pub readiness_stands : (lines : List LineReadiness) (k : ℕ) (was readiness : LineReadiness) → was ≡ get_or lines k was → was ≡ readiness → lines ≡ set lines k readiness
 readiness_stands lines k was readiness read same = sym (ap (set lines k) (sym same ∙ read) ∙ set-get_or lines k was)
+
+-- the call is put in its own place
+pub call_stands : (drivers : List (Option CurrentCall)) (j : ℕ) (was call : Option CurrentCall) → was ≡ get_or drivers j was → was ≡ call → drivers ≡ set drivers j call
+call_stands drivers j was call read same = sym (ap (set drivers j) (sym same ∙ read) ∙ set-get_or drivers j was)

@@ -76,6 +76,19 @@ pub(crate) fn is_same_readiness(first: LineReadiness, second: LineReadiness) -> 
         && is_same_blocks(first.blocks, second.blocks)
 }
 
+/// Whether the two calls are the same, line and what is waited for.
+#[tactic(auto, using(crate::proofs::Same::same_call))]
+#[inline(always)]
+pub(crate) fn is_same_call(first: Option<CurrentCall>, second: Option<CurrentCall>) -> bool
+    ensures { IsTrue result → first ≡ second }
+{
+    match (first, second) {
+        (None, None) => true,
+        (Some(first), Some(second)) => first.line == second.line && first.wait == second.wait,
+        _ => false,
+    }
+}
+
 /// Whether the two threads are the same, line and device.
 #[tactic(auto, using(crate::proofs::Same::same_thread))]
 pub(crate) fn is_same_thread(first: Option<ReadyThread>, second: Option<ReadyThread>) -> bool

@@ -6,7 +6,9 @@ ghost use Rattle.board_ready.specs.Sets.{has};
 use crate::bits::{chosen, first_bit, with_bit};
 use crate::calls::CallSets;
 use crate::cpus::CpuLines;
-use crate::parts::{CurrentCall, LineReadiness, ReadyActor, ReadyThread, is_same_readiness};
+use crate::parts::{
+    CurrentCall, LineReadiness, ReadyActor, ReadyThread, is_same_call, is_same_readiness,
+};
 use crate::tree::ThreadTree;
 use irq_base::{Blocks, CpuNo, NoMemory, WaitFor};
 use std::alloc::Global;
@@ -95,7 +97,20 @@ impl ReadyActors {
     }
 
     /// Replaces the current call of the driver at place `driver`; none: its script is at its end.
+    /// If it is the same, nothing else is looked at.
+    #[tactic(auto, using(crate::proofs::Same::call_stands))]
+    #[inline(always)]
     pub fn set_driver(&mut self, driver: usize, call: Option<CurrentCall>)
+        requires { driver < length self.now.drivers }
+        ensures { self.new ≡ record self.old { drivers = slice_set self.old.drivers driver call } }
+    {
+        if !is_same_call(self.drivers[driver], call) {
+            self.put_driver(driver, call);
+        }
+    }
+
+    /// Puts the call in the place of the driver's, and the driver into the sets where it belongs.
+    fn put_driver(&mut self, driver: usize, call: Option<CurrentCall>)
         requires { driver < length self.now.drivers }
         ensures { self.new ≡ record self.old { drivers = slice_set self.old.drivers driver call } }
     {

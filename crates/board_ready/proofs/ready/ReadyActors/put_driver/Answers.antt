@@ -7,7 +7,7 @@ use Rattle.board_ready.specs.Sets.{has, on_line, word_for, is_on, is_waiting}
 use Rattle.board_ready.specs.declared.parts.CurrentCall.{CurrentCall}
 use Rattle.board_ready.specs.declared.parts.LineReadiness.{LineReadiness}
 use Rattle.board_ready.proofs.Keeping.{drivers_set, ready_driver}
-use Rattle.board_ready.proofs.ready.ReadyActors.set_driver.Goals as goal
+use Rattle.board_ready.proofs.ready.ReadyActors.put_driver.Goals as goal
 
 pub invariant_of-self : goal.invariant_of-self
 invariant_of-self c =
