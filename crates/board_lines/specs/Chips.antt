@@ -1,6 +1,8 @@
 -- Which lines a hierarchy has chips for.
-use Rattle.std.specs.Prelude.{◌≡◌, ℕ, IsSomeAnd, Some, List, slice_get}
+use Rattle.std.specs.Prelude.{◌≡◌, ℕ, IsSomeAnd, Option, Some, List, slice_get}
+use Rattle.std.specs.Option.{option_map}
 use Rattle.irq_base.specs.Cell.{Cell, fresh_cell}
+use Rattle.irq_base.specs.Wiring.{Wiring}
 use Rattle.irq_base.specs.declared.lines.LineDef.{LineDef}
 use Rattle.irq_model.specs.Lines.{serves}
 use Rattle.irq_model.specs.Valid.{IsValid}
@@ -8,7 +10,8 @@ use Rattle.board_def.specs.Layout.{layout_of}
 use Rattle.board_def.specs.LineOf.{line_of_row}
 use Rattle.board_def.specs.Seen.{BoardSeen}
 use Rattle.board_def.specs.declared.rows.LineRow.{LineRow}
-use Rattle.domain_hier.specs.Hierarchies.{HierarchySeen}
+use Rattle.domain_chain.specs.Chains.{wiring_of}
+use Rattle.domain_hier.specs.Hierarchies.{HierarchySeen, chain_of}
 use Rattle.domain_hier.specs.PathsInUse.{path_in}
 use Rattle.domain_rules.specs.Levels.{cell_of}
 use Rattle.domain_rules.specs.Paths.{kinds_on}
@@ -31,3 +34,8 @@ HasAllChips h board =
     (i virq : ℕ) (path : List (ℕ × ℕ)) (row : LineRow) → slice_get board.lines i ≡ Some row
     → slice_get (layout_of board) i ≡ Some (placements.Mapped virq path)
     → HasChips h virq (line_of_row board row)
+
+-- how the chip of the virq's path is wired: its levels, and the number at its root if a level of it
+-- sends messages
+abbrev pub wiring_at : HierarchySeen → ℕ → Option Wiring
+wiring_at h virq = option_map (λ path. wiring_of (chain_of h.domains path)) (path_in h.paths virq)

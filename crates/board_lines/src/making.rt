@@ -1,9 +1,9 @@
 //! What makes lines over chains.
-ghost use Rattle.std.specs.Prelude.{◌≡◌};
+ghost use Rattle.std.specs.Prelude.{◌≡◌, IfOk, Some, []};
 ghost use Rattle.board_def.specs.Layout.{layout_of};
 ghost use Rattle.board_def.specs.Unnamed.{defs_of};
 ghost use Rattle.board_layout.specs.Laid.{paths_of};
-ghost use Rattle.board_lines.specs.Chips.{HasAllChips, HasChips};
+ghost use Rattle.board_lines.specs.Chips.{HasAllChips, HasChips, wiring_at};
 
 use board_def::Board;
 use domain_chain::Chain;
@@ -53,7 +53,11 @@ impl<'h> MakesChainLine<'h> {
 impl<'h> MakesLine<Line<Chain>> for MakesChainLine<'h> {
     ghost makes = { λ maker virq def. HasChips maker virq def };
 
-    fn make(&self, alloc: Global, virq: u32, def: &LineDef) -> Result<Line<Chain>, NoMemory> {
+    fn make(&self, alloc: Global, virq: u32, def: &LineDef) -> Result<Line<Chain>, NoMemory>
+        ensures def { IfOk result (λ line. line.line.def ≡ def.now) }
+        ensures empty { IfOk result (λ line. line.line.entries ≡ []) }
+        ensures wiring { IfOk result (λ line. Some line.wiring ≡ wiring_at self.now virq) }
+    {
         Line::new(alloc, def, self.domains.chain(virq))
     }
 }
