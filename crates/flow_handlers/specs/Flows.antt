@@ -6,7 +6,7 @@ use Rattle.irq_base.specs.declared.entries.TakeAnswer.TheVariants as takes
 use Rattle.irq_base.specs.declared.lines.Trigger.{Trigger}
 use Rattle.irq_base.specs.declared.numbers.CpuNo.{CpuNo}
 use Rattle.desc_state.specs.Desc.{DescSeen, is_disabled}
-use Rattle.flow_handlers.specs.declared.left.Left.{Left}
+use Rattle.flow_handlers.specs.declared.leave_answer.LeaveAnswer.{LeaveAnswer}
 
 -- ---- all flows
 
@@ -48,7 +48,7 @@ abbrev pub level_cell : Cell → Cell
 level_cell c = after_ack (after_mask c)
 
 -- the end opens the line if it may
-abbrev pub level_left : Bool → DescSeen → Left
+abbrev pub level_left : Bool → DescSeen → LeaveAnswer
 level_left held d = record { again = false; unmask = may_open held d }
 
 abbrev pub level_ended : Bool → DescSeen → DescSeen
@@ -68,7 +68,7 @@ edge_cell takes.Busy c = after_mask (after_ack c)
 edge_cell takes.Off c = after_mask (after_ack c)
 
 -- the end goes on with what is pending, and then opens the line, whatever threads hold it
-abbrev pub edge_left : DescSeen → Left
+abbrev pub edge_left : DescSeen → LeaveAnswer
 edge_left d = record { again = goes_on d; unmask = goes_on d && d.masked }
 
 abbrev pub edge_ended : DescSeen → DescSeen
@@ -101,17 +101,17 @@ eoi_cell trigger oneshot answer c =
 
 -- the end has an edge line's chip send again what is pending, and opens a one-shot level line if it
 -- may
-abbrev pub eoi_left : Trigger → Bool → DescSeen → Left
+abbrev pub eoi_left : Trigger → Bool → DescSeen → LeaveAnswer
 eoi_left trigger held d =
     if is_edge_trigger trigger then record { again = goes_on d; unmask = false }
     else record { again = false; unmask = d.oneshot && may_open held d }
 
-abbrev pub eoi_ended : Left → DescSeen → DescSeen
+abbrev pub eoi_ended : LeaveAnswer → DescSeen → DescSeen
 eoi_ended left d = record d {
   masked = d.masked && not left.unmask;
   pending = d.pending && not left.again;
   flow = None;
 }
 
-abbrev pub eoi_ended_cell : Left → Cell → Cell
+abbrev pub eoi_ended_cell : LeaveAnswer → Cell → Cell
 eoi_ended_cell left c = retriggered_if left.again (unmasked_if left.unmask (after_eoi c))

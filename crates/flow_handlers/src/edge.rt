@@ -2,7 +2,7 @@
 ghost use Rattle.std.specs.Prelude.{◌≡◌};
 ghost use Rattle.flow_handlers.specs.Flows.{answer_by, edge_desc, edge_cell, edge_left, edge_ended, unmasked_if};
 
-use crate::left::Left;
+use crate::leave_answer::LeaveAnswer;
 use desc_state::Desc;
 use irq_base::{Chip, CpuNo, TakeAnswer};
 
@@ -42,7 +42,7 @@ pub fn enter<C: Chip>(desc: &mut Desc, chip: &mut C, cpu: CpuNo, linked: bool) -
 /// If an interrupt is pending and the line isn't disabled by now, the same flow goes on with a new
 /// round, and the mask opens if it is closed. Else the flow is over, and the mask stays. On this
 /// flow it doesn't matter whether threads hold the line.
-pub fn leave<C: Chip>(desc: &mut Desc, chip: &mut C, _held: bool) -> Left
+pub fn leave<C: Chip>(desc: &mut Desc, chip: &mut C, _held: bool) -> LeaveAnswer
     ensures left { result ≡ edge_left desc.old }
     ensures desc { desc.new ≡ edge_ended desc.old }
     ensures cell { C.cell chip.new ≡ unmasked_if result.unmask (C.cell chip.old) }
@@ -52,7 +52,7 @@ pub fn leave<C: Chip>(desc: &mut Desc, chip: &mut C, _held: bool) -> Left
 {
     if !desc.pending() || desc.disabled() {
         desc.set_flow(None);
-        return Left {
+        return LeaveAnswer {
             again: false,
             unmask: false,
         };
@@ -62,7 +62,7 @@ pub fn leave<C: Chip>(desc: &mut Desc, chip: &mut C, _held: bool) -> Left
     if unmask {
         desc.unmask(chip);
     }
-    Left {
+    LeaveAnswer {
         again: true,
         unmask,
     }

@@ -5,7 +5,7 @@ ghost use Rattle.irq_base.specs.declared.entries.TakeAnswer.TheVariants as takes
 ghost use Rattle.irq_base.specs.declared.lines.Trigger.TheVariants as triggers;
 ghost use Rattle.flow_handlers.specs.Flows.{answer_by, eoi_desc, eoi_cell, eoi_edge_cell, eoi_level_cell, eoi_left, eoi_ended, eoi_ended_cell, goes_on, may_open, unmasked_if, retriggered_if};
 
-use crate::left::Left;
+use crate::leave_answer::LeaveAnswer;
 use desc_state::Desc;
 use irq_base::{Chip, CpuNo, TakeAnswer, Trigger};
 
@@ -103,7 +103,7 @@ fn turn_off<C: Chip>(desc: &mut Desc, chip: &mut C) -> TakeAnswer
 /// now, or `held`: some one-shot thread hasn't finished (`cond_unmask_eoi_irq`). On an edge line,
 /// if an interrupt is pending and the line isn't disabled by now, the chip is made to send it again
 /// (ours); so at depth 0 such a line must come in open.
-pub fn leave<C: Chip>(desc: &mut Desc, chip: &mut C, held: bool, trigger: Trigger) -> Left
+pub fn leave<C: Chip>(desc: &mut Desc, chip: &mut C, held: bool, trigger: Trigger) -> LeaveAnswer
     requires open { is_edge_trigger trigger ≡ true → desc.old.depth ≡ 0 → (C.cell chip.old).masked ≡ false }
     ensures left { result ≡ eoi_left trigger held desc.old }
     ensures desc { desc.new ≡ eoi_ended result desc.old }
@@ -121,7 +121,7 @@ pub fn leave<C: Chip>(desc: &mut Desc, chip: &mut C, held: bool, trigger: Trigge
 }
 
 /// The chip sends the pending interrupt again.
-fn send_again<C: Chip>(desc: &mut Desc, chip: &mut C) -> Left
+fn send_again<C: Chip>(desc: &mut Desc, chip: &mut C) -> LeaveAnswer
     requires open { desc.old.depth ≡ 0 → (C.cell chip.old).masked ≡ false }
     ensures left { result ≡ record { again = goes_on desc.old; unmask = false } }
     ensures desc { desc.new ≡ record desc.old { pending = desc.old.pending && not result.again } }
@@ -135,14 +135,14 @@ fn send_again<C: Chip>(desc: &mut Desc, chip: &mut C) -> Left
         desc.set_pending(false);
         chip.retrigger();
     }
-    Left {
+    LeaveAnswer {
         again,
         unmask: false,
     }
 }
 
 /// A one-shot line opens if nothing holds it.
-fn open_again<C: Chip>(desc: &mut Desc, chip: &mut C, held: bool) -> Left
+fn open_again<C: Chip>(desc: &mut Desc, chip: &mut C, held: bool) -> LeaveAnswer
     ensures left { result ≡ record { again = false; unmask = desc.old.oneshot && may_open held desc.old } }
     ensures desc { desc.new ≡ record desc.old { masked = desc.old.masked && not result.unmask } }
     ensures cell { C.cell chip.new ≡ unmasked_if result.unmask (C.cell chip.old) }
@@ -154,7 +154,7 @@ fn open_again<C: Chip>(desc: &mut Desc, chip: &mut C, held: bool) -> Left
     if unmask {
         desc.unmask(chip);
     }
-    Left {
+    LeaveAnswer {
         again: false,
         unmask,
     }

@@ -2,7 +2,7 @@
 ghost use Rattle.std.specs.Prelude.{◌≡◌};
 ghost use Rattle.flow_handlers.specs.Flows.{answer_by, level_desc, level_cell, level_left, level_ended, unmasked_if};
 
-use crate::left::Left;
+use crate::leave_answer::LeaveAnswer;
 use desc_state::Desc;
 use irq_base::{Chip, CpuNo, TakeAnswer};
 
@@ -38,7 +38,7 @@ pub fn enter<C: Chip>(desc: &mut Desc, chip: &mut C, cpu: CpuNo, linked: bool) -
 /// Ends the flow, after the note on spurious interrupts, and after the kill that it may have made.
 /// The mask opens unless the line is disabled by now, or `held`: some one-shot thread hasn't
 /// finished (`threads_oneshot`; see `cond_unmask_irq`).
-pub fn leave<C: Chip>(desc: &mut Desc, chip: &mut C, held: bool) -> Left
+pub fn leave<C: Chip>(desc: &mut Desc, chip: &mut C, held: bool) -> LeaveAnswer
     ensures left { result ≡ level_left held desc.old }
     ensures desc { desc.new ≡ level_ended held desc.old }
     ensures cell { C.cell chip.new ≡ unmasked_if result.unmask (C.cell chip.old) }
@@ -51,7 +51,7 @@ pub fn leave<C: Chip>(desc: &mut Desc, chip: &mut C, held: bool) -> Left
     if unmask {
         desc.unmask(chip);
     }
-    Left {
+    LeaveAnswer {
         again: false,
         unmask,
     }

@@ -10,7 +10,7 @@
 
 pub mod edge;
 pub mod fasteoi;
-pub mod left;
+pub mod leave_answer;
 pub mod level;
 
-pub use left::Left;
+pub use leave_answer::LeaveAnswer;

@@ -13,7 +13,7 @@ use Rattle.irq_base.specs.declared.numbers.CpuNo.{CpuNo}
 use Rattle.irq_model.specs.Lines.{is_eoi_flow}
 use Rattle.desc_state.specs.Desc.{DescSeen, masked_if}
 use Rattle.flow_handlers.specs.Flows.{level_left, level_ended, edge_left, edge_ended, eoi_left, eoi_ended, eoi_ended_cell, unmasked_if, may_open, goes_on}
-use Rattle.flow_handlers.specs.declared.left.Left.{Left}
+use Rattle.flow_handlers.specs.declared.leave_answer.LeaveAnswer.{LeaveAnswer}
 use Rattle.act_list.specs.Actions.{is_bare}
 use Rattle.line_marks.specs.Acts.{noted_at, killed_if, killed_by, left_by, left_at, gone_on}
 use Rattle.line_marks.specs.CpuDue.{is_held, note_by, end_with}
@@ -134,7 +134,7 @@ module _ (def : LineDef) (c : CpuNo) (first held : Bool) (d : DescSeen) where
   cell_is flows.Eoi note k is = eoi_cell_is note k (is_edge_trigger def.trigger) refl is
 
 module _ (def : LineDef) (c : CpuNo) (s : StateSeen) where
-  abbrev left : FlowKind → Note → Left
+  abbrev left : FlowKind → Note → LeaveAnswer
   left f note = left_by def f (is_held s) (killed_if note s.desc)
 
   -- the state with this descriptor and this cell, after the note, and in the next round when the

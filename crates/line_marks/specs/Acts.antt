@@ -22,7 +22,7 @@ use Rattle.affinity.specs.Seen.{after_move}
 use Rattle.spurious.specs.Seen.{after_note, after_reset}
 use Rattle.desc_state.specs.Desc.{DescSeen, killed, shut_down, started_up, cell_started, masked_if}
 use Rattle.flow_handlers.specs.Flows.{level_desc, level_cell, level_left, level_ended, edge_desc, edge_cell, edge_left, edge_ended, eoi_desc, eoi_cell, eoi_left, eoi_ended, eoi_ended_cell, unmasked_if}
-use Rattle.flow_handlers.specs.declared.left.Left.{Left}
+use Rattle.flow_handlers.specs.declared.leave_answer.LeaveAnswer.{LeaveAnswer}
 use Rattle.line_marks.specs.Aim.{aimed_by}
 use Rattle.line_marks.specs.State.{StateSeen, high_in}
 
@@ -80,7 +80,7 @@ killed_by _ s = s
 
 -- the flow handler's end: what it does, and what it makes of the descriptor and of the cell.
 -- `held`: some thread's bit stands
-abbrev pub left_by : LineDef → FlowKind → Bool → DescSeen → Left
+abbrev pub left_by : LineDef → FlowKind → Bool → DescSeen → LeaveAnswer
 left_by def flows.Level held d = level_left held d
 left_by def flows.Edge held d = edge_left d
 left_by def flows.Eoi held d = eoi_left def.trigger held d

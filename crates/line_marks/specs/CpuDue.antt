@@ -21,7 +21,7 @@ use Rattle.act_thread.specs.Threads.{held_in}
 use Rattle.ask_counts.specs.declared.rows.AskRow.{AskRow}
 use Rattle.spurious.specs.Seen.{noted_at}
 use Rattle.flow_handlers.specs.Flows.{answer_by}
-use Rattle.flow_handlers.specs.declared.left.Left.{Left}
+use Rattle.flow_handlers.specs.declared.leave_answer.LeaveAnswer.{LeaveAnswer}
 use Rattle.line_marks.specs.Acts.{killed_if, left_by}
 use Rattle.line_marks.specs.Kinds.{kind_at}
 use Rattle.line_marks.specs.State.{StateSeen}
@@ -43,7 +43,7 @@ abbrev pub note_by : StateSeen → Note
 note_by s = (noted_at s.round.moment s.round.wakes s.round.handles s.counts).note
 
 -- the end of the round, by what the flow handler leaves after the note
-abbrev pub end_with : CpuNo → Note → Left → Entry
+abbrev pub end_with : CpuNo → Note → LeaveAnswer → Entry
 end_with c note left = entries.End c left.again left.unmask note
 
 abbrev pub end_by : LineDef → StateSeen → CpuNo → Entry

@@ -6,7 +6,7 @@ use Rattle.irq_base.specs.declared.entries.Note.TheVariants as notes
 use Rattle.irq_base.specs.declared.lines.FlowKind.TheVariants as flows
 use Rattle.irq_base.specs.declared.lines.LineDef.{LineDef}
 use Rattle.irq_base.specs.declared.numbers.CpuNo.{CpuNo}
-use Rattle.flow_handlers.specs.declared.left.Left.{Left}
+use Rattle.flow_handlers.specs.declared.leave_answer.LeaveAnswer.{LeaveAnswer}
 use Rattle.line_marks.specs.Acts.{noted_at, killed_by, killed_if, left_by, left_at, gone_on, round_begun}
 use Rattle.line_marks.specs.CpuDue.{is_held, note_by, end_by, end_with}
 use Rattle.line_marks.specs.State.{StateSeen, state_after}
@@ -23,7 +23,7 @@ killed_held notes.Quiet s = refl
 killed_held notes.Counted s = refl
 
 -- the note, the kill and the flow handler's end, each of the state before it
-module _ (def : LineDef) (s noted killed last : StateSeen) (note : Note) (left : Left) (c : CpuNo)
+module _ (def : LineDef) (s noted killed last : StateSeen) (note : Note) (left : LeaveAnswer) (c : CpuNo)
     (by_note : note ≡ note_by s) (by_noted : noted ≡ noted_at s) (by_killed : killed ≡ killed_by note noted)
     (by_left : left ≡ left_by def def.flow (is_held killed) killed.desc) (by_last : last ≡ gone_on def left.again (left_at def def.flow (is_held killed) killed)) where
   kills : killed ≡ killed_by (note_by s) (noted_at s)
@@ -34,7 +34,7 @@ module _ (def : LineDef) (s noted killed last : StateSeen) (note : Note) (left :
 
   -- the entry is the one that is due
   pub entry_joined : entries.End c left.again left.unmask note ≡ end_by def s c
-  entry_joined = ap (λ (n : Note). end_with c n left) by_note ∙ ap (λ (l : Left). end_with c (note_by s) l) leaves
+  entry_joined = ap (λ (n : Note). end_with c n left) by_note ∙ ap (λ (l : LeaveAnswer). end_with c (note_by s) l) leaves
 
   pub end_joined : last ≡ state_after def (entries.End c left.again left.unmask note) s
   end_joined =

@@ -13,7 +13,7 @@ ghost use Rattle.line_marks.specs.Expected.{HasRounds, HasDepth, IsOpen};
 ghost use Rattle.line_marks.specs.State.{state_after};
 
 use crate::state::LineState;
-use flow_handlers::{Left, edge, fasteoi, level};
+use flow_handlers::{LeaveAnswer, edge, fasteoi, level};
 use irq_base::{Chip, CpuNo, Entry, FlowKind, LineDef, Note, TakeAnswer, Way};
 
 impl<C: Chip> LineState<C> {
@@ -155,7 +155,7 @@ impl<C: Chip> LineState<C> {
 
     /// The flow handler after its last handler. On the edge flow what came meanwhile is handled in
     /// a new round; on the fast-EOI flow the flow is over.
-    fn leave(&mut self, def: &LineDef) -> Left
+    fn leave(&mut self, def: &LineDef) -> LeaveAnswer
         requires rounds { HasRounds self.old.state }
         requires open { IsOpen def.now self.old.state }
         ensures left { result
@@ -172,7 +172,7 @@ impl<C: Chip> LineState<C> {
     }
 
     /// The same on the edge flow.
-    fn leave_edge(&mut self, held: bool) -> Left
+    fn leave_edge(&mut self, held: bool) -> LeaveAnswer
         requires { HasRounds self.old.state }
         ensures left { result ≡ edge_left self.old.state.desc }
         ensures state { (def : LineDef) → self.new.state
