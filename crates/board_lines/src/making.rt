@@ -54,6 +54,7 @@ impl<'h> MakesLine<Line<Chain>> for MakesChainLine<'h> {
     ghost makes = { λ maker virq def. HasChips maker virq def };
 
     fn make(&self, alloc: Global, virq: u32, def: &LineDef) -> Result<Line<Chain>, NoMemory>
+        requires { HasChips self.now virq def.now }
         ensures def { IfOk result (λ line. line.line.def ≡ def.now) }
         ensures empty { IfOk result (λ line. line.line.entries ≡ []) }
         ensures wiring { IfOk result (λ line. Some line.wiring ≡ wiring_at self.now virq) }
