@@ -1,0 +1,14 @@
+//! A notifier that tells nobody.
+use crate::notifier::Notifier;
+use irq_base::{CpuNo, LineNo};
+
+/// Each processor serves the queue of its number, from queue 0 again where there are fewer: what a
+/// program takes that has no drivers of its own.
+#[derive(Clone, Copy)]
+pub struct ByProcessor;
+
+impl Notifier for ByProcessor {
+    fn queue(&self, _line: LineNo, cpu: CpuNo, queues: u32) -> u32 {
+        cpu.0 % queues
+    }
+}
