@@ -1,0 +1,9 @@
+pub mod Actions
+pub mod Counting
+pub mod AsksAfter
+pub mod CanonDue
+pub mod CanonAfter
+pub mod CanonSteps
+pub mod MadeIs
+pub mod Placed
+pub mod Futures

@@ -1,0 +1,4 @@
+pub mod Canon
+pub mod Made
+pub mod Places
+pub mod Futures
