@@ -1,0 +1,13 @@
+pub mod LineLaws
+pub mod OfRows
+pub mod Laid
+pub mod Kept
+pub mod Resting
+pub mod FullAt
+pub mod Ample
+pub mod Printable
+pub mod Reported
+pub mod Handed
+pub mod Filling
+pub mod Summing
+pub mod Writing

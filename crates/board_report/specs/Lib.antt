@@ -1,0 +1,6 @@
+pub mod Headline
+pub mod Reporting
+pub mod Moving
+pub mod Rows
+pub mod Summable
+pub mod Totals
