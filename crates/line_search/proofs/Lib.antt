@@ -1,0 +1,4 @@
+pub mod Told
+pub mod Nodes
+pub mod Searching
+pub mod FirstRows

@@ -1,0 +1,136 @@
+-- Two lists of words that are equal are words of equal parts.
+use Rattle.std.proofs.Common.{◌≡◌, ℕ, ◌+◌, Bool, true, false, Option, Some, None, List, [], ◌∷◌, refl, ap, ◌∙◌, arith}
+use Rattle.irq_base.specs.declared.calls.Flags.{Flags}
+use Rattle.irq_base.specs.declared.numbers.CpuNo.{CpuNo}
+use Rattle.irq_base.specs.declared.numbers.DevNo.{DevNo}
+use Rattle.irq_base.specs.declared.numbers.DriverNo.{DriverNo}
+use Rattle.device_table.specs.Sums.{one_if}
+use Rattle.act_thread.specs.declared.rows.Stage.{Stage}
+use Rattle.act_thread.specs.declared.rows.Stage.TheVariants as stages
+use Rattle.act_thread.specs.declared.rows.ThreadRow.{ThreadRow}
+use Rattle.ask_counts.specs.declared.rows.AskRow.{AskRow}
+use Rattle.line_search.specs.Words.{cpu_word, dev_word, mask_word, stage_word, freeing_words, begun_words, thread_words, ask_words, table_words, linked_words}
+
+pub one_told : (a b : Bool) → one_if a ≡ one_if b → a ≡ b
+one_told true true h = refl
+one_told true false h = absurd (omega (arith, h))
+one_told false true h = absurd (omega (arith, h))
+one_told false false h = refl
+
+pub cpu_told : (a b : Option CpuNo) → cpu_word a ≡ cpu_word b → a ≡ b
+cpu_told None None h = refl
+cpu_told None (Some d) h = absurd (omega (arith, h))
+cpu_told (Some c) None h = absurd (omega (arith, h))
+cpu_told (Some c) (Some d) h = let e : c.0 ≡ d.0 = omega (arith, h) in ap (λ n. Some (record { 0 = n })) e
+
+pub dev_told : (a b : Option DevNo) → dev_word a ≡ dev_word b → a ≡ b
+dev_told None None h = refl
+dev_told None (Some d) h = absurd (omega (arith, h))
+dev_told (Some c) None h = absurd (omega (arith, h))
+dev_told (Some c) (Some d) h = let e : c.0 ≡ d.0 = omega (arith, h) in ap (λ n. Some (record { 0 = n })) e
+
+pub mask_told : (a b : Option ℕ) → mask_word a ≡ mask_word b → a ≡ b
+mask_told None None h = refl
+mask_told None (Some d) h = absurd (omega (arith, h))
+mask_told (Some c) None h = absurd (omega (arith, h))
+mask_told (Some c) (Some d) h = let e : c ≡ d = omega (arith, h) in ap Some e
+
+stage_told : (a b : Stage) → stage_word a ≡ stage_word b → a ≡ b
+stage_told stages.Idle stages.Idle h = refl
+stage_told stages.Begun stages.Begun h = refl
+stage_told stages.Returned stages.Returned h = refl
+stage_told stages.Finished stages.Finished h = refl
+stage_told stages.Idle stages.Begun h = absurd (omega (arith, h))
+stage_told stages.Idle stages.Returned h = absurd (omega (arith, h))
+stage_told stages.Idle stages.Finished h = absurd (omega (arith, h))
+stage_told stages.Begun stages.Idle h = absurd (omega (arith, h))
+stage_told stages.Begun stages.Returned h = absurd (omega (arith, h))
+stage_told stages.Begun stages.Finished h = absurd (omega (arith, h))
+stage_told stages.Returned stages.Idle h = absurd (omega (arith, h))
+stage_told stages.Returned stages.Begun h = absurd (omega (arith, h))
+stage_told stages.Returned stages.Finished h = absurd (omega (arith, h))
+stage_told stages.Finished stages.Idle h = absurd (omega (arith, h))
+stage_told stages.Finished stages.Begun h = absurd (omega (arith, h))
+stage_told stages.Finished stages.Returned h = absurd (omega (arith, h))
+
+-- what stands before the rest is told, and so is the rest
+abbrev pub Tells : {R : Type 0} → (R → List ℕ → List ℕ) → Type 0
+Tells {R} words = (r q : R) (a b : List ℕ) → words r a ≡ words q b → (r ≡ q) × (a ≡ b)
+
+pub freeing_told : Tells freeing_words
+freeing_told None None a b h = (refl, (let e : a ≡ b = cc in e))
+freeing_told None (Some (r, d)) a b h = let e : 0 ≡ r.0 + 1 = cc in absurd (omega (arith, e))
+freeing_told (Some (r, d)) None a b h = let e : r.0 + 1 ≡ 0 = cc in absurd (omega (arith, e))
+freeing_told (Some (r, d)) (Some (s, f)) a b h =
+    let p : r.0 + 1 ≡ s.0 + 1 = cc in
+    let q : d.0 + 1 ≡ f.0 + 1 = cc in
+    let i : r.0 ≡ s.0 = omega (arith, p) in
+    let j : d.0 ≡ f.0 = omega (arith, q) in
+    let dev : ℕ → DevNo = λ n. record { 0 = n } in
+    let driver : ℕ → DriverNo = λ n. record { 0 = n } in
+    (ap (λ n. Some (driver n, d)) i ∙ ap (λ n. Some (s, dev n)) j, (let e : a ≡ b = cc in e))
+
+pub begun_told : Tells begun_words
+begun_told r q a b h = (one_told r q (let e : one_if r ≡ one_if q = cc in e), (let e : a ≡ b = cc in e))
+
+thread_by : (r q : ThreadRow) → r.woken ≡ q.woken → r.stage ≡ q.stage → r.held ≡ q.held → r ≡ q
+thread_by r q a b c = (let e : ◌≡◌ {A = ThreadRow} (record { woken = r.woken; stage = r.stage; held = r.held }) q = rw (a, b, c) refl in e)
+
+pub thread_told : Tells thread_words
+thread_told r q a b h =
+    let w : one_if r.woken ≡ one_if q.woken = cc in
+    let s : stage_word r.stage ≡ stage_word q.stage = cc in
+    let d : one_if r.held ≡ one_if q.held = cc in
+    (thread_by r q (one_told r.woken q.woken w) (stage_told r.stage q.stage s) (one_told r.held q.held d), (let e : a ≡ b = cc in e))
+
+ask_by : (r q : AskRow) → r.unserved ≡ q.unserved → r.fresh ≡ q.fresh → r.met_by_handler ≡ q.met_by_handler → r.met_by_thread ≡ q.met_by_thread → r ≡ q
+ask_by r q a b c d = (let e : ◌≡◌ {A = AskRow} (record { unserved = r.unserved; fresh = r.fresh; met_by_handler = r.met_by_handler; met_by_thread = r.met_by_thread }) q = rw (a, b, c, d) refl in e)
+
+pub ask_told : Tells ask_words
+ask_told r q a b h =
+    let u : r.unserved ≡ q.unserved = cc in
+    let f : r.fresh ≡ q.fresh = cc in
+    let m : r.met_by_handler ≡ q.met_by_handler = cc in
+    let t : r.met_by_thread ≡ q.met_by_thread = cc in
+    (ask_by r q u f m t, (let e : a ≡ b = cc in e))
+
+-- ---- tables of the same devices
+
+module _ {R : Type 0} where
+  abbrev pub keys_of : List (DevNo × R) → List DevNo
+  keys_of [] = []
+  keys_of (e ∷ es) = e.0 ∷ keys_of es
+
+  row_by : (e f : DevNo × R) → e.0 ≡ f.0 → e.1 ≡ f.1 → e ≡ f
+  row_by e f p q = ap (λ (x : DevNo). (x, e.1)) p ∙ ap (λ (x : R). (f.0, x)) q
+
+  pub table_told : (words : R → List ℕ → List ℕ) → Tells words → (t u : List (DevNo × R)) (a b : List ℕ) → keys_of t ≡ keys_of u → table_words words t a ≡ table_words words u b → (t ≡ u) × (a ≡ b)
+  table_told words tells [] [] a b k h = (refl, h)
+  table_told words tells [] (f ∷ fs) a b k h = absurd (let x : ⊥ = cc k in x)
+  table_told words tells (e ∷ es) [] a b k h = absurd (let x : ⊥ = cc k in x)
+  table_told words tells (e ∷ es) (f ∷ fs) a b k h =
+      let row = tells e.1 f.1 (table_words words es a) (table_words words fs b) h in
+      let key : e.0 ≡ f.0 = cc k in
+      let keys : keys_of es ≡ keys_of fs = cc k in
+      let rest = table_told words tells es fs a b keys row.1 in
+      (ap (λ (x : DevNo × R). x ∷ es) (row_by e f key row.0) ∙ ap (λ (x : List (DevNo × R)). f ∷ x) rest.0, rest.1)
+
+-- ---- the linked devices
+
+flags_by : (f g : Flags) → f.shared ≡ g.shared → f.oneshot ≡ g.oneshot → f.noauto ≡ g.noauto → f ≡ g
+flags_by f g a b c = (let e : ◌≡◌ {A = Flags} (record { shared = f.shared; oneshot = f.oneshot; noauto = f.noauto }) g = rw (a, b, c) refl in e)
+
+pub linked_told : (t u : List (DevNo × Flags)) → linked_words t ≡ linked_words u → t ≡ u
+linked_told [] [] h = refl
+linked_told [] (f ∷ fs) h = absurd (let x : ⊥ = cc h in x)
+linked_told (e ∷ es) [] h = absurd (let x : ⊥ = cc h in x)
+linked_told (e ∷ es) (f ∷ fs) h =
+    let d : e.0.0 ≡ f.0.0 = cc in
+    let s : one_if e.1.shared ≡ one_if f.1.shared = cc in
+    let o : one_if e.1.oneshot ≡ one_if f.1.oneshot = cc in
+    let n : one_if e.1.noauto ≡ one_if f.1.noauto = cc in
+    let r : linked_words es ≡ linked_words fs = cc in
+    let dev : ℕ → DevNo = λ n. record { 0 = n } in
+    ap (λ n. (dev n, e.1) ∷ es) d
+    ∙ (ap (λ (x : Flags). (f.0, x) ∷ es) (flags_by e.1 f.1 (one_told e.1.shared f.1.shared s) (one_told e.1.oneshot f.1.oneshot o) (one_told e.1.noauto f.1.noauto n))
+    ∙ ap (λ (x : List (DevNo × Flags)). f ∷ x) (linked_told es fs r))

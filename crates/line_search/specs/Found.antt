@@ -1,0 +1,18 @@
+-- What a search through all states of a line says of its histories.
+use Rattle.std.specs.Prelude.{◌≤◌, ◌<◌, ℕ, List, ◌∷◌, length}
+use Rattle.irq_base.specs.declared.entries.Entry.{Entry}
+use Rattle.irq_base.specs.declared.lines.LineDef.{LineDef}
+use Rattle.irq_model.specs.Legal.{IsLegalPast}
+
+-- the past is legal, ends with the entry, and no legal past that ends with it is shorter
+pub record IsShortest (def : LineDef) (e : Entry) (past : List Entry) : Type 0 where
+  pub legal : IsLegalPast def (e ∷ past)
+  pub least : (h : List Entry) → IsLegalPast def (e ∷ h) → length past ≤ length h
+
+-- no legal past ends with the entry
+abbrev pub IsNever : LineDef → Entry → Type 0
+IsNever def e = (h : List Entry) → IsLegalPast def (e ∷ h) → ⊥
+
+-- no legal past of at most n entries ends with it
+abbrev pub IsNotWithin : LineDef → Entry → ℕ → Type 0
+IsNotWithin def e n = (h : List Entry) → IsLegalPast def (e ∷ h) → n < length (e ∷ h)

@@ -1,0 +1,78 @@
+-- A canonical state as numbers, one a field. Each word is put before the numbers of what follows.
+use Rattle.std.specs.Prelude.{ℕ, ◌+◌, Bool, Option, Some, None, List, [], ◌∷◌}
+use Rattle.irq_base.specs.declared.calls.Flags.{Flags}
+use Rattle.irq_base.specs.declared.numbers.CpuNo.{CpuNo}
+use Rattle.irq_base.specs.declared.numbers.DevNo.{DevNo}
+use Rattle.irq_base.specs.declared.numbers.DriverNo.{DriverNo}
+use Rattle.device_table.specs.Sums.{one_if}
+use Rattle.act_list.specs.Lists.{flags_of}
+use Rattle.act_thread.specs.declared.rows.Stage.{Stage}
+use Rattle.act_thread.specs.declared.rows.Stage.TheVariants as stages
+use Rattle.act_thread.specs.declared.rows.ThreadRow.{ThreadRow}
+use Rattle.ask_counts.specs.declared.rows.AskRow.{AskRow}
+use Rattle.line_marks.specs.State.{StateSeen}
+
+-- 0 is none
+abbrev pub cpu_word : Option CpuNo → ℕ
+cpu_word None = 0
+cpu_word (Some c) = c.0 + 1
+
+abbrev pub dev_word : Option DevNo → ℕ
+dev_word None = 0
+dev_word (Some d) = d.0 + 1
+
+abbrev pub mask_word : Option ℕ → ℕ
+mask_word None = 0
+mask_word (Some mask) = mask + 1
+
+abbrev pub stage_word : Stage → ℕ
+stage_word stages.Idle = 0
+stage_word stages.Begun = 1
+stage_word stages.Returned = 2
+stage_word stages.Finished = 3
+
+abbrev pub freeing_words : Option (DriverNo × DevNo) → List ℕ → List ℕ
+freeing_words None rest = 0 ∷ 0 ∷ rest
+freeing_words (Some (r, d)) rest = (r.0 + 1) ∷ (d.0 + 1) ∷ rest
+
+abbrev pub begun_words : Bool → List ℕ → List ℕ
+begun_words b rest = one_if b ∷ rest
+
+abbrev pub thread_words : ThreadRow → List ℕ → List ℕ
+thread_words r rest = one_if r.woken ∷ stage_word r.stage ∷ one_if r.held ∷ rest
+
+abbrev pub ask_words : AskRow → List ℕ → List ℕ
+ask_words r rest = r.unserved ∷ r.fresh ∷ r.met_by_handler ∷ r.met_by_thread ∷ rest
+
+-- the words of each device's row, in the order of the table
+abbrev pub table_words : {R : Type 0} → (R → List ℕ → List ℕ) → List (DevNo × R) → List ℕ → List ℕ
+table_words words [] rest = rest
+table_words words (e ∷ es) rest = words e.1 (table_words words es rest)
+
+-- the linked devices in the order of the walk, each with its flags
+abbrev pub linked_words : List (DevNo × Flags) → List ℕ
+linked_words [] = []
+linked_words (e ∷ es) =
+    e.0.0 ∷ one_if e.1.shared ∷ one_if e.1.oneshot ∷ one_if e.1.noauto ∷ linked_words es
+
+-- the descriptor, and the chip's marks that don't follow from it
+abbrev pub desc_words : StateSeen → List ℕ → List ℕ
+desc_words s rest =
+    s.desc.depth ∷ one_if s.desc.started ∷ one_if s.desc.masked ∷ one_if s.desc.pending
+    ∷ one_if s.desc.oneshot ∷ one_if s.desc.spurious ∷ one_if s.desc.soft ∷ cpu_word s.desc.flow
+    ∷ one_if s.cell.stored ∷ one_if s.cell.sent ∷ one_if s.cell.high ∷ rest
+
+-- the affinity, the round and the counts of the rule on spurious interrupts
+abbrev pub round_words : StateSeen → List ℕ → List ℕ
+round_words s rest =
+    s.aim.mask ∷ mask_word s.aim.waiting ∷ dev_word s.round.working ∷ one_if s.round.wakes
+    ∷ one_if s.round.handles ∷ s.round.moment ∷ s.counts.counts.irq_count
+    ∷ s.counts.counts.irqs_unhandled ∷ s.counts.counts.threads_handled
+    ∷ one_if s.counts.counts.deferred ∷ s.counts.counts.last_unhandled ∷ rest
+
+-- all words of a canonical state; `places` are the words of the drivers' places
+abbrev pub state_words : StateSeen → (List ℕ → List ℕ) → List ℕ
+state_words s places =
+    desc_words s (round_words s (freeing_words s.freeing
+    (table_words begun_words s.list.begun (table_words thread_words s.threads
+    (table_words ask_words s.asks (places (linked_words (flags_of s.list.actions))))))))
