@@ -2,3 +2,4 @@ pub mod Told
 pub mod Nodes
 pub mod Searching
 pub mod FirstRows
+pub mod Resting

@@ -1,8 +1,9 @@
 -- What a search through all states of a line says of its histories.
-use Rattle.std.specs.Prelude.{◌≤◌, ◌<◌, ℕ, List, ◌∷◌, length}
+use Rattle.std.specs.Prelude.{◌≤◌, ◌<◌, ℕ, List, ◌∷◌, ◌++◌, length, reverse}
 use Rattle.irq_base.specs.declared.entries.Entry.{Entry}
 use Rattle.irq_base.specs.declared.lines.LineDef.{LineDef}
 use Rattle.irq_model.specs.Legal.{IsLegalPast}
+use Rattle.irq_model.specs.Settled.{IsSettled}
 
 -- the past is legal, ends with the entry, and no legal past that ends with it is shorter
 pub record IsShortest (def : LineDef) (e : Entry) (past : List Entry) : Type 0 where
@@ -16,3 +17,7 @@ IsNever def e = (h : List Entry) → IsLegalPast def (e ∷ h) → ⊥
 -- no legal past of at most n entries ends with it
 abbrev pub IsNotWithin : LineDef → Entry → ℕ → Type 0
 IsNotWithin def e n = (h : List Entry) → IsLegalPast def (e ∷ h) → n < length (e ∷ h)
+
+-- after the past a legal history goes on until the line is settled
+abbrev pub ComesToRest : LineDef → List Entry → Type 0
+ComesToRest def past = (k : List Entry) × IsLegalPast def (k ++ past) × IsSettled def (reverse (k ++ past))

@@ -9,7 +9,7 @@ ghost use Rattle.irq_base.specs.declared.lines.LineDef.{LineDef};
 ghost use Rattle.irq_model.specs.Legal.{IsDue, IsLegalPast};
 ghost use Rattle.irq_model.specs.Valid.{IsValid};
 ghost use Rattle.line_futures.specs.Futures.{AreAlike};
-ghost use Rattle.line_search.specs.Found.{IsShortest, IsNever, IsNotWithin};
+ghost use Rattle.line_search.specs.Found.{IsShortest, IsNever, IsNotWithin, ComesToRest};
 ghost use Rattle.line_search.specs.Node.{node};
 ghost use Rattle.state_search.specs.Firsts.{IsNoted, AreFirsts};
 ghost use Rattle.state_search.specs.Paths.{IsPath, IsBelow, AreSteps, Searches};
@@ -78,4 +78,12 @@ pub fn search_tells_of_entries()
         → Searches (IsDue def) (node def) paths looked cut
         → AreFirsts eq (IsDue def) paths cut firsts
         → (e : Entry) (n : ℕ) → cut ≡ Some n → (IsNoted eq firsts e → ⊥) → IsNotWithin def e n }
+{}
+
+/// Each legal history goes on until the line is settled, since none is longer than the line's
+/// bound: nothing can be waited for without end.
+#[tactic(auto, using(crate::proofs::Resting::comes_to_rest))]
+pub fn histories_come_to_rest()
+    ensures law { (def : LineDef) → IsValid def → (past : List Entry) → IsLegalPast def past
+        → ComesToRest def past }
 {}
