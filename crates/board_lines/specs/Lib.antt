@@ -1,1 +1,1 @@
-pub mod Chips
+pub mod Wirings

@@ -2,7 +2,7 @@
 ghost use Rattle.std.specs.Prelude.{◌≡◌, Some, [], ◌∷◌, IfOk, true, false};
 ghost use Rattle.irq_base.specs.Cell.{fresh_cell};
 ghost use Rattle.irq_base.specs.declared.lines.Trigger.TheVariants as triggers;
-ghost use Rattle.board_lines.specs.Chips.{HasChips, cell_of_line};
+ghost use Rattle.line_makers.specs.Chips.{HasChips, cell_of_line};
 
 use board_lines::MakesChainLine;
 use chip_msi::Message;
@@ -12,8 +12,9 @@ use irq_base::{
     Actor, Call, CallList, ControllerKind, DevNo, DeviceDef, DeviceList, DomainDef, DriverNo,
     Flags, FlowKind, Kind, LineDef, LineNo, MapKind, NoMemory, Trigger,
 };
-use irq_line::{IrqLine, MakesLine, Stepped};
+use irq_line::{IrqLine, Stepped};
 use line_core::Line;
+use line_makers::MakesDomainLine;
 use line_valid::is_valid;
 use std::alloc::Global;
 
@@ -92,7 +93,7 @@ fn definition(alloc: Global) -> Result<LineDef, NoMemory>
 fn second_line(alloc: Global, domains: &Hierarchy, def: &LineDef) -> Result<Line<Chain>, NoMemory>
     requires { HasChips domains.now 2 def.now }
 {
-    MakesChainLine::new(domains).make(alloc, 2, def)
+    MakesChainLine.make(alloc, domains, 2, def)
 }
 
 #[test]

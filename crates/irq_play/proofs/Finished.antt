@@ -1,33 +1,34 @@
 -- A system whose play has ended, and what its reports hand out.
-use Rattle.std.proofs.Common.{◌≡◌, ℕ, ◌≤◌, All, IsSome, List, length, map, reverse, ap, ◌∙◌, subst}
-use Rattle.irq_base.specs.declared.entries.Actor.{Actor}
+use Rattle.std.proofs.Common.{◌≡◌, ℕ, All, IsSome, Option, Some, List, length, reverse, sym, ap, ◌∙◌, subst}
+use Rattle.irq_base.specs.declared.entries.Entry.{Entry}
 use Rattle.irq_base.specs.declared.numbers.LineNo.{LineNo}
 use Rattle.irq_base.specs.declared.reporting.LineReport.{LineReport}
-use Rattle.irq_line.specs.Seen.{LineSeen}
 use Rattle.board_core.specs.Seen.{SystemSeen, board_lines}
-use Rattle.board_core.specs.declared.turns.PlayEnd.{PlayEnd}
+use Rattle.board_core.specs.Turns.{HasLength}
 use Rattle.board_core.specs.declared.turns.PlayEnd.TheVariants as plays
+use Rattle.board_def.specs.LineOf.{line_of_row}
 use Rattle.board_def.specs.Rules.{IsBoard}
 use Rattle.board_def.specs.Seen.{BoardSeen}
-use Rattle.board_play.specs.Lines.{BoardLine, defs_of, lines_of}
+use Rattle.board_play.specs.Kept.{AreKept}
+use Rattle.board_play.specs.Lines.{BoardLine, defs_of, find_line, lines_of, part}
+use Rattle.board_play.specs.Order.{due_move}
 use Rattle.board_play.specs.Play.{Done, Full, IsChosen, Plays, choice}
-use Rattle.board_play.proofs.Members.{defs_at}
-use Rattle.irq_play.specs.Headline.{CutShort, Headline, FullLog, histories_of, told_by}
+use Rattle.board_play.proofs.KeptAlways.{apart_kept, kept_play}
+use Rattle.board_play.proofs.Members.{find_there, past_at}
+use Rattle.board_play.proofs.Moves.{choice_is, moves_on}
+use Rattle.board_play.proofs.Rest.{done_rests}
+use Rattle.board_report.specs.Headline as report
+use Rattle.board_report.specs.Headline.{KeepsLaws, LineHeadline}
+use Rattle.board_report.specs.Moving.{AreAtRest, HasNoRoom}
+use Rattle.board_report.specs.Reporting.{entries_in}
+use Rattle.board_report.proofs.FullAt.{no_room}
+use Rattle.irq_play.specs.Headline.{CutShort, Headline, FullLog}
 use Rattle.irq_play.specs.Played.{IsPlayed}
 use Rattle.irq_play.specs.Printing.{HasRow}
-use Rattle.irq_play.specs.Reporting.{AreOfBoard, history_among}
-use Rattle.irq_play.specs.Summable.{IsSummable}
-use Rattle.irq_play.proofs.HandedOut.{all_summable, cut_short, few_reports, full_log, handed_out, headline}
+use Rattle.irq_play.proofs.Parts.{its_part, mapped_parts, refused_parts, told_parts}
 use Rattle.irq_play.proofs.Printable.{moves_have_rows}
 
--- the lines that were taken out of it
-module _ (b : BoardSeen) (s : SystemSeen) (end : PlayEnd) (p : IsPlayed b s end) (lines : List LineSeen) (are : lines ≡ s.lines) where
-  as_left : board_lines lines ≡ lines_of b (reverse s.log)
-  as_left = ap (λ (ls : List LineSeen). board_lines ls) are ∙ p.lines
-
-  pub of_board : AreOfBoard b (board_lines lines)
-  of_board = ap (λ (ls : List BoardLine). map (λ (x : BoardLine). x.def) ls) as_left ∙ defs_at (defs_of b) (reverse s.log)
-
+-- when it was played to its end
 module _ (b : BoardSeen) (s : SystemSeen) (p : IsPlayed b s plays.Done) where
   plays_done : Plays b b.picks (reverse s.log) Done
   plays_done = subst (λ (c : BoardSeen). Plays c b.picks (reverse s.log) Done) p.board p.play
@@ -35,32 +36,64 @@ module _ (b : BoardSeen) (s : SystemSeen) (p : IsPlayed b s plays.Done) where
   pub rows_done : All HasRow s.log
   rows_done = moves_have_rows b b.picks s.log plays_done.0 plays_done.1
 
-  module _ (lines : List LineSeen) (are : lines ≡ s.lines) (reports : List LineReport) (is : map told_by reports ≡ map (history_among (board_lines lines)) b.lines) where
-    pub told_done : IsBoard b → map told_by reports ≡ histories_of b s.log
-    told_done board = handed_out b board b.picks s.log plays_done.0 plays_done.1 (board_lines lines) (map told_by reports) (as_left b s plays.Done p lines are) is
+  pub rests : AreAtRest b (board_lines s.lines)
+  rests a at = ap (λ (ls : List BoardLine). due_move b ls a) p.lines ∙ done_rests b b.picks (reverse s.log) plays_done a at
 
-    pub headline_done : IsBoard b → Headline b s.log reports
-    headline_done board = headline b board s.log reports plays_done (told_done board)
-
-    pub summable_done : IsBoard b → All IsSummable reports
-    summable_done board = all_summable b board b.picks s.log plays_done.0 plays_done.1 reports (told_done board)
-
-    pub few_done : IsBoard b → length reports ≤ 64
-    few_done board = few_reports b board s.log reports (told_done board)
+  pub headline_done : IsBoard b → (reports : List LineReport) → report.Headline b (entries_in (board_lines s.lines)) reports → Headline b s.log reports
+  headline_done board reports h =
+      let left = plays_done.0 in
+      let chosen = plays_done.1 in
+      record {
+        play = plays_done;
+        handed_out = told_parts b board s.log left chosen (board_lines s.lines) p.lines _ h.handed_out;
+        mapped = mapped_parts b board s.log left chosen (board_lines s.lines) p.lines (λ row es. LineHeadline (line_of_row b row) es) h.mapped;
+        refused = refused_parts b board s.log left chosen (board_lines s.lines) p.lines h.refused;
+      }
 
 -- when a log was full
-pub full_done : (b : BoardSeen) (s : SystemSeen) (line : LineNo) (len : ℕ) → IsPlayed b s (plays.Full line len) → (lines : List LineSeen) → lines ≡ s.lines → (reports : List LineReport)
-    → map told_by reports ≡ map (history_among (board_lines lines)) b.lines → IsBoard b → FullLog b s.log reports line len
-full_done b s line len p lines are reports is board =
-    let full = subst (λ (c : BoardSeen). Plays c b.picks (reverse s.log) (Full line)) p.board p.play.0 in
-    full_log b board s.log reports line len full p.play.1
-    (handed_out b board b.picks s.log full.0 full.1 (board_lines lines) (map told_by reports) (as_left b s (plays.Full line len) p lines are) is)
+module _ (b : BoardSeen) (board : IsBoard b) (s : SystemSeen) (line : LineNo) (len : ℕ) (p : IsPlayed b s (plays.Full line len)) where
+  plays_full : Plays b b.picks (reverse s.log) (Full line)
+  plays_full = subst (λ (c : BoardSeen). Plays c b.picks (reverse s.log) (Full line)) p.board p.play.0
+
+  pub no_room_full : HasNoRoom b (board_lines s.lines) line len
+  no_room_full =
+      let g = reverse s.log in
+      let lines = lines_of b g in
+      let full = plays_full.2 in
+      let kept : AreKept b lines = kept_play b b.picks board g plays_full.0 plays_full.1 in
+      let who = choice_is b lines plays_full.0 full.move full.after full.next in
+      let on = moves_on b lines who.actor full.move who.moves in
+      let number : on.line.def.line ≡ line = sym on.number ∙ full.of_line in
+      let found : find_line lines line ≡ Some on.line = ap (λ (l : LineNo). find_line lines l) (sym number) ∙ find_there lines (apart_kept b board lines kept) on.place on.line on.at in
+      let long : length on.line.past ≡ len =
+      ap (λ (es : List Entry). length es) (past_at (defs_of b) g on.place on.line on.at ∙ ap (λ (l : LineNo). part l g) number) ∙ p.play.1 in
+      subst (λ (ls : List BoardLine). HasNoRoom b ls line len) (sym p.lines)
+      (no_room b board lines kept line len full.move full.of_line (subst (λ (o : Option BoardLine). HasLength o len) (sym found) long) (sym p.play.1 ∙ full.length) who.actor who.moves)
+
+  pub full_done : (reports : List LineReport) → report.FullLog b (entries_in (board_lines s.lines)) reports line len → FullLog b s.log reports line len
+  full_done reports h =
+      let left = plays_full.0 in
+      let chosen = plays_full.1 in
+      record {
+        play = plays_full;
+        handed_out = told_parts b board s.log left chosen (board_lines s.lines) p.lines _ h.handed_out;
+        mapped = mapped_parts b board s.log left chosen (board_lines s.lines) p.lines (λ row es. KeepsLaws (line_of_row b row) es) h.mapped;
+        refused = refused_parts b board s.log left chosen (board_lines s.lines) p.lines h.refused;
+        length_is = ap (λ (es : List Entry). length es) (sym (its_part b board s.log left chosen (board_lines s.lines) p.lines line)) ∙ h.full.length_is;
+        limit_is = h.full.limit_is;
+        scarce = h.scarce;
+      }
 
 -- when a step was refused memory
-pub cut_done : (b : BoardSeen) (s : SystemSeen) → IsPlayed b s plays.NoMemory → (lines : List LineSeen) → lines ≡ s.lines → (reports : List LineReport) → map told_by reports ≡ map (history_among (board_lines lines)) b.lines → IsBoard b
-    → CutShort b s.log reports
-cut_done b s p lines are reports is board =
+pub cut_done : (b : BoardSeen) → IsBoard b → (s : SystemSeen) → IsPlayed b s plays.NoMemory → (reports : List LineReport) → report.SoFar b (entries_in (board_lines s.lines)) reports → CutShort b s.log reports
+cut_done b board s p reports h =
     let left = p.play.0 in
     let chosen = subst (λ (c : BoardSeen). IsChosen c b.picks (reverse s.log) left) p.board p.play.1 in
-    let next = subst (λ (c : BoardSeen). IsSome (choice c (lines_of c (reverse s.log)) left)) p.board p.play.2 in
-    cut_short b board s.log reports left chosen next (handed_out b board b.picks s.log left chosen (board_lines lines) (map told_by reports) (as_left b s plays.NoMemory p lines are) is)
+    record {
+      left = left;
+      so_far = chosen;
+      next = subst (λ (c : BoardSeen). IsSome (choice c (lines_of c (reverse s.log)) left)) p.board p.play.2;
+      handed_out = told_parts b board s.log left chosen (board_lines s.lines) p.lines _ h.handed_out;
+      mapped = mapped_parts b board s.log left chosen (board_lines s.lines) p.lines (λ row es. KeepsLaws (line_of_row b row) es) h.mapped;
+      refused = refused_parts b board s.log left chosen (board_lines s.lines) p.lines h.refused;
+    }

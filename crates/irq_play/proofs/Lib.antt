@@ -1,12 +1,6 @@
-pub mod Ample
-pub mod Writing
-pub mod Printable
 mod Turned
-pub mod OfRows
 mod Others
-pub mod Ended
-mod Filling
-mod HandedOut
-mod Finished
-mod Summing
+pub mod Parts
+mod Printable
 mod MoveRows
+pub mod Finished

@@ -7,7 +7,7 @@ use Rattle.irq_laws.proofs.Chosen.{the_same}
 use Rattle.board_play.specs.Lines.{Move}
 use Rattle.log_text.specs.Rows.{entry_text}
 use Rattle.irq_play.specs.Report.{moves_text}
-use Rattle.irq_play.proofs.Writing.{nothing, and_then, failed_within}
+use Rattle.board_report.proofs.Writing.{nothing, and_then, failed_within}
 
 -- what was written is all of the text but for the rows of the moves that are left
 pub record IsPrinting (before now : Option (List ℕ)) (all left : List Move) : Type 0 where

@@ -1,90 +1,17 @@
 -- The headline: what holds of the histories of a board's lines when its play has come to its end,
--- and of the reports that hand them out. The moves of a play and the entries of a history stand
--- oldest first here; `Plays` has the newest move first.
-use Rattle.std.specs.Prelude.{◌≡◌, ◌≤◌, ℕ, IsSome, Some, List, [], ◌++◌, length, map, reverse, slice_get}
+-- and of the reports that hand them out. What holds of one line is board_report's headline; here
+-- stands whose play it is. The moves of a play and the entries of a history stand oldest first here;
+-- `Plays` has the newest move first.
+use Rattle.std.specs.Prelude.{◌≡◌, ℕ, IsSome, List, [], length, map, reverse}
 use Rattle.irq_base.specs.declared.entries.Actor.{Actor}
-use Rattle.irq_base.specs.declared.entries.Entry.{Entry}
-use Rattle.irq_base.specs.declared.lines.LineDef.{LineDef}
 use Rattle.irq_base.specs.declared.numbers.LineNo.{LineNo}
 use Rattle.irq_base.specs.declared.reporting.LineReport.{LineReport}
-use Rattle.irq_model.specs.Bounds.{bound}
-use Rattle.irq_model.specs.Laws.{NoOverlap, IsSilentAfterFree, KeepsOneshot, TakesAreCounted, IsSynchronised, IsServedWhenIdle}
-use Rattle.irq_model.specs.Legal.{IsLegal}
-use Rattle.irq_model.specs.Owed.{IsCovered, IsDelivered}
-use Rattle.irq_model.specs.Reason.{HasReason}
-use Rattle.irq_model.specs.Scripts.{FollowsScripts}
-use Rattle.irq_model.specs.Settled.{IsSettled}
-use Rattle.irq_laws.specs.Quiet.{IsQuiet}
-use Rattle.domain_rules.specs.declared.layouts.Placement.TheVariants as placements
-use Rattle.domain_rules.specs.declared.layouts.Unmapped.{Unmapped}
-use Rattle.board_def.specs.Layout.{layout_of}
 use Rattle.board_def.specs.LineOf.{line_of_row}
 use Rattle.board_def.specs.Seen.{BoardSeen}
 use Rattle.board_def.specs.declared.rows.LineRow.{LineRow}
-use Rattle.board_play.specs.Lines.{Move, defs_of, lines_of, part}
+use Rattle.board_play.specs.Lines.{Move, lines_of, part}
 use Rattle.board_play.specs.Play.{Done, Full, IsChosen, Plays, choice}
-
--- ---- one line
-
--- the line at a moment, after these entries
-pub record HoldsAt (def : LineDef) (h : List Entry) : Type 0 where
-  -- each owed edge is somewhere: presented, kept, pending, in a software resend, or its device is
-  -- still ahead in the round
-  pub covered : IsCovered def h
-  -- a started line with linked devices is masked only if it is disabled, or a flow is in progress,
-  -- or on a level line a thread isn't finished
-  pub has_reason : HasReason def h
-  -- if the line is enabled and no flow is in progress, the target's next entry is a take that is
-  -- handled, if an edge is owed, or if the level is high and no thread is unfinished
-  pub served_when_idle : IsServedWhenIdle def h
-
--- a line's history, at its end or not
-pub record KeepsLaws (def : LineDef) (h : List Entry) : Type 0 where
-  -- each entry was due of its actor
-  pub legal : IsLegal def h
-  -- a device's handler is called, and its thread's run begins, only when it isn't at work
-  pub no_overlap : NoOverlap def h
-  -- no run of a device comes after its free before it is linked again
-  pub silent_after_free : IsSilentAfterFree def h
-  -- no end and no finish opened a level line over an unfinished thread
-  pub keeps_oneshot : KeepsOneshot def h
-  -- an edge line took no more interrupts than came
-  pub takes_are_counted : TakesAreCounted def h
-  -- a hard clear came when no handler was at work, a sync's end when no thread was
-  pub synchronised : IsSynchronised def h
-  -- a driver's entries are the entries of its calls, in the order of its script, each once
-  pub scripts : FollowsScripts def h
-  -- at each moment of the history
-  pub always : (before after : List Entry) → h ≡ before ++ after → HoldsAt def before
-
--- the history of a line whose board's play came to its end
-pub record LineHeadline (def : LineDef) (h : List Entry) : Type 0 where
-  pub laws : KeepsLaws def h
-  -- nothing is due any more, and the drivers' calls are complete
-  pub settled : IsSettled def h
-  -- if the line isn't left disabled, no edge is owed to a linked device, and on a level line each
-  -- linked device that works has all its asks served
-  pub delivered : IsDelivered def h
-  -- nothing is at work: each handler that was called has returned
-  pub quiet : IsQuiet def h
-
--- ---- all lines of a board
-
--- the fact holds of each line of the board that takes part
-abbrev pub EachMapped : BoardSeen → (LineRow → Type 0) → Type 0
-EachMapped b P =
-    (i : ℕ) (row : LineRow) (virq : ℕ) (path : List (ℕ × ℕ)) → slice_get b.lines i ≡ Some row
-    → slice_get (layout_of b) i ≡ Some (placements.Mapped virq path) → P row
-
--- the fact holds of each line of the board that the layout refuses
-abbrev pub EachRefused : BoardSeen → (LineRow → Type 0) → Type 0
-EachRefused b P =
-    (i : ℕ) (row : LineRow) (why : Unmapped) → slice_get b.lines i ≡ Some row
-    → slice_get (layout_of b) i ≡ Some (placements.Refused why) → P row
-
--- a line's number and its entries
-abbrev pub LineHistory : Type 0
-LineHistory = LineNo × List Entry
+use Rattle.board_report.specs.Headline.{EachMapped, EachRefused, IsAmple, KeepsLaws, LineHeadline, LineHistory, told_by}
 
 -- the line's number, with its entries among the moves
 abbrev pub history_of : List Move → LineRow → LineHistory
@@ -93,16 +20,6 @@ history_of g row = (row.line, part row.line g)
 -- one history for each line of the board, in the board's order
 abbrev pub histories_of : BoardSeen → List Move → List LineHistory
 histories_of b g = map (history_of g) b.lines
-
--- what a report hands out
-abbrev pub told_by : LineReport → LineHistory
-told_by report = (report.line, report.history.entries)
-
--- each line that takes part has room for the longest history that its definition allows
-abbrev pub IsAmple : BoardSeen → Type 0
-IsAmple b = (i : ℕ) (def : LineDef) → slice_get (defs_of b) i ≡ Some def → bound def ≤ b.log
-
--- ---- the play
 
 -- the board was played to its end, with these moves
 pub record Headline (b : BoardSeen) (g : List Move) (reports : List LineReport) : Type 0 where

@@ -1,32 +1,25 @@
 //! Prints a play that came to its end, and hands out its reports.
 ghost use Rattle.std.specs.Prelude.{◌≡◌, ◌≤◌, ◌++◌, true, false, All, length, map};
-ghost use Rattle.board_core.specs.Seen.{board_lines};
 ghost use Rattle.board_def.specs.Layout.{layout_of};
+ghost use Rattle.board_report.specs.Headline.{told_by};
+ghost use Rattle.board_report.specs.Reporting.{HasRoom};
+ghost use Rattle.board_report.specs.Summable.{IsSummable};
+ghost use Rattle.board_report.specs.Totals.{totals_text};
 ghost use Rattle.irq_io.specs.Faults.{Counts};
 ghost use Rattle.irq_io.specs.Whole.{HandsOn, KeepsNone, WritesAll, writing_failed};
-ghost use Rattle.irq_play.specs.Headline.{told_by};
 ghost use Rattle.irq_play.specs.Played.{IsPlayed, IsPrinted};
 ghost use Rattle.irq_play.specs.Printing.{HasRow};
-ghost use Rattle.irq_play.specs.Report.{report_text, totals_text};
-ghost use Rattle.irq_play.specs.Reporting.{HasRoom};
-ghost use Rattle.irq_play.specs.Summable.{IsSummable};
+ghost use Rattle.irq_play.specs.Report.{report_text};
 
-use crate::printing::{hand_on, print_layout, print_moves};
-use crate::reporting::ReportRoom;
-use crate::summaries::print_totals;
+use crate::printing::print_moves;
+use crate::reporting::report_done;
 use board_core::{PlayEnd, System};
 use board_def::Board;
+use board_report::{Printed, ReportRoom, hand_on, print_layout, print_totals};
 use irq_base::Reports;
 use irq_io::{Sink, WriteEnd};
 use irq_line::IrqLine;
 use text_row::TextRow;
-
-/// A play that was printed: how the printing ended, and the reports.
-#[derive(Drop)]
-pub(crate) struct Printed {
-    pub(crate) end: WriteEnd,
-    pub(crate) reports: Reports,
-}
 
 /// Prints the play, and then takes the histories out of the lines.
 pub(crate) fn print_play<O: Sink, L: IrqLine>(
@@ -43,9 +36,8 @@ pub(crate) fn print_play<O: Sink, L: IrqLine>(
     ensures emptied { KeepsNone (O.kept out.new) result.end }
     ensures cause { Counts (O.faults out.old) (O.faults out.new) (writing_failed result.end) }
 {
-    board.is_board();
     let end = write_play(board, &system, out);
-    let reports = room.fill(board, system.take_lines());
+    let reports = report_done(board, system, room);
     Printed { end, reports }
 }
 
@@ -64,10 +56,9 @@ pub(crate) fn print_summary<O: Sink, L: IrqLine>(
     ensures emptied { KeepsNone (O.kept out.new) result.end }
     ensures cause { Counts (O.faults out.old) (O.faults out.new) (writing_failed result.end) }
 {
-    board.is_board();
     let mut row = TextRow::new();
     let laid = print_layout(out, &mut row, board, system.layout());
-    let reports = room.fill(board, system.take_lines());
+    let reports = report_done(board, system, room);
     let end = match laid {
         WriteEnd::Done => write_totals(&mut row, &reports, out),
         WriteEnd::Failed => WriteEnd::Failed,

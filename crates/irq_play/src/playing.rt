@@ -1,26 +1,22 @@
 //! Plays a board, and prints it.
 ghost use Rattle.std.specs.Prelude.{◌≡◌, [], IfOk, IsTrue, false, length};
-ghost use Rattle.board_def.specs.Layout.{layout_of};
-ghost use Rattle.board_core.specs.Making.{MakesAll};
+ghost use Rattle.board_report.specs.Reporting.{HasRoom};
 ghost use Rattle.irq_io.specs.Faults.{Counts};
-ghost use Rattle.irq_play.specs.Headline.{CutShort, FullLog};
 ghost use Rattle.irq_play.specs.Ends.{is_printing, is_write_fault};
 ghost use Rattle.irq_play.specs.Played.{IsPlayed, PlaysBoard};
-ghost use Rattle.irq_play.specs.Reporting.{HasRoom};
 
 use crate::ending::{PlayedEnd, Wanted};
 use crate::finishing::{print_play, print_summary};
-use crate::reporting::ReportRoom;
+use crate::reporting::{report_cut, report_full};
 use board_core::{PlayEnd, System};
-use board_def::{Board, Layout};
+use board_def::Board;
 use board_layout::lay;
-use board_lines::MakesChainLine;
+use board_report::ReportRoom;
 use callbacks::{Callbacks, Handler};
-use domain_chain::Chain;
-use irq_base::{LineNo, NoMemory, Reports};
+use irq_base::{NoMemory, Reports};
 use irq_io::Sink;
-use irq_line::{IrqLine, MakesLine};
-use line_core::Line;
+use irq_line::IrqLine;
+use line_makers::{MakesDomainLine, OverDomains};
 use std::alloc::Global;
 
 /// The result of a board's play: how it ended, and the histories that were taken out of the lines.
@@ -32,13 +28,26 @@ pub struct PlayedBoard {
     pub reports: Reports,
 }
 
+/// A board that was played, and the room for its reports.
+#[derive(Drop)]
+pub struct PlayedSystem<'b, L: IrqLine> {
+    /// The board's lines and their moves.
+    pub system: System<'b, L>,
+    /// How the play ended.
+    pub end: PlayEnd,
+    /// Room for one report for each line of the board.
+    pub room: ReportRoom,
+}
+
 /// Lays the board's lines over its domains, plays them by the stated order with the board's picks,
-/// and prints the play, or with `summary` a summary of it. Handlers are called as they are due.
-/// Memory is taken before the first step, and by steps; none is taken once a row is printed.
-pub fn play_and_print<O: Sink, H: Handler>(
+/// and prints the play, or with `summary` a summary of it. The maker makes each line; handlers are
+/// called as they are due. Memory is taken before the first step, and by steps; none is taken once
+/// a row is printed.
+pub fn play_and_print<O: Sink, M: MakesDomainLine, H: Handler>(
     alloc: Global,
     board: &Board,
     summary: bool,
+    maker: &M,
     handlers: &Callbacks<H>,
     out: &mut O,
 ) -> PlayedBoard
@@ -49,51 +58,40 @@ pub fn play_and_print<O: Sink, H: Handler>(
     ensures write_fault { Counts (O.faults out.old) (O.faults out.new) (is_write_fault result.end) }
     ensures silent { is_printing result.end ≡ false → out.new ≡ out.old }
 {
-    let Ok((domains, layout)) = lay(alloc, board) else {
-        return unplayed(alloc);
-    };
-    let Ok(room) = ReportRoom::new(alloc, board) else {
-        return unplayed(alloc);
-    };
-    let maker = MakesChainLine::of_board(&domains, board);
-    let played = play_lines::<Line<Chain>, MakesChainLine<'_>, H>(
-        alloc, board, layout, &maker, handlers,
-    );
-    match played {
-        Ok((system, end)) => report_play(board, summary, system, end, room, out),
+    match play_system(alloc, board, maker, handlers) {
+        Ok(played) => report_play(board, summary, played, out),
         Err(NoMemory) => unplayed(alloc),
     }
 }
 
-/// Plays the board with lines of the maker. The only error is `NoMemory` for the lines and the
-/// order of play.
-fn play_lines<'b, L: IrqLine, M: MakesLine<L>, H: Handler>(
+/// Lays the board's lines over its domains, has the maker make them, and plays them by the stated
+/// order with the board's picks. The only error is `NoMemory` for all but the steps of the play.
+pub fn play_system<'b, M: MakesDomainLine, H: Handler>(
     alloc: Global,
     board: &'b Board,
-    layout: Layout,
     maker: &M,
     handlers: &Callbacks<H>,
-) -> Result<(System<'b, L>, PlayEnd), NoMemory>
-    requires layout { layout ≡ layout_of board.now }
-    requires makes { MakesAll (M.makes maker.now) board.now (layout_of board.now) }
-    ensures { IfOk result (λ played. IsPlayed board.now played.0 played.1) }
+) -> Result<PlayedSystem<'b, M::Line>, NoMemory>
+    ensures played { IfOk result (λ played. IsPlayed board.now played.system played.end) }
+    ensures room { IfOk result (λ played. HasRoom (length board.now.lines) played.room) }
 {
-    let mut system = System::new(alloc, board, layout, maker)?;
+    let (domains, layout) = lay(alloc, board)?;
+    let room = ReportRoom::new(alloc, board)?;
+    let maker = OverDomains::of_board(maker, &domains, board);
+    let mut system = System::new(alloc, board, layout, &maker)?;
     let end = system.play(board.picks(), handlers);
-    Ok((system, end))
+    Ok(PlayedSystem { system, end, room })
 }
 
-/// Reports a play that ended with `end`, and prints it if it came to its end.
+/// Hands out the reports of a play, and prints it if it came to its end.
 fn report_play<O: Sink, L: IrqLine>(
     board: &Board,
     summary: bool,
-    system: System<'_, L>,
-    end: PlayEnd,
-    room: ReportRoom,
+    played: PlayedSystem<'_, L>,
     out: &mut O,
 ) -> PlayedBoard
-    requires played { IsPlayed board.now system end }
-    requires room { HasRoom (length board.now.lines) room }
+    requires played { IsPlayed board.now played.system played.end }
+    requires room { HasRoom (length board.now.lines) played.room }
     ensures plays { PlaysBoard board.now summary result.reports.reports (O.written out.old)
         (O.written out.new) result.end }
     ensures handed_on { result.end ≡ PlayedEnd.Done → O.handed_on out.new ≡ O.written out.new }
@@ -101,10 +99,17 @@ fn report_play<O: Sink, L: IrqLine>(
     ensures write_fault { Counts (O.faults out.old) (O.faults out.new) (is_write_fault result.end) }
     ensures silent { is_printing result.end ≡ false → out.new ≡ out.old }
 {
+    let PlayedSystem { system, end, room } = played;
     match end {
         PlayEnd::Done => print_done(board, summary, system, room, out),
-        PlayEnd::Full { line, len } => report_full(board, system, room, line, len),
-        PlayEnd::NoMemory => report_cut(board, system, room),
+        PlayEnd::Full { line, len } => PlayedBoard {
+            end: PlayedEnd::LogFull { line, len },
+            reports: report_full(board, system, room, line, len),
+        },
+        PlayEnd::NoMemory => PlayedBoard {
+            end: PlayedEnd::NoMemory(Wanted::Step),
+            reports: report_cut(board, system, room),
+        },
     }
 }
 
@@ -133,40 +138,6 @@ fn print_done<O: Sink, L: IrqLine>(
     PlayedBoard {
         end: PlayedEnd::from(printed.end),
         reports: printed.reports,
-    }
-}
-
-/// Reports a play that ended when the line's history has the greatest length, `len` entries.
-fn report_full<L: IrqLine>(
-    board: &Board,
-    system: System<'_, L>,
-    room: ReportRoom,
-    line: LineNo,
-    len: u32,
-) -> PlayedBoard
-    requires played { IsPlayed board.now system (PlayEnd.Full line len) }
-    requires room { HasRoom (length board.now.lines) room }
-    ensures end { result.end ≡ PlayedEnd.LogFull line len }
-    ensures full { FullLog board.now system.entry.log result.reports.reports line len }
-{
-    board.is_board();
-    PlayedBoard {
-        end: PlayedEnd::LogFull { line, len },
-        reports: room.fill(board, system.take_lines()),
-    }
-}
-
-/// Reports a play that ended when a step was refused memory.
-fn report_cut<L: IrqLine>(board: &Board, system: System<'_, L>, room: ReportRoom) -> PlayedBoard
-    requires played { IsPlayed board.now system PlayEnd.NoMemory }
-    requires room { HasRoom (length board.now.lines) room }
-    ensures end { result.end ≡ PlayedEnd.NoMemory Wanted.Step }
-    ensures cut { CutShort board.now system.entry.log result.reports.reports }
-{
-    board.is_board();
-    PlayedBoard {
-        end: PlayedEnd::NoMemory(Wanted::Step),
-        reports: room.fill(board, system.take_lines()),
     }
 }
 

@@ -1,99 +1,51 @@
-//! Reports of a board's lines.
-ghost use Rattle.std.specs.Prelude.{◌≡◌, ◌≤◌, ◌<◌, ◌+◌, [], IfOk, All, length, map};
-ghost use Rattle.board_core.specs.Seen.{board_lines};
-ghost use Rattle.irq_play.specs.Headline.{told_by};
-ghost use Rattle.irq_play.specs.Reporting.{AreOfBoard, HasRoom, IsEmptyHistory, TakesFirst, from_last, history_among, is_first};
+//! Hands out the histories of a board that was played.
+ghost use Rattle.std.specs.Prelude.{◌≡◌, ◌≤◌, All, length};
+ghost use Rattle.board_report.specs.Reporting.{HasRoom};
+ghost use Rattle.board_report.specs.Summable.{IsSummable};
+ghost use Rattle.irq_play.specs.Headline.{CutShort, FullLog, Headline};
+ghost use Rattle.irq_play.specs.Played.{IsPlayed};
 
+use board_core::{PlayEnd, System};
 use board_def::Board;
-use irq_base::{History, LineNo, LineReport, NoMemory, Reports};
+use board_report::{ReportRoom, hand_out};
+use irq_base::{LineNo, Reports};
 use irq_line::IrqLine;
-use std::alloc::Global;
 
-/// Room for one report for each line of a board, so that nothing is refused once something is
-/// printed.
-#[derive(Drop)]
-pub struct ReportRoom {
-    reports: Reports,
-    /// An empty history for each line, for those that the layout refuses.
-    empty: Vec<History>,
-}
-
-impl ReportRoom {
-    /// Room for the reports of the board's lines.
-    pub fn new(alloc: Global, board: &Board) -> Result<ReportRoom, NoMemory>
-        ensures { IfOk result (HasRoom (length board.now.lines)) }
-    {
-        let mut reports = Reports::new(alloc);
-        reports.reserve(board.lines_len())?;
-        let empty = empty_histories(alloc, board.lines_len())?;
-        Ok(ReportRoom { reports, empty })
-    }
-
-    /// One report for each line of the board, in its order: a line that takes part hands out its
-    /// history; a line that the layout refuses has an empty one.
-    pub fn fill<L: IrqLine>(self, board: &Board, mut lines: Vec<L>) -> Reports
-        requires room { HasRoom (length board.now.lines) self }
-        requires lines { AreOfBoard board.now (board_lines (map L.seen lines.items)) }
-        ensures { map told_by result.reports
-            ≡ map (history_among (board_lines (map L.seen lines.items))) board.now.lines }
-    {
-        board.is_board();
-        let ReportRoom {
-            mut reports,
-            mut empty,
-        } = self;
-        lines.reverse();
-        for i in 0..board.lines_len() {
-            let Some(row) = board.line(i) else {
-                unreachable!();
-            };
-            let Some(spare) = empty.pop() else {
-                unreachable!();
-            };
-            let line = row.line;
-            let history = take_history(&mut lines, line, spare);
-            reports.push(LineReport { line, history }).unwrap();
-        }
-        reports
-    }
-}
-
-/// A list of `n` empty histories.
-fn empty_histories(alloc: Global, n: usize) -> Result<Vec<History>, NoMemory>
-    ensures count { IfOk result (λ all. length all.items ≡ n) }
-    ensures empty { IfOk result (λ all. All IsEmptyHistory all.items) }
+/// The reports of a play that came to its end.
+pub fn report_done<L: IrqLine>(board: &Board, system: System<'_, L>, room: ReportRoom) -> Reports
+    requires played { IsPlayed board.now system PlayEnd.Done }
+    requires room { HasRoom (length board.now.lines) room }
+    ensures headline { Headline board.now system.entry.log result.reports }
+    ensures few { length result.reports ≤ 64 }
+    ensures summable { All IsSummable result.reports }
 {
-    let mut all = Vec::new(alloc);
-    for _ in 0..n {
-        let history = History::with_room(alloc, 0)?;
-        all.push(history)?;
-    }
-    Ok(all)
+    board.is_board();
+    hand_out(board, system, room)
 }
 
-/// Takes the last line away if it has this number, and answers its history; else answers the empty
-/// history.
-fn take_history<L: IrqLine>(lines: &mut Vec<L>, number: LineNo, empty: History) -> History
-    requires { IsEmptyHistory empty }
-    ensures { TakesFirst (is_first number (from_last (map L.seen lines.old.items)))
-        (from_last (map L.seen lines.old.items)) (from_last (map L.seen lines.new.items))
-        result.entries }
+/// The reports of a play that ended when the line's history has the greatest length, `len` entries.
+pub fn report_full<L: IrqLine>(
+    board: &Board,
+    system: System<'_, L>,
+    room: ReportRoom,
+    line: LineNo,
+    len: u32,
+) -> Reports
+    requires played { IsPlayed board.now system (PlayEnd.Full line len) }
+    requires room { HasRoom (length board.now.lines) room }
+    ensures { FullLog board.now system.entry.log result.reports line len }
 {
-    if !is_last(lines, number) {
-        return empty;
-    }
-    match lines.pop() {
-        Some(line) => line.into_history(),
-        None => empty,
-    }
+    board.is_board();
+    let _told = (line, len);
+    hand_out(board, system, room)
 }
 
-/// Whether the last of the lines has this number.
-fn is_last<L: IrqLine>(lines: &[L], number: LineNo) -> bool
-    ensures { result ≡ is_first number (from_last (map L.seen lines.now)) }
+/// The reports of a play that ended when a step was refused memory.
+pub fn report_cut<L: IrqLine>(board: &Board, system: System<'_, L>, room: ReportRoom) -> Reports
+    requires played { IsPlayed board.now system PlayEnd.NoMemory }
+    requires room { HasRoom (length board.now.lines) room }
+    ensures { CutShort board.now system.entry.log result.reports }
 {
-    match lines.last() {
-        Some(line) => number == line.definition().line,
-        None => false,
-    }
+    board.is_board();
+    hand_out(board, system, room)
 }

@@ -1,9 +1,3 @@
-pub mod Laid
-pub mod Kept
-pub mod Resting
-pub mod FullAt
-pub mod Ample
-pub mod Reported
-pub mod Finished
-pub mod Fresh
-pub mod Rows
+mod Finished
+mod Fresh
+mod Rows

@@ -5,7 +5,7 @@ use Rattle.std.proofs.lemmas.List.Elements.{All-get_or}
 use Rattle.std.proofs.lemmas.Option.{slice_get_within, get_or_from_slice_get}
 use Rattle.irq_base.specs.declared.reporting.LineReport.{LineReport}
 use Rattle.log_text.specs.Rows.{history_text}
-use Rattle.irq_play.specs.Headline.{told_by}
+use Rattle.board_report.specs.Headline.{told_by}
 use Rattle.irq_run.specs.Report.{lines_text}
 
 -- the rows of a report

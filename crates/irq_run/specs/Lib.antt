@@ -1,4 +1,3 @@
-pub mod Headline
 pub mod Report
 pub mod Ends
 pub mod Ran

@@ -6,12 +6,11 @@ use Rattle.irq_io.specs.Whole.{WritesAll}
 use Rattle.irq_io.specs.declared.whole.WriteEnd.{WriteEnd}
 use Rattle.irq_io.specs.declared.whole.WriteEnd.TheVariants as writes
 use Rattle.board_core.specs.Playing.{Ends}
-use Rattle.board_core.specs.Seen.{SystemSeen, board_lines}
+use Rattle.board_core.specs.Seen.{SystemSeen}
 use Rattle.board_core.specs.declared.turns.PlayEnd.{PlayEnd}
 use Rattle.board_def.specs.Layout.{layout_of}
 use Rattle.board_def.specs.Seen.{BoardSeen}
-use Rattle.board_play.specs.Kept.{AreKept}
-use Rattle.irq_run.specs.Headline.{FullLog, Headline, Histories, histories_of}
+use Rattle.board_report.specs.Headline.{FullLog, Headline, Histories, histories_of}
 use Rattle.irq_run.specs.Report.{run_text}
 use Rattle.irq_run.specs.declared.ending.RunEnd.{RunEnd}
 use Rattle.irq_run.specs.declared.ending.RunEnd.TheVariants as ends
@@ -38,10 +37,8 @@ RunsBoard b summary reports before now ends.WriteFault =
 RunsBoard b summary reports before now (ends.LogFull line len) = IsRunFull b reports line len
 RunsBoard b summary reports before now ends.NoMemory = reports ≡ []
 
--- A system of the board's lines after a run, and how settling it ended. Whatever the threads did,
--- each history is legal, and the drivers' calls were made in the order of their scripts.
+-- A system of the board's lines after a run, and how settling it ended.
 pub record IsRun (b : BoardSeen) (s : SystemSeen) (end : PlayEnd) : Type 0 where
   pub board : s.board ≡ b
   pub layout : s.layout ≡ layout_of b
-  pub kept : AreKept b (board_lines s.lines)
   pub ends : Ends s end

@@ -1,31 +1,22 @@
 //! Prints a run that came to its end, and hands out its reports.
 ghost use Rattle.std.specs.Prelude.{◌≡◌, ◌≤◌, All, length, map};
-ghost use Rattle.board_core.specs.Making.{AreSound};
+ghost use Rattle.board_report.specs.Headline.{told_by};
+ghost use Rattle.board_report.specs.Reporting.{HasRoom};
+ghost use Rattle.board_report.specs.Rows.{HasRows};
+ghost use Rattle.board_report.specs.Summable.{IsSummable};
 ghost use Rattle.irq_io.specs.Faults.{Counts};
 ghost use Rattle.irq_io.specs.Whole.{HandsOn, KeepsNone, WritesAll, writing_failed};
-ghost use Rattle.irq_play.specs.Headline.{told_by};
-ghost use Rattle.irq_play.specs.Reporting.{HasRoom};
-ghost use Rattle.irq_play.specs.Summable.{IsSummable};
 ghost use Rattle.irq_run.specs.Ran.{IsPrinted, IsRun};
-ghost use Rattle.irq_run.specs.Report.{HasRows, rows_text};
+ghost use Rattle.irq_run.specs.Report.{rows_text};
 
 use crate::printing::print_lines;
 use board_core::{PlayEnd, System};
 use board_def::Board;
+use board_report::{Printed, ReportRoom, hand_on, hand_out, print_layout, print_totals};
 use irq_base::Reports;
 use irq_io::{Sink, WriteEnd};
 use irq_line::IrqLine;
-use irq_play::printing::{hand_on, print_layout};
-use irq_play::reporting::ReportRoom;
-use irq_play::summaries::print_totals;
 use text_row::TextRow;
-
-/// A run that was printed: how the printing ended, and the reports.
-#[derive(Drop)]
-pub(crate) struct Printed {
-    pub(crate) end: WriteEnd,
-    pub(crate) reports: Reports,
-}
 
 /// Takes the histories out of the lines of the run, and prints them after the layout, or a summary
 /// of them.
@@ -44,11 +35,9 @@ pub(crate) fn print_run<O: Sink, L: IrqLine>(
     ensures emptied { KeepsNone (O.kept out.new) result.end }
     ensures cause { Counts (O.faults out.old) (O.faults out.new) (writing_failed result.end) }
 {
-    board.is_board();
-    are_sound(system.lines());
     let mut row = TextRow::new();
     let laid = print_layout(out, &mut row, board, system.layout());
-    let reports = room.fill(board, system.take_lines());
+    let reports = hand_out(board, system, room);
     let end = match laid {
         WriteEnd::Done => write_lines(&mut row, summary, &reports, out),
         WriteEnd::Failed => WriteEnd::Failed,
@@ -81,14 +70,5 @@ fn write_lines<O: Sink>(
     match printed {
         WriteEnd::Done => hand_on(out),
         WriteEnd::Failed => WriteEnd::Failed,
-    }
-}
-
-/// What holds of each line at every moment.
-fn are_sound<L: IrqLine>(lines: &[L])
-    ensures { AreSound (map L.seen lines.now) }
-{
-    for i in 0..lines.len() {
-        lines[i].is_sound();
     }
 }

@@ -1,11 +1,12 @@
 //! Prints histories line by line; each row is handed to the sink by itself.
 ghost use Rattle.std.specs.Prelude.{All, map};
+ghost use Rattle.board_report.specs.Headline.{told_by};
+ghost use Rattle.board_report.specs.Rows.{HasRows};
 ghost use Rattle.irq_io.specs.Faults.{Counts};
 ghost use Rattle.irq_io.specs.Whole.{WritesAll, writing_failed};
-ghost use Rattle.irq_play.specs.Headline.{told_by};
 ghost use Rattle.log_text.specs.EntryWords.{IsPrintable};
 ghost use Rattle.log_text.specs.Rows.{history_text};
-ghost use Rattle.irq_run.specs.Report.{HasRows, lines_text};
+ghost use Rattle.irq_run.specs.Report.{lines_text};
 
 use irq_base::{History, LineNo, Reports};
 use irq_io::{Sink, WriteEnd, write_all};

@@ -9,6 +9,7 @@ use crate::inputs::read_input;
 use crate::outcome::Outcome;
 use board_def::Board;
 use board_gen::generate;
+use board_lines::MakesChainLine;
 use callbacks::{Callbacks, Handler};
 use irq_base::NoMemory;
 use irq_check::check_and_print;
@@ -94,7 +95,16 @@ fn run_board<R: Threads + Wait + Sync, O: Sink, G: Gate + Sync, H: Handler + Syn
         (is_write_fault_end result.ending) }
     ensures silent { is_printing result.ending ≡ false → out.new ≡ out.old }
 {
-    let ran = run_and_print(rt, alloc, board, summary, gate, handlers, out);
+    let ran = run_and_print(
+        rt,
+        alloc,
+        board,
+        summary,
+        &MakesChainLine,
+        gate,
+        handlers,
+        out,
+    );
     Outcome {
         ending: Ending::from(ran.end),
         reports: ran.reports,
@@ -138,7 +148,7 @@ fn play_board<O: Sink, H: Handler>(
         (is_write_fault_end result.ending) }
     ensures silent { is_printing result.ending ≡ false → out.new ≡ out.old }
 {
-    let played = play_and_print(alloc, board, summary, handlers, out);
+    let played = play_and_print(alloc, board, summary, &MakesChainLine, handlers, out);
     Outcome {
         ending: Ending::from(played.end),
         reports: played.reports,

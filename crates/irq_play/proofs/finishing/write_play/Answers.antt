@@ -4,7 +4,7 @@ use Rattle.irq_io.specs.declared.whole.WriteEnd.TheVariants as ends
 use Rattle.board_play.specs.Lines.{Move}
 use Rattle.log_text.specs.LayoutRows.{layout_rows}
 use Rattle.irq_play.specs.Report.{moves_text}
-use Rattle.irq_play.proofs.Writing.{and_then, then_handed_on}
+use Rattle.board_report.proofs.Writing.{and_then, then_handed_on}
 use Rattle.irq_play.proofs.finishing.write_play.Goals as goal
 
 pub returns-in-Done-print_moves-clause-content : goal.returns-in-Done-print_moves-clause-content

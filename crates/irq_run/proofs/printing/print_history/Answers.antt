@@ -5,7 +5,7 @@ use Rattle.irq_io.specs.Whole.{WritesAll}
 use Rattle.irq_io.specs.declared.whole.WriteEnd.TheVariants as ends
 use Rattle.log_text.specs.EntryWords.{IsPrintable}
 use Rattle.log_text.specs.Rows.{entry_text}
-use Rattle.irq_play.proofs.Writing.{items_done, items_failed}
+use Rattle.board_report.proofs.Writing.{items_done, items_failed}
 use Rattle.irq_run.proofs.Rows.{all_at}
 use Rattle.irq_run.proofs.printing.print_history.Goals as goal
 

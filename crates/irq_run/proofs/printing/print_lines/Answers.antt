@@ -3,8 +3,8 @@ use Rattle.std.specs.List.{flat_map}
 use Rattle.std.proofs.lemmas.List.{take_all}
 use Rattle.irq_io.specs.Whole.{WritesAll}
 use Rattle.irq_io.specs.declared.whole.WriteEnd.TheVariants as ends
-use Rattle.irq_play.proofs.Writing.{items_done, items_failed}
-use Rattle.irq_run.specs.Report.{HasRows}
+use Rattle.board_report.proofs.Writing.{items_done, items_failed}
+use Rattle.board_report.specs.Rows.{HasRows}
 use Rattle.irq_run.proofs.Rows.{all_at, report_rows, rows_of_reports}
 use Rattle.irq_run.proofs.printing.print_lines.Goals as goal
 

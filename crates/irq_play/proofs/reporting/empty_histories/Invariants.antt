@@ -1,9 +1,0 @@
-use Rattle.std.proofs.Common.{◌≡◌, All, vec_len}
-use Rattle.irq_play.specs.Reporting.{IsEmptyHistory}
-use Rattle.irq_play.proofs.reporting.empty_histories.Given as goal
-
-abbrev pub invariant-loop : goal.invariant-loop
-invariant-loop l = record {
-  count : vec_len l.all ≡ l.counter;
-  empty : All IsEmptyHistory l.all.items;
-}
