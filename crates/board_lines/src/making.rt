@@ -1,6 +1,7 @@
 //! What makes lines over chains.
 ghost use Rattle.std.specs.Prelude.{◌≡◌, IfOk, Some, []};
 ghost use Rattle.board_lines.specs.Wirings.{wiring_at};
+ghost use Rattle.line_makers.specs.Chips.{HasChips};
 
 use domain_chain::Chain;
 use domain_hier::Hierarchy;
@@ -24,6 +25,7 @@ impl MakesDomainLine for MakesChainLine {
         virq: u32,
         def: &LineDef,
     ) -> Result<Line<Chain>, NoMemory>
+        requires { HasChips domains.now virq def.now }
         ensures def { IfOk result (λ line. line.line.def ≡ def.now) }
         ensures empty { IfOk result (λ line. line.line.entries ≡ []) }
         ensures wiring { IfOk result (λ line. Some line.wiring ≡ wiring_at domains.now virq) }
