@@ -1,3 +1,4 @@
+mod Limits
 mod Cutting
 mod WholeInput
 mod OneLog

@@ -1,16 +1,18 @@
 //! An input is judged.
-ghost use Rattle.std.specs.Prelude.{◌≡◌, ◌≤◌, length, IfOk};
+ghost use Rattle.std.specs.Prelude.{◌≡◌, ◌≤◌, true, length, IfOk};
 ghost use Rattle.board_stated.specs.TextOf.{whole};
 ghost use Rattle.irq_check.specs.Checked.{Checks, ChecksLog};
 
 use crate::answers::Answer;
 use crate::parts::cut_input;
 use board_def::Board;
+use board_layout::lay;
 use board_text::{BoardFault, BoardRefused, FaultKind, read_board};
 use irq_base::NoMemory;
 use line_cell::Cell;
 use line_core::{Line, MakesCellLine};
 use log_check::{Verdict, check};
+use log_due::is_as_due;
 use log_read::{LogRefused, read_log};
 use std::alloc::Global;
 use thiserror::Error;
@@ -63,11 +65,15 @@ fn whole(kind: FaultKind) -> CheckRefused
     CheckRefused::Fault(BoardFault { at: 0, kind })
 }
 
-/// Judges the text of a log of the board. The only error is `NoMemory`.
+/// Judges the text of a log of the board. A log whose rows are all as they were due is gone over once.
+/// Any other is read whole first, and then judged from its histories. The only error is `NoMemory`.
 fn check_log(alloc: Global, board: &Board, log: &[u8]) -> Result<Answer, NoMemory>
     requires { length log.now ≤ 67108864 }
     ensures { IfOk result (λ answer. ChecksLog board.now log.now answer) }
 {
+    if is_lawful(alloc, board, log)? {
+        return Ok(Answer::Lawful);
+    }
     let logs = match read_log(alloc, board, log) {
         Ok(logs) => logs,
         Err(LogRefused::Malformed { row }) => return Ok(Answer::Malformed { row }),
@@ -77,4 +83,14 @@ fn check_log(alloc: Global, board: &Board, log: &[u8]) -> Result<Answer, NoMemor
         Verdict::Lawful => Ok(Answer::Lawful),
         Verdict::Unlawful { line, entry } => Ok(Answer::Unlawful { line, entry }),
     }
+}
+
+/// Whether each row of the log is as it was due. The only error is `NoMemory`.
+fn is_lawful(alloc: Global, board: &Board, log: &[u8]) -> Result<bool, NoMemory>
+    requires { length log.now ≤ 67108864 }
+    ensures { IfOk result (λ due. due ≡ true → ChecksLog board.now log.now Answer.Lawful) }
+{
+    board.is_board();
+    let (_, layout) = lay(alloc, board)?;
+    is_as_due::<Line<Cell>, MakesCellLine>(alloc, board, &layout, &MakesCellLine, log)
 }

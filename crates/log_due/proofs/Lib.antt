@@ -1,0 +1,3 @@
+mod Printable
+mod Rows
+mod Lines
