@@ -65,8 +65,9 @@ fn whole(kind: FaultKind) -> CheckRefused
     CheckRefused::Fault(BoardFault { at: 0, kind })
 }
 
-/// Judges the text of a log of the board. A log whose rows are all as they were due is gone over once.
-/// Any other is read whole first, and then judged from its histories. The only error is `NoMemory`.
+/// Judges the text of a log of the board. A log whose rows are all as they were due is gone over
+/// once. Any other is read whole first, and then judged from its histories. The only error is
+/// `NoMemory`.
 fn check_log(alloc: Global, board: &Board, log: &[u8]) -> Result<Answer, NoMemory>
     requires { length log.now ≤ 67108864 }
     ensures { IfOk result (λ answer. ChecksLog board.now log.now answer) }

@@ -10,8 +10,8 @@ use irq_base::{LineDef, NoMemory};
 use irq_line::{IrqLine, MakesLine};
 use std::alloc::Global;
 
-/// The most entries of a line that judges. The board's own limit doesn't bound a log that is judged:
-/// how long a history may grow is no rule of what is due.
+/// The most entries of a line that judges. The board's own limit doesn't bound a log that is
+/// judged: how long a history may grow is no rule of what is due.
 const MOST_ENTRIES: u32 = 100_000_000;
 
 /// The board's lines, in its order, to which nothing has happened. The only error is `NoMemory`.

@@ -49,8 +49,8 @@ pub fn is_as_due<L: IrqLine, M: MakesLine<L>>(
     Ok(true)
 }
 
-/// Whether the row, without its line feed, is passed over, or is that of an entry which is due; then
-/// its line has it.
+/// Whether the row, without its line feed, is passed over, or is that of an entry which is due;
+/// then its line has it.
 fn passes<L: IrqLine>(
     lines: &mut Vec<DueLine<L>>,
     board: &Board,
