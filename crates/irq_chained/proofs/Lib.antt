@@ -1,0 +1,10 @@
+pub mod FitsLaws
+pub mod Merging
+pub mod StatusBits
+pub mod Chained
+pub mod Stepping
+pub mod Resting
+pub mod Lowest
+pub mod Room
+pub mod Playing
+pub mod Turning

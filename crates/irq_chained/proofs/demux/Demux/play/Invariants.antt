@@ -1,0 +1,10 @@
+use Rattle.std.proofs.Common.{◌≡◌, drop}
+use Rattle.irq_chained.specs.Turned.{IsUnderway}
+use Rattle.irq_chained.proofs.demux.Demux.play.Given as goal
+
+abbrev pub invariant-loop-pick : goal.invariant-loop-pick
+invariant-loop-pick g l = record {
+  board : l.self.board ≡ l.fn.self.board;
+  layout : l.self.layout ≡ l.fn.self.layout;
+  underway : IsUnderway l.self l.picks (drop l.pick-index l.picks);
+}

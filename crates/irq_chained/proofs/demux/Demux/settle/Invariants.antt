@@ -1,0 +1,15 @@
+use Rattle.std.proofs.Common.{◌≡◌, List, []}
+use Rattle.irq_base.specs.declared.entries.Actor.{Actor}
+use Rattle.irq_chained.specs.Turned.{IsUnderway}
+use Rattle.irq_chained.proofs.Playing.{measure}
+use Rattle.irq_chained.proofs.demux.Demux.settle.Given as goal
+
+abbrev pub invariant-loop-line : goal.invariant-loop-line
+invariant-loop-line g l = record {
+  board : l.self.board ≡ l.fn.self.board;
+  layout : l.self.layout ≡ l.fn.self.layout;
+  underway : (picks : List Actor) → IsUnderway l.fn.self picks [] → IsUnderway l.self picks [];
+}
+
+abbrev pub decreases-loop-line : goal.decreases-loop-line
+decreases-loop-line g l = measure l.self
