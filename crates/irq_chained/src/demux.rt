@@ -1,5 +1,5 @@
 //! The demultiplexer.
-ghost use Rattle.std.specs.Prelude.{◌≡◌, ◌<◌, true, IfOk, IsSome, IsTrue, List, [], None, Some, map, reverse, slice_get};
+ghost use Rattle.std.specs.Prelude.{◌≡◌, ◌<◌, true, IfOk, IsSome, IsTrue, List, [], None, Some, reverse, slice_get};
 ghost use Rattle.irq_base.specs.declared.entries.Actor.{Actor};
 ghost use Rattle.irq_base.specs.declared.entries.Actor.TheVariants as actors;
 ghost use Rattle.board_def.specs.Layout.{layout_of};
@@ -111,12 +111,14 @@ impl<'b, L: IrqLine> Demux<'b, L> {
         )
     }
 
-    /// The lines, as they stand, without the demultiplexer.
-    pub fn take_lines(self) -> Vec<L>
-        ensures { map L.seen result.items ≡ self.entry.lines }
+    /// The system of the children, as they stand, without the demultiplexer.
+    pub fn into_system(self) -> System<'b, L>
+        ensures board { result.board ≡ self.entry.board }
+        ensures layout { result.layout ≡ self.entry.layout }
+        ensures lines { result.lines ≡ self.entry.lines }
     {
         let Demux { system, .. } = self;
-        system.take_lines()
+        system
     }
 
     /// One step of the actor, if it has one. If the step ends a run of a handler, that handler is
