@@ -1,5 +1,6 @@
 -- How many moves there can be.
-use Rattle.std.proofs.Common.{◌≡◌, ℕ, zero, suc, ◌+◌, ◌*◌, ◌≤◌, Bool, true, false, Option, Some, None, List, [], ◌∷◌, ◌++◌, length, ap, ◌∙◌, sym, arith, length-append, replicate}
+use Rattle.std.proofs.Common.{◌≡◌, ℕ, zero, suc, ◌+◌, ◌*◌, ◌≤◌, Bool, true, false, Option, Some, None, List, [], ◌∷◌}
+use Rattle.std.proofs.Common.{◌++◌, length, ap, ◌∙◌, sym, arith, length-append, replicate}
 use Rattle.std.specs.List.{flat_map}
 use Rattle.std.proofs.lemmas.Grind.{flat_map-append}
 use Rattle.std.proofs.lemmas.List.{length-map}
@@ -12,7 +13,9 @@ use Rattle.board_def.specs.LineOf.{line_defs_of, line_of_row}
 use Rattle.board_def.specs.Seen.{BoardSeen}
 use Rattle.vector_matrix.specs.declared.view.Vector.{Vector}
 use Rattle.irq_hotplug.specs.Berths.{all_found, all_settled}
-use Rattle.irq_hotplug.specs.Fleet.{FleetSeen, after_event, after_events, after_off_by, after_on_by, berths_from, berths_of, first_fleet, fleet_after, found_off, off_answer, on_answer, placed_fleet, says}
+use Rattle.irq_hotplug.specs.Fleet.{FleetSeen, after_event, after_events, after_off_by, after_on_by, berths_from}
+use Rattle.irq_hotplug.specs.Fleet.{berths_of, first_fleet, fleet_after, found_off, off_answer, on_answer, placed_fleet}
+use Rattle.irq_hotplug.specs.Fleet.{says}
 use Rattle.irq_hotplug.specs.Rows.{all_rows, placed_row, rows_for}
 use Rattle.irq_hotplug.specs.declared.berths.Berth.{Berth}
 use Rattle.irq_hotplug.specs.declared.berths.Moving.{Moving}
@@ -80,11 +83,13 @@ event_adds : (f : FleetSeen) (e : Event) → Adds f (after_event f e)
 event_adds f (events.Off cpu) = off_adds f cpu (off_answer f cpu)
 event_adds f (events.On cpu) = on_adds f cpu (on_answer f.online cpu)
 
-pub few_at_events : (n : ℕ) (f : FleetSeen) (es : List Event) → length f.berths ≤ n → length (moves_of (after_events f es).said) ≤ length (moves_of f.said) + n * length es
+pub few_at_events : (n : ℕ) (f : FleetSeen) (es : List Event) → length f.berths ≤ n
+    → length (moves_of (after_events f es).said) ≤ length (moves_of f.said) + n * length es
 few_at_events n f [] few = omega arith
 few_at_events n f (e ∷ es) few =
     let adds = event_adds f e in
-    sum_up (length (moves_of (after_events (after_event f e) es).said)) (length (moves_of (after_event f e).said)) (length (moves_of f.said)) (length f.berths) n (length es)
+    sum_up (length (moves_of (after_events (after_event f e) es).said)) (length (moves_of (after_event f e).said))
+    (length (moves_of f.said)) (length f.berths) n (length es)
     (few_at_events n (after_event f e) es (omega (arith, adds.berths, few))) adds.moves few
   where
     mul_more : (a b : ℕ) → a * (1 + b) ≡ a + a * b

@@ -1,5 +1,6 @@
 -- The moves that are said.
-use Rattle.std.proofs.Common.{◌≡◌, ℕ, zero, suc, ◌+◌, ◌*◌, ◌<◌, ◌≤◌, ◌==◌, Bool, true, false, ◌||◌, ◌^◌, List, [], ◌∷◌, ◌++◌, length, All, refl, subst, arith, eqb-true}
+use Rattle.std.proofs.Common.{◌≡◌, ℕ, zero, suc, ◌+◌, ◌*◌, ◌<◌, ◌≤◌, ◌==◌, Bool, true, false, ◌||◌, ◌^◌, List, [], ◌∷◌}
+use Rattle.std.proofs.Common.{◌++◌, length, All, refl, subst, arith, eqb-true}
 use Rattle.std.specs.List.{flat_map, list_any}
 use Rattle.std.proofs.lemmas.Bool.{false≢true}
 use Rattle.std.proofs.lemmas.List.Elements.{All-append, All-weaker}
@@ -29,14 +30,17 @@ have_cpus berths said all = All-weaker (IsSaidOf berths) HasCpu (cpu_of berths) 
 
 line_there : (b : BoardSeen) (bs : List Berth) (line : LineNo) → AreLinesOf b bs → has_berth bs line ≡ true → has_line b.lines line ≡ true
 line_there b [] line are has = absurd (false≢true has)
-line_there b (x ∷ xs) line are has = by (x.line.0 == line.0) refl has (λ h. line_there b xs line (tail_of (λ (y : Berth). has_line b.lines y.line ≡ true) x xs are) h)
+line_there b (x ∷ xs) line are has = by (x.line.0 == line.0) refl has
+    (λ h. line_there b xs line (tail_of (λ (y : Berth). has_line b.lines y.line ≡ true) x xs are) h)
   where
     number_of : ℕ → LineNo
     number_of n = record { 0 = n }
 
-    by : (t : Bool) → (x.line.0 == line.0) ≡ t → (t || has_berth xs line) ≡ true → (has_berth xs line ≡ true → has_line b.lines line ≡ true) → has_line b.lines line ≡ true
+    by : (t : Bool) → (x.line.0 == line.0) ≡ t → (t || has_berth xs line) ≡ true
+        → (has_berth xs line ≡ true → has_line b.lines line ≡ true) → has_line b.lines line ≡ true
     by true same h rest =
-        subst (λ n. list_any (λ (row : LineRow). row.line.0 == n) b.lines ≡ true) (eqb-true x.line.0 line.0 same) (head_of (λ (y : Berth). has_line b.lines y.line ≡ true) x xs are)
+        subst (λ n. list_any (λ (row : LineRow). row.line.0 == n) b.lines ≡ true) (eqb-true x.line.0 line.0 same)
+        (head_of (λ (y : Berth). has_line b.lines y.line ≡ true) x xs are)
     by false same h rest = rest h
 
 move_ok : (b : BoardSeen) (berths : List Berth) (row : FleetRow) → AreLinesOf b berths → IsSaidOf berths row → All (IsOfALine b) (move_of row)
@@ -49,7 +53,8 @@ move_ok b berths (rows.Off cpu answer) are is = λ k d h. absurd (omega arith)
 move_ok b berths (rows.On cpu answer) are is = λ k d h. absurd (omega arith)
 
 -- each move is of a line of the board
-pub moves_ok : (b : BoardSeen) (berths : List Berth) (said : List FleetRow) → AreLinesOf b berths → All (IsSaidOf berths) said → All (IsOfALine b) (moves_of said)
+pub moves_ok : (b : BoardSeen) (berths : List Berth) (said : List FleetRow) → AreLinesOf b berths
+    → All (IsSaidOf berths) said → All (IsOfALine b) (moves_of said)
 moves_ok b berths [] are all = λ k d h. absurd (omega arith)
 moves_ok b berths (row ∷ said) are all =
     All-append (IsOfALine b) (move_of row) (moves_of said)
