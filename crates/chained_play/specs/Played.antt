@@ -1,5 +1,5 @@
 -- What a board's play behind a demultiplexer answers, and what is printed of it.
-use Rattle.std.specs.Prelude.{◌≡◌, ℕ, Option, List, [], false}
+use Rattle.std.specs.Prelude.{◌≡◌, ℕ, Option, List, []}
 use Rattle.irq_base.specs.declared.reporting.LineReport.{LineReport}
 use Rattle.irq_io.specs.Whole.{WritesAll}
 use Rattle.irq_io.specs.declared.whole.WriteEnd.{WriteEnd}
