@@ -122,7 +122,7 @@ fn run_in_rounds<
         → x.entries ≡ [] }
     ensures { IfOk result (λ all. AreKept board.now (board_lines (map L.seen all.items))) }
 {
-    let (shared, mut jobs) = share(alloc, board, lines)?;
+    let (shared, mut jobs) = share(rt, alloc, board, lines)?;
     match run_rounds(rt, &shared, &mut jobs, gate, handlers) {
         RoundsEnd::Quiet | RoundsEnd::Full { .. } => gather(alloc, shared, jobs),
         RoundsEnd::NoMemory => Err(NoMemory),

@@ -16,3 +16,4 @@ pub mod Flowing
 pub mod Driving
 pub mod Driven
 pub mod Rounding
+pub mod Sweeping

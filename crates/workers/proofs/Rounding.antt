@@ -1,5 +1,5 @@
 -- What a turn of each kind of actor leaves of its job.
-use Rattle.std.proofs.Common.{◌≡◌, ℕ, suc, ◌+◌, ◌<◌, ◌≤◌, inl, inr, Bool, true, false, ◌&&◌, nat_le, nat_lt, ltb-true, ltb-false, cond, All, IsSomeAnd, Option, Some, None, List, [], ◌∷◌, ◌++◌, map, filter, take, drop, length, get_or, slice_get, refl, sym, ap, ◌∙◌, subst, arith}
+use Rattle.std.proofs.Common.{◌≡◌, ℕ, suc, ◌+◌, ◌<◌, ◌≤◌, inl, inr, Bool, true, false, ◌&&◌, nat_le, nat_lt, ltb-true, ltb-false, cond, All, IsSomeAnd, Option, Some, None, List, [], ◌∷◌, ◌++◌, map, filter, take, drop, length, get_or, slice_get, IsPermutation, refl, sym, ap, ◌∙◌, subst, arith}
 use Rattle.irq_base.specs.declared.entries.Actor.{Actor}
 use Rattle.irq_base.specs.declared.entries.Actor.TheVariants as actors
 use Rattle.irq_base.specs.declared.lines.LineDef.{LineDef}
@@ -183,7 +183,8 @@ pub still_fit : (lines : List LockSeen) (old new : JobsSeen) → Fit lines old �
 still_fit lines old new fit board firsts long each =
     record {
       defs = fit.defs ∙ ap defs_of (sym board);
-      actors = same_actors old.board lines old.jobs new.jobs long each ∙ (fit.actors ∙ ap (λ (b : BoardSeen). workers_of b lines) (sym board));
+      actors = subst (λ (b : BoardSeen). IsPermutation (workers_of b lines) (map (λ (j : JobSeen). j.actor) new.jobs)) (sym board)
+          (subst (λ (ws : List Actor). IsPermutation (workers_of old.board lines) ws) (sym (same_actors old.board lines old.jobs new.jobs long each)) fit.actors);
       each = λ i j at. subst (λ (b : BoardSeen). IsJob b lines j) (sym board) (each_at old.board lines old.jobs new.jobs long each i j at).0;
       firsts = subst (λ (ps : List PassSeen). AreFirsts lines new.jobs ps) (sym firsts)
           (record { as_many = fit.firsts.as_many; each = λ k p at. subst (λ (whom : List Actor). IsSomeAnd (slice_get lines k) (λ l. IsFirst l whom p)) (sym (same_on old.board lines k old.jobs new.jobs long each)) (fit.firsts.each k p at) });

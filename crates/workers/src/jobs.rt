@@ -9,6 +9,7 @@ ghost use Rattle.workers.specs.Fit.{AreFirsts, Fit, IsJob, workers_of, actors_on
 ghost use Rattle.workers.specs.Forks.{Hires, AreBoards, IsThere};
 
 use crate::crew::make_crew;
+use crate::dealing::{deal, threads_for};
 use crate::forks::fork_all;
 use crate::job::{Job, Left};
 use crate::lines::SharedLines;
@@ -18,12 +19,15 @@ use irq_line::IrqLine;
 use line_shared::{Pass, SharedLine};
 use std::alloc::Global;
 use std::marker::Model;
+use std::thread::Threads;
 
 /// The jobs of all workers of a board, and the first pass of each line, with which the line is
 /// taken out of its lock at the end.
 #[derive(Drop)]
 pub struct Jobs<'b, L: IrqLine> {
     pub(crate) board: &'b Board,
+    /// In how many threads they are worked on, at most.
+    pub(crate) threads: usize,
     pub(crate) jobs: Vec<Job<L>>,
     pub(crate) firsts: Vec<Pass<L>>,
 }
@@ -39,7 +43,8 @@ impl<'b, L: IrqLine> Model for Jobs<'b, L> {
 /// Shares each line, and gives a pass of it to each of its devices' threads, to each processor and
 /// to each driver. The lines are the board's lines that take part, in its order, and nothing has
 /// happened to them. The only error is `NoMemory`; then the lines are gone.
-pub fn share<'b, L: IrqLine>(
+pub fn share<'b, R: Threads, L: IrqLine>(
+    rt: &R,
     alloc: Global,
     board: &'b Board,
     lines: Vec<L>,
@@ -53,13 +58,16 @@ pub fn share<'b, L: IrqLine>(
     board.is_board();
     let (lines, firsts) = share_lines(alloc, lines)?;
     let crew = make_crew(alloc, board, &lines)?;
+    let threads = threads_for(rt, crew.len());
+    let dealt = deal(alloc, crew, threads)?;
     let mut jobs = Jobs {
         board,
+        threads,
         jobs: Vec::new(alloc),
         firsts,
     };
-    for i in 0..crew.len() {
-        jobs.hire(alloc, &lines, crew[i])?;
+    for i in 0..dealt.len() {
+        jobs.hire(alloc, &lines, dealt[i])?;
     }
     Ok((lines, jobs))
 }

@@ -9,6 +9,7 @@
 #![tactic(auto)]
 
 mod crew;
+mod dealing;
 mod drivers;
 mod forks;
 pub mod gate;
@@ -16,8 +17,10 @@ pub mod gathers;
 mod job;
 pub mod jobs;
 pub mod lines;
+mod muster;
 pub mod rounds;
 mod seat;
+mod sweeps;
 mod turns;
 
 pub use gate::{Gate, NoGate};

@@ -1,0 +1,268 @@
+//! What a thread does in a round: it sweeps over its jobs, again and again.
+ghost use Rattle.std.specs.Prelude.{◌≡◌, All};
+ghost use Rattle.workers.specs.Fit.{IsJob};
+ghost use Rattle.workers.specs.Forks.{AreBoards};
+ghost use Rattle.workers.specs.Room.{RoomLeft};
+ghost use Rattle.workers.specs.Rounds.{GoesOn, GoOnJobs, KeepsJobs, LeftIsSo, TurnsJob, WorksJob, WorksOn, with_earlier};
+
+use crate::gate::Gate;
+use crate::job::{Job, Left};
+use crate::lines::SharedLines;
+use crate::muster::Muster;
+use crate::rounds::worse;
+use crate::turns::Turn;
+use board_def::Board;
+use callbacks::{Callbacks, Handler};
+use irq_base::Actor;
+use irq_line::IrqLine;
+use std::hint::spin_loop;
+use std::sync::Wait;
+
+/// In a round a worker makes at most as many steps as the greatest length of a history divided by
+/// this. So a worker that could go on by itself, like a processor that takes a level line again and
+/// again until the thread of its device has run, leaves room for the workers that wait for the next
+/// round. Threads are made anew for each round, so a worker's part should not be small.
+const SHARE: u32 = 16;
+
+/// The least that the bound on a worker's steps in a round can be.
+const LEAST: u32 = 16;
+
+/// The most that the bound on a worker's steps in a round can be, however long histories may grow.
+const MOST: u32 = 65_536;
+
+/// The most steps that a worker makes before its thread goes on to its next job.
+const AT_ONCE: u32 = 16;
+
+/// How often a thread that finds nothing sweeps over its jobs again before it rests.
+const LOOKS: usize = 64;
+
+impl<L: IrqLine> Job<L> {
+    /// One turn of the actor.
+    fn turn<R: Wait, H: Handler>(
+        &mut self,
+        rt: &R,
+        board: &Board,
+        lines: &SharedLines<L>,
+        handlers: &Callbacks<H>,
+    ) -> Turn
+        requires boards { AreBoards board.now lines.now }
+        requires job { IsJob board.now lines.now self.old }
+        ensures { TurnsJob board.now lines.now result self.old self.new }
+    {
+        match self.actor {
+            Actor::Thread(..) => self.try_seat(rt, lines, 0, handlers),
+            Actor::Cpu(_) => self.turn_cpu(rt, lines, handlers),
+            Actor::Driver(driver) => self.turn_driver(rt, board, lines, driver, handlers),
+        }
+    }
+
+    /// One turn of the actor, once the gate lets it pass.
+    fn turn_at_gate<R: Wait, G: Gate, H: Handler>(
+        &mut self,
+        rt: &R,
+        board: &Board,
+        lines: &SharedLines<L>,
+        gate: &G,
+        handlers: &Callbacks<H>,
+    ) -> Turn
+        requires boards { AreBoards board.now lines.now }
+        requires job { IsJob board.now lines.now self.old }
+        ensures { TurnsJob board.now lines.now result self.old self.new }
+    {
+        self.turns = self.turns.saturating_add(1);
+        gate.pass(self.actor, self.turns);
+        self.turn(rt, board, lines, handlers)
+    }
+
+    /// Steps of the actor, as long as there is something to do, but few.
+    fn take_turns<R: Wait, G: Gate, H: Handler>(
+        &mut self,
+        rt: &R,
+        board: &Board,
+        lines: &SharedLines<L>,
+        gate: &G,
+        handlers: &Callbacks<H>,
+    ) -> Left
+        requires boards { AreBoards board.now lines.now }
+        requires job { IsJob board.now lines.now self.old }
+        ensures works { WorksOn board.now lines.now self.old self.new }
+        ensures left { LeftIsSo board.now self.new result }
+        ensures room { RoomLeft result self.old self.new }
+    {
+        for steps in 0..AT_ONCE {
+            match self.turn_at_gate(rt, board, lines, gate, handlers) {
+                Turn::Moved(_) => {}
+                Turn::NotYet if steps > 0 => return Left::Busy,
+                Turn::NotYet => return Left::Idle,
+                Turn::Full { line, len } => return Left::Full { line, len },
+                Turn::NoMemory => return Left::NoMemory,
+            }
+        }
+        Left::Busy
+    }
+
+    /// The first that a worker does in a round.
+    fn work<R: Wait, G: Gate, H: Handler>(
+        &mut self,
+        rt: &R,
+        board: &Board,
+        lines: &SharedLines<L>,
+        gate: &G,
+        handlers: &Callbacks<H>,
+    )
+        requires boards { AreBoards board.now lines.now }
+        requires job { IsJob board.now lines.now self.old }
+        ensures { WorksJob board.now lines.now self.old self.new }
+    {
+        self.left = self.take_turns(rt, board, lines, gate, handlers);
+    }
+
+    /// What a worker does later in the round, and how this went. If it made a step before, it is
+    /// left as one that made a step, also if there is nothing more to do.
+    fn go_on<R: Wait, G: Gate, H: Handler>(
+        &mut self,
+        rt: &R,
+        board: &Board,
+        lines: &SharedLines<L>,
+        gate: &G,
+        handlers: &Callbacks<H>,
+    ) -> Left
+        requires boards { AreBoards board.now lines.now }
+        requires job { IsJob board.now lines.now self.old }
+        ensures { GoesOn board.now lines.now self.old self.new }
+    {
+        let before = self.left;
+        let left = self.take_turns(rt, board, lines, gate, handlers);
+        self.left = with_earlier(before, left);
+        left
+    }
+}
+
+/// How a worker is left that was left so before and made this of its next turns.
+fn with_earlier(before: Left, left: Left) -> Left
+    ensures { result ≡ with_earlier before left }
+{
+    match left {
+        Left::Idle if before == Left::Busy => before,
+        _ => left,
+    }
+}
+
+/// A thread's part of a round: the first sweep over its jobs, and more of them, as long as one of
+/// the workers finds something to do, or may find it later.
+pub(crate) fn work_on<R: Wait, L: IrqLine, G: Gate, H: Handler>(
+    rt: &R,
+    board: &Board,
+    lines: &SharedLines<L>,
+    jobs: &mut [Job<L>],
+    muster: &Muster,
+    gate: &G,
+    handlers: &Callbacks<H>,
+)
+    requires boards { AreBoards board.now lines.now }
+    requires jobs { All (IsJob board.now lines.now) jobs.old }
+    ensures { KeepsJobs board.now lines.now jobs.old jobs.new }
+{
+    muster.begin(rt);
+    sweep_first(rt, board, lines, jobs, gate, handlers);
+    let most = (board.log() / SHARE).max(LEAST).min(MOST) / AT_ONCE;
+    for _ in 0..most {
+        if look(rt, board, lines, jobs, muster, gate, handlers) != Left::Busy {
+            break;
+        }
+        muster.tell_resting();
+    }
+    muster.rest();
+}
+
+/// Sweeps over the jobs, until one finds something to do, or there is nothing to wait for.
+fn look<R: Wait, L: IrqLine, G: Gate, H: Handler>(
+    rt: &R,
+    board: &Board,
+    lines: &SharedLines<L>,
+    jobs: &mut [Job<L>],
+    muster: &Muster,
+    gate: &G,
+    handlers: &Callbacks<H>,
+) -> Left
+    requires boards { AreBoards board.now lines.now }
+    requires jobs { All (IsJob board.now lines.now) jobs.old }
+    ensures { GoOnJobs board.now lines.now jobs.old jobs.new }
+{
+    for _ in 0..LOOKS {
+        let left = sweep(rt, board, lines, jobs, gate, handlers);
+        if left != Left::Idle {
+            return left;
+        }
+        spin_loop();
+    }
+    muster.rest();
+    let left = wait_for_others(rt, board, lines, jobs, muster, gate, handlers);
+    muster.go_on();
+    left
+}
+
+/// Sweeps over the jobs, as long as another thread is at work, until one finds something to do.
+fn wait_for_others<R: Wait, L: IrqLine, G: Gate, H: Handler>(
+    rt: &R,
+    board: &Board,
+    lines: &SharedLines<L>,
+    jobs: &mut [Job<L>],
+    muster: &Muster,
+    gate: &G,
+    handlers: &Callbacks<H>,
+) -> Left
+    requires boards { AreBoards board.now lines.now }
+    requires jobs { All (IsJob board.now lines.now) jobs.old }
+    ensures { GoOnJobs board.now lines.now jobs.old jobs.new }
+{
+    for _ in rt.forever() {
+        let news = muster.news();
+        let is_last = !muster.is_at_work();
+        let left = sweep(rt, board, lines, jobs, gate, handlers);
+        if is_last || left != Left::Idle {
+            return left;
+        }
+        muster.wait(rt, news);
+    }
+    unreachable!()
+}
+
+/// The round's first sweep: each worker has its first turns.
+fn sweep_first<R: Wait, L: IrqLine, G: Gate, H: Handler>(
+    rt: &R,
+    board: &Board,
+    lines: &SharedLines<L>,
+    jobs: &mut [Job<L>],
+    gate: &G,
+    handlers: &Callbacks<H>,
+)
+    requires boards { AreBoards board.now lines.now }
+    requires jobs { All (IsJob board.now lines.now) jobs.old }
+    ensures { KeepsJobs board.now lines.now jobs.old jobs.new }
+{
+    for i in 0..jobs.len() {
+        jobs[i].work(rt, board, lines, gate, handlers);
+    }
+}
+
+/// A later sweep: each worker has some turns. The answer is that which comes first of theirs.
+fn sweep<R: Wait, L: IrqLine, G: Gate, H: Handler>(
+    rt: &R,
+    board: &Board,
+    lines: &SharedLines<L>,
+    jobs: &mut [Job<L>],
+    gate: &G,
+    handlers: &Callbacks<H>,
+) -> Left
+    requires boards { AreBoards board.now lines.now }
+    requires jobs { All (IsJob board.now lines.now) jobs.old }
+    ensures { GoOnJobs board.now lines.now jobs.old jobs.new }
+{
+    let mut all = Left::Idle;
+    for i in 0..jobs.len() {
+        let left = jobs[i].go_on(rt, board, lines, gate, handlers);
+        all = worse(all, left);
+    }
+    all
+}
