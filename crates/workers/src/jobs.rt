@@ -28,6 +28,8 @@ pub struct Jobs<'b, L: IrqLine> {
     pub(crate) board: &'b Board,
     /// In how many threads they are worked on, at most.
     pub(crate) threads: usize,
+    /// Whether a thread that finds nothing may wait for the others.
+    pub(crate) waits: bool,
     pub(crate) jobs: Vec<Job<L>>,
     pub(crate) firsts: Vec<Pass<L>>,
 }
@@ -63,6 +65,7 @@ pub fn share<'b, R: Threads, L: IrqLine>(
     let mut jobs = Jobs {
         board,
         threads,
+        waits: true,
         jobs: Vec::new(alloc),
         firsts,
     };

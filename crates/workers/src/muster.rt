@@ -4,7 +4,7 @@ use std::sync::atomic::{AtomicU64, Ordering};
 use std::time::Duration;
 
 /// How often a thread waits a millisecond for those that haven't begun.
-const WAITS: usize = 4;
+const WAITS: usize = 1000;
 
 /// How many threads of a round have begun, how many of them have nothing to do, and whether there
 /// is news for these. It says how long a thread that finds nothing may wait. Contracts claim
@@ -17,6 +17,8 @@ pub(crate) struct Muster {
     begun: AtomicU64,
     resting: AtomicU64,
     news: AtomicU64,
+    /// 1 once a thread has waited in vain for the others to begin.
+    vain: AtomicU64,
 }
 
 impl Muster {
@@ -28,23 +30,29 @@ impl Muster {
             begun: AtomicU64::new(0),
             resting: AtomicU64::new(0),
             news: AtomicU64::new(0),
+            vain: AtomicU64::new(0),
         }
     }
 
-    /// A thread begins, and waits a little for the others.
+    /// A thread begins, and waits for the others for a while. If that was in vain, as it is where
+    /// threads can't be made, nobody waits any more.
     pub(crate) fn begin<R: Wait>(&self, rt: &R) {
         self.begun.fetch_add(1, Ordering::SeqCst);
-        if !self.waits {
-            return;
-        }
         self.tell();
         for _ in 0..WAITS {
             let seen = self.news();
-            if self.has_begun() {
+            if !self.may_wait() || self.has_begun() {
                 return;
             }
-            self.news.park_timeout(rt, seen, Duration::from_millis(1));
+            self.news
+                .park_timeout(rt, seen, Duration::from_millis(1));
         }
+        self.vain.store(1, Ordering::SeqCst);
+    }
+
+    /// Whether those who find nothing may wait for others.
+    pub(crate) fn may_wait(&self) -> bool {
+        self.waits && self.vain.load(Ordering::SeqCst) == 0
     }
 
     /// A thread has nothing to do, or has done its part.
@@ -63,7 +71,7 @@ impl Muster {
     /// Whether it is worth while to wait for others: all have begun, and one is at work. So where
     /// no thread can be made nobody waits for those who begin later.
     pub(crate) fn is_at_work(&self) -> bool {
-        self.waits && self.has_begun() && self.resting.load(Ordering::SeqCst) < self.threads
+        self.may_wait() && self.has_begun() && self.resting.load(Ordering::SeqCst) < self.threads
     }
 
     /// A number that changes with each news.
@@ -78,7 +86,7 @@ impl Muster {
 
     /// Steps were made: those who rest may have something to do.
     pub(crate) fn tell_resting(&self) {
-        if self.waits && self.resting.load(Ordering::SeqCst) > 0 {
+        if self.may_wait() && self.resting.load(Ordering::SeqCst) > 0 {
             self.tell();
         }
     }

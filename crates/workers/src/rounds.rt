@@ -63,22 +63,24 @@ pub fn run_rounds<
     }
 }
 
-/// One round: the jobs are worked on in at most so many threads, if they can be made.
+/// One round: the jobs are worked on in at most so many threads, if they can be made. The answer is
+/// whether threads that find nothing may wait for others in the next round too.
 fn round<R: Threads + Wait + Sync, L: IrqLine + Send + Sync, G: Gate + Sync, H: Handler + Sync>(
     rt: &R,
     board: &Board,
     lines: &SharedLines<L>,
     threads: usize,
+    waits: bool,
     jobs: &mut [Job<L>],
     gate: &G,
     handlers: &Callbacks<H>,
-)
+) -> bool
     requires boards { AreBoards board.now lines.now }
     requires jobs { All (IsJob board.now lines.now) jobs.old }
     ensures { KeepsJobs board.now lines.now jobs.old jobs.new }
 {
     let size = jobs.len().div_ceil(threads.max(1)).max(1);
-    let muster = Muster::new(jobs.len().div_ceil(size), size > 1);
+    let muster = Muster::new(jobs.len().div_ceil(size), waits && size > 1);
     let muster = &muster;
     thread::for_each_chunk_mut(
         rt,
@@ -86,6 +88,7 @@ fn round<R: Threads + Wait + Sync, L: IrqLine + Send + Sync, G: Gate + Sync, H: 
         size,
         &|_, part| work_on(rt, board, lines, part, muster, gate, handlers),
     );
+    muster.may_wait()
 }
 
 impl<'b, L: IrqLine + Send + Sync> Jobs<'b, L> {
@@ -107,7 +110,17 @@ impl<'b, L: IrqLine + Send + Sync> Jobs<'b, L> {
             → room_of_jobs self.new.jobs < room_of_jobs self.old.jobs }
     {
         let jobs = self.jobs.as_mut_slice();
-        round(rt, self.board, lines, self.threads, jobs, gate, handlers);
+        let waits = round(
+            rt,
+            self.board,
+            lines,
+            self.threads,
+            self.waits,
+            jobs,
+            gate,
+            handlers,
+        );
+        self.waits = waits;
         left_of_all(self.jobs.as_slice())
     }
 }
