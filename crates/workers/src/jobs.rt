@@ -128,6 +128,7 @@ impl<'b, L: IrqLine> Jobs<'b, L> {
             first,
             seats,
             flow: None,
+            last: 0,
             at: 0,
             turns: 0,
             left: Left::Idle,

@@ -33,8 +33,12 @@ const MOST: u32 = 65_536;
 /// The most steps that a worker makes before its thread goes on to its next job.
 const AT_ONCE: u32 = 16;
 
-/// How often a thread that finds nothing sweeps over its jobs again before it rests.
+/// How often a thread that finds nothing sweeps over its jobs again before its part of a round ends,
+/// if it doesn't wait for others.
 const LOOKS: usize = 64;
+
+/// How often it does so before it waits for others.
+const LOOKS_BEFORE_REST: usize = 2;
 
 impl<L: IrqLine> Job<L> {
     /// One turn of the actor.
@@ -189,7 +193,8 @@ fn look<R: Wait, L: IrqLine, G: Gate, H: Handler>(
     requires jobs { All (IsJob board.now lines.now) jobs.old }
     ensures { GoOnJobs board.now lines.now jobs.old jobs.new }
 {
-    for _ in 0..LOOKS {
+    let looks = if muster.may_wait() { LOOKS_BEFORE_REST } else { LOOKS };
+    for _ in 0..looks {
         let left = sweep(rt, board, lines, jobs, gate, handlers);
         if left != Left::Idle {
             return left;
