@@ -86,9 +86,9 @@ impl<L: IrqLine> Job<L> {
         if let Some(place) = self.flow {
             return self.step_cpu(rt, lines, place, handlers);
         }
-        let turn = self.try_last(rt, lines, handlers);
-        if !is_not_yet(turn) {
-            return turn;
+        match self.try_last(rt, lines, handlers) {
+            Turn::NotYet => {}
+            other => return other,
         }
         for place in 0..self.seats.len() {
             let turn = self.step_cpu(rt, lines, place, handlers);
@@ -114,10 +114,11 @@ impl<L: IrqLine> Job<L> {
         requires none { self.old.flow ≡ None }
         ensures { TriesLast lines.now result self.old self.new }
     {
-        if self.last >= self.seats.len() {
+        let last = self.last;
+        if last >= self.seats.len() {
             return Turn::NotYet;
         }
-        self.step_cpu(rt, lines, self.last, handlers)
+        self.step_cpu(rt, lines, last, handlers)
     }
 }
 
