@@ -1,5 +1,5 @@
 //! The lines of a board with the events behind them, and the board with their moves.
-ghost use Rattle.std.specs.Prelude.{◌≡◌, ◌≤◌, ◌×◌, IfOk, length};
+ghost use Rattle.std.specs.Prelude.{◌≡◌, ◌≤◌, IfOk, length};
 ghost use Rattle.irq_hotplug.specs.Fleet.{fleet_after};
 ghost use Rattle.hotplug_plan.specs.Planned.{IsForHotplug, planned};
 
@@ -20,7 +20,7 @@ pub(crate) struct Plan {
 
 /// Places the lines of the board, takes the events, and makes the board with the moves. The only
 /// error is `NoMemory`.
-pub(crate) fn plan<N: Notifier>(
+pub(crate) fn make_plan<N: Notifier>(
     alloc: Global,
     board: Board,
     vectors: u32,

@@ -1,5 +1,5 @@
 //! Plays a board on processors that go offline and come online, and prints it.
-ghost use Rattle.std.specs.Prelude.{◌≡◌, ◌≤◌, ◌×◌, [], false, length};
+ghost use Rattle.std.specs.Prelude.{◌≡◌, ◌≤◌, [], false, length};
 ghost use Rattle.board_def.specs.Seen.{BoardSeen};
 ghost use Rattle.board_report.specs.Reporting.{HasRoom};
 ghost use Rattle.irq_io.specs.Faults.{Counts};
@@ -8,7 +8,7 @@ ghost use Rattle.irq_play.specs.Played.{IsPlayed};
 ghost use Rattle.hotplug_plan.specs.Planned.{IsForHotplug, planned};
 ghost use Rattle.hotplug_play.specs.Played.{HotplugsBoard, PlaysFleet};
 
-use crate::planning::{Plan, plan};
+use crate::planning::{Plan, make_plan};
 use crate::printing::write_hotplug;
 use board_core::PlayEnd;
 use board_def::Board;
@@ -48,7 +48,7 @@ pub fn hotplug_and_print<O: Sink, M: MakesDomainLine, H: Handler, N: Notifier>(
     ensures write_fault { Counts (O.faults out.old) (O.faults out.new) (is_write_fault result.end) }
     ensures silent { is_printing result.end ≡ false → out.new ≡ out.old }
 {
-    match plan(alloc, board, vectors, events, notify) {
+    match make_plan(alloc, board, vectors, events, notify) {
         Ok(plan) => play_plan(alloc, &plan, maker, handlers, out),
         Err(NoMemory) => unplayed(alloc),
     }
