@@ -22,21 +22,21 @@ use Rattle.irq_laws.proofs.Lists.{both_ways}
 use Rattle.sleep_laws.specs.Sleeping.{is_disable_by, is_enable_by, disturbs, is_other_call, since_disable, is_suspended, is_left_alone, others_only_ask}
 use Rattle.sleep_laws.proofs.Waits.{own_due, not_own}
 
-abbrev disturbs_by : DriverNo → Entry → Bool
+abbrev pub disturbs_by : DriverNo → Entry → Bool
 disturbs_by r e = is_by_driver r e && disturbs e
 
-abbrev IsOwnLeft : DriverNo → List Entry → Type 0
+abbrev pub IsOwnLeft : DriverNo → List Entry → Type 0
 IsOwnLeft r past = list_any (disturbs_by r) (since_disable r past) ≡ false
 
 -- how many entries of its two calls are there
-data Position (r : DriverNo) (past : List Entry) : Type 0 where
+pub data Position (r : DriverNo) (past : List Entry) : Type 0 where
   at_none : entries_by r past ≡ [] → is_suspended r past ≡ false → Position r past
   at_disable : (a : Entry) → entries_by r past ≡ a ∷ [] → IsOwnLeft r past → Position r past
   at_clear : (a b : Entry) → entries_by r past ≡ a ∷ b ∷ [] → IsOwnLeft r past → Position r past
   at_synced : (a b c : Entry) → entries_by r past ≡ a ∷ b ∷ c ∷ [] → IsOwnLeft r past → Position r past
   at_enable : (a b c d : Entry) → entries_by r past ≡ a ∷ b ∷ c ∷ d ∷ [] → is_suspended r past ≡ false → Position r past
 
-abbrev script : List Call
+abbrev pub script : List Call
 script = calls.Disable ∷ calls.Enable ∷ []
 
 -- ---- an entry of another
@@ -101,7 +101,7 @@ past_own def r e past of_script mine due (at_synced a b c is left) =
     at_enable a b c e (one_more r e past (a ∷ b ∷ c ∷ []) mine is) (subst (λ (x : Entry). is_suspended r (x ∷ past) ≡ false) same (awake_at def r past))
 past_own def r e past of_script mine due (at_enable a b c d is awake) = let n = own_next def r e past (a ∷ b ∷ c ∷ d ∷ []) of_script is due in cc
 
-position : (def : LineDef) (r : DriverNo) (past : List Entry) → calls_by r def.calls ≡ script → IsLegalPast def past → Position r past
+pub position : (def : LineDef) (r : DriverNo) (past : List Entry) → calls_by r def.calls ≡ script → IsLegalPast def past → Position r past
 position def r [] of_script legal = at_none refl refl
 position def r (e ∷ past) of_script legal = by_driver (is_by_driver r e) refl (position def r past of_script legal.1)
   where

@@ -39,7 +39,7 @@ rests def r past valid legal asleep alone =
     record { disabled = omega (arith, was); no_flow = idle; no_handler = nothing_called def past (kept def past valid legal).runs idle; no_thread = k.rested parts.1 }
 
 -- on a line at rest no run begins
-still_at : (def : LineDef) (e : Entry) (past : List Entry) → IsDue def e past → IsAtRest def past → begins_run e ≡ false
+pub still_at : (def : LineDef) (e : Entry) (past : List Entry) → IsDue def e past → IsAtRest def past → begins_run e ≡ false
 still_at def (entries.Begin c x) past due k = both_ways (has_flow def past) (has_a_flow c (flow def past) (begin_due def c x past due).of_flow) k.no_flow
 still_at def (entries.ThreadBegin x) past due k = both_ways (is_woken past x) (thread_begin_due def x past due).woken (or_parts (is_woken past x) (is_running past x) (k.no_thread x)).0
 still_at def e past due k = refl

@@ -1,0 +1,9 @@
+pub mod Script
+pub mod Listed
+pub mod Rests
+pub mod Alone
+pub mod Order
+pub mod Turning
+pub mod Keeps
+pub mod Through
+pub mod Fits

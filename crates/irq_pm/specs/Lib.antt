@@ -1,0 +1,5 @@
+pub mod SleptBoard
+pub mod SleepLog
+pub mod Waking
+pub mod Phases
+pub mod Slept

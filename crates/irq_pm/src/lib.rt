@@ -1,0 +1,18 @@
+//! A board that goes to sleep and wakes (`kernel/irq/pm.c`, `kernel/power/suspend.c`): which boards
+//! can, the board that does, and what holds of every sleep.
+//!
+//! A driver of the system's own, behind all others, disables each line and waits for its handlers
+//! and threads; devices go on asking until an interrupt of an armed line wakes the machine, or
+//! nothing is left to happen; then the driver enables each line, and the board is played on. All of
+//! it is a play by a stated order (`play_orders`) of the board with that driver, so each line's
+//! history is a legal one. What a sleep is stands in `specs/Phases.antt`, to be read top down; what
+//! is promised of it in `specs/Slept.antt`. Nothing here plays a board yet.
+#![tactic(auto)]
+
+mod entries;
+mod fitting;
+mod promises;
+
+pub use entries::SleepEntry;
+pub use fitting::{fits_sleep, with_sleep};
+pub use promises::{sleep_comes_to_rest, sleep_is_one, sleep_keeps_lines, sleeps_through};
