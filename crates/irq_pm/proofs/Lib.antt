@@ -6,4 +6,9 @@ pub mod Order
 pub mod Turning
 pub mod Keeps
 pub mod Through
+pub mod Marking
+pub mod Noted
+pub mod Underway
+pub mod Phased
+pub mod Asking
 pub mod Fits

@@ -3,3 +3,6 @@ pub mod SleepLog
 pub mod Waking
 pub mod Phases
 pub mod Slept
+pub mod Watching
+pub mod Seen
+pub mod Steps

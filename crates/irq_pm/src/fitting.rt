@@ -3,13 +3,11 @@ ghost use Rattle.std.specs.Prelude.{◌≡◌, ◌&&◌, ◌∷◌, ◌++◌, []
 ghost use Rattle.board_def.specs.Layout.{layout_of};
 ghost use Rattle.irq_pm.specs.SleptBoard.{can_all_wake, can_wake, has_room_for_sleep, is_for_sleep, is_mapped_at, live_rows, sleep_script, slept, wakes_row};
 
+use crate::watch::SYSTEM;
 use board_def::{Board, Layout, LineRow, Placement};
 use board_driver::{LineCall, with_last_driver};
-use irq_base::{Call, DriverNo, LineNo, NoMemory};
+use irq_base::{Call, LineNo, NoMemory};
 use std::alloc::Global;
-
-/// The system's driver, the last of all.
-const SYSTEM: DriverNo = DriverNo(65_535);
 
 /// Whether the board can sleep with these lines armed: each of them takes part and is disabled
 /// lazily; the system's driver can be added with its calls.
