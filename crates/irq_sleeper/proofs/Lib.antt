@@ -1,0 +1,5 @@
+pub mod Marking
+pub mod Noted
+pub mod Underway
+pub mod Phased
+pub mod Asking

@@ -1,0 +1,3 @@
+pub mod Watching
+pub mod Seen
+pub mod Steps

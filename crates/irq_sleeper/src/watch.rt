@@ -1,0 +1,93 @@
+//! What wakes the machine is known at once.
+ghost use Rattle.std.specs.Prelude.{◌≡◌, [], ◌∷◌, IfOk, List, None, OnOk};
+ghost use Rattle.board_driver.specs.Longer.{last_driver};
+ghost use Rattle.board_play.specs.Lines.{Move};
+ghost use Rattle.irq_model.specs.Kinds.{is_off};
+ghost use Rattle.irq_pm.specs.Waking.{is_among};
+ghost use Rattle.irq_sleeper.specs.Watching.{Watches};
+ghost use Rattle.sleep_laws.specs.Sleeping.{is_disable_by};
+
+use irq_base::{DriverNo, Entry, LineNo, NoMemory, TakeAnswer};
+use std::alloc::Global;
+use std::marker::Model;
+
+/// The system's driver, the last of all.
+pub(crate) const SYSTEM: DriverNo = DriverNo(65_535);
+
+/// The armed lines (`irq_set_irq_wake`, `kernel/irq/manage.c`), and what of them is known.
+#[derive(Drop)]
+pub struct Watch<'a> {
+    armed: &'a [LineNo],
+    /// Those that the system's driver has disabled (`IRQD_WAKEUP_ARMED`).
+    disabled: Vec<LineNo>,
+    /// The line that has woken the machine.
+    woken: Option<LineNo>,
+}
+
+impl<'a> Model for Watch<'a> {
+    ghost use Rattle.irq_sleeper.specs.Watching.{WatchSeen};
+
+    ghost Value = { WatchSeen };
+
+    ghost view = { λ w. record { armed = w.armed.now; disabled = w.disabled.items; woken = w.woken } };
+}
+
+impl<'a> Watch<'a> {
+    /// The watch over the armed lines, before the first move.
+    pub(crate) fn new(alloc: Global, armed: &'a [LineNo]) -> Watch<'a>
+        ensures { result ≡ record { armed = armed.now; disabled = []; woken = None } }
+    {
+        Watch {
+            armed,
+            disabled: Vec::new(alloc),
+            woken: None,
+        }
+    }
+
+    /// The line that has woken the machine.
+    pub(crate) fn woken(&self) -> Option<LineNo>
+        ensures { result ≡ self.now.woken }
+    {
+        self.woken
+    }
+
+    /// Takes note of a move (`irq_pm_check_wakeup`, `kernel/irq/pm.c`). The only error is
+    /// `NoMemory`.
+    pub(crate) fn note(&mut self, line: LineNo, entry: Entry) -> Result<(), NoMemory>
+        ensures armed { self.new.armed ≡ self.old.armed }
+        ensures watch { OnOk result ((g : List Move) → Watches self.old g
+            → Watches self.new ((line, entry) ∷ g)) }
+    {
+        if is_system_disable(entry) {
+            if is_among(line, self.armed) {
+                self.disabled.push(line)?;
+            }
+        } else if is_off(entry) && self.woken.is_none() {
+            if is_among(line, self.disabled.as_slice()) {
+                self.woken = Some(line);
+            }
+        }
+        Ok(())
+    }
+}
+
+/// Whether the system's driver disables the line.
+fn is_system_disable(entry: Entry) -> bool
+    ensures { result ≡ is_disable_by last_driver entry }
+{
+    matches!(entry, Entry::Disable { driver } if driver == SYSTEM)
+}
+
+/// Whether it is a take that is answered off.
+fn is_off(entry: Entry) -> bool
+    ensures { result ≡ is_off entry }
+{
+    matches!(entry, Entry::Take { answer: TakeAnswer::Off, .. })
+}
+
+/// Whether the line is among these.
+fn is_among(line: LineNo, lines: &[LineNo]) -> bool
+    ensures { result ≡ is_among line lines.now }
+{
+    lines.contains(&line)
+}
