@@ -132,9 +132,9 @@ pub told_more : (old new : SleeperSeen) (due : Option Move) (at : Phase) → Are
 told_more old new due at marks t m =
     record {
       lines = m.moves.lines
-      ∙ (ap (λ (ls : List BoardLine). lines_after m.move ls) t.lines
-      ∙ (sym (lines_more (defs_of old.system.board) m.move (reverse old.system.log))
-      ∙ (ap (λ (g : List Move). lines_of old.system.board g) (sym (moves_more old new due m)) ∙ ap (λ (b : BoardSeen). lines_of b (reverse new.system.log)) (sym m.moves.board))));
+          ∙ (ap (λ (ls : List BoardLine). lines_after m.move ls) t.lines
+          ∙ (sym (lines_more (defs_of old.system.board) m.move (reverse old.system.log))
+          ∙ (ap (λ (g : List Move). lines_of old.system.board g) (sym (moves_more old new due m)) ∙ ap (λ (b : BoardSeen). lines_of b (reverse new.system.log)) (sym m.moves.board))));
       told = ap (λ (g : List SleepEntry). moves_of g) (log_more old new due at m marks) ∙ (ap (λ (g : List Move). m.move ∷ g) t.told ∙ sym (moves_more old new due m));
     }
 
@@ -185,8 +185,7 @@ ended s picks at u none = (u.phase, u.made, ap (λ (h : List Move). sleep_next s
 pub filled : (s : SleeperSeen) (picks : List Actor) (at after : Phase) (due : Option Move) (line : LineNo) (len : ℕ) → IsUnderway s picks at → IsFullFor s.system due line len → ((x : Move) → due ≡ Some x → next_of s at ≡ Some (step_of x, after)) → IsSleep s picks (ends.Full line len)
 filled s picks at after due line len u full next =
     let told : length (part line (reverse s.system.log)) ≡ len = part_in s.system line (λ past. length past ≡ len) u.told.lines full.length in
-    let g = reverse (log_of s) in
-    (
+    let g = reverse (log_of s) in (
       (
         u.phase,
         u.made,

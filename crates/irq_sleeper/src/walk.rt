@@ -2,10 +2,10 @@
 ghost use Rattle.std.specs.Prelude.{◌≡◌, ◌<◌, ◌^◌, drop, length, slice_get};
 ghost use Rattle.irq_sleeper.specs.Seen.{marked};
 
-use irq_pm::SleepEntry;
 use crate::marks::WakeMark;
 use board_core::Moves;
 use irq_line::IrqLine;
+use irq_pm::SleepEntry;
 use std::marker::Model;
 
 /// The entries of a log, the oldest first. Contracts see the list of the entries that are left. It

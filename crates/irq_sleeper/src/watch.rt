@@ -82,7 +82,13 @@ fn is_system_disable(entry: Entry) -> bool
 fn is_off(entry: Entry) -> bool
     ensures { result ≡ is_off entry }
 {
-    matches!(entry, Entry::Take { answer: TakeAnswer::Off, .. })
+    matches!(
+        entry,
+        Entry::Take {
+            answer: TakeAnswer::Off,
+            ..
+        }
+    )
 }
 
 /// Whether the line is among these.

@@ -1,4 +1,4 @@
-use Rattle.std.proofs.Common.{true, false, None, sym, ap, ◌∙◌}
+use Rattle.std.proofs.Common.{true, false, sym, ap, ◌∙◌}
 use Rattle.board_play.specs.Play.{or_move}
 use Rattle.irq_pm.specs.Phases.{Asleep}
 use Rattle.irq_sleeper.specs.Seen.{SleeperSeen}

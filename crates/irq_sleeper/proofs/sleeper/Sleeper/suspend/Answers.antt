@@ -1,4 +1,4 @@
-use Rattle.std.proofs.Common.{true, false, sym, ◌∙◌}
+use Rattle.std.proofs.Common.{true, sym, ◌∙◌}
 use Rattle.board_play.specs.Play.{or_move}
 use Rattle.irq_pm.specs.Phases.{Disabling}
 use Rattle.irq_sleeper.specs.Steps.{last_of, inner_of}

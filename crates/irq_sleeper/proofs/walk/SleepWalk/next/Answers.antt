@@ -1,4 +1,4 @@
-use Rattle.std.proofs.Common.{◌≡◌, [], sym}
+use Rattle.std.proofs.Common.{◌≡◌, []}
 use Rattle.irq_sleeper.specs.Seen.{asleep_at}
 use Rattle.irq_sleeper.proofs.Marking.{found_asleep, found_wake, not_here, no_mark, first_of, rest_of}
 use Rattle.irq_sleeper.proofs.walk.SleepWalk.next.Goals as goal
