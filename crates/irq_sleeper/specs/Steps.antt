@@ -28,8 +28,8 @@ pub record IsFresh (s : SleeperSeen) : Type 0 where
 
 -- ---- one step
 
--- the moves that may be due: of the system's driver, of the lowest thread or processor, of the lowest
--- driver that asks
+-- the moves that may be due: of the system's driver, of the lowest thread or processor, of the
+-- lowest driver that asks
 abbrev pub last_of : SystemSeen → Option Move
 last_of s = last_move s.board (board_lines s.lines)
 
@@ -90,7 +90,8 @@ IsSleep s picks (ends.Full line len) =
     Sleeps s.system.board s.watch.armed picks (reverse (log_of s)) (Full line)
     × (length (part line (reverse s.system.log)) ≡ len)
 IsSleep s picks ends.NoMemory =
-    (at : Phase) × IsMade (sleep_order s.system.board s.watch.armed) (Picking picks) (reverse (log_of s)) at
+    (at : Phase)
+    × IsMade (sleep_order s.system.board s.watch.armed) (Picking picks) (reverse (log_of s)) at
 
 -- the lines are as the moves leave them, and the log has the moves
 pub record IsTold (s : SleeperSeen) : Type 0 where
@@ -102,8 +103,10 @@ abbrev pub AreMarked : Phase → SleeperSeen → Type 0
 AreMarked (Picking picks) s = (s.asleep ≡ None) × (s.wake ≡ None)
 AreMarked Disabling s = (s.asleep ≡ None) × (s.wake ≡ None)
 AreMarked Asleep s = IfSome s.asleep (λ k. k ≤ length s.system.log) × (s.wake ≡ None)
-AreMarked Enabling s = IfSome s.asleep (λ k. k ≤ length s.system.log) × IfSome s.wake (λ w. w.at ≤ length s.system.log)
-AreMarked Going s = IfSome s.asleep (λ k. k ≤ length s.system.log) × IfSome s.wake (λ w. w.at ≤ length s.system.log)
+AreMarked Enabling s = IfSome s.asleep (λ k. k ≤ length s.system.log)
+    × IfSome s.wake (λ w. w.at ≤ length s.system.log)
+AreMarked Going s = IfSome s.asleep (λ k. k ≤ length s.system.log)
+    × IfSome s.wake (λ w. w.at ≤ length s.system.log)
 
 -- each step so far was the next one, and the sleep stands in a phase with the same next step as
 -- this one
@@ -112,7 +115,8 @@ pub record IsUnderway (s : SleeperSeen) (picks : List Actor) (at : Phase) : Type
   pub marks : AreMarked at s
   pub watch : Watches s.watch (reverse s.system.log)
   pub phase : Phase
-  pub made : IsMade (sleep_order s.system.board s.watch.armed) (Picking picks) (reverse (log_of s)) phase
+  pub made : IsMade (sleep_order s.system.board s.watch.armed)
+      (Picking picks) (reverse (log_of s)) phase
   pub next : sleep_next s.system.board s.watch.armed (reverse s.system.log) phase
       ≡ sleep_next s.system.board s.watch.armed (reverse s.system.log) at
 

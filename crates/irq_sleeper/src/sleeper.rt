@@ -36,7 +36,12 @@ impl<'b, L: IrqLine> Model for Sleeper<'b, L> {
 
     ghost Value = { SleeperSeen };
 
-    ghost view = { λ s. record { system = s.system; watch = s.watch; asleep = s.asleep; wake = s.wake } };
+    ghost view = { λ s. record {
+      system = s.system;
+      watch = s.watch;
+      asleep = s.asleep;
+      wake = s.wake;
+    } };
 }
 
 impl<'b, L: IrqLine> Sleeper<'b, L> {
@@ -231,7 +236,8 @@ impl<'b, L: IrqLine> Sleeper<'b, L> {
     /// One step of the system's driver, or where it waits of the lowest thread or processor that
     /// can move.
     fn step_disabling<H: Handler>(&mut self, handlers: &Callbacks<H>) -> Result<bool, PlayEnd>
-        ensures { StepsBy self.old (or_move (last_of self.old.system) (inner_of self.old.system)) result self.new }
+        ensures { StepsBy self.old
+            (or_move (last_of self.old.system) (inner_of self.old.system)) result self.new }
     {
         if self.step(Actor::Driver(SYSTEM), handlers)? {
             return Ok(true);
@@ -242,7 +248,8 @@ impl<'b, L: IrqLine> Sleeper<'b, L> {
     /// One step of the lowest thread or processor that can move, or else of the lowest driver of a
     /// device that asks.
     fn step_asleep<H: Handler>(&mut self, handlers: &Callbacks<H>) -> Result<bool, PlayEnd>
-        ensures { StepsBy self.old (or_move (inner_of self.old.system) (ask_of self.old.system)) result self.new }
+        ensures { StepsBy self.old
+            (or_move (inner_of self.old.system) (ask_of self.old.system)) result self.new }
     {
         if self.step_inner(handlers)? {
             return Ok(true);
