@@ -3,7 +3,7 @@ use Rattle.std.specs.Prelude.{◌≡◌, ℕ, ◌+◌, Bool, true, false, Option
 use Rattle.irq_io.specs.Told.{IsTold}
 use Rattle.irq_io.specs.Whole.{WritesAll}
 use Rattle.irq_io.specs.declared.whole.WriteEnd.TheVariants as writes
-use Rattle.irq_check.specs.declared.answers.Answer.{Answer}
+use Rattle.log_check.specs.declared.verdict.Verdict.{Verdict}
 use Rattle.irq_check.specs.declared.inputs.InputRefused.{InputRefused}
 use Rattle.irq_check.specs.declared.inputs.InputRefused.TheVariants as refusals
 use Rattle.irq_check.specs.declared.printing.CheckEnd.{CheckEnd}
@@ -16,46 +16,46 @@ use Rattle.irq_check.specs.Checked.{IsChecked, checked, longest_input}
 abbrev pub left_after : List ℕ → List ℕ
 left_after bytes = drop (longest_input + 1) bytes
 
--- the answer is the judgement of an input, and the input is what the source told
-pub record IsSaid (told : Option (List ℕ)) (answer : Answer) : Type 0 where
+-- it is the verdict on an input, and the input is what the source told
+pub record IsSaid (told : Option (List ℕ)) (verdict : Verdict) : Type 0 where
   pub input : List ℕ
   pub as_told : IsTold told input
-  pub checked : IsChecked input answer
+  pub checked : IsChecked input verdict
 
 -- whether reading an input met a read fault
-abbrev pub is_read_fault : Result Answer InputRefused → Bool
+abbrev pub is_read_fault : Result Verdict InputRefused → Bool
 is_read_fault (Err refusals.ReadFault) = true
 is_read_fault _ = false
 
--- if the source tells what is left: the bytes were read to their end, and the answer is their
--- judgement; or they were read to their end or one byte past the longest input, and the answer is
+-- if the source tells what is left: the bytes were read to their end, and this is the verdict
+-- on them; or they were read to their end or one byte past the longest input, and this is
 -- their fault
-abbrev pub ReadsInput : Option (List ℕ) → Option (List ℕ) → Result Answer InputRefused → Type 0
-ReadsInput (Some bytes) now (Ok answer) = IsChecked bytes answer × (now ≡ Some [])
+abbrev pub ReadsInput : Option (List ℕ) → Option (List ℕ) → Result Verdict InputRefused → Type 0
+ReadsInput (Some bytes) now (Ok verdict) = IsChecked bytes verdict × (now ≡ Some [])
 ReadsInput (Some bytes) now (Err (refusals.Fault fault)) =
     (checked bytes ≡ Err fault) × (now ≡ Some (left_after bytes))
 ReadsInput _ _ _ = Unit {0}
 
 -- what the whole call read, by how it ended
 abbrev pub Reads : Option (List ℕ) → Option (List ℕ) → CheckEnd → Type 0
-Reads (Some bytes) now (ends.Answered answer) = IsChecked bytes answer × (now ≡ Some [])
+Reads (Some bytes) now (ends.Answered verdict) = IsChecked bytes verdict × (now ≡ Some [])
 Reads (Some bytes) now ends.WriteFault =
-    ((answer : Answer) × IsChecked bytes answer) × (now ≡ Some [])
+    ((verdict : Verdict) × IsChecked bytes verdict) × (now ≡ Some [])
 Reads (Some bytes) now (ends.Fault fault) =
     (checked bytes ≡ Err fault) × (now ≡ Some (left_after bytes))
 Reads _ _ _ = Unit {0}
 
--- the output gained the whole row with the judgement of the input; after a fault of the output a
+-- the output gained the whole row with the verdict on the input; after a fault of the output a
 -- beginning of it
 abbrev pub SaysOrNot : Option (List ℕ) → Option (List ℕ) → Option (List ℕ) → CheckEnd → Type 0
-SaysOrNot told before now (ends.Answered answer) =
-    IsSaid told answer × WritesAll before now (answer_text answer) writes.Done
+SaysOrNot told before now (ends.Answered verdict) =
+    IsSaid told verdict × WritesAll before now (answer_text verdict) writes.Done
 SaysOrNot told before now ends.WriteFault =
-    (answer : Answer) × IsSaid told answer × WritesAll before now (answer_text answer) writes.Failed
+    (verdict : Verdict) × IsSaid told verdict × WritesAll before now (answer_text verdict) writes.Failed
 SaysOrNot told before now _ = Unit {0}
 
 abbrev pub is_answered : CheckEnd → Bool
-is_answered (ends.Answered answer) = true
+is_answered (ends.Answered verdict) = true
 is_answered _ = false
 
 abbrev pub is_read_fault_end : CheckEnd → Bool
@@ -68,6 +68,6 @@ is_write_fault_end _ = false
 
 -- the ending at which something may have been printed
 abbrev pub is_printing : CheckEnd → Bool
-is_printing (ends.Answered answer) = true
+is_printing (ends.Answered verdict) = true
 is_printing ends.WriteFault = true
 is_printing _ = false

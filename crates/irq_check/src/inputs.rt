@@ -3,10 +3,10 @@ ghost use Rattle.std.specs.Prelude.{IfOk};
 ghost use Rattle.irq_io.specs.Faults.{Counts};
 ghost use Rattle.irq_check.specs.Ends.{IsSaid, ReadsInput, is_read_fault};
 
-use crate::answers::Answer;
-use crate::checking::{CheckRefused, LONGEST_INPUT, check_bytes};
-use board_text::BoardFault;
+use crate::checking::{LONGEST_INPUT, check_bytes};
+use board_text::{BoardFault, BoardRefused};
 use irq_io::{ReadRefused, Source, read_up_to};
+use log_check::Verdict;
 use std::alloc::Global;
 use thiserror::Error;
 
@@ -26,9 +26,9 @@ pub enum InputRefused {
 }
 
 /// Reads the source to its end, or one byte past the longest input, and judges what came.
-pub fn check_input<S: Source>(alloc: Global, src: &mut S) -> Result<Answer, InputRefused>
+pub fn check_input<S: Source>(alloc: Global, src: &mut S) -> Result<Verdict, InputRefused>
     ensures content { ReadsInput (S.left src.old) (S.left src.new) result }
-    ensures said { IfOk result (λ answer. IsSaid (S.left src.old) answer) }
+    ensures said { IfOk result (λ verdict. IsSaid (S.left src.old) verdict) }
     ensures cause { Counts (S.faults src.old) (S.faults src.new) (is_read_fault result) }
 {
     let bytes = match read_up_to(alloc, src, LONGEST_INPUT + 1) {
@@ -37,8 +37,8 @@ pub fn check_input<S: Source>(alloc: Global, src: &mut S) -> Result<Answer, Inpu
         Err(ReadRefused::NoMemory) => return Err(InputRefused::NoMemory),
     };
     match check_bytes(alloc, bytes.as_slice()) {
-        Ok(answer) => Ok(answer),
-        Err(CheckRefused::Fault(fault)) => Err(InputRefused::Fault(fault)),
-        Err(CheckRefused::NoMemory) => Err(InputRefused::NoMemory),
+        Ok(verdict) => Ok(verdict),
+        Err(BoardRefused::Fault(fault)) => Err(InputRefused::Fault(fault)),
+        Err(BoardRefused::NoMemory) => Err(InputRefused::NoMemory),
     }
 }

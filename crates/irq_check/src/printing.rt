@@ -5,10 +5,11 @@ ghost use Rattle.irq_io.specs.Whole.{HandsOn, KeepsNone, WritesAll, writing_fail
 ghost use Rattle.irq_check.specs.AnswerText.{answer_text};
 ghost use Rattle.irq_check.specs.Ends.{Reads, SaysOrNot, is_answered, is_printing, is_read_fault_end, is_write_fault_end};
 
-use crate::answers::{Answer, answer_row};
+use crate::answers::answer_row;
 use crate::inputs::{InputRefused, check_input};
 use board_text::BoardFault;
 use irq_io::{FlushAnswer, Sink, Source, WriteEnd, write_all};
+use log_check::Verdict;
 use std::alloc::Global;
 use text_row::TextRow;
 
@@ -16,7 +17,7 @@ use text_row::TextRow;
 #[derive(Clone, Copy, PartialEq, Eq)]
 pub enum CheckEnd {
     /// The input was judged, and all of the answer's row is printed.
-    Answered(Answer),
+    Answered(Verdict),
     /// The input has this as its first fault.
     Fault(BoardFault),
     /// A read failed.
@@ -38,8 +39,8 @@ pub fn check_and_print<S: Source, O: Sink>(alloc: Global, src: &mut S, out: &mut
     ensures silent { is_printing result ≡ false → out.new ≡ out.old }
 {
     match check_input(alloc, src) {
-        Ok(answer) => match print_answer(out, answer) {
-            WriteEnd::Done => CheckEnd::Answered(answer),
+        Ok(verdict) => match print_answer(out, verdict) {
+            WriteEnd::Done => CheckEnd::Answered(verdict),
             WriteEnd::Failed => CheckEnd::WriteFault,
         },
         Err(InputRefused::Fault(fault)) => CheckEnd::Fault(fault),
@@ -49,15 +50,15 @@ pub fn check_and_print<S: Source, O: Sink>(alloc: Global, src: &mut S, out: &mut
 }
 
 /// Prints the answer's row, and hands it on.
-fn print_answer<O: Sink>(out: &mut O, answer: Answer) -> WriteEnd
+fn print_answer<O: Sink>(out: &mut O, verdict: Verdict) -> WriteEnd
     ensures content { WritesAll (O.written out.old) (O.written out.new)
-        (answer_text answer) result }
+        (answer_text verdict) result }
     ensures handed { HandsOn (O.handed_on out.new) (O.written out.new) result }
     ensures emptied { KeepsNone (O.kept out.new) result }
     ensures cause { Counts (O.faults out.old) (O.faults out.new) (writing_failed result) }
 {
     let mut row = TextRow::new();
-    answer_row(&mut row, answer);
+    answer_row(&mut row, verdict);
     match write_all(out, row.bytes()) {
         WriteEnd::Done => {}
         WriteEnd::Failed => return WriteEnd::Failed,

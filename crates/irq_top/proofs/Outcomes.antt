@@ -5,7 +5,7 @@ use Rattle.board_def.specs.Rules.{IsBoard}
 use Rattle.board_def.specs.Seen.{BoardSeen}
 use Rattle.irq_check.specs.Ends.{Reads, SaysOrNot, is_answered}
 use Rattle.irq_check.specs.Ends as check_ends
-use Rattle.irq_check.specs.declared.answers.Answer.TheVariants as answers
+use Rattle.log_check.specs.declared.verdict.Verdict.TheVariants as verdicts
 use Rattle.irq_check.specs.declared.printing.CheckEnd.{CheckEnd}
 use Rattle.irq_check.specs.declared.printing.CheckEnd.TheVariants as checks
 use Rattle.irq_io.specs.Faults.{Counts}

@@ -6,7 +6,7 @@ use Rattle.irq_io.specs.Whole.{HandsOn, KeepsNone, WritesAll, writing_failed}
 use Rattle.irq_io.specs.declared.whole.WriteEnd.{WriteEnd}
 use Rattle.board_words.specs.FaultTexts.{fault_text}
 use Rattle.board_words.specs.declared.faults.BoardFault.{BoardFault}
-use Rattle.irq_check.specs.declared.answers.Answer.TheVariants as answers
+use Rattle.log_check.specs.declared.verdict.Verdict.TheVariants as verdicts
 use Rattle.irq_check.specs.declared.printing.CheckEnd.{CheckEnd}
 use Rattle.irq_check.specs.declared.printing.CheckEnd.TheVariants as checks
 use Rattle.irq_play.specs.declared.ending.PlayedEnd.{PlayedEnd}
@@ -70,9 +70,9 @@ ending_of_run (runs.LogFull line len) = endings.LogFull line len
 ending_of_run runs.NoMemory = endings.NoMemory wants.Making
 
 abbrev pub ending_of_check : CheckEnd → Ending
-ending_of_check (checks.Answered answers.Lawful) = endings.Done
-ending_of_check (checks.Answered (answers.Unlawful line entry)) = endings.Unlawful line entry
-ending_of_check (checks.Answered (answers.Malformed row)) = endings.Malformed row
+ending_of_check (checks.Answered verdicts.Lawful) = endings.Done
+ending_of_check (checks.Answered (verdicts.Unlawful line entry)) = endings.Unlawful line entry
+ending_of_check (checks.Answered (verdicts.Malformed row)) = endings.Malformed row
 ending_of_check (checks.Fault fault) = endings.Board fault
 ending_of_check checks.ReadFault = endings.ReadFault
 ending_of_check checks.WriteFault = endings.WriteFault

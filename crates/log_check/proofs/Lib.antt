@@ -1,2 +1,5 @@
 mod Trying
+mod OneLine
+mod Printable
+mod Rows
 mod Lines

@@ -1,2 +1,4 @@
 pub mod Judged
 pub mod Verdicts
+pub mod JudgeSeen
+pub mod Judging

@@ -1,117 +1,91 @@
-//! The histories of all lines.
-ghost use Rattle.std.specs.Prelude.{◌≡◌, ℕ, ◌<◌, ◌≤◌, length, IfOk, All, slice_get, Some};
-ghost use Rattle.irq_base.specs.declared.lines.LineDef.{LineDef};
-ghost use Rattle.irq_model.specs.Valid.{IsValid};
-ghost use Rattle.board_def.specs.Layout.{layout_of, IsPathOf};
-ghost use Rattle.board_def.specs.LineOf.{line_of_row};
-ghost use Rattle.board_def.specs.declared.rows.LineRow.{LineRow};
-ghost use Rattle.log_check.specs.Judged.{Judged};
-ghost use Rattle.log_check.specs.Verdicts.{IsVerdict, JudgedAt};
+//! The text of a log is judged.
+ghost use Rattle.std.specs.Prelude.{◌≡◌, ◌≤◌, length, IfOk};
+ghost use Rattle.board_def.specs.Layout.{layout_of};
+ghost use Rattle.log_check.specs.Judging.{Concludes, HaveRoom, JudgesRow, MakesEach, ended};
+ghost use Rattle.log_check.specs.Verdicts.{ChecksLog};
 
-use crate::judging::judge;
-use board_def::{Board, LineRow};
-use board_layout::lay;
-use domain_rules::{Layout, Placement};
-use irq_base::{History, LineNo, Logs, NoMemory, Path};
+use crate::line_judge::LineJudge;
+use crate::making::make_judges;
+use crate::verdict::Verdict;
+use board_def::{Board, Layout};
+use irq_base::NoMemory;
 use irq_line::{IrqLine, MakesLine};
+use kept_rows::KeptRows;
+use log_read::{begins_with_hash, cut_row, place_of, read_head};
 use std::alloc::Global;
 
-/// The most entries of a line that is judged. The board's own limit doesn't bound a log that is
-/// judged: how long a history may grow is no rule of what is due.
-const MOST_ENTRIES: u32 = 100_000_000;
-
-/// The verdict on a board's logs.
-#[derive(Clone, Copy, PartialEq, Eq)]
-pub enum Verdict {
-    /// Each entry was due of its actor after the entries before it on its line, and a line that
-    /// takes no part has no entries.
-    Lawful,
-    /// The first entry of this line, counted from 1, that isn't due; no line before it has such an
-    /// entry.
-    Unlawful { line: LineNo, entry: u32 },
-}
-
-/// Judges logs: one history for each line of the board, in its order. Lines do the judging: `L` is
-/// any type of lines, and `maker` makes one for each line that takes part.
+/// Judges the text of a log of the board, row by row. Lines do the judging: `L` is any type of
+/// lines, and `maker` makes one for each line that takes part.
 ///
 /// # Errors
 ///
 /// `NoMemory` if memory was needed and refused.
-pub fn check<L: IrqLine, M: MakesLine<L>>(
-    alloc: Global,
-    board: &Board,
-    logs: &Logs,
-    maker: &M,
-) -> Result<Verdict, NoMemory>
-    requires makes { (virq : ℕ) (def : LineDef) → IsValid def → M.makes maker.now virq def }
-    requires each { length logs.now ≡ length board.now.lines }
-    requires few { All (λ h. length h.entries ≤ 100000000) logs.now }
-    ensures { IfOk result (λ verdict. IsVerdict board.now logs.now verdict) }
-{
-    let (_, layout) = lay(alloc, board)?;
-    for i in 0..board.lines_len() {
-        let Some(row) = board.line(i) else {
-            unreachable!();
-        };
-        if let Some(entry) = judge_at::<L, M>(alloc, board, &layout, logs, maker, i)? {
-            return Ok(Verdict::Unlawful {
-                line: row.line,
-                entry,
-            });
-        }
-    }
-    Ok(Verdict::Lawful)
-}
-
-/// Judges the history of the board's line at index `place`.
-fn judge_at<L: IrqLine, M: MakesLine<L>>(
+pub fn check_log<L: IrqLine, M: MakesLine<L>>(
     alloc: Global,
     board: &Board,
     layout: &Layout,
-    logs: &Logs,
     maker: &M,
-    place: usize,
-) -> Result<Option<u32>, NoMemory>
-    requires makes { (virq : ℕ) (def : LineDef) → IsValid def → M.makes maker.now virq def }
+    log: &[u8],
+) -> Result<Verdict, NoMemory>
     requires layout { layout.now ≡ layout_of board.now }
-    requires few { All (λ h. length h.entries ≤ 100000000) logs.now }
-    ensures { IfOk result (λ first. JudgedAt board.now logs.now place first) }
-{
-    let (Some(row), Some(placement), Some(history)) = (
-        board.line(place),
-        layout.get(place),
-        logs.get(place),
-    ) else {
-        // there is no such line
-        return Ok(None);
-    };
-    match placement {
-        Placement::Mapped { virq, path } => judge_mapped::<L, M>(
-            alloc, board, row, virq, &path, history, maker,
-        ),
-        Placement::Refused(_) => Ok(if history.is_empty() { None } else { Some(1) }),
-    }
-}
-
-/// Judges the history of a line that takes part.
-fn judge_mapped<L: IrqLine, M: MakesLine<L>>(
-    alloc: Global,
-    board: &Board,
-    row: LineRow,
-    virq: u32,
-    path: &Path,
-    history: &History,
-    maker: &M,
-) -> Result<Option<u32>, NoMemory>
-    requires makes { (virq : ℕ) (def : LineDef) → IsValid def → M.makes maker.now virq def }
-    requires row { (i : ℕ) × (slice_get board.now.lines i ≡ Some row) }
-    requires path { IsPathOf board.now row.line path.now }
-    requires few { length history.now.entries ≤ 100000000 }
-    ensures { IfOk result (λ first. Judged (line_of_row board.now row) history.now.entries first) }
+    requires makes { MakesEach (M.makes maker.now) board.now }
+    requires few { length log.now ≤ 67108864 }
+    ensures { IfOk result (λ verdict. ChecksLog board.now log.now verdict) }
 {
     board.is_board();
-    let mut def = board.line_def(alloc, row.line, path)?;
-    def.log = MOST_ENTRIES;
-    let mut line = maker.make(alloc, virq, &def)?;
-    judge(&mut line, history)
+    let mut judges = make_judges::<L, M>(alloc, board, layout, maker)?;
+    let mut kept = KeptRows::new();
+    let mut rest = log;
+    let mut row: u32 = 0;
+    while !rest.is_empty() {
+        row += 1;
+        let Some((text, after)) = cut_row(rest) else {
+            return Ok(Verdict::Malformed { row });
+        };
+        if !take_row(&mut judges, board, &mut kept, text)? {
+            return Ok(Verdict::Malformed { row });
+        }
+        rest = after;
+    }
+    Ok(verdict_of(&judges, board))
+}
+
+/// Judges a row, which stands here without its line feed. Answers whether nothing is wrong with it.
+fn take_row<L: IrqLine>(
+    judges: &mut Vec<LineJudge<L>>,
+    board: &Board,
+    kept: &mut KeptRows,
+    row: &[u8],
+) -> Result<bool, NoMemory>
+    requires many { length judges.old.items ≡ length board.now.lines }
+    requires room { HaveRoom judges.old.items }
+    ensures { IfOk result
+        (λ fine. JudgesRow board.now (ended row.now) fine judges.old.items judges.new.items) }
+{
+    if begins_with_hash(row) {
+        return Ok(true);
+    }
+    let Some((line, actor)) = read_head(row) else {
+        return Ok(false);
+    };
+    let Some(place) = place_of(board, line) else {
+        return Ok(false);
+    };
+    judges[place].take(kept, line, actor, row)
+}
+
+/// The verdict of the judges, if each row is a row of a log: the first of them in the board's order
+/// that has met an entry that wasn't due.
+fn verdict_of<L: IrqLine>(judges: &[LineJudge<L>], board: &Board) -> Verdict
+    ensures { Concludes board.now judges.now result }
+{
+    for i in 0..judges.len() {
+        if let (Some(row), Some(entry)) = (board.line(i), judges[i].first()) {
+            return Verdict::Unlawful {
+                line: row.line,
+                entry,
+            };
+        }
+    }
+    Verdict::Lawful
 }

@@ -12,6 +12,8 @@ use Rattle.irq_base.specs.declared.calls.Flags.{Flags}
 use Rattle.irq_base.specs.declared.numbers.CpuNo.{CpuNo}
 use Rattle.irq_base.specs.declared.numbers.DevNo.{DevNo}
 use Rattle.irq_base.specs.declared.numbers.DriverNo.{DriverNo}
+use Rattle.irq_base.specs.declared.numbers.LineNo.{LineNo}
+use Rattle.irq_base.specs.Who.{actor_of}
 use Rattle.log_text.specs.EntryWords.{entry_words, IsPrintable}
 use Rattle.log_text.specs.Formed.{IsSmall, IsWritable}
 use Rattle.log_text.specs.Words.{way_word, take_word, answer_word, loop_word, mask_word, note_word, bit_word, flags_word, unlink_word, enable_words, link_words, affinity_words}
@@ -20,7 +22,7 @@ use Rattle.log_read.specs.Forms.{dev_no, TakesCpu, TakesThread, TakesDriver, IsL
 use Rattle.log_read.specs.Kinds.{cpu_verb_word, thread_verb_word, driver_verb_word}
 use Rattle.log_read.specs.Left.{left_of}
 use Rattle.log_read.specs.Takes.{TakesAs, Takes, Any, one}
-use Rattle.log_read.specs.Who.{who_word, IsWho, who_of}
+use Rattle.log_read.specs.Who.{actor_by, who_word, IsWho, who_of}
 use Rattle.log_read.specs.declared.kinds.CpuVerb.{CpuVerb}
 use Rattle.log_read.specs.declared.kinds.CpuVerb.TheVariants as cpu_verbs
 use Rattle.log_read.specs.declared.kinds.ThreadVerb.{ThreadVerb}
@@ -84,7 +86,7 @@ moved_to driver mask affinities.Later h = tt
 moved_to driver mask (affinities.Refused errno) h = h
 
 -- the first word says who made the entry
-parts : (e : Entry) → who_word (who_of e) ∷ behind e ≡ entry_words e
+pub parts : (e : Entry) → who_word (who_of e) ∷ behind e ≡ entry_words e
 parts (entries.Ask driver dev) = refl
 parts (entries.Take cpu way answer) = refl
 parts (entries.Begin cpu dev) = refl
@@ -104,7 +106,27 @@ parts (entries.Freed driver dev) = refl
 parts (entries.Affinity driver mask answer) = refl
 parts (entries.Moment driver moment) = refl
 
-small_who : (e : Entry) → IsWritable e → IsWho (who_of e)
+pub actor_by_who : (line : LineNo) (e : Entry) → actor_of line e ≡ actor_by line (who_of e)
+actor_by_who line (entries.Ask driver dev) = refl
+actor_by_who line (entries.Take cpu way answer) = refl
+actor_by_who line (entries.Begin cpu dev) = refl
+actor_by_who line (entries.Return cpu dev answer served) = refl
+actor_by_who line (entries.End cpu again unmask note) = refl
+actor_by_who line (entries.ThreadBegin dev) = refl
+actor_by_who line (entries.ThreadReturn dev served) = refl
+actor_by_who line (entries.Finish dev kept unmask) = refl
+actor_by_who line (entries.Done dev) = refl
+actor_by_who line (entries.Disable driver) = refl
+actor_by_who line (entries.HardClear driver) = refl
+actor_by_who line (entries.Synced driver) = refl
+actor_by_who line (entries.Enable driver answer) = refl
+actor_by_who line (entries.Request driver dev flags answer opened) = refl
+actor_by_who line (entries.Unlink driver dev answer) = refl
+actor_by_who line (entries.Freed driver dev) = refl
+actor_by_who line (entries.Affinity driver mask answer) = refl
+actor_by_who line (entries.Moment driver moment) = refl
+
+pub small_who : (e : Entry) → IsWritable e → IsWho (who_of e)
 small_who (entries.Ask driver dev) w = w.small.0
 small_who (entries.Take cpu way answer) w = w.small
 small_who (entries.Begin cpu dev) w = w.small.0

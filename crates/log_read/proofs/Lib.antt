@@ -6,3 +6,4 @@ mod EachKind
 mod RowCutting
 mod Telling
 mod Places
+mod Placing

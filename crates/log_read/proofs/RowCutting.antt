@@ -6,15 +6,21 @@ use Rattle.std.proofs.lemmas.Bool.Decides.{nat_tests}
 use Rattle.std.proofs.lemmas.List.{append-nil, append_cancel_right}
 use Rattle.std.proofs.lemmas.List.Splits.{join_with_byte-slice_split}
 use Rattle.std.proofs.lemmas.Option.{none-some, same_Some}
+use Rattle.irq_base.specs.Who.{actor_of}
+use Rattle.irq_base.specs.declared.entries.Actor.{Actor}
 use Rattle.irq_base.specs.declared.entries.Entry.{Entry}
 use Rattle.irq_base.specs.declared.numbers.LineNo.{LineNo}
 use Rattle.log_text.proofs.Splitting.{row_words, row_back}
 use Rattle.log_text.specs.EntryWords.{entry_words}
 use Rattle.log_text.specs.Formed.{IsSmall, IsWritable, IsRowOf}
+use Rattle.log_read.proofs.EachKind.{actor_by_who, parts, small_who}
 use Rattle.log_read.proofs.Taking.{both}
 use Rattle.log_read.specs.Left.{left_of, words_of}
 use Rattle.log_read.specs.LogOf.{is_feed, rows_of, onto_first, is_whole, begins_with_hash, is_passed_over}
-use Rattle.log_read.specs.Takes.{TakesAs, number_words}
+use Rattle.log_read.specs.Forms.{behind}
+use Rattle.log_read.specs.Takes.{TakesAs, number_words, one}
+use Rattle.log_read.specs.Who.{IsWho, actor_by, who_of, who_word}
+use Rattle.log_read.specs.declared.numbers.Who.{Who}
 use Rattle.log_read.specs.declared.words.Words.{Words}
 
 -- cut at the first line feed
@@ -127,3 +133,25 @@ module _ (row : List ℕ) (start mid end : Words) (n : ℕ) (e : Entry) (all : l
       let same = append_cancel_right row (join_with_byte 32 (row_words line f)) (codes "\n") is.text in
       let words : words_of row ≡ row_words line f = ap words_of same ∙ row_back line f is.number is.writable in
       undone ((both number entry).complete (line.0, f) [] (is.number, is.writable) (all ∙ ap (λ ws. Some ws) (words ∙ sym (append-nil (row_words line f))))).1
+
+-- the head of a row: its line, and who made its entry
+
+module _ (row : List ℕ) (start mid end : Words) (n : ℕ) (who : Who) (all : left_of start ≡ Some (words_of row))
+    (number : TakesAs IsSmall number_words (λ m. m) start mid n) (made : TakesAs IsWho (one who_word) (λ w. w) mid end who) where
+  head : (line : LineNo) (f : Entry) → IsRowOf (row ++ codes "\n") line f → (n ≡ line.0) × (who ≡ who_of f) × (left_of end ≡ Some (behind f))
+  head line f is =
+      let same = append_cancel_right row (join_with_byte 32 (row_words line f)) (codes "\n") is.text in
+      let words : words_of row ≡ row_words line f = ap words_of same ∙ row_back line f is.number is.writable in
+      let split : words_of row ≡ decimal line.0 ∷ (who_word (who_of f) ∷ behind f) = words ∙ ap (λ (ws : List (List ℕ)). decimal line.0 ∷ ws) (sym (parts f)) in
+      let first = number.complete line.0 (who_word (who_of f) ∷ behind f) is.number (all ∙ ap (λ (ws : List (List ℕ)). Some ws) split) in
+      let second = made.complete (who_of f) (behind f) (small_who f is.writable) first.1 in
+      (first.0, second.0, second.1)
+
+  pub head_read : (line : LineNo) (f : Entry) → IsRowOf (row ++ codes "\n") line f → (line ≡ line_no n) × (actor_of line f ≡ actor_by (line_no n) who)
+  head_read line f is =
+      let h = head line f is in
+      let same : line ≡ line_no n = ap (λ m. line_no m) (sym h.0) in
+      (same, actor_by_who line f ∙ (ap (λ (w : Who). actor_by line w) (sym h.1) ∙ ap (λ (l : LineNo). actor_by l who) same))
+
+  pub head_unread : left_of end ≡ None → (line : LineNo) (f : Entry) → IsRowOf (row ++ codes "\n") line f → ⊥
+  head_unread failed line f is = none-some (behind f) (sym failed ∙ (head line f is).2)

@@ -65,7 +65,7 @@ rising b i j x y board atx aty less =
     at_place (λ (e : LineRow). e.line.0 < y.line.0) (take j b.lines) i x (board.lines j y aty).rises (get_take b.lines i j less ∙ atx)
 
 -- no other line has its number
-other_line : (b : BoardSeen) (i place : ℕ) (x row : LineRow) → IsBoard b → slice_get b.lines i ≡ Some x → slice_get b.lines place ≡ Some row → (i ≡ place → ⊥) → eqb row.line.0 x.line.0 ≡ false
+pub other_line : (b : BoardSeen) (i place : ℕ) (x row : LineRow) → IsBoard b → slice_get b.lines i ≡ Some x → slice_get b.lines place ≡ Some row → (i ≡ place → ⊥) → eqb row.line.0 x.line.0 ≡ false
 other_line b i place x row board atx at differ = by (order i place)
   where
     order : (m n : ℕ) → (m < n) ⊎ (n ≤ m)
@@ -123,20 +123,20 @@ adds [] place e h new at is = cc
 adds (x ∷ xs) zero e h new at is = ap (λ es. es ∷ entries_of xs) (is ∙ ap (λ (y : HistorySeen). y.entries ++ e ∷ []) (sym (same_Some x h at)))
 adds (x ∷ xs) (suc place) e h new at is = ap (λ ess. x.entries ∷ ess) (adds xs place e h new at is)
 
-more_on : (said : List LineEntry) (s : LineEntry) (line : LineNo) → entries_on (said ++ s ∷ []) line ≡ entries_on said line ++ entries_on (s ∷ []) line
+pub more_on : (said : List LineEntry) (s : LineEntry) (line : LineNo) → entries_on (said ++ s ∷ []) line ≡ entries_on said line ++ entries_on (s ∷ []) line
 more_on said s line =
     ap (λ (xs : List LineEntry). map (λ (x : LineEntry). x.1) xs) (filter-append (λ (x : LineEntry). eqb x.0.0 line.0) said (s ∷ []))
     ∙ map-append (λ (x : LineEntry). x.1) (filter (λ (x : LineEntry). eqb x.0.0 line.0) said) (filter (λ (x : LineEntry). eqb x.0.0 line.0) (s ∷ []))
 
-on_own : (s : LineEntry) (line : LineNo) → eqb s.0.0 line.0 ≡ true → entries_on (s ∷ []) line ≡ s.1 ∷ []
+pub on_own : (s : LineEntry) (line : LineNo) → eqb s.0.0 line.0 ≡ true → entries_on (s ∷ []) line ≡ s.1 ∷ []
 on_own s line h = ap (λ t. map (λ (x : LineEntry). x.1) (cond t (s ∷ []) [])) h
 
-on_other : (s : LineEntry) (line : LineNo) → eqb s.0.0 line.0 ≡ false → entries_on (s ∷ []) line ≡ []
+pub on_other : (s : LineEntry) (line : LineNo) → eqb s.0.0 line.0 ≡ false → entries_on (s ∷ []) line ≡ []
 on_other s line h = ap (λ t. map (λ (x : LineEntry). x.1) (cond t (s ∷ []) [])) h
 
 -- what the rows tell
 
-zip_push : {A B : Type 0} (R : A → B → Type 0) (xs : List A) (ys : List B) (x : A) (y : B) → AllZip R xs ys → R x y → AllZip R (xs ++ x ∷ []) (ys ++ y ∷ [])
+pub zip_push : {A B : Type 0} (R : A → B → Type 0) (xs : List A) (ys : List B) (x : A) (y : B) → AllZip R xs ys → R x y → AllZip R (xs ++ x ∷ []) (ys ++ y ∷ [])
 zip_push R [] [] x y all r = (r, tt)
 zip_push R [] (z ∷ ys) x y all r = absurd all
 zip_push R (z ∷ xs) [] x y all r = absurd all
@@ -225,11 +225,11 @@ short_if : (t : Bool) (s : LineEntry) (rest : List LineEntry) (n : ℕ) → leng
 short_if true s rest n h = omega (arith, h)
 short_if false s rest n h = omega (arith, h)
 
-short_on : (said : List LineEntry) (line : LineNo) → length (entries_on said line) ≤ length said
+pub short_on : (said : List LineEntry) (line : LineNo) → length (entries_on said line) ≤ length said
 short_on [] line = omega arith
 short_on (s ∷ said) line = short_if (eqb s.0.0 line.0) s (filter (λ (x : LineEntry). eqb x.0.0 line.0) said) (length said) (short_on said line)
 
-zip_short : {A B : Type 0} (R : A → B → Type 0) (xs : List A) (ys : List B) → AllZip R xs ys → length ys ≤ length xs
+pub zip_short : {A B : Type 0} (R : A → B → Type 0) (xs : List A) (ys : List B) → AllZip R xs ys → length ys ≤ length xs
 zip_short R [] [] all = omega arith
 zip_short R [] (y ∷ ys) all = absurd all
 zip_short R (x ∷ xs) [] all = absurd all
@@ -239,7 +239,7 @@ few_if : (t : Bool) (row : List ℕ) (rest : List (List ℕ)) (n : ℕ) → leng
 few_if true row rest n h = omega (arith, h)
 few_if false row rest n h = omega (arith, h)
 
-few_saying : (rows : List (List ℕ)) → length (saying rows) ≤ length rows
+pub few_saying : (rows : List (List ℕ)) → length (saying rows) ≤ length rows
 few_saying [] = omega arith
 few_saying (row ∷ rows) = few_if (not (is_passed_over row)) row (saying rows) (length rows) (few_saying rows)
 

@@ -1,7 +1,10 @@
 -- Who made an entry.
 use Rattle.std.specs.Prelude.{ℕ, List, ◌++◌}
+use Rattle.irq_base.specs.declared.entries.Actor.{Actor}
+use Rattle.irq_base.specs.declared.entries.Actor.TheVariants as actors
 use Rattle.irq_base.specs.declared.entries.Entry.{Entry}
 use Rattle.irq_base.specs.declared.entries.Entry.TheVariants as entries
+use Rattle.irq_base.specs.declared.numbers.LineNo.{LineNo}
 use Rattle.log_text.specs.Formed.{IsSmall}
 use Rattle.log_text.specs.Words.{driver_word, cpu_word, thread_word}
 use Rattle.log_read.specs.declared.numbers.Who.{Who}
@@ -17,6 +20,12 @@ abbrev pub IsWho : Who → Type 0
 IsWho (whos.Thread dev) = IsSmall dev.0
 IsWho (whos.Cpu cpu) = IsSmall cpu.0
 IsWho (whos.Driver driver) = IsSmall driver.0
+
+-- as an actor on the line
+abbrev pub actor_by : LineNo → Who → Actor
+actor_by line (whos.Thread dev) = actors.Thread line dev
+actor_by line (whos.Cpu cpu) = actors.Cpu cpu
+actor_by line (whos.Driver driver) = actors.Driver driver
 
 abbrev pub who_of : Entry → Who
 who_of (entries.Ask driver dev) = whos.Driver driver

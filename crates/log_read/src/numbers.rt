@@ -2,10 +2,10 @@
 ghost use Rattle.std.specs.Prelude.{◌≡◌, ◌∷◌, codes, decimal, MatchOption};
 ghost use Rattle.log_text.specs.Formed.{IsSmall};
 ghost use Rattle.log_read.specs.Takes.{Any, Reads, Takes, TakesAs, number_words, one, text_words};
-ghost use Rattle.log_read.specs.Who.{who_word, IsWho};
+ghost use Rattle.log_read.specs.Who.{actor_by, who_word, IsWho};
 
 use crate::words::Words;
-use irq_base::{CpuNo, DevNo, DriverNo};
+use irq_base::{Actor, CpuNo, DevNo, DriverNo, LineNo};
 
 /// Who made an entry.
 #[derive(Clone, Copy)]
@@ -16,6 +16,19 @@ pub(crate) enum Who {
     Cpu(CpuNo),
     /// A driver.
     Driver(DriverNo),
+}
+
+impl Who {
+    /// As an actor on the line.
+    pub(crate) fn actor(self, line: LineNo) -> Actor
+        ensures { result ≡ actor_by line self }
+    {
+        match self {
+            Who::Thread(dev) => Actor::Thread(line, dev),
+            Who::Cpu(cpu) => Actor::Cpu(cpu),
+            Who::Driver(driver) => Actor::Driver(driver),
+        }
+    }
 }
 
 /// Takes a number of 32 bits.

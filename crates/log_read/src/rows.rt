@@ -1,16 +1,17 @@
 //! One row.
 ghost use Rattle.std.specs.Prelude.{◌≡◌, ◌++◌, codes, MatchOption};
+ghost use Rattle.irq_base.specs.Who.{actor_of};
 ghost use Rattle.irq_base.specs.declared.entries.Entry.{Entry};
 ghost use Rattle.irq_base.specs.declared.numbers.LineNo.{LineNo};
 ghost use Rattle.log_text.specs.Formed.{IsRowOf};
 
 use crate::entries::entry;
-use crate::numbers::number;
+use crate::numbers::{Who, made_by, number};
 use crate::words::Words;
-use irq_base::{Entry, LineNo};
+use irq_base::{Actor, Entry, LineNo};
 
 /// The line and the entry of a row without its line feed; none if it isn't the row of an entry.
-pub(crate) fn read_row(row: &[u8]) -> Option<(LineNo, Entry)>
+pub fn read_row(row: &[u8]) -> Option<(LineNo, Entry)>
     ensures { MatchOption result
         ((line : LineNo) (e : Entry) → IsRowOf (row.now ++ codes "\n") line e → ⊥)
         (λ read. IsRowOf (row.now ++ codes "\n") read.0 read.1) }
@@ -22,5 +23,23 @@ pub(crate) fn read_row(row: &[u8]) -> Option<(LineNo, Entry)>
         Some((line, entry))
     } else {
         None
+    }
+}
+
+/// The line of a row without its line feed, and who made its entry: of the row of an entry, these
+/// two. Most rows that aren't the row of an entry are told by what follows.
+pub fn read_head(row: &[u8]) -> Option<(LineNo, Actor)>
+    ensures { MatchOption result
+        ((line : LineNo) (e : Entry) → IsRowOf (row.now ++ codes "\n") line e → ⊥)
+        (λ head. (line : LineNo) (e : Entry) → IsRowOf (row.now ++ codes "\n") line e
+            → (line ≡ head.0) × (actor_of line e ≡ head.1)) }
+{
+    let mut words = Words::of_row(row);
+    let line = LineNo(number(&mut words));
+    let who = made_by(&mut words);
+    if words.is_failed() {
+        None
+    } else {
+        Some((line, who.actor(line)))
     }
 }

@@ -34,6 +34,16 @@ impl<'a> Words<'a> {
         }
     }
 
+    /// Whether something didn't fit.
+    pub(crate) fn is_failed(self) -> bool
+        ensures { IsTrue result ↔ (left_of self.entry ≡ None) }
+    {
+        match self {
+            Words::Failed => true,
+            Words::Done | Words::More(_) => false,
+        }
+    }
+
     /// Something doesn't fit.
     pub(crate) fn fail(&mut self)
         ensures { left_of self.new ≡ None }

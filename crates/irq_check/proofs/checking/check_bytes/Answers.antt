@@ -4,17 +4,17 @@ use Rattle.irq_check.proofs.Cutting.{short_log}
 use Rattle.irq_check.proofs.WholeInput.{not_too_long}
 use Rattle.irq_check.proofs.checking.check_bytes.Goals as goal
 
-pub check_log-requires : goal.check_log-requires
-check_log-requires c = omega (arith, c.if-bytes-gt-LONGEST_INPUT.false, short_log c.args.bytes.now c.in-Some.text.now c.in-Some.log.now c.in-Some.ensures)
+pub judge_log-requires : goal.judge_log-requires
+judge_log-requires c = omega (arith, c.if-bytes-gt-LONGEST_INPUT.false, short_log c.args.bytes.now c.in-Some.text.now c.in-Some.log.now c.in-Some.ensures)
 
-pub returns-in-Ok-check_log : goal.returns-in-Ok-check_log
-returns-in-Ok-check_log c =
+pub returns-in-Ok-judge_log : goal.returns-in-Ok-judge_log
+returns-in-Ok-judge_log c =
     let log = c.in-Some.log.now in
     record {
       exact = record {
         board = c.in-Ok.board;
         log = log;
         states = not_too_long c.args.bytes.now c.if-bytes-gt-LONGEST_INPUT.false ∙ (ap board_and_log c.in-Some.ensures ∙ ap (with_log log) c.in-Ok.ensures.exact);
-        judged = c.in-Ok-check_log.ensures;
+        judged = c.in-Ok-judge_log.ensures;
       };
     }
