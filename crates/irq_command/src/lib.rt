@@ -9,7 +9,6 @@
 
 pub mod commands;
 pub mod running;
-pub mod words;
 
 pub use commands::command;
 pub use running::{Ended, run};

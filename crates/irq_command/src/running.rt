@@ -1,24 +1,24 @@
 //! The body of `main`.
-ghost use Rattle.std.specs.Prelude.{◌≡◌, ◌⊎◌, ℕ, Bool, [], None, IsSome, IfSome, false, true};
+ghost use Rattle.std.specs.Prelude.{◌≡◌, ◌⊎◌, [], None, IsSome, IfSome, false, true};
 ghost use Rattle.std.specs.Io.Buffered.{writer_buffer, writer_contents, writer_inner};
 ghost use Rattle.irq_io.specs.Faults.{Counts};
 ghost use Rattle.irq_words.specs.declared.Command.{Command};
-ghost use Rattle.irq_words.specs.declared.Command.TheVariants as commands;
-ghost use Rattle.irq_top.specs.Commands.{Checks, Generates, Plays, Runs};
-ghost use Rattle.irq_top.specs.Ending.{Tells, error_text, is_printed, is_printing, is_read_fault_end, is_write_fault_end, status_of};
-ghost use Rattle.irq_command.specs.Arguments.{IsForm, IsNoForm, IsNotText};
+ghost use Rattle.program_io.specs.Arguments.{IsNotText};
+ghost use Rattle.program_io.specs.ErrorRows.{Tells};
+ghost use Rattle.irq_top.specs.Commands.{Does};
+ghost use Rattle.irq_top.specs.Ending.{error_text, is_printed, is_printing, is_read_fault_end, is_write_fault_end, status_of};
+ghost use Rattle.irq_command.specs.Arguments.{FormReadsNothing, IsForm, IsNoForm};
 
 use crate::commands::command;
+use irq_base::NoMemory;
 use irq_io::{StdSink, StdSource};
 use irq_top::{Ending, Outcome, Wanted, end_early};
+use program_io::{with_buffer, without_buffer};
 use std::alloc::Global;
 use std::env::Args;
-use std::io::{self, BufWriter, Read, Write};
+use std::io::{self, Read, Write};
 use std::sync::Wait;
 use std::thread::Threads;
-
-/// The size of the buffer of the output, in bytes.
-const BUFFER: usize = 64 * 1024;
 
 /// What a run of the program leaves: its exit status, how it ended, and its streams.
 #[derive(Drop)]
@@ -36,7 +36,8 @@ pub struct Ended<R: Read + Drop, O: Write + Drop, E: Write + Drop> {
 }
 
 /// Runs the program over its arguments as they come, its input, its output and its error stream.
-/// The output gets a buffer. All of the output is handed to the writer if the status is 0 or 1.
+/// The output gets a buffer. If the status is 0 or 1, nothing is kept back there, and the writer
+/// has all of the output.
 pub fn run<T: Threads + Wait + Sync, R: Read + Drop, O: Write + Drop, E: Write + Drop>(
     rt: &T,
     alloc: Global,
@@ -54,33 +55,20 @@ pub fn run<T: Threads + Wait + Sync, R: Read + Drop, O: Write + Drop, E: Write +
         ⊎ (result.outcome.ending ≡ Ending.NoMemory Wanted.Making) }
     ensures not_text { IsNotText args → IsSome result.output
         → result.outcome.ending ≡ Ending.Usage }
-    ensures unread { IsNoForm args → result.input.reader ≡ input }
     ensures unasked { IsNoForm args → result.outcome.reports.reports ≡ [] }
-
-    ensures runs { (summary : Bool) → IsForm args (commands.Run summary)
+    ensures unread { FormReadsNothing args → result.input.reader ≡ input }
+    ensures does { (asked : Command) → IsForm args asked
         → IfSome result.output
-        (λ out. Runs summary (R.remaining input) (R.remaining result.input.reader)
+        (λ out. Does asked (R.remaining input) (R.remaining result.input.reader)
         result.outcome.reports.reports (O.contents output)
         (writer_contents O.contents out.writer) result.outcome.ending) }
-    ensures plays { (summary : Bool) → IsForm args (commands.Play summary)
-        → IfSome result.output
-        (λ out. Plays summary (R.remaining input) (R.remaining result.input.reader)
-        result.outcome.reports.reports (O.contents output)
-        (writer_contents O.contents out.writer) result.outcome.ending) }
-    ensures checks { IsForm args commands.Check
-        → IfSome result.output
-        (λ out. Checks (R.remaining input) (R.remaining result.input.reader)
-        result.outcome.reports.reports (O.contents output)
-        (writer_contents O.contents out.writer) result.outcome.ending) }
-    ensures generates { (n : ℕ) → IsForm args (commands.Gen n)
-        → IfSome result.output
-        (λ out. Generates n result.outcome.reports.reports (O.contents output)
-        (writer_contents O.contents out.writer) result.outcome.ending)
-        × (result.input.reader ≡ input) }
     ensures read_fault { Counts 0 result.input.faults (is_read_fault_end result.outcome.ending) }
 
     ensures emptied { is_printed result.outcome.ending ≡ true
         → IfSome result.output (λ out. writer_buffer out.writer ≡ []) }
+    ensures handed_on { is_printed result.outcome.ending ≡ true
+        → IfSome result.output
+        (λ out. writer_contents O.contents out.writer ≡ O.contents (writer_inner out.writer)) }
     ensures write_fault { IfSome result.output
         (λ out. Counts 0 out.faults (is_write_fault_end result.outcome.ending)) }
     ensures silent { is_printing result.outcome.ending ≡ false
@@ -89,17 +77,15 @@ pub fn run<T: Threads + Wait + Sync, R: Read + Drop, O: Write + Drop, E: Write +
 
     ensures tells { is_printed result.outcome.ending ≡ false
         → Tells (error_text result.outcome.ending) (E.contents error)
-        (writer_contents E.contents result.error.writer)
         (writer_contents E.contents result.error.writer) (writer_buffer result.error.writer) 0
         result.error.faults }
     ensures quiet { is_printed result.outcome.ending ≡ true
         → (writer_inner result.error.writer ≡ error) × (writer_buffer result.error.writer ≡ []) }
 {
     let mut input = StdSource::new(input);
-    let mut error = StdSink::new(without_buffer(alloc, error));
-    match BufWriter::with_capacity(alloc, BUFFER, output) {
-        Ok(writer) => {
-            let mut output = StdSink::new(writer);
+    let mut error = without_buffer(alloc, error);
+    match with_buffer(alloc, output) {
+        Ok(mut output) => {
             let outcome = command(rt, alloc, args, &mut input, &mut output, &mut error);
             Ended {
                 status: outcome.ending.status(),
@@ -109,23 +95,12 @@ pub fn run<T: Threads + Wait + Sync, R: Read + Drop, O: Write + Drop, E: Write +
                 error,
             }
         }
-        Err(_) => Ended {
+        Err(NoMemory) => Ended {
             status: Ending::NoMemory(Wanted::Making).status(),
             outcome: end_early(alloc, Ending::NoMemory(Wanted::Making), &mut error),
             input,
             output: None,
             error,
         },
-    }
-}
-
-/// The writer with an empty buffer, which takes no memory.
-fn without_buffer<W: Write + Drop>(alloc: Global, writer: W) -> BufWriter<W>
-    ensures inner { writer_inner result ≡ writer }
-    ensures empty { writer_buffer result ≡ [] }
-{
-    match BufWriter::with_capacity(alloc, 0, writer) {
-        Ok(writer) => writer,
-        Err(_) => unreachable!(),
     }
 }

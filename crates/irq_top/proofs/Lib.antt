@@ -1,3 +1,2 @@
-mod Stated
-mod OneNumber
+mod Asked
 mod Outcomes

@@ -1,11 +1,8 @@
 -- How the top call ends, by its ending: the exit status, and the row on the error sink.
-use Rattle.std.specs.Prelude.{◌≡◌, ℕ, Bool, true, false, Option, List, [], ◌++◌, codes, decimal}
-use Rattle.irq_base.specs.declared.numbers.LineNo.{LineNo}
-use Rattle.irq_io.specs.Faults.{Counts}
-use Rattle.irq_io.specs.Whole.{HandsOn, KeepsNone, WritesAll, writing_failed}
-use Rattle.irq_io.specs.declared.whole.WriteEnd.{WriteEnd}
-use Rattle.board_words.specs.FaultTexts.{fault_text}
-use Rattle.board_words.specs.declared.faults.BoardFault.{BoardFault}
+use Rattle.std.specs.Prelude.{ℕ, Bool, true, false, List, [], codes}
+use Rattle.program_io.specs.ErrorRows.{fault_row, full_row}
+use Rattle.program_io.specs.declared.inputs.InputRefused.{InputRefused}
+use Rattle.program_io.specs.declared.inputs.InputRefused.TheVariants as refusals
 use Rattle.irq_check.specs.declared.answers.Answer.TheVariants as answers
 use Rattle.irq_check.specs.declared.printing.CheckEnd.{CheckEnd}
 use Rattle.irq_check.specs.declared.printing.CheckEnd.TheVariants as checks
@@ -14,8 +11,6 @@ use Rattle.irq_play.specs.declared.ending.PlayedEnd.TheVariants as plays
 use Rattle.irq_play.specs.declared.ending.Wanted.TheVariants as wants
 use Rattle.irq_run.specs.declared.ending.RunEnd.{RunEnd}
 use Rattle.irq_run.specs.declared.ending.RunEnd.TheVariants as runs
-use Rattle.irq_check.specs.declared.inputs.InputRefused.{InputRefused}
-use Rattle.irq_check.specs.declared.inputs.InputRefused.TheVariants as refusals
 use Rattle.irq_top.specs.declared.ending.Ending.{Ending}
 use Rattle.irq_top.specs.declared.ending.Ending.TheVariants as endings
 
@@ -29,16 +24,6 @@ status_of endings.ReadFault = 4
 status_of endings.WriteFault = 5
 status_of (endings.LogFull line len) = 6
 status_of (endings.NoMemory wanted) = 7
-
--- the row of a fault: at which text line, and which fault
-abbrev pub fault_row : BoardFault → List ℕ
-fault_row fault =
-    codes "board: line " ++ decimal fault.at ++ codes ": " ++ fault_text fault.kind ++ codes "\n"
-
--- the row of a full log: which line's, and how many entries it has
-abbrev pub full_row : LineNo → ℕ → List ℕ
-full_row line len =
-    codes "log full: line " ++ decimal line.0 ++ codes " at " ++ decimal len ++ codes " entries\n"
 
 abbrev pub error_text : Ending → List ℕ
 error_text endings.Done = []
@@ -97,12 +82,3 @@ is_printed _ = false
 abbrev pub is_printing : Ending → Bool
 is_printing endings.WriteFault = true
 is_printing ending = is_printed ending
-
--- The error sink gained the row, has handed it on and keeps nothing back; or its count of faults
--- rose, and it gained a beginning of the row.
-pub record Tells (row : List ℕ) (written_before written_now handed_on_now : Option (List ℕ)) (kept_now : List ℕ) (faults_before faults_now : ℕ) : Type 0 where
-  pub end : WriteEnd
-  pub content : WritesAll written_before written_now row end
-  pub handed : HandsOn handed_on_now written_now end
-  pub emptied : KeepsNone kept_now end
-  pub cause : Counts faults_before faults_now (writing_failed end)

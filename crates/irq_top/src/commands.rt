@@ -1,11 +1,11 @@
 //! What each command does, apart from the row on the error sink.
 ghost use Rattle.std.specs.Prelude.{◌≡◌, [], false, true};
+ghost use Rattle.board_gen.specs.Generated.{generated};
 ghost use Rattle.irq_io.specs.Faults.{Counts};
-ghost use Rattle.irq_top.specs.Commands.{Checks, Generates, Plays, PlaysAs, Runs, RunsAs};
+ghost use Rattle.irq_top.specs.Commands.{Checks, Does, PlaysAs, RunsAs, TakesBoard, reads};
 ghost use Rattle.irq_top.specs.Ending.{is_printed, is_printing, is_read_fault_end, is_write_fault_end};
 
 use crate::ending::Ending;
-use crate::inputs::read_input;
 use crate::outcome::Outcome;
 use board_def::Board;
 use board_gen::generate;
@@ -16,24 +16,53 @@ use irq_check::check_and_print;
 use irq_io::{Sink, Source};
 use irq_play::{Wanted, play_and_print};
 use irq_run::run_and_print;
+use irq_words::Command;
+use program_io::read_input;
 use std::alloc::Global;
 use std::sync::Wait;
 use std::thread::Threads;
 use workers::Gate;
 
+/// Does what is asked.
+pub(crate) fn act<R: Threads + Wait + Sync, S: Source, O: Sink, G: Gate + Sync, H: Handler + Sync>(
+    rt: &R,
+    alloc: Global,
+    asked: Command,
+    src: &mut S,
+    out: &mut O,
+    gate: &G,
+    handlers: &Callbacks<H>,
+) -> Outcome
+    ensures does { Does asked (S.left src.old) (S.left src.new) result.reports.reports
+        (O.written out.old) (O.written out.new) result.ending }
+    ensures unread { reads asked ≡ false → src.new ≡ src.old }
+    ensures read_fault { Counts (S.faults src.old) (S.faults src.new)
+        (is_read_fault_end result.ending) }
+    ensures emptied { is_printed result.ending ≡ true → O.kept out.new ≡ [] }
+    ensures write_fault { Counts (O.faults out.old) (O.faults out.new)
+        (is_write_fault_end result.ending) }
+    ensures silent { is_printing result.ending ≡ false → out.new ≡ out.old }
+{
+    match asked {
+        Command::Run { summary } => run(rt, alloc, summary, src, out, gate, handlers),
+        Command::Play { summary } => play(alloc, summary, src, out, handlers),
+        Command::Check => check(alloc, src, out),
+        Command::Gen { n } => play_generated(alloc, n, out, handlers),
+    }
+}
+
 /// `play`: reads a board, plays it, and prints its log, or a summary.
-pub(crate) fn play<S: Source, O: Sink, H: Handler>(
+fn play<S: Source, O: Sink, H: Handler>(
     alloc: Global,
     summary: bool,
     src: &mut S,
     out: &mut O,
     handlers: &Callbacks<H>,
 ) -> Outcome
-    ensures plays { Plays summary (S.left src.old) (S.left src.new) result.reports.reports
-        (O.written out.old) (O.written out.new) result.ending }
+    ensures plays { TakesBoard (PlaysAs summary) (S.left src.old) (S.left src.new)
+        result.reports.reports (O.written out.old) (O.written out.new) result.ending }
     ensures read_fault { Counts (S.faults src.old) (S.faults src.new)
         (is_read_fault_end result.ending) }
-    ensures handed_on { is_printed result.ending ≡ true → O.handed_on out.new ≡ O.written out.new }
     ensures emptied { is_printed result.ending ≡ true → O.kept out.new ≡ [] }
     ensures write_fault { Counts (O.faults out.old) (O.faults out.new)
         (is_write_fault_end result.ending) }
@@ -49,7 +78,7 @@ pub(crate) fn play<S: Source, O: Sink, H: Handler>(
 }
 
 /// `run`: reads a board, runs it by threads, and prints its log line by line, or a summary.
-pub(crate) fn run<R: Threads + Wait + Sync, S: Source, O: Sink, G: Gate + Sync, H: Handler + Sync>(
+fn run<R: Threads + Wait + Sync, S: Source, O: Sink, G: Gate + Sync, H: Handler + Sync>(
     rt: &R,
     alloc: Global,
     summary: bool,
@@ -58,11 +87,10 @@ pub(crate) fn run<R: Threads + Wait + Sync, S: Source, O: Sink, G: Gate + Sync, 
     gate: &G,
     handlers: &Callbacks<H>,
 ) -> Outcome
-    ensures runs { Runs summary (S.left src.old) (S.left src.new) result.reports.reports
-        (O.written out.old) (O.written out.new) result.ending }
+    ensures runs { TakesBoard (RunsAs summary) (S.left src.old) (S.left src.new)
+        result.reports.reports (O.written out.old) (O.written out.new) result.ending }
     ensures read_fault { Counts (S.faults src.old) (S.faults src.new)
         (is_read_fault_end result.ending) }
-    ensures handed_on { is_printed result.ending ≡ true → O.handed_on out.new ≡ O.written out.new }
     ensures emptied { is_printed result.ending ≡ true → O.kept out.new ≡ [] }
     ensures write_fault { Counts (O.faults out.old) (O.faults out.new)
         (is_write_fault_end result.ending) }
@@ -87,9 +115,8 @@ fn run_board<R: Threads + Wait + Sync, O: Sink, G: Gate + Sync, H: Handler + Syn
     gate: &G,
     handlers: &Callbacks<H>,
 ) -> Outcome
-    ensures runs { RunsAs board.now summary result.reports.reports (O.written out.old)
+    ensures runs { RunsAs summary board.now result.reports.reports (O.written out.old)
         (O.written out.new) result.ending }
-    ensures handed_on { is_printed result.ending ≡ true → O.handed_on out.new ≡ O.written out.new }
     ensures emptied { is_printed result.ending ≡ true → O.kept out.new ≡ [] }
     ensures write_fault { Counts (O.faults out.old) (O.faults out.new)
         (is_write_fault_end result.ending) }
@@ -112,15 +139,14 @@ fn run_board<R: Threads + Wait + Sync, O: Sink, G: Gate + Sync, H: Handler + Syn
 }
 
 /// `gen N`: makes the board that the number generates, plays it, and prints its summary.
-pub(crate) fn play_generated<O: Sink, H: Handler>(
+fn play_generated<O: Sink, H: Handler>(
     alloc: Global,
     n: u32,
     out: &mut O,
     handlers: &Callbacks<H>,
 ) -> Outcome
-    ensures generates { Generates n result.reports.reports (O.written out.old) (O.written out.new)
-        result.ending }
-    ensures handed_on { is_printed result.ending ≡ true → O.handed_on out.new ≡ O.written out.new }
+    ensures generates { PlaysAs true (generated n) result.reports.reports (O.written out.old)
+        (O.written out.new) result.ending }
     ensures emptied { is_printed result.ending ≡ true → O.kept out.new ≡ [] }
     ensures write_fault { Counts (O.faults out.old) (O.faults out.new)
         (is_write_fault_end result.ending) }
@@ -140,9 +166,8 @@ fn play_board<O: Sink, H: Handler>(
     out: &mut O,
     handlers: &Callbacks<H>,
 ) -> Outcome
-    ensures plays { PlaysAs board.now summary result.reports.reports (O.written out.old)
+    ensures plays { PlaysAs summary board.now result.reports.reports (O.written out.old)
         (O.written out.new) result.ending }
-    ensures handed_on { is_printed result.ending ≡ true → O.handed_on out.new ≡ O.written out.new }
     ensures emptied { is_printed result.ending ≡ true → O.kept out.new ≡ [] }
     ensures write_fault { Counts (O.faults out.old) (O.faults out.new)
         (is_write_fault_end result.ending) }
@@ -156,12 +181,11 @@ fn play_board<O: Sink, H: Handler>(
 }
 
 /// `check`: reads a board and a log of it, judges the log, and prints the judgement.
-pub(crate) fn check<S: Source, O: Sink>(alloc: Global, src: &mut S, out: &mut O) -> Outcome
+fn check<S: Source, O: Sink>(alloc: Global, src: &mut S, out: &mut O) -> Outcome
     ensures checks { Checks (S.left src.old) (S.left src.new) result.reports.reports
         (O.written out.old) (O.written out.new) result.ending }
     ensures read_fault { Counts (S.faults src.old) (S.faults src.new)
         (is_read_fault_end result.ending) }
-    ensures handed_on { is_printed result.ending ≡ true → O.handed_on out.new ≡ O.written out.new }
     ensures emptied { is_printed result.ending ≡ true → O.kept out.new ≡ [] }
     ensures write_fault { Counts (O.faults out.old) (O.faults out.new)
         (is_write_fault_end result.ending) }

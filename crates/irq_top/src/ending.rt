@@ -4,9 +4,10 @@ ghost use Rattle.irq_top.specs.Ending.{status_of};
 
 use board_text::BoardFault;
 use irq_base::LineNo;
-use irq_check::{Answer, CheckEnd, InputRefused};
+use irq_check::{Answer, CheckEnd};
 use irq_play::{PlayedEnd, Wanted};
 use irq_run::RunEnd;
+use program_io::InputRefused;
 
 /// How the work ended.
 #[derive(Clone, Copy, PartialEq, Eq)]

@@ -1,10 +1,9 @@
 //! The row that says on the error sink how a call ended.
-ghost use Rattle.std.specs.Prelude.{◌≡◌, ◌≤◌, ◌++◌, length};
-ghost use Rattle.irq_top.specs.Ending.{error_text, fault_row, full_row};
+ghost use Rattle.std.specs.Prelude.{◌≡◌};
+ghost use Rattle.irq_top.specs.Ending.{error_text};
 
 use crate::ending::Ending;
-use board_text::BoardFault;
-use irq_base::LineNo;
+use program_io::{push_fault, push_full_log};
 use text_row::TextRow;
 
 /// Writes the row that says how the call ended, empty if the work was done, or a log is unlawful or
@@ -24,28 +23,4 @@ pub fn error_row(row: &mut TextRow, ending: Ending)
         Ending::LogFull { line, len } => push_full_log(row, line, len),
         Ending::NoMemory(_) => row.push_bytes(b"out of memory\n"),
     }
-}
-
-/// Adds a fault of a board's text.
-fn push_fault(row: &mut TextRow, fault: BoardFault)
-    requires { length row.old ≤ 200 }
-    ensures { row.new ≡ row.old ++ fault_row fault }
-{
-    row.push_bytes(b"board: line ");
-    row.push_number(fault.at);
-    row.push_bytes(b": ");
-    row.push_bytes(fault.kind.text().as_bytes());
-    row.push(b'\n');
-}
-
-/// Adds that the line's log is full, and how many entries it has.
-fn push_full_log(row: &mut TextRow, line: LineNo, len: u32)
-    requires { length row.old ≤ 200 }
-    ensures { row.new ≡ row.old ++ full_row line len }
-{
-    row.push_bytes(b"log full: line ");
-    row.push_number(line.0);
-    row.push_bytes(b" at ");
-    row.push_number(len);
-    row.push_bytes(b" entries\n");
 }

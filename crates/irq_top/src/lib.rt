@@ -3,19 +3,18 @@
 //!
 //! `irq_main` does what the words ask for: it runs a board by threads, plays one, checks a log, or
 //! plays a board that is made from a number. What each command does, ending by ending, is said by
-//! `specs/Commands.antt`; what is promised of a run is `board_report/specs/Headline.antt`, of a
-//! play `irq_play/specs/Headline.antt`, and of a check `irq_check/specs/Checked.antt`.
+//! `Does` of `specs/Commands.antt`; what is promised of a run is `board_report/specs/Headline.antt`,
+//! of a play `irq_play/specs/Headline.antt`, and of a check `irq_check/specs/Checked.antt`.
 #![tactic(auto)]
 
 mod commands;
 pub mod ending;
 pub mod error_rows;
-pub mod inputs;
 pub mod outcome;
 pub mod top;
 
 pub use ending::Ending;
-pub use irq_check::InputRefused;
 pub use irq_play::Wanted;
 pub use outcome::Outcome;
+pub use program_io::InputRefused;
 pub use top::{end_early, irq_main};

@@ -1,18 +1,20 @@
 //! The top call.
-ghost use Rattle.std.specs.Prelude.{◌≡◌, ◌↔◌, ◌⊎◌, ℕ, Bool, List, [], false, true, map};
+ghost use Rattle.std.specs.Prelude.{◌≡◌, ◌↔◌, [], false, true, map};
 ghost use Rattle.irq_io.specs.Faults.{Counts};
 ghost use Rattle.irq_words.specs.Words.{Asks, AsksNothing};
-ghost use Rattle.irq_words.specs.declared.Command.TheVariants as commands;
-ghost use Rattle.irq_top.specs.Commands.{Checks, Generates, Plays, Runs};
-ghost use Rattle.irq_top.specs.Ending.{Tells, error_text, is_printed, is_printing, is_read_fault_end, is_write_fault_end};
+ghost use Rattle.irq_words.specs.declared.Command.{Command};
+ghost use Rattle.program_io.specs.ErrorRows.{Tells};
+ghost use Rattle.irq_top.specs.Commands.{Does, ReadsNothing};
+ghost use Rattle.irq_top.specs.Ending.{error_text, is_printed, is_printing, is_read_fault_end, is_write_fault_end};
 
-use crate::commands::{check, play, play_generated, run};
+use crate::commands::act;
 use crate::ending::Ending;
 use crate::error_rows::error_row;
 use crate::outcome::Outcome;
 use callbacks::{Callbacks, Handler};
-use irq_io::{Sink, Source, WriteEnd, write_all};
-use irq_words::{Command, read_command};
+use irq_io::{Sink, Source};
+use irq_words::read_command;
+use program_io::tell_row;
 use std::alloc::Global;
 use std::sync::Wait;
 use std::thread::Threads;
@@ -45,25 +47,14 @@ pub fn irq_main<
     handlers: &Callbacks<H>,
 ) -> Outcome
     ensures usage { (result.ending ≡ Ending.Usage) ↔ AsksNothing (map (λ w. w.now) words.now) }
-    ensures unread { result.ending ≡ Ending.Usage → src.new ≡ src.old }
     ensures unasked { result.ending ≡ Ending.Usage → result.reports.reports ≡ [] }
-
-    ensures runs { (summary : Bool) → Asks (map (λ w. w.now) words.now) (commands.Run summary)
-        → Runs summary (S.left src.old) (S.left src.new) result.reports.reports (O.written out.old)
+    ensures unread { ReadsNothing (map (λ w. w.now) words.now) → src.new ≡ src.old }
+    ensures does { (asked : Command) → Asks (map (λ w. w.now) words.now) asked
+        → Does asked (S.left src.old) (S.left src.new) result.reports.reports (O.written out.old)
         (O.written out.new) result.ending }
-    ensures plays { (summary : Bool) → Asks (map (λ w. w.now) words.now) (commands.Play summary)
-        → Plays summary (S.left src.old) (S.left src.new) result.reports.reports (O.written out.old)
-        (O.written out.new) result.ending }
-    ensures checks { Asks (map (λ w. w.now) words.now) commands.Check
-        → Checks (S.left src.old) (S.left src.new) result.reports.reports (O.written out.old)
-        (O.written out.new) result.ending }
-    ensures generates { (n : ℕ) → Asks (map (λ w. w.now) words.now) (commands.Gen n)
-        → Generates n result.reports.reports (O.written out.old) (O.written out.new) result.ending
-        × (src.new ≡ src.old) }
     ensures read_fault { Counts (S.faults src.old) (S.faults src.new)
         (is_read_fault_end result.ending) }
 
-    ensures handed_on { is_printed result.ending ≡ true → O.handed_on out.new ≡ O.written out.new }
     ensures emptied { is_printed result.ending ≡ true → O.kept out.new ≡ [] }
     ensures write_fault { Counts (O.faults out.old) (O.faults out.new)
         (is_write_fault_end result.ending) }
@@ -71,7 +62,7 @@ pub fn irq_main<
 
     ensures tells { is_printed result.ending ≡ false
         → Tells (error_text result.ending) (E.written err.old) (E.written err.new)
-        (E.handed_on err.new) (E.kept err.new) (E.faults err.old) (E.faults err.new) }
+        (E.kept err.new) (E.faults err.old) (E.faults err.new) }
     ensures quiet { is_printed result.ending ≡ true → err.new ≡ err.old }
 {
     let outcome = work(rt, alloc, words, src, out, gate, handlers);
@@ -92,33 +83,20 @@ fn work<R: Threads + Wait + Sync, S: Source, O: Sink, G: Gate + Sync, H: Handler
     handlers: &Callbacks<H>,
 ) -> Outcome
     ensures usage { (result.ending ≡ Ending.Usage) ↔ AsksNothing (map (λ w. w.now) words.now) }
-    ensures unread { result.ending ≡ Ending.Usage → src.new ≡ src.old }
     ensures unasked { result.ending ≡ Ending.Usage → result.reports.reports ≡ [] }
-    ensures runs { (summary : Bool) → Asks (map (λ w. w.now) words.now) (commands.Run summary)
-        → Runs summary (S.left src.old) (S.left src.new) result.reports.reports (O.written out.old)
+    ensures unread { ReadsNothing (map (λ w. w.now) words.now) → src.new ≡ src.old }
+    ensures does { (asked : Command) → Asks (map (λ w. w.now) words.now) asked
+        → Does asked (S.left src.old) (S.left src.new) result.reports.reports (O.written out.old)
         (O.written out.new) result.ending }
-    ensures plays { (summary : Bool) → Asks (map (λ w. w.now) words.now) (commands.Play summary)
-        → Plays summary (S.left src.old) (S.left src.new) result.reports.reports (O.written out.old)
-        (O.written out.new) result.ending }
-    ensures checks { Asks (map (λ w. w.now) words.now) commands.Check
-        → Checks (S.left src.old) (S.left src.new) result.reports.reports (O.written out.old)
-        (O.written out.new) result.ending }
-    ensures generates { (n : ℕ) → Asks (map (λ w. w.now) words.now) (commands.Gen n)
-        → Generates n result.reports.reports (O.written out.old) (O.written out.new) result.ending
-        × (src.new ≡ src.old) }
     ensures read_fault { Counts (S.faults src.old) (S.faults src.new)
         (is_read_fault_end result.ending) }
-    ensures handed_on { is_printed result.ending ≡ true → O.handed_on out.new ≡ O.written out.new }
     ensures emptied { is_printed result.ending ≡ true → O.kept out.new ≡ [] }
     ensures write_fault { Counts (O.faults out.old) (O.faults out.new)
         (is_write_fault_end result.ending) }
     ensures silent { is_printing result.ending ≡ false → out.new ≡ out.old }
 {
     match read_command(words) {
-        Some(Command::Run { summary }) => run(rt, alloc, summary, src, out, gate, handlers),
-        Some(Command::Play { summary }) => play(alloc, summary, src, out, handlers),
-        Some(Command::Check) => check(alloc, src, out),
-        Some(Command::Gen { n }) => play_generated(alloc, n, out, handlers),
+        Some(asked) => act(rt, alloc, asked, src, out, gate, handlers),
         None => Outcome::without_reports(alloc, Ending::Usage),
     }
 }
@@ -138,7 +116,7 @@ pub fn end_early<E: Sink>(alloc: Global, ending: Ending, err: &mut E) -> Outcome
     ensures ending { result.ending ≡ ending }
     ensures reports { result.reports.reports ≡ [] }
     ensures tells { Tells (error_text ending) (E.written err.old) (E.written err.new)
-        (E.handed_on err.new) (E.kept err.new) (E.faults err.old) (E.faults err.new) }
+        (E.kept err.new) (E.faults err.old) (E.faults err.new) }
 {
     tell(err, ending);
     Outcome::without_reports(alloc, ending)
@@ -147,19 +125,9 @@ pub fn end_early<E: Sink>(alloc: Global, ending: Ending, err: &mut E) -> Outcome
 /// Says on the error sink how the call ended.
 fn tell<E: Sink>(err: &mut E, ending: Ending)
     ensures { Tells (error_text ending) (E.written err.old) (E.written err.new)
-        (E.handed_on err.new) (E.kept err.new) (E.faults err.old) (E.faults err.new) }
+        (E.kept err.new) (E.faults err.old) (E.faults err.new) }
 {
     let mut row = TextRow::new();
     error_row(&mut row, ending);
     tell_row(err, row.bytes());
-}
-
-/// Writes the row, and hands it on.
-fn tell_row<E: Sink>(err: &mut E, row: &[u8])
-    ensures { Tells row.now (E.written err.old) (E.written err.new) (E.handed_on err.new)
-        (E.kept err.new) (E.faults err.old) (E.faults err.new) }
-{
-    if let WriteEnd::Done = write_all(err, row) {
-        let _ = err.flush();
-    }
 }

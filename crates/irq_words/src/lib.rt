@@ -4,7 +4,7 @@
 //! the command of some words.
 #![tactic(auto)]
 
-ghost use Rattle.std.specs.Prelude.{◌∷◌, [], codes, MatchOption, map};
+ghost use Rattle.std.specs.Prelude.{◌≡◌, ◌∷◌, ℕ, List, [], codes, MatchOption, map};
 ghost use Rattle.irq_words.specs.Words.{Asks, AsksNothing};
 
 use log_read::number_of;
@@ -89,3 +89,9 @@ fn generated(number: &str) -> Option<Command>
     let n = number_of(number.as_bytes())?;
     Some(Command::Gen { n })
 }
+
+/// Words ask for one command at most.
+pub fn command_is_one()
+    ensures { (words : List (List ℕ)) (one other : Command) → Asks words one → Asks words other
+        → one ≡ other }
+{}

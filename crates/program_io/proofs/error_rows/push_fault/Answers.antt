@@ -1,6 +1,6 @@
 use Rattle.std.proofs.Common.{◌≡◌, ℕ, List, [], ◌∷◌, ◌++◌, codes, decimal, ap, ◌∙◌, append_assoc}
 use Rattle.board_words.specs.FaultTexts.{fault_text}
-use Rattle.irq_top.proofs.error_rows.push_fault.Goals as goal
+use Rattle.program_io.proofs.error_rows.push_fault.Goals as goal
 
 -- five pieces after what stands
 regroup : (r a n b t e : List ℕ) → ((((r ++ a) ++ n) ++ b) ++ t) ++ e ≡ r ++ ((((a ++ n) ++ b) ++ t) ++ e)

@@ -1,7 +1,7 @@
 use Rattle.std.proofs.Common.{◌≡◌, ◌++◌}
 use Rattle.std.specs.Vec.Iter.{into_iter_items, into_iter_len}
-use Rattle.irq_command.specs.Arguments.{after_name}
-use Rattle.irq_command.proofs.words.after_name.Given as goal
+use Rattle.program_io.specs.Arguments.{after_name}
+use Rattle.program_io.proofs.arguments.after_name.Given as goal
 
 abbrev pub invariant-loop-word : goal.invariant-loop-word
 invariant-loop-word l = record {

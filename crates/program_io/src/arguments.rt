@@ -1,27 +1,41 @@
 //! The words of the command line, from the arguments as they come.
 ghost use Rattle.std.specs.Prelude.{◌≡◌, IfOk, IfErr, map, string_bytes};
 ghost use Rattle.std.specs.Vec.Iter.{into_iter_items};
-ghost use Rattle.irq_command.specs.Arguments.{AreText, IsRefusal, after_name};
+ghost use Rattle.program_io.specs.Arguments.{AreText, IsRefusal, after_name};
 
 use irq_base::NoMemory;
-use irq_top::{Ending, Wanted};
 use std::alloc::Global;
 use std::env::Args;
 use std::io::{self, ErrorKind};
+use thiserror::Error;
 
-/// The words after the program's name; or how the program ends if the arguments aren't text, or
-/// memory is needed and refused.
-pub fn words_of(alloc: Global, args: io::Result<Args>) -> Result<Vec<String>, Ending>
+/// Why arguments give no words.
+#[derive(Clone, Copy, Debug, PartialEq, Eq, Error)]
+pub enum ArgumentsRefused {
+    /// One of them isn't UTF-8.
+    #[error("an argument isn't text")]
+    NotText,
+    /// Memory was needed and refused.
+    #[error("out of memory")]
+    NoMemory,
+}
+
+/// The words after the program's name.
+///
+/// # Errors
+///
+/// `NotText` if one of the arguments isn't UTF-8; else `NoMemory` if memory was refused.
+pub fn words_of(alloc: Global, args: io::Result<Args>) -> Result<Vec<String>, ArgumentsRefused>
     ensures words { IfOk result (λ words. AreText args (map string_bytes words.items)) }
     ensures refused { IfErr result (IsRefusal args) }
 {
     match args {
         Ok(args) => match after_name(alloc, args) {
             Ok(words) => Ok(words),
-            Err(NoMemory) => Err(Ending::NoMemory(Wanted::Making)),
+            Err(NoMemory) => Err(ArgumentsRefused::NoMemory),
         },
-        Err(error) if error.kind() == ErrorKind::InvalidData => Err(Ending::Usage),
-        Err(_) => Err(Ending::NoMemory(Wanted::Making)),
+        Err(error) if error.kind() == ErrorKind::InvalidData => Err(ArgumentsRefused::NotText),
+        Err(_) => Err(ArgumentsRefused::NoMemory),
     }
 }
 
@@ -38,7 +52,7 @@ fn after_name(alloc: Global, args: Args) -> Result<Vec<String>, NoMemory>
     Ok(words)
 }
 
-/// The words as text that is lent.
+/// The words as text that is lent. The only error is `NoMemory`.
 pub fn lend(alloc: Global, words: &[String]) -> Result<Vec<&str>, NoMemory>
     ensures { IfOk result (λ lent. map (λ w. w.now) lent.items ≡ map string_bytes words.now) }
 {

@@ -10,8 +10,8 @@ use Rattle.board_words.specs.declared.faults.FaultKind.TheVariants as faults
 use Rattle.board_words.specs.TextLines.{text_lines}
 use Rattle.board_stated.specs.TextOf.{board_of_text, board_unless, fault_of_lines, with_lines, whole, longest_text}
 use Rattle.board_words.specs.declared.faults.BoardFault.{BoardFault}
-use Rattle.irq_check.specs.declared.inputs.InputRefused.TheVariants as refusals
-use Rattle.irq_top.specs.Reading.{IsStated, ReadsBoard}
+use Rattle.program_io.specs.declared.inputs.InputRefused.TheVariants as refusals
+use Rattle.program_io.specs.Reading.{IsStated, ReadsBoard}
 
 first_of : {A : Type 0} (b : Bool) (x y : A) → b ≡ true → cond b x y ≡ x
 first_of true x y h = refl
@@ -62,9 +62,10 @@ content (Some bytes) now text b read states =
     let of_all : board_of_text bytes ≡ Ok b = sym (cut_states bytes) ∙ (ap board_of_text (sym read.0) ∙ states) in
     (of_all, read.1 ∙ ap Some (drop_all (longest_text + 1) bytes (omega (arith, short bytes b of_all))))
 
-pub refused : (before now : Option (List ℕ)) (text : List ℕ) (fault : BoardFault) → TakesUpTo (longest_text + 1) before now text → board_of_text text ≡ Err fault → ReadsBoard before now (Err (refusals.Fault fault))
-refused None now text fault read states = tt
-refused (Some bytes) now text fault read states = (sym (cut_states bytes) ∙ (ap board_of_text (sym read.0) ∙ states), read.1)
+pub refused : (before now : Option (List ℕ)) (text : List ℕ) (fault : BoardFault) → TakesUpTo (longest_text + 1) before now text → length text ≤ longest_text + 1 → board_of_text text ≡ Err fault
+    → ReadsBoard before now (Err (refusals.Fault fault))
+refused None now text fault read within states = record { text = text; within = within; fails = states }
+refused (Some bytes) now text fault read within states = (sym (cut_states bytes) ∙ (ap board_of_text (sym read.0) ∙ states), read.1)
 
 pub stated : (before now : Option (List ℕ)) (text : List ℕ) (b : BoardSeen) → TakesUpTo (longest_text + 1) before now text → board_of_text text ≡ Ok b → IsStated before b
 stated None now text b read states = record { text = text; as_told = tt; states = states }

@@ -1,0 +1,45 @@
+-- Words ask for one command at most: the command can be read off them.
+use Rattle.std.proofs.Common.{rules, ◌≡◌, ℕ, Bool, true, false, cond, List, [], ◌∷◌, codes, get_or, refl, sym, ap, ◌∙◌, arith}
+use Rattle.std.specs.List.{list_all}
+use Rattle.std.specs.Str.{bytes_eq}
+use Rattle.std.proofs.lemmas.Fmt.{digits_value-decimal}
+use Rattle.std.proofs.lemmas.Str.Parse.{IsNumeralModel, numerals_by_fold}
+use Rattle.board_def.specs.Names.{is_digit}
+use Rattle.board_words.specs.Spelling.{value_of, value_after}
+use Rattle.irq_words.specs.Words.{Asks, IsInRange, words_of}
+use Rattle.irq_words.specs.declared.Command.{Command}
+use Rattle.irq_words.specs.declared.Command.TheVariants as commands
+
+abbrev AreDigits : List ℕ → Type 0
+AreDigits word = list_all is_digit word ≡ true
+
+own : IsNumeralModel AreDigits value_of
+own = numerals_by_fold AreDigits (search rules) value_after (search rules)
+
+abbrev is_some : List (List ℕ) → Bool
+is_some [] = false
+is_some (word ∷ words) = true
+
+abbrev by_first : List ℕ → List (List ℕ) → Command
+by_first first rest =
+    cond (bytes_eq first (codes "run")) (commands.Run (is_some rest))
+    (cond (bytes_eq first (codes "play")) (commands.Play (is_some rest))
+    (cond (bytes_eq first (codes "check")) commands.Check
+    (commands.Gen (value_of (get_or rest 0 [])))))
+
+-- the command that words have, if they are a command's
+abbrev read : List (List ℕ) → Command
+read [] = commands.Check
+read (first ∷ rest) = by_first first rest
+
+read_back : (command : Command) → IsInRange command → read (words_of command) ≡ command
+read_back (commands.Run false) h = refl
+read_back (commands.Run true) h = refl
+read_back (commands.Play false) h = refl
+read_back (commands.Play true) h = refl
+read_back commands.Check h = refl
+read_back (commands.Gen n) h = ap commands.Gen (digits_value-decimal own n (omega (arith, h)))
+
+pub one_command : (words : List (List ℕ)) (one other : Command) → Asks words one → Asks words other → one ≡ other
+one_command words one other a b =
+    sym (read_back one a.in_range) ∙ (ap read (sym a.words_are ∙ b.words_are) ∙ read_back other b.in_range)

@@ -1,0 +1,17 @@
+//! What every program over boards needs around its work: its arguments as words, a board read from
+//! a source, rows on the error sink, and sinks over std's writers.
+//!
+//! `genirq` (`irq_top`, `irq_command`) stands on it, and any further program can. A board's text is
+//! read to its end, or one byte past the longest text; the rows of errors are written to a sink
+//! whose own faults change nothing.
+#![tactic(auto)]
+
+pub mod arguments;
+pub mod ends;
+pub mod error_rows;
+pub mod inputs;
+
+pub use arguments::{ArgumentsRefused, lend, words_of};
+pub use ends::{with_buffer, without_buffer};
+pub use error_rows::{push_fault, push_full_log, tell_row};
+pub use inputs::{InputRefused, read_input};
