@@ -22,7 +22,8 @@ differ_alike new f g a b = rw (a, b) refl
 
 none_or : (new f : Flags) (es : Actions) → GoWith f es → (flags_differ new f || is_mismatch new es) ≡ flags_differ new f
 none_or new f [] h = (let e : (flags_differ new f || false) ≡ flags_differ new f = grind arith in e)
-none_or new f (e ∷ es) h = or_again (flags_differ new f) (flags_differ new e.1.flags) (is_mismatch new es) (differ_alike new f e.1.flags h.0 h.1) (none_or new f es h.2)
+none_or new f (e ∷ es) h = or_again (flags_differ new f) (flags_differ new e.1.flags) (is_mismatch new es)
+    (differ_alike new f e.1.flags h.0 h.1) (none_or new f es h.2)
   where
     or_again : (a b c : Bool) → b ≡ a → (a || c) ≡ a → (a || (b || c)) ≡ a
     or_again a b c h i = grind arith
@@ -75,7 +76,9 @@ pub adds_last : (d : DevNo) (a : Action) (es : Actions) → has d es ≡ false �
 adds_last d a [] h = refl
 adds_last d a (e ∷ es) h = by_test (same_dev d e.0) h (adds_last d a es)
   where
-    by_test : (b : Bool) → cond b true (has d es) ≡ false → (has d es ≡ false → insert_entry same_dev es d a ≡ es ++ (d, a) ∷ []) → cond b ((e.0, a) ∷ es) (e ∷ insert_entry same_dev es d a) ≡ e ∷ (es ++ (d, a) ∷ [])
+    by_test : (b : Bool) → cond b true (has d es) ≡ false
+        → (has d es ≡ false → insert_entry same_dev es d a ≡ es ++ (d, a) ∷ [])
+        → cond b ((e.0, a) ∷ es) (e ∷ insert_entry same_dev es d a) ≡ e ∷ (es ++ (d, a) ∷ [])
     by_test true i rest = cc
     by_test false i rest = ap (λ (t : Actions). e ∷ t) (rest i)
 

@@ -1,6 +1,8 @@
 -- Thread bits: no two one-shot actions have the same one, so with fewer than 64 of them one is
 -- free.
-use Rattle.std.proofs.Common.{◌≡◌, ℕ, zero, suc, ◌+◌, ◌-◌, ◌*◌, ◌/◌, ◌%◌, ◌^◌, ◌<◌, ◌≤◌, min, ◌⊎◌, inl, inr, ◌==◌, leb, ◌&&◌, Bool, true, false, cond, bit_and, bit_or, count_ones, Some, List, [], ◌∷◌, ◌++◌, length, refl, sym, ap, subst, ◌∙◌, arith}
+use Rattle.std.proofs.Common.{◌≡◌, ℕ, zero, suc, ◌+◌, ◌-◌, ◌*◌, ◌/◌, ◌%◌, ◌^◌, ◌<◌, ◌≤◌, min, ◌⊎◌, inl, inr, ◌==◌, leb}
+use Rattle.std.proofs.Common.{◌&&◌, Bool, true, false, cond, bit_and, bit_or, count_ones, Some, List, [], ◌∷◌, ◌++◌}
+use Rattle.std.proofs.Common.{length, refl, sym, ap, subst, ◌∙◌, arith}
 use Rattle.std.proofs.Math.Nat.{pow-suc}
 use Rattle.std.specs.Int.{bit_at, trailing_ones, w64}
 use Rattle.std.specs.Int.Count.{ones-ones}
@@ -12,7 +14,8 @@ use Rattle.irq_base.specs.declared.calls.Flags.{Flags}
 use Rattle.irq_base.specs.declared.numbers.DevNo.{DevNo}
 use Rattle.irq_model.specs.Kinds.{same_dev}
 use Rattle.irq_model.specs.Next.{flags_differ}
-use Rattle.act_list.specs.Actions.{is_mismatch, GoWith, AreAlike, bits_from, bits_of, lowest_free, IsLowestFree, is_full, bits_due, count_oneshot, HaveBits, AreKept, is_oneshot_in}
+use Rattle.act_list.specs.Actions.{is_mismatch, GoWith, AreAlike, bits_from, bits_of, lowest_free, IsLowestFree}
+use Rattle.act_list.specs.Actions.{is_full, bits_due, count_oneshot, HaveBits, AreKept, is_oneshot_in}
 use Rattle.act_list.specs.declared.actions.Action.{Action}
 use Rattle.act_list.proofs.Alike.{by_first, agree, alike_more, alike_less}
 
@@ -36,7 +39,9 @@ digits (suc (suc r)) s p q = absurd (omega (arith, p))
 digits zero (suc (suc s)) p q = absurd (omega (arith, q))
 digits (suc zero) (suc (suc s)) p q = absurd (omega (arith, q))
 
-one_digit : (x y r s : ℕ) → r < 2 → s < 2 → count_ones (bit_or x y) + count_ones (bit_and x y) ≡ count_ones x + count_ones y → count_ones (bit_or (x * 2 ^ 1 + r) (y * 2 ^ 1 + s)) + count_ones (bit_and (x * 2 ^ 1 + r) (y * 2 ^ 1 + s)) ≡ count_ones (x * 2 ^ 1 + r) + count_ones (y * 2 ^ 1 + s)
+one_digit : (x y r s : ℕ) → r < 2 → s < 2 → count_ones (bit_or x y) + count_ones (bit_and x y)
+    ≡ count_ones x + count_ones y → count_ones (bit_or (x * 2 ^ 1 + r) (y * 2 ^ 1 + s)) + count_ones
+    (bit_and (x * 2 ^ 1 + r) (y * 2 ^ 1 + s)) ≡ count_ones (x * 2 ^ 1 + r) + count_ones (y * 2 ^ 1 + s)
 one_digit x y r s p q h =
     let a = ap count_ones (or_block 1 x y r s p q) ∙ ones_cat 1 (bit_or x y) (bit_or r s) (or_lt 1 r s p q) in
     let b = ap count_ones (and_block 1 x y r s p q) ∙ ones_cat 1 (bit_and x y) (bit_and r s) (and_small r s p) in
@@ -55,7 +60,9 @@ both_below (suc k) a b p q =
     let e = one_digit (a / 2) (b / 2) (a % 2) (b % 2) (omega arith) (omega arith) half in
     let x : a / 2 * 2 ^ 1 + a % 2 ≡ a = shr_split a 1 in
     let y : b / 2 * 2 ^ 1 + b % 2 ≡ b = shr_split b 1 in
-    subst (λ n. count_ones (bit_or n b) + count_ones (bit_and n b) ≡ count_ones n + count_ones b) x (subst (λ n. count_ones (bit_or (a / 2 * 2 ^ 1 + a % 2) n) + count_ones (bit_and (a / 2 * 2 ^ 1 + a % 2) n) ≡ count_ones (a / 2 * 2 ^ 1 + a % 2) + count_ones n) y e)
+    subst (λ n. count_ones (bit_or n b) + count_ones (bit_and n b) ≡ count_ones n + count_ones b) x
+    (subst (λ n. count_ones (bit_or (a / 2 * 2 ^ 1 + a % 2) n) + count_ones (bit_and (a / 2 * 2 ^ 1 + a % 2) n)
+    ≡ count_ones (a / 2 * 2 ^ 1 + a % 2) + count_ones n) y e)
 
 lt_pow : (n : ℕ) → n < 2 ^ n
 lt_pow zero = omega arith
@@ -117,7 +124,8 @@ count_more : (t : Actions) (x : DevNo × Action) → count_oneshot (t ++ x ∷ [
 count_more [] x = omega arith
 count_more (e ∷ es) x = omega (arith, count_more es x)
 
-pub kept_more : (d : DevNo) (a : Action) (t : Actions) → AreKept t → is_mismatch a.flags t ≡ false → count_ones a.bit ≡ bits_due a.flags → a.bit < 2 ^ 64 → bit_and (bits_of t) a.bit ≡ 0 → AreKept (t ++ (d, a) ∷ [])
+pub kept_more : (d : DevNo) (a : Action) (t : Actions) → AreKept t → is_mismatch a.flags t ≡ false
+    → count_ones a.bit ≡ bits_due a.flags → a.bit < 2 ^ 64 → bit_and (bits_of t) a.bit ≡ 0 → AreKept (t ++ (d, a) ∷ [])
 kept_more d a t h goes due word apart = record {
   alike = alike_more d a t h.alike goes;
   have = have_more t (d, a) h.have due word;
@@ -134,14 +142,22 @@ first_last : (u b : ℕ) (t : Actions) → bits_from (bit_or u b) t ≡ bit_or (
 first_last u b [] = refl
 first_last u b (e ∷ es) = ap (λ n. bits_from n es) (swap u b e.1.bit) ∙ first_last (bit_or u e.1.bit) b es
 
-apart_less : (u : ℕ) (test : DevNo → Bool) (t : Actions) → HaveBits t → count_ones (bits_from u t) ≡ count_ones u + count_oneshot t → count_ones (bits_from u (remove_entry test t)) ≡ count_ones u + count_oneshot (remove_entry test t)
+apart_less : (u : ℕ) (test : DevNo → Bool) (t : Actions) → HaveBits t
+    → count_ones (bits_from u t) ≡ count_ones u + count_oneshot t
+    → count_ones (bits_from u (remove_entry test t)) ≡ count_ones u + count_oneshot (remove_entry test t)
 apart_less u test [] h is = is
 apart_less u test (e ∷ es) h is = by_test (test e.0) (apart_less (bit_or u e.1.bit) test es h.2)
   where
-    by_test : (b : Bool) → (count_ones (bits_from (bit_or u e.1.bit) es) ≡ count_ones (bit_or u e.1.bit) + count_oneshot es → count_ones (bits_from (bit_or u e.1.bit) (remove_entry test es)) ≡ count_ones (bit_or u e.1.bit) + count_oneshot (remove_entry test es)) → count_ones (bits_from u (cond b es (e ∷ remove_entry test es))) ≡ count_ones u + count_oneshot (cond b es (e ∷ remove_entry test es))
+    by_test : (b : Bool) → (count_ones (bits_from (bit_or u e.1.bit) es)
+        ≡ count_ones (bit_or u e.1.bit) + count_oneshot es
+        → count_ones (bits_from (bit_or u e.1.bit) (remove_entry test es))
+        ≡ count_ones (bit_or u e.1.bit) + count_oneshot (remove_entry test es))
+        → count_ones (bits_from u (cond b es (e ∷ remove_entry test es)))
+        ≡ count_ones u + count_oneshot (cond b es (e ∷ remove_entry test es))
     by_test true rest = omega (arith, is, ap count_ones (first_last u e.1.bit es), both (bits_from u es) e.1.bit, no_more u es h.2, h.0)
     by_test false rest =
-        let first : count_ones (bit_or u e.1.bit) ≡ count_ones u + bits_due e.1.flags = omega (arith, is, no_more (bit_or u e.1.bit) es h.2, both u e.1.bit, h.0) in
+        let first : count_ones (bit_or u e.1.bit) ≡ count_ones u + bits_due e.1.flags
+        = omega (arith, is, no_more (bit_or u e.1.bit) es h.2, both u e.1.bit, h.0) in
         omega (arith, first, rest (omega (arith, is, first, no_more (bit_or u e.1.bit) es h.2)))
 
 have_less : (test : DevNo → Bool) (t : Actions) → HaveBits t → HaveBits (remove_entry test t)
@@ -165,7 +181,8 @@ words : (u : ℕ) (t : Actions) → u < 2 ^ 64 → HaveBits t → bits_from u t 
 words u [] l h = l
 words u (e ∷ es) l h = words (bit_or u e.1.bit) es (or_lt 64 u e.1.bit l h.1) h.2
 
-free_below : (t : Actions) (used : ℕ) → AreKept t → used ≡ bits_of t → used < 2 ^ 64 → length t < 64 → (trailing_ones w64 used < 64) × IsLowestFree t (2 ^ trailing_ones w64 used)
+free_below : (t : Actions) (used : ℕ) → AreKept t → used ≡ bits_of t → used < 2 ^ 64 → length t < 64
+    → (trailing_ones w64 used < 64) × IsLowestFree t (2 ^ trailing_ones w64 used)
 free_below t used h is word few = by_lowest (bit_at-trailing_ones w64 used some_clear)
   where
     few_oneshot : (xs : Actions) → count_oneshot xs ≤ length xs
@@ -187,18 +204,24 @@ free_below t used h is word few = by_lowest (bit_at-trailing_ones w64 used some_
     nothing : (n : ℕ) → 0 * n ≡ 0
     nothing n = omega arith
 
-    by_lowest : (trailing_ones w64 used < 64) × (bit_at used (trailing_ones w64 used) ≡ 0) × ((i : ℕ) → i < trailing_ones w64 used → bit_at used i ≡ 1) → (trailing_ones w64 used < 64) × IsLowestFree t (2 ^ trailing_ones w64 used)
+    by_lowest : (trailing_ones w64 used < 64) × (bit_at used (trailing_ones w64 used) ≡ 0)
+        × ((i : ℕ) → i < trailing_ones w64 used → bit_at used i ≡ 1)
+        → (trailing_ones w64 used < 64) × IsLowestFree t (2 ^ trailing_ones w64 used)
     by_lowest l = (
       l.0,
       record {
         one = one_bit (trailing_ones w64 used);
         word = pow_below (trailing_ones w64 used) 64 l.0;
-        free = ap (λ n. bit_and n (2 ^ trailing_ones w64 used)) (sym is) ∙ (and_pow used (trailing_ones w64 used) ∙ (ap (λ n. n * 2 ^ trailing_ones w64 used) l.1 ∙ nothing (2 ^ trailing_ones w64 used)));
+        free = ap (λ n. bit_and n (2 ^ trailing_ones w64 used)) (sym is)
+            ∙ (and_pow used (trailing_ones w64 used) ∙
+            (ap (λ n. n * 2 ^ trailing_ones w64 used) l.1 ∙ nothing (2 ^ trailing_ones w64 used)));
         lowest = ap (λ n. bit_and n (2 ^ trailing_ones w64 used - 1)) (sym is) ∙ low_bits used (trailing_ones w64 used) l.2;
       },
     )
 
-pub free_at : (t : Actions) (used place : ℕ) → AreKept t → used ≡ bits_of t → place ≡ trailing_ones w64 used → length t < 64 → (place < 64) × (1 * 2 ^ place % 2 ^ 64 ≡ lowest_free (bits_of t)) × IsLowestFree t (1 * 2 ^ place % 2 ^ 64)
+pub free_at : (t : Actions) (used place : ℕ) → AreKept t → used ≡ bits_of t → place ≡ trailing_ones w64 used
+    → length t < 64 → (place < 64) × (1 * 2 ^ place % 2 ^ 64 ≡ lowest_free (bits_of t))
+    × IsLowestFree t (1 * 2 ^ place % 2 ^ 64)
 free_at t used place h is at few =
     let low = free_below t used h is (subst (λ n. n < 2 ^ 64) (sym is) (words 0 t (omega arith) h.have)) few in
     let below : place < 64 = subst (λ n. n < 64) (sym at) low.0 in
@@ -244,7 +267,8 @@ full_at flags t h is goes = same_test (length t) 64 (bits_of t) (2 ^ 64 - 1) bac
     same_test : (a b c d : ℕ) → (a ≡ b → c ≡ d) → (c ≡ d → a ≡ b) → (a == b) ≡ (c == d)
     same_test a b c d f g = grind (arith, f, g)
 
-pub many_at : (flags : Flags) (t : Actions) (n : ℕ) → AreKept t → flags.oneshot ≡ true → is_mismatch flags t ≡ false → n ≡ length t → leb 64 n ≡ (flags.oneshot && (length t == 64))
+pub many_at : (flags : Flags) (t : Actions) (n : ℕ) → AreKept t → flags.oneshot ≡ true → is_mismatch flags t ≡ false
+    → n ≡ length t → leb 64 n ≡ (flags.oneshot && (length t == 64))
 many_at flags t n h is goes many = ap (leb 64) many ∙ at_bound flags.oneshot (length t) is (at_most flags t h is goes)
   where
     at_bound : (b : Bool) (m : ℕ) → b ≡ true → m ≤ 64 → leb 64 m ≡ (b && (m == 64))
@@ -256,7 +280,8 @@ bits_there : (d : DevNo) (t : Actions) (a : Action) → HaveBits t → Some a �
 bits_there d [] a h found = cc
 bits_there d (e ∷ es) a h found = by_test (same_dev d e.0) found (bits_there d es a h.2)
   where
-    by_test : (b : Bool) → Some a ≡ cond b (Some e.1) (lookup (same_dev d) es) → (Some a ≡ lookup (same_dev d) es → count_ones a.bit ≡ bits_due a.flags) → count_ones a.bit ≡ bits_due a.flags
+    by_test : (b : Bool) → Some a ≡ cond b (Some e.1) (lookup (same_dev d) es)
+        → (Some a ≡ lookup (same_dev d) es → count_ones a.bit ≡ bits_due a.flags) → count_ones a.bit ≡ bits_due a.flags
     by_test true is rest = let same : a ≡ e.1 = cc in subst (λ (x : Action). count_ones x.bit ≡ bits_due x.flags) (sym same) h.0
     by_test false is rest = rest is
 
@@ -271,7 +296,8 @@ has_one : (n : ℕ) (b : Bool) → count_ones n ≡ cond b 1 0 → (n ≡ 0 → 
 has_one n true e is = (refl, e)
 has_one n false e is = absurd (is (zero_from_ones n e))
 
-pub one_bit_there : (d : DevNo) (t : Actions) (a : Action) → HaveBits t → Some a ≡ lookup (same_dev d) t → (a.bit ≡ 0 → ⊥) → (true ≡ is_oneshot_in (lookup (same_dev d) t)) × (count_ones a.bit ≡ 1)
+pub one_bit_there : (d : DevNo) (t : Actions) (a : Action) → HaveBits t → Some a ≡ lookup (same_dev d) t
+    → (a.bit ≡ 0 → ⊥) → (true ≡ is_oneshot_in (lookup (same_dev d) t)) × (count_ones a.bit ≡ 1)
 one_bit_there d t a h found is =
     let one = has_one a.bit a.flags.oneshot (bits_there d t a h found) is in
     (one.0 ∙ ap is_oneshot_in found, one.1)

@@ -1,5 +1,6 @@
 -- Stamps tell who was called in the round.
-use Rattle.std.proofs.Common.{◌≡◌, ℕ, ◌+◌, ◌≤◌, ◌==◌, Bool, true, false, cond, eq-eqb, Option, Some, None, option_map, unwrap_or, List, [], ◌∷◌, refl, sym, ap, ◌∙◌, arith}
+use Rattle.std.proofs.Common.{◌≡◌, ℕ, ◌+◌, ◌≤◌, ◌==◌, Bool, true, false, cond, eq-eqb, Option, Some, None, option_map}
+use Rattle.std.proofs.Common.{unwrap_or, List, [], ◌∷◌, refl, sym, ap, ◌∙◌, arith}
 use Rattle.std.proofs.lemmas.Bool.Decides.{nat_tests}
 use Rattle.irq_base.specs.declared.devices.DeviceDef.{DeviceDef}
 use Rattle.irq_base.specs.declared.numbers.DevNo.{DevNo}
@@ -14,7 +15,8 @@ apart a n h = grind (arith, nat_tests)
 -- in a new round none is
 pub next_round : (n : ℕ) (t : List (DevNo × ℕ)) → AreStamps n t → stamped (n + 1) t ≡ cleared (stamped n t)
 next_round n [] h = refl
-next_round n (e ∷ es) h = ap (λ (b : Bool). (e.0, b) ∷ stamped (n + 1) es) (apart e.1 n h.0) ∙ ap (λ (t : List (DevNo × Bool)). (e.0, false) ∷ t) (next_round n es h.1)
+next_round n (e ∷ es) h = ap (λ (b : Bool). (e.0, b) ∷ stamped (n + 1) es) (apart e.1 n h.0)
+    ∙ ap (λ (t : List (DevNo × Bool)). (e.0, false) ∷ t) (next_round n es h.1)
 
 pub still_stamps : (n : ℕ) (t : List (DevNo × ℕ)) → AreStamps n t → AreStamps (n + 1) t
 still_stamps n [] h = tt
@@ -24,14 +26,16 @@ at_stamped : (n : ℕ) (t : List (DevNo × ℕ)) (d : DevNo) → at (stamped n t
 at_stamped n [] d = refl
 at_stamped n (e ∷ es) d = by_test (same_dev d e.0) (at_stamped n es d)
   where
-    by_test : (b : Bool) → at (stamped n es) d ≡ option_map (λ s. s == n) (at es d) → cond b (Some (e.1 == n)) (at (stamped n es) d) ≡ option_map (λ s. s == n) (cond b (Some e.1) (at es d))
+    by_test : (b : Bool) → at (stamped n es) d ≡ option_map (λ s. s == n) (at es d)
+        → cond b (Some (e.1 == n)) (at (stamped n es) d) ≡ option_map (λ s. s == n) (cond b (Some e.1) (at es d))
     by_test true rest = refl
     by_test false rest = rest
 
 put_apart : (d : DevNo) (x : DevNo × Bool) (t : List (DevNo × Bool)) (v : Bool) → same_dev d x.0 ≡ false → put (x ∷ t) d v ≡ x ∷ put t d v
 put_apart d x t v h = ap (λ b. cond b ((x.0, v) ∷ t) (x ∷ put t d v)) h
 
-found_apart : (d : DevNo) (x : DevNo × Bool) (t : List (DevNo × Bool)) (o : Option Bool) → same_dev d x.0 ≡ false → changed (λ b. true) (x ∷ t) d o ≡ x ∷ changed (λ b. true) t d o
+found_apart : (d : DevNo) (x : DevNo × Bool) (t : List (DevNo × Bool)) (o : Option Bool) → same_dev d x.0 ≡ false
+    → changed (λ b. true) (x ∷ t) d o ≡ x ∷ changed (λ b. true) t d o
 found_apart d x t None h = refl
 found_apart d x t (Some v) h = put_apart d x t true h
 
@@ -60,7 +64,8 @@ put_stamps n (e ∷ es) d h = by_test (same_dev d e.0) (put_stamps n es d h.1)
 
 -- whether a device was called, by its stamp
 pub begun_is : (n : ℕ) (t : List (DevNo × ℕ)) (d : DevNo) (o : Option ℕ) → o ≡ at t d → unwrap_or (option_map (λ s. s == n) o) false ≡ begun_at (stamped n t) d
-begun_is n t d o h = ap (λ (x : Option ℕ). unwrap_or (option_map (λ s. s == n) x) false) h ∙ sym (ap (λ (x : Option Bool). unwrap_or x false) (at_stamped n t d))
+begun_is n t d o h = ap (λ (x : Option ℕ). unwrap_or (option_map (λ s. s == n) x) false) h
+    ∙ sym (ap (λ (x : Option Bool). unwrap_or x false) (at_stamped n t d))
 
 -- at first nobody was
 pub none_stamped : (xs : List DeviceDef) → stamped 1 (all_with 0 xs) ≡ all_with false xs

@@ -1,5 +1,7 @@
 -- The walk over the actions: all before a place have begun.
-use Rattle.std.proofs.Common.{◌≡◌, ℕ, zero, suc, ◌+◌, ◌≤◌, ◌<◌, Bool, true, false, cond, bit_or, Option, Some, None, IfSome, option_map, unwrap_or, slice_get, List, [], ◌∷◌, ◌++◌, take, drop, length, refl, sym, ap, subst, ◌∙◌, add-one, arith}
+use Rattle.std.proofs.Common.{◌≡◌, ℕ, zero, suc, ◌+◌, ◌≤◌, ◌<◌, Bool, true, false, cond, bit_or, Option, Some, None}
+use Rattle.std.proofs.Common.{IfSome, option_map, unwrap_or, slice_get, List, [], ◌∷◌, ◌++◌, take, drop, length, refl}
+use Rattle.std.proofs.Common.{sym, ap, subst, ◌∙◌, add-one, arith}
 use Rattle.std.proofs.lemmas.List.{take-append-le}
 use Rattle.irq_base.specs.declared.numbers.DevNo.{DevNo}
 use Rattle.irq_model.specs.Kinds.{same_dev}
@@ -21,7 +23,9 @@ pub bits_next : (t : Actions) (i used : ℕ) → i < length t → bits_from (bit
 bits_next [] i used h = absurd (omega (arith, h))
 bits_next (e ∷ es) zero used h = refl
 bits_next (e ∷ es) (suc i) used h =
-    ap (λ n. bits_from (bit_or used (bit_in (slice_get es i))) (drop n (e ∷ es))) (add-one (suc i)) ∙ (ap (λ n. bits_from (bit_or used (bit_in (slice_get es i))) (drop n es)) (sym (add-one i)) ∙ bits_next es i used (omega (arith, h)))
+    ap (λ n. bits_from (bit_or used (bit_in (slice_get es i))) (drop n (e ∷ es))) (add-one (suc i))
+    ∙ (ap (λ n. bits_from (bit_or used (bit_in (slice_get es i))) (drop n es)) (sym (add-one i))
+    ∙ bits_next es i used (omega (arith, h)))
 
 pub bits_all : (t : Actions) (i used : ℕ) → length t ≤ i → bits_from used (drop i t) ≡ used
 bits_all [] zero used h = refl
@@ -32,7 +36,9 @@ bits_all (e ∷ es) (suc i) used h = bits_all es i used (omega (arith, h))
 -- ---- places
 
 -- one more has begun
-pub begun_next : (b : List (DevNo × Bool)) (t : Actions) (i : ℕ) (d : DevNo) → Some d ≡ option_map first_of (slice_get t i) → begun_at b d ≡ true → AreBegun b (take i t) → AreBegun b (take (i + 1) t)
+pub begun_next : (b : List (DevNo × Bool)) (t : Actions) (i : ℕ) (d : DevNo)
+    → Some d ≡ option_map first_of (slice_get t i) → begun_at b d ≡ true → AreBegun b (take i t)
+    → AreBegun b (take (i + 1) t)
 begun_next b [] i d found is h = cc
 begun_next b (e ∷ es) zero d found is h = let same : d ≡ e.0 = cc in (ap (begun_at b) (sym same) ∙ is, tt)
 begun_next b (e ∷ es) (suc i) d found is h =
@@ -43,7 +49,8 @@ place_within [] i d found = cc
 place_within (e ∷ es) zero d found = omega arith
 place_within (e ∷ es) (suc i) d found = omega (arith, place_within es i d found)
 
-pub left_is : (b : List (DevNo × Bool)) (o : Option (DevNo × Action)) (d : DevNo) → Some d ≡ option_map first_of o → begun_at b d ≡ false → IfSome o (λ e. begun_at b e.0 ≡ false)
+pub left_is : (b : List (DevNo × Bool)) (o : Option (DevNo × Action)) (d : DevNo) → Some d ≡ option_map first_of o
+    → begun_at b d ≡ false → IfSome o (λ e. begun_at b e.0 ≡ false)
 left_is b None d found is = cc
 left_is b (Some e) d found is = let same : d ≡ e.0 = cc in ap (begun_at b) (sym same) ∙ is
 
@@ -52,7 +59,8 @@ left_none b None h = tt
 left_none b (Some e) h = cc
 
 -- if all before place i have begun, the action at i is the first that is left
-pub left_at : (b : List (DevNo × Bool)) (t : Actions) (i : ℕ) → i ≤ length t → AreBegun b (take i t) → IfSome (slice_get t i) (λ e. begun_at b e.0 ≡ false) → option_map first_of (slice_get t i) ≡ first_left b t
+pub left_at : (b : List (DevNo × Bool)) (t : Actions) (i : ℕ) → i ≤ length t → AreBegun b (take i t)
+    → IfSome (slice_get t i) (λ e. begun_at b e.0 ≡ false) → option_map first_of (slice_get t i) ≡ first_left b t
 left_at b [] i small h left = refl
 left_at b (e ∷ es) zero small h left = sym (ap (λ c. cond c (first_left b es) (Some e.0)) left)
 left_at b (e ∷ es) (suc i) small h left = left_at b es i (omega (arith, small)) h.1 left ∙ sym (ap (λ c. cond c (first_left b es) (Some e.0)) h.0)
@@ -64,7 +72,8 @@ still b d x None found h = h
 still b d x (Some v) found h = by_test (same_dev d x) refl
   where
     by_test : (y : Bool) → same_dev d x ≡ y → begun_at (put b d true) x ≡ true
-    by_test true is = ap (λ (z : DevNo). begun_at (put b d true) z) (sym (dev_from_same d x is)) ∙ ap (λ (z : Option Bool). unwrap_or z false) (at_put_same b d true v found)
+    by_test true is = ap (λ (z : DevNo). begun_at (put b d true) z) (sym (dev_from_same d x is))
+        ∙ ap (λ (z : Option Bool). unwrap_or z false) (at_put_same b d true v found)
     by_test false is = ap (λ (z : Option Bool). unwrap_or z false) (at_put_other b d x true is) ∙ h
 
 pub begun_keeps : (b : List (DevNo × Bool)) (d : DevNo) (t : Actions) → AreBegun b t → AreBegun (change (λ c. true) b d) t

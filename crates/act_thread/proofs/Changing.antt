@@ -19,7 +19,8 @@ held_few r = by_test r.held
     by_test true = omega arith
     by_test false = omega arith
 
-pub ranked_put : (t : List (DevNo × ThreadRow)) (ranks : List (DevNo × ℕ)) (d : DevNo) (old new : ThreadRow) → at t d ≡ Some old → ((x : DevNo) (row : ThreadRow) → at t x ≡ Some row → (r : ℕ) × (at ranks x ≡ Some r))
+pub ranked_put : (t : List (DevNo × ThreadRow)) (ranks : List (DevNo × ℕ)) (d : DevNo) (old new : ThreadRow)
+    → at t d ≡ Some old → ((x : DevNo) (row : ThreadRow) → at t x ≡ Some row → (r : ℕ) × (at ranks x ≡ Some r))
     → (x : DevNo) (row : ThreadRow) → at (put t d new) x ≡ Some row → (r : ℕ) × (at ranks x ≡ Some r)
 ranked_put t ranks d old new there ranked x row found = by_test (same_dev d x) refl
   where

@@ -9,18 +9,23 @@ use Rattle.act_thread.specs.Marked.{IsKept}
 use Rattle.act_thread.specs.Steps.{could_step, is_ready, is_returned}
 use Rattle.act_thread.specs.declared.rows.ThreadRow.{ThreadRow}
 
-module _ (t : List (DevNo × ThreadRow)) (a h : ℕ) (ranks : List (DevNo × ℕ)) (ready returned : List ℕ) (goes_on : Bool) (kept : IsKept t a h ranks ready returned) where
+module _ (t : List (DevNo × ThreadRow)) (a h : ℕ) (ranks : List (DevNo × ℕ)) (ready returned : List ℕ) (goes_on : Bool)
+    (kept : IsKept t a h ranks ready returned) where
   abbrev test : ℕ → Bool
   test r = holds ready r || (goes_on && holds returned r)
 
   -- the bit of a device's rank is whether its thread could step
   bit_is : (d : DevNo) (row : ThreadRow) (r : ℕ) → at t d ≡ Some row → at ranks d ≡ Some r → test r ≡ could_step goes_on row
-  bit_is d row r has rank = ap (λ b. b || (goes_on && holds returned r)) (kept.readies.here d row r has rank) ∙ ap (λ b. is_ready row || (goes_on && b)) (kept.returns.here d row r has rank)
+  bit_is d row r has rank = ap (λ b. b || (goes_on && holds returned r)) (kept.readies.here d row r has rank)
+      ∙ ap (λ b. is_ready row || (goes_on && b)) (kept.returns.here d row r has rank)
 
   pub none_found : IsFirst test None → lowest_where (could_step goes_on) t ≡ None
-  none_found none = lowest_none (could_step goes_on) t kept.own (λ d row has. let w = kept.ranked d row has in sym (bit_is d row w.0 has w.1) ∙ none w.0 (kept.ranking.few d w.0 w.1))
+  none_found none = lowest_none (could_step goes_on) t kept.own
+      (λ d row has. let w = kept.ranked d row has in sym (bit_is d row w.0 has w.1)
+      ∙ none w.0 (kept.ranking.few d w.0 w.1))
 
-  pub one_found : (r : ℕ) (o : Option DevNo) → IsFirst test (Some r) → ((d : DevNo) → at ranks d ≡ Some r → o ≡ Some d) → o ≡ lowest_where (could_step goes_on) t
+  pub one_found : (r : ℕ) (o : Option DevNo) → IsFirst test (Some r) → ((d : DevNo) → at ranks d ≡ Some r → o ≡ Some d)
+      → o ≡ lowest_where (could_step goes_on) t
   one_found r o first device = by_set (or_cases (holds ready r) (goes_on && holds returned r) first.1)
     where
       least : (d : DevNo) → at ranks d ≡ Some r → (x : DevNo) (row : ThreadRow) → at t x ≡ Some row → could_step goes_on row ≡ true → d.0 ≤ x.0

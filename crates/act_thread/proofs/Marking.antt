@@ -48,11 +48,14 @@ module _ (p : ThreadRow → Bool) (t : List (DevNo × ThreadRow)) (ranks : List 
       let ne : r ≡ own → ⊥ = λ e. eqb-false d.0 x.0 is (rank_apart ranks d x own ranking mine (rank ∙ ap Some e)) in
       at_other r (ranking.few x r rank) ne ∙ marked.here x row r (sym (at_put_other t d x new is) ∙ found) rank
 
-  kept_one : (r : ℕ) → (r ≡ own → ⊥) → (x : DevNo) (row : ThreadRow) → at t x ≡ Some row → at ranks x ≡ Some r → (b : Bool) → same_dev d x ≡ b → (y : DevNo) × (s : ThreadRow) × (at (put t d new) y ≡ Some s) × (at ranks y ≡ Some r)
+  kept_one : (r : ℕ) → (r ≡ own → ⊥) → (x : DevNo) (row : ThreadRow) → at t x ≡ Some row → at ranks x ≡ Some r
+      → (b : Bool) → same_dev d x ≡ b → (y : DevNo) × (s : ThreadRow) × (at (put t d new) y ≡ Some s)
+      × (at ranks y ≡ Some r)
   kept_one r ne x row found rank true is = absurd (ne (some_rank r own (sym rank ∙ (ap (at ranks) (sym (dev_from_same d x is)) ∙ mine))))
   kept_one r ne x row found rank false is = (x, row, at_put_other t d x new is ∙ found, rank)
 
-  only_more : (r : ℕ) → r < 256 → holds after r ≡ true → (b : Bool) → eqb r own ≡ b → (y : DevNo) × (s : ThreadRow) × (at (put t d new) y ≡ Some s) × (at ranks y ≡ Some r)
+  only_more : (r : ℕ) → r < 256 → holds after r ≡ true → (b : Bool) → eqb r own ≡ b
+      → (y : DevNo) × (s : ThreadRow) × (at (put t d new) y ≡ Some s) × (at ranks y ≡ Some r)
   only_more r low is true e = (d, new, at_put_same t d new old there, mine ∙ ap Some (sym (eqb-true r own e)))
   only_more r low is false e =
       let ne : r ≡ own → ⊥ = eqb-false r own e in

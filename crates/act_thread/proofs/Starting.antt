@@ -27,11 +27,14 @@ weigh_none w r h (x ∷ xs) = omega (arith, h, weigh_none w r h xs)
 
 module _ (xs : List DeviceDef) where
   -- a device with a row is one of the line's, and at rest
-  found : (d : DevNo) (row : ThreadRow) (b : Bool) → list_any (is_device d) xs ≡ b → at (all_with idle_row xs) d ≡ Some row → (list_any (is_device d) xs ≡ true) × (row ≡ idle_row)
+  found : (d : DevNo) (row : ThreadRow) (b : Bool) → list_any (is_device d) xs ≡ b
+      → at (all_with idle_row xs) d ≡ Some row → (list_any (is_device d) xs ≡ true) × (row ≡ idle_row)
   found d row true is h = let e : at (all_with idle_row xs) d ≡ Some idle_row = at_device (λ y. idle_row) xs d is in (is, cc)
   found d row false is h = let e : at (all_with idle_row xs) d ≡ None = at_none (λ y. idle_row) xs d is in cc
 
-  none_marked : (p : ThreadRow → Bool) (words : List ℕ) → p idle_row ≡ false → length xs ≤ 256 → ((r : ℕ) → r < 256 → holds words r ≡ false) → AreMarked p (all_with idle_row xs) (table_by (rank_in xs) xs) words
+  none_marked : (p : ThreadRow → Bool) (words : List ℕ) → p idle_row ≡ false → length xs ≤ 256
+      → ((r : ℕ) → r < 256 → holds words r ≡ false) → AreMarked p (all_with idle_row xs) (table_by (rank_in xs) xs)
+      words
   none_marked p words at_rest few none = record {
     here = λ d row r has rank.
         let f = found d row (list_any (is_device d) xs) refl has in
@@ -39,7 +42,8 @@ module _ (xs : List DeviceDef) where
     only = λ r low is. absurd (both_ways (holds words r) (none r low) is);
   }
 
-  pub all_kept : (ready returned : List ℕ) → HasDistinctDevices xs → length xs ≤ 256 → ((r : ℕ) → r < 256 → holds ready r ≡ false) → ((r : ℕ) → r < 256 → holds returned r ≡ false)
+  pub all_kept : (ready returned : List ℕ) → HasDistinctDevices xs → length xs ≤ 256
+      → ((r : ℕ) → r < 256 → holds ready r ≡ false) → ((r : ℕ) → r < 256 → holds returned r ≡ false)
       → IsKept (all_with idle_row xs) 0 0 (table_by (rank_in xs) xs) ready returned
   all_kept ready returned distinct few no_ready no_returned = record {
     active = sym (weigh_none active_row idle_row refl xs);

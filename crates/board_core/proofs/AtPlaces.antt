@@ -18,8 +18,19 @@ module _ {X : Type 0} (f : X → LineSeen) (xs : List X) (k : ℕ) (x y : X) (wi
   seen_same : f y ≡ f x → map f (set xs k y) ≡ map f xs
   seen_same h = map-set f xs k y ∙ ap (set (map f xs) k) h ∙ sym (map-set f xs k x) ∙ ap (λ z. map f (set xs k z)) at ∙ ap (map f) (set-get_or xs k x)
 
-  pub stepped_at : (order longer : List ℕ) (a : Actor) (r : Result (Option Entry) StepRefused) → Heard (f x) a r (f y) → IsSound (f y) → longer ≡ told r order k → SteppedAt (map f xs) order k a r (map f (set xs k y)) longer
-  stepped_at order longer a (Ok (Some e)) heard sound tells = record { before = f x; after = f y; at = seen_at; adds = heard; sound = sound; rest = map-set f xs k y; told = tells }
+  pub stepped_at : (order longer : List ℕ) (a : Actor) (r : Result (Option Entry) StepRefused) → Heard (f x) a r (f y)
+      → IsSound (f y) → longer ≡ told r order k → SteppedAt (map f xs) order k a r (map f (set xs k y)) longer
+  stepped_at order longer a (Ok (Some e)) heard sound tells
+      = record {
+        before = f x;
+        after = f y;
+        at = seen_at;
+        adds = heard;
+        sound = sound;
+        rest = map-set f xs k y;
+        told
+            = tells;
+      }
   stepped_at order longer a (Ok None) heard sound tells = (record { line = f x; at = seen_at; rests = heard.0 }, seen_same heard.1, tells)
   stepped_at order longer a (Err (refusals.Full len)) heard sound tells = (record { line = f x; at = seen_at; is_full = heard.0 }, seen_same heard.1, tells)
   stepped_at order longer a (Err refusals.NoMemory) heard sound tells = (seen_same heard, tells)

@@ -22,7 +22,8 @@ fewer_mapped (row ∷ rows) (place ∷ places) = by_test (is_mapped place) (fewe
     by_test true le = omega (arith, le)
     by_test false le = omega (arith, le)
 
-pub few_lines : (board : BoardSeen) → IsBoard board → (lines : List LineSeen) → map (λ (x : BoardLine). x.def) (board_lines lines) ≡ defs_of board → length lines ≤ 64
+pub few_lines : (board : BoardSeen) → IsBoard board → (lines : List LineSeen)
+    → map (λ (x : BoardLine). x.def) (board_lines lines) ≡ defs_of board → length lines ≤ 64
 few_lines board isb lines is =
     let a = length-map lines board_line in
     let b = length-map (board_lines lines) (λ (x : BoardLine). x.def) in

@@ -47,11 +47,15 @@ module _ (lines : List LineReadiness) where
   says : (o : Option ReadyActor) → o ≡ lowest_thread_or_cpu lines → Says o (lowest_thread lines) (lowest_cpu lines)
   says o is = subst (λ (x : Option ReadyActor). Says x (lowest_thread lines) (lowest_cpu lines)) (sym is) (said (lowest_thread lines) (lowest_cpu lines))
 
-module _ (board : BoardSeen) (isb : IsBoard board) (layout : List Placement) (lines : List LineSeen) (scripts : List ScriptSeen) (order : List ℕ) (parts : Parts) (is : IsKept board lines scripts order parts) (view : SystemSeen) (v : seen_of board layout lines order ≡ view) where
+module _ (board : BoardSeen) (isb : IsBoard board) (layout : List Placement) (lines : List LineSeen)
+    (scripts : List ScriptSeen) (order : List ℕ) (parts : Parts) (is : IsKept board lines scripts order parts)
+    (view : SystemSeen) (v : seen_of board layout lines order ≡ view) where
   abbrev seen : SystemSeen
   seen = seen_of board layout lines order
 
-  pub first_thread : (t : ReadyThread) (line : LineNo) → Some (readies.Thread t) ≡ lowest_thread_or_cpu parts.ready.lines → slice_get parts.line_numbers t.line ≡ Some line.0
+  pub first_thread : (t : ReadyThread) (line : LineNo)
+      → Some (readies.Thread t) ≡ lowest_thread_or_cpu parts.ready.lines
+      → slice_get parts.line_numbers t.line ≡ Some line.0
       → IsFirstOf view (threads_of view.board ++ cpus_of view.board) (Some (actors.Thread line t.dev))
   first_thread t line found at =
       let x = line_at board isb layout lines scripts order parts is view v t.line line at in
@@ -63,12 +67,16 @@ module _ (board : BoardSeen) (isb : IsBoard board) (layout : List Placement) (li
         moves = ap (λ (o : Option Move). is_some o) h.due_is;
         before = λ j b less at_b. elim (either_at (threads_of board) (cpus_of board) j b at_b) [
           | inl thread ↦ h.before j b less thread
-          | inr cpu ↦ absurd (let e = cpu.1 in let w = slice_get_within (threads_of board) h.place (actors.Thread x.0.def.line t.dev) h.at in omega (arith, e, w, less))
+          | inr cpu ↦ absurd (let e = cpu.1 in let w = slice_get_within (threads_of board) h.place
+              (actors.Thread x.0.def.line t.dev) h.at in omega (arith, e, w, less))
         ];
       } in
-      subst (λ (s : SystemSeen). IsFirstOf s (threads_of s.board ++ cpus_of s.board) (Some (actors.Thread line t.dev))) v (subst (λ (l : LineNo). IsFirstOf seen (threads_of board ++ cpus_of board) (Some (actors.Thread l t.dev))) x.2 its)
+      subst (λ (s : SystemSeen). IsFirstOf s (threads_of s.board ++ cpus_of s.board) (Some (actors.Thread line t.dev)))
+      v (subst (λ (l : LineNo). IsFirstOf seen (threads_of board ++ cpus_of board) (Some (actors.Thread l t.dev)))
+      x.2 its)
 
-  pub first_cpu : (c : CpuNo) → Some (readies.Cpu c) ≡ lowest_thread_or_cpu parts.ready.lines → IsFirstOf view (threads_of view.board ++ cpus_of view.board) (Some (actors.Cpu c))
+  pub first_cpu : (c : CpuNo) → Some (readies.Cpu c) ≡ lowest_thread_or_cpu parts.ready.lines
+      → IsFirstOf view (threads_of view.board ++ cpus_of view.board) (Some (actors.Cpu c))
   first_cpu c found =
       let low = says parts.ready.lines (Some (readies.Cpu c)) found in
       let h = (cpu_first board isb lines scripts is.system parts.ready is.ready c low.1).0 in
@@ -85,7 +93,8 @@ module _ (board : BoardSeen) (isb : IsBoard board) (layout : List Placement) (li
       } in
       subst (λ (s : SystemSeen). IsFirstOf s (threads_of s.board ++ cpus_of s.board) (Some (actors.Cpu c))) v its
 
-  nobody_first : lowest_thread parts.ready.lines ≡ None → lowest_cpu parts.ready.lines ≡ None → IsFirstOf view (threads_of view.board ++ cpus_of view.board) None
+  nobody_first : lowest_thread parts.ready.lines ≡ None → lowest_cpu parts.ready.lines ≡ None
+      → IsFirstOf view (threads_of view.board ++ cpus_of view.board) None
   nobody_first no_threads no_cpus =
       let its : IsFirstOf seen (threads_of board ++ cpus_of board) None =
       λ j b at_b. elim (either_at (threads_of board) (cpus_of board) j b at_b) [
@@ -99,22 +108,36 @@ module _ (board : BoardSeen) (isb : IsBoard board) (layout : List Placement) (li
 
   -- ---- drivers
 
-  pub first_driver : (j : ℕ) (d : DriverNo) → Some j ≡ lowest_driver parts.ready → slice_get parts.driver_numbers j ≡ Some d.0 → IsFirstOf view (drivers_of view.board) (Some (actors.Driver d))
+  pub first_driver : (j : ℕ) (d : DriverNo) → Some j ≡ lowest_driver parts.ready
+      → slice_get parts.driver_numbers j ≡ Some d.0 → IsFirstOf view (drivers_of view.board) (Some (actors.Driver d))
   first_driver j d found at =
-      let h = driver_first board isb lines scripts is.system parts.ready is.ready j d (sym found) (driver_at board isb layout lines scripts order parts is view v j d at) in
-      let its : IsFirstOf seen (drivers_of board) (Some (actors.Driver d)) = record { place = h.place; at = h.at; moves = ap (λ (o : Option Move). is_some o) h.due_is; before = h.before } in
+      let h = driver_first board isb lines scripts is.system parts.ready is.ready j d (sym found)
+      (driver_at board isb layout lines scripts order parts is view v j d at) in
+      let its : IsFirstOf seen (drivers_of board) (Some (actors.Driver d))
+      = record {
+        place = h.place;
+        at = h.at;
+        moves = ap (λ (o : Option Move). is_some o) h.due_is;
+        before
+            = h.before;
+      } in
       subst (λ (s : SystemSeen). IsFirstOf s (drivers_of s.board) (Some (actors.Driver d))) v its
 
   pub no_first_driver : None ≡ lowest_driver parts.ready → IsFirstOf view (drivers_of view.board) None
-  no_first_driver found = subst (λ (s : SystemSeen). IsFirstOf s (drivers_of s.board) None) v (no_driver board isb lines scripts is.system parts.ready is.ready (sym found))
+  no_first_driver found = subst (λ (s : SystemSeen). IsFirstOf s (drivers_of s.board) None) v
+      (no_driver board isb lines scripts is.system parts.ready is.ready (sym found))
 
   -- ---- the due call
 
   -- the script at the driver's place
   pub script_at : (j : ℕ) (d : DriverNo) → slice_get parts.driver_numbers j ≡ Some d.0 → (s : ScriptSeen) × (slice_get scripts j ≡ Some s) × (s.driver ≡ d)
-  script_at j d at = script_of board isb lines scripts is.system parts.ready is.ready j d (driver_at board isb layout lines scripts order parts is view v j d at)
+  script_at j d at = script_of board isb lines scripts is.system parts.ready is.ready j d
+      (driver_at board isb layout lines scripts order parts is view v j d at)
 
-  pub due_is : (j : ℕ) (d : DriverNo) (s : ScriptSeen) (o : Option DueCall) → slice_get parts.driver_numbers j ≡ Some d.0 → slice_get scripts j ≡ Some s → o ≡ due_at (slice_get s.calls s.at) s.made → o ≡ call_on (current_line view.board.calls (board_lines view.lines) d) d
+  pub due_is : (j : ℕ) (d : DriverNo) (s : ScriptSeen) (o : Option DueCall)
+      → slice_get parts.driver_numbers j ≡ Some d.0 → slice_get scripts j ≡ Some s
+      → o ≡ due_at (slice_get s.calls s.at) s.made → o
+      ≡ call_on (current_line view.board.calls (board_lines view.lines) d) d
   due_is j d s o at at_s is_o =
       let t = script_at j d at in
       let mine : s.driver ≡ d = ap (λ (x : ScriptSeen). x.driver) (the_same s t.0 (sym at_s ∙ t.1)) ∙ t.2 in
@@ -127,17 +150,23 @@ module _ (board : BoardSeen) (isb : IsBoard board) (layout : List Placement) (li
       apart : AreApart (map (λ (x : BoardLine). x.def) (board_lines lines))
       apart = apart_kept board isb (board_lines lines) is.system.kept
 
-      by_step : (x : Option PlacedCall) → slice_get s.calls s.at ≡ x → due_at x s.made ≡ call_on (current_line board.calls (board_lines lines) s.driver) s.driver
+      by_step : (x : Option PlacedCall) → slice_get s.calls s.at ≡ x
+          → due_at x s.made ≡ call_on (current_line board.calls (board_lines lines) s.driver) s.driver
       by_step None end = sym (ap (λ (l : Option BoardLine). call_on l s.driver) (script_line board.calls (board_lines lines) apart s its None end))
       by_step (Some step) here =
           let y = some_with (λ z. z.def.line ≡ step.call.line) (slice_get (board_lines lines) step.place) (its.places s.at step here) in
           let due = its.due step y.0 here y.1 in
-          let line : current_line board.calls (board_lines lines) s.driver ≡ Some y.0 = script_line board.calls (board_lines lines) apart s its (Some step) here ∙ y.1 in
+          let line : current_line board.calls (board_lines lines) s.driver
+          ≡ Some y.0 = script_line board.calls (board_lines lines) apart s its (Some step) here ∙ y.1 in
           sym (ap (λ (l : Option BoardLine). call_on l s.driver) line
-          ∙ (ap (λ (c : Option (Call × ℕ)). with_line y.0.def.line c) due ∙ ap (λ (l : LineNo). Some (record { line = l; call = step.call.call; made = s.made })) y.2))
+          ∙ (ap (λ (c : Option (Call × ℕ)). with_line y.0.def.line c) due
+          ∙ ap (λ (l : LineNo). Some (record { line = l; call = step.call.call; made = s.made })) y.2))
 
-  pub no_due : (d : DriverNo) → ((j : ℕ) → slice_get parts.driver_numbers j ≡ Some d.0 → ⊥) → None ≡ call_on (current_line view.board.calls (board_lines view.lines) d) d
-  no_due d none = subst (λ (w : SystemSeen). None ≡ call_on (current_line w.board.calls (board_lines w.lines) d) d) v (sym (ap (λ (l : Option BoardLine). call_on l d) (no_call board isb layout lines scripts order parts is view v d none)))
+  pub no_due : (d : DriverNo) → ((j : ℕ) → slice_get parts.driver_numbers j ≡ Some d.0 → ⊥)
+      → None ≡ call_on (current_line view.board.calls (board_lines view.lines) d) d
+  no_due d none = subst (λ (w : SystemSeen). None ≡ call_on (current_line w.board.calls (board_lines w.lines) d) d) v
+      (sym (ap (λ (l : Option BoardLine). call_on l d)
+      (no_call board isb layout lines scripts order parts is view v d none)))
 
   pub script_within : (j : ℕ) (d : DriverNo) → slice_get parts.driver_numbers j ≡ Some d.0 → j < length scripts
   script_within j d at = let t = script_at j d at in slice_get_within scripts j t.0 t.1

@@ -1,5 +1,7 @@
 -- The lowest actor that can move, by what the ready actors are.
-use Rattle.std.proofs.Common.{◌≡◌, ℕ, zero, suc, ◌+◌, ◌<◌, ◌==◌, ◌⊎◌, inl, inr, Bool, true, false, cond, is_some, unwrap_or, Option, Some, None, List, [], ◌∷◌, ◌++◌, map, length, filter, take, slice_get, refl, sym, ap, ◌∙◌, subst, arith}
+use Rattle.std.proofs.Common.{◌≡◌, ℕ, zero, suc, ◌+◌, ◌<◌, ◌==◌, ◌⊎◌, inl, inr, Bool, true, false, cond, is_some}
+use Rattle.std.proofs.Common.{unwrap_or, Option, Some, None, List, [], ◌∷◌, ◌++◌, map, length, filter, take, slice_get}
+use Rattle.std.proofs.Common.{refl, sym, ap, ◌∙◌, subst, arith}
 use Rattle.std.specs.List.{list_any}
 use Rattle.std.proofs.Math.ListN.{length-map}
 use Rattle.std.proofs.lemmas.Bool.{or_cases}
@@ -23,7 +25,8 @@ use Rattle.board_play.specs.Lines.{Move}
 use Rattle.board_play.specs.Order.{due_move, threads_of, cpus_of, drivers_of, actors_of}
 use Rattle.board_play.specs.Play.{or_move, first_move}
 use Rattle.board_ready.specs.Kept.{thread_of}
-use Rattle.board_ready.specs.Ready.{lowest_thread, lowest_cpu, is_cpu_ready, cpu_line, is_driver_ready, current_call, can_go_on, lowest_driver, thread_or, cpu_actor, driver_actor, or_driver, lowest}
+use Rattle.board_ready.specs.Ready.{lowest_thread, lowest_cpu, is_cpu_ready, cpu_line, is_driver_ready, current_call}
+use Rattle.board_ready.specs.Ready.{can_go_on, lowest_driver, thread_or, cpu_actor, driver_actor, or_driver, lowest}
 use Rattle.board_ready.specs.Seen.{ReadySeen}
 use Rattle.board_ready.specs.declared.parts.CurrentCall.{CurrentCall}
 use Rattle.board_ready.specs.declared.parts.LineReadiness.{LineReadiness}
@@ -35,7 +38,8 @@ use Rattle.board_core.specs.Inside.{IsSystem}
 use Rattle.board_core.specs.ReadyFor.{IsReadyFor, call_of}
 use Rattle.board_core.specs.Scripts.{ScriptSeen}
 use Rattle.board_core.specs.Seen.{board_lines}
-use Rattle.board_core.proofs.Movers.{some_of, none_of, not_both, first_append, first_there, none_there, thread_ready, thread_device_of, few_cpus, cpu_stands, driver_can}
+use Rattle.board_core.proofs.Movers.{some_of, none_of, not_both, first_append, first_there, none_there, thread_ready}
+use Rattle.board_core.proofs.Movers.{thread_device_of, few_cpus, cpu_stands, driver_can}
 use Rattle.board_core.proofs.TurnLaws.{map_there, map_back}
 
 -- ---- places in two lists
@@ -48,20 +52,25 @@ module _ {A : Type 0} where
 
   pub at_second : (xs ys : List A) (i : ℕ) (x : A) → slice_get ys i ≡ Some x → slice_get (xs ++ ys) (length xs + i) ≡ Some x
   at_second [] ys i x at = ap (λ (n : ℕ). slice_get ys n) (let e : 0 + i ≡ i = omega arith in e) ∙ at
-  at_second (z ∷ zs) ys i x at = ap (λ (n : ℕ). slice_get (z ∷ (zs ++ ys)) n) (let e : suc (length zs) + i ≡ suc (length zs + i) = omega arith in e) ∙ at_second zs ys i x at
+  at_second (z ∷ zs) ys i x at = ap (λ (n : ℕ). slice_get (z ∷ (zs ++ ys)) n)
+      (let e : suc (length zs) + i ≡ suc (length zs + i) = omega arith in e) ∙ at_second zs ys i x at
 
-  pub either_at : (xs ys : List A) (j : ℕ) (x : A) → slice_get (xs ++ ys) j ≡ Some x → (slice_get xs j ≡ Some x) ⊎ ((i : ℕ) × (j ≡ length xs + i) × (slice_get ys i ≡ Some x))
+  pub either_at : (xs ys : List A) (j : ℕ) (x : A) → slice_get (xs ++ ys) j ≡ Some x
+      → (slice_get xs j ≡ Some x) ⊎ ((i : ℕ) × (j ≡ length xs + i) × (slice_get ys i ≡ Some x))
   either_at [] ys j x at = inr (j, omega arith, at)
   either_at (z ∷ zs) ys zero x at = inl at
-  either_at (z ∷ zs) ys (suc j) x at = elim (either_at zs ys j x at) [ inl first ↦ inl first | inr second ↦ inr (second.0, (let e = second.1 in omega (arith, e)), second.2) ]
+  either_at (z ∷ zs) ys (suc j) x at = elim (either_at zs ys j x at)
+      [ inl first ↦ inl first | inr second ↦ inr (second.0, (let e = second.1 in omega (arith, e)), second.2) ]
 
 -- ---- which it is
 
 module _ (s : ReadySeen) where
-  by_three : (a : Option ReadyThread) (b c : Option ℕ) → (lowest_thread s.lines ≡ a) → (lowest_cpu s.lines ≡ b) → (lowest_driver s ≡ c) → lowest s ≡ or_driver (thread_or a (cpu_actor b)) (driver_actor c)
+  by_three : (a : Option ReadyThread) (b c : Option ℕ) → (lowest_thread s.lines ≡ a) → (lowest_cpu s.lines ≡ b)
+      → (lowest_driver s ≡ c) → lowest s ≡ or_driver (thread_or a (cpu_actor b)) (driver_actor c)
   by_three a b c is_a is_b is_c =
       ap (λ (o : Option ReadyThread). or_driver (thread_or o (cpu_actor (lowest_cpu s.lines))) (driver_actor (lowest_driver s))) is_a
-      ∙ (ap (λ (o : Option ℕ). or_driver (thread_or a (cpu_actor o)) (driver_actor (lowest_driver s))) is_b ∙ ap (λ (o : Option ℕ). or_driver (thread_or a (cpu_actor b)) (driver_actor o)) is_c)
+      ∙ (ap (λ (o : Option ℕ). or_driver (thread_or a (cpu_actor o)) (driver_actor (lowest_driver s))) is_b
+      ∙ ap (λ (o : Option ℕ). or_driver (thread_or a (cpu_actor b)) (driver_actor o)) is_c)
 
   -- what each answer says
   abbrev Says : Option ReadyActor → Option ReadyThread → Option ℕ → Option ℕ → Type 0
@@ -78,15 +87,19 @@ module _ (s : ReadySeen) where
 
   pub lowest_says : (o : Option ReadyActor) → o ≡ lowest s → Says o (lowest_thread s.lines) (lowest_cpu s.lines) (lowest_driver s)
   lowest_says o is =
-      subst (λ (x : Option ReadyActor). Says x (lowest_thread s.lines) (lowest_cpu s.lines) (lowest_driver s)) (sym (is ∙ by_three (lowest_thread s.lines) (lowest_cpu s.lines) (lowest_driver s) refl refl refl))
+      subst (λ (x : Option ReadyActor). Says x (lowest_thread s.lines) (lowest_cpu s.lines) (lowest_driver s))
+      (sym (is ∙ by_three (lowest_thread s.lines) (lowest_cpu s.lines) (lowest_driver s) refl refl refl))
       (said (lowest_thread s.lines) (lowest_cpu s.lines) (lowest_driver s))
 
 -- ---- lists of actors
 
-rising_key : {A : Type 0} (key : A → ℕ) (xs : List A) → Rises key xs → (i j : ℕ) (x y : A) → slice_get xs i ≡ Some x → slice_get xs j ≡ Some y → i < j → key x < key y
+rising_key : {A : Type 0} (key : A → ℕ) (xs : List A) → Rises key xs → (i j : ℕ) (x y : A) → slice_get xs i ≡ Some x
+    → slice_get xs j ≡ Some y → i < j → key x < key y
 rising_key key [] rises i j x y at_i at_j less = cc
 rising_key key (z ∷ zs) rises i zero x y at_i at_j less = absurd (omega (arith, less))
-rising_key key (z ∷ zs) rises zero (suc j) x y at_i at_j less = subst (λ (w : _). key w < key y) (the_same z x at_i) (head_of (λ (w : _). key w < key y) z (take j zs) (rises (suc j) y at_j))
+rising_key key (z ∷ zs) rises zero (suc j) x y at_i at_j less
+    = subst (λ (w : _). key w < key y) (the_same z x at_i)
+    (head_of (λ (w : _). key w < key y) z (take j zs) (rises (suc j) y at_j))
 rising_key key (z ∷ zs) rises (suc i) (suc j) x y at_i at_j less = rising_key key zs (rises_on key z zs rises) i j x y at_i at_j (omega (arith, less))
 
 -- the device's place among all
@@ -104,7 +117,9 @@ device_place (x ∷ xs) line d h = by_test (x.line.0 == line.0) refl h (device_p
     further : PlaceOf xs line d → PlaceOf (x ∷ xs) line d
     further p = record { place = suc p.place; device = p.device; at = p.at; line_is = p.line_is; dev_is = p.dev_is }
 
-    by_test : (b : Bool) → (x.line.0 == line.0) ≡ b → list_any (is_device d) (cond b (x ∷ filter (λ x. x.line.0 == line.0) xs) (filter (λ x. x.line.0 == line.0) xs)) ≡ true → (list_any (is_device d) (filter (λ x. x.line.0 == line.0) xs) ≡ true → PlaceOf xs line d)
+    by_test : (b : Bool) → (x.line.0 == line.0) ≡ b → list_any (is_device d)
+        (cond b (x ∷ filter (λ x. x.line.0 == line.0) xs) (filter (λ x. x.line.0 == line.0) xs)) ≡ true
+        → (list_any (is_device d) (filter (λ x. x.line.0 == line.0) xs) ≡ true → PlaceOf xs line d)
         → PlaceOf (x ∷ xs) line d
     by_test true of_line h deeper = elim (or_cases (is_device d x) (list_any (is_device d) (filter (λ x. x.line.0 == line.0) xs)) h) [
       | inl is ↦ record { place = zero; device = x; at = refl; line_is = line_from_same x.line line of_line; dev_is = sym (dev_from_same d x.dev is) }
@@ -115,17 +130,24 @@ device_place (x ∷ xs) line d h = by_test (x.line.0 == line.0) refl h (device_p
 count_at : (k n i : ℕ) → i < n → slice_get (map (λ n. actors.Cpu (record { 0 = n })) (count_up k n)) i ≡ Some (actors.Cpu (record { 0 = k + i }))
 count_at k zero i less = absurd (omega (arith, less))
 count_at k (suc n) zero less = ap (λ (m : ℕ). Some (actors.Cpu (record { 0 = m }))) (let e : k ≡ k + 0 = omega arith in e)
-count_at k (suc n) (suc i) less = count_at (k + 1) n i (omega (arith, less)) ∙ ap (λ (m : ℕ). Some (actors.Cpu (record { 0 = m }))) (let e : k + 1 + i ≡ k + suc i = omega arith in e)
+count_at k (suc n) (suc i) less = count_at (k + 1) n i (omega (arith, less))
+    ∙ ap (λ (m : ℕ). Some (actors.Cpu (record { 0 = m }))) (let e : k + 1 + i ≡ k + suc i = omega arith in e)
 
-count_back : (k n i : ℕ) (a : Actor) → slice_get (map (λ n. actors.Cpu (record { 0 = n })) (count_up k n)) i ≡ Some a → (i < n) × (actors.Cpu (record { 0 = k + i }) ≡ a)
+count_back : (k n i : ℕ) (a : Actor) → slice_get (map (λ n. actors.Cpu (record { 0 = n })) (count_up k n)) i ≡ Some a
+    → (i < n) × (actors.Cpu (record { 0 = k + i }) ≡ a)
 count_back k zero i a at = cc
-count_back k (suc n) zero a at = (omega arith, ap (λ (m : ℕ). actors.Cpu (record { 0 = m })) (let e : k + 0 ≡ k = omega arith in e) ∙ the_same (actors.Cpu (record { 0 = k })) a at)
+count_back k (suc n) zero a at = (
+  omega arith,
+  ap (λ (m : ℕ). actors.Cpu (record { 0 = m }))
+      (let e : k + 0 ≡ k = omega arith in e) ∙ the_same (actors.Cpu (record { 0 = k })) a at,
+)
 count_back k (suc n) (suc i) a at =
     let b = count_back (k + 1) n i a at in
     let less = b.0 in
     (omega (arith, less), ap (λ (m : ℕ). actors.Cpu (record { 0 = m })) (let e : k + suc i ≡ k + 1 + i = omega arith in e) ∙ b.1)
 
-module _ (board : BoardSeen) (isb : IsBoard board) (lines : List LineSeen) (scripts : List ScriptSeen) (is : IsSystem board lines scripts) (ready : ReadySeen) (r : IsReadyFor lines scripts ready) where
+module _ (board : BoardSeen) (isb : IsBoard board) (lines : List LineSeen) (scripts : List ScriptSeen)
+    (is : IsSystem board lines scripts) (ready : ReadySeen) (r : IsReadyFor lines scripts ready) where
   abbrev due : Actor → Option Move
   due a = due_move board (board_lines lines) a
 
@@ -168,19 +190,31 @@ module _ (board : BoardSeen) (isb : IsBoard board) (lines : List LineSeen) (scri
           (let t = thread_ready board isb lines scripts is ready r h.0.line h.0.dev m is_due in
           not_both (thread_of (slice_get ready.lines t.0)) t.3 (thread_none ready.lines t.0 none) (ap (λ (o : Option LineReadiness). thread_of o) t.6 ∙ t.7))))
 
-  pub thread_first : (t : ReadyThread) (x : LineSeen) → lowest_thread ready.lines ≡ Some t → slice_get lines t.line ≡ Some x → At (threads_of board) (actors.Thread x.def.line t.dev)
+  pub thread_first : (t : ReadyThread) (x : LineSeen) → lowest_thread ready.lines ≡ Some t
+      → slice_get lines t.line ≡ Some x → At (threads_of board) (actors.Thread x.def.line t.dev)
   thread_first t x low at =
       let its = thread_some ready.lines t low in
       let v = thread_device_of board isb lines scripts is ready r t.line x t.dev at its in
       let p = device_place board.devices x.def.line t.dev v.1 in
       let actor : slice_get (threads_of board) p.place ≡ Some (actors.Thread x.def.line t.dev) =
-      map_there (λ (y : DeviceDef). actors.Thread y.line y.dev) board.devices p.place p.device p.at ∙ (ap (λ (l : LineNo). Some (actors.Thread l p.device.dev)) p.line_is ∙ ap (λ (d : DevNo). Some (actors.Thread x.def.line d)) p.dev_is) in
-      record { place = p.place; at = actor; move = v.0.0; due_is = v.0.1; before = λ j a less at_a. before p j a less (map_back (λ (y : DeviceDef). actors.Thread y.line y.dev) board.devices j a at_a) }
+      map_there (λ (y : DeviceDef). actors.Thread y.line y.dev) board.devices p.place p.device p.at
+      ∙ (ap (λ (l : LineNo). Some (actors.Thread l p.device.dev)) p.line_is
+      ∙ ap (λ (d : DevNo). Some (actors.Thread x.def.line d)) p.dev_is) in
+      record {
+        place = p.place;
+        at = actor;
+        move = v.0.0;
+        due_is = v.0.1;
+        before
+            = λ j a less at_a. before p j a less (map_back (λ (y : DeviceDef). actors.Thread y.line y.dev) board.devices j
+            a at_a);
+      }
     where
       rises : Rises (λ (y : DeviceDef). y.dev.0) board.devices
       rises i y at = (isb.devices i y at).rises
 
-      before : (p : PlaceOf board.devices x.def.line t.dev) (j : ℕ) (a : Actor) → j < p.place → ((y : DeviceDef) × (slice_get board.devices j ≡ Some y) × (actors.Thread y.line y.dev ≡ a)) → due a ≡ None
+      before : (p : PlaceOf board.devices x.def.line t.dev) (j : ℕ) (a : Actor) → j < p.place
+          → ((y : DeviceDef) × (slice_get board.devices j ≡ Some y) × (actors.Thread y.line y.dev ≡ a)) → due a ≡ None
       before p j a less h = subst (λ (b : Actor). due b ≡ None) h.2 (rests (actors.Thread h.0.line h.0.dev) (λ m is_due.
           (let u = thread_ready board isb lines scripts is ready r h.0.line h.0.dev m is_due in
           let below = rising_key (λ (y : DeviceDef). y.dev.0) board.devices rises j p.place h.0 p.device h.1 p.at less in
@@ -189,10 +223,17 @@ module _ (board : BoardSeen) (isb : IsBoard board) (lines : List LineSeen) (scri
           let le = u.8 in
           omega (arith, below, same, least, le))))
 
-  pub lowest_is_thread : (t : ReadyThread) (x : LineSeen) → lowest_thread ready.lines ≡ Some t → slice_get lines t.line ≡ Some x → (m : Move) × (due (actors.Thread x.def.line t.dev) ≡ Some m) × (first (actors_of board) ≡ Some m)
+  pub lowest_is_thread : (t : ReadyThread) (x : LineSeen) → lowest_thread ready.lines ≡ Some t
+      → slice_get lines t.line ≡ Some x → (m : Move) × (due (actors.Thread x.def.line t.dev) ≡ Some m)
+      × (first (actors_of board) ≡ Some m)
   lowest_is_thread t x low at =
-      let h = thread_first t x low at in
-      (h.move, h.due_is, in_turn ∙ ap (λ (o : Option Move). or_move o (or_move (first (cpus_of board)) (first (drivers_of board)))) (its_move (threads_of board) (actors.Thread x.def.line t.dev) h))
+      let h = thread_first t x low at in (
+        h.move,
+        h.due_is,
+        in_turn ∙ ap (λ (o : Option Move). or_move o
+            (or_move (first (cpus_of board)) (first (drivers_of board))))
+            (its_move (threads_of board) (actors.Thread x.def.line t.dev) h),
+      )
 
   -- ---- processors
 
@@ -214,25 +255,30 @@ module _ (board : BoardSeen) (isb : IsBoard board) (lines : List LineSeen) (scri
       let k = some_of (cpu_line ready.lines c.0) f.1 in
       let h = cpu_stands board isb lines scripts is ready r c (Some k.0) (sym k.1) in
       let few = few_cpus board isb lines scripts is ready r c h.1.0 h.1.1 in
-      let at : slice_get (cpus_of board) c.0 ≡ Some (actors.Cpu c) = count_at 0 board.cpus c.0 few ∙ ap (λ (n : ℕ). Some (actors.Cpu (record { 0 = n }))) (let e : 0 + c.0 ≡ c.0 = omega arith in e) in (
+      let at : slice_get (cpus_of board) c.0 ≡ Some (actors.Cpu c) = count_at 0 board.cpus c.0 few
+      ∙ ap (λ (n : ℕ). Some (actors.Cpu (record { 0 = n }))) (let e : 0 + c.0 ≡ c.0 = omega arith in e) in (
         record {
           place = c.0;
           at = at;
           move = h.1.0;
           due_is = h.1.1;
-          before = λ j a less at_a. (let b = count_back 0 board.cpus j a at_a in subst (λ (x : Actor). due x ≡ None) b.1 (not_ready (0 + j) (f.2 (0 + j) (omega (arith, less)))));
+          before = λ j a less at_a. (let b = count_back 0 board.cpus j a at_a in
+              subst (λ (x : Actor). due x ≡ None) b.1 (not_ready (0 + j) (f.2 (0 + j) (omega (arith, less)))));
         },
         k,
       )
 
-  pub lowest_is_cpu : (c : CpuNo) → lowest_thread ready.lines ≡ None → lowest_cpu ready.lines ≡ Some c.0 → (m : Move) × (k : ℕ) × (cpu_line ready.lines c.0 ≡ Some k) × (due (actors.Cpu c) ≡ Some m) × (first (actors_of board) ≡ Some m)
+  pub lowest_is_cpu : (c : CpuNo) → lowest_thread ready.lines ≡ None → lowest_cpu ready.lines ≡ Some c.0
+      → (m : Move) × (k : ℕ) × (cpu_line ready.lines c.0 ≡ Some k) × (due (actors.Cpu c) ≡ Some m)
+      × (first (actors_of board) ≡ Some m)
   lowest_is_cpu c no_threads low =
       let h = cpu_first c low in (
         h.0.move,
         h.1.0,
         h.1.1,
         h.0.due_is,
-        in_turn ∙ (ap (λ (o : Option Move). or_move o (or_move (first (cpus_of board)) (first (drivers_of board)))) (none_there board (board_lines lines) (threads_of board) (no_thread no_threads))
+        in_turn ∙ (ap (λ (o : Option Move). or_move o (or_move (first (cpus_of board)) (first (drivers_of board))))
+            (none_there board (board_lines lines) (threads_of board) (no_thread no_threads))
             ∙ ap (λ (o : Option Move). or_move o (first (drivers_of board))) (its_move (cpus_of board) (actors.Cpu c) h.0)),
       )
 
@@ -253,14 +299,16 @@ module _ (board : BoardSeen) (isb : IsBoard board) (lines : List LineSeen) (scri
       subst (λ (x : DriverNo). due (actors.Driver x) ≡ None) s.2 (none_of (due (actors.Driver s.0.driver)) (sym (driver_ready_is j s.0 s.1) ∙ none))
 
   many_drivers : length board.drivers ≡ length ready.drivers
-  many_drivers = let a = ap (λ (ds : List DriverNo). length ds) is.drivers in let b = length-map scripts (λ (s : ScriptSeen). s.driver) in let c = r.all_drivers in omega (arith, a, b, c)
+  many_drivers = let a = ap (λ (ds : List DriverNo). length ds) is.drivers in
+      let b = length-map scripts (λ (s : ScriptSeen). s.driver) in let c = r.all_drivers in omega (arith, a, b, c)
 
   pub no_driver : lowest_driver ready ≡ None → None_of (drivers_of board)
   no_driver none j a at =
       let d = map_back (λ (x : DriverNo). actors.Driver x) board.drivers j a at in
       let less = slice_get_within board.drivers j d.0 d.1 in
       let many = many_drivers in
-      subst (λ (x : Actor). due x ≡ None) d.2 (driver_rests j d.0 d.1 (first_none (is_driver_ready ready) (length ready.drivers) j none (omega (arith, less, many))))
+      subst (λ (x : Actor). due x ≡ None) d.2 (driver_rests j d.0 d.1
+      (first_none (is_driver_ready ready) (length ready.drivers) j none (omega (arith, less, many))))
 
   pub driver_first : (j : ℕ) (d : DriverNo) → lowest_driver ready ≡ Some j → slice_get board.drivers j ≡ Some d → At (drivers_of board) (actors.Driver d)
   driver_first j d low at =
@@ -272,20 +320,28 @@ module _ (board : BoardSeen) (isb : IsBoard board) (lines : List LineSeen) (scri
         at = map_there (λ (x : DriverNo). actors.Driver x) board.drivers j d at;
         move = m.0;
         due_is = ap (λ (x : DriverNo). due (actors.Driver x)) (sym s.2) ∙ m.1;
-        before = λ i a less at_a. (let e = map_back (λ (x : DriverNo). actors.Driver x) board.drivers i a at_a in subst (λ (x : Actor). due x ≡ None) e.2 (driver_rests i e.0 e.1 (f.2 i less)));
+        before = λ i a less at_a. (let e = map_back (λ (x : DriverNo). actors.Driver x) board.drivers i a at_a in
+            subst (λ (x : Actor). due x ≡ None) e.2 (driver_rests i e.0 e.1 (f.2 i less)));
       }
 
-  pub lowest_is_driver : (j : ℕ) (d : DriverNo) → lowest_thread ready.lines ≡ None → lowest_cpu ready.lines ≡ None → lowest_driver ready ≡ Some j → slice_get board.drivers j ≡ Some d
+  pub lowest_is_driver : (j : ℕ) (d : DriverNo) → lowest_thread ready.lines ≡ None → lowest_cpu ready.lines ≡ None
+      → lowest_driver ready ≡ Some j → slice_get board.drivers j ≡ Some d
       → (m : Move) × (due (actors.Driver d) ≡ Some m) × (first (actors_of board) ≡ Some m)
   lowest_is_driver j d no_threads no_cpus low at =
       let h = driver_first j d low at in (
         h.move,
         h.due_is,
-        in_turn ∙ (ap (λ (o : Option Move). or_move o (or_move (first (cpus_of board)) (first (drivers_of board)))) (none_there board (board_lines lines) (threads_of board) (no_thread no_threads))
-            ∙ (ap (λ (o : Option Move). or_move o (first (drivers_of board))) (none_there board (board_lines lines) (cpus_of board) (no_cpu no_cpus)) ∙ its_move (drivers_of board) (actors.Driver d) h)),
+        in_turn ∙ (ap (λ (o : Option Move). or_move o (or_move (first (cpus_of board)) (first (drivers_of board))))
+            (none_there board (board_lines lines) (threads_of board) (no_thread no_threads))
+            ∙ (ap (λ (o : Option Move). or_move o (first (drivers_of board)))
+            (none_there board (board_lines lines) (cpus_of board) (no_cpu no_cpus))
+            ∙ its_move (drivers_of board) (actors.Driver d) h)),
       )
 
   pub nobody : lowest_thread ready.lines ≡ None → lowest_cpu ready.lines ≡ None → lowest_driver ready ≡ None → first (actors_of board) ≡ None
   nobody no_threads no_cpus no_drivers =
-      in_turn ∙ (ap (λ (o : Option Move). or_move o (or_move (first (cpus_of board)) (first (drivers_of board)))) (none_there board (board_lines lines) (threads_of board) (no_thread no_threads))
-      ∙ (ap (λ (o : Option Move). or_move o (first (drivers_of board))) (none_there board (board_lines lines) (cpus_of board) (no_cpu no_cpus)) ∙ none_there board (board_lines lines) (drivers_of board) (no_driver no_drivers)))
+      in_turn ∙ (ap (λ (o : Option Move). or_move o (or_move (first (cpus_of board)) (first (drivers_of board))))
+      (none_there board (board_lines lines) (threads_of board) (no_thread no_threads))
+      ∙ (ap (λ (o : Option Move). or_move o (first (drivers_of board)))
+      (none_there board (board_lines lines) (cpus_of board) (no_cpu no_cpus))
+      ∙ none_there board (board_lines lines) (drivers_of board) (no_driver no_drivers)))

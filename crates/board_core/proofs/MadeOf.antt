@@ -1,5 +1,7 @@
 -- One more of the things that a system is made of: a line, a script, a call.
-use Rattle.std.proofs.Common.{◌≡◌, ℕ, zero, suc, ◌+◌, ◌<◌, ◌≤◌, ◌==◌, ◌⊎◌, inl, inr, IsSomeAnd, Option, Some, List, [], ◌∷◌, ◌++◌, map, length, get_or, take, slice_get, refl, sym, ap, ◌∙◌, subst, arith, add-one}
+use Rattle.std.proofs.Common.{◌≡◌, ℕ, zero, suc, ◌+◌, ◌<◌, ◌≤◌, ◌==◌, ◌⊎◌, inl, inr, IsSomeAnd, Option, Some, List, []}
+use Rattle.std.proofs.Common.{◌∷◌, ◌++◌, map, length, get_or, take, slice_get, refl, sym, ap, ◌∙◌, subst, arith}
+use Rattle.std.proofs.Common.{add-one}
 use Rattle.irq_base.specs.declared.lines.LineDef.{LineDef}
 use Rattle.irq_base.specs.declared.numbers.DriverNo.{DriverNo}
 use Rattle.irq_base.specs.declared.numbers.LineNo.{LineNo}
@@ -50,7 +52,9 @@ map_more f (y ∷ ys) x = ap (λ (zs : List _). f y ∷ zs) (map_more f ys x)
 
 -- ---- a script with no call complete
 
-pub number_back : (lines : List BoardLine) (k : ℕ) (line : LineNo) → slice_get (numbers_of_defs (map (λ (x : BoardLine). x.def) lines)) k ≡ Some line.0 → IsSomeAnd (slice_get lines k) (λ y. y.def.line ≡ line)
+pub number_back : (lines : List BoardLine) (k : ℕ) (line : LineNo)
+    → slice_get (numbers_of_defs (map (λ (x : BoardLine). x.def) lines)) k ≡ Some line.0
+    → IsSomeAnd (slice_get lines k) (λ y. y.def.line ≡ line)
 number_back [] k line at = cc
 number_back (x ∷ xs) zero line at = line_from_same x.def.line line (ap (λ (n : ℕ). n == line.0) (the_same x.def.line.0 line.0 at) ∙ same_self_line line)
 number_back (x ∷ xs) (suc k) line at = number_back xs k line at
@@ -60,7 +64,8 @@ module _ (board : BoardSeen) (lines : List LineSeen) (new : AreNew board lines) 
   defs_new = ap (λ (ls : List BoardLine). map (λ (x : BoardLine). x.def) ls) new ∙ defs_at (defs_of board) []
 
   -- a place of a line's number is the line's
-  pub line_there : (k : ℕ) (line : LineNo) → slice_get (numbers_of_defs (defs_of board)) k ≡ Some line.0 → IsSomeAnd (slice_get (board_lines lines) k) (λ y. y.def.line ≡ line)
+  pub line_there : (k : ℕ) (line : LineNo) → slice_get (numbers_of_defs (defs_of board)) k ≡ Some line.0
+      → IsSomeAnd (slice_get (board_lines lines) k) (λ y. y.def.line ≡ line)
   line_there k line at = number_back (board_lines lines) k line (ap (λ (ds : List LineDef). slice_get (numbers_of_defs ds) k) defs_new ∙ at)
 
   module _ (isb : IsBoard board) where
@@ -81,7 +86,9 @@ module _ (board : BoardSeen) (lines : List LineSeen) (new : AreNew board lines) 
       where
         its_cut : calls_of s.calls ≡ cut (map (λ (x : BoardLine). x.def) (board_lines lines)) s.driver board.calls
         its_cut =
-            is.cut ∙ (ap (λ (cs : List ScriptCall). cut (defs_of board) s.driver cs) (all_taken board.calls (length board.calls) (omega arith)) ∙ ap (λ (ds : List LineDef). cut ds s.driver board.calls) (sym defs_new))
+            is.cut ∙ (ap (λ (cs : List ScriptCall). cut (defs_of board) s.driver cs)
+            (all_taken board.calls (length board.calls) (omega arith))
+            ∙ ap (λ (ds : List LineDef). cut ds s.driver board.calls) (sym defs_new))
 
         up : IsUpTo (calls_of s.calls) (board_lines lines) s.driver s.at
         up =
@@ -91,11 +98,17 @@ module _ (board : BoardSeen) (lines : List LineSeen) (new : AreNew board lines) 
         no_past : (i : ℕ) (y : BoardLine) → slice_get (board_lines lines) i ≡ Some y → y.past ≡ []
         no_past i y at = past_at (defs_of board) [] i y (subst (λ (ls : List BoardLine). slice_get ls i ≡ Some y) new at)
 
-        due : (x : PlacedCall) (y : BoardLine) → slice_get s.calls s.at ≡ Some x → slice_get (board_lines lines) x.place ≡ Some y → due_call y.def s.driver y.past ≡ Some (x.call.call, s.made)
+        due : (x : PlacedCall) (y : BoardLine) → slice_get s.calls s.at ≡ Some x
+            → slice_get (board_lines lines) x.place ≡ Some y
+            → due_call y.def s.driver y.past ≡ Some (x.call.call, s.made)
         due x y at there =
-            let line : y.def.line ≡ x.call.line = subst (λ (o : Option BoardLine). IsSomeAnd o (λ z. z.def.line ≡ x.call.line)) there (line_there x.place x.call.line (is.places s.at x at)) in
+            let line : y.def.line ≡ x.call.line = subst
+            (λ (o : Option BoardLine). IsSomeAnd o (λ z. z.def.line ≡ x.call.line)) there
+            (line_there x.place x.call.line (is.places s.at x at)) in
             let d = due_there board.calls (board_lines lines) have_new apart_new s.driver s.calls its_cut s.at up x y at there line in
-            let first : due_of (calls_by s.driver y.def.calls) [] ≡ Some (x.call.call, d.0) = ap (λ (past : List Entry). due_call y.def s.driver past) (sym (no_past x.place y there)) ∙ d.1 in
+            let first : due_of (calls_by s.driver y.def.calls) []
+            ≡ Some (x.call.call, d.0) = ap (λ (past : List Entry). due_call y.def s.driver past)
+            (sym (no_past x.place y there)) ∙ d.1 in
             d.1 ∙ ap (λ (n : ℕ). Some (x.call.call, n)) (fresh (calls_by s.driver y.def.calls) x.call.call d.0 first ∙ sym is.made)
 
     pub new_system : (scripts : List ScriptSeen) → AreSound lines → AreNewScripts board scripts → IsSystem board lines scripts
@@ -112,7 +125,8 @@ module _ (board : BoardSeen) (lines : List LineSeen) (new : AreNew board lines) 
 two : (k i : ℕ) → k < i + 1 → (k < i) ⊎ (k ≡ i)
 two k i h = grind arith
 
-pub sound_more : {X : Type 0} (f : X → LineSeen) (xs : List X) (i : ℕ) (y : X) → i < length xs → y ≡ get_or xs i y → IsSound (f y) → ((k : ℕ) (x : LineSeen) → k < i → slice_get (map f xs) k ≡ Some x → IsSound x)
+pub sound_more : {X : Type 0} (f : X → LineSeen) (xs : List X) (i : ℕ) (y : X) → i < length xs → y ≡ get_or xs i y
+    → IsSound (f y) → ((k : ℕ) (x : LineSeen) → k < i → slice_get (map f xs) k ≡ Some x → IsSound x)
     → (k : ℕ) (x : LineSeen) → k < i + 1 → slice_get (map f xs) k ≡ Some x → IsSound x
 sound_more f xs i y within is sound old k x less at = elim (two k i less) [
   | inl before ↦ old k x before at
@@ -121,7 +135,8 @@ sound_more f xs i y within is sound old k x less at = elim (two k i less) [
       subst IsSound (the_same (f y) x (sym there ∙ (ap (λ (n : ℕ). slice_get (map f xs) n) (sym here) ∙ at))) sound
 ]
 
-pub all_sound : {X : Type 0} (f : X → LineSeen) (xs : List X) (i : ℕ) → length xs ≤ i → ((k : ℕ) (x : LineSeen) → k < i → slice_get (map f xs) k ≡ Some x → IsSound x) → AreSound (map f xs)
+pub all_sound : {X : Type 0} (f : X → LineSeen) (xs : List X) (i : ℕ) → length xs ≤ i
+    → ((k : ℕ) (x : LineSeen) → k < i → slice_get (map f xs) k ≡ Some x → IsSound x) → AreSound (map f xs)
 all_sound f xs i end old k x at = old k x (let l = slice_get_within (map f xs) k x at in let m = length-map xs f in omega (arith, l, m, end)) at
 
 -- ---- how many there are, and their numbers

@@ -21,13 +21,19 @@ use Rattle.board_core.proofs.Movers.{take_told, flow_there}
 use Rattle.board_core.proofs.Standing.{line_at}
 use Rattle.board_core.proofs.TurnLaws.{map_there}
 
-module _ (board : BoardSeen) (isb : IsBoard board) (layout : List Placement) (lines : List LineSeen) (scripts : List ScriptSeen) (order : List ℕ) (parts : Parts) (is : IsKept board lines scripts order parts) (view : SystemSeen) (v : seen_of board layout lines order ≡ view) where
-  pub takes_are : (c : CpuNo) (word k : ℕ) → has word k ≡ (nat_lt c.0 32 && has_take c.0 (slice_get parts.ready.lines k)) → has word k ≡ is_take_due c (slice_get (board_lines view.lines) k)
+module _ (board : BoardSeen) (isb : IsBoard board) (layout : List Placement) (lines : List LineSeen)
+    (scripts : List ScriptSeen) (order : List ℕ) (parts : Parts) (is : IsKept board lines scripts order parts)
+    (view : SystemSeen) (v : seen_of board layout lines order ≡ view) where
+  pub takes_are : (c : CpuNo) (word k : ℕ) → has word k
+      ≡ (nat_lt c.0 32 && has_take c.0 (slice_get parts.ready.lines k))
+      → has word k ≡ is_take_due c (slice_get (board_lines view.lines) k)
   takes_are c word k its =
-      subst (λ (s : SystemSeen). has word k ≡ is_take_due c (slice_get (board_lines s.lines) k)) v (take_told board isb lines scripts is.system parts.ready is.ready c k (has word k) its)
+      subst (λ (s : SystemSeen). has word k ≡ is_take_due c (slice_get (board_lines s.lines) k)) v
+      (take_told board isb lines scripts is.system parts.ready is.ready c k (has word k) its)
 
   -- the place of the line of its flow
-  place_of_flow : (c : CpuNo) (o : Option ℕ) → o ≡ cond (nat_lt c.0 32) (flow_place parts.ready.lines c.0) None → IsPlace (board_lines lines) o (flow_line (board_lines lines) c)
+  place_of_flow : (c : CpuNo) (o : Option ℕ) → o ≡ cond (nat_lt c.0 32) (flow_place parts.ready.lines c.0) None
+      → IsPlace (board_lines lines) o (flow_line (board_lines lines) c)
   place_of_flow c o its = flow_there board isb lines scripts is.system parts.ready is.ready c o its
 
   pub flow_within : (c : CpuNo) (k : ℕ) → Some k ≡ cond (nat_lt c.0 32) (flow_place parts.ready.lines c.0) None → k < length parts.line_numbers
@@ -43,13 +49,17 @@ module _ (board : BoardSeen) (isb : IsBoard board) (layout : List Placement) (li
       by_line None some at = cc
       by_line (Some x) some at = slice_get_within (board_lines lines) k x at
 
-  pub flow_number : (c : CpuNo) (k : ℕ) (line : LineNo) → Some k ≡ cond (nat_lt c.0 32) (flow_place parts.ready.lines c.0) None → slice_get parts.line_numbers k ≡ Some line.0 → Some line ≡ number_of (flow_line (board_lines view.lines) c)
+  pub flow_number : (c : CpuNo) (k : ℕ) (line : LineNo)
+      → Some k ≡ cond (nat_lt c.0 32) (flow_place parts.ready.lines c.0) None
+      → slice_get parts.line_numbers k ≡ Some line.0 → Some line ≡ number_of (flow_line (board_lines view.lines) c)
   flow_number c k line its at =
       let p = place_of_flow c (Some k) its in
       let x = line_at board isb layout lines scripts order parts is view v k line at in
       subst (λ (s : SystemSeen). Some line ≡ number_of (flow_line (board_lines s.lines) c)) v
       (sym (ap (λ (o : Option BoardLine). number_of o) (sym p.1 ∙ map_there board_line lines k x.0 x.1) ∙ ap (λ (l : LineNo). Some l) x.2))
 
-  pub no_flow_number : (c : CpuNo) → None ≡ cond (nat_lt c.0 32) (flow_place parts.ready.lines c.0) None → None ≡ number_of (flow_line (board_lines view.lines) c)
+  pub no_flow_number : (c : CpuNo) → None ≡ cond (nat_lt c.0 32) (flow_place parts.ready.lines c.0) None
+      → None ≡ number_of (flow_line (board_lines view.lines) c)
   no_flow_number c its =
-      subst (λ (s : SystemSeen). None ≡ number_of (flow_line (board_lines s.lines) c)) v (sym (ap (λ (o : Option BoardLine). number_of o) (place_of_flow c None its)))
+      subst (λ (s : SystemSeen). None ≡ number_of (flow_line (board_lines s.lines) c)) v
+      (sym (ap (λ (o : Option BoardLine). number_of o) (place_of_flow c None its)))

@@ -1,5 +1,7 @@
 -- A driver's script on one line alone goes on with the line's entries.
-use Rattle.std.proofs.Common.{◌≡◌, ℕ, zero, suc, ◌+◌, ◌<◌, ◌≤◌, ◌==◌, inl, inr, Bool, true, false, cond, IfSome, Option, Some, None, Ok, List, [], ◌∷◌, ◌++◌, map, length, take, slice_get, slice_set, refl, sym, ap, ◌∙◌, subst, arith, append-nil}
+use Rattle.std.proofs.Common.{◌≡◌, ℕ, zero, suc, ◌+◌, ◌<◌, ◌≤◌, ◌==◌, inl, inr, Bool, true, false, cond, IfSome, Option}
+use Rattle.std.proofs.Common.{Some, None, Ok, List, [], ◌∷◌, ◌++◌, map, length, take, slice_get, slice_set, refl, sym}
+use Rattle.std.proofs.Common.{ap, ◌∙◌, subst, arith, append-nil}
 use Rattle.std.proofs.Math.ListN.{length-map}
 use Rattle.std.proofs.lemmas.Bool.{false_from_ne_true}
 use Rattle.std.proofs.lemmas.List.{map-set}
@@ -75,42 +77,52 @@ no_script : (o : Option ScriptSeen) (s : ScriptSeen) → o ≡ None → o ≡ So
 no_script None s none some = cc
 no_script (Some t) s none some = cc
 
-module _ (rs : List DriverNo) (rises : Rises (λ (r : DriverNo). r.0) rs) (r : DriverNo) (scripts : List ScriptSeen) (are : drivers_of scripts ≡ rs) (f : ScriptSeen → ScriptSeen) (same : (s : ScriptSeen) → (f s).driver ≡ s.driver) where
-  driver_at : (j : ℕ) (s : ScriptSeen) → slice_get scripts j ≡ Some s → slice_get rs j ≡ Some s.driver
-  driver_at j s at = subst (λ (ds : List DriverNo). slice_get ds j ≡ Some s.driver) are (map_there (λ (s : ScriptSeen). s.driver) scripts j s at)
+module _ (rs : List DriverNo) (rises : Rises (λ (r : DriverNo). r.0) rs) (r : DriverNo) (scripts : List ScriptSeen)
+    (are : drivers_of scripts ≡ rs) (f : ScriptSeen → ScriptSeen) (same : (s : ScriptSeen) → (f s).driver ≡ s.driver)
+  where
+    driver_at : (j : ℕ) (s : ScriptSeen) → slice_get scripts j ≡ Some s → slice_get rs j ≡ Some s.driver
+    driver_at j s at = subst (λ (ds : List DriverNo). slice_get ds j ≡ Some s.driver) are (map_there (λ (s : ScriptSeen). s.driver) scripts j s at)
 
-  drivers_put : (q : Option ℕ) → drivers_of (put_at f q scripts) ≡ rs
-  drivers_put None = are
-  drivers_put (Some j) = by_script (slice_get scripts j) refl
-    where
-      by_script : (o : Option ScriptSeen) → slice_get scripts j ≡ o → drivers_of (put f o j scripts) ≡ rs
-      by_script None there = are
-      by_script (Some t) there =
-          map-set (λ (s : ScriptSeen). s.driver) scripts j (f t)
-          ∙ (ap (λ (d : DriverNo). slice_set (drivers_of scripts) j d) (same t) ∙ (set_same (drivers_of scripts) j t.driver (map_there (λ (s : ScriptSeen). s.driver) scripts j t there) ∙ are))
-
-  module _ (P Q : ScriptSeen → Type 0) (all : (j : ℕ) (s : ScriptSeen) → slice_get scripts j ≡ Some s → P s) (own : (s : ScriptSeen) → s.driver ≡ r → P s → Q (f s)) (other : (s : ScriptSeen) → same_driver s.driver r ≡ false → P s → Q s) where
-    left : (j : ℕ) (s : ScriptSeen) → slice_get scripts j ≡ Some s → (s.driver ≡ r → ⊥) → Q s
-    left j s at differs = other s (false_from_ne_true (same_driver s.driver r) (λ h. differs (driver_from_same s.driver r h))) (all j s at)
-
-    each_put : (q : Option ℕ) → IsPlaceOfNumber (numbers_of_drivers rs) r.0 q → (j : ℕ) (s : ScriptSeen) → slice_get (put_at f q scripts) j ≡ Some s → Q s
-    each_put None none j s at = left j s at (λ is. none j (map_there (λ (d : DriverNo). d.0) rs j s.driver (driver_at j s at) ∙ ap (λ (d : DriverNo). Some d.0) is))
-    each_put (Some q) place j s at = by_script (slice_get scripts q) refl at
+    drivers_put : (q : Option ℕ) → drivers_of (put_at f q scripts) ≡ rs
+    drivers_put None = are
+    drivers_put (Some j) = by_script (slice_get scripts j) refl
       where
-        mine : slice_get rs q ≡ Some r
-        mine = driver_back r rs q place
+        by_script : (o : Option ScriptSeen) → slice_get scripts j ≡ o → drivers_of (put f o j scripts) ≡ rs
+        by_script None there = are
+        by_script (Some t) there =
+            map-set (λ (s : ScriptSeen). s.driver) scripts j (f t)
+            ∙ (ap (λ (d : DriverNo). slice_set (drivers_of scripts) j d) (same t)
+            ∙ (set_same (drivers_of scripts) j t.driver (map_there (λ (s : ScriptSeen). s.driver) scripts j t there)
+            ∙ are))
 
-        by_script : (o : Option ScriptSeen) → slice_get scripts q ≡ o → slice_get (put f o q scripts) j ≡ Some s → Q s
-        by_script None there at =
-            left j s at (λ is. no_script (slice_get scripts q) s there (ap (λ (n : ℕ). slice_get scripts n) (sym (one_place rs rises j q s.driver r (driver_at j s at) mine is)) ∙ at))
-        by_script (Some t) there at = elim (set_cases scripts q j (f t) s at) [
-          | inl h ↦ subst Q h.1 (own t (the_same t.driver r (sym (driver_at q t there) ∙ mine)) (all q t there))
-          | inr h ↦ left j s h.1 (λ is. h.0 (one_place rs rises j q s.driver r (driver_at j s h.1) mine is))
-        ]
+    module _ (P Q : ScriptSeen → Type 0) (all : (j : ℕ) (s : ScriptSeen) → slice_get scripts j ≡ Some s → P s)
+        (own : (s : ScriptSeen) → s.driver ≡ r → P s → Q (f s))
+        (other : (s : ScriptSeen) → same_driver s.driver r ≡ false → P s → Q s) where
+      left : (j : ℕ) (s : ScriptSeen) → slice_get scripts j ≡ Some s → (s.driver ≡ r → ⊥) → Q s
+      left j s at differs = other s (false_from_ne_true (same_driver s.driver r) (λ h. differs (driver_from_same s.driver r h))) (all j s at)
+
+      each_put : (q : Option ℕ) → IsPlaceOfNumber (numbers_of_drivers rs) r.0 q → (j : ℕ) (s : ScriptSeen) → slice_get (put_at f q scripts) j ≡ Some s → Q s
+      each_put None none j s at = left j s at (λ is. none j
+          (map_there (λ (d : DriverNo). d.0) rs j s.driver (driver_at j s at) ∙ ap (λ (d : DriverNo). Some d.0) is))
+      each_put (Some q) place j s at = by_script (slice_get scripts q) refl at
+        where
+          mine : slice_get rs q ≡ Some r
+          mine = driver_back r rs q place
+
+          by_script : (o : Option ScriptSeen) → slice_get scripts q ≡ o → slice_get (put f o q scripts) j ≡ Some s → Q s
+          by_script None there at =
+              left j s at (λ is. no_script (slice_get scripts q) s there
+              (ap (λ (n : ℕ). slice_get scripts n) (sym
+              (one_place rs rises j q s.driver r (driver_at j s at) mine is)) ∙ at))
+          by_script (Some t) there at = elim (set_cases scripts q j (f t) s at) [
+            | inl h ↦ subst Q h.1 (own t (the_same t.driver r (sym (driver_at q t there) ∙ mine)) (all q t there))
+            | inr h ↦ left j s h.1 (λ is. h.0 (one_place rs rises j q s.driver r (driver_at j s h.1) mine is))
+          ]
 
 -- ---- one more entry of the line
 
-due_some : (def : LineDef) (r : DriverNo) (past : List Entry) (e : Entry) → next_past def past (actors.Driver r) ≡ Some e → (x : Call × ℕ) × (due_call def r past ≡ Some x)
+due_some : (def : LineDef) (r : DriverNo) (past : List Entry) (e : Entry)
+    → next_past def past (actors.Driver r) ≡ Some e → (x : Call × ℕ) × (due_call def r past ≡ Some x)
 due_some def r past e is = by_due (due_call def r past) refl is
   where
     by_due : (o : Option (Call × ℕ)) → due_call def r past ≡ o → next_of_call def r past o ≡ Some e → (x : Call × ℕ) × (due_call def r past ≡ Some x)
@@ -134,7 +146,8 @@ module _ (x : BoardLine) (e : Entry) where
 
   -- of the driver itself
   module _ (s : ScriptSeen) (is : IsOwn x s) (mine : is_by_driver s.driver e ≡ true) where
-    module _ (st : PlacedCall) (due : due_call x.def s.driver x.past ≡ Some (st.call.call, s.made)) (owed : next_past x.def x.past (actors.Driver s.driver) ≡ Some e) where
+    module _ (st : PlacedCall) (due : due_call x.def s.driver x.past ≡ Some (st.call.call, s.made))
+        (owed : next_past x.def x.past (actors.Driver s.driver) ≡ Some e) where
       its_last : completes st.call.call e ≡ completes_at st.call.call s.made e
       its_last = last_is x.def s.driver x.past st.call.call s.made e (ap (next_of_call x.def s.driver x.past) (sym due) ∙ owed)
 
@@ -156,7 +169,8 @@ module _ (x : BoardLine) (e : Entry) where
       past_it last =
           record {
             calls = is.calls;
-            at = ap (λ (n : ℕ). n + 1) is.at ∙ sym (one_completed x.def s.driver e x.past (st.call.call, s.made) mine due (ends x.def s.driver e x.past st.call.call s.made mine due last));
+            at = ap (λ (n : ℕ). n + 1) is.at ∙ sym (one_completed x.def s.driver e x.past (st.call.call, s.made) mine
+                due (ends x.def s.driver e x.past st.call.call s.made mine due last));
             made = none_begun (due_call x.def s.driver (e ∷ x.past)) refl last;
           }
 
@@ -167,7 +181,9 @@ module _ (x : BoardLine) (e : Entry) where
     -- the call at the script's place is the one that is due
     due_here : (st : PlacedCall) → slice_get s.calls s.at ≡ Some st → due_call x.def s.driver x.past ≡ Some (st.call.call, s.made)
     due_here st at =
-        let kth : slice_get (calls_by s.driver x.def.calls) s.at ≡ Some st.call.call = ap (λ (cs : List Call). slice_get cs s.at) (sym is.calls) ∙ map_there (λ (y : PlacedCall). y.call.call) s.calls s.at st at in
+        let kth : slice_get (calls_by s.driver x.def.calls) s.at
+        ≡ Some st.call.call = ap (λ (cs : List Call). slice_get cs s.at) (sym is.calls)
+        ∙ map_there (λ (y : PlacedCall). y.call.call) s.calls s.at st at in
         let d = kth_is_due x.def s.driver x.past st.call.call (ap (λ (n : ℕ). slice_get (calls_by s.driver x.def.calls) n) (sym is.at) ∙ kth) in
         d.1 ∙ ap (λ (n : ℕ). Some (st.call.call, n)) (sym (ap made_of d.1) ∙ sym is.made)
 
@@ -198,14 +214,23 @@ same_driver_put e s = by_step (slice_get s.calls s.at)
     by_step (Some st) = by_last (completes st.call.call e)
 
 -- the drivers' scripts on the line after one more entry, which was due
-pub own_more : (rs : List DriverNo) → Rises (λ (r : DriverNo). r.0) rs → (numbers : List ℕ) → numbers ≡ numbers_of_drivers rs → (x : BoardLine) (e : Entry) → IsDue x.def e x.past → (q : Option ℕ) → IsPlaceOfActor numbers (actor_of x.def.line e) q → (scripts new : List ScriptSeen)
+pub own_more : (rs : List DriverNo) → Rises (λ (r : DriverNo). r.0) rs → (numbers : List ℕ)
+    → numbers ≡ numbers_of_drivers rs → (x : BoardLine) (e : Entry) → IsDue x.def e x.past → (q : Option ℕ)
+    → IsPlaceOfActor numbers (actor_of x.def.line e) q → (scripts new : List ScriptSeen)
     → new ≡ scripts_after q (Ok (Some e)) scripts → AreOwn rs x scripts → AreOwn rs (with_entry e x) new
-own_more rs rises numbers are x e due q place scripts new is own = subst (λ (ss : List ScriptSeen). AreOwn rs (with_entry e x) ss) (sym (is ∙ entry_is q e scripts)) (by_actor (actor_of x.def.line e) refl place)
+own_more rs rises numbers are x e due q place scripts new is own
+    = subst (λ (ss : List ScriptSeen). AreOwn rs (with_entry e x) ss) (sym (is ∙ entry_is q e scripts))
+    (by_actor (actor_of x.def.line e) refl place)
   where
-    nobody : (a : Actor) → actor_of x.def.line e ≡ a → ((r : DriverNo) → is_driver r a ≡ false) → q ≡ None → AreOwn rs (with_entry e x) (put_at (advanced e) q scripts)
+    nobody : (a : Actor) → actor_of x.def.line e ≡ a → ((r : DriverNo) → is_driver r a ≡ false) → q ≡ None
+        → AreOwn rs (with_entry e x) (put_at (advanced e) q scripts)
     nobody a who none at =
         subst (λ (o : Option ℕ). AreOwn rs (with_entry e x) (put_at (advanced e) o scripts)) (sym at)
-        (record { drivers = own.drivers; each = λ j s at_s. other_goes x e s (by_driver_is x.def.line s.driver e ∙ (ap (is_driver s.driver) who ∙ none s.driver)) (own.each j s at_s) })
+        (record {
+          drivers = own.drivers;
+          each = λ j s at_s. other_goes x e s
+              (by_driver_is x.def.line s.driver e ∙ (ap (is_driver s.driver) who ∙ none s.driver)) (own.each j s at_s);
+        })
 
     by_actor : (a : Actor) → actor_of x.def.line e ≡ a → IsPlaceOfActor numbers a q → AreOwn rs (with_entry e x) (put_at (advanced e) q scripts)
     by_actor (actors.Cpu c) who at = nobody (actors.Cpu c) who (λ r. refl) at
@@ -213,7 +238,8 @@ own_more rs rises numbers are x e due q place scripts new is own = subst (λ (ss
     by_actor (actors.Driver r) who at =
         record {
           drivers = drivers_put rs rises r scripts own.drivers (advanced e) (same_driver_put e) q;
-          each = each_put rs rises r scripts own.drivers (advanced e) (same_driver_put e) (IsOwn x) (IsOwn (with_entry e x)) own.each its others q (subst (λ (ns : List ℕ). IsPlaceOfNumber ns r.0 q) are at);
+          each = each_put rs rises r scripts own.drivers (advanced e) (same_driver_put e) (IsOwn x)
+              (IsOwn (with_entry e x)) own.each its others q (subst (λ (ns : List ℕ). IsPlaceOfNumber ns r.0 q) are at);
         }
       where
         by : (d : DriverNo) → is_by_driver d e ≡ same_driver d r
@@ -228,7 +254,9 @@ own_more rs rises numbers are x e due q place scripts new is own = subst (λ (ss
             (ap (λ (d : DriverNo). next_past x.def x.past (actors.Driver d)) mine ∙ (ap (λ (a : Actor). next_past x.def x.past a) (sym who) ∙ due))
 
 -- at the actor's place there is a script
-pub actor_fits : (board : BoardSeen) (scripts : List ScriptSeen) (numbers : List ℕ) (a : Actor) (q : Option ℕ) → drivers_of scripts ≡ board.drivers → numbers ≡ numbers_of_drivers board.drivers → IsPlaceOfActor numbers a q → IfSome q (λ j. j < length scripts)
+pub actor_fits : (board : BoardSeen) (scripts : List ScriptSeen) (numbers : List ℕ) (a : Actor) (q : Option ℕ)
+    → drivers_of scripts ≡ board.drivers → numbers ≡ numbers_of_drivers board.drivers → IsPlaceOfActor numbers a q
+    → IfSome q (λ j. j < length scripts)
 actor_fits board scripts numbers (actors.Driver r) q are is place = script_there board scripts numbers r.0 q are is place
 actor_fits board scripts numbers (actors.Cpu c) q are is place = subst (λ (o : Option ℕ). IfSome o (λ j. j < length scripts)) (sym place) tt
 actor_fits board scripts numbers (actors.Thread line d) q are is place = subst (λ (o : Option ℕ). IfSome o (λ j. j < length scripts)) (sym place) tt
@@ -245,12 +273,14 @@ pub record AreBare (all : List DriverNo) (cs : List (DriverNo × Call)) (scripts
   pub drivers : drivers_of scripts ≡ all
   pub each : (j : ℕ) (s : ScriptSeen) → slice_get scripts j ≡ Some s → IsBare cs s
 
-calls_more : (r : DriverNo) (cs : List (DriverNo × Call)) (c : DriverNo × Call) → calls_by r (cs ++ c ∷ []) ≡ calls_by r cs ++ cond (same_driver r c.0) (c.1 ∷ []) []
+calls_more : (r : DriverNo) (cs : List (DriverNo × Call)) (c : DriverNo × Call)
+    → calls_by r (cs ++ c ∷ []) ≡ calls_by r cs ++ cond (same_driver r c.0) (c.1 ∷ []) []
 calls_more r [] c = refl
 calls_more r (d ∷ cs) c = by_test (same_driver r d.0) (calls_more r cs c)
   where
     by_test : (b : Bool) → calls_by r (cs ++ c ∷ []) ≡ calls_by r cs ++ cond (same_driver r c.0) (c.1 ∷ []) []
-        → cond b (d.1 ∷ calls_by r (cs ++ c ∷ [])) (calls_by r (cs ++ c ∷ [])) ≡ cond b (d.1 ∷ calls_by r cs) (calls_by r cs) ++ cond (same_driver r c.0) (c.1 ∷ []) []
+        → cond b (d.1 ∷ calls_by r (cs ++ c ∷ [])) (calls_by r (cs ++ c ∷ []))
+        ≡ cond b (d.1 ∷ calls_by r cs) (calls_by r cs) ++ cond (same_driver r c.0) (c.1 ∷ []) []
     by_test true deeper = ap (λ (zs : List Call). d.1 ∷ zs) deeper
     by_test false deeper = deeper
 
@@ -258,28 +288,40 @@ no_calls : (steps : List PlacedCall) → calls_of steps ≡ [] → map (λ (y : 
 no_calls [] is = refl
 no_calls (y ∷ ys) is = cc
 
-pub bare_first : (board : BoardSeen) (scripts : List ScriptSeen) → AreCut board 0 scripts → (cs : List (DriverNo × Call)) → AreBare board.drivers (take 0 cs) scripts
-bare_first board scripts are cs = record { drivers = are.drivers; each = λ j s at. (let c = are.each j s at in record { calls = no_calls s.calls c.cut; at = c.at; made = c.made }) }
+pub bare_first : (board : BoardSeen) (scripts : List ScriptSeen) → AreCut board 0 scripts
+    → (cs : List (DriverNo × Call)) → AreBare board.drivers (take 0 cs) scripts
+bare_first board scripts are cs = record {
+  drivers = are.drivers;
+  each
+      = λ j s at. (let c = are.each j s at in record { calls = no_calls s.calls c.cut; at = c.at; made = c.made });
+}
 
-pub bare_more : (rs : List DriverNo) → Rises (λ (r : DriverNo). r.0) rs → (numbers : List ℕ) → numbers ≡ numbers_of_drivers rs → (cs : List (DriverNo × Call)) (i : ℕ) (r : DriverNo) (c : ScriptCall) (pair : DriverNo × Call) → slice_get cs i ≡ Some pair → pair.0 ≡ r → pair.1 ≡ c.call → (q : Option ℕ)
-    → IsPlaceOfNumber numbers r.0 q → (scripts new : List ScriptSeen) → new ≡ with_call q (Some 0) c scripts → AreBare rs (take i cs) scripts → AreBare rs (take (i + 1) cs) new
+pub bare_more : (rs : List DriverNo) → Rises (λ (r : DriverNo). r.0) rs → (numbers : List ℕ)
+    → numbers ≡ numbers_of_drivers rs → (cs : List (DriverNo × Call)) (i : ℕ) (r : DriverNo) (c : ScriptCall)
+    (pair : DriverNo × Call) → slice_get cs i ≡ Some pair → pair.0 ≡ r → pair.1 ≡ c.call → (q : Option ℕ)
+    → IsPlaceOfNumber numbers r.0 q → (scripts new : List ScriptSeen) → new ≡ with_call q (Some 0) c scripts
+    → AreBare rs (take i cs) scripts → AreBare rs (take (i + 1) cs) new
 bare_more rs rises numbers are cs i r c pair at first second q place scripts new is bare =
     subst (λ (ss : List ScriptSeen). AreBare rs (take (i + 1) cs) ss) (sym (is ∙ call_is q 0 c scripts))
     (record {
       drivers = drivers_put rs rises r scripts bare.drivers (longer 0 c) (λ s. refl) q;
-      each = each_put rs rises r scripts bare.drivers (longer 0 c) (λ s. refl) (IsBare (take i cs)) (IsBare (take (i + 1) cs)) bare.each its others q (subst (λ (ns : List ℕ). IsPlaceOfNumber ns r.0 q) are place);
+      each = each_put rs rises r scripts bare.drivers (longer 0 c) (λ s. refl) (IsBare (take i cs))
+          (IsBare (take (i + 1) cs)) bare.each its others q
+          (subst (λ (ns : List ℕ). IsPlaceOfNumber ns r.0 q) are place);
     })
   where
     next : (s : ScriptSeen) → calls_by s.driver (take (i + 1) cs) ≡ calls_by s.driver (take i cs) ++ cond (same_driver s.driver r) (c.call ∷ []) []
     next s =
         ap (calls_by s.driver) (taken cs i pair at) ∙ (calls_more s.driver (take i cs) pair
-        ∙ (ap (λ (d : DriverNo). calls_by s.driver (take i cs) ++ cond (same_driver s.driver d) (pair.1 ∷ []) []) first ∙ ap (λ (k : Call). calls_by s.driver (take i cs) ++ cond (same_driver s.driver r) (k ∷ []) []) second))
+        ∙ (ap (λ (d : DriverNo). calls_by s.driver (take i cs) ++ cond (same_driver s.driver d) (pair.1 ∷ []) []) first
+        ∙ ap (λ (k : Call). calls_by s.driver (take i cs) ++ cond (same_driver s.driver r) (k ∷ []) []) second))
 
     its : (s : ScriptSeen) → s.driver ≡ r → IsBare (take i cs) s → IsBare (take (i + 1) cs) (longer 0 c s)
     its s mine b =
         record {
           calls = map_more (λ (y : PlacedCall). y.call.call) s.calls (record { place = 0; call = c }) ∙ (ap (λ (zs : List Call). zs ++ c.call ∷ []) b.calls
-              ∙ sym (next s ∙ ap (λ (t : Bool). calls_by s.driver (take i cs) ++ cond t (c.call ∷ []) []) (ap (λ (d : DriverNo). same_driver d r) mine ∙ same_self_driver r)));
+              ∙ sym (next s ∙ ap (λ (t : Bool). calls_by s.driver (take i cs) ++ cond t (c.call ∷ []) [])
+              (ap (λ (d : DriverNo). same_driver d r) mine ∙ same_self_driver r)));
           at = b.at;
           made = b.made;
         }
@@ -287,7 +329,8 @@ bare_more rs rises numbers are cs i r c pair at first second q place scripts new
     others : (s : ScriptSeen) → same_driver s.driver r ≡ false → IsBare (take i cs) s → IsBare (take (i + 1) cs) s
     others s differs b =
         record {
-          calls = b.calls ∙ sym (next s ∙ (ap (λ (t : Bool). calls_by s.driver (take i cs) ++ cond t (c.call ∷ []) []) differs ∙ append-nil (calls_by s.driver (take i cs))));
+          calls = b.calls ∙ sym (next s ∙ (ap (λ (t : Bool). calls_by s.driver (take i cs) ++ cond t (c.call ∷ []) [])
+              differs ∙ append-nil (calls_by s.driver (take i cs))));
           at = b.at;
           made = b.made;
         }
@@ -296,7 +339,8 @@ none_made : (def : LineDef) (r : DriverNo) (o : Option (Call × ℕ)) → due_ca
 none_made def r None is = refl
 none_made def r (Some (c, n)) is = sym (fresh (calls_by r def.calls) c n is)
 
-pub bare_own : (rs : List DriverNo) (def : LineDef) (cs : List (DriverNo × Call)) (scripts : List ScriptSeen) → cs ≡ def.calls → AreBare rs cs scripts → AreOwn rs (record { def = def; past = [] }) scripts
+pub bare_own : (rs : List DriverNo) (def : LineDef) (cs : List (DriverNo × Call)) (scripts : List ScriptSeen)
+    → cs ≡ def.calls → AreBare rs cs scripts → AreOwn rs (record { def = def; past = [] }) scripts
 bare_own rs def cs scripts all bare =
     record {
       drivers = bare.drivers;

@@ -1,5 +1,7 @@
 -- The system of lines as they stand: its scripts are placed by what is counted on all lines.
-use Rattle.std.proofs.Common.{◌≡◌, ℕ, zero, suc, ◌+◌, ◌<◌, ◌≤◌, ◌⊎◌, inl, inr, max, IsSomeAnd, Option, Some, None, List, [], ◌∷◌, ◌++◌, map, length, get_or, take, reverse, slice_get, slice_set, refl, sym, ap, ◌∙◌, subst, arith}
+use Rattle.std.proofs.Common.{◌≡◌, ℕ, zero, suc, ◌+◌, ◌<◌, ◌≤◌, ◌⊎◌, inl, inr, max, IsSomeAnd, Option, Some, None, List}
+use Rattle.std.proofs.Common.{[], ◌∷◌, ◌++◌, map, length, get_or, take, reverse, slice_get, slice_set, refl, sym, ap}
+use Rattle.std.proofs.Common.{◌∙◌, subst, arith}
 use Rattle.std.specs.List.{sum_by}
 use Rattle.std.proofs.Math.ListN.{length-map}
 use Rattle.std.proofs.lemmas.List.{map-set, length-set, reverse-append}
@@ -27,7 +29,8 @@ use Rattle.board_core.specs.Inside.{drivers_of, IsSystem}
 use Rattle.board_core.specs.Log.{IsWalk}
 use Rattle.board_core.specs.Making.{IsCut, AreNewScripts, AreSound}
 use Rattle.board_core.specs.Numbers.{numbers_of_defs, numbers_of_lines}
-use Rattle.board_core.specs.Placing.{completed_on, made_of, made_on, most_made, placed, ArePlaced, HaveRoom, IsOwn, AreOwn, joined, CanJoin, AreJoined, AreLengths}
+use Rattle.board_core.specs.Placing.{completed_on, made_of, made_on, most_made, placed, ArePlaced, HaveRoom, IsOwn}
+use Rattle.board_core.specs.Placing.{AreOwn, joined, CanJoin, AreJoined, AreLengths}
 use Rattle.board_core.specs.Scripts.{ScriptSeen, cut, calls_of, IsScript}
 use Rattle.board_core.specs.Seen.{board_line, board_lines}
 use Rattle.board_core.specs.declared.scripts.PlacedCall.{PlacedCall}
@@ -50,7 +53,8 @@ most_more : (r : DriverNo) (lines : List BoardLine) (x : BoardLine) → most_mad
 most_more r [] x = omega arith
 most_more r (y ∷ ys) x = let d = most_more r ys x in omega (arith, d)
 
-most_at_most : (r : DriverNo) (n : ℕ) (lines : List BoardLine) → ((i : ℕ) (x : BoardLine) → slice_get lines i ≡ Some x → made_on r x ≤ n) → most_made r lines ≤ n
+most_at_most : (r : DriverNo) (n : ℕ) (lines : List BoardLine)
+    → ((i : ℕ) (x : BoardLine) → slice_get lines i ≡ Some x → made_on r x ≤ n) → most_made r lines ≤ n
 most_at_most r n [] each = omega arith
 most_at_most r n (x ∷ xs) each =
     let a = each zero x refl in
@@ -73,7 +77,8 @@ none_placed scripts = record { drivers = refl; each = λ j s at. at ∙ ap (λ (
         let m : s.made ≡ max s.made 0 = omega arith in
         ap (λ (n : ℕ). record s { at = n }) a ∙ ap (λ (n : ℕ). record s { at = s.at + 0; made = n }) m
 
-placed_more : (lines : List BoardLine) (x : BoardLine) (s o : ScriptSeen) → s.driver ≡ o.driver → IsOwn x o → joined o (placed lines s) ≡ placed (lines ++ x ∷ []) s
+placed_more : (lines : List BoardLine) (x : BoardLine) (s o : ScriptSeen) → s.driver ≡ o.driver → IsOwn x o
+    → joined o (placed lines s) ≡ placed (lines ++ x ∷ []) s
 placed_more lines x s o same own =
     let c : o.at ≡ completed_on s.driver x = own.at ∙ ap (λ (r : DriverNo). completed_on r x) (sym same) in
     let d : o.made ≡ made_on s.driver x = own.made ∙ ap (λ (r : DriverNo). made_on r x) (sym same) in
@@ -84,7 +89,9 @@ placed_more lines x s o same own =
     ap (λ (n : ℕ). record s { at = n; made = max (max s.made (most_made s.driver lines)) o.made }) a
     ∙ ap (λ (n : ℕ). record s { at = s.at + sum_by (completed_on s.driver) (lines ++ x ∷ []); made = n }) m
 
-module _ (lines : List BoardLine) (k : ℕ) (x : BoardLine) (at : slice_get lines k ≡ Some x) (first now own : List ScriptSeen) (are : ArePlaced (take k lines) first now) (rs : List DriverNo) (all : drivers_of first ≡ rs) (its : AreOwn rs x own) where
+module _ (lines : List BoardLine) (k : ℕ) (x : BoardLine) (at : slice_get lines k ≡ Some x)
+    (first now own : List ScriptSeen) (are : ArePlaced (take k lines) first now) (rs : List DriverNo)
+    (all : drivers_of first ≡ rs) (its : AreOwn rs x own) where
   as_many : (xs ys : List ScriptSeen) → drivers_of xs ≡ drivers_of ys → length xs ≡ length ys
   as_many xs ys same =
       let a = length-map xs (λ (s : ScriptSeen). s.driver) in
@@ -104,7 +111,9 @@ module _ (lines : List BoardLine) (k : ℕ) (x : BoardLine) (at : slice_get line
         o.0,
         o.1,
         the_same s.driver o.0.driver
-            (sym (map_there (λ (s : ScriptSeen). s.driver) first j s at_s) ∙ (ap (λ (ds : List DriverNo). slice_get ds j) own_drivers ∙ map_there (λ (s : ScriptSeen). s.driver) own j o.0 o.1)),
+            (sym (map_there (λ (s : ScriptSeen). s.driver) first j s at_s)
+            ∙ (ap (λ (ds : List DriverNo). slice_get ds j) own_drivers
+            ∙ map_there (λ (s : ScriptSeen). s.driver) own j o.0 o.1)),
       )
 
   -- what it was at first
@@ -137,10 +146,13 @@ module _ (lines : List BoardLine) (k : ℕ) (x : BoardLine) (at : slice_get line
         each = λ j s at_s.
             (let o = own_there j s at_s in
             join.each j (placed (take k lines) s) o.0 (are.each j s at_s) o.1
-            ∙ ap (λ (t : ScriptSeen). Some t) (placed_more (take k lines) x s o.0 o.2 (its.each j o.0 o.1) ∙ ap (λ (ls : List BoardLine). placed ls s) (sym (taken lines k x at))));
+            ∙ ap (λ (t : ScriptSeen). Some t) (placed_more (take k lines) x s o.0 o.2 (its.each j o.0 o.1)
+            ∙ ap (λ (ls : List BoardLine). placed ls s) (sym (taken lines k x at))));
       }
 
-pub all_placed_seen : {X : Type 0} (f : X → LineSeen) (xs : List X) (k : ℕ) (first now : List ScriptSeen) → length xs ≤ k → ArePlaced (take k (board_lines (map f xs))) first now → ArePlaced (board_lines (map f xs)) first now
+pub all_placed_seen : {X : Type 0} (f : X → LineSeen) (xs : List X) (k : ℕ) (first now : List ScriptSeen)
+    → length xs ≤ k → ArePlaced (take k (board_lines (map f xs))) first now
+    → ArePlaced (board_lines (map f xs)) first now
 all_placed_seen f xs k first now end are =
     subst (λ (ls : List BoardLine). ArePlaced ls first now)
     (all_taken (board_lines (map f xs)) k (let a = length-map xs f in let b = length-map (map f xs) board_line in omega (arith, end, a, b))) are
@@ -158,16 +170,20 @@ none_joined own old = record { drivers = refl; each = λ j s o less. absurd (ome
 two : (j n : ℕ) → j < n + 1 → (j < n) ⊎ (j ≡ n)
 two j n h = grind arith
 
-pub one_joined : (own old now : List ScriptSeen) (n : ℕ) (s o : ScriptSeen) → slice_get now n ≡ Some s → slice_get own n ≡ Some o → (new : List ScriptSeen) → new ≡ slice_set now n (joined o s) → JoinedTo own old n now → JoinedTo own old (n + 1) new
+pub one_joined : (own old now : List ScriptSeen) (n : ℕ) (s o : ScriptSeen) → slice_get now n ≡ Some s
+    → slice_get own n ≡ Some o → (new : List ScriptSeen) → new ≡ slice_set now n (joined o s) → JoinedTo own old n now
+    → JoinedTo own old (n + 1) new
 one_joined own old now n s o at at_own new is so =
     subst (λ (ss : List ScriptSeen). JoinedTo own old (n + 1) ss) (sym is)
     (record {
-      drivers = map-set (λ (s : ScriptSeen). s.driver) now n (joined o s) ∙ (set_same (drivers_of now) n s.driver (map_there (λ (s : ScriptSeen). s.driver) now n s at) ∙ so.drivers);
+      drivers = map-set (λ (s : ScriptSeen). s.driver) now n (joined o s)
+          ∙ (set_same (drivers_of now) n s.driver (map_there (λ (s : ScriptSeen). s.driver) now n s at) ∙ so.drivers);
       each = each;
       rest = λ j le. set_other now n j (joined o s) (λ same. omega (arith, le, same)) ∙ so.rest j (omega (arith, le));
     })
   where
-    each : (j : ℕ) (t u : ScriptSeen) → j < n + 1 → slice_get old j ≡ Some t → slice_get own j ≡ Some u → slice_get (slice_set now n (joined o s)) j ≡ Some (joined u t)
+    each : (j : ℕ) (t u : ScriptSeen) → j < n + 1 → slice_get old j ≡ Some t → slice_get own j ≡ Some u
+        → slice_get (slice_set now n (joined o s)) j ≡ Some (joined u t)
     each j t u less at_t at_u = elim (two j n less) [
       | inl before ↦ set_other now n j (joined o s) (λ same. omega (arith, before, same)) ∙ so.each j t u before at_t at_u
       | inr here ↦
@@ -178,10 +194,15 @@ one_joined own old now n s o at at_own new is so =
     ]
 
 pub all_joined : (own old now : List ScriptSeen) (n : ℕ) → length old ≤ n → JoinedTo own old n now → AreJoined own old now
-all_joined own old now n end so = record { drivers = so.drivers; each = λ j s o at at_o. (let l = slice_get_within old j s at in so.each j s o (omega (arith, l, end)) at at_o) }
+all_joined own old now n end so = record {
+  drivers = so.drivers;
+  each
+      = λ j s o at at_o. (let l = slice_get_within old j s at in so.each j s o (omega (arith, l, end)) at at_o);
+}
 
 -- the one at a place can join
-pub join_fits : (own old now : List ScriptSeen) (n : ℕ) (s o : ScriptSeen) → CanJoin own old → JoinedTo own old n now → slice_get now n ≡ Some s → slice_get own n ≡ Some o → s.at + o.at ≤ length s.calls
+pub join_fits : (own old now : List ScriptSeen) (n : ℕ) (s o : ScriptSeen) → CanJoin own old → JoinedTo own old n now
+    → slice_get now n ≡ Some s → slice_get own n ≡ Some o → s.at + o.at ≤ length s.calls
 join_fits own old now n s o can so at at_own =
     subst (λ (p : Option ScriptSeen). IsSomeAnd p (λ o. s.at + o.at ≤ length s.calls)) at_own (can n s (sym (so.rest n (omega arith)) ∙ at))
 
@@ -202,13 +223,17 @@ split (y ∷ ys) (suc n) = let s = split ys n in (s.0, ap (λ (zs : List Entry).
 pub due_at : (def : LineDef) (h : List Entry) (i : ℕ) (e : Entry) → slice_get h i ≡ Some e → IsLegal def h → IsDue def e (reverse (take i h))
 due_at def h i e at legal =
     let whole = split h (i + 1) in
-    let back : reverse h ≡ reverse whole.0 ++ reverse (take (i + 1) h) = ap (λ (es : List Entry). reverse es) (sym whole.1) ∙ reverse-append (take (i + 1) h) whole.0 in
-    let up_to : IsLegalPast def (reverse (take (i + 1) h)) = older_legal def (reverse whole.0) (reverse (take (i + 1) h)) (subst (λ (es : List Entry). IsLegalPast def es) back legal) in
+    let back : reverse h ≡ reverse whole.0 ++ reverse (take (i + 1) h)
+    = ap (λ (es : List Entry). reverse es) (sym whole.1) ∙ reverse-append (take (i + 1) h) whole.0 in
+    let up_to : IsLegalPast def (reverse (take (i + 1) h))
+    = older_legal def (reverse whole.0) (reverse (take (i + 1) h))
+    (subst (λ (es : List Entry). IsLegalPast def es) back legal) in
     (subst (λ (es : List Entry). IsLegalPast def es) (past_more h i e at) up_to).0
 
 -- ---- the lengths of the lines
 
-pub line_seen : {X : Type 0} (f : X → LineSeen) (xs : List X) (k : ℕ) (x : X) → k < length xs → x ≡ get_or xs k x → slice_get (board_lines (map f xs)) k ≡ Some (board_line (f x))
+pub line_seen : {X : Type 0} (f : X → LineSeen) (xs : List X) (k : ℕ) (x : X) → k < length xs → x ≡ get_or xs k x
+    → slice_get (board_lines (map f xs)) k ≡ Some (board_line (f x))
 line_seen f xs k x within is = map_there board_line (map f xs) k (f x) (seen_at f xs k x within is)
 
 pub record LengthsTo (lines : List LineSeen) (n : ℕ) (lengths : List ℕ) : Type 0 where
@@ -218,7 +243,8 @@ pub record LengthsTo (lines : List LineSeen) (n : ℕ) (lengths : List ℕ) : Ty
 pub no_lengths : (lines : List LineSeen) (lengths : List ℕ) → length lengths ≡ 64 → LengthsTo lines 0 lengths
 no_lengths lines lengths all = record { all = all; each = λ k x less. absurd (omega (arith, less)) }
 
-pub one_length : (lines : List LineSeen) (n : ℕ) (x : LineSeen) (lengths new : List ℕ) → slice_get lines n ≡ Some x → n < 64 → new ≡ slice_set lengths n (length x.entries) → LengthsTo lines n lengths → LengthsTo lines (n + 1) new
+pub one_length : (lines : List LineSeen) (n : ℕ) (x : LineSeen) (lengths new : List ℕ) → slice_get lines n ≡ Some x
+    → n < 64 → new ≡ slice_set lengths n (length x.entries) → LengthsTo lines n lengths → LengthsTo lines (n + 1) new
 one_length lines n x lengths new at few is so =
     subst (λ (ls : List ℕ). LengthsTo lines (n + 1) ls) (sym is)
     (record { all = length-set lengths n (length x.entries) ∙ so.all; each = each })
@@ -238,7 +264,9 @@ all_lengths lines lengths n end so = record { all = so.all; each = λ k x at. (l
 
 pub walk_now : (lines : List LineSeen) (lengths order : List ℕ) → length lines ≤ 64 → AreLengths lines lengths → order ≡ [] → IsWalk lengths order lines
 walk_now lines lengths order few are none =
-    subst (λ (ks : List ℕ). IsWalk lengths ks lines) (sym none) (walk_fresh lengths lines few are.all (λ k x at. get_or_from_slice_get lengths k (length x.entries) 0 (are.each k x at)))
+    subst (λ (ks : List ℕ). IsWalk lengths ks lines) (sym none)
+    (walk_fresh lengths lines few are.all (λ k x at. get_or_from_slice_get lengths k (length x.entries) 0
+    (are.each k x at)))
 
 -- ---- the whole system
 
@@ -260,7 +288,9 @@ module _ (board : BoardSeen) (isb : IsBoard board) (lines : List LineSeen) (k : 
     here = map (λ (x : BoardLine). x.def) (board_lines lines)
 
     its_cut : calls_of s.calls ≡ cut here s.driver board.calls
-    its_cut = is.cut ∙ (ap (λ (cs : List ScriptCall). cut (defs_of board) s.driver cs) (all_taken board.calls (length board.calls) (omega arith)) ∙ ap (λ (ds : List LineDef). cut ds s.driver board.calls) (sym k.defs))
+    its_cut = is.cut ∙ (ap (λ (cs : List ScriptCall). cut (defs_of board) s.driver cs)
+        (all_taken board.calls (length board.calls) (omega arith))
+        ∙ ap (λ (ds : List LineDef). cut ds s.driver board.calls) (sym k.defs))
 
     -- the place up to which the driver's calls are complete, in the scripts and in its own
     whole : (place : ℕ) × IsUpTo board.calls (board_lines lines) s.driver place
@@ -286,12 +316,15 @@ module _ (board : BoardSeen) (isb : IsBoard board) (lines : List LineSeen) (k : 
     up : IsUpTo (calls_of s.calls) (board_lines lines) s.driver (s.at + sum_by (completed_on s.driver) (board_lines lines))
     up =
         subst (λ (n : ℕ). IsUpTo (calls_of s.calls) (board_lines lines) s.driver n) (sym at_is)
-        (subst (λ (cs : List ScriptCall). IsUpTo cs (board_lines lines) s.driver own_place) (sym its_cut) (cut_up_to (board_lines lines) apart s.driver board.calls whole.0 whole.1))
+        (subst (λ (cs : List ScriptCall). IsUpTo cs (board_lines lines) s.driver own_place) (sym its_cut)
+        (cut_up_to (board_lines lines) apart s.driver board.calls whole.0 whole.1))
 
     line_is : (x : PlacedCall) (i : ℕ) → slice_get s.calls i ≡ Some x → IsSomeAnd (slice_get (board_lines lines) x.place) (λ y. y.def.line ≡ x.call.line)
-    line_is x i at = number_back (board_lines lines) x.place x.call.line (ap (λ (ds : List LineDef). slice_get (numbers_of_defs ds) x.place) k.defs ∙ is.places i x at)
+    line_is x i at = number_back (board_lines lines) x.place x.call.line
+        (ap (λ (ds : List LineDef). slice_get (numbers_of_defs ds) x.place) k.defs ∙ is.places i x at)
 
-    module _ (x : PlacedCall) (y : BoardLine) (at : slice_get s.calls (placed (board_lines lines) s).at ≡ Some x) (there_y : slice_get (board_lines lines) x.place ≡ Some y) where
+    module _ (x : PlacedCall) (y : BoardLine) (at : slice_get s.calls (placed (board_lines lines) s).at ≡ Some x)
+        (there_y : slice_get (board_lines lines) x.place ≡ Some y) where
       of_line : y.def.line ≡ x.call.line
       of_line = subst (λ (o : Option BoardLine). IsSomeAnd o (λ z. z.def.line ≡ x.call.line)) there_y (line_is x (placed (board_lines lines) s).at at)
 
@@ -307,7 +340,8 @@ module _ (board : BoardSeen) (isb : IsBoard board) (lines : List LineSeen) (k : 
           by_due (Some (c, zero)) is_due = omega arith
           by_due (Some (c, suc n)) is_due =
               let on : IsCallOn z.def.line s.driver x.call =
-              subst (λ (o : Option ScriptCall). IsSomeAnd o (IsCallOn z.def.line s.driver)) (call_there s.calls (placed (board_lines lines) s).at x at) (up.begun i z c n at_z is_due) in
+              subst (λ (o : Option ScriptCall). IsSomeAnd o (IsCallOn z.def.line s.driver))
+              (call_there s.calls (placed (board_lines lines) s).at x at) (up.begun i z c n at_z is_due) in
               let same : z ≡ y = the_line (board_lines lines) apart i x.place z y at_z there_y (sym on.0 ∙ sym of_line) in
               let e : made_on s.driver z ≡ suc n = ap made_of is_due in
               let f : made_on s.driver z ≡ made_on s.driver y = ap (λ (w : BoardLine). made_on s.driver w) same in
@@ -351,4 +385,6 @@ module _ (board : BoardSeen) (isb : IsBoard board) (lines : List LineSeen) (k : 
             let b = length-map scripts (λ (s : ScriptSeen). s.driver) in
             let c = ap (λ (ds : List DriverNo). length ds) its.drivers in
             let s = there scripts j (omega (arith, within, a, b, c)) in
-            subst (λ (u : ScriptSeen). IsScript board.calls (board_lines lines) u) (the_same (placed (board_lines lines) s.0) t (sym (its.each j s.0 s.1) ∙ at)) (placed_script s.0 (are.each j s.0 s.1))
+            subst (λ (u : ScriptSeen). IsScript board.calls (board_lines lines) u)
+            (the_same (placed (board_lines lines) s.0) t (sym (its.each j s.0 s.1) ∙ at))
+            (placed_script s.0 (are.each j s.0 s.1))

@@ -1,5 +1,6 @@
 -- The numbers of a board's lines and of its drivers rise.
-use Rattle.std.proofs.Common.{◌≡◌, ℕ, zero, suc, ◌+◌, ◌<◌, ◌≤◌, ◌⊎◌, inl, inr, Bool, true, false, cond, Some, List, [], ◌∷◌, ◌++◌, map, length, get_or, take, slice_get, refl, sym, ap, ◌∙◌, subst, arith}
+use Rattle.std.proofs.Common.{◌≡◌, ℕ, zero, suc, ◌+◌, ◌<◌, ◌≤◌, ◌⊎◌, inl, inr, Bool, true, false, cond, Some, List, []}
+use Rattle.std.proofs.Common.{◌∷◌, ◌++◌, map, length, get_or, take, slice_get, refl, sym, ap, ◌∙◌, subst, arith}
 use Rattle.std.proofs.Math.ListN.{length-map}
 use Rattle.std.proofs.lemmas.Option.{get_or_from_slice_get, slice_get_within}
 use Rattle.irq_base.specs.declared.lines.LineDef.{LineDef}
@@ -20,7 +21,8 @@ use Rattle.board_core.proofs.MadeOf.{taken, map_more}
 use Rattle.board_core.proofs.Searches.{there}
 use Rattle.board_core.proofs.TurnLaws.{map_there, rising_below}
 
-module _ {A : Type 0} (key : A → ℕ) (xs : List A) (below : (i j : ℕ) (x y : A) → slice_get xs i ≡ Some x → slice_get xs j ≡ Some y → i < j → key x < key y) where
+module _ {A : Type 0} (key : A → ℕ) (xs : List A) (below : (i j : ℕ) (x y : A) → slice_get xs i ≡ Some x
+    → slice_get xs j ≡ Some y → i < j → key x < key y) where
   at_key : (i : ℕ) (x : A) → slice_get xs i ≡ Some x → get_or (map key xs) i 0 ≡ key x
   at_key i x at = get_or_from_slice_get (map key xs) i (key x) 0 (map_there key xs i x at)
 
@@ -41,29 +43,40 @@ module _ {A : Type 0} (key : A → ℕ) (xs : List A) (below : (i j : ℕ) (x y 
   rising_map i j le within = before i j (two_ways i j le) (let n = length-map xs key in omega (arith, within, n))
 
 -- each definition is made of one of the rows
-row_of : (b : BoardSeen) (rows : List LineRow) (places : List Placement) (i : ℕ) (d : LineDef) → slice_get (map (line_of_row b) (mapped rows places)) i ≡ Some d → (k : ℕ) × (r : LineRow) × (slice_get rows k ≡ Some r) × (r.line.0 ≡ d.line.0)
+row_of : (b : BoardSeen) (rows : List LineRow) (places : List Placement) (i : ℕ) (d : LineDef)
+    → slice_get (map (line_of_row b) (mapped rows places)) i ≡ Some d
+    → (k : ℕ) × (r : LineRow) × (slice_get rows k ≡ Some r) × (r.line.0 ≡ d.line.0)
 row_of b [] places i d at = cc
 row_of b (row ∷ rows) [] i d at = cc
 row_of b (row ∷ rows) (place ∷ places) i d at = by_test (is_mapped place) i at (row_of b rows places)
   where
-    further : (k : ℕ) × (r : LineRow) × (slice_get rows k ≡ Some r) × (r.line.0 ≡ d.line.0) → (k : ℕ) × (r : LineRow) × (slice_get (row ∷ rows) k ≡ Some r) × (r.line.0 ≡ d.line.0)
+    further : (k : ℕ) × (r : LineRow) × (slice_get rows k ≡ Some r) × (r.line.0 ≡ d.line.0)
+        → (k : ℕ) × (r : LineRow) × (slice_get (row ∷ rows) k ≡ Some r) × (r.line.0 ≡ d.line.0)
     further h = (suc h.0, h.1, h.2, h.3)
 
     by_test : (m : Bool) (i : ℕ) → slice_get (map (line_of_row b) (cond m (row ∷ mapped rows places) (mapped rows places))) i ≡ Some d
-        → ((i : ℕ) (d : LineDef) → slice_get (map (line_of_row b) (mapped rows places)) i ≡ Some d → (k : ℕ) × (r : LineRow) × (slice_get rows k ≡ Some r) × (r.line.0 ≡ d.line.0))
+        → ((i : ℕ) (d : LineDef) → slice_get (map (line_of_row b) (mapped rows places)) i ≡ Some d
+        → (k : ℕ) × (r : LineRow) × (slice_get rows k ≡ Some r) × (r.line.0 ≡ d.line.0))
         → (k : ℕ) × (r : LineRow) × (slice_get (row ∷ rows) k ≡ Some r) × (r.line.0 ≡ d.line.0)
     by_test true zero at deeper = (0, row, refl, ap (λ (e : LineDef). e.line.0) (the_same (line_of_row b row) d at))
     by_test true (suc i) at deeper = further (deeper i d at)
     by_test false i at deeper = further (deeper i d at)
 
-defs_rise : (b : BoardSeen) (rows : List LineRow) (places : List Placement) → Rises (λ (row : LineRow). row.line.0) rows → (i j : ℕ) (d e : LineDef) → slice_get (map (line_of_row b) (mapped rows places)) i ≡ Some d
+defs_rise : (b : BoardSeen) (rows : List LineRow) (places : List Placement) → Rises (λ (row : LineRow). row.line.0) rows
+    → (i j : ℕ) (d e : LineDef) → slice_get (map (line_of_row b) (mapped rows places)) i ≡ Some d
     → slice_get (map (line_of_row b) (mapped rows places)) j ≡ Some e → i < j → d.line.0 < e.line.0
 defs_rise b [] places rises i j d e at_i at_j less = cc
 defs_rise b (row ∷ rows) [] rises i j d e at_i at_j less = cc
-defs_rise b (row ∷ rows) (place ∷ places) rises i j d e at_i at_j less = by_test (is_mapped place) i j at_i at_j less (defs_rise b rows places (rises_on (λ (row : LineRow). row.line.0) row rows rises))
+defs_rise b (row ∷ rows) (place ∷ places) rises i j d e at_i at_j less
+    = by_test (is_mapped place) i j at_i at_j less (defs_rise b rows places
+    (rises_on (λ (row : LineRow). row.line.0) row rows rises))
   where
-    by_test : (m : Bool) (i j : ℕ) → slice_get (map (line_of_row b) (cond m (row ∷ mapped rows places) (mapped rows places))) i ≡ Some d → slice_get (map (line_of_row b) (cond m (row ∷ mapped rows places) (mapped rows places))) j ≡ Some e → i < j
-        → ((i j : ℕ) (d e : LineDef) → slice_get (map (line_of_row b) (mapped rows places)) i ≡ Some d → slice_get (map (line_of_row b) (mapped rows places)) j ≡ Some e → i < j → d.line.0 < e.line.0) → d.line.0 < e.line.0
+    by_test : (m : Bool) (i j : ℕ) → slice_get (map (line_of_row b)
+        (cond m (row ∷ mapped rows places) (mapped rows places))) i ≡ Some d
+        → slice_get (map (line_of_row b) (cond m (row ∷ mapped rows places) (mapped rows places))) j ≡ Some e → i < j
+        → ((i j : ℕ) (d e : LineDef) → slice_get (map (line_of_row b) (mapped rows places)) i ≡ Some d
+        → slice_get (map (line_of_row b) (mapped rows places)) j ≡ Some e → i < j → d.line.0 < e.line.0)
+        → d.line.0 < e.line.0
     by_test true i zero at_i at_j less deeper = absurd (omega (arith, less))
     by_test true zero (suc j) at_i at_j less deeper =
         let o = row_of b rows places j e at_j in
@@ -76,14 +89,19 @@ defs_rise b (row ∷ rows) (place ∷ places) rises i j d e at_i at_j less = by_
 
 pub rising_lines : (board : BoardSeen) → IsBoard board → (numbers : List ℕ) → numbers ≡ numbers_of_defs (defs_of board) → IsRising numbers
 rising_lines board isb numbers is =
-    subst IsRising (sym is) (rising_map (λ (d : LineDef). d.line.0) (defs_of board) (λ i j d e at_i at_j less. defs_rise board board.lines (layout_of board) (λ k row at. (isb.lines k row at).rises) i j d e at_i at_j less))
+    subst IsRising (sym is) (rising_map (λ (d : LineDef). d.line.0) (defs_of board)
+    (λ i j d e at_i at_j less. defs_rise board board.lines (layout_of board)
+    (λ k row at. (isb.lines k row at).rises) i j d e at_i at_j less))
 
 pub rising_drivers : (board : BoardSeen) → IsBoard board → (numbers : List ℕ) → numbers ≡ numbers_of_drivers board.drivers → IsRising numbers
 rising_drivers board isb numbers is =
-    subst IsRising (sym is) (rising_map (λ (r : DriverNo). r.0) board.drivers (λ i j r s at_i at_j less. rising_below board.drivers (λ k d at. (isb.drivers k d at).rises) i j r s at_i at_j less))
+    subst IsRising (sym is) (rising_map (λ (r : DriverNo). r.0) board.drivers
+    (λ i j r s at_i at_j less. rising_below board.drivers (λ k d at. (isb.drivers k d at).rises) i j r s at_i at_j
+    less))
 
 -- a number above all before place i, and below all from i on, stands nowhere in the list
-pub not_there : (numbers : List ℕ) (n i : ℕ) → ((k : ℕ) → k < i → get_or numbers k 0 < n) → ((k : ℕ) → i ≤ k → k < length numbers → n < get_or numbers k 0) → (k : ℕ) → slice_get numbers k ≡ Some n → ⊥
+pub not_there : (numbers : List ℕ) (n i : ℕ) → ((k : ℕ) → k < i → get_or numbers k 0 < n)
+    → ((k : ℕ) → i ≤ k → k < length numbers → n < get_or numbers k 0) → (k : ℕ) → slice_get numbers k ≡ Some n → ⊥
 not_there numbers n i below above k at = by_side (side k i)
   where
     is : get_or numbers k 0 ≡ n
@@ -98,11 +116,17 @@ not_there numbers n i below above k at = by_side (side k i)
 
 -- ---- the numbers, one after another
 
-pub driver_pushed : (drivers : List DriverNo) (i : ℕ) (r : DriverNo) (numbers now : List ℕ) → slice_get drivers i ≡ Some r → numbers ≡ numbers_of_drivers (take i drivers) → now ≡ numbers ++ r.0 ∷ [] → now ≡ numbers_of_drivers (take (i + 1) drivers)
+pub driver_pushed : (drivers : List DriverNo) (i : ℕ) (r : DriverNo) (numbers now : List ℕ)
+    → slice_get drivers i ≡ Some r → numbers ≡ numbers_of_drivers (take i drivers) → now ≡ numbers ++ r.0 ∷ []
+    → now ≡ numbers_of_drivers (take (i + 1) drivers)
 driver_pushed drivers i r numbers now at is push =
-    push ∙ (ap (λ (ns : List ℕ). ns ++ r.0 ∷ []) is ∙ sym (ap (λ (rs : List DriverNo). numbers_of_drivers rs) (taken drivers i r at) ∙ map_more (λ (r : DriverNo). r.0) (take i drivers) r))
+    push ∙ (ap (λ (ns : List ℕ). ns ++ r.0 ∷ []) is ∙ sym
+    (ap (λ (rs : List DriverNo). numbers_of_drivers rs) (taken drivers i r at)
+    ∙ map_more (λ (r : DriverNo). r.0) (take i drivers) r))
 
-pub line_pushed : (lines : List LineSeen) (i : ℕ) (x : LineSeen) (def : LineDef) (numbers now : List ℕ) → slice_get lines i ≡ Some x → def ≡ x.def → numbers ≡ numbers_of_lines (take i lines) → now ≡ numbers ++ def.line.0 ∷ [] → now ≡ numbers_of_lines (take (i + 1) lines)
+pub line_pushed : (lines : List LineSeen) (i : ℕ) (x : LineSeen) (def : LineDef) (numbers now : List ℕ)
+    → slice_get lines i ≡ Some x → def ≡ x.def → numbers ≡ numbers_of_lines (take i lines)
+    → now ≡ numbers ++ def.line.0 ∷ [] → now ≡ numbers_of_lines (take (i + 1) lines)
 line_pushed lines i x def numbers now at same is push =
     push
     ∙ (ap (λ (d : LineDef). numbers ++ d.line.0 ∷ []) same ∙ (ap (λ (ns : List ℕ). ns ++ x.def.line.0 ∷ []) is

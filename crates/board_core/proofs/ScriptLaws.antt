@@ -1,5 +1,7 @@
 -- Where a script stands, and what a move makes of it.
-use Rattle.std.proofs.Common.{◌≡◌, ℕ, zero, suc, ◌+◌, ◌<◌, ◌≤◌, ◌==◌, Bool, true, false, ◌&&◌, is_some, cond, IsSomeAnd, Option, Some, None, List, [], ◌∷◌, map, filter, min, take, slice_get, refl, sym, ap, ◌∙◌, subst, arith, add-one}
+use Rattle.std.proofs.Common.{◌≡◌, ℕ, zero, suc, ◌+◌, ◌<◌, ◌≤◌, ◌==◌, Bool, true, false, ◌&&◌, is_some, cond, IsSomeAnd}
+use Rattle.std.proofs.Common.{Option, Some, None, List, [], ◌∷◌, map, filter, min, take, slice_get, refl, sym, ap, ◌∙◌}
+use Rattle.std.proofs.Common.{subst, arith, add-one}
 use Rattle.irq_base.specs.declared.calls.Call.{Call}
 use Rattle.irq_base.specs.declared.entries.Actor.TheVariants as actors
 use Rattle.irq_base.specs.declared.lines.LineDef.{LineDef}
@@ -45,7 +47,8 @@ abbrev pub line_of_step : List BoardLine → Option PlacedCall → Option BoardL
 line_of_step lines None = None
 line_of_step lines (Some x) = slice_get lines x.place
 
-module _ (calls : List ScriptCall) (lines : List BoardLine) (apart : AreApart (map (λ (x : BoardLine). x.def) lines)) (s : ScriptSeen) (is : IsScript calls lines s) where
+module _ (calls : List ScriptCall) (lines : List BoardLine) (apart : AreApart (map (λ (x : BoardLine). x.def) lines))
+    (s : ScriptSeen) (is : IsScript calls lines s) where
   passed : (y : BoardLine) → IsThe lines y → calls_on y.def.line s.driver [] + calls_on y.def.line s.driver (take s.at (calls_of s.calls)) ≤ done y s.driver
   passed y the =
       let f = found lines y.def.line y the in
@@ -53,14 +56,17 @@ module _ (calls : List ScriptCall) (lines : List BoardLine) (apart : AreApart (m
       omega (arith, e)
 
   mine : (i : ℕ) (x : PlacedCall) → slice_get s.calls i ≡ Some x → same_driver s.driver x.call.driver ≡ true
-  mine i x at = (cut_mine (map (λ (x : BoardLine). x.def) lines) s.driver calls i x.call (ap (λ (cs : List ScriptCall). slice_get cs i) (sym is.cut) ∙ call_there s.calls i x at)).0
+  mine i x at = (cut_mine (map (λ (x : BoardLine). x.def) lines) s.driver calls i x.call
+      (ap (λ (cs : List ScriptCall). slice_get cs i) (sym is.cut) ∙ call_there s.calls i x at)).0
 
   by_cut : current_line calls lines s.driver ≡ current_from lines s.driver [] (calls_of s.calls)
   by_cut = current_cut lines s.driver calls ∙ ap (λ (cs : List ScriptCall). current_from lines s.driver [] cs) (sym is.cut)
 
-  at_step : (x : PlacedCall) (y : BoardLine) → slice_get s.calls s.at ≡ Some x → slice_get lines x.place ≡ Some y → y.def.line ≡ x.call.line → current_from lines s.driver [] (calls_of s.calls) ≡ Some y
+  at_step : (x : PlacedCall) (y : BoardLine) → slice_get s.calls s.at ≡ Some x → slice_get lines x.place ≡ Some y
+      → y.def.line ≡ x.call.line → current_from lines s.driver [] (calls_of s.calls) ≡ Some y
   at_step x y at there line =
-      is_current lines s.driver [] (calls_of s.calls) s.at x.call y passed (call_there s.calls s.at x at) (mine s.at x at) (sym line) (find_there lines apart x.place y there)
+      is_current lines s.driver [] (calls_of s.calls) s.at x.call y passed (call_there s.calls s.at x at)
+      (mine s.at x at) (sym line) (find_there lines apart x.place y there)
       (let e = is.up_to.complete x.place y there in omega (arith, e))
 
   pub line_of : (x : PlacedCall) (y : BoardLine) → slice_get s.calls s.at ≡ Some x → slice_get lines x.place ≡ Some y → y.def.line ≡ x.call.line
@@ -74,10 +80,12 @@ module _ (calls : List ScriptCall) (lines : List BoardLine) (apart : AreApart (m
       let f = found lines y.def.line y k.found in
       let more : k.place < s.at = before_end s.calls k.place s.at k.call k.at end in
       let on : is_on y.def.line s.driver k.call ≡ true =
-      ap (λ (l : LineNo). same_line l y.def.line && same_driver s.driver k.call.driver) k.line ∙ (ap (λ (b : Bool). b && same_driver s.driver k.call.driver) (same_self_line y.def.line) ∙ k.mine) in
+      ap (λ (l : LineNo). same_line l y.def.line && same_driver s.driver k.call.driver) k.line
+      ∙ (ap (λ (b : Bool). b && same_driver s.driver k.call.driver) (same_self_line y.def.line) ∙ k.mine) in
       let longer : calls_on y.def.line s.driver (take (suc k.place) (calls_of s.calls)) ≡ calls_on y.def.line s.driver (take k.place (calls_of s.calls)) + 1 =
       one_longer y.def.line s.driver (calls_of s.calls) k.place k.call k.at
-      ∙ ap (λ (b : Bool). cond b (calls_on y.def.line s.driver (take k.place (calls_of s.calls)) + 1) (calls_on y.def.line s.driver (take k.place (calls_of s.calls)))) on in
+      ∙ ap (λ (b : Bool). cond b (calls_on y.def.line s.driver (take k.place (calls_of s.calls)) + 1)
+      (calls_on y.def.line s.driver (take k.place (calls_of s.calls)))) on in
       let le = fewer y.def.line s.driver (calls_of s.calls) (suc k.place) s.at (omega (arith, more)) in
       let e = is.up_to.complete f.place y f.at in
       let waits : done y s.driver ≤ calls_on y.def.line s.driver [] + calls_on y.def.line s.driver (take k.place (calls_of s.calls)) = k.waits in
@@ -87,12 +95,14 @@ module _ (calls : List ScriptCall) (lines : List BoardLine) (apart : AreApart (m
   script_line None end = by_cut ∙ at_end end (current_from lines s.driver [] (calls_of s.calls)) refl
   script_line (Some x) at = by_line (slice_get lines x.place) refl (is.places s.at x at)
     where
-      by_line : (o : Option BoardLine) → slice_get lines x.place ≡ o → IsSomeAnd o (λ y. y.def.line ≡ x.call.line) → current_line calls lines s.driver ≡ slice_get lines x.place
+      by_line : (o : Option BoardLine) → slice_get lines x.place ≡ o → IsSomeAnd o (λ y. y.def.line ≡ x.call.line)
+          → current_line calls lines s.driver ≡ slice_get lines x.place
       by_line None there line = absurd line
       by_line (Some y) there line = by_cut ∙ (at_step x y at there line ∙ sym there)
 
   -- the current call, at the script's place
-  pub at_place : (x : PlacedCall) (y : BoardLine) → slice_get s.calls s.at ≡ Some x → slice_get lines x.place ≡ Some y → Current lines s.driver [] (calls_of s.calls) y
+  pub at_place : (x : PlacedCall) (y : BoardLine) → slice_get s.calls s.at ≡ Some x → slice_get lines x.place ≡ Some y
+      → Current lines s.driver [] (calls_of s.calls) y
   at_place x y at there =
       record {
         place = s.at;
@@ -107,16 +117,24 @@ module _ (calls : List ScriptCall) (lines : List BoardLine) (apart : AreApart (m
 
 -- ---- which call is due at a place
 
-pub due_there : (calls : List ScriptCall) (lines : List BoardLine) → HaveCalls calls lines → AreApart (map (λ (x : BoardLine). x.def) lines) → (r : DriverNo) (steps : List PlacedCall) → calls_of steps ≡ cut (map (λ (x : BoardLine). x.def) lines) r calls
-    → (p : ℕ) → IsUpTo (calls_of steps) lines r p → (x : PlacedCall) (y : BoardLine) → slice_get steps p ≡ Some x → slice_get lines x.place ≡ Some y → y.def.line ≡ x.call.line → (n : ℕ) × (due_call y.def r y.past ≡ Some (x.call.call, n))
+pub due_there : (calls : List ScriptCall) (lines : List BoardLine) → HaveCalls calls lines
+    → AreApart (map (λ (x : BoardLine). x.def) lines) → (r : DriverNo) (steps : List PlacedCall)
+    → calls_of steps ≡ cut (map (λ (x : BoardLine). x.def) lines) r calls
+    → (p : ℕ) → IsUpTo (calls_of steps) lines r p → (x : PlacedCall) (y : BoardLine) → slice_get steps p ≡ Some x
+    → slice_get lines x.place ≡ Some y → y.def.line ≡ x.call.line
+    → (n : ℕ) × (due_call y.def r y.past ≡ Some (x.call.call, n))
 due_there calls lines have apart r steps is p u x y at there line =
     let ds : List LineDef = map (λ (x : BoardLine). x.def) lines in
-    let part : takes_part ds y.def.line ≡ true = part_found lines y.def.line ∙ ap (λ (o : Option BoardLine). is_some o) (find_there lines apart x.place y there) in
+    let part : takes_part ds y.def.line ≡ true = part_found lines y.def.line
+    ∙ ap (λ (o : Option BoardLine). is_some o) (find_there lines apart x.place y there) in
     let in_cut : slice_get (cut ds r calls) p ≡ Some x.call = ap (λ (cs : List ScriptCall). slice_get cs p) (sym is) ∙ call_there steps p x at in
     let kth = kth_call ds r y.def.line part calls p x.call in_cut (sym line) in
-    let count : done y r ≡ calls_on y.def.line r (take p (cut ds r calls)) = u.complete x.place y there ∙ ap (λ (cs : List ScriptCall). calls_on y.def.line r (take p cs)) is in
+    let count : done y r ≡ calls_on y.def.line r (take p (cut ds r calls)) = u.complete x.place y there
+    ∙ ap (λ (cs : List ScriptCall). calls_on y.def.line r (take p cs)) is in
     kth_is_due y.def r y.past x.call.call
-    (ap (λ (n : ℕ). slice_get (calls_by r y.def.calls) n) count ∙ (ap (λ (cs : List (DriverNo × Call)). slice_get (calls_by r cs) (calls_on y.def.line r (take p (cut ds r calls)))) (have x.place y there) ∙ kth))
+    (ap (λ (n : ℕ). slice_get (calls_by r y.def.calls) n) count
+    ∙ (ap (λ (cs : List (DriverNo × Call)). slice_get (calls_by r cs)
+    (calls_on y.def.line r (take p (cut ds r calls)))) (have x.place y there) ∙ kth))
 
 -- ---- a move
 
@@ -132,11 +150,13 @@ module _ (calls : List ScriptCall) (lines : List BoardLine) (m : Move) where
   after_at (y ∷ ys) zero x at = ap (λ (z : BoardLine). Some (line_after m z)) (the_same y x at)
   after_at (y ∷ ys) (suc i) x at = after_at ys i x at
 
-  places_after : (steps : List PlacedCall) → ((i : ℕ) (x : PlacedCall) → slice_get steps i ≡ Some x → IsSomeAnd (slice_get lines x.place) (λ y. y.def.line ≡ x.call.line))
+  places_after : (steps : List PlacedCall) → ((i : ℕ) (x : PlacedCall) → slice_get steps i ≡ Some x
+      → IsSomeAnd (slice_get lines x.place) (λ y. y.def.line ≡ x.call.line))
       → (i : ℕ) (x : PlacedCall) → slice_get steps i ≡ Some x → IsSomeAnd (slice_get (lines_after m lines) x.place) (λ y. y.def.line ≡ x.call.line)
   places_after steps places i x at = by_line (slice_get lines x.place) refl (places i x at)
     where
-      by_line : (o : Option BoardLine) → slice_get lines x.place ≡ o → IsSomeAnd o (λ y. y.def.line ≡ x.call.line) → IsSomeAnd (slice_get (lines_after m lines) x.place) (λ y. y.def.line ≡ x.call.line)
+      by_line : (o : Option BoardLine) → slice_get lines x.place ≡ o → IsSomeAnd o (λ y. y.def.line ≡ x.call.line)
+          → IsSomeAnd (slice_get (lines_after m lines) x.place) (λ y. y.def.line ≡ x.call.line)
       by_line None there line = absurd line
       by_line (Some y) there line = subst (λ (o : Option BoardLine). IsSomeAnd o (λ y. y.def.line ≡ x.call.line)) (sym (after_at lines x.place y there)) line
 
@@ -153,18 +173,24 @@ module _ (calls : List ScriptCall) (lines : List BoardLine) (m : Move) where
       same_due x true = no_more x.def s.driver m.1 x.past other
       same_due x false = refl
 
-      due : (x : PlacedCall) (y : BoardLine) → slice_get s.calls s.at ≡ Some x → slice_get (lines_after m lines) x.place ≡ Some y → due_call y.def s.driver y.past ≡ Some (x.call.call, s.made)
+      due : (x : PlacedCall) (y : BoardLine) → slice_get s.calls s.at ≡ Some x
+          → slice_get (lines_after m lines) x.place ≡ Some y
+          → due_call y.def s.driver y.past ≡ Some (x.call.call, s.made)
       due x y at there =
           let w = moved_at lines m x.place y there in
-          subst (λ (z : BoardLine). due_call z.def s.driver z.past ≡ Some (x.call.call, s.made)) w.is (same_due w.line (same_line w.line.def.line m.0) ∙ is.due x w.line at w.at)
+          subst (λ (z : BoardLine). due_call z.def s.driver z.past ≡ Some (x.call.call, s.made)) w.is
+          (same_due w.line (same_line w.line.def.line m.0) ∙ is.due x w.line at w.at)
 
   module _ (apart : AreApart (map (λ (x : BoardLine). x.def) lines)) (have : HaveCalls calls lines) (s : ScriptSeen) (is : IsScript calls lines s)
-      (own : is_by_driver s.driver m.1 ≡ true) (x : PlacedCall) (at : slice_get s.calls s.at ≡ Some x) (y : BoardLine) (there : slice_get lines x.place ≡ Some y) (number : m.0 ≡ y.def.line) (owed : next_past y.def y.past (actors.Driver s.driver) ≡ Some m.1) where
+      (own : is_by_driver s.driver m.1 ≡ true) (x : PlacedCall) (at : slice_get s.calls s.at ≡ Some x) (y : BoardLine)
+      (there : slice_get lines x.place ≡ Some y) (number : m.0 ≡ y.def.line)
+      (owed : next_past y.def y.past (actors.Driver s.driver) ≡ Some m.1) where
     its : current_from lines s.driver [] (calls_of s.calls) ≡ Some y
     its = at_step calls lines apart s is x y at there (line_of calls lines apart s is x y at there)
 
     moved_here : line_after m y ≡ record { def = y.def; past = m.1 ∷ y.past }
-    moved_here = ap (λ (b : Bool). record { def = y.def; past = cond b (m.1 ∷ y.past) y.past }) (ap (λ (l : LineNo). same_line y.def.line l) number ∙ same_self_line y.def.line)
+    moved_here = ap (λ (b : Bool). record { def = y.def; past = cond b (m.1 ∷ y.past) y.past })
+        (ap (λ (l : LineNo). same_line y.def.line l) number ∙ same_self_line y.def.line)
 
     cut_after : calls_of s.calls ≡ cut (map (λ (x : BoardLine). x.def) (lines_after m lines)) s.driver calls
     cut_after = is.cut ∙ ap (λ (ds : List LineDef). cut ds s.driver calls) (sym (defs_moved lines m))
@@ -178,19 +204,25 @@ module _ (calls : List ScriptCall) (lines : List BoardLine) (m : Move) where
         record {
           cut = cut_after;
           places = places_after s.calls is.places;
-          up_to = goes_on (calls_of s.calls) lines apart m s.driver s.at is.up_to y x.place there number (at_place calls lines apart s is x y at there) own its x.call.call s.made now;
+          up_to = goes_on (calls_of s.calls) lines apart m s.driver s.at is.up_to y x.place there number
+              (at_place calls lines apart s is x y at there) own its x.call.call s.made now;
           due = due;
         }
       where
         now : due_call y.def s.driver (m.1 ∷ y.past) ≡ Some (x.call.call, suc s.made)
         now = goes y.def s.driver m.1 y.past x.call.call s.made own (is.due x y at there) last
 
-        due : (z : PlacedCall) (w : BoardLine) → slice_get s.calls s.at ≡ Some z → slice_get (lines_after m lines) z.place ≡ Some w → due_call w.def s.driver w.past ≡ Some (z.call.call, min (s.made + 1) 2)
+        due : (z : PlacedCall) (w : BoardLine) → slice_get s.calls s.at ≡ Some z
+            → slice_get (lines_after m lines) z.place ≡ Some w
+            → due_call w.def s.driver w.past ≡ Some (z.call.call, min (s.made + 1) 2)
         due z w at_z there_w =
             let same : x ≡ z = the_same x z (sym at ∙ at_z) in
-            let here : line_after m y ≡ w = the_same (line_after m y) w (sym (after_at lines x.place y there) ∙ (ap (λ (v : PlacedCall). slice_get (lines_after m lines) v.place) same ∙ there_w)) in
+            let here : line_after m y ≡ w = the_same (line_after m y) w
+            (sym (after_at lines x.place y there) ∙
+            (ap (λ (v : PlacedCall). slice_get (lines_after m lines) v.place) same ∙ there_w)) in
             subst (λ (v : BoardLine). due_call v.def s.driver v.past ≡ Some (z.call.call, min (s.made + 1) 2)) (sym moved_here ∙ here)
-            (now ∙ (ap (λ (v : PlacedCall). Some (v.call.call, suc s.made)) same ∙ ap (λ (n : ℕ). Some (z.call.call, n)) (sym (one_more x.call.call s.made m.1 last))))
+            (now ∙ (ap (λ (v : PlacedCall). Some (v.call.call, suc s.made)) same
+            ∙ ap (λ (n : ℕ). Some (z.call.call, n)) (sym (one_more x.call.call s.made m.1 last))))
 
     goes_past : completes_at x.call.call s.made m.1 ≡ true → IsScript calls (lines_after m lines) (advanced_by true s)
     unfolding at_place
@@ -208,21 +240,30 @@ module _ (calls : List ScriptCall) (lines : List BoardLine) (m : Move) where
         up : IsUpTo (calls_of s.calls) (lines_after m lines) s.driver (s.at + 1)
         up =
             subst (λ (n : ℕ). IsUpTo (calls_of s.calls) (lines_after m lines) s.driver n) (sym (add-one s.at))
-            (is_complete (calls_of s.calls) lines apart m s.driver s.at is.up_to y x.place there number (at_place calls lines apart s is x y at there) own its (x.call.call, s.made) (is.due x y at there) not_now)
+            (is_complete (calls_of s.calls) lines apart m s.driver s.at is.up_to y x.place there number
+            (at_place calls lines apart s is x y at there) own its (x.call.call, s.made) (is.due x y at there)
+            not_now)
 
-        due : (z : PlacedCall) (w : BoardLine) → slice_get s.calls (s.at + 1) ≡ Some z → slice_get (lines_after m lines) z.place ≡ Some w → due_call w.def s.driver w.past ≡ Some (z.call.call, 0)
+        due : (z : PlacedCall) (w : BoardLine) → slice_get s.calls (s.at + 1) ≡ Some z
+            → slice_get (lines_after m lines) z.place ≡ Some w → due_call w.def s.driver w.past ≡ Some (z.call.call, 0)
         due z w at_z there_w =
-            let line : w.def.line ≡ z.call.line = subst (λ (o : Option BoardLine). IsSomeAnd o (λ y. y.def.line ≡ z.call.line)) there_w (places_after s.calls is.places (s.at + 1) z at_z) in
-            let d = due_there calls (lines_after m lines) (have_after have) (subst AreApart (sym (defs_moved lines m)) apart) s.driver s.calls cut_after (s.at + 1) up z w at_z there_w line in
+            let line : w.def.line ≡ z.call.line = subst
+            (λ (o : Option BoardLine). IsSomeAnd o (λ y. y.def.line ≡ z.call.line)) there_w
+            (places_after s.calls is.places (s.at + 1) z at_z) in
+            let d = due_there calls (lines_after m lines) (have_after have)
+            (subst AreApart (sym (defs_moved lines m)) apart) s.driver s.calls cut_after (s.at + 1) up z w at_z
+            there_w line in
             by_count d.0 d.1
           where
             by_count : (n : ℕ) → due_call w.def s.driver w.past ≡ Some (z.call.call, n) → due_call w.def s.driver w.past ≡ Some (z.call.call, 0)
             by_count zero is = is
             by_count (suc n) is_due =
-                absurd (none_begun (calls_of s.calls) lines apart m s.driver s.at is.up_to y x.place there number (at_place calls lines apart s is x y at there) not_now its z.place w z.call.call n there_w is_due)
+                absurd (none_begun (calls_of s.calls) lines apart m s.driver s.at is.up_to y x.place there number
+                (at_place calls lines apart s is x y at there) not_now its z.place w z.call.call n there_w is_due)
 
     pub own_script : IsScript calls (lines_after m lines) (advanced m.1 s)
-    own_script = subst (λ (o : Option PlacedCall). IsScript calls (lines_after m lines) (advanced_at o m.1 s)) (sym at) (by_last (completes x.call.call m.1) refl)
+    own_script = subst (λ (o : Option PlacedCall). IsScript calls (lines_after m lines) (advanced_at o m.1 s)) (sym at)
+        (by_last (completes x.call.call m.1) refl)
       where
         by_last : (b : Bool) → completes x.call.call m.1 ≡ b → IsScript calls (lines_after m lines) (advanced_by b s)
         by_last true last = goes_past (sym its_last ∙ last)

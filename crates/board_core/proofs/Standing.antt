@@ -1,5 +1,6 @@
 -- Where an actor steps, as a system answers it.
-use Rattle.std.proofs.Common.{◌≡◌, ℕ, suc, ◌<◌, ◌==◌, inl, inr, true, false, is_some, Option, Some, None, List, [], ◌∷◌, map, length, get_or, slice_get, refl, sym, ap, ◌∙◌, subst, arith, eq-eqb}
+use Rattle.std.proofs.Common.{◌≡◌, ℕ, suc, ◌<◌, ◌==◌, inl, inr, true, false, is_some, Option, Some, None, List, [], ◌∷◌}
+use Rattle.std.proofs.Common.{map, length, get_or, slice_get, refl, sym, ap, ◌∙◌, subst, arith, eq-eqb}
 use Rattle.std.proofs.Math.ListN.{length-map}
 use Rattle.std.proofs.lemmas.Bool.{leb-true, le-leb, or_cases}
 use Rattle.std.proofs.lemmas.Option.{slice_get_within, slice_get-get_or}
@@ -48,18 +49,28 @@ use Rattle.board_core.proofs.LowestMover.{lowest_says, lowest_is_thread, lowest_
 use Rattle.board_core.proofs.Movers.{some_of, none_of, some_with, not_both, cpu_stands, somebody, thread_moves, thread_ready, script_place}
 use Rattle.board_core.proofs.TurnLaws.{map_there, map_back}
 
-module _ (board : BoardSeen) (isb : IsBoard board) (layout : List Placement) (lines : List LineSeen) (scripts : List ScriptSeen) (order : List ℕ) (parts : Parts) (is : IsKept board lines scripts order parts) (view : SystemSeen) (v : seen_of board layout lines order ≡ view) where
+module _ (board : BoardSeen) (isb : IsBoard board) (layout : List Placement) (lines : List LineSeen)
+    (scripts : List ScriptSeen) (order : List ℕ) (parts : Parts) (is : IsKept board lines scripts order parts)
+    (view : SystemSeen) (v : seen_of board layout lines order ≡ view) where
   abbrev seen : SystemSeen
   seen = seen_of board layout lines order
 
   -- ---- processors
 
-  pub cpu_there : (c : CpuNo) (k : ℕ) (stand : Stand) → Some k ≡ cpu_line parts.ready.lines c.0 → stand ≡ record { line = k; script = None } → IsStand view (actors.Cpu c) (Some stand)
+  pub cpu_there : (c : CpuNo) (k : ℕ) (stand : Stand) → Some k ≡ cpu_line parts.ready.lines c.0
+      → stand ≡ record { line = k; script = None } → IsStand view (actors.Cpu c) (Some stand)
   cpu_there c k stand at same =
       let h = cpu_stands board isb lines scripts is.system parts.ready is.ready c (Some k) at in
       let some = ap (λ (o : Option _). is_some o) h.1.1 in
       subst (λ (s : SystemSeen). IsStand s (actors.Cpu c) (Some stand)) v
-      (subst (λ (t : Stand). IsStand seen (actors.Cpu c) (Some t)) (sym same) (record { line = h.0; script = tt }, record { actor = some; somebody = somebody board isb lines scripts is.system parts.ready is.ready (actors.Cpu c) h.1.0 h.1.1 }))
+      (subst (λ (t : Stand). IsStand seen (actors.Cpu c) (Some t)) (sym same) (
+        record { line = h.0; script = tt },
+        record {
+          actor = some;
+          somebody
+              = somebody board isb lines scripts is.system parts.ready is.ready (actors.Cpu c) h.1.0 h.1.1;
+        },
+      ))
 
   pub cpu_nowhere : (c : CpuNo) → None ≡ cpu_line parts.ready.lines c.0 → IsStand view (actors.Cpu c) None
   cpu_nowhere c at = subst (λ (s : SystemSeen). IsStand s (actors.Cpu c) None) v (cpu_stands board isb lines scripts is.system parts.ready is.ready c None at)
@@ -83,15 +94,19 @@ module _ (board : BoardSeen) (isb : IsBoard board) (layout : List Placement) (li
   part_there : (k : ℕ) (x : LineSeen) → slice_get lines k ≡ Some x → (p : LineReadiness) × (slice_get parts.ready.lines k ≡ Some p) × IsReadinessOf x p
   part_there k x at = some_with (IsReadinessOf x) (slice_get parts.ready.lines k) (is.ready.each_line k x at)
 
-  pub thread_there : (line : LineNo) (d : DevNo) (k : ℕ) (stand : Stand) → slice_get parts.line_numbers k ≡ Some line.0 → has_thread_up_to (slice_get parts.ready.lines k) d ≡ true → stand ≡ record { line = k; script = None } → IsStand view (actors.Thread line d) (Some stand)
+  pub thread_there : (line : LineNo) (d : DevNo) (k : ℕ) (stand : Stand) → slice_get parts.line_numbers k ≡ Some line.0
+      → has_thread_up_to (slice_get parts.ready.lines k) d ≡ true → stand ≡ record { line = k; script = None }
+      → IsStand view (actors.Thread line d) (Some stand)
   thread_there line d k stand at up_to same =
       let x = line_at k line at in
       let p = part_there k x.0 x.1 in
       let h = by_thread x.0 x.1 p.0.thread p.2.thread (ap (λ (o : Option LineReadiness). has_thread_up_to o d) (sym p.1) ∙ up_to) in
       subst (λ (s : SystemSeen). IsStand s (actors.Thread line d) (Some stand)) v
-      (subst (λ (t : Stand). IsStand seen (actors.Thread line d) (Some t)) (sym same) (subst (λ (l : LineNo). IsStand seen (actors.Thread l d) (Some (record { line = k; script = None }))) x.2 h))
+      (subst (λ (t : Stand). IsStand seen (actors.Thread line d) (Some t)) (sym same)
+      (subst (λ (l : LineNo). IsStand seen (actors.Thread l d) (Some (record { line = k; script = None }))) x.2 h))
     where
-      by_thread : (x : LineSeen) → slice_get lines k ≡ Some x → (o : Option DevNo) → IsLowestThread x o → is_up_to d o ≡ true → IsStand seen (actors.Thread x.def.line d) (Some (record { line = k; script = None }))
+      by_thread : (x : LineSeen) → slice_get lines k ≡ Some x → (o : Option DevNo) → IsLowestThread x o
+          → is_up_to d o ≡ true → IsStand seen (actors.Thread x.def.line d) (Some (record { line = k; script = None }))
       by_thread x at None low up_to = cc
       by_thread x at (Some lowest) low up_to =
           let m = thread_moves board isb lines scripts is.system parts.ready is.ready k x lowest at low.0 in (
@@ -103,27 +118,40 @@ module _ (board : BoardSeen) (isb : IsBoard board) (layout : List Placement) (li
           )
 
   -- a thread of a line that it isn't up to, and one of no line
-  pub thread_below : (line : LineNo) (d : DevNo) (k : ℕ) → slice_get parts.line_numbers k ≡ Some line.0 → has_thread_up_to (slice_get parts.ready.lines k) d ≡ false → IsStand view (actors.Thread line d) None
+  pub thread_below : (line : LineNo) (d : DevNo) (k : ℕ) → slice_get parts.line_numbers k ≡ Some line.0
+      → has_thread_up_to (slice_get parts.ready.lines k) d ≡ false → IsStand view (actors.Thread line d) None
   thread_below line d k at above =
       let x = line_at k line at in
       let p = part_there k x.0 x.1 in
       subst (λ (s : SystemSeen). IsStand s (actors.Thread line d) None) v
-      (subst (λ (l : LineNo). IsStand seen (actors.Thread l d) None) x.2 (by_thread x.0 x.1 p.0.thread p.2.thread (ap (λ (o : Option LineReadiness). has_thread_up_to o d) (sym p.1) ∙ above) (next x.0.def x.0.entries (actors.Thread x.0.def.line d)) refl))
+      (subst (λ (l : LineNo). IsStand seen (actors.Thread l d) None) x.2
+      (by_thread x.0 x.1 p.0.thread p.2.thread (ap (λ (o : Option LineReadiness). has_thread_up_to o d) (sym p.1)
+      ∙ above) (next x.0.def x.0.entries (actors.Thread x.0.def.line d)) refl))
     where
-      by_thread : (x : LineSeen) → slice_get lines k ≡ Some x → (o : Option DevNo) → IsLowestThread x o → is_up_to d o ≡ false → (e : Option Entry) → next x.def x.entries (actors.Thread x.def.line d) ≡ e → IsStand seen (actors.Thread x.def.line d) None
+      by_thread : (x : LineSeen) → slice_get lines k ≡ Some x → (o : Option DevNo) → IsLowestThread x o
+          → is_up_to d o ≡ false → (e : Option Entry) → next x.def x.entries (actors.Thread x.def.line d) ≡ e
+          → IsStand seen (actors.Thread x.def.line d) None
       by_thread x at o low above None due =
-          ap (λ (y : Option BoardLine). due_on y (actors.Thread x.def.line d)) (find_there (board_lines lines) apart k (board_line x) (map_there board_line lines k x at)) ∙ ap (λ (y : Option Entry). move_on x.def.line y) due
+          ap (λ (y : Option BoardLine). due_on y (actors.Thread x.def.line d))
+          (find_there (board_lines lines) apart k (board_line x) (map_there board_line lines k x at))
+          ∙ ap (λ (y : Option Entry). move_on x.def.line y) due
       by_thread x at None low above (Some e) due = absurd (low d (ap (λ (y : Option Entry). is_some y) due))
-      by_thread x at (Some lowest) low above (Some e) due = absurd (both_ways (is_up_to d (Some lowest)) (le-leb lowest.0 d.0 (low.1 d (ap (λ (y : Option Entry). is_some y) due))) above)
+      by_thread x at (Some lowest) low above (Some e) due
+          = absurd (both_ways (is_up_to d (Some lowest))
+          (le-leb lowest.0 d.0 (low.1 d (ap (λ (y : Option Entry). is_some y) due))) above)
 
   pub thread_nowhere : (line : LineNo) (d : DevNo) → ((k : ℕ) → slice_get parts.line_numbers k ≡ Some line.0 → ⊥) → IsStand view (actors.Thread line d) None
-  thread_nowhere line d none = subst (λ (s : SystemSeen). IsStand s (actors.Thread line d) None) v (by_move (due_move board (board_lines lines) (actors.Thread line d)) refl)
+  thread_nowhere line d none = subst (λ (s : SystemSeen). IsStand s (actors.Thread line d) None) v
+      (by_move (due_move board (board_lines lines) (actors.Thread line d)) refl)
     where
-      by_move : (o : Option Move) → due_move board (board_lines lines) (actors.Thread line d) ≡ o → due_move board (board_lines lines) (actors.Thread line d) ≡ None
+      by_move : (o : Option Move) → due_move board (board_lines lines) (actors.Thread line d) ≡ o
+          → due_move board (board_lines lines) (actors.Thread line d) ≡ None
       by_move None due = due
       by_move (Some m) due =
           let t = thread_ready board isb lines scripts is.system parts.ready is.ready line d m due in
-          absurd (none t.0 (ap (λ (ns : List ℕ). slice_get ns t.0) is.line_numbers ∙ (map_there (λ (x : LineSeen). x.def.line.0) lines t.0 t.1 t.4 ∙ ap (λ (l : LineNo). Some l.0) (sym t.5))))
+          absurd (none t.0 (ap (λ (ns : List ℕ). slice_get ns t.0) is.line_numbers
+          ∙ (map_there (λ (x : LineSeen). x.def.line.0) lines t.0 t.1 t.4
+          ∙ ap (λ (l : LineNo). Some l.0) (sym t.5))))
 
   -- ---- drivers
 
@@ -132,33 +160,48 @@ module _ (board : BoardSeen) (isb : IsBoard board) (layout : List Placement) (li
       let x = map_back (λ (x : DriverNo). x.0) board.drivers j d.0 (ap (λ (ns : List ℕ). slice_get ns j) (sym is.driver_numbers) ∙ at) in
       x.1 ∙ ap (λ (y : DriverNo). Some y) (driver_from_same x.0 d (eq-eqb x.0.0 d.0 x.2))
 
-  at_script : (j : ℕ) (s : ScriptSeen) (call : CurrentCall) (m : Move) → slice_get scripts j ≡ Some s → current_call parts.ready.drivers j ≡ Some call → due_move board (board_lines lines) (actors.Driver s.driver) ≡ Some m
+  at_script : (j : ℕ) (s : ScriptSeen) (call : CurrentCall) (m : Move) → slice_get scripts j ≡ Some s
+      → current_call parts.ready.drivers j ≡ Some call
+      → due_move board (board_lines lines) (actors.Driver s.driver) ≡ Some m
       → IsStand seen (actors.Driver s.driver) (Some (record { line = call.line; script = Some j }))
   at_script j s call m at called due = (
     record {
-      line = script_place board isb lines scripts is.system parts.ready is.ready j s call at (sym (current_is board isb lines scripts is.system parts.ready is.ready j s at) ∙ called);
+      line = script_place board isb lines scripts is.system parts.ready is.ready j s call at
+          (sym (current_is board isb lines scripts is.system parts.ready is.ready j s at) ∙ called);
       script = ap (λ (ds : List DriverNo). slice_get ds j) (sym is.system.drivers) ∙ map_there (λ (x : ScriptSeen). x.driver) scripts j s at;
     },
-    record { actor = ap (λ (o : Option Move). is_some o) due; somebody = somebody board isb lines scripts is.system parts.ready is.ready (actors.Driver s.driver) m due },
+    record {
+      actor = ap (λ (o : Option Move). is_some o) due;
+      somebody
+          = somebody board isb lines scripts is.system parts.ready is.ready (actors.Driver s.driver) m due;
+    },
   )
 
-  pub driver_there : (d : DriverNo) (j : ℕ) (call : CurrentCall) (stand : Stand) → slice_get parts.driver_numbers j ≡ Some d.0 → is_driver_ready parts.ready j ≡ true → Some call ≡ current_call parts.ready.drivers j → stand ≡ record { line = call.line; script = Some j }
+  pub driver_there : (d : DriverNo) (j : ℕ) (call : CurrentCall) (stand : Stand)
+      → slice_get parts.driver_numbers j ≡ Some d.0 → is_driver_ready parts.ready j ≡ true
+      → Some call ≡ current_call parts.ready.drivers j → stand ≡ record { line = call.line; script = Some j }
       → IsStand view (actors.Driver d) (Some stand)
   driver_there d j call stand at can called same =
       let s = script_of board isb lines scripts is.system parts.ready is.ready j d (driver_at j d at) in
-      let m = some_of (due_move board (board_lines lines) (actors.Driver s.0.driver)) (sym (driver_ready_is board isb lines scripts is.system parts.ready is.ready j s.0 s.1) ∙ can) in
+      let m = some_of (due_move board (board_lines lines) (actors.Driver s.0.driver))
+      (sym (driver_ready_is board isb lines scripts is.system parts.ready is.ready j s.0 s.1) ∙ can) in
       subst (λ (w : SystemSeen). IsStand w (actors.Driver d) (Some stand)) v
       (subst (λ (t : Stand). IsStand seen (actors.Driver d) (Some t)) (sym same)
-      (subst (λ (x : DriverNo). IsStand seen (actors.Driver x) (Some (record { line = call.line; script = Some j }))) s.2 (at_script j s.0 call m.0 s.1 (sym called) m.1)))
+      (subst (λ (x : DriverNo). IsStand seen (actors.Driver x) (Some (record { line = call.line; script = Some j })))
+      s.2 (at_script j s.0 call m.0 s.1 (sym called) m.1)))
 
-  pub driver_waits : (d : DriverNo) (j : ℕ) → slice_get parts.driver_numbers j ≡ Some d.0 → is_driver_ready parts.ready j ≡ false → IsStand view (actors.Driver d) None
+  pub driver_waits : (d : DriverNo) (j : ℕ) → slice_get parts.driver_numbers j ≡ Some d.0
+      → is_driver_ready parts.ready j ≡ false → IsStand view (actors.Driver d) None
   driver_waits d j at waits =
       let s = script_of board isb lines scripts is.system parts.ready is.ready j d (driver_at j d at) in
       subst (λ (w : SystemSeen). IsStand w (actors.Driver d) None) v
-      (subst (λ (x : DriverNo). IsStand seen (actors.Driver x) None) s.2 (none_of (due_move board (board_lines lines) (actors.Driver s.0.driver)) (sym (driver_ready_is board isb lines scripts is.system parts.ready is.ready j s.0 s.1) ∙ waits)))
+      (subst (λ (x : DriverNo). IsStand seen (actors.Driver x) None) s.2
+      (none_of (due_move board (board_lines lines) (actors.Driver s.0.driver))
+      (sym (driver_ready_is board isb lines scripts is.system parts.ready is.ready j s.0 s.1) ∙ waits)))
 
   -- without a current call it isn't ready
-  pub driver_ends : (d : DriverNo) (j : ℕ) → slice_get parts.driver_numbers j ≡ Some d.0 → None ≡ current_call parts.ready.drivers j → IsStand view (actors.Driver d) None
+  pub driver_ends : (d : DriverNo) (j : ℕ) → slice_get parts.driver_numbers j ≡ Some d.0
+      → None ≡ current_call parts.ready.drivers j → IsStand view (actors.Driver d) None
   driver_ends d j at none = driver_waits d j at (ap (λ (o : Option CurrentCall). can_go_on parts.ready.lines o) (sym none))
 
   -- a driver that isn't the board's has no call
@@ -176,16 +219,21 @@ module _ (board : BoardSeen) (isb : IsBoard board) (layout : List Placement) (li
       by_line None its = its
       by_line (Some x) its =
           let k = current (board_lines lines) d [] board.calls x its in
-          let declared : has_driver board.drivers d ≡ true = ap (λ (r : DriverNo). has_driver board.drivers r) (driver_from_same d k.call.driver k.mine) ∙ (isb.calls k.place k.call k.at).driver in
+          let declared : has_driver board.drivers d ≡ true
+          = ap (λ (r : DriverNo). has_driver board.drivers r) (driver_from_same d k.call.driver k.mine)
+          ∙ (isb.calls k.place k.call k.at).driver in
           let p = place_of_driver board.drivers declared in
           absurd (none p.0 (ap (λ (ns : List ℕ). slice_get ns p.0) is.driver_numbers ∙ p.1))
 
   pub driver_nowhere : (d : DriverNo) → ((j : ℕ) → slice_get parts.driver_numbers j ≡ Some d.0 → ⊥) → IsStand view (actors.Driver d) None
-  driver_nowhere d none = subst (λ (w : SystemSeen). IsStand w (actors.Driver d) None) v (ap (λ (o : Option BoardLine). due_on o (actors.Driver d)) (no_call d none))
+  driver_nowhere d none = subst (λ (w : SystemSeen). IsStand w (actors.Driver d) None) v
+      (ap (λ (o : Option BoardLine). due_on o (actors.Driver d)) (no_call d none))
 
   -- ---- the lowest
 
-  pub lowest_thread_stands : (t : ReadyThread) (line : LineNo) (stand : Stand) → Some (readies.Thread t) ≡ lowest parts.ready → slice_get parts.line_numbers t.line ≡ Some line.0 → stand ≡ record { line = t.line; script = None }
+  pub lowest_thread_stands : (t : ReadyThread) (line : LineNo) (stand : Stand)
+      → Some (readies.Thread t) ≡ lowest parts.ready → slice_get parts.line_numbers t.line ≡ Some line.0
+      → stand ≡ record { line = t.line; script = None }
       → IsLowestStand view (Some (actors.Thread line t.dev, stand))
   lowest_thread_stands t line stand is_lowest at same =
       let low = lowest_says parts.ready (Some (readies.Thread t)) is_lowest in
@@ -194,15 +242,21 @@ module _ (board : BoardSeen) (isb : IsBoard board) (layout : List Placement) (li
       let stands : IsLowestStand seen (Some (actors.Thread x.0.def.line t.dev, record { line = t.line; script = None })) =
       (record { line = place_is t.line x.0 x.1; script = tt }, h.2 ∙ sym h.1, ap (λ (o : Option Move). is_some o) h.1) in
       subst (λ (w : SystemSeen). IsLowestStand w (Some (actors.Thread line t.dev, stand))) v
-      (subst (λ (u : Stand). IsLowestStand seen (Some (actors.Thread line t.dev, u))) (sym same) (subst (λ (l : LineNo). IsLowestStand seen (Some (actors.Thread l t.dev, record { line = t.line; script = None }))) x.2 stands))
+      (subst (λ (u : Stand). IsLowestStand seen (Some (actors.Thread line t.dev, u))) (sym same)
+      (subst (λ (l : LineNo). IsLowestStand seen (Some
+      (actors.Thread l t.dev, record { line = t.line; script = None }))) x.2 stands))
 
-  pub lowest_cpu_stands : (c : CpuNo) (k : ℕ) (stand : Stand) → Some (readies.Cpu c) ≡ lowest parts.ready → Some k ≡ cpu_line parts.ready.lines c.0 → stand ≡ record { line = k; script = None } → IsLowestStand view (Some (actors.Cpu c, stand))
+  pub lowest_cpu_stands : (c : CpuNo) (k : ℕ) (stand : Stand) → Some (readies.Cpu c) ≡ lowest parts.ready
+      → Some k ≡ cpu_line parts.ready.lines c.0 → stand ≡ record { line = k; script = None }
+      → IsLowestStand view (Some (actors.Cpu c, stand))
   lowest_cpu_stands c k stand is_lowest at same =
       let low = lowest_says parts.ready (Some (readies.Cpu c)) is_lowest in
       let h = lowest_is_cpu board isb lines scripts is.system parts.ready is.ready c low.0 low.1 in
       let p = cpu_stands board isb lines scripts is.system parts.ready is.ready c (Some k) at in
-      let stands : IsLowestStand seen (Some (actors.Cpu c, record { line = k; script = None })) = (record { line = p.0; script = tt }, h.4 ∙ sym h.3, ap (λ (o : Option Move). is_some o) h.3) in
-      subst (λ (w : SystemSeen). IsLowestStand w (Some (actors.Cpu c, stand))) v (subst (λ (u : Stand). IsLowestStand seen (Some (actors.Cpu c, u))) (sym same) stands)
+      let stands : IsLowestStand seen (Some (actors.Cpu c, record { line = k; script = None }))
+      = (record { line = p.0; script = tt }, h.4 ∙ sym h.3, ap (λ (o : Option Move). is_some o) h.3) in
+      subst (λ (w : SystemSeen). IsLowestStand w (Some (actors.Cpu c, stand))) v
+      (subst (λ (u : Stand). IsLowestStand seen (Some (actors.Cpu c, u))) (sym same) stands)
 
   pub lowest_cpu_there : (c : CpuNo) → Some (readies.Cpu c) ≡ lowest parts.ready → None ≡ cpu_line parts.ready.lines c.0 → IsLowestStand view None
   lowest_cpu_there c is_lowest none =
@@ -210,15 +264,24 @@ module _ (board : BoardSeen) (isb : IsBoard board) (layout : List Placement) (li
       let h = lowest_is_cpu board isb lines scripts is.system parts.ready is.ready c low.0 low.1 in
       absurd (not_both (cpu_line parts.ready.lines c.0) h.1 (sym none) h.2)
 
-  pub lowest_driver_stands : (j : ℕ) (d : DriverNo) (call : CurrentCall) (stand : Stand) → Some (readies.Driver j) ≡ lowest parts.ready → slice_get parts.driver_numbers j ≡ Some d.0 → Some call ≡ current_call parts.ready.drivers j
+  pub lowest_driver_stands : (j : ℕ) (d : DriverNo) (call : CurrentCall) (stand : Stand)
+      → Some (readies.Driver j) ≡ lowest parts.ready → slice_get parts.driver_numbers j ≡ Some d.0
+      → Some call ≡ current_call parts.ready.drivers j
       → stand ≡ record { line = call.line; script = Some j } → IsLowestStand view (Some (actors.Driver d, stand))
   lowest_driver_stands j d call stand is_lowest at called same =
       let low = lowest_says parts.ready (Some (readies.Driver j)) is_lowest in
       let h = lowest_is_driver board isb lines scripts is.system parts.ready is.ready j d low.0 low.1 low.2 (driver_at j d at) in
       let s = script_of board isb lines scripts is.system parts.ready is.ready j d (driver_at j d at) in
-      let stands : IsLowestStand seen (Some (actors.Driver d, record { line = call.line; script = Some j })) =
-      (subst (λ (x : DriverNo). IsAt seen (actors.Driver x) (record { line = call.line; script = Some j })) s.2 (at_script j s.0 call h.0 s.1 (sym called) (ap (λ (x : DriverNo). due_move board (board_lines lines) (actors.Driver x)) s.2 ∙ h.1)).0, h.2 ∙ sym h.1, ap (λ (o : Option Move). is_some o) h.1) in
-      subst (λ (w : SystemSeen). IsLowestStand w (Some (actors.Driver d, stand))) v (subst (λ (u : Stand). IsLowestStand seen (Some (actors.Driver d, u))) (sym same) stands)
+      let stands : IsLowestStand seen (Some (actors.Driver d, record { line = call.line; script = Some j })) = (
+        subst (λ (x : DriverNo). IsAt seen (actors.Driver x) (record { line = call.line; script = Some j })) s.2
+            (at_script j s.0 call h.0 s.1 (sym called) (ap
+            (λ (x : DriverNo). due_move board (board_lines lines) (actors.Driver x)) s.2 ∙ h.1)).0,
+        h.2
+            ∙ sym h.1,
+        ap (λ (o : Option Move). is_some o) h.1,
+      ) in
+      subst (λ (w : SystemSeen). IsLowestStand w (Some (actors.Driver d, stand))) v
+      (subst (λ (u : Stand). IsLowestStand seen (Some (actors.Driver d, u))) (sym same) stands)
 
   pub lowest_driver_there : (j : ℕ) → Some (readies.Driver j) ≡ lowest parts.ready → None ≡ current_call parts.ready.drivers j → IsLowestStand view None
   lowest_driver_there j is_lowest none =
@@ -228,7 +291,9 @@ module _ (board : BoardSeen) (isb : IsBoard board) (layout : List Placement) (li
 
   pub nobody_stands : None ≡ lowest parts.ready → IsLowestStand view None
   nobody_stands is_lowest =
-      let low = lowest_says parts.ready None is_lowest in subst (λ (w : SystemSeen). IsLowestStand w None) v (nobody board isb lines scripts is.system parts.ready is.ready low.0 low.1 low.2)
+      let low = lowest_says parts.ready None is_lowest in
+      subst (λ (w : SystemSeen). IsLowestStand w None) v
+      (nobody board isb lines scripts is.system parts.ready is.ready low.0 low.1 low.2)
 
   -- the bounds of the places
   pub line_number_within : (t : ReadyThread) → lowest_thread parts.ready.lines ≡ Some t → t.line < length parts.line_numbers
@@ -261,8 +326,10 @@ module _ (board : BoardSeen) (isb : IsBoard board) (layout : List Placement) (li
 
   -- ---- a line by its number
 
-  pub script_there : (d : DriverNo) (numbers : List ℕ) (o : Option ℕ) → numbers ≡ parts.driver_numbers → IsPlaceOfNumber numbers d.0 o → IsScriptPlace view (actors.Driver d) o
-  script_there d numbers o same place = subst (λ (s : SystemSeen). IsScriptPlace s (actors.Driver d) o) v (by_place o (subst (λ (ns : List ℕ). IsPlaceOfNumber ns d.0 o) same place))
+  pub script_there : (d : DriverNo) (numbers : List ℕ) (o : Option ℕ) → numbers ≡ parts.driver_numbers
+      → IsPlaceOfNumber numbers d.0 o → IsScriptPlace view (actors.Driver d) o
+  script_there d numbers o same place = subst (λ (s : SystemSeen). IsScriptPlace s (actors.Driver d) o) v
+      (by_place o (subst (λ (ns : List ℕ). IsPlaceOfNumber ns d.0 o) same place))
     where
       by_place : (o : Option ℕ) → IsPlaceOfNumber parts.driver_numbers d.0 o → IsScriptPlace seen (actors.Driver d) o
       by_place None none = no_call d none
@@ -277,9 +344,13 @@ module _ (board : BoardSeen) (isb : IsBoard board) (layout : List Placement) (li
           let f = found (board_lines lines) line y there in
           let x = map_back board_line lines f.place y f.at in
           let number : x.0.def.line ≡ line = ap (λ (z : BoardLine). z.def.line) x.2 ∙ sym f.number in
-          absurd (none f.place (ap (λ (ns : List ℕ). slice_get ns f.place) is.line_numbers ∙ (map_there (λ (x : LineSeen). x.def.line.0) lines f.place x.0 x.1 ∙ ap (λ (l : LineNo). Some l.0) number)))
+          absurd (none f.place (ap (λ (ns : List ℕ). slice_get ns f.place) is.line_numbers
+          ∙ (map_there (λ (x : LineSeen). x.def.line.0) lines f.place x.0 x.1
+          ∙ ap (λ (l : LineNo). Some l.0) number)))
 
-  pub line_there : (line : LineNo) (a : Actor) (k : ℕ) (o : Option ℕ) (stand : Stand) → slice_get parts.line_numbers k ≡ Some line.0 → IsCurrentOn view line a → IsScriptPlace view a o → stand ≡ record { line = k; script = o } → IsStandOn view line a (Some stand)
+  pub line_there : (line : LineNo) (a : Actor) (k : ℕ) (o : Option ℕ) (stand : Stand)
+      → slice_get parts.line_numbers k ≡ Some line.0 → IsCurrentOn view line a → IsScriptPlace view a o
+      → stand ≡ record { line = k; script = o } → IsStandOn view line a (Some stand)
   line_there line a k o stand at cur script same =
       let x = line_at k line at in
       let place = subst (λ (l : LineNo). IsPlace (board_lines lines) (Some k) (find_line (board_lines lines) l)) x.2 (place_is k x.0 x.1) in
@@ -288,8 +359,15 @@ module _ (board : BoardSeen) (isb : IsBoard board) (layout : List Placement) (li
       let current_now = subst (λ (s : SystemSeen). IsCurrentOn s line a) (sym w) cur in
       let its = subst (λ (s : SystemSeen). IsScriptPlace s a o) (sym w) script in
       subst (λ (s : SystemSeen). IsStandOn s line a (Some stand)) v
-      (subst (λ (t : Stand). IsStandOn seen line a (Some t)) (sym same)
-      (record { line = ap (λ (o : Option BoardLine). is_some o) here; current = is_current a current_now place.1; script = is_script a o current_now its }, place.1))
+      (subst (λ (t : Stand). IsStandOn seen line a (Some t)) (sym same) (
+        record {
+          line = ap (λ (o : Option BoardLine). is_some o) here;
+          current = is_current a current_now place.1;
+          script
+              = is_script a o current_now its;
+        },
+        place.1,
+      ))
     where
       is_current : (a : Actor) → IsCurrentOn seen line a → slice_get (board_lines lines) k ≡ find_line (board_lines lines) line → IsCurrentAt seen a k
       is_current (actors.Cpu c) cur place = tt
@@ -300,17 +378,22 @@ module _ (board : BoardSeen) (isb : IsBoard board) (layout : List Placement) (li
           y.1 ∙ (sym (find_there (board_lines lines) apart s.place y.0 s.at) ∙ (ap (λ (l : LineNo). find_line (board_lines lines) l) y.2 ∙ sym place))
 
       is_script : (a : Actor) (o : Option ℕ) → IsCurrentOn seen line a → IsScriptPlace seen a o → IsScriptOf board.drivers a o
-      is_script (actors.Driver r) None cur none = let y = some_with (λ z. z.def.line ≡ line) (current_line board.calls (board_lines lines) r) cur in absurd (not_both (current_line board.calls (board_lines lines) r) y.0 none y.1)
+      is_script (actors.Driver r) None cur none = let y
+          = some_with (λ z. z.def.line ≡ line) (current_line board.calls (board_lines lines) r) cur in
+          absurd (not_both (current_line board.calls (board_lines lines) r) y.0 none y.1)
       is_script (actors.Driver r) (Some j) cur at = at
       is_script (actors.Cpu c) o cur its = its
       is_script (actors.Thread l d) o cur its = its
 
 -- what a search by number answers
 pub number_there : (numbers items : List ℕ) (n k : ℕ) (o : Option ℕ) → numbers ≡ items → IsPlaceOfNumber numbers n o → o ≡ Some k → slice_get items k ≡ Some n
-number_there numbers items n k o same place some = subst (λ (ns : List ℕ). IsPlaceOfNumber ns n (Some k)) same (subst (λ (p : Option ℕ). IsPlaceOfNumber numbers n p) some place)
+number_there numbers items n k o same place some = subst (λ (ns : List ℕ). IsPlaceOfNumber ns n (Some k)) same
+    (subst (λ (p : Option ℕ). IsPlaceOfNumber numbers n p) some place)
 
-pub number_nowhere : (numbers items : List ℕ) (n : ℕ) (o : Option ℕ) → numbers ≡ items → IsPlaceOfNumber numbers n o → o ≡ None → (k : ℕ) → slice_get items k ≡ Some n → ⊥
-number_nowhere numbers items n o same place none = subst (λ (ns : List ℕ). IsPlaceOfNumber ns n None) same (subst (λ (p : Option ℕ). IsPlaceOfNumber numbers n p) none place)
+pub number_nowhere : (numbers items : List ℕ) (n : ℕ) (o : Option ℕ) → numbers ≡ items → IsPlaceOfNumber numbers n o
+    → o ≡ None → (k : ℕ) → slice_get items k ≡ Some n → ⊥
+number_nowhere numbers items n o same place none = subst (λ (ns : List ℕ). IsPlaceOfNumber ns n None) same
+    (subst (λ (p : Option ℕ). IsPlaceOfNumber numbers n p) none place)
 
 -- the number that is read at a place
 pub number_read : (numbers : List ℕ) (k n : ℕ) → k < length numbers → n ≡ get_or numbers k 0 → slice_get numbers k ≡ Some n
@@ -326,5 +409,7 @@ can_step s a stand at = record { line = ap (λ (o : Option BoardLine). is_some o
     by_actor (actors.Cpu c) place = tt
     by_actor (actors.Thread line d) place = tt
 
-pub steps_by_move : (old new : SystemSeen) (a : Actor) (stand : Stand) (turn : Turn) → IsAt old a stand → StepsBy old (due_on (slice_get (board_lines old.lines) stand.line) a) turn new → StepsBy old (move_of old a) turn new
+pub steps_by_move : (old new : SystemSeen) (a : Actor) (stand : Stand) (turn : Turn) → IsAt old a stand
+    → StepsBy old (due_on (slice_get (board_lines old.lines) stand.line) a) turn new
+    → StepsBy old (move_of old a) turn new
 steps_by_move old new a stand turn at s = subst (λ (o : Option BoardLine). StepsBy old (due_on o a) turn new) at.line.1 s

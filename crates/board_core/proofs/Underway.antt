@@ -1,5 +1,7 @@
 -- A play of a system, move by move.
-use Rattle.std.proofs.Common.{◌≡◌, ℕ, ◌+◌, ◌-◌, ◌<◌, ◌≤◌, Bool, true, false, cond, is_some, IsSome, IsSomeAnd, Option, Some, None, List, [], ◌∷◌, ◌++◌, length, reverse, get_or, drop, refl, sym, ap, ◌∙◌, subst, arith, add-one}
+use Rattle.std.proofs.Common.{◌≡◌, ℕ, ◌+◌, ◌-◌, ◌<◌, ◌≤◌, Bool, true, false, cond, is_some, IsSome, IsSomeAnd, Option}
+use Rattle.std.proofs.Common.{Some, None, List, [], ◌∷◌, ◌++◌, length, reverse, get_or, drop, refl, sym, ap, ◌∙◌, subst}
+use Rattle.std.proofs.Common.{arith, add-one}
 use Rattle.std.proofs.Math.Seq.{drop-cons}
 use Rattle.std.proofs.lemmas.List.{append-nil, append_assoc, reverse-append}
 use Rattle.irq_base.specs.declared.entries.Actor.{Actor}
@@ -32,58 +34,75 @@ fresh s picks f =
     }
 
 -- if nothing has changed the lines are still as the moves left them
-pub as_left : (old new : SystemSeen) (picks rest : List Actor) → new ≡ old → IsUnderway old picks rest → board_lines new.lines ≡ lines_of new.board (reverse new.log)
+pub as_left : (old new : SystemSeen) (picks rest : List Actor) → new ≡ old → IsUnderway old picks rest
+    → board_lines new.lines ≡ lines_of new.board (reverse new.log)
 as_left old new picks rest same u = subst (λ (s : SystemSeen). board_lines s.lines ≡ lines_of s.board (reverse s.log)) (sym same) u.lines
 
 -- what a line has is its part of the moves
-part_of : (board : BoardSeen) (g : List Move) (line : LineNo) (P : List Entry → Type 0) (o : Option BoardLine) → find_line (lines_of board g) line ≡ o → IsSomeAnd o (λ x. P x.past) → P (part line g)
+part_of : (board : BoardSeen) (g : List Move) (line : LineNo) (P : List Entry → Type 0) (o : Option BoardLine)
+    → find_line (lines_of board g) line ≡ o → IsSomeAnd o (λ x. P x.past) → P (part line g)
 part_of board g line P None is h = absurd h
 part_of board g line P (Some x) is h =
     let f = found (lines_of board g) line x is in
     subst (λ (past : List Entry). P past) (past_at (defs_of board) g f.place x f.at ∙ ap (λ (l : LineNo). part l g) (sym f.number)) h
 
-pub part_in : (s : SystemSeen) (line : LineNo) (P : List Entry → Type 0) → board_lines s.lines ≡ lines_of s.board (reverse s.log) → IsSomeAnd (find_line (board_lines s.lines) line) (λ x. P x.past) → P (part line (reverse s.log))
+pub part_in : (s : SystemSeen) (line : LineNo) (P : List Entry → Type 0)
+    → board_lines s.lines ≡ lines_of s.board (reverse s.log)
+    → IsSomeAnd (find_line (board_lines s.lines) line) (λ x. P x.past) → P (part line (reverse s.log))
 part_in s line P is h =
-    part_of s.board (reverse s.log) line P (find_line (lines_of s.board (reverse s.log)) line) refl (subst (λ (ls : List BoardLine). IsSomeAnd (find_line ls line) (λ x. P x.past)) is h)
+    part_of s.board (reverse s.log) line P (find_line (lines_of s.board (reverse s.log)) line) refl
+    (subst (λ (ls : List BoardLine). IsSomeAnd (find_line ls line) (λ x. P x.past)) is h)
 
 -- one more move
-more : (old new : SystemSeen) (due : Option Move) (m : Move) (picks rest after : List Actor) → IsUnderway old picks rest → Moves old due m new → choice old.board (board_lines old.lines) rest ≡ Some (m, after) → IsUnderway new picks after
+more : (old new : SystemSeen) (due : Option Move) (m : Move) (picks rest after : List Actor) → IsUnderway old picks rest
+    → Moves old due m new → choice old.board (board_lines old.lines) rest ≡ Some (m, after) → IsUnderway new picks after
 more old new due m picks rest after u moves is =
     let g : List Move = reverse old.log in
     let log : reverse new.log ≡ m ∷ g = ap (λ (g : List Move). reverse g) moves.log ∙ reverse-append old.log (m ∷ []) in
     let room : length (part m.0 g) < old.board.log = part_in old m.0 (λ past. length past < old.board.log) u.lines moves.room in
-    let next : choice old.board (lines_of old.board g) u.left ≡ Some (m, after) = ap (λ (ls : List BoardLine). choice old.board ls u.left) (sym u.lines) ∙ (u.next ∙ is) in
+    let next : choice old.board (lines_of old.board g) u.left
+    ≡ Some (m, after) = ap (λ (ls : List BoardLine). choice old.board ls u.left) (sym u.lines) ∙ (u.next ∙ is) in
     let chosen : IsChosen old.board picks (m ∷ g) after = (u.left, u.chosen, next, room) in
     let lines : board_lines new.lines ≡ lines_of old.board (m ∷ g) =
     moves.lines ∙ (ap (λ (ls : List BoardLine). lines_after m ls) u.lines ∙ sym (lines_more (defs_of old.board) m g)) in
     record {
       lines = lines ∙ (ap (λ (h : List Move). lines_of old.board h) (sym log) ∙ ap (λ (b : BoardSeen). lines_of b (reverse new.log)) (sym moves.board));
       left = after;
-      chosen = subst (λ (b : BoardSeen). IsChosen b picks (reverse new.log) after) (sym moves.board) (subst (λ (h : List Move). IsChosen old.board picks h after) (sym log) chosen);
+      chosen = subst (λ (b : BoardSeen). IsChosen b picks (reverse new.log) after) (sym moves.board)
+          (subst (λ (h : List Move). IsChosen old.board picks h after) (sym log) chosen);
       next = refl;
     }
 
 -- ---- picks
 
-with_move : (s : SystemSeen) (pick : Actor) (rest : List Actor) (m : Move) → move_of s pick ≡ Some m → choice s.board (board_lines s.lines) (pick ∷ rest) ≡ Some (m, rest)
+with_move : (s : SystemSeen) (pick : Actor) (rest : List Actor) (m : Move) → move_of s pick ≡ Some m
+    → choice s.board (board_lines s.lines) (pick ∷ rest) ≡ Some (m, rest)
 with_move s pick rest m due = ap (λ (o : Option Move). or_choice (with_picks rest o) (choice s.board (board_lines s.lines) rest)) due
 
-passed_over : (s : SystemSeen) (pick : Actor) (rest : List Actor) → move_of s pick ≡ None → choice s.board (board_lines s.lines) (pick ∷ rest) ≡ choice s.board (board_lines s.lines) rest
+passed_over : (s : SystemSeen) (pick : Actor) (rest : List Actor) → move_of s pick ≡ None
+    → choice s.board (board_lines s.lines) (pick ∷ rest) ≡ choice s.board (board_lines s.lines) rest
 passed_over s pick rest due = ap (λ (o : Option Move). or_choice (with_picks rest o) (choice s.board (board_lines s.lines) rest)) due
 
 -- the pick of a place comes next
-at_pick : (s : SystemSeen) (picks : List Actor) (i : ℕ) (d : Actor) → i < length picks → IsUnderway s picks (drop i picks) → IsUnderway s picks (get_or picks i d ∷ drop (i + 1) picks)
+at_pick : (s : SystemSeen) (picks : List Actor) (i : ℕ) (d : Actor) → i < length picks
+    → IsUnderway s picks (drop i picks) → IsUnderway s picks (get_or picks i d ∷ drop (i + 1) picks)
 at_pick s picks i d within u =
-    let next : drop i picks ≡ get_or picks i d ∷ drop (i + 1) picks = drop-cons picks i d within ∙ ap (λ (n : ℕ). get_or picks i d ∷ drop n picks) (sym (add-one i)) in
+    let next : drop i picks ≡ get_or picks i d ∷ drop (i + 1) picks = drop-cons picks i d within
+    ∙ ap (λ (n : ℕ). get_or picks i d ∷ drop n picks) (sym (add-one i)) in
     subst (λ (rest : List Actor). IsUnderway s picks rest) next u
 
-pub pick_moved : (old new : SystemSeen) (picks : List Actor) (i : ℕ) (d : Actor) (line : LineNo) (e : Entry) (turn : Turn) → i < length picks → IsUnderway old picks (drop i picks) → turn ≡ turns.Moved line e → Turns old (get_or picks i d) turn new
+pub pick_moved : (old new : SystemSeen) (picks : List Actor) (i : ℕ) (d : Actor) (line : LineNo) (e : Entry)
+    (turn : Turn) → i < length picks → IsUnderway old picks (drop i picks) → turn ≡ turns.Moved line e
+    → Turns old (get_or picks i d) turn new
     → IsUnderway new picks (drop (i + 1) picks)
 pick_moved old new picks i d line e turn within u same t =
     let moves : Moves old (move_of old (get_or picks i d)) (line, e) new = subst (λ (x : Turn). Turns old (get_or picks i d) x new) same t in
-    more old new (move_of old (get_or picks i d)) (line, e) picks (get_or picks i d ∷ drop (i + 1) picks) (drop (i + 1) picks) (at_pick old picks i d within u) moves (with_move old (get_or picks i d) (drop (i + 1) picks) (line, e) moves.is)
+    more old new (move_of old (get_or picks i d)) (line, e) picks (get_or picks i d ∷ drop (i + 1) picks)
+    (drop (i + 1) picks) (at_pick old picks i d within u) moves
+    (with_move old (get_or picks i d) (drop (i + 1) picks) (line, e) moves.is)
 
-pub pick_passed : (old new : SystemSeen) (picks : List Actor) (i : ℕ) (d : Actor) (turn : Turn) → i < length picks → IsUnderway old picks (drop i picks) → turn ≡ turns.NotYet → Turns old (get_or picks i d) turn new
+pub pick_passed : (old new : SystemSeen) (picks : List Actor) (i : ℕ) (d : Actor) (turn : Turn) → i < length picks
+    → IsUnderway old picks (drop i picks) → turn ≡ turns.NotYet → Turns old (get_or picks i d) turn new
     → IsUnderway new picks (drop (i + 1) picks)
 pick_passed old new picks i d turn within u same t =
     let rests = subst (λ (x : Turn). Turns old (get_or picks i d) x new) same t in
@@ -92,7 +111,9 @@ pick_passed old new picks i d turn within u same t =
     (record { lines = v.lines; left = v.left; chosen = v.chosen; next = v.next ∙ passed_over old (get_or picks i d) (drop (i + 1) picks) rests.0 })
 
 -- a full line ends the play
-is_full : (s : SystemSeen) (picks rest after : List Actor) (due : Option Move) (line : LineNo) (len : ℕ) → IsUnderway s picks rest → IsFullFor s due line len → ((m : Move) → due ≡ Some m → choice s.board (board_lines s.lines) rest ≡ Some (m, after))
+is_full : (s : SystemSeen) (picks rest after : List Actor) (due : Option Move) (line : LineNo) (len : ℕ)
+    → IsUnderway s picks rest → IsFullFor s due line len
+    → ((m : Move) → due ≡ Some m → choice s.board (board_lines s.lines) rest ≡ Some (m, after))
     → IsPlay s picks (ends.Full line len)
 is_full s picks rest after due line len u full next =
     let told : length (part line (reverse s.log)) ≡ len = part_in s line (λ past. length past ≡ len) u.lines full.length in (
@@ -110,12 +131,16 @@ is_full s picks rest after due line len u full next =
       told,
     )
 
-pub pick_full : (old new : SystemSeen) (picks : List Actor) (i : ℕ) (d : Actor) (line : LineNo) (len : ℕ) (turn : Turn) → i < length picks → IsUnderway old picks (drop i picks) → turn ≡ turns.Full line len → Turns old (get_or picks i d) turn new
+pub pick_full : (old new : SystemSeen) (picks : List Actor) (i : ℕ) (d : Actor) (line : LineNo) (len : ℕ) (turn : Turn)
+    → i < length picks → IsUnderway old picks (drop i picks) → turn ≡ turns.Full line len
+    → Turns old (get_or picks i d) turn new
     → IsPlay new picks (ends.Full line len)
 pick_full old new picks i d line len turn within u same t =
     let full = subst (λ (x : Turn). Turns old (get_or picks i d) x new) same t in
     subst (λ (s : SystemSeen). IsPlay s picks (ends.Full line len)) (sym full.1)
-    (is_full old picks (get_or picks i d ∷ drop (i + 1) picks) (drop (i + 1) picks) (move_of old (get_or picks i d)) line len (at_pick old picks i d within u) full.0 (λ m due. with_move old (get_or picks i d) (drop (i + 1) picks) m due))
+    (is_full old picks (get_or picks i d ∷ drop (i + 1) picks) (drop (i + 1) picks) (move_of old (get_or picks i d))
+    line len (at_pick old picks i d within u) full.0
+    (λ m due. with_move old (get_or picks i d) (drop (i + 1) picks) m due))
 
 -- if somebody can move there is a next move, whatever picks are left
 some_choice : (s : SystemSeen) (picks : List Actor) → IsSome (lowest_move s) → IsSome (choice s.board (board_lines s.lines) picks)
@@ -129,7 +154,8 @@ some_choice s [] some = by_move (lowest_move s) some
     by_move (Some m) some = refl
 some_choice s (pick ∷ picks) some = by_pick (move_of s pick) (some_choice s picks some)
   where
-    by_pick : (o : Option Move) → IsSome (choice s.board (board_lines s.lines) picks) → IsSome (or_choice (with_picks picks o) (choice s.board (board_lines s.lines) picks))
+    by_pick : (o : Option Move) → IsSome (choice s.board (board_lines s.lines) picks)
+        → IsSome (or_choice (with_picks picks o) (choice s.board (board_lines s.lines) picks))
     by_pick None deeper = deeper
     by_pick (Some m) deeper = refl
 
@@ -139,7 +165,8 @@ refused s picks rest u some =
     let next : IsSome (choice s.board (board_lines s.lines) u.left) = ap (λ (o : Option (Move × List Actor)). is_some o) u.next ∙ some_choice s rest some in
     (u.left, u.chosen, subst (λ (ls : List BoardLine). IsSome (choice s.board ls u.left)) u.lines next)
 
-pub pick_refused : (old new : SystemSeen) (picks rest : List Actor) (pick : Actor) (turn : Turn) → IsUnderway old picks rest → turn ≡ turns.NoMemory → Turns old pick turn new → IsPlay new picks ends.NoMemory
+pub pick_refused : (old new : SystemSeen) (picks rest : List Actor) (pick : Actor) (turn : Turn)
+    → IsUnderway old picks rest → turn ≡ turns.NoMemory → Turns old pick turn new → IsPlay new picks ends.NoMemory
 pick_refused old new picks rest pick turn u same t =
     let wanted = subst (λ (x : Turn). Turns old pick x new) same t in
     subst (λ (s : SystemSeen). IsPlay s picks ends.NoMemory) (sym wanted.1) (refused old picks rest u wanted.0.somebody)
@@ -149,23 +176,31 @@ pick_refused old new picks rest pick turn u same t =
 lowest_next : (s : SystemSeen) (m : Move) → lowest_move s ≡ Some m → choice s.board (board_lines s.lines) [] ≡ Some (m, [])
 lowest_next s m is = ap (λ (o : Option Move). with_picks [] o) is
 
-pub lowest_moved : (old new : SystemSeen) (picks : List Actor) (line : LineNo) (e : Entry) (turn : Turn) → IsUnderway old picks [] → turn ≡ turns.Moved line e → TurnsBy old (lowest_move old) turn new → IsUnderway new picks []
+pub lowest_moved : (old new : SystemSeen) (picks : List Actor) (line : LineNo) (e : Entry) (turn : Turn)
+    → IsUnderway old picks [] → turn ≡ turns.Moved line e → TurnsBy old (lowest_move old) turn new
+    → IsUnderway new picks []
 lowest_moved old new picks line e turn u same t =
     let moves : Moves old (lowest_move old) (line, e) new = subst (λ (x : Turn). TurnsBy old (lowest_move old) x new) same t in
     more old new (lowest_move old) (line, e) picks [] [] u moves (lowest_next old (line, e) moves.is)
 
-pub lowest_done : (old new : SystemSeen) (picks : List Actor) (turn : Turn) → IsUnderway old picks [] → turn ≡ turns.NotYet → TurnsBy old (lowest_move old) turn new → IsPlay new picks ends.Done
+pub lowest_done : (old new : SystemSeen) (picks : List Actor) (turn : Turn) → IsUnderway old picks []
+    → turn ≡ turns.NotYet → TurnsBy old (lowest_move old) turn new → IsPlay new picks ends.Done
 lowest_done old new picks turn u same t =
     let rests = subst (λ (x : Turn). TurnsBy old (lowest_move old) x new) same t in
     let none : choice old.board (board_lines old.lines) [] ≡ None = ap (λ (o : Option Move). with_picks [] o) rests.0 in
-    subst (λ (s : SystemSeen). IsPlay s picks ends.Done) (sym rests.1) (u.left, u.chosen, ap (λ (ls : List BoardLine). choice old.board ls u.left) (sym u.lines) ∙ (u.next ∙ none))
+    subst (λ (s : SystemSeen). IsPlay s picks ends.Done) (sym rests.1)
+    (u.left, u.chosen, ap (λ (ls : List BoardLine). choice old.board ls u.left) (sym u.lines) ∙ (u.next ∙ none))
 
-pub lowest_full : (old new : SystemSeen) (picks : List Actor) (line : LineNo) (len : ℕ) (turn : Turn) → IsUnderway old picks [] → turn ≡ turns.Full line len → TurnsBy old (lowest_move old) turn new → IsPlay new picks (ends.Full line len)
+pub lowest_full : (old new : SystemSeen) (picks : List Actor) (line : LineNo) (len : ℕ) (turn : Turn)
+    → IsUnderway old picks [] → turn ≡ turns.Full line len → TurnsBy old (lowest_move old) turn new
+    → IsPlay new picks (ends.Full line len)
 lowest_full old new picks line len turn u same t =
     let full = subst (λ (x : Turn). TurnsBy old (lowest_move old) x new) same t in
-    subst (λ (s : SystemSeen). IsPlay s picks (ends.Full line len)) (sym full.1) (is_full old picks [] [] (lowest_move old) line len u full.0 (λ m is. lowest_next old m is))
+    subst (λ (s : SystemSeen). IsPlay s picks (ends.Full line len)) (sym full.1)
+    (is_full old picks [] [] (lowest_move old) line len u full.0 (λ m is. lowest_next old m is))
 
-pub lowest_refused : (old new : SystemSeen) (picks : List Actor) (turn : Turn) → IsUnderway old picks [] → turn ≡ turns.NoMemory → TurnsBy old (lowest_move old) turn new → IsPlay new picks ends.NoMemory
+pub lowest_refused : (old new : SystemSeen) (picks : List Actor) (turn : Turn) → IsUnderway old picks []
+    → turn ≡ turns.NoMemory → TurnsBy old (lowest_move old) turn new → IsPlay new picks ends.NoMemory
 lowest_refused old new picks turn u same t =
     let wanted = subst (λ (x : Turn). TurnsBy old (lowest_move old) x new) same t in
     subst (λ (s : SystemSeen). IsPlay s picks ends.NoMemory) (sym wanted.1) (refused old picks [] u wanted.0)
@@ -178,7 +213,8 @@ pub ends_done : (old new : SystemSeen) (turn : Turn) → turn ≡ turns.NotYet �
 ends_done old new turn same t =
     let rests = subst (λ (x : Turn). TurnsBy old (lowest_move old) x new) same t in subst (λ (s : SystemSeen). Ends s ends.Done) (sym rests.1) rests.0
 
-pub ends_full : (old new : SystemSeen) (line : LineNo) (len : ℕ) (turn : Turn) → turn ≡ turns.Full line len → TurnsBy old (lowest_move old) turn new → Ends new (ends.Full line len)
+pub ends_full : (old new : SystemSeen) (line : LineNo) (len : ℕ) (turn : Turn) → turn ≡ turns.Full line len
+    → TurnsBy old (lowest_move old) turn new → Ends new (ends.Full line len)
 ends_full old new line len turn same t =
     let full = subst (λ (x : Turn). TurnsBy old (lowest_move old) x new) same t in subst (λ (s : SystemSeen). Ends s (ends.Full line len)) (sym full.1) full.0
 
@@ -190,7 +226,8 @@ settles_none s = record { moves = []; lowest = tt; log = sym (append-nil s.log);
 pub settles_same : (first old new : SystemSeen) → new ≡ old → Settles first old → Settles first new
 settles_same first old new same s = subst (λ (x : SystemSeen). Settles first x) (sym same) s
 
-pub settles_moved : (first old new : SystemSeen) (line : LineNo) (e : Entry) (turn : Turn) → old.board ≡ first.board → turn ≡ turns.Moved line e → TurnsBy old (lowest_move old) turn new → Settles first old → Settles first new
+pub settles_moved : (first old new : SystemSeen) (line : LineNo) (e : Entry) (turn : Turn) → old.board ≡ first.board
+    → turn ≡ turns.Moved line e → TurnsBy old (lowest_move old) turn new → Settles first old → Settles first new
 settles_moved first old new line e turn board same t s =
     let m : Move = (line, e) in
     let moves : Moves old (lowest_move old) (line, e) new = subst (λ (x : Turn). TurnsBy old (lowest_move old) x new) same t in
@@ -198,8 +235,13 @@ settles_moved first old new line e turn board same t s =
     let more : reverse (m ∷ s.moves) ≡ reverse s.moves ++ m ∷ [] = reverse-append (m ∷ []) s.moves in
     record {
       moves = m ∷ s.moves;
-      lowest = (s.lowest, subst (λ (ls : List BoardLine). IsLowestMove first.board ls m) s.lines (subst (λ (b : BoardSeen). IsLowestMove b (board_lines old.lines) m) board here));
-      log = moves.log ∙ (ap (λ (g : List Move). g ++ m ∷ []) s.log ∙ (append_assoc first.log (reverse s.moves) (m ∷ []) ∙ ap (λ (g : List Move). first.log ++ g) (sym more)));
+      lowest = (
+        s.lowest,
+        subst (λ (ls : List BoardLine). IsLowestMove first.board ls m) s.lines
+            (subst (λ (b : BoardSeen). IsLowestMove b (board_lines old.lines) m) board here),
+      );
+      log = moves.log ∙ (ap (λ (g : List Move). g ++ m ∷ []) s.log
+          ∙ (append_assoc first.log (reverse s.moves) (m ∷ []) ∙ ap (λ (g : List Move). first.log ++ g) (sym more)));
       lines = moves.lines ∙ ap (λ (ls : List BoardLine). lines_after m ls) s.lines;
     }
 
@@ -237,7 +279,8 @@ turns_with old new a turns.NotYet may s = s
 turns_with old new a (turns.Full line len) may s = s
 turns_with old new a turns.NoMemory may s = (may, s)
 
-pub lowest_with : (old new : SystemSeen) (due : Option Move) (a : Actor) (turn : Turn) → due ≡ move_of old a → IsSome (move_of old a) → StepsBy old (move_of old a) turn new → TurnsBy old due turn new
+pub lowest_with : (old new : SystemSeen) (due : Option Move) (a : Actor) (turn : Turn) → due ≡ move_of old a
+    → IsSome (move_of old a) → StepsBy old (move_of old a) turn new → TurnsBy old due turn new
 lowest_with old new due a turn same some s = subst (λ (o : Option Move). TurnsBy old o turn new) (sym same) (by_turn turn s)
   where
     by_turn : (turn : Turn) → StepsBy old (move_of old a) turn new → TurnsBy old (move_of old a) turn new
@@ -257,11 +300,14 @@ unfolding room
 room_kept log m [] = omega arith
 room_kept log m (x ∷ xs) = by_test (same_line x.def.line m.0) (room_kept log m xs)
   where
-    by_test : (b : Bool) → room log (lines_after m xs) ≤ room log xs → (log - length (cond b (m.1 ∷ x.past) x.past)) + room log (lines_after m xs) ≤ (log - length x.past) + room log xs
+    by_test : (b : Bool) → room log (lines_after m xs) ≤ room log xs
+        → (log - length (cond b (m.1 ∷ x.past) x.past)) + room log (lines_after m xs) ≤ (log - length x.past) + room log
+        xs
     by_test true le = omega (arith, le)
     by_test false le = omega (arith, le)
 
-room_less : (log : ℕ) (m : Move) (lines : List BoardLine) → IsSomeAnd (find_line lines m.0) (λ x. length x.past < log) → room log (lines_after m lines) < room log lines
+room_less : (log : ℕ) (m : Move) (lines : List BoardLine) → IsSomeAnd (find_line lines m.0) (λ x. length x.past < log)
+    → room log (lines_after m lines) < room log lines
 unfolding room
 room_less log m [] h = absurd h
 room_less log m (x ∷ xs) h = by_test (same_line m.0 x.def.line) refl h (room_kept log m xs) (λ h. room_less log m xs h)
@@ -274,11 +320,15 @@ room_less log m (x ∷ xs) h = by_test (same_line m.0 x.def.line) refl h (room_k
     by_moved true same is less le = omega (arith, less, le)
     by_moved false same is less le = both_ways (same_line x.def.line m.0) (same_again same) is
 
-    by_less : (b : Bool) → room log (lines_after m xs) < room log xs → (log - length (cond b (m.1 ∷ x.past) x.past)) + room log (lines_after m xs) < (log - length x.past) + room log xs
+    by_less : (b : Bool) → room log (lines_after m xs) < room log xs
+        → (log - length (cond b (m.1 ∷ x.past) x.past)) + room log (lines_after m xs) < (log - length x.past) + room log
+        xs
     by_less true lt = omega (arith, lt)
     by_less false lt = omega (arith, lt)
 
-    by_test : (b : Bool) → same_line m.0 x.def.line ≡ b → IsSomeAnd (cond b (Some x) (find_line xs m.0)) (λ x. length x.past < log) → room log (lines_after m xs) ≤ room log xs
+    by_test : (b : Bool) → same_line m.0 x.def.line ≡ b
+        → IsSomeAnd (cond b (Some x) (find_line xs m.0)) (λ x. length x.past < log)
+        → room log (lines_after m xs) ≤ room log xs
         → (IsSomeAnd (find_line xs m.0) (λ x. length x.past < log) → room log (lines_after m xs) < room log xs)
         → (log - length (cond (same_line x.def.line m.0) (m.1 ∷ x.past) x.past)) + room log (lines_after m xs) < (log - length x.past) + room log xs
     by_test true same h le deeper = by_moved (same_line x.def.line m.0) same refl h le
@@ -287,7 +337,8 @@ room_less log m (x ∷ xs) h = by_test (same_line m.0 x.def.line) refl h (room_k
 pub room_of : SystemSeen → ℕ
 room_of s = room s.board.log (board_lines s.lines)
 
-pub room_falls : (old new : SystemSeen) (line : LineNo) (e : Entry) (turn : Turn) → turn ≡ turns.Moved line e → TurnsBy old (lowest_move old) turn new → room_of new < room_of old
+pub room_falls : (old new : SystemSeen) (line : LineNo) (e : Entry) (turn : Turn) → turn ≡ turns.Moved line e
+    → TurnsBy old (lowest_move old) turn new → room_of new < room_of old
 unfolding room_of
 room_falls old new line e turn same t =
     let moves : Moves old (lowest_move old) (line, e) new = subst (λ (x : Turn). TurnsBy old (lowest_move old) x new) same t in
@@ -296,7 +347,8 @@ room_falls old new line e turn same t =
     (room_less old.board.log (line, e) (board_lines old.lines) moves.room)
 
 pub pick_done : (old new : SystemSeen) (picks : List Actor) (i : ℕ) (d : Actor) (turn : Turn) → i < length picks → IsUnderway old picks (drop i picks)
-    → ((line : LineNo) (len : ℕ) → turn ≡ turns.Full line len → ⊥) → (turn ≡ turns.NoMemory → ⊥) → Turns old (get_or picks i d) turn new → IsUnderway new picks (drop (i + 1) picks)
+    → ((line : LineNo) (len : ℕ) → turn ≡ turns.Full line len → ⊥) → (turn ≡ turns.NoMemory → ⊥)
+    → Turns old (get_or picks i d) turn new → IsUnderway new picks (drop (i + 1) picks)
 pick_done old new picks i d (turns.Moved line e) within u full refused t = pick_moved old new picks i d line e (turns.Moved line e) within u refl t
 pick_done old new picks i d turns.NotYet within u full refused t = pick_passed old new picks i d turns.NotYet within u refl t
 pick_done old new picks i d (turns.Full line len) within u full refused t = absurd (full line len refl)

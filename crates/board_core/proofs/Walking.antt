@@ -1,5 +1,8 @@
 -- A walk over a log.
-use Rattle.std.proofs.Common.{◌≡◌, inl, inr, ℕ, zero, suc, ◌+◌, ◌-◌, ◌<◌, ◌≤◌, ◌==◌, Bool, true, false, cond, Option, Some, None, Result, Ok, Err, List, [], ◌∷◌, ◌++◌, map, length, reverse, drop, get_or, set, replicate, slice_get, IfSome, refl, sym, ap, ◌∙◌, subst, arith, add-one, zero-add, length-append}
+use Rattle.std.proofs.Common.{◌≡◌, inl, inr, ℕ, zero, suc, ◌+◌, ◌-◌, ◌<◌, ◌≤◌, ◌==◌, Bool, true, false, cond, Option}
+use Rattle.std.proofs.Common.{Some, None, Result, Ok, Err, List, [], ◌∷◌, ◌++◌, map, length, reverse, drop, get_or, set}
+use Rattle.std.proofs.Common.{replicate, slice_get, IfSome, refl, sym, ap, ◌∙◌, subst, arith, add-one, zero-add}
+use Rattle.std.proofs.Common.{length-append}
 use Rattle.std.specs.List.{All}
 use Rattle.std.proofs.Math.ListN.{length-map}
 use Rattle.std.proofs.lemmas.Bool.Decides.{nat_tests}
@@ -46,12 +49,14 @@ module _ (k : ℕ) (m : Move) where
   behind None g = refl
   behind (Some x) g = by_past x.past
     where
-      by_past : (past : List Entry) → with_newest (Some (record { def = x.def; past = past })) (g ++ m ∷ []) ≡ with_newest (Some (record { def = x.def; past = past })) g ++ m ∷ []
+      by_past : (past : List Entry) → with_newest (Some (record { def = x.def; past = past })) (g ++ m ∷ [])
+          ≡ with_newest (Some (record { def = x.def; past = past })) g ++ m ∷ []
       by_past [] = refl
       by_past (e ∷ past) = refl
 
   -- without the newest entry of the line at place j
-  next_without : (lines : List BoardLine) (j n : ℕ) → HasNext (slice_get lines k) (cond (j == k) 1 0 + n) → HasNext (slice_get (without_newest (slice_get lines j) j lines) k) n
+  next_without : (lines : List BoardLine) (j n : ℕ) → HasNext (slice_get lines k) (cond (j == k) 1 0 + n)
+      → HasNext (slice_get (without_newest (slice_get lines j) j lines) k) n
   next_without lines j n h = by_line (slice_get lines j) refl
     where
       older_next : (past : List Entry) (n : ℕ) → slice_get past (1 + n) ≡ Some m.1 → slice_get (older past) n ≡ Some m.1
@@ -61,12 +66,15 @@ module _ (k : ℕ) (m : Move) where
           by_past [] at = cc
           by_past (e ∷ past) at = at
 
-      by_test : (b : Bool) → (j == k) ≡ b → (x : BoardLine) → slice_get lines j ≡ Some x → HasNext (slice_get lines k) (cond b 1 0 + n) → HasNext (slice_get (without_newest (Some x) j lines) k) n
+      by_test : (b : Bool) → (j == k) ≡ b → (x : BoardLine) → slice_get lines j ≡ Some x
+          → HasNext (slice_get lines k) (cond b 1 0 + n) → HasNext (slice_get (without_newest (Some x) j lines) k) n
       by_test true is x at h =
           let same : j ≡ k = grind (arith, nat_tests) in
           let at_k : slice_get lines k ≡ Some x = ap (λ (i : ℕ). slice_get lines i) (sym same) ∙ at in
           let its = subst (λ (o : Option BoardLine). HasNext o (1 + n)) at_k h in
-          subst (λ (o : Option BoardLine). HasNext o n) (sym (ap (λ (i : ℕ). slice_get (without_newest (Some x) i lines) k) same ∙ set_there lines k x _ at_k)) (its.0, older_next x.past n its.1)
+          subst (λ (o : Option BoardLine). HasNext o n)
+          (sym (ap (λ (i : ℕ). slice_get (without_newest (Some x) i lines) k) same ∙ set_there lines k x _ at_k))
+          (its.0, older_next x.past n its.1)
       by_test false is x at h =
           let other : k ≡ j → ⊥ = λ same. (let d : (j == k) ≡ false = is in grind (arith, nat_tests)) in
           subst (λ (o : Option BoardLine). HasNext o n) (sym (set_other lines j k _ other)) (subst (λ (i : ℕ). HasNext (slice_get lines k) i) (zero-add n) h)
@@ -131,7 +139,9 @@ pub record NextMove (cursors : List ℕ) (k : ℕ) (order : List ℕ) (lines : L
 pub next_move : (cursors : List ℕ) (k : ℕ) (order : List ℕ) (lines : List LineSeen) → IsWalk cursors (k ∷ order) lines → NextMove cursors k order lines
 next_move cursors k order lines w =
     let x = there lines k (All-head (λ j. j < length lines) k order w.places) in
-    let counts : get_or cursors k 0 + (1 + times k order) ≡ length x.0.entries = (let e = w.from k x.0 x.1 in let one = ap (λ (b : Bool). cond {A = ℕ} b 1 0) (itself k) in omega (arith, e, one)) in
+    let counts : get_or cursors k 0 + (1 + times k order)
+    ≡ length x.0.entries = (let e = w.from k x.0 x.1 in
+    let one = ap (λ (b : Bool). cond {A = ℕ} b 1 0) (itself k) in omega (arith, e, one)) in
     let e = there x.0.entries (get_or cursors k 0) (omega (arith, counts)) in
     let m : Move = (x.0.def.line, e.0) in
     let back = from_the_end x.0.entries (get_or cursors k 0) (times k order) e.0 e.1 counts in
@@ -143,9 +153,16 @@ next_move cursors k order lines w =
       entry = e.0;
       at = x.1;
       entry_at = e.1;
-      moves = ap (λ (g : List Move). reverse g) (ap (λ (ks : List ℕ). merged ks (board_lines lines)) (reverse_more order k) ∙ oldest k m (reverse order) (board_lines lines) has)
+      moves = ap (λ (g : List Move). reverse g) (ap (λ (ks : List ℕ). merged ks (board_lines lines))
+          (reverse_more order k) ∙ oldest k m (reverse order) (board_lines lines) has)
           ∙ reverse-append (merged (reverse order) (board_lines lines)) (m ∷ []);
-      walk = record { few = w.few; all = length-set cursors k (get_or cursors k 0 + 1) ∙ w.all; places = All-tail (λ j. j < length lines) k order w.places; from = from };
+      walk = record {
+        few = w.few;
+        all = length-set cursors k (get_or cursors k 0 + 1)
+            ∙ w.all;
+        places = All-tail (λ j. j < length lines) k order w.places;
+        from = from;
+      };
     }
   where
     from : (j : ℕ) (x : LineSeen) → slice_get lines j ≡ Some x → get_or (set cursors k (get_or cursors k 0 + 1)) j 0 + times j order ≡ length x.entries
@@ -159,7 +176,8 @@ next_move cursors k order lines w =
             let same : k ≡ j = grind (arith, nat_tests) in
             let e = w.from j x at in
             let one = ap (λ (b : Bool). cond {A = ℕ} b 1 0) is in
-            let new : get_or (set cursors j (get_or cursors j 0 + 1)) j 0 ≡ get_or cursors j 0 + 1 = get_or-set_same cursors j (get_or cursors j 0 + 1) 0 within in
+            let new : get_or (set cursors j (get_or cursors j 0 + 1)) j 0
+            ≡ get_or cursors j 0 + 1 = get_or-set_same cursors j (get_or cursors j 0 + 1) 0 within in
             subst (λ (i : ℕ). get_or (set cursors i (get_or cursors i 0 + 1)) j 0 + times j order ≡ length x.entries) (sym same) (omega (arith, e, one, new))
         by_test false is =
             let other : j ≡ k → ⊥ = λ same. (let d : (k == j) ≡ false = is in grind (arith, nat_tests)) in
@@ -177,13 +195,24 @@ pub record NextAt (cursors order : List ℕ) (at k : ℕ) (lines : List LineSeen
   pub is : move_at (slice_get lines k) (get_or cursors k 0) ≡ Some move
   pub moves : moves_of (drop at order) lines ≡ move ∷ moves_of (drop (at + 1) order) lines
 
-pub next_at : (cursors order : List ℕ) (at k : ℕ) (lines : List LineSeen) → slice_get order at ≡ Some k → IsWalk cursors (drop at order) lines → NextAt cursors order at k lines
+pub next_at : (cursors order : List ℕ) (at k : ℕ) (lines : List LineSeen) → slice_get order at ≡ Some k
+    → IsWalk cursors (drop at order) lines → NextAt cursors order at k lines
 next_at cursors order at k lines here w =
     let left : drop at order ≡ k ∷ drop (at + 1) order = dropped order at k here ∙ ap (λ (n : ℕ). k ∷ drop n order) (sym (add-one at)) in
     let v = subst (λ (ks : List ℕ). IsWalk cursors ks lines) left w in
     let n = next_move cursors k (drop (at + 1) order) lines v in
     let less = slice_get_within lines k n.line n.at in
-    record { within = less; few = (let f = w.few in omega (arith, less, f)); next = n; move = (n.line.def.line, n.entry); is = ap (λ (o : Option LineSeen). move_at o (get_or cursors k 0)) n.at ∙ ap (λ (o : Option Entry). move_on n.line.def.line o) n.entry_at; moves = ap (λ (ks : List ℕ). moves_of ks lines) left ∙ n.moves }
+    record {
+      within = less;
+      few = (let f = w.few in omega (arith, less, f));
+      next = n;
+      move
+          = (n.line.def.line, n.entry);
+      is = ap (λ (o : Option LineSeen). move_at o (get_or cursors k 0)) n.at
+          ∙ ap (λ (o : Option Entry). move_on n.line.def.line o) n.entry_at;
+      moves
+          = ap (λ (ks : List ℕ). moves_of ks lines) left ∙ n.moves;
+    }
 
 -- nothing is left out
 pub walk_length : (order cursors : List ℕ) (lines : List LineSeen) → IsWalk cursors order lines → length (moves_of order lines) ≡ length order
@@ -195,13 +224,17 @@ walk_length (k ∷ order) cursors lines w =
 
 -- ---- one more move of a system
 
-pub walk_more : (cursors order : List ℕ) (lines : List LineSeen) (k : ℕ) (x y : LineSeen) → slice_get lines k ≡ Some x → length y.entries ≡ length x.entries + 1 → IsWalk cursors order lines → IsWalk cursors (order ++ k ∷ []) (set lines k y)
+pub walk_more : (cursors order : List ℕ) (lines : List LineSeen) (k : ℕ) (x y : LineSeen) → slice_get lines k ≡ Some x
+    → length y.entries ≡ length x.entries + 1 → IsWalk cursors order lines
+    → IsWalk cursors (order ++ k ∷ []) (set lines k y)
 walk_more cursors order lines k x y at longer w =
     let l = length-set lines k y in
     record {
       few = let f = w.few in omega (arith, f, l);
       all = w.all;
-      places = subst (λ (n : ℕ). All (λ i. i < n) (order ++ k ∷ [])) (sym l) (All-append (λ i. i < length lines) order (k ∷ []) w.places (all_of (λ i. i < length lines) k [] (slice_get_within lines k x at) (All-nil (λ i. i < length lines))));
+      places = subst (λ (n : ℕ). All (λ i. i < n) (order ++ k ∷ [])) (sym l)
+          (All-append (λ i. i < length lines) order (k ∷ []) w.places
+          (all_of (λ i. i < length lines) k [] (slice_get_within lines k x at) (All-nil (λ i. i < length lines))));
       from = from;
     }
   where
@@ -227,19 +260,31 @@ walk_more cursors order lines k x y at longer w =
         by_test false is o = refl
 
 walk_same : (cursors order longer : List ℕ) (old new : List LineSeen) → new ≡ old → longer ≡ order → IsWalk cursors order old → IsWalk cursors longer new
-walk_same cursors order longer old new ls ks w = subst (λ (x : List LineSeen). IsWalk cursors longer x) (sym ls) (subst (λ (x : List ℕ). IsWalk cursors x old) (sym ks) w)
+walk_same cursors order longer old new ls ks w = subst (λ (x : List LineSeen). IsWalk cursors longer x) (sym ls)
+    (subst (λ (x : List ℕ). IsWalk cursors x old) (sym ks) w)
 
 -- nothing is told yet
-pub walk_fresh : (cursors : List ℕ) (lines : List LineSeen) → length lines ≤ 64 → length cursors ≡ 64 → ((k : ℕ) (x : LineSeen) → slice_get lines k ≡ Some x → get_or cursors k 0 ≡ length x.entries) → IsWalk cursors [] lines
-walk_fresh cursors lines few all from = record { few = few; all = all; places = All-nil (λ k. k < length lines); from = λ k x at. (let e = from k x at in omega (arith, e)) }
+pub walk_fresh : (cursors : List ℕ) (lines : List LineSeen) → length lines ≤ 64 → length cursors ≡ 64
+    → ((k : ℕ) (x : LineSeen) → slice_get lines k ≡ Some x → get_or cursors k 0 ≡ length x.entries)
+    → IsWalk cursors [] lines
+walk_fresh cursors lines few all from = record {
+  few = few;
+  all = all;
+  places = All-nil (λ k. k < length lines);
+  from
+      = λ k x at. (let e = from k x at in omega (arith, e));
+}
 
 -- after a step of one line
-pub walk_after : (cursors order longer : List ℕ) (old new : List LineSeen) (k : ℕ) (a : Actor) (r : Result (Option Entry) StepRefused) → SteppedAt old order k a r new longer → IsWalk cursors order old → IsWalk cursors longer new
+pub walk_after : (cursors order longer : List ℕ) (old new : List LineSeen) (k : ℕ) (a : Actor)
+    (r : Result (Option Entry) StepRefused) → SteppedAt old order k a r new longer → IsWalk cursors order old
+    → IsWalk cursors longer new
 walk_after cursors order longer old new k a (Ok (Some e)) s w =
     let more = length-append s.before.entries (e ∷ []) in
     let len = ap (λ (es : List Entry). length es) s.adds.entries in
     subst (λ (ls : List LineSeen). IsWalk cursors longer ls) (sym s.rest)
-    (subst (λ (ks : List ℕ). IsWalk cursors ks (set old k s.after)) (sym s.told) (walk_more cursors order old k s.before s.after s.at (omega (arith, more, len)) w))
+    (subst (λ (ks : List ℕ). IsWalk cursors ks (set old k s.after)) (sym s.told)
+    (walk_more cursors order old k s.before s.after s.at (omega (arith, more, len)) w))
 walk_after cursors order longer old new k a (Ok None) s w = walk_same cursors order longer old new s.1 s.2 w
 walk_after cursors order longer old new k a (Err (refusals.Full len)) s w = walk_same cursors order longer old new s.1 s.2 w
 walk_after cursors order longer old new k a (Err refusals.NoMemory) s w = walk_same cursors order longer old new s.0 s.1 w
@@ -249,34 +294,46 @@ zeros zero k = refl
 zeros (suc n) zero = refl
 zeros (suc n) (suc k) = zeros n k
 
-pub walk_new : (board : BoardSeen) (lines : List LineSeen) → IsBoard board → AreNew board lines → (order : List ℕ) → order ≡ [] → IsWalk (replicate 64 0) order lines
+pub walk_new : (board : BoardSeen) (lines : List LineSeen) → IsBoard board → AreNew board lines → (order : List ℕ)
+    → order ≡ [] → IsWalk (replicate 64 0) order lines
 walk_new board lines isb new order none =
     subst (λ (ks : List ℕ). IsWalk (replicate 64 0) ks lines) (sym none)
-    (walk_fresh (replicate 64 0) lines (few_lines board isb lines (ap (λ (ls : List BoardLine). map (λ (x : BoardLine). x.def) ls) new ∙ defs_at (defs_of board) [])) refl
-    (λ k x at. zeros 64 k ∙ sym (no_entries x (past_at (defs_of board) [] k (board_line x) (subst (λ (ls : List BoardLine). slice_get ls k ≡ Some (board_line x)) new (map_there board_line lines k x at))))))
+    (walk_fresh (replicate 64 0) lines (few_lines board isb lines
+    (ap (λ (ls : List BoardLine). map (λ (x : BoardLine). x.def) ls) new ∙ defs_at (defs_of board) [])) refl
+    (λ k x at. zeros 64 k ∙ sym (no_entries x (past_at (defs_of board) [] k (board_line x)
+    (subst (λ (ls : List BoardLine). slice_get ls k ≡ Some (board_line x)) new
+    (map_there board_line lines k x at))))))
   where
     no_entries : (x : LineSeen) → reverse x.entries ≡ [] → length x.entries ≡ 0
     no_entries x none = sym (length-reverse x.entries) ∙ ap (λ (es : List Entry). length es) none
 
 -- what a walk answers
-pub first_left : (cursors order : List ℕ) (at k : ℕ) (lines : List LineSeen) (view : List Move) (r : Option Move) → slice_get order at ≡ Some k → IsWalk cursors (drop at order) lines → view ≡ moves_of (drop at order) lines → r ≡ move_at (slice_get lines k) (get_or cursors k 0)
+pub first_left : (cursors order : List ℕ) (at k : ℕ) (lines : List LineSeen) (view : List Move) (r : Option Move)
+    → slice_get order at ≡ Some k → IsWalk cursors (drop at order) lines → view ≡ moves_of (drop at order) lines
+    → r ≡ move_at (slice_get lines k) (get_or cursors k 0)
     → r ≡ slice_get view 0
 first_left cursors order at k lines view r here w is its =
     let n = next_at cursors order at k lines here w in
     its ∙ (n.is ∙ sym (ap (λ (g : List Move). slice_get g 0) (is ∙ n.moves)))
 
-pub rest_left : (cursors order : List ℕ) (at k : ℕ) (lines : List LineSeen) (view : List Move) → slice_get order at ≡ Some k → IsWalk cursors (drop at order) lines → view ≡ moves_of (drop at order) lines → moves_of (drop (at + 1) order) lines ≡ drop 1 view
+pub rest_left : (cursors order : List ℕ) (at k : ℕ) (lines : List LineSeen) (view : List Move)
+    → slice_get order at ≡ Some k → IsWalk cursors (drop at order) lines → view ≡ moves_of (drop at order) lines
+    → moves_of (drop (at + 1) order) lines ≡ drop 1 view
 rest_left cursors order at k lines view here w is = let n = next_at cursors order at k lines here w in sym (ap (λ (g : List Move). drop 1 g) (is ∙ n.moves))
 
-pub within_lines : {X : Type 0} (f : X → LineSeen) (cursors order : List ℕ) (at k : ℕ) (xs : List X) → slice_get order at ≡ Some k → IsWalk cursors (drop at order) (map f xs) → k < length xs
+pub within_lines : {X : Type 0} (f : X → LineSeen) (cursors order : List ℕ) (at k : ℕ) (xs : List X)
+    → slice_get order at ≡ Some k → IsWalk cursors (drop at order) (map f xs) → k < length xs
 within_lines f cursors order at k xs here w = let l = (next_at cursors order at k (map f xs) here w).within in let m = length-map xs f in omega (arith, l, m)
 
-pub short_cursor : (cursors order : List ℕ) (at k : ℕ) (lines : List LineSeen) (r : Option Move) → slice_get order at ≡ Some k → IsWalk cursors (drop at order) lines → r ≡ move_at (slice_get lines k) (get_or cursors k 0) → IfSome r (λ m. get_or cursors k 0 < 100000000)
+pub short_cursor : (cursors order : List ℕ) (at k : ℕ) (lines : List LineSeen) (r : Option Move)
+    → slice_get order at ≡ Some k → IsWalk cursors (drop at order) lines
+    → r ≡ move_at (slice_get lines k) (get_or cursors k 0) → IfSome r (λ m. get_or cursors k 0 < 100000000)
     → get_or cursors k 0 < 100000000
 short_cursor cursors order at k lines r here w its short =
     let n = next_at cursors order at k lines here w in subst (λ (o : Option Move). IfSome o (λ m. get_or cursors k 0 < 100000000)) (its ∙ n.is) short
 
-pub none_left : (order : List ℕ) (at : ℕ) (lines : List LineSeen) (view : List Move) (o : Option ℕ) → o ≡ slice_get order at → o ≡ None → view ≡ moves_of (drop at order) lines → view ≡ []
+pub none_left : (order : List ℕ) (at : ℕ) (lines : List LineSeen) (view : List Move) (o : Option ℕ)
+    → o ≡ slice_get order at → o ≡ None → view ≡ moves_of (drop at order) lines → view ≡ []
 none_left order at lines view o its none is = is ∙ ap (λ (ks : List ℕ). moves_of ks lines) (past_end order at (sym its ∙ none))
   where
     past_end : (xs : List ℕ) (i : ℕ) → slice_get xs i ≡ None → drop i xs ≡ []

@@ -1,5 +1,7 @@
 -- The definitions of a board's lines, with one device or one call more.
-use Rattle.std.proofs.Common.{◌≡◌, ◌≢◌, ℕ, zero, suc, ◌+◌, ◌<◌, ◌==◌, Bool, true, false, cond, not, nat_lt, Some, None, List, [], ◌∷◌, ◌++◌, length, filter, map, take, get_or, All, refl, sym, ap, subst, ◌∙◌, arith}
+use Rattle.std.proofs.Common.{◌≡◌, ◌≢◌, ℕ, zero, suc, ◌+◌, ◌<◌, ◌==◌, Bool, true, false, cond, not, nat_lt, Some, None}
+use Rattle.std.proofs.Common.{List, [], ◌∷◌, ◌++◌, length, filter, map, take, get_or, All, refl, sym, ap, subst, ◌∙◌}
+use Rattle.std.proofs.Common.{arith}
 use Rattle.std.specs.List.{slice_get, position_or_len}
 use Rattle.std.specs.Option.{option_map}
 use Rattle.std.proofs.Math.ListN.{set}
@@ -30,7 +32,8 @@ map_same : {A B : Type 0} (f g : A → B) (xs : List A) → ((j : ℕ) (z : A) �
 map_same f g [] same = refl
 map_same f g (x ∷ xs) same = ap (λ y. y ∷ map g xs) (same zero x refl) ∙ ap (λ ys. f x ∷ ys) (map_same f g xs (λ j z at. same (suc j) z at))
 
-map_but_one : {A B : Type 0} (f g : A → B) (xs : List A) (i : ℕ) (x : A) (y : B) → slice_get xs i ≡ Some x → g x ≡ y → ((j : ℕ) (z : A) → slice_get xs j ≡ Some z → j ≢ i → g z ≡ f z)
+map_but_one : {A B : Type 0} (f g : A → B) (xs : List A) (i : ℕ) (x : A) (y : B) → slice_get xs i ≡ Some x → g x ≡ y
+    → ((j : ℕ) (z : A) → slice_get xs j ≡ Some z → j ≢ i → g z ≡ f z)
     → map g xs ≡ set (map f xs) i y
 map_but_one f g [] i x y at is others = absurd cc
 map_but_one f g (z ∷ zs) zero x y at is others =
@@ -41,7 +44,8 @@ map_but_one f g (z ∷ zs) (suc i) x y at is others =
     ∙ ap (λ ws. f z ∷ ws) (map_but_one f g zs i x y at is (λ j w there other. others (suc j) w there (λ e. other (omega (arith, e)))))
 
 -- what rises is another at another place
-apart : {A : Type 0} (key : A → ℕ) (xs : List A) (i j : ℕ) (x y : A) → Rises key xs → slice_get xs i ≡ Some x → slice_get xs j ≡ Some y → j ≢ i → (key x == key y) ≡ false
+apart : {A : Type 0} (key : A → ℕ) (xs : List A) (i j : ℕ) (x y : A) → Rises key xs → slice_get xs i ≡ Some x
+    → slice_get xs j ≡ Some y → j ≢ i → (key x == key y) ≡ false
 apart key [] i j x y rises at there other = absurd cc
 apart key (z ∷ zs) zero zero x y rises at there other = absurd (other refl)
 apart key (z ∷ zs) zero (suc j) x y rises at there other =
@@ -53,7 +57,8 @@ apart key (z ∷ zs) (suc i) zero x y rises at there other =
 apart key (z ∷ zs) (suc i) (suc j) x y rises at there other = apart key zs i j x y (rises_on key z zs rises) at there (λ e. other (ap suc e))
 
 -- a place that isn't found is none's
-none_by : {A : Type 0} (test : A → Bool) (xs : List A) → nat_lt (position_or_len test xs) (length xs) ≡ false → (j : ℕ) (z : A) → slice_get xs j ≡ Some z → test z ≡ false
+none_by : {A : Type 0} (test : A → Bool) (xs : List A) → nat_lt (position_or_len test xs) (length xs) ≡ false
+    → (j : ℕ) (z : A) → slice_get xs j ≡ Some z → test z ≡ false
 none_by test [] none j z at = absurd cc
 none_by {A} test (x ∷ xs) none j z at = by (test x) refl none j at (none_by test xs)
   where
@@ -70,7 +75,8 @@ not_some : (b : Bool) (n : ℕ) → cond b (Some n) None ≡ None → b ≡ fals
 not_some true n e = absurd cc
 not_some false n e = refl
 
-nowhere : (rows : List LineRow) (line : LineNo) → place_of_line rows line ≡ None → (j : ℕ) (row : LineRow) → slice_get rows j ≡ Some row → (line.0 == row.line.0) ≡ false
+nowhere : (rows : List LineRow) (line : LineNo) → place_of_line rows line ≡ None → (j : ℕ) (row : LineRow)
+    → slice_get rows j ≡ Some row → (line.0 == row.line.0) ≡ false
 nowhere rows line none =
     let test : LineRow → Bool = λ row. line.0 == row.line.0 in
     none_by test rows (not_some (nat_lt (position_or_len test rows) (length rows)) (position_or_len test rows) none)
@@ -106,18 +112,25 @@ found_at rows line place found =
 
 -- ---- the definitions, each a function of its row
 
-rises_apart : (rows : List LineRow) (line : LineNo) (i : ℕ) (own : IsAt rows line i) → Rises (λ (row : LineRow). row.line.0) rows → (j : ℕ) (row : LineRow) → slice_get rows j ≡ Some row → j ≢ i → (line.0 == row.line.0) ≡ false
+rises_apart : (rows : List LineRow) (line : LineNo) (i : ℕ) (own : IsAt rows line i)
+    → Rises (λ (row : LineRow). row.line.0) rows → (j : ℕ) (row : LineRow) → slice_get rows j ≡ Some row → j ≢ i
+    → (line.0 == row.line.0) ≡ false
 rises_apart rows line i own rises j row at other =
     let same : line.0 ≡ own.row.line.0 = grind (arith, nat_tests, own.is) in
     ap (λ n. n == row.line.0) same ∙ apart (λ (row : LineRow). row.line.0) rows i j own.row row rises own.at at other
 
 -- what is given to the line of that number changes the definition at its place, and no other
 module _ (f g : LineRow → LineDef) (line : LineNo) (change : LineDef → LineDef) (rows : List LineRow)
-    (here : (row : LineRow) → (line.0 == row.line.0) ≡ true → g row ≡ change (f row)) (others : (row : LineRow) → (line.0 == row.line.0) ≡ false → g row ≡ f row) where
-  given_at : (place : ℕ) (d : LineDef) → Rises (λ (row : LineRow). row.line.0) rows → place_of_line rows line ≡ Some place → map g rows ≡ set (map f rows) place (change (get_or (map f rows) place d))
+    (here : (row : LineRow) → (line.0 == row.line.0) ≡ true → g row ≡ change (f row))
+    (others : (row : LineRow) → (line.0 == row.line.0) ≡ false → g row ≡ f row) where
+  given_at : (place : ℕ) (d : LineDef) → Rises (λ (row : LineRow). row.line.0) rows
+      → place_of_line rows line ≡ Some place → map g rows
+      ≡ set (map f rows) place (change (get_or (map f rows) place d))
   given_at place d rises found =
       let own = found_at rows line place found in
-      let def : get_or (map f rows) place d ≡ f own.row = get_or_from_slice_get (map f rows) place (f own.row) d (slice_get-map f rows place ∙ ap (option_map f) own.at) in
+      let def : get_or (map f rows) place d ≡ f own.row
+      = get_or_from_slice_get (map f rows) place (f own.row) d
+      (slice_get-map f rows place ∙ ap (option_map f) own.at) in
       map_but_one f g rows place own.row (change (get_or (map f rows) place d)) own.at (here own.row own.is ∙ ap change (sym def))
       (λ j row at other. others row (rises_apart rows line place own rises j row at other))
 
@@ -132,23 +145,29 @@ with_device x def = record def { devices = def.devices ++ x ∷ [] }
 abbrev defs_by_devices : BoardSeen → ℕ → LineRow → LineDef
 defs_by_devices b i row = line_of_row (with_parts b (take i b.devices) []) row
 
-device_here : (b : BoardSeen) (i : ℕ) (x : DeviceDef) → slice_get b.devices i ≡ Some x → (row : LineRow) → (x.line.0 == row.line.0) ≡ true → defs_by_devices b (i + 1) row ≡ with_device x (defs_by_devices b i row)
+device_here : (b : BoardSeen) (i : ℕ) (x : DeviceDef) → slice_get b.devices i ≡ Some x → (row : LineRow)
+    → (x.line.0 == row.line.0) ≡ true → defs_by_devices b (i + 1) row ≡ with_device x (defs_by_devices b i row)
 device_here b i x at row is =
     let keep : DeviceDef → Bool = λ y. y.line.0 == row.line.0 in
     ap (λ (ds : List DeviceDef). record (line_of_row (with_parts b [] []) row) { devices = ds }) (kept_at keep b.devices i x true at is)
 
-device_elsewhere : (b : BoardSeen) (i : ℕ) (x : DeviceDef) → slice_get b.devices i ≡ Some x → (row : LineRow) → (x.line.0 == row.line.0) ≡ false → defs_by_devices b (i + 1) row ≡ defs_by_devices b i row
+device_elsewhere : (b : BoardSeen) (i : ℕ) (x : DeviceDef) → slice_get b.devices i ≡ Some x → (row : LineRow)
+    → (x.line.0 == row.line.0) ≡ false → defs_by_devices b (i + 1) row ≡ defs_by_devices b i row
 device_elsewhere b i x at row is =
     let keep : DeviceDef → Bool = λ y. y.line.0 == row.line.0 in
-    ap (λ (ds : List DeviceDef). record (line_of_row (with_parts b [] []) row) { devices = ds }) (kept_at keep b.devices i x false at is ∙ append-nil (filter keep (take i b.devices)))
+    ap (λ (ds : List DeviceDef). record (line_of_row (with_parts b [] []) row) { devices = ds })
+    (kept_at keep b.devices i x false at is ∙ append-nil (filter keep (take i b.devices)))
 
-pub device_given : (b : BoardSeen) (i : ℕ) (x : DeviceDef) (place : ℕ) (now : LineDef) → IsBoard b → slice_get b.devices i ≡ Some x → place_of_line b.lines x.line ≡ Some place
-    → (defs : List LineDef) → defs ≡ line_defs_of (with_parts b (take i b.devices) []) → now ≡ get_or defs place now → (def : LineDef) → def ≡ record now { devices = now.devices ++ x ∷ [] }
+pub device_given : (b : BoardSeen) (i : ℕ) (x : DeviceDef) (place : ℕ) (now : LineDef) → IsBoard b
+    → slice_get b.devices i ≡ Some x → place_of_line b.lines x.line ≡ Some place
+    → (defs : List LineDef) → defs ≡ line_defs_of (with_parts b (take i b.devices) []) → now ≡ get_or defs place now
+    → (def : LineDef) → def ≡ record now { devices = now.devices ++ x ∷ [] }
     → set defs place def ≡ line_defs_of (with_parts b (take (i + 1) b.devices) [])
 device_given b i x place now board at found defs are value def is =
     ap (set defs place) (is ∙ ap (with_device x) value)
     ∙ (ap (λ (ds : List LineDef). set ds place (with_device x (get_or ds place now))) are
-    ∙ sym (given_at (defs_by_devices b i) (defs_by_devices b (i + 1)) x.line (with_device x) b.lines (device_here b i x at) (device_elsewhere b i x at) place now (lines_rise b board) found))
+    ∙ sym (given_at (defs_by_devices b i) (defs_by_devices b (i + 1)) x.line (with_device x) b.lines
+    (device_here b i x at) (device_elsewhere b i x at) place now (lines_rise b board) found))
 
 pub device_nowhere : (b : BoardSeen) (i : ℕ) (x : DeviceDef) → slice_get b.devices i ≡ Some x → place_of_line b.lines x.line ≡ None
     → line_defs_of (with_parts b (take i b.devices) []) ≡ line_defs_of (with_parts b (take (i + 1) b.devices) [])
@@ -163,25 +182,30 @@ with_call c def = record def { calls = def.calls ++ with_driver c ∷ [] }
 abbrev defs_by_calls : BoardSeen → ℕ → LineRow → LineDef
 defs_by_calls b i row = line_of_row (with_parts b b.devices (take i b.calls)) row
 
-call_here : (b : BoardSeen) (i : ℕ) (c : ScriptCall) → slice_get b.calls i ≡ Some c → (row : LineRow) → (c.line.0 == row.line.0) ≡ true → defs_by_calls b (i + 1) row ≡ with_call c (defs_by_calls b i row)
+call_here : (b : BoardSeen) (i : ℕ) (c : ScriptCall) → slice_get b.calls i ≡ Some c → (row : LineRow)
+    → (c.line.0 == row.line.0) ≡ true → defs_by_calls b (i + 1) row ≡ with_call c (defs_by_calls b i row)
 call_here b i c at row is =
     let keep : ScriptCall → Bool = λ y. y.line.0 == row.line.0 in
     ap (λ (cs : List (DriverNo × Call)). record (line_of_row (with_parts b b.devices []) row) { calls = cs })
     (ap (map with_driver) (kept_at keep b.calls i c true at is) ∙ map-append with_driver (filter keep (take i b.calls)) (c ∷ []))
 
-call_elsewhere : (b : BoardSeen) (i : ℕ) (c : ScriptCall) → slice_get b.calls i ≡ Some c → (row : LineRow) → (c.line.0 == row.line.0) ≡ false → defs_by_calls b (i + 1) row ≡ defs_by_calls b i row
+call_elsewhere : (b : BoardSeen) (i : ℕ) (c : ScriptCall) → slice_get b.calls i ≡ Some c → (row : LineRow)
+    → (c.line.0 == row.line.0) ≡ false → defs_by_calls b (i + 1) row ≡ defs_by_calls b i row
 call_elsewhere b i c at row is =
     let keep : ScriptCall → Bool = λ y. y.line.0 == row.line.0 in
     ap (λ (cs : List (DriverNo × Call)). record (line_of_row (with_parts b b.devices []) row) { calls = cs })
     (ap (map with_driver) (kept_at keep b.calls i c false at is ∙ append-nil (filter keep (take i b.calls))))
 
-pub call_given : (b : BoardSeen) (i : ℕ) (c : ScriptCall) (place : ℕ) (now : LineDef) → IsBoard b → slice_get b.calls i ≡ Some c → place_of_line b.lines c.line ≡ Some place
-    → (defs : List LineDef) → defs ≡ line_defs_of (with_parts b b.devices (take i b.calls)) → now ≡ get_or defs place now → (def : LineDef) → def ≡ record now { calls = now.calls ++ with_driver c ∷ [] }
+pub call_given : (b : BoardSeen) (i : ℕ) (c : ScriptCall) (place : ℕ) (now : LineDef) → IsBoard b
+    → slice_get b.calls i ≡ Some c → place_of_line b.lines c.line ≡ Some place
+    → (defs : List LineDef) → defs ≡ line_defs_of (with_parts b b.devices (take i b.calls))
+    → now ≡ get_or defs place now → (def : LineDef) → def ≡ record now { calls = now.calls ++ with_driver c ∷ [] }
     → set defs place def ≡ line_defs_of (with_parts b b.devices (take (i + 1) b.calls))
 call_given b i c place now board at found defs are value def is =
     ap (set defs place) (is ∙ ap (with_call c) value)
     ∙ (ap (λ (ds : List LineDef). set ds place (with_call c (get_or ds place now))) are
-    ∙ sym (given_at (defs_by_calls b i) (defs_by_calls b (i + 1)) c.line (with_call c) b.lines (call_here b i c at) (call_elsewhere b i c at) place now (lines_rise b board) found))
+    ∙ sym (given_at (defs_by_calls b i) (defs_by_calls b (i + 1)) c.line (with_call c) b.lines (call_here b i c at)
+    (call_elsewhere b i c at) place now (lines_rise b board) found))
 
 pub call_nowhere : (b : BoardSeen) (i : ℕ) (c : ScriptCall) → slice_get b.calls i ≡ Some c → place_of_line b.lines c.line ≡ None
     → line_defs_of (with_parts b b.devices (take i b.calls)) ≡ line_defs_of (with_parts b b.devices (take (i + 1) b.calls))
@@ -190,9 +214,11 @@ call_nowhere b i c at none =
 
 -- ---- all lines
 
-valid_from : (b : BoardSeen) (rows : List LineRow) → ((i : ℕ) (row : LineRow) → slice_get rows i ≡ Some row → IsValid (line_of_row b row)) → All IsValid (map (line_of_row b) rows)
+valid_from : (b : BoardSeen) (rows : List LineRow) → ((i : ℕ) (row : LineRow) → slice_get rows i ≡ Some row
+    → IsValid (line_of_row b row)) → All IsValid (map (line_of_row b) rows)
 valid_from b [] each = λ k d h. absurd (omega (arith, h))
-valid_from b (row ∷ rows) each = all_of IsValid (line_of_row b row) (map (line_of_row b) rows) (each zero row refl) (valid_from b rows (λ i row at. each (suc i) row at))
+valid_from b (row ∷ rows) each = all_of IsValid (line_of_row b row) (map (line_of_row b) rows) (each zero row refl)
+    (valid_from b rows (λ i row at. each (suc i) row at))
 
 -- each definition is valid
 pub all_valid : (b : BoardSeen) (defs : List LineDef) → IsBoard b → defs ≡ line_defs_of b → All IsValid defs
@@ -202,7 +228,8 @@ take_next : {A : Type 0} (xs : List A) (i : ℕ) (x : A) → slice_get xs i ≡ 
 take_next xs i x at = take_more xs i x (slice_get_within xs i x at) ∙ ap (λ y. take i xs ++ y ∷ []) (get_or_from_slice_get xs i x x at)
 
 -- the definitions of the rows so far, and of one more
-pub row_more : (f : LineRow → LineDef) (rows : List LineRow) (i : ℕ) (row : LineRow) (defs after : List LineDef) (def : LineDef) → slice_get rows i ≡ Some row → defs ≡ map f (take i rows) → def ≡ f row
+pub row_more : (f : LineRow → LineDef) (rows : List LineRow) (i : ℕ) (row : LineRow) (defs after : List LineDef)
+    (def : LineDef) → slice_get rows i ≡ Some row → defs ≡ map f (take i rows) → def ≡ f row
     → after ≡ defs ++ def ∷ [] → after ≡ map f (take (i + 1) rows)
 row_more f rows i row defs after def at are is goes =
     goes ∙ (ap (λ (ds : List LineDef). ds ++ def ∷ []) are ∙ (ap (λ d. map f (take i rows) ++ d ∷ []) is

@@ -1,5 +1,6 @@
 -- What is declared, and where it is found.
-use Rattle.std.proofs.Common.{◌≡◌, ℕ, suc, ◌-◌, ◌+◌, ◌<◌, ◌==◌, Bool, true, false, cond, ◌||◌, not, nat_lt, Some, None, List, [], ◌∷◌, length, is_some, refl, ◌∙◌, arith}
+use Rattle.std.proofs.Common.{◌≡◌, ℕ, suc, ◌-◌, ◌+◌, ◌<◌, ◌==◌, Bool, true, false, cond, ◌||◌, not, nat_lt, Some, None}
+use Rattle.std.proofs.Common.{List, [], ◌∷◌, length, is_some, refl, ◌∙◌, arith}
 use Rattle.std.specs.List.{slice_get, position_or_len}
 use Rattle.std.proofs.lemmas.Bool.Decides.{nat_tests}
 use Rattle.std.proofs.lemmas.List.Quantifiers.{position-Some}
@@ -22,7 +23,8 @@ has_line_found (x ∷ xs) line = by (x.line.0 == line.0) (has_line_found xs line
 
 -- a name is a domain's exactly if a domain of it has a place
 pub has_name_place : (domains : List DomainRow) (name : Name) → has_name domains name ≡ is_some (place_of_name domains name)
-has_name_place domains name = walk domains ∙ shown (nat_lt (position_or_len (is_domain_named name) domains) (length domains)) (position_or_len (is_domain_named name) domains)
+has_name_place domains name = walk domains ∙ shown (nat_lt (position_or_len (is_domain_named name) domains)
+    (length domains)) (position_or_len (is_domain_named name) domains)
   where
     shown : (b : Bool) (n : ℕ) → b ≡ is_some (cond b (Some n) None)
     shown true n = refl

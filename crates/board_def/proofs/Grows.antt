@@ -1,5 +1,7 @@
 -- A board with one more row is a board, if the row meets its rule after the rows before it.
-use Rattle.std.proofs.Common.{◌≡◌, ℕ, zero, suc, ◌+◌, ◌*◌, ◌<◌, ◌≤◌, ◌==◌, Bool, true, false, cond, ◌||◌, ◌&&◌, not, Option, Some, None, List, [], ◌∷◌, ◌++◌, length, take, All, refl, sym, ap, subst, ◌∙◌, arith}
+use Rattle.std.proofs.Common.{◌≡◌, ℕ, zero, suc, ◌+◌, ◌*◌, ◌<◌, ◌≤◌, ◌==◌, Bool, true, false, cond, ◌||◌, ◌&&◌, not}
+use Rattle.std.proofs.Common.{Option, Some, None, List, [], ◌∷◌, ◌++◌, length, take, All, refl, sym, ap, subst, ◌∙◌}
+use Rattle.std.proofs.Common.{arith}
 use Rattle.std.specs.List.{list_any}
 use Rattle.std.proofs.lemmas.List.{length_push}
 use Rattle.irq_base.specs.Cell.{is_edge_trigger}
@@ -14,7 +16,9 @@ use Rattle.irq_base.specs.declared.numbers.LineNo.{LineNo}
 use Rattle.irq_model.specs.Kinds.{same_dev}
 use Rattle.domain_rules.specs.Levels.{root_kind, trigger_of_root, keeps}
 use Rattle.domain_rules.specs.Domains.{EachAfter, IsDomainAfter}
-use Rattle.board_def.specs.Rules.{IsBoard, IsDomainRowAfter, IsLineAfter, IsDeviceAfter, IsDriverAfter, IsCallAfter, IsActorOf, has_driver, find_device, fits_line, is_on_line, is_threaded_on, is_bad_unlazy}
+use Rattle.board_def.specs.Rules.{IsBoard, IsDomainRowAfter, IsLineAfter, IsDeviceAfter, IsDriverAfter, IsCallAfter}
+use Rattle.board_def.specs.Rules.{IsActorOf, has_driver, find_device, fits_line, is_on_line, is_threaded_on}
+use Rattle.board_def.specs.Rules.{is_bad_unlazy}
 use Rattle.board_def.specs.Seen.{BoardSeen}
 use Rattle.board_def.specs.Unnamed.{def_of, defs_of}
 use Rattle.domain_rules.proofs.Ways.{kinds_stay}
@@ -26,7 +30,8 @@ use Rattle.board_def.specs.declared.rows.ScriptCall.{ScriptCall}
 use Rattle.domain_rules.proofs.EachAfters.{each_more}
 
 -- what one condition gives, each item
-pub each_from : {A : Type 0} (P Q : List A → A → Type 0) → ((earlier : List A) (x : A) → P earlier x → Q earlier x) → (xs : List A) → EachAfter P xs → EachAfter Q xs
+pub each_from : {A : Type 0} (P Q : List A → A → Type 0) → ((earlier : List A) (x : A) → P earlier x → Q earlier x)
+    → (xs : List A) → EachAfter P xs → EachAfter Q xs
 each_from P Q from xs each i x at = from (take i xs) x (each i x at)
 
 pub all_from : {A : Type 0} (P Q : A → Type 0) → ((x : A) → P x → Q x) → (xs : List A) → All P xs → All Q xs
@@ -44,7 +49,8 @@ any_stays : {A : Type 0} (test : A → Bool) (xs : List A) (x : A) → list_any 
 any_stays test [] x h = absurd cc
 any_stays test (y ∷ ys) x h = by (test y) h (any_stays test ys x)
   where
-    by : (b : Bool) → (b || list_any test ys) ≡ true → (list_any test ys ≡ true → list_any test (ys ++ x ∷ []) ≡ true) → (b || list_any test (ys ++ x ∷ [])) ≡ true
+    by : (b : Bool) → (b || list_any test ys) ≡ true → (list_any test ys ≡ true → list_any test (ys ++ x ∷ []) ≡ true)
+        → (b || list_any test (ys ++ x ∷ [])) ≡ true
     by true h rest = refl
     by false h rest = rest h
 
@@ -52,11 +58,14 @@ device_stays : (dev : DevNo) (xs : List DeviceDef) (x d : DeviceDef) → find_de
 device_stays dev [] x d h = absurd cc
 device_stays dev (y ∷ ys) x d h = by (same_dev dev y.dev) h (device_stays dev ys x d)
   where
-    by : (b : Bool) → cond b (Some y) (find_device ys dev) ≡ Some d → (find_device ys dev ≡ Some d → find_device (ys ++ x ∷ []) dev ≡ Some d) → cond b (Some y) (find_device (ys ++ x ∷ []) dev) ≡ Some d
+    by : (b : Bool) → cond b (Some y) (find_device ys dev) ≡ Some d
+        → (find_device ys dev ≡ Some d → find_device (ys ++ x ∷ []) dev ≡ Some d)
+        → cond b (Some y) (find_device (ys ++ x ∷ []) dev) ≡ Some d
     by true h rest = h
     by false h rest = rest h
 
-test_stays : (test : Option DeviceDef → Bool) → test None ≡ false → (dev : DevNo) (xs : List DeviceDef) (x : DeviceDef) → test (find_device xs dev) ≡ true → test (find_device (xs ++ x ∷ []) dev) ≡ true
+test_stays : (test : Option DeviceDef → Bool) → test None ≡ false → (dev : DevNo) (xs : List DeviceDef) (x : DeviceDef)
+    → test (find_device xs dev) ≡ true → test (find_device (xs ++ x ∷ []) dev) ≡ true
 test_stays test none dev xs x h = by (find_device xs dev) refl h
   where
     by : (r : Option DeviceDef) → find_device xs dev ≡ r → test r ≡ true → test (find_device (xs ++ x ∷ []) dev) ≡ true
@@ -80,7 +89,8 @@ module _ (xs : List DomainRow) (x : DomainRow) where
   defs_more : defs_of (xs ++ x ∷ []) ≡ defs_of xs ++ def_of x ∷ []
   defs_more = map-append def_of xs (x ∷ [])
 
-  unlazy_stays : (place : ℕ) (unlazy : Bool) → EachAfter IsDomainAfter (defs_of xs) → place < length xs → is_bad_unlazy (defs_of (xs ++ x ∷ [])) place unlazy ≡ is_bad_unlazy (defs_of xs) place unlazy
+  unlazy_stays : (place : ℕ) (unlazy : Bool) → EachAfter IsDomainAfter (defs_of xs) → place < length xs
+      → is_bad_unlazy (defs_of (xs ++ x ∷ [])) place unlazy ≡ is_bad_unlazy (defs_of xs) place unlazy
   unlazy_stays place unlazy each within =
       let declared : place < length (defs_of xs) = omega (arith, within, length-map xs def_of) in
       ap (λ defs. is_bad_unlazy defs place unlazy) defs_more
@@ -94,7 +104,8 @@ same_actors b c d n r (actors.Driver driver) p = subst (λ xs. has_driver xs dri
 
 -- one more of each
 
-pub grows_domain : (b : BoardSeen) (row : DomainRow) → IsBoard b → length b.domains < 32 → IsDomainRowAfter b.domains row → IsBoard (record b { domains = b.domains ++ row ∷ [] })
+pub grows_domain : (b : BoardSeen) (row : DomainRow) → IsBoard b → length b.domains < 32
+    → IsDomainRowAfter b.domains row → IsBoard (record b { domains = b.domains ++ row ∷ [] })
 grows_domain b row h few here =
     let c = record b { domains = b.domains ++ row ∷ [] } in
     record {
@@ -122,11 +133,21 @@ grows_domain b row h few here =
           }) b.lines h.lines;
       devices = each_from (IsDeviceAfter b) (IsDeviceAfter c) (λ earlier x d. record { number = d.number; rises = d.rises; line = d.line }) b.devices h.devices;
       drivers = h.drivers;
-      calls = each_from (IsCallAfter b) (IsCallAfter c) (λ earlier x k. record { driver = k.driver; in_order = k.in_order; line = k.line; device = k.device; owner = k.owner }) b.calls h.calls;
+      calls = each_from (IsCallAfter b) (IsCallAfter c)
+          (λ earlier x k. record {
+            driver = k.driver;
+            in_order = k.in_order;
+            line = k.line;
+            device = k.device;
+            owner
+                = k.owner;
+          }) b.calls h.calls;
       picks = all_from (IsActorOf b) (IsActorOf c) (same_actors b c refl refl refl) b.picks h.picks;
     }
 
-pub grows_line : (b : BoardSeen) (row : LineRow) → IsBoard b → length b.lines < 64 → b.log * (length b.lines + 1) ≤ 4000000 → IsLineAfter b b.lines row → IsBoard (record b { lines = b.lines ++ row ∷ [] })
+pub grows_line : (b : BoardSeen) (row : LineRow) → IsBoard b → length b.lines < 64
+    → b.log * (length b.lines + 1) ≤ 4000000 → IsLineAfter b b.lines row
+    → IsBoard (record b { lines = b.lines ++ row ∷ [] })
 grows_line b row h few room here =
     let c = record b { lines = b.lines ++ row ∷ [] } in
     let same : (earlier : List LineRow) (x : LineRow) → IsLineAfter b earlier x → IsLineAfter c earlier x =
@@ -147,17 +168,33 @@ grows_line b row h few room here =
       entries = subst (λ n. b.log * n ≤ 4000000) (sym (length_push b.lines row)) room;
       domains = h.domains;
       lines = each_more (IsLineAfter c) b.lines row (each_from (IsLineAfter b) (IsLineAfter c) same b.lines h.lines) (same b.lines row here);
-      devices = each_from (IsDeviceAfter b) (IsDeviceAfter c) (λ earlier x d. record { number = d.number; rises = d.rises; line = any_stays (λ (e : LineRow). e.line.0 == x.line.0) b.lines row d.line }) b.devices h.devices;
+      devices = each_from (IsDeviceAfter b) (IsDeviceAfter c)
+          (λ earlier x d. record {
+            number = d.number;
+            rises = d.rises;
+            line
+                = any_stays (λ (e : LineRow). e.line.0 == x.line.0) b.lines row d.line;
+          }) b.devices h.devices;
       drivers = h.drivers;
       calls = each_from (IsCallAfter b) (IsCallAfter c)
-          (λ earlier x k. record { driver = k.driver; in_order = k.in_order; line = any_stays (λ (e : LineRow). e.line.0 == x.line.0) b.lines row k.line; device = k.device; owner = k.owner }) b.calls h.calls;
+          (λ earlier x k. record {
+            driver = k.driver;
+            in_order = k.in_order;
+            line
+                = any_stays (λ (e : LineRow). e.line.0 == x.line.0) b.lines row k.line;
+            device = k.device;
+            owner
+                = k.owner;
+          }) b.calls h.calls;
       picks = all_from (IsActorOf b) (IsActorOf c) (same_actors b c refl refl refl) b.picks h.picks;
     }
 
-pub grows_device : (b : BoardSeen) (device : DeviceDef) → IsBoard b → length b.devices < 256 → IsDeviceAfter b b.devices device → IsBoard (record b { devices = b.devices ++ device ∷ [] })
+pub grows_device : (b : BoardSeen) (device : DeviceDef) → IsBoard b → length b.devices < 256
+    → IsDeviceAfter b b.devices device → IsBoard (record b { devices = b.devices ++ device ∷ [] })
 grows_device b device h few here =
     let c = record b { devices = b.devices ++ device ∷ [] } in
-    let same : (earlier : List DeviceDef) (x : DeviceDef) → IsDeviceAfter b earlier x → IsDeviceAfter c earlier x = λ earlier x d. record { number = d.number; rises = d.rises; line = d.line } in
+    let same : (earlier : List DeviceDef) (x : DeviceDef) → IsDeviceAfter b earlier x
+    → IsDeviceAfter c earlier x = λ earlier x d. record { number = d.number; rises = d.rises; line = d.line } in
     record {
       some_cpu = h.some_cpu;
       few_cpus = h.few_cpus;
@@ -173,11 +210,27 @@ grows_device b device h few here =
       few_picks = h.few_picks;
       entries = h.entries;
       domains = h.domains;
-      lines = each_from (IsLineAfter b) (IsLineAfter c) (λ earlier x l. record { number = l.number; rises = l.rises; domain = l.domain; unlazy = l.unlazy; mask = l.mask }) b.lines h.lines;
-      devices = each_more (IsDeviceAfter c) b.devices device (each_from (IsDeviceAfter b) (IsDeviceAfter c) same b.devices h.devices) (same b.devices device here);
+      lines = each_from (IsLineAfter b) (IsLineAfter c)
+          (λ earlier x l. record {
+            number = l.number;
+            rises = l.rises;
+            domain = l.domain;
+            unlazy = l.unlazy;
+            mask
+                = l.mask;
+          }) b.lines h.lines;
+      devices = each_more (IsDeviceAfter c) b.devices device
+          (each_from (IsDeviceAfter b) (IsDeviceAfter c) same b.devices h.devices) (same b.devices device here);
       drivers = h.drivers;
       calls = each_from (IsCallAfter b) (IsCallAfter c)
-          (λ earlier x k. record { driver = k.driver; in_order = k.in_order; line = k.line; device = fits_stays x.line b.devices device x.call k.device; owner = k.owner }) b.calls h.calls;
+          (λ earlier x k. record {
+            driver = k.driver;
+            in_order = k.in_order;
+            line = k.line;
+            device
+                = fits_stays x.line b.devices device x.call k.device;
+            owner = k.owner;
+          }) b.calls h.calls;
       picks = all_from (IsActorOf b) (IsActorOf c) by b.picks h.picks;
     }
   where
@@ -186,7 +239,8 @@ grows_device b device h few here =
     by (actors.Cpu cpu) p = p
     by (actors.Driver driver) p = p
 
-pub grows_driver : (b : BoardSeen) (driver : DriverNo) → IsBoard b → length b.drivers < 64 → IsDriverAfter b.drivers driver → IsBoard (record b { drivers = b.drivers ++ driver ∷ [] })
+pub grows_driver : (b : BoardSeen) (driver : DriverNo) → IsBoard b → length b.drivers < 64
+    → IsDriverAfter b.drivers driver → IsBoard (record b { drivers = b.drivers ++ driver ∷ [] })
 grows_driver b driver h few here =
     let c = record b { drivers = b.drivers ++ driver ∷ [] } in
     record {
@@ -204,11 +258,25 @@ grows_driver b driver h few here =
       few_picks = h.few_picks;
       entries = h.entries;
       domains = h.domains;
-      lines = each_from (IsLineAfter b) (IsLineAfter c) (λ earlier x l. record { number = l.number; rises = l.rises; domain = l.domain; unlazy = l.unlazy; mask = l.mask }) b.lines h.lines;
+      lines = each_from (IsLineAfter b) (IsLineAfter c)
+          (λ earlier x l. record {
+            number = l.number;
+            rises = l.rises;
+            domain = l.domain;
+            unlazy = l.unlazy;
+            mask
+                = l.mask;
+          }) b.lines h.lines;
       devices = each_from (IsDeviceAfter b) (IsDeviceAfter c) (λ earlier x d. record { number = d.number; rises = d.rises; line = d.line }) b.devices h.devices;
       drivers = each_more IsDriverAfter b.drivers driver h.drivers here;
       calls = each_from (IsCallAfter b) (IsCallAfter c)
-          (λ earlier x k. record { driver = any_stays (λ (d : DriverNo). d.0 == x.driver.0) b.drivers driver k.driver; in_order = k.in_order; line = k.line; device = k.device; owner = k.owner }) b.calls h.calls;
+          (λ earlier x k. record {
+            driver = any_stays (λ (d : DriverNo). d.0 == x.driver.0) b.drivers driver k.driver;
+            in_order = k.in_order;
+            line = k.line;
+            device = k.device;
+            owner = k.owner;
+          }) b.calls h.calls;
       picks = all_from (IsActorOf b) (IsActorOf c) by b.picks h.picks;
     }
   where
@@ -217,7 +285,8 @@ grows_driver b driver h few here =
     by (actors.Cpu cpu) p = p
     by (actors.Driver r) p = any_stays (λ (d : DriverNo). d.0 == r.0) b.drivers driver p
 
-pub grows_call : (b : BoardSeen) (call : ScriptCall) → IsBoard b → length b.calls < 16384 → IsCallAfter b b.calls call → IsBoard (record b { calls = b.calls ++ call ∷ [] })
+pub grows_call : (b : BoardSeen) (call : ScriptCall) → IsBoard b → length b.calls < 16384 → IsCallAfter b b.calls call
+    → IsBoard (record b { calls = b.calls ++ call ∷ [] })
 grows_call b call h few here =
     let c = record b { calls = b.calls ++ call ∷ [] } in
     let same : (earlier : List ScriptCall) (x : ScriptCall) → IsCallAfter b earlier x → IsCallAfter c earlier x =
@@ -237,7 +306,15 @@ grows_call b call h few here =
       few_picks = h.few_picks;
       entries = h.entries;
       domains = h.domains;
-      lines = each_from (IsLineAfter b) (IsLineAfter c) (λ earlier x l. record { number = l.number; rises = l.rises; domain = l.domain; unlazy = l.unlazy; mask = l.mask }) b.lines h.lines;
+      lines = each_from (IsLineAfter b) (IsLineAfter c)
+          (λ earlier x l. record {
+            number = l.number;
+            rises = l.rises;
+            domain = l.domain;
+            unlazy = l.unlazy;
+            mask
+                = l.mask;
+          }) b.lines h.lines;
       devices = each_from (IsDeviceAfter b) (IsDeviceAfter c) (λ earlier x d. record { number = d.number; rises = d.rises; line = d.line }) b.devices h.devices;
       drivers = h.drivers;
       calls = each_more (IsCallAfter c) b.calls call (each_from (IsCallAfter b) (IsCallAfter c) same b.calls h.calls) (same b.calls call here);
@@ -262,9 +339,25 @@ grows_pick b pick h few here =
       few_picks = omega (arith, length_push b.picks pick);
       entries = h.entries;
       domains = h.domains;
-      lines = each_from (IsLineAfter b) (IsLineAfter c) (λ earlier x l. record { number = l.number; rises = l.rises; domain = l.domain; unlazy = l.unlazy; mask = l.mask }) b.lines h.lines;
+      lines = each_from (IsLineAfter b) (IsLineAfter c)
+          (λ earlier x l. record {
+            number = l.number;
+            rises = l.rises;
+            domain = l.domain;
+            unlazy = l.unlazy;
+            mask
+                = l.mask;
+          }) b.lines h.lines;
       devices = each_from (IsDeviceAfter b) (IsDeviceAfter c) (λ earlier x d. record { number = d.number; rises = d.rises; line = d.line }) b.devices h.devices;
       drivers = h.drivers;
-      calls = each_from (IsCallAfter b) (IsCallAfter c) (λ earlier x k. record { driver = k.driver; in_order = k.in_order; line = k.line; device = k.device; owner = k.owner }) b.calls h.calls;
+      calls = each_from (IsCallAfter b) (IsCallAfter c)
+          (λ earlier x k. record {
+            driver = k.driver;
+            in_order = k.in_order;
+            line = k.line;
+            device = k.device;
+            owner
+                = k.owner;
+          }) b.calls h.calls;
       picks = all_from (IsActorOf b) (IsActorOf c) (same_actors b c refl refl refl) (b.picks ++ pick ∷ []) (all_more (IsActorOf b) b.picks pick h.picks here);
     }

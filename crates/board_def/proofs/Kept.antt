@@ -1,5 +1,6 @@
 -- The part of a list that a test keeps.
-use Rattle.std.proofs.Common.{◌≡◌, ℕ, zero, suc, ◌+◌, ◌≤◌, Bool, true, false, cond, Some, None, List, [], ◌∷◌, ◌++◌, length, filter, map, take, All, refl, sym, ap, subst, ◌∙◌, arith}
+use Rattle.std.proofs.Common.{◌≡◌, ℕ, zero, suc, ◌+◌, ◌≤◌, Bool, true, false, cond, Some, None, List, [], ◌∷◌, ◌++◌}
+use Rattle.std.proofs.Common.{length, filter, map, take, All, refl, sym, ap, subst, ◌∙◌, arith}
 use Rattle.std.specs.List.{slice_get}
 use Rattle.std.proofs.lemmas.List.{append-nil, append_assoc, take_more, take_all}
 use Rattle.std.proofs.lemmas.List.Elements.{filter-append}
@@ -31,7 +32,8 @@ kept_more keep P xs x false is each here =
     subst (EachAfter P) (sym e) each
 
 -- what a kept item meets after the kept ones before it
-pub each_kept : {A : Type 0} (keep : A → Bool) (P R : List A → A → Type 0) → ((earlier : List A) (x : A) → EachAfter P earlier → keep x ≡ true → P earlier x → R (filter keep earlier) x)
+pub each_kept : {A : Type 0} (keep : A → Bool) (P R : List A → A → Type 0)
+    → ((earlier : List A) (x : A) → EachAfter P earlier → keep x ≡ true → P earlier x → R (filter keep earlier) x)
     → (xs : List A) → EachAfter P xs → EachAfter R (filter keep xs)
 each_kept {A} keep P R from xs each =
     let Both : List A → Type 0 = λ ys. EachAfter P ys × EachAfter R (filter keep ys) in
@@ -46,7 +48,8 @@ all_kept keep f P R from [] each = λ k d h. absurd (omega arith)
 all_kept {A} {B} keep f P R from (x ∷ xs) each = by (keep x) refl (all_kept keep f P R from xs (λ i y at. each (suc i) y at))
   where
     by : (b : Bool) → keep x ≡ b → All R (map f (filter keep xs)) → All R (map f (cond (keep x) (x ∷ filter keep xs) (filter keep xs)))
-    by true is rest = subst (λ b. All R (map f (cond b (x ∷ filter keep xs) (filter keep xs)))) (sym is) (all_of R (f x) (map f (filter keep xs)) (from x (each zero x refl) is) rest)
+    by true is rest = subst (λ b. All R (map f (cond b (x ∷ filter keep xs) (filter keep xs)))) (sym is)
+        (all_of R (f x) (map f (filter keep xs)) (from x (each zero x refl) is) rest)
     by false is rest = subst (λ b. All R (map f (cond b (x ∷ filter keep xs) (filter keep xs)))) (sym is) rest
 
 pub kept_fewer : {A : Type 0} (keep : A → Bool) (xs : List A) → length (filter keep xs) ≤ length xs

@@ -28,7 +28,19 @@ domains =
     ∷ []
 
 abbrev board : BoardSeen
-board = record { cpus = 1; window = 100000; limit = 99900; log = 10000; domains = domains; lines = line 1 2 40 ∷ line 2 2 41 ∷ line 3 3 5 ∷ []; devices = []; drivers = []; calls = []; picks = [] }
+board = record {
+  cpus = 1;
+  window = 100000;
+  limit = 99900;
+  log = 10000;
+  domains = domains;
+  lines
+      = line 1 2 40 ∷ line 2 2 41 ∷ line 3 3 5 ∷ [];
+  devices = [];
+  drivers = [];
+  calls = [];
+  picks = [];
+}
 
 -- the second line finds no number left in the remapping, and its vector is given back
 chains : layout_of board

@@ -1,6 +1,7 @@
 -- One driver requests and frees a device, and a free stands between two requests: the rule for each
 -- call after the calls before it gives the rule for the calls on one line.
-use Rattle.std.proofs.Common.{◌≡◌, ℕ, zero, suc, ◌<◌, ◌==◌, Bool, true, false, cond, ◌||◌, Option, Some, None, List, [], ◌∷◌, ◌++◌, filter, map, reverse, take, refl, sym, ap, subst, ◌∙◌, arith}
+use Rattle.std.proofs.Common.{◌≡◌, ℕ, zero, suc, ◌<◌, ◌==◌, Bool, true, false, cond, ◌||◌, Option, Some, None, List, []}
+use Rattle.std.proofs.Common.{◌∷◌, ◌++◌, filter, map, reverse, take, refl, sym, ap, subst, ◌∙◌, arith}
 use Rattle.std.specs.List.{slice_get}
 use Rattle.std.specs.Option.{option_map}
 use Rattle.std.proofs.lemmas.Bool.Decides.{nat_tests}
@@ -62,10 +63,13 @@ first_false a b h = grind arith
 second_false : (a b : Bool) → (a || b) ≡ false → b ≡ false
 second_false a b h = grind arith
 
-owned_call : (earlier : List ScriptCall) (driver : DriverNo) (call : Call) (d : DevNo) → is_bad_owner earlier driver call ≡ false → (requests_dev d call || frees_dev d call) ≡ true → is_of_another driver (first_owning d earlier) ≡ false
+owned_call : (earlier : List ScriptCall) (driver : DriverNo) (call : Call) (d : DevNo)
+    → is_bad_owner earlier driver call ≡ false → (requests_dev d call || frees_dev d call) ≡ true
+    → is_of_another driver (first_owning d earlier) ≡ false
 owned_call earlier driver (calls.Request dev flags) d h is =
     let own : same_dev d dev ≡ true = grind arith in
-    subst (λ e. is_of_another driver (first_owning e earlier) ≡ false) (sym (same_device d dev own)) (first_false (is_of_another driver (first_owning dev earlier)) (is_a_request dev (last_owning dev earlier)) h)
+    subst (λ e. is_of_another driver (first_owning e earlier) ≡ false) (sym (same_device d dev own))
+    (first_false (is_of_another driver (first_owning dev earlier)) (is_a_request dev (last_owning dev earlier)) h)
 owned_call earlier driver (calls.Free dev) d h is = subst (λ e. is_of_another driver (first_owning e earlier) ≡ false) (sym (same_device d dev is)) h
 owned_call earlier driver (calls.Ask dev) d h is = absurd cc
 owned_call earlier driver calls.Disable d h is = absurd cc
@@ -75,9 +79,12 @@ owned_call earlier driver calls.Sync d h is = absurd cc
 owned_call earlier driver (calls.Affinity mask) d h is = absurd cc
 owned_call earlier driver (calls.Moment at) d h is = absurd cc
 
-freed_call : (earlier : List ScriptCall) (driver : DriverNo) (call : Call) (d : DevNo) → is_bad_owner earlier driver call ≡ false → requests_dev d call ≡ true → is_a_request d (last_owning d earlier) ≡ false
+freed_call : (earlier : List ScriptCall) (driver : DriverNo) (call : Call) (d : DevNo)
+    → is_bad_owner earlier driver call ≡ false → requests_dev d call ≡ true
+    → is_a_request d (last_owning d earlier) ≡ false
 freed_call earlier driver (calls.Request dev flags) d h is =
-    subst (λ e. is_a_request e (last_owning e earlier) ≡ false) (sym (same_device d dev is)) (second_false (is_of_another driver (first_owning dev earlier)) (is_a_request dev (last_owning dev earlier)) h)
+    subst (λ e. is_a_request e (last_owning e earlier) ≡ false) (sym (same_device d dev is))
+    (second_false (is_of_another driver (first_owning dev earlier)) (is_a_request dev (last_owning dev earlier)) h)
 freed_call earlier driver (calls.Ask dev) d h is = absurd cc
 freed_call earlier driver (calls.Free dev) d h is = absurd cc
 freed_call earlier driver calls.Disable d h is = absurd cc
@@ -88,7 +95,9 @@ freed_call earlier driver (calls.Affinity mask) d h is = absurd cc
 freed_call earlier driver (calls.Moment at) d h is = absurd cc
 
 -- a request or free of a device is on the device's line
-owning_on_line : (devices : List DeviceDef) (line : LineNo) (call : Call) (d : DevNo) → fits_line devices line call ≡ true → (requests_dev d call || frees_dev d call) ≡ true → is_on_line line (find_device devices d) ≡ true
+owning_on_line : (devices : List DeviceDef) (line : LineNo) (call : Call) (d : DevNo)
+    → fits_line devices line call ≡ true → (requests_dev d call || frees_dev d call) ≡ true
+    → is_on_line line (find_device devices d) ≡ true
 owning_on_line devices line (calls.Request dev flags) d h is =
     let own : same_dev d dev ≡ true = grind arith in
     subst (λ e. is_on_line line (find_device devices e) ≡ true) (sym (same_device d dev own)) h
@@ -142,42 +151,59 @@ owned_on_line b line each = each_kept keep (IsCallAfter b) IsOwnedAfter step b.c
     keep : ScriptCall → Bool
     keep c = c.line.0 == line.0
 
-    all : (earlier : List ScriptCall) (x : ScriptCall) → EachAfter (IsCallAfter b) earlier → keep x ≡ true → IsCallAfter b earlier x → (d : DevNo) → is_owning d x ≡ true → KeepsAll keep d earlier
+    all : (earlier : List ScriptCall) (x : ScriptCall) → EachAfter (IsCallAfter b) earlier → keep x ≡ true
+        → IsCallAfter b earlier x → (d : DevNo) → is_owning d x ≡ true → KeepsAll keep d earlier
     all earlier x before kept here d is i c at own =
-        one_line c.line x.line line (find_device b.devices d) (owning_on_line b.devices c.line c.call d (before i c at).device own) (owning_on_line b.devices x.line x.call d here.device is) kept
+        one_line c.line x.line line (find_device b.devices d)
+        (owning_on_line b.devices c.line c.call d (before i c at).device own)
+        (owning_on_line b.devices x.line x.call d here.device is) kept
 
-    step : (earlier : List ScriptCall) (x : ScriptCall) → EachAfter (IsCallAfter b) earlier → keep x ≡ true → IsCallAfter b earlier x → IsOwnedAfter (filter keep earlier) x
+    step : (earlier : List ScriptCall) (x : ScriptCall) → EachAfter (IsCallAfter b) earlier → keep x ≡ true
+        → IsCallAfter b earlier x → IsOwnedAfter (filter keep earlier) x
     step earlier x before kept here =
         record {
-          one = λ d is. subst (λ r. is_of_another x.driver r ≡ false) (sym (first_kept keep d earlier (all earlier x before kept here d is))) (owned_call earlier x.driver x.call d here.owner is);
+          one = λ d is. subst (λ r. is_of_another x.driver r ≡ false)
+              (sym (first_kept keep d earlier (all earlier x before kept here d is)))
+              (owned_call earlier x.driver x.call d here.owner is);
           freed = λ d is.
               let owns : is_owning d x ≡ true = ap (λ b. b || frees_dev d x.call) is in
-              subst (λ r. is_a_request d r ≡ false) (sym (last_kept keep d earlier (all earlier x before kept here d owns))) (freed_call earlier x.driver x.call d here.owner is);
+              subst (λ r. is_a_request d r ≡ false) (sym
+              (last_kept keep d earlier (all earlier x before kept here d owns)))
+              (freed_call earlier x.driver x.call d here.owner is);
         }
 
 -- one owner
 
 -- the first request or free of d is the first before place j, or the one at j
-first_at : (d : DevNo) (cs : List ScriptCall) (j : ℕ) (c : ScriptCall) → slice_get cs j ≡ Some c → is_owning d c ≡ true → first_owning d cs ≡ or_else (first_owning d (take j cs)) (Some c)
+first_at : (d : DevNo) (cs : List ScriptCall) (j : ℕ) (c : ScriptCall) → slice_get cs j ≡ Some c → is_owning d c ≡ true
+    → first_owning d cs ≡ or_else (first_owning d (take j cs)) (Some c)
 first_at d [] j c at own = absurd cc
-first_at d (x ∷ cs) zero c at own = let same : x ≡ c = cc in subst (λ (y : ScriptCall). cond (is_owning d x) (Some x) (first_owning d cs) ≡ Some y) same (ap (λ b. cond b (Some x) (first_owning d cs)) (subst (λ (y : ScriptCall). is_owning d y ≡ true) (sym same) own))
+first_at d (x ∷ cs) zero c at own = let same : x ≡ c = cc in
+    subst (λ (y : ScriptCall). cond (is_owning d x) (Some x) (first_owning d cs) ≡ Some y) same
+    (ap (λ b. cond b (Some x) (first_owning d cs)) (subst (λ (y : ScriptCall). is_owning d y ≡ true) (sym same) own))
 first_at d (x ∷ cs) (suc j) c at own = by (is_owning d x) (first_at d cs j c at own)
   where
-    by : (b : Bool) → first_owning d cs ≡ or_else (first_owning d (take j cs)) (Some c) → cond b (Some x) (first_owning d cs) ≡ or_else (cond b (Some x) (first_owning d (take j cs))) (Some c)
+    by : (b : Bool) → first_owning d cs ≡ or_else (first_owning d (take j cs)) (Some c)
+        → cond b (Some x) (first_owning d cs) ≡ or_else (cond b (Some x) (first_owning d (take j cs))) (Some c)
     by true rest = refl
     by false rest = rest
 
-same_driver_of : (driver : DriverNo) (c : ScriptCall) (r : Option ScriptCall) → c.driver ≡ driver → is_of_another driver r ≡ false → option_map (λ (c : ScriptCall). c.driver) (or_else r (Some c)) ≡ Some driver
+same_driver_of : (driver : DriverNo) (c : ScriptCall) (r : Option ScriptCall) → c.driver ≡ driver
+    → is_of_another driver r ≡ false → option_map (λ (c : ScriptCall). c.driver) (or_else r (Some c)) ≡ Some driver
 same_driver_of driver c None is h = ap Some is
 same_driver_of driver c (Some f) is h =
     let named : ℕ → DriverNo = λ n. record { 0 = n } in
     let same : f.driver.0 ≡ driver.0 = grind (arith, nat_tests) in
     ap (λ (n : ℕ). Some (named n)) same
 
-owner_at : (d : DevNo) (cs : List ScriptCall) → EachAfter IsOwnedAfter cs → (j : ℕ) (c : ScriptCall) → slice_get cs j ≡ Some c → is_owning d c ≡ true → option_map (λ (c : ScriptCall). c.driver) (first_owning d cs) ≡ Some c.driver
-owner_at d cs each j c at own = ap (option_map (λ (c : ScriptCall). c.driver)) (first_at d cs j c at own) ∙ same_driver_of c.driver c (first_owning d (take j cs)) refl ((each j c at).one d own)
+owner_at : (d : DevNo) (cs : List ScriptCall) → EachAfter IsOwnedAfter cs → (j : ℕ) (c : ScriptCall)
+    → slice_get cs j ≡ Some c → is_owning d c ≡ true → option_map (λ (c : ScriptCall). c.driver) (first_owning d cs)
+    ≡ Some c.driver
+owner_at d cs each j c at own = ap (option_map (λ (c : ScriptCall). c.driver)) (first_at d cs j c at own)
+    ∙ same_driver_of c.driver c (first_owning d (take j cs)) refl ((each j c at).one d own)
 
-from_pair : (cs : List ScriptCall) (i : ℕ) (a : DriverNo × Call) → slice_get (map with_driver cs) i ≡ Some a → (c : ScriptCall) × (slice_get cs i ≡ Some c) × (with_driver c ≡ a)
+from_pair : (cs : List ScriptCall) (i : ℕ) (a : DriverNo × Call) → slice_get (map with_driver cs) i ≡ Some a
+    → (c : ScriptCall) × (slice_get cs i ≡ Some c) × (with_driver c ≡ a)
 from_pair [] i a at = absurd cc
 from_pair (c ∷ cs) zero a at = (c, refl, cc)
 from_pair (c ∷ cs) (suc i) a at = from_pair cs i a at
@@ -205,7 +231,8 @@ first_stands : (d : DevNo) (cs : List ScriptCall) (c : ScriptCall) → first_own
 first_stands d [] c h = absurd cc
 first_stands d (x ∷ cs) c h = by (is_owning d x) refl h (first_stands d cs c)
   where
-    by : (b : Bool) → is_owning d x ≡ b → cond b (Some x) (first_owning d cs) ≡ Some c → (first_owning d cs ≡ Some c → (k : ℕ) × (slice_get cs k ≡ Some c) × (is_owning d c ≡ true))
+    by : (b : Bool) → is_owning d x ≡ b → cond b (Some x) (first_owning d cs) ≡ Some c
+        → (first_owning d cs ≡ Some c → (k : ℕ) × (slice_get cs k ≡ Some c) × (is_owning d c ≡ true))
         → (k : ℕ) × (slice_get (x ∷ cs) k ≡ Some c) × (is_owning d c ≡ true)
     by true is h rest = let same : x ≡ c = cc in (zero, ap Some same, subst (λ (y : ScriptCall). is_owning d y ≡ true) same is)
     by false is h rest = let r = rest h in (suc r.0, r.1, r.2)
@@ -219,12 +246,14 @@ last_stands d (x ∷ cs) c h = by (last_owning d cs) refl (sym (last_after d x c
     here true is h = let same : x ≡ c = cc in (zero, ap Some same, subst (λ (y : ScriptCall). is_owning d y ≡ true) same is)
     here false is h = absurd cc
 
-    by : (r : Option ScriptCall) → last_owning d cs ≡ r → or_else r (alone d x) ≡ Some c → (last_owning d cs ≡ Some c → (k : ℕ) × (slice_get cs k ≡ Some c) × (is_owning d c ≡ true))
+    by : (r : Option ScriptCall) → last_owning d cs ≡ r → or_else r (alone d x) ≡ Some c
+        → (last_owning d cs ≡ Some c → (k : ℕ) × (slice_get cs k ≡ Some c) × (is_owning d c ≡ true))
         → (k : ℕ) × (slice_get (x ∷ cs) k ≡ Some c) × (is_owning d c ≡ true)
     by (Some y) is h rest = let r = rest (is ∙ h) in (suc r.0, r.1, r.2)
     by None is h rest = here (is_owning d x) refl h
 
-freed_after : (d : DevNo) (cs : List ScriptCall) (i : ℕ) (c : ScriptCall) → slice_get cs i ≡ Some c → requests_dev d c.call ≡ true → is_a_request d (last_owning d cs) ≡ false → Freed d cs i
+freed_after : (d : DevNo) (cs : List ScriptCall) (i : ℕ) (c : ScriptCall) → slice_get cs i ≡ Some c
+    → requests_dev d c.call ≡ true → is_a_request d (last_owning d cs) ≡ false → Freed d cs i
 freed_after d [] i c at is last = absurd cc
 freed_after d (x ∷ cs) zero c at is last =
     by (last_owning d cs) refl (subst (λ r. is_a_request d r ≡ false) (last_after d x cs) last)

@@ -1,5 +1,6 @@
 -- The tables of a board keep their rows in a map, and find what a walk over the rows finds.
-use Rattle.std.proofs.Common.{◌≡◌, ℕ, ◌+◌, ◌==◌, Bool, true, false, cond, ◌||◌, not, nat_lt, is_some, Option, Some, None, List, [], ◌∷◌, ◌++◌, length, position, refl, sym, ap, ◌∙◌, arith}
+use Rattle.std.proofs.Common.{◌≡◌, ℕ, ◌+◌, ◌==◌, Bool, true, false, cond, ◌||◌, not, nat_lt, is_some, Option, Some}
+use Rattle.std.proofs.Common.{None, List, [], ◌∷◌, ◌++◌, length, position, refl, sym, ap, ◌∙◌, arith}
 use Rattle.std.specs.List.{position_or_len}
 use Rattle.std.specs.Map.{lookup, keys_of}
 use Rattle.std.proofs.Math.ListN.{length-map}
@@ -41,17 +42,20 @@ module _ {K V : Type 0} (key_of : V → K) where
     first_at : (es : List (K × V)) → IsKeyedBy key_of es → position_or_len (eq key) (keys_of es) ≡ position_or_len (λ row. eq key (key_of row)) (values_of es)
     first_at [] keyed = refl
     first_at (e ∷ es) keyed =
-        ap (λ k. cond (not (eq key k)) (1 + position_or_len (eq key) (keys_of es)) 0) keyed.0 ∙ ap (λ n. cond (not (eq key (key_of e.1))) (1 + n) 0) (first_at es keyed.1)
+        ap (λ k. cond (not (eq key k)) (1 + position_or_len (eq key) (keys_of es)) 0) keyed.0
+        ∙ ap (λ n. cond (not (eq key (key_of e.1))) (1 + n) 0) (first_at es keyed.1)
 
     -- the place of a key among the keys is its row's
     pub place_found : (es : List (K × V)) → IsKeyedBy key_of es → position (eq key) (keys_of es) ≡ position (λ row. eq key (key_of row)) (values_of es)
     place_found es keyed =
         let long : length (keys_of es) ≡ length (values_of es) = length-map es (λ e. e.0) ∙ sym (length-map es (λ e. e.1)) in
         ap (λ n. cond (nat_lt n (length (keys_of es))) (Some n) None) (first_at es keyed)
-        ∙ ap (λ m. cond (nat_lt (position_or_len (λ row. eq key (key_of row)) (values_of es)) m) (Some (position_or_len (λ row. eq key (key_of row)) (values_of es))) None) long
+        ∙ ap (λ m. cond (nat_lt (position_or_len (λ row. eq key (key_of row)) (values_of es)) m)
+        (Some (position_or_len (λ row. eq key (key_of row)) (values_of es))) None) long
 
   -- a row of a new key goes last
-  pub row_added : {S : Type 0} (eq : K → K → Bool) (m : IndexMap K V S) (rows : List V) (k : K) (row : V) → IsKeyedBy key_of m.entries → values_of m.entries ≡ rows → k ≡ key_of row
+  pub row_added : {S : Type 0} (eq : K → K → Bool) (m : IndexMap K V S) (rows : List V) (k : K) (row : V)
+      → IsKeyedBy key_of m.entries → values_of m.entries ≡ rows → k ≡ key_of row
       → find_row eq key_of rows (key_of row) ≡ None → insert_entry eq m.entries k row ≡ m.entries ++ (k, row) ∷ []
   row_added eq m rows k row keyed are own none =
       insert_entry-new eq m k row (row_found eq k m.entries keyed ∙ (ap (λ xs. find_row eq key_of xs k) are ∙ (ap (λ x. find_row eq key_of rows x) own ∙ none)))
@@ -68,7 +72,8 @@ none_by false row r h all rest = rest all
 -- a name that no domain has finds nothing
 pub no_domain : (name : Name) (rows : List DomainRow) → has_name rows name ≡ false → find_row same_name (λ (row : DomainRow). row.name) rows name ≡ None
 no_domain name [] h = refl
-no_domain name (row ∷ rows) h = none_by (same_name name row.name) row (find_row same_name (λ (row : DomainRow). row.name) rows name) (has_name rows name) h (no_domain name rows)
+no_domain name (row ∷ rows) h = none_by (same_name name row.name) row
+    (find_row same_name (λ (row : DomainRow). row.name) rows name) (has_name rows name) h (no_domain name rows)
 
 pub line_found : (line : LineNo) (rows : List LineRow) → find_row (λ (a b : LineNo). a.0 == b.0) (λ (row : LineRow). row.line) rows line ≡ find_line rows line
 line_found line [] = refl
@@ -76,7 +81,8 @@ line_found line (row ∷ rows) =
     ap (λ b. cond b (Some row) (find_row (λ (a b : LineNo). a.0 == b.0) (λ (row : LineRow). row.line) rows line)) (same_either_way line.0 row.line.0)
     ∙ ap (λ r. cond (row.line.0 == line.0) (Some row) r) (line_found line rows)
 
-pub device_found : (dev : DevNo) (rows : List DeviceDef) → find_row (λ (a b : DevNo). a.0 == b.0) (λ (device : DeviceDef). device.dev) rows dev ≡ find_device rows dev
+pub device_found : (dev : DevNo) (rows : List DeviceDef)
+    → find_row (λ (a b : DevNo). a.0 == b.0) (λ (device : DeviceDef). device.dev) rows dev ≡ find_device rows dev
 device_found dev [] = refl
 device_found dev (x ∷ xs) = ap (λ r. cond (dev.0 == x.dev.0) (Some x) r) (device_found dev xs)
 
@@ -84,7 +90,8 @@ some_by : (b : Bool) (d : DriverNo) (r : Option DriverNo) (h : Bool) → is_some
 some_by true d r h rest = refl
 some_by false d r h rest = rest
 
-pub driver_found : (driver : DriverNo) (ds : List DriverNo) → is_some (find_row (λ (a b : DriverNo). a.0 == b.0) (λ (d : DriverNo). d) ds driver) ≡ has_driver ds driver
+pub driver_found : (driver : DriverNo) (ds : List DriverNo)
+    → is_some (find_row (λ (a b : DriverNo). a.0 == b.0) (λ (d : DriverNo). d) ds driver) ≡ has_driver ds driver
 driver_found driver [] = refl
 driver_found driver (d ∷ ds) =
     some_by (driver.0 == d.0) d (find_row (λ (a b : DriverNo). a.0 == b.0) (λ (d : DriverNo). d) ds driver) (has_driver ds driver) (driver_found driver ds)
@@ -95,5 +102,6 @@ none_of None h = refl
 none_of (Some d) h = absurd cc
 
 -- a driver that isn't declared finds nothing
-pub no_driver_found : (driver : DriverNo) (ds : List DriverNo) → has_driver ds driver ≡ false → find_row (λ (a b : DriverNo). a.0 == b.0) (λ (d : DriverNo). d) ds driver ≡ None
+pub no_driver_found : (driver : DriverNo) (ds : List DriverNo) → has_driver ds driver ≡ false
+    → find_row (λ (a b : DriverNo). a.0 == b.0) (λ (d : DriverNo). d) ds driver ≡ None
 no_driver_found driver ds h = none_of (find_row (λ (a b : DriverNo). a.0 == b.0) (λ (d : DriverNo). d) ds driver) (driver_found driver ds ∙ h)

@@ -19,7 +19,8 @@ defs_allowed rows each i def at =
     by None there is = absurd cc
     by (Some row) there is =
         let same : def_of row ≡ def = cc in
-        subst (λ (earlier : List DomainDef). IsDomainAfter earlier def) (sym (take-map def_of i rows)) (subst (λ (d : DomainDef). IsDomainAfter (defs_of (take i rows)) d) same (each i row there).def)
+        subst (λ (earlier : List DomainDef). IsDomainAfter earlier def) (sym (take-map def_of i rows))
+        (subst (λ (d : DomainDef). IsDomainAfter (defs_of (take i rows)) d) same (each i row there).def)
 
 -- a place among the rows is one among the domains
 pub declared_def : (rows : List DomainRow) (up : Option ℕ) → IfSome up (λ p. p < length rows) → IfSome up (λ p. p < length (defs_of rows))

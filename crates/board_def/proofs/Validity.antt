@@ -1,5 +1,6 @@
 -- The definition of a board's line is valid.
-use Rattle.std.proofs.Common.{◌≡◌, ℕ, zero, suc, ◌<◌, ◌≤◌, ◌==◌, Bool, true, false, not, cond, ◌&&◌, ◌||◌, Some, List, [], ◌∷◌, length, filter, take, All, refl, ap, subst, ◌∙◌, arith}
+use Rattle.std.proofs.Common.{◌≡◌, ℕ, zero, suc, ◌<◌, ◌≤◌, ◌==◌, Bool, true, false, not, cond, ◌&&◌, ◌||◌, Some, List}
+use Rattle.std.proofs.Common.{[], ◌∷◌, length, filter, take, All, refl, ap, subst, ◌∙◌, arith}
 use Rattle.std.proofs.Math.ListN.{length-map}
 use Rattle.std.specs.List.{slice_get, list_any}
 use Rattle.std.proofs.lemmas.Bool.Decides.{nat_tests}
@@ -75,7 +76,9 @@ same_line : (a b : LineNo) → (a.0 == b.0) ≡ true → a ≡ b
 unfolding named
 same_line a b h = ap named (same_from_test a.0 b.0 h)
 
-none_named : (keep : DeviceDef → Bool) (dev : DevNo) (xs : List DeviceDef) → ((i : ℕ) (x : DeviceDef) → slice_get xs i ≡ Some x → dev.0 < x.dev.0) → list_any (is_device dev) (filter keep xs) ≡ false
+none_named : (keep : DeviceDef → Bool) (dev : DevNo) (xs : List DeviceDef)
+    → ((i : ℕ) (x : DeviceDef) → slice_get xs i ≡ Some x → dev.0 < x.dev.0)
+    → list_any (is_device dev) (filter keep xs) ≡ false
 none_named keep dev [] above = refl
 none_named keep dev (x ∷ xs) above = by (keep x) (none_named keep dev xs (λ i y at. above (suc i) y at))
   where
@@ -86,15 +89,19 @@ none_named keep dev (x ∷ xs) above = by (keep x) (none_named keep dev xs (λ i
 distinct : (keep : DeviceDef → Bool) (xs : List DeviceDef) → Rises (λ (x : DeviceDef). x.dev.0) xs → HasDistinctDevices (filter keep xs)
 distinct keep [] rises = tt
 distinct keep (x ∷ xs) rises =
-    let above : (i : ℕ) (y : DeviceDef) → slice_get xs i ≡ Some y → x.dev.0 < y.dev.0 = λ i y at. head_of (λ (e : DeviceDef). e.dev.0 < y.dev.0) x (take i xs) (rises (suc i) y at) in
+    let above : (i : ℕ) (y : DeviceDef) → slice_get xs i ≡ Some y
+    → x.dev.0 < y.dev.0 = λ i y at. head_of (λ (e : DeviceDef). e.dev.0 < y.dev.0) x (take i xs)
+    (rises (suc i) y at) in
     by (keep x) (none_named keep x.dev xs above) (distinct keep xs (rises_on (λ (x : DeviceDef). x.dev.0) x xs rises))
   where
-    by : (b : Bool) → list_any (is_device x.dev) (filter keep xs) ≡ false → HasDistinctDevices (filter keep xs) → HasDistinctDevices (cond b (x ∷ filter keep xs) (filter keep xs))
+    by : (b : Bool) → list_any (is_device x.dev) (filter keep xs) ≡ false → HasDistinctDevices (filter keep xs)
+        → HasDistinctDevices (cond b (x ∷ filter keep xs) (filter keep xs))
     by true none rest = (none, rest)
     by false none rest = rest
 
 -- a device whose line this is stands among the devices of the line's definition
-among : (line : LineNo) (dev : DevNo) (xs : List DeviceDef) → is_on_line line (find_device xs dev) ≡ true → list_any (is_device dev) (filter (λ x. x.line.0 == line.0) xs) ≡ true
+among : (line : LineNo) (dev : DevNo) (xs : List DeviceDef) → is_on_line line (find_device xs dev) ≡ true
+    → list_any (is_device dev) (filter (λ x. x.line.0 == line.0) xs) ≡ true
 among line dev [] h = absurd cc
 among line dev (x ∷ xs) h = by (same_dev dev x.dev) refl (x.line.0 == line.0) refl h (among line dev xs)
   where
@@ -106,7 +113,8 @@ among line dev (x ∷ xs) h = by (same_dev dev x.dev) refl (x.line.0 == line.0) 
     by false is true on h rest = ap (λ b. b || list_any (is_device dev) (filter (λ x. x.line.0 == line.0) xs)) is ∙ rest h
     by false is false on h rest = rest h
 
-named_on_line : (line : LineNo) (devices : List DeviceDef) (call : Call) → fits_line devices line call ≡ true → names_one_of (filter (λ x. x.line.0 == line.0) devices) call ≡ true
+named_on_line : (line : LineNo) (devices : List DeviceDef) (call : Call) → fits_line devices line call ≡ true
+    → names_one_of (filter (λ x. x.line.0 == line.0) devices) call ≡ true
 named_on_line line devices (calls.Ask dev) h = among line dev devices h
 named_on_line line devices (calls.Request dev flags) h = among line dev devices h
 named_on_line line devices (calls.Free dev) h = among line dev devices h
@@ -137,7 +145,8 @@ valid_row b i row board at =
     let devices_few : length b.devices ≤ 256 = board.few_devices in
     let calls_few : length b.calls ≤ 16384 = board.few_calls in
     let calls_long = length-map (filter call_on_line b.calls) with_driver in
-    let lpi : is_edge_trigger (trigger_of_root (root_kind ks)) ≡ true → is_eoi_flow (flow_of_root (root_kind ks)) ≡ true → root_kind ks ≡ levels.Lpi = lpi_root (root_kind ks) in
+    let lpi : is_edge_trigger (trigger_of_root (root_kind ks)) ≡ true → is_eoi_flow (flow_of_root (root_kind ks)) ≡ true
+    → root_kind ks ≡ levels.Lpi = lpi_root (root_kind ks) in
     record {
       some_cpu = board.some_cpu;
       few_cpus = board.few_cpus;
@@ -155,10 +164,14 @@ valid_row b i row board at =
       eoi_keeps = λ edge eoi. keeps_under_lpi (defs_of b.domains) (defs_allowed b.domains board.domains) row.domain (lpi edge eoi);
       eoi_retriggers = λ edge eoi. ap retriggers_kind (lpi edge eoi);
       devices = subst (All (λ (x : DeviceDef). x.line ≡ row.line)) (map-id (filter on_line b.devices))
-          (all_kept on_line (λ (x : DeviceDef). x) (λ (x : DeviceDef). Unit {0}) (λ (x : DeviceDef). x.line ≡ row.line) (λ x p k. same_line x.line row.line k) b.devices (λ i x at. tt));
+          (all_kept on_line (λ (x : DeviceDef). x) (λ (x : DeviceDef). Unit {0}) (λ (x : DeviceDef). x.line ≡ row.line)
+          (λ x p k. same_line x.line row.line k) b.devices (λ i x at. tt));
       distinct = distinct on_line b.devices (λ i x at. (board.devices i x at).rises);
-      calls = all_kept call_on_line with_driver (λ (c : ScriptCall). fits_line b.devices c.line c.call ≡ true) (λ (c : DriverNo × Call). names_one_of (filter on_line b.devices) c.1 ≡ true)
-          (λ c fits k. named_on_line row.line b.devices c.call (subst (λ line. fits_line b.devices line c.call ≡ true) (same_line c.line row.line k) fits)) b.calls (λ i c at. (board.calls i c at).device);
+      calls = all_kept call_on_line with_driver (λ (c : ScriptCall). fits_line b.devices c.line c.call ≡ true)
+          (λ (c : DriverNo × Call). names_one_of (filter on_line b.devices) c.1 ≡ true)
+          (λ c fits k. named_on_line row.line b.devices c.call
+          (subst (λ line. fits_line b.devices line c.call ≡ true) (same_line c.line row.line k) fits)) b.calls
+          (λ i c at. (board.calls i c at).device);
       owners = λ d. one_owner d (filter call_on_line b.calls) owned;
       freed = λ d. freed_between d (filter call_on_line b.calls) owned;
     }

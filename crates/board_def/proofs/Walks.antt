@@ -1,5 +1,6 @@
 -- A walk over levels, one after another, and what it knows at its end.
-use Rattle.std.proofs.Common.{◌≡◌, ℕ, zero, suc, ◌+◌, ◌-◌, ◌<◌, Bool, true, false, cond, ◌&&◌, Option, Some, None, is_none, List, [], ◌∷◌, length, map, drop, refl, sym, ap, ◌∙◌, arith}
+use Rattle.std.proofs.Common.{◌≡◌, ℕ, zero, suc, ◌+◌, ◌-◌, ◌<◌, Bool, true, false, cond, ◌&&◌, Option, Some, None}
+use Rattle.std.proofs.Common.{is_none, List, [], ◌∷◌, length, map, drop, refl, sym, ap, ◌∙◌, arith}
 use Rattle.std.specs.List.{slice_get}
 use Rattle.irq_base.specs.declared.domains.ControllerKind.{ControllerKind}
 use Rattle.irq_base.specs.declared.domains.ControllerKind.TheVariants as levels
@@ -34,10 +35,14 @@ masking_passed p (x ∷ ks) (Some k) e =
     masking_passed (one_passed p x) ks (Some k) (ap (λ m. cond (is_none m && masks_kind x) (Some x) m) e)
 masking_passed p (x ∷ ks) None e = by (masks_kind x) refl (λ m. masking_passed (one_passed p x) ks m)
   where
-    by : (b : Bool) → masks_kind x ≡ b → ((m : Option ControllerKind) → cond (is_none p.masking && masks_kind x) (Some x) p.masking ≡ m → (passed (one_passed p x) ks).masking ≡ first_masking m ks)
+    by : (b : Bool) → masks_kind x ≡ b → ((m : Option ControllerKind)
+        → cond (is_none p.masking && masks_kind x) (Some x) p.masking ≡ m
+        → (passed (one_passed p x) ks).masking ≡ first_masking m ks)
         → (passed (one_passed p x) ks).masking ≡ cond (masks_kind x) (Some x) (masking_kind ks)
-    by true is rest = rest (Some x) (ap (λ m. cond (is_none m && masks_kind x) (Some x) m) e ∙ ap (λ b. cond b (Some x) None) is) ∙ sym (ap (λ b. cond b (Some x) (masking_kind ks)) is)
-    by false is rest = rest None (ap (λ m. cond (is_none m && masks_kind x) (Some x) m) e ∙ ap (λ b. cond b (Some x) None) is) ∙ sym (ap (λ b. cond b (Some x) (masking_kind ks)) is)
+    by true is rest = rest (Some x) (ap (λ m. cond (is_none m && masks_kind x) (Some x) m) e
+        ∙ ap (λ b. cond b (Some x) None) is) ∙ sym (ap (λ b. cond b (Some x) (masking_kind ks)) is)
+    by false is rest = rest None (ap (λ m. cond (is_none m && masks_kind x) (Some x) m) e
+        ∙ ap (λ b. cond b (Some x) None) is) ∙ sym (ap (λ b. cond b (Some x) (masking_kind ks)) is)
 
 count_passed : (p : Levels) (ks : List ControllerKind) → (passed p ks).count ≡ p.count + length ks
 count_passed p [] = omega arith
@@ -61,7 +66,8 @@ abbrev pub left_of_way : ℕ → List DomainDef → Option ℕ → List Controll
 left_of_way n domains at = map (λ place. kind_in (slice_get domains place)) (way n domains at)
 
 pub way_step : (n m : ℕ) (domains : List DomainDef) (place : ℕ) (p : Levels) → n ≡ suc m
-    → passed p (left_of_way n domains (Some place)) ≡ passed (one_passed p (kind_in (slice_get domains place))) (left_of_way m domains (parent_in (slice_get domains place)))
+    → passed p (left_of_way n domains (Some place)) ≡ passed (one_passed p (kind_in (slice_get domains place)))
+    (left_of_way m domains (parent_in (slice_get domains place)))
 way_step n m domains place p e = ap (λ k. passed p (left_of_way k domains (Some place))) e
 
 pub way_ends : (n : ℕ) (domains : List DomainDef) → left_of_way n domains None ≡ []
@@ -89,7 +95,8 @@ ended p rest ks e none = ap (passed p) (sym none) ∙ e
 
 pub way_goes_on : (domains : List DomainDef) (all : List ControllerKind) (p next : Levels) (at parent : Option ℕ) (place : ℕ) → p.count < 8 → at ≡ Some place
     → next ≡ one_passed p (kind_in (slice_get domains place)) → parent ≡ parent_in (slice_get domains place)
-    → passed p (left_of_way (8 - p.count) domains at) ≡ passed none_passed all → passed next (left_of_way (8 - next.count) domains parent) ≡ passed none_passed all
+    → passed p (left_of_way (8 - p.count) domains at) ≡ passed none_passed all
+    → passed next (left_of_way (8 - next.count) domains parent) ≡ passed none_passed all
 way_goes_on domains all p next at parent place few here is up e =
     let q : Levels = one_passed p (kind_in (slice_get domains place)) in
     let lower : 8 - p.count ≡ suc (8 - (p.count + 1)) = omega arith in

@@ -25,7 +25,8 @@ kinds_length n x = length-map-range_with_len (λ k. kind_of (draw k 3 x)) 1 n
 
 -- one device more
 pub numbered_more : (line first : ℕ) (kinds : List Kind) (kind : Kind)
-    → numbered line first (kinds ++ kind ∷ []) ≡ numbered line first kinds ++ record { dev = record { 0 = first + length kinds }; line = record { 0 = line }; kind = kind } ∷ []
+    → numbered line first (kinds ++ kind ∷ []) ≡ numbered line first kinds
+    ++ record { dev = record { 0 = first + length kinds }; line = record { 0 = line }; kind = kind } ∷ []
 numbered_more line first [] kind =
     let named : ℕ → List DeviceDef = λ n. record { dev = record { 0 = n }; line = record { 0 = line }; kind = kind } ∷ [] in
     ap named (omega arith)

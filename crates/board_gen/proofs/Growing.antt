@@ -24,7 +24,9 @@ use Rattle.board_gen.proofs.Counting.{kinds_more, kinds_length, numbered_more, n
 abbrev row_named : Name → ControllerKind → DomainRow
 row_named name kind = record { name = name; def = record { map = maps.Linear 16; kind = kind; parent = None } }
 
-pub root_grows : (b : BoardSeen) (bytes : List ℕ) (name : Name) (kind : ControllerKind) → name ≡ name_of bytes → IsBoard b → length b.domains < 32 → is_name bytes ≡ true → has_name b.domains (name_of bytes) ≡ false → is_root_kind kind ≡ true
+pub root_grows : (b : BoardSeen) (bytes : List ℕ) (name : Name) (kind : ControllerKind) → name ≡ name_of bytes
+    → IsBoard b → length b.domains < 32 → is_name bytes ≡ true → has_name b.domains (name_of bytes) ≡ false
+    → is_root_kind kind ≡ true
     → IsBoard (record b { domains = b.domains ++ row_named name kind ∷ [] })
 root_grows b bytes name kind is board few spelled new root =
     grows_domain b (row_named name kind) board few
@@ -34,7 +36,8 @@ root_grows b bytes name kind is board few spelled new root =
       def = record { size = (omega arith, omega arith); declared = tt; parent = ap not root };
     })
 
-pub line_grows : (b : BoardSeen) (number domain : ℕ) → IsBoard b → b.cpus ≡ 2 → b.log ≡ 65536 → length b.domains ≡ 4 → length b.lines + 1 ≡ number → (1 ≤ number) × (number ≤ 16) → domain < 4 → All (λ e. e.line.0 < number) b.lines
+pub line_grows : (b : BoardSeen) (number domain : ℕ) → IsBoard b → b.cpus ≡ 2 → b.log ≡ 65536 → length b.domains ≡ 4
+    → length b.lines + 1 ≡ number → (1 ≤ number) × (number ≤ 16) → domain < 4 → All (λ e. e.line.0 < number) b.lines
     → IsBoard (record b { lines = b.lines ++ line_row number domain ∷ [] })
 line_grows b number domain board cpus log domains count bounds within rises =
     let upper : number ≤ 16 = bounds.1 in
@@ -57,15 +60,24 @@ with_devices b line first n x = record b { devices = b.devices ++ numbered line 
 abbrev device_of : ℕ → ℕ → Kind → DeviceDef
 device_of dev line kind = record { dev = record { 0 = dev }; line = record { 0 = line }; kind = kind }
 
-pub device_grows : (a b : BoardSeen) (line first devices n x : ℕ) (kind : Kind) → b ≡ with_devices a line first n x → IsBoard b → has_line a.lines (record { 0 = line }) ≡ true → 1 ≤ first → first + devices ≤ 256 → n < devices
-    → length a.devices + 1 ≡ first → All (λ e. e.dev.0 < first + n) b.devices → IsBoard (record b { devices = b.devices ++ device_of (first + n) line kind ∷ [] })
+pub device_grows : (a b : BoardSeen) (line first devices n x : ℕ) (kind : Kind) → b ≡ with_devices a line first n x
+    → IsBoard b → has_line a.lines (record { 0 = line }) ≡ true → 1 ≤ first → first + devices ≤ 256 → n < devices
+    → length a.devices + 1 ≡ first → All (λ e. e.dev.0 < first + n) b.devices
+    → IsBoard (record b { devices = b.devices ++ device_of (first + n) line kind ∷ [] })
 device_grows a b line first devices n x kind is board there some few within count rises =
     let so_many : length b.devices ≡ length a.devices + n =
-    ap (λ (b : BoardSeen). length b.devices) is ∙ (length-append a.devices (numbered line first (kinds_drawn n x)) ∙ ap (λ m. length a.devices + m) (numbered_length line first (kinds_drawn n x) ∙ kinds_length n x)) in
+    ap (λ (b : BoardSeen). length b.devices) is ∙ (length-append a.devices (numbered line first (kinds_drawn n x))
+    ∙ ap (λ m. length a.devices + m) (numbered_length line first (kinds_drawn n x) ∙ kinds_length n x)) in
     grows_device b (device_of (first + n) line kind) board (omega arith)
-    (record { number = (omega arith, omega arith); rises = rises; line = subst (λ (b : BoardSeen). has_line b.lines (record { 0 = line }) ≡ true) (sym is) there })
+    (record {
+      number = (omega arith, omega arith);
+      rises = rises;
+      line
+          = subst (λ (b : BoardSeen). has_line b.lines (record { 0 = line }) ≡ true) (sym is) there;
+    })
 
-pub devices_next : (a b c : BoardSeen) (line first n x : ℕ) (kind : Kind) → b ≡ with_devices a line first n x → c ≡ record b { devices = b.devices ++ device_of (first + n) line kind ∷ [] } → kind ≡ kind_of (draw (n + 1) 3 x)
+pub devices_next : (a b c : BoardSeen) (line first n x : ℕ) (kind : Kind) → b ≡ with_devices a line first n x
+    → c ≡ record b { devices = b.devices ++ device_of (first + n) line kind ∷ [] } → kind ≡ kind_of (draw (n + 1) 3 x)
     → c ≡ with_devices a line first (n + 1) x
 devices_next a b c line first n x kind is next drawn =
     let so_many = kinds_length n x in
@@ -75,9 +87,13 @@ devices_next a b c line first n x kind is next drawn =
     ∙ (ap (λ m. numbered line first (kinds_drawn n x) ++ device_of (first + m) line (kind_of (draw (n + 1) 3 x)) ∷ []) so_many
     ∙ ap (λ k. numbered line first (kinds_drawn n x) ++ device_of (first + n) line k ∷ []) (sym drawn))) in
     next ∙ (ap (λ (b : BoardSeen). record b { devices = b.devices ++ device_of (first + n) line kind ∷ [] }) is
-    ∙ ap (λ (ds : List DeviceDef). record a { devices = ds }) (append_assoc a.devices (numbered line first (kinds_drawn n x)) (device_of (first + n) line kind ∷ []) ∙ ap (λ ds. a.devices ++ ds) (sym more)))
+    ∙ ap (λ (ds : List DeviceDef). record a { devices = ds })
+    (append_assoc a.devices (numbered line first (kinds_drawn n x)) (device_of (first + n) line kind ∷ [])
+    ∙ ap (λ ds. a.devices ++ ds) (sym more)))
 
-pub rises_next : (b c : BoardSeen) (line first n : ℕ) (kind : Kind) → All (λ e. e.dev.0 < first + n) b.devices → c ≡ record b { devices = b.devices ++ device_of (first + n) line kind ∷ [] } → All (λ e. e.dev.0 < first + (n + 1)) c.devices
+pub rises_next : (b c : BoardSeen) (line first n : ℕ) (kind : Kind) → All (λ e. e.dev.0 < first + n) b.devices
+    → c ≡ record b { devices = b.devices ++ device_of (first + n) line kind ∷ [] }
+    → All (λ e. e.dev.0 < first + (n + 1)) c.devices
 rises_next b c line first n kind rises next =
     subst (λ (c : BoardSeen). All (λ e. e.dev.0 < first + (n + 1)) c.devices) (sym next)
     (All-append (λ (e : DeviceDef). e.dev.0 < first + (n + 1)) b.devices (device_of (first + n) line kind ∷ [])

@@ -19,13 +19,18 @@ use Rattle.board_gen.proofs.Counting.{x_on, numbered_length}
 use Rattle.board_gen.proofs.Owning.{begun, with_calls}
 
 -- the row, the devices and the driver were added
-pub begun_is : (a b c d : BoardSeen) (number domain first : ℕ) (kinds : List Kind) → b ≡ record a { lines = a.lines ++ line_row number domain ∷ [] } → c ≡ record b { devices = b.devices ++ numbered number first kinds }
+pub begun_is : (a b c d : BoardSeen) (number domain first : ℕ) (kinds : List Kind)
+    → b ≡ record a { lines = a.lines ++ line_row number domain ∷ [] }
+    → c ≡ record b { devices = b.devices ++ numbered number first kinds }
     → d ≡ record c { drivers = c.drivers ++ driver_no number ∷ [] } → d ≡ begun a number domain first kinds
 begun_is a b c d number domain first kinds is_b is_c is_d =
-    is_d ∙ ap (λ (c : BoardSeen). record c { drivers = c.drivers ++ driver_no number ∷ [] }) (is_c ∙ ap (λ (b : BoardSeen). record b { devices = b.devices ++ numbered number first kinds }) is_b)
+    is_d ∙ ap (λ (c : BoardSeen). record c { drivers = c.drivers ++ driver_no number ∷ [] })
+    (is_c ∙ ap (λ (b : BoardSeen). record b { devices = b.devices ++ numbered number first kinds }) is_b)
 
 -- the driver may be added
-pub driver_grows : (a b c : BoardSeen) (number domain first : ℕ) (kinds : List Kind) → b ≡ record a { lines = a.lines ++ line_row number domain ∷ [] } → c ≡ record b { devices = b.devices ++ numbered number first kinds }
+pub driver_grows : (a b c : BoardSeen) (number domain first : ℕ) (kinds : List Kind)
+    → b ≡ record a { lines = a.lines ++ line_row number domain ∷ [] }
+    → c ≡ record b { devices = b.devices ++ numbered number first kinds }
     → IsUpTo number first a → (1 ≤ number) × (number ≤ 16) → IsBoard c → IsBoard (record c { drivers = c.drivers ++ driver_no number ∷ [] })
 driver_grows a b c number domain first kinds is_b is_c k bounds board =
     let lower : 1 ≤ number = bounds.0 in
@@ -46,10 +51,13 @@ x_line x0 x1 x2 x3 x4 d e1 e2 e3 e4 =
 -- ---- the line is the planned one
 
 whole : BoardSeen → ℕ → ℕ → ℕ → ℕ → ℕ → ℕ → BoardSeen
-whole b number first domain d x asks = with_calls (begun b number domain first (kinds_drawn d x)) (script_calls (record { number = number; first = first; devices = d; asks = 50 + asks }))
+whole b number first domain d x asks = with_calls (begun b number domain first (kinds_drawn d x))
+    (script_calls (record { number = number; first = first; devices = d; asks = 50 + asks }))
 
-pub line_is : (a b c : BoardSeen) (number first r1 r2 r4 x0 x1 x2 x4 : ℕ) → x1 ≡ next_x x0 → x2 ≡ next_x x1 → x4 ≡ x_after (3 + (1 + r2)) x0 → r1 ≡ drawn 4 x1 → r2 ≡ drawn 2 x2 → r4 ≡ drawn 200 x4
-    → b ≡ begun a number r1 first (kinds_drawn (1 + r2) x2) → c ≡ with_calls b (script_calls (record { number = number; first = first; devices = 1 + r2; asks = 50 + r4 }))
+pub line_is : (a b c : BoardSeen) (number first r1 r2 r4 x0 x1 x2 x4 : ℕ) → x1 ≡ next_x x0 → x2 ≡ next_x x1
+    → x4 ≡ x_after (3 + (1 + r2)) x0 → r1 ≡ drawn 4 x1 → r2 ≡ drawn 2 x2 → r4 ≡ drawn 200 x4
+    → b ≡ begun a number r1 first (kinds_drawn (1 + r2) x2)
+    → c ≡ with_calls b (script_calls (record { number = number; first = first; devices = 1 + r2; asks = 50 + r4 }))
     → c ≡ with_plan a (plan_of number first x0)
 unfolding whole
 line_is a b c number first r1 r2 r4 x0 x1 x2 x4 e1 e2 e4 is1 is2 is4 is_b is_c =
@@ -59,12 +67,17 @@ line_is a b c number first r1 r2 r4 x0 x1 x2 x4 e1 e2 e4 is1 is2 is4 is_b is_c =
     let asks : r4 ≡ draw (3 + device_count x0) 200 x0 = is4 ∙ (ap (drawn 200) e4 ∙ ap (λ n. draw (3 + n) 200 x0) devices) in
     is_c ∙ (ap (λ (b : BoardSeen). with_calls b (script_calls (record { number = number; first = first; devices = 1 + r2; asks = 50 + r4 }))) is_b
     ∙ (ap (λ n. whole a number first n (1 + r2) x2 r4) domain ∙ (ap (λ n. whole a number first (draw 1 4 x0) n x2 r4) devices
-    ∙ (ap (λ n. whole a number first (draw 1 4 x0) (device_count x0) n r4) two ∙ ap (λ n. whole a number first (draw 1 4 x0) (device_count x0) (x_after 2 x0) n) asks))))
+    ∙ (ap (λ n. whole a number first (draw 1 4 x0) (device_count x0) n r4) two
+    ∙ ap (λ n. whole a number first (draw 1 4 x0) (device_count x0) (x_after 2 x0) n) asks))))
 
 -- ---- the board is up to the next line
 
-pub up_to_next : (a b c : BoardSeen) (number domain first : ℕ) (kinds : List Kind) (s : Script) (cs : List ScriptCall) → IsUpTo number first a → b ≡ begun a number domain first kinds → c ≡ with_calls b cs → s.number ≡ number → s.first ≡ first
-    → length kinds ≡ s.devices → s.devices ≤ 2 → s.asks ≤ 249 → length c.calls ≡ length b.calls + s.devices + s.devices + s.asks + 2 → All (λ e. e.dev.0 < first + s.devices) (a.devices ++ numbered number first kinds) → IsScripted s c
+pub up_to_next : (a b c : BoardSeen) (number domain first : ℕ) (kinds : List Kind) (s : Script) (cs : List ScriptCall)
+    → IsUpTo number first a → b ≡ begun a number domain first kinds → c ≡ with_calls b cs → s.number ≡ number
+    → s.first ≡ first
+    → length kinds ≡ s.devices → s.devices ≤ 2 → s.asks ≤ 249
+    → length c.calls ≡ length b.calls + s.devices + s.devices + s.asks + 2
+    → All (λ e. e.dev.0 < first + s.devices) (a.devices ++ numbered number first kinds) → IsScripted s c
     → IsUpTo (number + 1) (first + s.devices) c
 up_to_next a b c number domain first kinds s cs k is_b is_c is_number is_first kind_count few_devices few_asks call_count rises scripted =
     let same : c ≡ with_calls (begun a number domain first kinds) cs = is_c ∙ ap (λ (b : BoardSeen). with_calls b cs) is_b in
@@ -74,7 +87,8 @@ up_to_next a b c number domain first kinds s cs k is_b is_c is_number is_first k
     let lines : length c.lines ≡ length a.lines + 1 = ap (λ (c : BoardSeen). length c.lines) same ∙ length_push a.lines (line_row number domain) in
     let drivers : length c.drivers ≡ length a.drivers + 1 = ap (λ (c : BoardSeen). length c.drivers) same ∙ length_push a.drivers (driver_no number) in
     let devices : length c.devices ≡ length a.devices + s.devices =
-    ap (λ (c : BoardSeen). length c.devices) same ∙ (length-append a.devices (numbered number first kinds) ∙ ap (λ n. length a.devices + n) (numbered_length number first kinds ∙ kind_count)) in
+    ap (λ (c : BoardSeen). length c.devices) same ∙ (length-append a.devices (numbered number first kinds)
+    ∙ ap (λ n. length a.devices + n) (numbered_length number first kinds ∙ kind_count)) in
     record {
       cpus = ap (λ (c : BoardSeen). c.cpus) same ∙ k.cpus;
       log = ap (λ (c : BoardSeen). c.log) same ∙ k.log;
@@ -86,12 +100,14 @@ up_to_next a b c number domain first kinds s cs k is_b is_c is_number is_first k
       few_calls = omega (arith, call_count, calls_before, a_calls, few_devices, few_asks);
       lines =
           subst (λ (c : BoardSeen). All (λ e. e.line.0 < number + 1) c.lines) (sym same)
-          (All-append (λ (e : LineRow). e.line.0 < number + 1) a.lines (line_row number domain ∷ []) (λ i e h. (let l : _ < number = k.lines i e h in omega (arith, l)))
+          (All-append (λ (e : LineRow). e.line.0 < number + 1) a.lines (line_row number domain ∷ [])
+          (λ i e h. (let l : _ < number = k.lines i e h in omega (arith, l)))
           (all_of (λ (e : LineRow). e.line.0 < number + 1) (line_row number domain) [] (omega arith) (λ i e h. absurd (omega arith))));
       devices = subst (λ (c : BoardSeen). All (λ e. e.dev.0 < first + s.devices) c.devices) (sym same) rises;
       drivers =
           subst (λ (c : BoardSeen). All (λ e. e.0 < number + 1) c.drivers) (sym same)
-          (All-append (λ (e : DriverNo). e.0 < number + 1) a.drivers (driver_no number ∷ []) (λ i e h. (let l : _ < number = k.drivers i e h in omega (arith, l)))
+          (All-append (λ (e : DriverNo). e.0 < number + 1) a.drivers (driver_no number ∷ [])
+          (λ i e h. (let l : _ < number = k.drivers i e h in omega (arith, l)))
           (all_of (λ (e : DriverNo). e.0 < number + 1) (driver_no number) [] (omega arith) (λ i e h. absurd (omega arith))));
       callers = λ i e h. (let l : _ ≤ s.number = scripted.callers i e h in omega (arith, l, is_number));
       unnamed = λ d from. scripted.unnamed d (omega (arith, from, is_first));

@@ -23,9 +23,14 @@ board_more plans p =
     let scripts = λ (p : LinePlan). script_calls p.script in
     let all = plans ++ p ∷ [] in
     ap (λ xs. with_lists xs (flat_map plan_devices all) (map drivers all) (flat_map scripts all)) (map-append rows plans (p ∷ []))
-    ∙ (ap (λ xs. with_lists (map rows plans ++ rows p ∷ []) xs (map drivers all) (flat_map scripts all)) (flat_map-append plan_devices plans (p ∷ []) ∙ ap (λ xs. flat_map plan_devices plans ++ xs) (append-nil (plan_devices p)))
-    ∙ (ap (λ xs. with_lists (map rows plans ++ rows p ∷ []) (flat_map plan_devices plans ++ plan_devices p) xs (flat_map scripts all)) (map-append drivers plans (p ∷ []))
-    ∙ ap (λ xs. with_lists (map rows plans ++ rows p ∷ []) (flat_map plan_devices plans ++ plan_devices p) (map drivers plans ++ drivers p ∷ []) xs) (flat_map-append scripts plans (p ∷ []) ∙ ap (λ xs. flat_map scripts plans ++ xs) (append-nil (scripts p)))))
+    ∙ (ap (λ xs. with_lists (map rows plans ++ rows p ∷ []) xs (map drivers all) (flat_map scripts all))
+    (flat_map-append plan_devices plans (p ∷ []) ∙ ap (λ xs. flat_map plan_devices plans ++ xs)
+    (append-nil (plan_devices p)))
+    ∙ (ap (λ xs. with_lists (map rows plans ++ rows p ∷ []) (flat_map plan_devices plans ++ plan_devices p) xs
+    (flat_map scripts all)) (map-append drivers plans (p ∷ []))
+    ∙ ap (λ xs. with_lists (map rows plans ++ rows p ∷ []) (flat_map plan_devices plans ++ plan_devices p)
+    (map drivers plans ++ drivers p ∷ []) xs) (flat_map-append scripts plans (p ∷ [])
+    ∙ ap (λ xs. flat_map scripts plans ++ xs) (append-nil (scripts p)))))
 
 pub record Goes (n x : ℕ) (b : BoardSeen) (first y : ℕ) : Type 0 where
   pub board : b ≡ board_of_plans (planned n x).plans
@@ -34,7 +39,8 @@ pub record Goes (n x : ℕ) (b : BoardSeen) (first y : ℕ) : Type 0 where
   pub x_is : y ≡ (planned n x).x
 
 -- one line more
-goes_suc : (n x : ℕ) (b c : BoardSeen) (first y z devices : ℕ) → Goes n x b first y → devices ≡ device_count y → z ≡ x_after (3 + devices) y → c ≡ with_plan b (plan_of (n + 1) first y)
+goes_suc : (n x : ℕ) (b c : BoardSeen) (first y z devices : ℕ) → Goes n x b first y → devices ≡ device_count y
+    → z ≡ x_after (3 + devices) y → c ≡ with_plan b (plan_of (n + 1) first y)
     → Goes (suc n) x c (first + devices) z
 goes_suc n x b c first y z devices k is_devices is_z is_c =
     let p = planned n x in
@@ -50,7 +56,8 @@ goes_suc n x b c first y z devices k is_devices is_z is_c =
       x_is = is_z ∙ (ap (λ m. x_after (3 + m) y) many ∙ ap (λ m. x_after (3 + device_count p.x) m) k.x_is);
     }
 
-pub goes_on : (n x : ℕ) (b c : BoardSeen) (first y z devices : ℕ) → Goes n x b first y → devices ≡ device_count y → z ≡ x_after (3 + devices) y → c ≡ with_plan b (plan_of (n + 1) first y)
+pub goes_on : (n x : ℕ) (b c : BoardSeen) (first y z devices : ℕ) → Goes n x b first y → devices ≡ device_count y
+    → z ≡ x_after (3 + devices) y → c ≡ with_plan b (plan_of (n + 1) first y)
     → Goes (n + 1) x c (first + devices) z
 goes_on n x b c first y z devices k is_devices is_z is_c =
     let e : suc n ≡ n + 1 = omega arith in
@@ -81,7 +88,8 @@ pub goes_first : (n : ℕ) (b : BoardSeen) (x : ℕ) → x ≡ next_x n → b �
 goes_first n b x is_x is_b = record { board = is_b; count = refl; device = refl; x_is = is_x }
 
 -- after all lines the board is the generated one
-pub is_generated : (n lines i x : ℕ) (b : BoardSeen) (first y : ℕ) → x ≡ next_x n → lines ≡ drawn 13 x → i ≡ 4 + lines → Goes i (x_after 1 n) b first y → b ≡ generated n
+pub is_generated : (n lines i x : ℕ) (b : BoardSeen) (first y : ℕ) → x ≡ next_x n → lines ≡ drawn 13 x → i ≡ 4 + lines
+    → Goes i (x_after 1 n) b first y → b ≡ generated n
 is_generated n lines i x b first y is_x is_drawn is_i k =
     let all : i ≡ 4 + draw 1 13 n = is_i ∙ ap (λ m. 4 + m) (is_drawn ∙ ap (drawn 13) is_x) in
     k.board ∙ ap (λ m. board_of_plans (planned m (x_after 1 n)).plans) all

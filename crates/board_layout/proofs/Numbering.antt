@@ -1,5 +1,6 @@
 -- The virqs of a layout number the paths of its mapped lines, from 1.
-use Rattle.std.proofs.Common.{◌≡◌, ℕ, zero, suc, ◌+◌, Bool, true, false, cond, is_none, Option, Some, List, [], ◌∷◌, ◌++◌, ◌≤◌, length, drop, refl, sym, ap, subst, ◌∙◌, append_assoc, arith}
+use Rattle.std.proofs.Common.{◌≡◌, ℕ, zero, suc, ◌+◌, Bool, true, false, cond, is_none, Option, Some, List, [], ◌∷◌}
+use Rattle.std.proofs.Common.{◌++◌, ◌≤◌, length, drop, refl, sym, ap, subst, ◌∙◌, append_assoc, arith}
 use Rattle.std.specs.List.{slice_get, list_any}
 use Rattle.std.proofs.lemmas.List.{append-nil, drop_all, length-map}
 use Rattle.irq_base.specs.declared.domains.DomainDef.{DomainDef}
@@ -16,17 +17,20 @@ use Rattle.domain_rules.specs.declared.layouts.Placement.TheVariants as placemen
 use Rattle.domain_rules.specs.declared.layouts.Unmapped.TheVariants as reasons
 
 number_by : (a b c : Bool) (n virq : ℕ) (own path : List (ℕ × ℕ))
-    → cond a (placements.Refused reasons.NoMask) (cond b (placements.Refused reasons.OutOfRange) (cond c (placements.Refused reasons.Taken) (placements.Mapped n own))) ≡ placements.Mapped virq path → n ≡ virq
+    → cond a (placements.Refused reasons.NoMask) (cond b (placements.Refused reasons.OutOfRange)
+    (cond c (placements.Refused reasons.Taken) (placements.Mapped n own))) ≡ placements.Mapped virq path → n ≡ virq
 number_by true b c n virq own path e = absurd cc
 number_by false true c n virq own path e = absurd cc
 number_by false false true n virq own path e = absurd cc
 number_by false false false n virq own path e = cc
 
 -- a line that isn't refused has the virq after the virqs of the lines laid before it
-number_of : (domains : List DomainDef) (earlier : List Placement) (leaf : ℕ × ℕ) (virq : ℕ) (path : List (ℕ × ℕ)) → placement_of domains earlier leaf ≡ placements.Mapped virq path → count_of_mapped earlier + 1 ≡ virq
+number_of : (domains : List DomainDef) (earlier : List Placement) (leaf : ℕ × ℕ) (virq : ℕ) (path : List (ℕ × ℕ))
+    → placement_of domains earlier leaf ≡ placements.Mapped virq path → count_of_mapped earlier + 1 ≡ virq
 number_of domains earlier leaf virq path e =
     let own = path_of domains earlier leaf in
-    number_by (is_none (masking_kind (kinds_from domains (Some leaf.0)))) (list_any (is_past_path domains) own) (is_used earlier leaf.0 leaf.1) (count_of_mapped earlier + 1) virq own path e
+    number_by (is_none (masking_kind (kinds_from domains (Some leaf.0)))) (list_any (is_past_path domains) own)
+    (is_used earlier leaf.0 leaf.1) (count_of_mapped earlier + 1) virq own path e
 
 -- a mapped line of the layout, and the lines before it and after it
 record IsAmong (all : List Placement) (virq : ℕ) (path : List (ℕ × ℕ)) : Type 0 where
@@ -35,7 +39,8 @@ record IsAmong (all : List Placement) (virq : ℕ) (path : List (ℕ × ℕ)) : 
   all_of : all ≡ before ++ placements.Mapped virq path ∷ after
   number : count_of_mapped before + 1 ≡ virq
 
-among : (domains : List DomainDef) (earlier : List Placement) (leaves : List (ℕ × ℕ)) (i virq : ℕ) (path : List (ℕ × ℕ)) → slice_get (layout_after domains earlier leaves) i ≡ Some (placements.Mapped virq path)
+among : (domains : List DomainDef) (earlier : List Placement) (leaves : List (ℕ × ℕ)) (i virq : ℕ) (path : List (ℕ × ℕ))
+    → slice_get (layout_after domains earlier leaves) i ≡ Some (placements.Mapped virq path)
     → IsAmong (earlier ++ layout_after domains earlier leaves) virq path
 among domains earlier [] i virq path at = absurd cc
 among domains earlier (leaf ∷ leaves) zero virq path at =
@@ -50,10 +55,13 @@ among domains earlier (leaf ∷ leaves) zero virq path at =
     }
 among domains earlier (leaf ∷ leaves) (suc i) virq path at =
     let p = placement_of domains earlier leaf in
-    subst (λ (all : List Placement). IsAmong all virq path) (append_assoc earlier (p ∷ []) (layout_after domains (earlier ++ p ∷ []) leaves)) (among domains (earlier ++ p ∷ []) leaves i virq path at)
+    subst (λ (all : List Placement). IsAmong all virq path)
+    (append_assoc earlier (p ∷ []) (layout_after domains (earlier ++ p ∷ []) leaves))
+    (among domains (earlier ++ p ∷ []) leaves i virq path at)
 
 -- behind the paths of the mapped lines before it stands the path of the next mapped line
-path_after : (before after : List Placement) (virq : ℕ) (path : List (ℕ × ℕ)) → slot (paths_of (before ++ placements.Mapped virq path ∷ after)) (count_of_mapped before) ≡ Some path
+path_after : (before after : List Placement) (virq : ℕ) (path : List (ℕ × ℕ))
+    → slot (paths_of (before ++ placements.Mapped virq path ∷ after)) (count_of_mapped before) ≡ Some path
 path_after [] after virq path = refl
 path_after (placements.Mapped v p ∷ before) after virq path =
     let on : count_of_mapped before + 1 ≡ suc (count_of_mapped before) = omega arith in
@@ -73,10 +81,13 @@ virqs_have_paths domains leaves i virq path at =
 pub have_paths : (domains : List DomainDef) (leaves : List (ℕ × ℕ)) (paths : List (Option (List (ℕ × ℕ)))) (layout : List Placement)
     → paths ≡ paths_of (layout_of domains leaves) → layout ≡ layout_of domains leaves → HavePaths paths layout
 have_paths domains leaves paths layout are is =
-    subst (λ (ps : List (Option (List (ℕ × ℕ)))). HavePaths ps layout) (sym are) (subst (λ (ls : List Placement). HavePaths (paths_of (layout_of domains leaves)) ls) (sym is) (virqs_have_paths domains leaves))
+    subst (λ (ps : List (Option (List (ℕ × ℕ)))). HavePaths ps layout) (sym are)
+    (subst (λ (ls : List Placement). HavePaths (paths_of (layout_of domains leaves)) ls) (sym is)
+    (virqs_have_paths domains leaves))
 
 -- after all lines
-pub all_have_paths : (b : BoardSeen) (lines : ℕ) (h : HierarchySeen) (layout : List Placement) → IsLaid b lines h layout → length b.lines ≤ lines → HavePaths h.paths layout
+pub all_have_paths : (b : BoardSeen) (lines : ℕ) (h : HierarchySeen) (layout : List Placement) → IsLaid b lines h layout
+    → length b.lines ≤ lines → HavePaths h.paths layout
 all_have_paths b lines h layout laid all =
     let leaves = leaves_of b.lines in
     let none : drop lines leaves ≡ [] = drop_all lines leaves (omega (arith, all, length-map b.lines leaf_of)) in

@@ -1,5 +1,7 @@
 -- How many of a driver's calls on a line are complete, and what that says of the call that is due.
-use Rattle.std.proofs.Common.{◌≡◌, ℕ, suc, ◌+◌, ◌<◌, ◌≤◌, Bool, true, false, cond, Option, Some, None, List, [], ◌∷◌, ◌++◌, length, drop, filter, reverse, nat_lt, slice_get, refl, sym, ap, ◌∙◌, arith, length-append, drop_of_length-le}
+use Rattle.std.proofs.Common.{◌≡◌, ℕ, suc, ◌+◌, ◌<◌, ◌≤◌, Bool, true, false, cond, Option, Some, None, List, [], ◌∷◌}
+use Rattle.std.proofs.Common.{◌++◌, length, drop, filter, reverse, nat_lt, slice_get, refl, sym, ap, ◌∙◌, arith}
+use Rattle.std.proofs.Common.{length-append, drop_of_length-le}
 use Rattle.std.proofs.lemmas.List.{drop-append-le}
 use Rattle.std.proofs.lemmas.Bool.{ltb-true, ltb-false, lt-ltb, le-ltb}
 use Rattle.irq_base.specs.declared.calls.Call.{Call}
@@ -22,7 +24,8 @@ counted done [] es = omega arith
 counted done (c ∷ cs) es = by_test (nat_lt (length es) (entries_of_call c es)) (counted (c ∷ done) cs (drop (entries_of_call c es) es))
   where
     by_test : (b : Bool) → length (complete (c ∷ done) cs (drop (entries_of_call c es) es)) ≡ length (c ∷ done) + done_of cs (drop (entries_of_call c es) es)
-        → length (cond b done (complete (c ∷ done) cs (drop (entries_of_call c es) es))) ≡ length done + cond b 0 (done_of cs (drop (entries_of_call c es) es) + 1)
+        → length (cond b done (complete (c ∷ done) cs (drop (entries_of_call c es) es)))
+        ≡ length done + cond b 0 (done_of cs (drop (entries_of_call c es) es) + 1)
     by_test true deeper = omega arith
     by_test false deeper = omega (arith, deeper)
 
@@ -30,7 +33,8 @@ none_due : (cs : List Call) (es : List Entry) → due_of cs es ≡ None → done
 none_due [] es is = refl
 none_due (c ∷ cs) es is = by_test (nat_lt (length es) (entries_of_call c es)) is (none_due cs (drop (entries_of_call c es) es))
   where
-    by_test : (b : Bool) → cond b (due_at c (length es)) (due_of cs (drop (entries_of_call c es) es)) ≡ None → (due_of cs (drop (entries_of_call c es) es) ≡ None → done_of cs (drop (entries_of_call c es) es) ≡ length cs)
+    by_test : (b : Bool) → cond b (due_at c (length es)) (due_of cs (drop (entries_of_call c es) es)) ≡ None
+        → (due_of cs (drop (entries_of_call c es) es) ≡ None → done_of cs (drop (entries_of_call c es) es) ≡ length cs)
         → cond b 0 (done_of cs (drop (entries_of_call c es) es) + 1) ≡ length (c ∷ cs)
     by_test true is deeper = cc
     by_test false is deeper = let n = deeper is in omega (arith, n)
@@ -39,7 +43,9 @@ some_due : (cs : List Call) (es : List Entry) (x : Call × ℕ) → due_of cs es
 some_due [] es x is = cc
 some_due (c ∷ cs) es x is = by_test (nat_lt (length es) (entries_of_call c es)) is (some_due cs (drop (entries_of_call c es) es) x)
   where
-    by_test : (b : Bool) → cond b (due_at c (length es)) (due_of cs (drop (entries_of_call c es) es)) ≡ Some x → (due_of cs (drop (entries_of_call c es) es) ≡ Some x → done_of cs (drop (entries_of_call c es) es) < length cs)
+    by_test : (b : Bool) → cond b (due_at c (length es)) (due_of cs (drop (entries_of_call c es) es)) ≡ Some x
+        → (due_of cs (drop (entries_of_call c es) es) ≡ Some x
+        → done_of cs (drop (entries_of_call c es) es) < length cs)
         → cond b 0 (done_of cs (drop (entries_of_call c es) es) + 1) < length (c ∷ cs)
     by_test true is deeper = omega arith
     by_test false is deeper = let n = deeper is in omega (arith, n)
@@ -78,11 +84,13 @@ done_at cs x es b = cond b 0 (done_of cs (drop (entries_of_call x es) es) + 1)
 abbrev due_then : List Call → Call → List Entry → Bool → Option (Call × ℕ)
 due_then cs x es b = cond b (due_at x (length es)) (due_of cs (drop (entries_of_call x es) es))
 
-goes_on : (cs : List Call) (es : List Entry) (e : Entry) (d : Call) (m : ℕ) → due_of cs (es ++ e ∷ []) ≡ Some (d, suc m) → done_of cs (es ++ e ∷ []) ≡ done_of cs es
+goes_on : (cs : List Call) (es : List Entry) (e : Entry) (d : Call) (m : ℕ) → due_of cs (es ++ e ∷ []) ≡ Some (d, suc m)
+    → done_of cs (es ++ e ∷ []) ≡ done_of cs es
 goes_on [] es e d m is = cc
 goes_on (x ∷ cs) es e d m is = by_test (nat_lt (length es) (entries_of_call x es)) refl (λ h. goes_on cs (drop (entries_of_call x es) es) e d m h)
   where
-    within : (b : Bool) → nat_lt (length es) (entries_of_call x es) ≡ true → nat_lt (length (es ++ e ∷ [])) (entries_of_call x (es ++ e ∷ [])) ≡ b → done_at cs x (es ++ e ∷ []) b ≡ 0
+    within : (b : Bool) → nat_lt (length es) (entries_of_call x es) ≡ true
+        → nat_lt (length (es ++ e ∷ [])) (entries_of_call x (es ++ e ∷ [])) ≡ b → done_at cs x (es ++ e ∷ []) b ≡ 0
     within true lt test = refl
     within false lt test =
         absurd
@@ -92,13 +100,18 @@ goes_on (x ∷ cs) es e d m is = by_test (nat_lt (length es) (entries_of_call x 
         omega (arith, zero))
 
     by_test : (b : Bool) → nat_lt (length es) (entries_of_call x es) ≡ b
-        → (due_of cs (drop (entries_of_call x es) es ++ e ∷ []) ≡ Some (d, suc m) → done_of cs (drop (entries_of_call x es) es ++ e ∷ []) ≡ done_of cs (drop (entries_of_call x es) es))
-        → done_at cs x (es ++ e ∷ []) (nat_lt (length (es ++ e ∷ [])) (entries_of_call x (es ++ e ∷ []))) ≡ done_at cs x es (nat_lt (length es) (entries_of_call x es))
+        → (due_of cs (drop (entries_of_call x es) es ++ e ∷ []) ≡ Some (d, suc m)
+        → done_of cs (drop (entries_of_call x es) es ++ e ∷ []) ≡ done_of cs (drop (entries_of_call x es) es))
+        → done_at cs x (es ++ e ∷ []) (nat_lt (length (es ++ e ∷ [])) (entries_of_call x (es ++ e ∷ [])))
+        ≡ done_at cs x es (nat_lt (length es) (entries_of_call x es))
     by_test true test deeper = within (nat_lt (length (es ++ e ∷ [])) (entries_of_call x (es ++ e ∷ []))) test refl ∙ ap (done_at cs x es) (sym test)
     by_test false test deeper =
         let p = passed x es e test in
-        let left : due_of cs (drop (entries_of_call x es) es ++ e ∷ []) ≡ Some (d, suc m) = ap (λ (xs : List Entry). due_of cs xs) (sym p.left) ∙ (ap (due_then cs x (es ++ e ∷ [])) (sym p.complete) ∙ is) in
-        ap (done_at cs x (es ++ e ∷ [])) p.complete ∙ (ap (λ (xs : List Entry). done_of cs xs + 1) p.left ∙ (ap (λ (n : ℕ). n + 1) (deeper left) ∙ ap (done_at cs x es) (sym test)))
+        let left : due_of cs (drop (entries_of_call x es) es ++ e ∷ [])
+        ≡ Some (d, suc m) = ap (λ (xs : List Entry). due_of cs xs) (sym p.left)
+        ∙ (ap (due_then cs x (es ++ e ∷ [])) (sym p.complete) ∙ is) in
+        ap (done_at cs x (es ++ e ∷ [])) p.complete ∙ (ap (λ (xs : List Entry). done_of cs xs + 1) p.left
+        ∙ (ap (λ (n : ℕ). n + 1) (deeper left) ∙ ap (done_at cs x es) (sym test)))
 
 -- ---- one more entry, with which it is
 
@@ -106,30 +119,37 @@ none_done : (cs : List Call) → done_of cs [] ≡ 0
 none_done [] = refl
 none_done (c ∷ cs) = ap (done_at cs c []) (lt-ltb 0 (entries_of_call c []) (let one = makes_one c [] in omega (arith, one)))
 
-goes_past : (cs : List Call) (es : List Entry) (e : Entry) (y : Call × ℕ) → due_of cs es ≡ Some y → ((d : Call) (m : ℕ) → due_of cs (es ++ e ∷ []) ≡ Some (d, suc m) → ⊥) → done_of cs (es ++ e ∷ []) ≡ done_of cs es + 1
+goes_past : (cs : List Call) (es : List Entry) (e : Entry) (y : Call × ℕ) → due_of cs es ≡ Some y
+    → ((d : Call) (m : ℕ) → due_of cs (es ++ e ∷ []) ≡ Some (d, suc m) → ⊥)
+    → done_of cs (es ++ e ∷ []) ≡ done_of cs es + 1
 goes_past [] es e y was not = cc
 goes_past (x ∷ cs) es e y was not = by_test (nat_lt (length es) (entries_of_call x es)) refl (λ h k. goes_past cs (drop (entries_of_call x es) es) e y h k)
   where
     one_longer : length (es ++ e ∷ []) ≡ suc (length es)
     one_longer = let l = length-append es (e ∷ []) in omega (arith, l)
 
-    within : (b : Bool) → nat_lt (length es) (entries_of_call x es) ≡ true → nat_lt (length (es ++ e ∷ [])) (entries_of_call x (es ++ e ∷ [])) ≡ b → done_at cs x (es ++ e ∷ []) b ≡ 1
+    within : (b : Bool) → nat_lt (length es) (entries_of_call x es) ≡ true
+        → nat_lt (length (es ++ e ∷ [])) (entries_of_call x (es ++ e ∷ [])) ≡ b → done_at cs x (es ++ e ∷ []) b ≡ 1
     within true lt test = absurd (not x (length es) (ap (due_then cs x (es ++ e ∷ [])) test ∙ ap (λ (n : ℕ). due_at x n) one_longer))
     within false lt test =
         let none : drop (entries_of_call x (es ++ e ∷ [])) (es ++ e ∷ []) ≡ [] = drop_of_length-le (es ++ e ∷ []) (enough x e es lt) in
         ap (λ (xs : List Entry). done_of cs xs + 1) none ∙ ap (λ (n : ℕ). n + 1) (none_done cs)
 
     by_test : (b : Bool) → nat_lt (length es) (entries_of_call x es) ≡ b
-        → (due_of cs (drop (entries_of_call x es) es) ≡ Some y → ((d : Call) (m : ℕ) → due_of cs (drop (entries_of_call x es) es ++ e ∷ []) ≡ Some (d, suc m) → ⊥)
+        → (due_of cs (drop (entries_of_call x es) es) ≡ Some y
+        → ((d : Call) (m : ℕ) → due_of cs (drop (entries_of_call x es) es ++ e ∷ []) ≡ Some (d, suc m) → ⊥)
         → done_of cs (drop (entries_of_call x es) es ++ e ∷ []) ≡ done_of cs (drop (entries_of_call x es) es) + 1)
-        → done_at cs x (es ++ e ∷ []) (nat_lt (length (es ++ e ∷ [])) (entries_of_call x (es ++ e ∷ []))) ≡ done_at cs x es (nat_lt (length es) (entries_of_call x es)) + 1
-    by_test true test deeper = within (nat_lt (length (es ++ e ∷ [])) (entries_of_call x (es ++ e ∷ []))) test refl ∙ ap (λ (b : Bool). done_at cs x es b + 1) (sym test)
+        → done_at cs x (es ++ e ∷ []) (nat_lt (length (es ++ e ∷ [])) (entries_of_call x (es ++ e ∷ [])))
+        ≡ done_at cs x es (nat_lt (length es) (entries_of_call x es)) + 1
+    by_test true test deeper = within (nat_lt (length (es ++ e ∷ [])) (entries_of_call x (es ++ e ∷ []))) test refl
+        ∙ ap (λ (b : Bool). done_at cs x es b + 1) (sym test)
     by_test false test deeper =
         let p = passed x es e test in
         let before : due_of cs (drop (entries_of_call x es) es) ≡ Some y = ap (due_then cs x es) (sym test) ∙ was in
         let after : (d : Call) (m : ℕ) → due_of cs (drop (entries_of_call x es) es ++ e ∷ []) ≡ Some (d, suc m) → ⊥ =
         λ d m h. not d m (ap (due_then cs x (es ++ e ∷ [])) p.complete ∙ (ap (λ (xs : List Entry). due_of cs xs) p.left ∙ h)) in
-        ap (done_at cs x (es ++ e ∷ [])) p.complete ∙ (ap (λ (xs : List Entry). done_of cs xs + 1) p.left ∙ (ap (λ (n : ℕ). n + 1) (deeper before after) ∙ ap (λ (b : Bool). done_at cs x es b + 1) (sym test)))
+        ap (done_at cs x (es ++ e ∷ [])) p.complete ∙ (ap (λ (xs : List Entry). done_of cs xs + 1) p.left
+        ∙ (ap (λ (n : ℕ). n + 1) (deeper before after) ∙ ap (λ (b : Bool). done_at cs x es b + 1) (sym test)))
 
 -- ---- of a line
 
@@ -143,27 +163,36 @@ is_done_of def r past = let n = counted [] (calls_by r def.calls) (entries_by r 
 pub all_complete : (def : LineDef) (r : DriverNo) (past : List Entry) → due_call def r past ≡ None → completed def r past ≡ length (calls_by r def.calls)
 all_complete def r past is = is_done_of def r past ∙ none_due (calls_by r def.calls) (entries_by r past) is
 
-pub not_all_complete : (def : LineDef) (r : DriverNo) (past : List Entry) (x : Call × ℕ) → due_call def r past ≡ Some x → completed def r past < length (calls_by r def.calls)
+pub not_all_complete : (def : LineDef) (r : DriverNo) (past : List Entry) (x : Call × ℕ) → due_call def r past ≡ Some x
+    → completed def r past < length (calls_by r def.calls)
 not_all_complete def r past x is =
     let n = is_done_of def r past in
     let l = some_due (calls_by r def.calls) (entries_by r past) x is in
     omega (arith, n, l)
 
-pub not_completed : (def : LineDef) (r : DriverNo) (e : Entry) (past : List Entry) (d : Call) (m : ℕ) → is_by_driver r e ≡ true → due_call def r (e ∷ past) ≡ Some (d, suc m) → completed def r (e ∷ past) ≡ completed def r past
+pub not_completed : (def : LineDef) (r : DriverNo) (e : Entry) (past : List Entry) (d : Call) (m : ℕ)
+    → is_by_driver r e ≡ true → due_call def r (e ∷ past) ≡ Some (d, suc m)
+    → completed def r (e ∷ past) ≡ completed def r past
 not_completed def r e past d m mine is =
     let more = entries_more r e past mine in
     is_done_of def r (e ∷ past) ∙ (ap (λ (es : List Entry). done_of (calls_by r def.calls) es) more
-    ∙ (goes_on (calls_by r def.calls) (entries_by r past) e d m (ap (λ (es : List Entry). due_of (calls_by r def.calls) es) (sym more) ∙ is) ∙ sym (is_done_of def r past)))
+    ∙ (goes_on (calls_by r def.calls) (entries_by r past) e d m
+    (ap (λ (es : List Entry). due_of (calls_by r def.calls) es) (sym more) ∙ is) ∙ sym (is_done_of def r past)))
 
-pub others_complete : (def : LineDef) (r : DriverNo) (e : Entry) (past : List Entry) → is_by_driver r e ≡ false → completed def r (e ∷ past) ≡ completed def r past
-others_complete def r e past other = ap (λ (b : Bool). length (complete [] (calls_by r def.calls) (reverse (cond b (e ∷ filter (is_by_driver r) past) (filter (is_by_driver r) past))))) other
+pub others_complete : (def : LineDef) (r : DriverNo) (e : Entry) (past : List Entry) → is_by_driver r e ≡ false
+    → completed def r (e ∷ past) ≡ completed def r past
+others_complete def r e past other = ap (λ (b : Bool). length
+    (complete [] (calls_by r def.calls) (reverse (cond b (e ∷ filter (is_by_driver r) past)
+    (filter (is_by_driver r) past))))) other
 
 pub one_completed : (def : LineDef) (r : DriverNo) (e : Entry) (past : List Entry) (x : Call × ℕ) → is_by_driver r e ≡ true → due_call def r past ≡ Some x
     → ((d : Call) (m : ℕ) → due_call def r (e ∷ past) ≡ Some (d, suc m) → ⊥) → completed def r (e ∷ past) ≡ completed def r past + 1
 one_completed def r e past x mine was not =
     let more = entries_more r e past mine in
     is_done_of def r (e ∷ past) ∙ (ap (λ (es : List Entry). done_of (calls_by r def.calls) es) more
-    ∙ (goes_past (calls_by r def.calls) (entries_by r past) e x was (λ d m h. not d m (ap (λ (es : List Entry). due_of (calls_by r def.calls) es) more ∙ h)) ∙ ap (λ (n : ℕ). n + 1) (sym (is_done_of def r past))))
+    ∙ (goes_past (calls_by r def.calls) (entries_by r past) e x was
+    (λ d m h. not d m (ap (λ (es : List Entry). due_of (calls_by r def.calls) es) more ∙ h))
+    ∙ ap (λ (n : ℕ). n + 1) (sym (is_done_of def r past))))
 
 pub none_complete : (def : LineDef) (r : DriverNo) → completed def r [] ≡ 0
 none_complete def r = is_done_of def r [] ∙ none_done (calls_by r def.calls)
@@ -185,5 +214,7 @@ due_is_kth (x ∷ cs) es c at = by_test (nat_lt (length es) (entries_of_call x e
         let d = deeper (ap (λ (n : ℕ). slice_get (x ∷ cs) n) (sym next) ∙ (ap (λ (b : Bool). slice_get (x ∷ cs) (done_at cs x es b)) (sym test) ∙ at)) in
         (d.0, ap (due_then cs x es) test ∙ d.1)
 
-pub kth_is_due : (def : LineDef) (r : DriverNo) (past : List Entry) (c : Call) → slice_get (calls_by r def.calls) (completed def r past) ≡ Some c → (n : ℕ) × (due_call def r past ≡ Some (c, n))
-kth_is_due def r past c at = due_is_kth (calls_by r def.calls) (entries_by r past) c (ap (λ (n : ℕ). slice_get (calls_by r def.calls) n) (sym (is_done_of def r past)) ∙ at)
+pub kth_is_due : (def : LineDef) (r : DriverNo) (past : List Entry) (c : Call)
+    → slice_get (calls_by r def.calls) (completed def r past) ≡ Some c → (n : ℕ) × (due_call def r past ≡ Some (c, n))
+kth_is_due def r past c at = due_is_kth (calls_by r def.calls) (entries_by r past) c
+    (ap (λ (n : ℕ). slice_get (calls_by r def.calls) n) (sym (is_done_of def r past)) ∙ at)

@@ -30,22 +30,28 @@ apart_kept board is lines k = subst AreApart (sym k.defs) (apart_defs board is)
 
 -- ---- a move
 
-module _ (board : BoardSeen) (is : IsBoard board) (lines : List BoardLine) (k : AreKept board lines) (a : Actor) (m : Move) (moves : MovesOn board lines a m) where
-  legal_after : (x : BoardLine) (i : ℕ) → slice_get lines i ≡ Some x → (b : Bool) → same_line x.def.line m.0 ≡ b → IsLegalPast x.def (cond b (m.1 ∷ x.past) x.past)
+module _ (board : BoardSeen) (is : IsBoard board) (lines : List BoardLine) (k : AreKept board lines) (a : Actor)
+    (m : Move) (moves : MovesOn board lines a m) where
+  legal_after : (x : BoardLine) (i : ℕ) → slice_get lines i ≡ Some x → (b : Bool) → same_line x.def.line m.0 ≡ b
+      → IsLegalPast x.def (cond b (m.1 ∷ x.past) x.past)
   legal_after x i at false differs = k.legal i x at
   legal_after x i at true same =
-      let here : moves.line ≡ x = the_line lines (apart_kept board is lines k) moves.place i moves.line x moves.at at (sym moves.number ∙ sym (line_from_same x.def.line m.0 same)) in
+      let here : moves.line ≡ x = the_line lines (apart_kept board is lines k) moves.place i moves.line x moves.at at
+      (sym moves.number ∙ sym (line_from_same x.def.line m.0 same)) in
       (due_of x.def x.past a m.1 (subst (λ (y : BoardLine). next_past y.def y.past a ≡ Some m.1) here moves.due), k.legal i x at)
 
   pub kept_after : AreKept board (lines_after m lines)
   kept_after =
       record {
         defs = defs_moved lines m ∙ k.defs;
-        legal = λ i y at. let s = moved_at lines m i y at in subst (λ (z : BoardLine). IsLegalPast z.def z.past) s.is (legal_after s.line i s.at (same_line s.line.def.line m.0) refl);
+        legal = λ i y at. let s = moved_at lines m i y at in
+            subst (λ (z : BoardLine). IsLegalPast z.def z.past) s.is
+            (legal_after s.line i s.at (same_line s.line.def.line m.0) refl);
         in_order = λ r. let o = k.in_order r in up_to_more board lines (apart_kept board is lines k) a m moves r o.0 o.1;
       }
 
-pub move_keeps : (board : BoardSeen) (lines : List BoardLine) (a : Actor) (m : Move) → IsBoard board → AreKept board lines → due_move board lines a ≡ Some m → AreKept board (lines_after m lines)
+pub move_keeps : (board : BoardSeen) (lines : List BoardLine) (a : Actor) (m : Move) → IsBoard board
+    → AreKept board lines → due_move board lines a ≡ Some m → AreKept board (lines_after m lines)
 move_keeps board lines a m is k due = kept_after board is lines k a m (moves_on board lines a m due)
 
 -- ---- a play
@@ -69,15 +75,20 @@ kept_fresh board =
       in_order = λ r. (0, nothing_yet board board.calls r);
     }
 
-pub kept_play : (board : BoardSeen) (picks : List Actor) → IsBoard board → (g : List Move) (left : List Actor) → IsChosen board picks g left → AreKept board (lines_of board g)
+pub kept_play : (board : BoardSeen) (picks : List Actor) → IsBoard board → (g : List Move) (left : List Actor)
+    → IsChosen board picks g left → AreKept board (lines_of board g)
 kept_play board picks is [] left chosen = kept_fresh board
 kept_play board picks is (m ∷ g) left chosen =
     let k : AreKept board (lines_of board g) = kept_play board picks is g chosen.0 chosen.1 in
     let who = choice_is board (lines_of board g) chosen.0 m left chosen.2 in
-    subst (λ (lines : List BoardLine). AreKept board lines) (sym (lines_more (defs_of board) m g)) (move_keeps board (lines_of board g) who.actor m is k who.moves)
+    subst (λ (lines : List BoardLine). AreKept board lines) (sym (lines_more (defs_of board) m g))
+    (move_keeps board (lines_of board g) who.actor m is k who.moves)
 
-pub play_keeps : (board : BoardSeen) (picks : List Actor) (g : List Move) (end : End) → IsBoard board → Plays board picks g end → AreKept board (lines_of board g)
+pub play_keeps : (board : BoardSeen) (picks : List Actor) (g : List Move) (end : End) → IsBoard board
+    → Plays board picks g end → AreKept board (lines_of board g)
 play_keeps board picks g end is plays = kept_play board picks is g plays.0 plays.1
 
-pub parts_are_legal : (board : BoardSeen) (picks : List Actor) (g : List Move) (end : End) → IsBoard board → Plays board picks g end → (i : ℕ) (x : BoardLine) → slice_get (lines_of board g) i ≡ Some x → IsLegalPast x.def x.past
+pub parts_are_legal : (board : BoardSeen) (picks : List Actor) (g : List Move) (end : End) → IsBoard board
+    → Plays board picks g end → (i : ℕ) (x : BoardLine) → slice_get (lines_of board g) i ≡ Some x
+    → IsLegalPast x.def x.past
 parts_are_legal board picks g end is plays i x at = (play_keeps board picks g end is plays).legal i x at

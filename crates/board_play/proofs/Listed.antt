@@ -1,5 +1,6 @@
 -- Only the board's own actors ever move.
-use Rattle.std.proofs.Common.{◌≡◌, ℕ, ◌==◌, ◌⊎◌, inl, inr, Bool, true, false, cond, Option, Some, None, List, [], ◌∷◌, ◌++◌, map, filter, slice_get, refl, sym, ap, ◌∙◌, subst}
+use Rattle.std.proofs.Common.{◌≡◌, ℕ, ◌==◌, ◌⊎◌, inl, inr, Bool, true, false, cond, Option, Some, None, List, [], ◌∷◌}
+use Rattle.std.proofs.Common.{◌++◌, map, filter, slice_get, refl, sym, ap, ◌∙◌, subst}
 use Rattle.std.specs.List.{list_any}
 use Rattle.std.proofs.lemmas.Bool.{or_cases}
 use Rattle.irq_base.specs.declared.devices.DeviceDef.{DeviceDef}
@@ -32,37 +33,51 @@ use Rattle.board_play.proofs.OfBoard.{AreValid, OfRow, def_of_row}
 use Rattle.board_play.proofs.Script.{current}
 
 -- the definition of a line is the board's
-pub def_at : (board : BoardSeen) (lines : List BoardLine) → AreKept board lines → (i : ℕ) (x : BoardLine) → slice_get lines i ≡ Some x → slice_get (defs_of board) i ≡ Some x.def
+pub def_at : (board : BoardSeen) (lines : List BoardLine) → AreKept board lines → (i : ℕ) (x : BoardLine)
+    → slice_get lines i ≡ Some x → slice_get (defs_of board) i ≡ Some x.def
 def_at board lines k i x at = subst (λ (ds : List LineDef). slice_get ds i ≡ Some x.def) k.defs (def_there lines i x at)
 
 -- ---- threads
 
 -- a device that is on the line
-device_listed : (line : LineNo) (d : DevNo) (xs : List DeviceDef) → list_any (is_device d) (filter (λ x. x.line.0 == line.0) xs) ≡ true → IsOneOf (actors.Thread line d) (map (λ (x : DeviceDef). actors.Thread x.line x.dev) xs)
+device_listed : (line : LineNo) (d : DevNo) (xs : List DeviceDef)
+    → list_any (is_device d) (filter (λ x. x.line.0 == line.0) xs) ≡ true
+    → IsOneOf (actors.Thread line d) (map (λ (x : DeviceDef). actors.Thread x.line x.dev) xs)
 device_listed line d [] h = cc
 device_listed line d (x ∷ xs) h = by_test (x.line.0 == line.0) refl h (device_listed line d xs)
   where
     here : same_line x.line line ≡ true → is_device d x ≡ true → actors.Thread line d ≡ actors.Thread x.line x.dev
-    here of_line is = ap (λ (l : LineNo). actors.Thread l d) (sym (line_from_same x.line line of_line)) ∙ ap (λ (e : DevNo). actors.Thread x.line e) (dev_from_same d x.dev is)
+    here of_line is = ap (λ (l : LineNo). actors.Thread l d) (sym (line_from_same x.line line of_line))
+        ∙ ap (λ (e : DevNo). actors.Thread x.line e) (dev_from_same d x.dev is)
 
-    by_test : (b : Bool) → (x.line.0 == line.0) ≡ b → list_any (is_device d) (cond b (x ∷ filter (λ x. x.line.0 == line.0) xs) (filter (λ x. x.line.0 == line.0) xs)) ≡ true
-        → (list_any (is_device d) (filter (λ x. x.line.0 == line.0) xs) ≡ true → IsOneOf (actors.Thread line d) (map (λ (x : DeviceDef). actors.Thread x.line x.dev) xs))
+    by_test : (b : Bool) → (x.line.0 == line.0) ≡ b → list_any (is_device d)
+        (cond b (x ∷ filter (λ x. x.line.0 == line.0) xs) (filter (λ x. x.line.0 == line.0) xs)) ≡ true
+        → (list_any (is_device d) (filter (λ x. x.line.0 == line.0) xs) ≡ true
+        → IsOneOf (actors.Thread line d) (map (λ (x : DeviceDef). actors.Thread x.line x.dev) xs))
         → (actors.Thread line d ≡ actors.Thread x.line x.dev) ⊎ IsOneOf (actors.Thread line d) (map (λ (x : DeviceDef). actors.Thread x.line x.dev) xs)
-    by_test true of_line h deeper = elim (or_cases (is_device d x) (list_any (is_device d) (filter (λ x. x.line.0 == line.0) xs)) h) [ inl is ↦ inl (here of_line is) | inr there ↦ inr (deeper there) ]
+    by_test true of_line h deeper = elim (or_cases (is_device d x)
+        (list_any (is_device d) (filter (λ x. x.line.0 == line.0) xs)) h)
+        [ inl is ↦ inl (here of_line is) | inr there ↦ inr (deeper there) ]
     by_test false other h deeper = inr (deeper h)
 
-thread_listed : (board : BoardSeen) (x : BoardLine) → OfRow board board.lines x.def → IsValid x.def → IsLegalPast x.def x.past → (line : LineNo) (d : DevNo) (e : Entry) → next_past x.def x.past (actors.Thread line d) ≡ Some e
+thread_listed : (board : BoardSeen) (x : BoardLine) → OfRow board board.lines x.def → IsValid x.def
+    → IsLegalPast x.def x.past → (line : LineNo) (d : DevNo) (e : Entry)
+    → next_past x.def x.past (actors.Thread line d) ≡ Some e
     → IsOneOf (actors.Thread line d) (threads_of board)
 thread_listed board x o valid legal line d e due = by_line (chosen (same_line line x.def.line) (next_of_thread x.def d x.past) None e due)
   where
     of_row : list_any (is_device d) x.def.devices ≡ true → IsOneOf (actors.Thread x.def.line d) (threads_of board)
     of_row named =
-        let there : list_any (is_device d) (filter (λ x. x.line.0 == o.row.line.0) board.devices) ≡ true = subst (λ (def : LineDef). list_any (is_device d) def.devices ≡ true) (sym o.is) named in
+        let there : list_any (is_device d) (filter (λ x. x.line.0 == o.row.line.0) board.devices)
+        ≡ true = subst (λ (def : LineDef). list_any (is_device d) def.devices ≡ true) (sym o.is) named in
         subst (λ (def : LineDef). IsOneOf (actors.Thread def.line d) (threads_of board)) o.is (device_listed o.row.line d board.devices there)
 
-    by_line : ((same_line line x.def.line ≡ true) × (next_of_thread x.def d x.past ≡ Some e)) ⊎ ((same_line line x.def.line ≡ false) × (None ≡ Some e)) → IsOneOf (actors.Thread line d) (threads_of board)
+    by_line : ((same_line line x.def.line ≡ true) × (next_of_thread x.def d x.past ≡ Some e))
+        ⊎ ((same_line line x.def.line ≡ false) × (None ≡ Some e)) → IsOneOf (actors.Thread line d) (threads_of board)
     by_line (inl h) =
-        subst (λ (l : LineNo). IsOneOf (actors.Thread l d) (threads_of board)) (sym (line_from_same line x.def.line h.0)) (of_row (thread_device x.def x.past d e (kept x.def x.past valid legal) h.1))
+        subst (λ (l : LineNo). IsOneOf (actors.Thread l d) (threads_of board))
+        (sym (line_from_same line x.def.line h.0))
+        (of_row (thread_device x.def x.past d e (kept x.def x.past valid legal) h.1))
     by_line (inr h) = let n = h.1 in cc
 
 -- ---- processors
@@ -77,25 +92,36 @@ no_driver c (n ∷ ns) at = elim at [ inl here ↦ cc | inr there ↦ no_driver 
 
 in_either : (a : Actor) (xs ys : List Actor) → IsOneOf a (xs ++ ys) → IsOneOf a xs ⊎ IsOneOf a ys
 in_either a [] ys at = inr at
-in_either a (x ∷ xs) ys at = elim at [ inl here ↦ inl (inl here) | inr there ↦ elim (in_either a xs ys there) [ inl first ↦ inl (inr first) | inr second ↦ inr second ] ]
+in_either a (x ∷ xs) ys at = elim at [
+  | inl here ↦ inl (inl here)
+  | inr there ↦ elim (in_either a xs ys there) [ inl first ↦ inl (inr first) | inr second ↦ inr second ]
+]
 
-cpu_listed : (board : BoardSeen) (x : BoardLine) → OfRow board board.lines x.def → IsValid x.def → IsLegalPast x.def x.past → (c : CpuNo) (e : Entry) → next_past x.def x.past (actors.Cpu c) ≡ Some e → IsOneOf (actors.Cpu c) (cpus_of board)
+cpu_listed : (board : BoardSeen) (x : BoardLine) → OfRow board board.lines x.def → IsValid x.def
+    → IsLegalPast x.def x.past → (c : CpuNo) (e : Entry) → next_past x.def x.past (actors.Cpu c) ≡ Some e
+    → IsOneOf (actors.Cpu c) (cpus_of board)
 cpu_listed board x o valid legal c e due =
-    subst (λ (def : LineDef). IsOneOf (actors.Cpu c) (cpus_of_line def) → IsOneOf (actors.Cpu c) (cpus_of board)) o.is (λ at. at) (of_cpus (mover_listed x.def x.past (actors.Cpu c) e valid legal due))
+    subst (λ (def : LineDef). IsOneOf (actors.Cpu c) (cpus_of_line def) → IsOneOf (actors.Cpu c) (cpus_of board)) o.is
+    (λ at. at) (of_cpus (mover_listed x.def x.past (actors.Cpu c) e valid legal due))
   where
     of_cpus : IsOneOf (actors.Cpu c) (actors_of_line x.def) → IsOneOf (actors.Cpu c) (cpus_of_line x.def)
     of_cpus at = elim (in_either (actors.Cpu c) (threads_of_line x.def) (cpus_of_line x.def ++ drivers_of_line x.def) at) [
       | inl thread ↦ absurd (no_thread x.def.line c _ thread)
-      | inr rest ↦ elim (in_either (actors.Cpu c) (cpus_of_line x.def) (drivers_of_line x.def) rest) [ inl cpu ↦ cpu | inr driver ↦ absurd (no_driver c _ driver) ]
+      | inr rest ↦ elim (in_either (actors.Cpu c) (cpus_of_line x.def) (drivers_of_line x.def) rest)
+          [ inl cpu ↦ cpu | inr driver ↦ absurd (no_driver c _ driver) ]
     ]
 
 -- ---- drivers
 
 driver_listed : (r : DriverNo) (rs : List DriverNo) → has_driver rs r ≡ true → IsOneOf (actors.Driver r) (map (λ r. actors.Driver r) rs)
 driver_listed r [] h = cc
-driver_listed r (s ∷ rs) h = elim (or_cases (s.0 == r.0) (has_driver rs r) h) [ inl here ↦ inl (ap (λ (d : DriverNo). actors.Driver d) (sym (driver_from_same s r here))) | inr there ↦ inr (driver_listed r rs there) ]
+driver_listed r (s ∷ rs) h = elim (or_cases (s.0 == r.0) (has_driver rs r) h) [
+  | inl here ↦ inl (ap (λ (d : DriverNo). actors.Driver d) (sym (driver_from_same s r here)))
+  | inr there ↦ inr (driver_listed r rs there)
+]
 
-caller_listed : (board : BoardSeen) → IsBoard board → (lines : List BoardLine) (r : DriverNo) (x : BoardLine) → line_for board lines (actors.Driver r) ≡ Some x → IsOneOf (actors.Driver r) (drivers_of board)
+caller_listed : (board : BoardSeen) → IsBoard board → (lines : List BoardLine) (r : DriverNo) (x : BoardLine)
+    → line_for board lines (actors.Driver r) ≡ Some x → IsOneOf (actors.Driver r) (drivers_of board)
 caller_listed board is lines r x its =
     let k = current lines r [] board.calls x its in
     let declared = (is.calls k.place k.call k.at).driver in
@@ -103,20 +129,27 @@ caller_listed board is lines r x its =
 
 -- ---- all of them
 
-listed : (board : BoardSeen) → IsBoard board → AreValid board → (lines : List BoardLine) → AreKept board lines → (a : Actor) (m : Move) → MovesOn board lines a m → IsOneOf a (actors_of board)
+listed : (board : BoardSeen) → IsBoard board → AreValid board → (lines : List BoardLine) → AreKept board lines
+    → (a : Actor) (m : Move) → MovesOn board lines a m → IsOneOf a (actors_of board)
 listed board is valid lines k (actors.Thread line d) m moves =
     let at = def_at board lines k moves.place moves.line moves.at in
     in_first (actors.Thread line d) (threads_of board) (cpus_of board ++ drivers_of board)
-    (thread_listed board moves.line (def_of_row board moves.place moves.line.def at) (valid moves.place moves.line.def at) (k.legal moves.place moves.line moves.at) line d m.1 moves.due)
+    (thread_listed board moves.line (def_of_row board moves.place moves.line.def at)
+    (valid moves.place moves.line.def at) (k.legal moves.place moves.line moves.at) line d m.1 moves.due)
 listed board is valid lines k (actors.Cpu c) m moves =
     let at = def_at board lines k moves.place moves.line moves.at in
     in_second (actors.Cpu c) (threads_of board) (cpus_of board ++ drivers_of board) (in_first (actors.Cpu c) (cpus_of board) (drivers_of board)
-    (cpu_listed board moves.line (def_of_row board moves.place moves.line.def at) (valid moves.place moves.line.def at) (k.legal moves.place moves.line moves.at) c m.1 moves.due))
+    (cpu_listed board moves.line (def_of_row board moves.place moves.line.def at) (valid moves.place moves.line.def at)
+    (k.legal moves.place moves.line moves.at) c m.1 moves.due))
 listed board is valid lines k (actors.Driver r) m moves =
-    in_second (actors.Driver r) (threads_of board) (cpus_of board ++ drivers_of board) (in_second (actors.Driver r) (cpus_of board) (drivers_of board) (caller_listed board is lines r moves.line moves.its))
+    in_second (actors.Driver r) (threads_of board) (cpus_of board ++ drivers_of board)
+    (in_second (actors.Driver r) (cpus_of board) (drivers_of board)
+    (caller_listed board is lines r moves.line moves.its))
 
 -- if none of the board's actors can move, none can
-pub all_rest : (board : BoardSeen) → IsBoard board → AreValid board → (lines : List BoardLine) → AreKept board lines → ((a : Actor) → IsOneOf a (actors_of board) → due_move board lines a ≡ None) → (a : Actor) → due_move board lines a ≡ None
+pub all_rest : (board : BoardSeen) → IsBoard board → AreValid board → (lines : List BoardLine) → AreKept board lines
+    → ((a : Actor) → IsOneOf a (actors_of board) → due_move board lines a ≡ None) → (a : Actor)
+    → due_move board lines a ≡ None
 all_rest board is valid lines k rest a = by_move (due_move board lines a) refl
   where
     by_move : (o : Option Move) → due_move board lines a ≡ o → due_move board lines a ≡ None

@@ -17,11 +17,13 @@ def_there [] i x at = cc
 def_there (y ∷ ys) zero x at = ap (λ (z : BoardLine). Some z.def) (the_same y x at)
 def_there (y ∷ ys) (suc i) x at = def_there ys i x at
 
-pub find_there : (lines : List BoardLine) → AreApart (map (λ (x : BoardLine). x.def) lines) → (i : ℕ) (x : BoardLine) → slice_get lines i ≡ Some x → find_line lines x.def.line ≡ Some x
+pub find_there : (lines : List BoardLine) → AreApart (map (λ (x : BoardLine). x.def) lines) → (i : ℕ) (x : BoardLine)
+    → slice_get lines i ≡ Some x → find_line lines x.def.line ≡ Some x
 find_there [] apart i x at = cc
 find_there (y ∷ ys) apart zero x at =
     let same : y ≡ x = the_same y x at in
-    subst (λ (z : BoardLine). find_line (y ∷ ys) z.def.line ≡ Some z) same (ap (λ (b : Bool). cond b (Some y) (find_line ys y.def.line)) (same_self_line y.def.line))
+    subst (λ (z : BoardLine). find_line (y ∷ ys) z.def.line ≡ Some z) same
+    (ap (λ (b : Bool). cond b (Some y) (find_line ys y.def.line)) (same_self_line y.def.line))
 find_there (y ∷ ys) apart (suc i) x at =
     ap (λ (b : Bool). cond b (Some y) (find_line ys x.def.line)) (apart.0 i x.def (def_there ys i x at)) ∙ find_there ys apart.1 i x at
 
@@ -41,7 +43,12 @@ found (y ∷ ys) line x is = by_test (same_line line y.def.line) refl (λ h. fou
     by_test : (b : Bool) → same_line line y.def.line ≡ b → (find_line ys line ≡ Some x → Found ys line x) → Found (y ∷ ys) line x
     by_test true test deeper =
         let here : y ≡ x = the_same y x (sym (ap (λ (b : Bool). cond b (Some y) (find_line ys line)) test) ∙ is) in
-        record { place = zero; at = ap (λ (z : BoardLine). Some z) here; number = line_from_same line y.def.line test ∙ ap (λ (z : BoardLine). z.def.line) here }
+        record {
+          place = zero;
+          at = ap (λ (z : BoardLine). Some z) here;
+          number = line_from_same line y.def.line test
+              ∙ ap (λ (z : BoardLine). z.def.line) here;
+        }
     by_test false test deeper = later (deeper (sym (ap (λ (b : Bool). cond b (Some y) (find_line ys line)) test) ∙ is))
 
 -- ---- the lines after some moves
@@ -57,7 +64,8 @@ past_at (d ∷ ds) g zero x at =
     subst (λ (z : BoardLine). z.past ≡ part z.def.line g) (the_same fresh x at) refl
 past_at (d ∷ ds) g (suc i) x at = past_at ds g i x at
 
-pub line_there : (ds : List LineDef) (g : List Move) (i : ℕ) (d : LineDef) → slice_get ds i ≡ Some d → slice_get (lines_at ds g) i ≡ Some (record { def = d; past = part d.line g })
+pub line_there : (ds : List LineDef) (g : List Move) (i : ℕ) (d : LineDef) → slice_get ds i ≡ Some d
+    → slice_get (lines_at ds g) i ≡ Some (record { def = d; past = part d.line g })
 line_there [] g i d at = cc
 line_there (e ∷ es) g zero d at = ap (λ (x : LineDef). Some (record { def = x; past = part x.line g })) (the_same e d at)
 line_there (e ∷ es) g (suc i) d at = line_there es g i d at

@@ -30,7 +30,8 @@ pub found_stands : (lines : List BoardLine) (line : LineNo) (x : BoardLine) → 
 found_stands lines line x is = let f = found lines line x is in record { place = f.place; at = f.at }
 
 -- the first that passes a test
-first_stands : (test : Bool) (y : BoardLine) (ys : List BoardLine) (other : Option BoardLine) (x : BoardLine) → cond test (Some y) other ≡ Some x → (other ≡ Some x → Stands ys x) → Stands (y ∷ ys) x
+first_stands : (test : Bool) (y : BoardLine) (ys : List BoardLine) (other : Option BoardLine) (x : BoardLine)
+    → cond test (Some y) other ≡ Some x → (other ≡ Some x → Stands ys x) → Stands (y ∷ ys) x
 first_stands true y ys other x is deeper = record { place = zero; at = is }
 first_stands false y ys other x is deeper = further y ys x (deeper is)
 
@@ -42,15 +43,19 @@ due_stands : (lines : List BoardLine) (c : CpuNo) (x : BoardLine) → due_line l
 due_stands [] c x is = cc
 due_stands (y ∷ ys) c x is = first_stands (is_some (next_past y.def y.past (actors.Cpu c))) y ys (due_line ys c) x is (due_stands ys c x)
 
-either_stands : (lines : List BoardLine) (a b : Option BoardLine) (x : BoardLine) → or_line a b ≡ Some x → (a ≡ Some x → Stands lines x) → (b ≡ Some x → Stands lines x) → Stands lines x
+either_stands : (lines : List BoardLine) (a b : Option BoardLine) (x : BoardLine) → or_line a b ≡ Some x
+    → (a ≡ Some x → Stands lines x) → (b ≡ Some x → Stands lines x) → Stands lines x
 either_stands lines None b x is first second = second is
 either_stands lines (Some y) b x is first second = first is
 
-current_stands : (lines : List BoardLine) (r : DriverNo) (before cs : List ScriptCall) (x : BoardLine) → current_from lines r before cs ≡ Some x → Stands lines x
+current_stands : (lines : List BoardLine) (r : DriverNo) (before cs : List ScriptCall) (x : BoardLine)
+    → current_from lines r before cs ≡ Some x → Stands lines x
 current_stands lines r before [] x is = cc
-current_stands lines r before (c ∷ cs) x is = by_test (same_driver r c.driver && is_open (find_line lines c.line) r (calls_on c.line r before)) is (current_stands lines r (c ∷ before) cs x)
+current_stands lines r before (c ∷ cs) x is = by_test (same_driver r c.driver && is_open (find_line lines c.line) r
+    (calls_on c.line r before)) is (current_stands lines r (c ∷ before) cs x)
   where
-    by_test : (b : Bool) → cond b (find_line lines c.line) (current_from lines r (c ∷ before) cs) ≡ Some x → (current_from lines r (c ∷ before) cs ≡ Some x → Stands lines x) → Stands lines x
+    by_test : (b : Bool) → cond b (find_line lines c.line) (current_from lines r (c ∷ before) cs) ≡ Some x
+        → (current_from lines r (c ∷ before) cs ≡ Some x → Stands lines x) → Stands lines x
     by_test true is deeper = found_stands lines c.line x is
     by_test false is deeper = deeper is
 
@@ -72,7 +77,8 @@ pub record MovesOn (board : BoardSeen) (lines : List BoardLine) (a : Actor) (m :
 pub moves_on : (board : BoardSeen) (lines : List BoardLine) (a : Actor) (m : Move) → due_move board lines a ≡ Some m → MovesOn board lines a m
 moves_on board lines a m is = by_line (line_for board lines a) refl is
   where
-    by_entry : (x : BoardLine) (o : Option Entry) → line_for board lines a ≡ Some x → next_past x.def x.past a ≡ o → move_on x.def.line o ≡ Some m → MovesOn board lines a m
+    by_entry : (x : BoardLine) (o : Option Entry) → line_for board lines a ≡ Some x → next_past x.def x.past a ≡ o
+        → move_on x.def.line o ≡ Some m → MovesOn board lines a m
     by_entry x None its due is = cc
     by_entry x (Some e) its due is =
         let made : Move = (x.def.line, e) in
@@ -101,7 +107,8 @@ first_is : (board : BoardSeen) (lines : List BoardLine) (all : List Actor) (m : 
 first_is board lines [] m is = cc
 first_is board lines (a ∷ rest) m is = by_first (due_move board lines a) refl is (first_is board lines rest m)
   where
-    by_first : (o : Option Move) → due_move board lines a ≡ o → or_move o (first_move board lines rest) ≡ Some m → (first_move board lines rest ≡ Some m → IsActors board lines m) → IsActors board lines m
+    by_first : (o : Option Move) → due_move board lines a ≡ o → or_move o (first_move board lines rest) ≡ Some m
+        → (first_move board lines rest ≡ Some m → IsActors board lines m) → IsActors board lines m
     by_first None of_a is deeper = deeper is
     by_first (Some n) of_a is deeper = record { actor = a; moves = of_a ∙ is }
 
@@ -111,7 +118,8 @@ same_pair n m l k h =
     let q : Move × List Actor = (m, k) in
     ap (λ (x : Move × List Actor). x.0) (the_same p q h)
 
-pub choice_is : (board : BoardSeen) (lines : List BoardLine) (picks : List Actor) (m : Move) (left : List Actor) → choice board lines picks ≡ Some (m, left) → IsActors board lines m
+pub choice_is : (board : BoardSeen) (lines : List BoardLine) (picks : List Actor) (m : Move) (left : List Actor)
+    → choice board lines picks ≡ Some (m, left) → IsActors board lines m
 choice_is board lines [] m left is = by_first (first_move board lines (actors_of board)) refl is
   where
     by_first : (o : Option Move) → first_move board lines (actors_of board) ≡ o → with_picks [] o ≡ Some (m, left) → IsActors board lines m
@@ -119,6 +127,8 @@ choice_is board lines [] m left is = by_first (first_move board lines (actors_of
     by_first (Some n) first is = first_is board lines (actors_of board) m (first ∙ ap (λ (m : Move). Some m) (same_pair n m [] left is))
 choice_is board lines (pick ∷ picks) m left is = by_pick (due_move board lines pick) refl is (choice_is board lines picks m left)
   where
-    by_pick : (o : Option Move) → due_move board lines pick ≡ o → or_choice (with_picks picks o) (choice board lines picks) ≡ Some (m, left) → (choice board lines picks ≡ Some (m, left) → IsActors board lines m) → IsActors board lines m
+    by_pick : (o : Option Move) → due_move board lines pick ≡ o
+        → or_choice (with_picks picks o) (choice board lines picks) ≡ Some (m, left)
+        → (choice board lines picks ≡ Some (m, left) → IsActors board lines m) → IsActors board lines m
     by_pick None of_pick is deeper = deeper is
     by_pick (Some n) of_pick is deeper = record { actor = pick; moves = of_pick ∙ ap (λ (m : Move). Some m) (same_pair n m picks left is) }

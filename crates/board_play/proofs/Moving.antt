@@ -1,5 +1,7 @@
 -- A move keeps that the drivers' calls are made in the order of their scripts.
-use Rattle.std.proofs.Common.{◌≡◌, ℕ, zero, suc, ◌+◌, ◌<◌, ◌≤◌, ◌⊎◌, inl, inr, Bool, true, false, ◌&&◌, cond, IsSomeAnd, Option, Some, None, List, [], ◌∷◌, map, take, slice_get, refl, sym, ap, ◌∙◌, subst, arith, eq-eqb}
+use Rattle.std.proofs.Common.{◌≡◌, ℕ, zero, suc, ◌+◌, ◌<◌, ◌≤◌, ◌⊎◌, inl, inr, Bool, true, false, ◌&&◌, cond, IsSomeAnd}
+use Rattle.std.proofs.Common.{Option, Some, None, List, [], ◌∷◌, map, take, slice_get, refl, sym, ap, ◌∙◌, subst, arith}
+use Rattle.std.proofs.Common.{eq-eqb}
 use Rattle.irq_base.specs.Who.{actor_of}
 use Rattle.irq_base.specs.declared.calls.Call.{Call}
 use Rattle.irq_base.specs.declared.entries.Actor.{Actor}
@@ -57,7 +59,8 @@ by_driver_is line r (entries.Finish dev kept unmask) = refl
 by_driver_is line r (entries.Done dev) = refl
 by_driver_is line r e = refl
 
-due_some : (def : LineDef) (r : DriverNo) (past : List Entry) (e : Entry) → next_past def past (actors.Driver r) ≡ Some e → (x : Call × ℕ) × (due_call def r past ≡ Some x)
+due_some : (def : LineDef) (r : DriverNo) (past : List Entry) (e : Entry)
+    → next_past def past (actors.Driver r) ≡ Some e → (x : Call × ℕ) × (due_call def r past ≡ Some x)
 due_some def r past e is = by_due (due_call def r past) refl is
   where
     by_due : (o : Option (Call × ℕ)) → due_call def r past ≡ o → next_of_call def r past o ≡ Some e → (x : Call × ℕ) × (due_call def r past ≡ Some x)
@@ -88,9 +91,11 @@ module _ (calls : List ScriptCall) (lines : List BoardLine) (m : Move) (r : Driv
       complete : (i : ℕ) (y : BoardLine) → slice_get (lines_after m lines) i ≡ Some y → done y r ≡ calls_on y.def.line r (take p calls)
       complete i y at =
           let s = moved_at lines m i y at in
-          subst (λ (z : BoardLine). done z r ≡ calls_on z.def.line r (take p calls)) s.is (same_done s.line (same_line s.line.def.line m.0) ∙ u.complete i s.line s.at)
+          subst (λ (z : BoardLine). done z r ≡ calls_on z.def.line r (take p calls)) s.is
+          (same_done s.line (same_line s.line.def.line m.0) ∙ u.complete i s.line s.at)
 
-      begun : (i : ℕ) (y : BoardLine) (c : Call) (n : ℕ) → slice_get (lines_after m lines) i ≡ Some y → due_call y.def r y.past ≡ Some (c, suc n) → IsSomeAnd (slice_get calls p) (IsCallOn y.def.line r)
+      begun : (i : ℕ) (y : BoardLine) (c : Call) (n : ℕ) → slice_get (lines_after m lines) i ≡ Some y
+          → due_call y.def r y.past ≡ Some (c, suc n) → IsSomeAnd (slice_get calls p) (IsCallOn y.def.line r)
       begun i y c n at due =
           let s = moved_at lines m i y at in
           let was : due_call s.line.def r s.line.past ≡ Some (c, suc n) =
@@ -106,8 +111,10 @@ not_above : (a b : ℕ) → (a < b → ⊥) → b ≤ a
 not_above a b not = elim (two a b) [ inl less ↦ absurd (not less) | inr le ↦ le ]
 
 -- a call that has begun is the current one
-call_at : (lines : List BoardLine) (calls : List ScriptCall) (r : DriverNo) (p : ℕ) (x : BoardLine) → (o : Option ScriptCall) → slice_get calls p ≡ o → IsSomeAnd o (IsCallOn x.def.line r)
-    → IsThe lines x → ((y : BoardLine) → IsThe lines y → calls_on y.def.line r (take p calls) ≤ done y r) → done x r ≤ calls_on x.def.line r (take p calls) → current_from lines r [] calls ≡ Some x
+call_at : (lines : List BoardLine) (calls : List ScriptCall) (r : DriverNo) (p : ℕ) (x : BoardLine)
+    → (o : Option ScriptCall) → slice_get calls p ≡ o → IsSomeAnd o (IsCallOn x.def.line r)
+    → IsThe lines x → ((y : BoardLine) → IsThe lines y → calls_on y.def.line r (take p calls) ≤ done y r)
+    → done x r ≤ calls_on x.def.line r (take p calls) → current_from lines r [] calls ≡ Some x
 call_at lines calls r p x None at on the passed waits = absurd on
 call_at lines calls r p x (Some c) at on the passed waits =
     let mine : same_driver r c.driver ≡ true = same_driver_of r c.driver on.1 in
@@ -116,10 +123,13 @@ call_at lines calls r p x (Some c) at on the passed waits =
     same_driver_of : (r s : DriverNo) → s ≡ r → same_driver r s ≡ true
     same_driver_of r s same = eq-eqb r.0 s.0 (ap (λ (d : DriverNo). d.0) (sym same))
 
-pub begun_is_current : (lines : List BoardLine) (calls : List ScriptCall) → AreApart (map (λ (x : BoardLine). x.def) lines) → (r : DriverNo) (p : ℕ) → IsUpTo calls lines r p
-    → (i : ℕ) (x : BoardLine) (c : Call) (n : ℕ) → slice_get lines i ≡ Some x → due_call x.def r x.past ≡ Some (c, suc n) → current_from lines r [] calls ≡ Some x
+pub begun_is_current : (lines : List BoardLine) (calls : List ScriptCall)
+    → AreApart (map (λ (x : BoardLine). x.def) lines) → (r : DriverNo) (p : ℕ) → IsUpTo calls lines r p
+    → (i : ℕ) (x : BoardLine) (c : Call) (n : ℕ) → slice_get lines i ≡ Some x
+    → due_call x.def r x.past ≡ Some (c, suc n) → current_from lines r [] calls ≡ Some x
 begun_is_current lines calls apart r p u i x c n at due =
-    call_at lines calls r p x (slice_get calls p) refl (u.begun i x c n at due) (find_there lines apart i x at) passed (let e = u.complete i x at in omega (arith, e))
+    call_at lines calls r p x (slice_get calls p) refl (u.begun i x c n at due) (find_there lines apart i x at) passed
+    (let e = u.complete i x at in omega (arith, e))
   where
     passed : (y : BoardLine) → IsThe lines y → calls_on y.def.line r (take p calls) ≤ done y r
     passed y the =
@@ -127,7 +137,8 @@ begun_is_current lines calls apart r p u i x c n at due =
         let e = u.complete f.place y f.at in
         omega (arith, e)
 
-module _ (calls : List ScriptCall) (lines : List BoardLine) (apart : AreApart (map (λ (x : BoardLine). x.def) lines)) (m : Move) (r : DriverNo) (p : ℕ) (u : IsUpTo calls lines r p)
+module _ (calls : List ScriptCall) (lines : List BoardLine) (apart : AreApart (map (λ (x : BoardLine). x.def) lines))
+    (m : Move) (r : DriverNo) (p : ℕ) (u : IsUpTo calls lines r p)
     (x : BoardLine) (i : ℕ) (at_x : slice_get lines i ≡ Some x) (number : m.0 ≡ x.def.line) (k : Current lines r [] calls x) where
   -- up to the place of the current call
   up_to_here : (y : BoardLine) (j : ℕ) → slice_get lines j ≡ Some y → done y r ≡ calls_on y.def.line r (take k.place calls)
@@ -138,12 +149,15 @@ module _ (calls : List ScriptCall) (lines : List BoardLine) (apart : AreApart (m
       omega (arith, is, passed, short)
     where
       is_x : is_on x.def.line r k.call ≡ true
-      is_x = ap (λ (l : LineNo). same_line l x.def.line && same_driver r k.call.driver) k.line ∙ (ap (λ (b : Bool). b && same_driver r k.call.driver) (same_self_line x.def.line) ∙ k.mine)
+      is_x = ap (λ (l : LineNo). same_line l x.def.line && same_driver r k.call.driver) k.line
+          ∙ (ap (λ (b : Bool). b && same_driver r k.call.driver) (same_self_line x.def.line) ∙ k.mine)
 
       beyond : k.place < p → ⊥
       beyond more =
           let longer : calls_on x.def.line r (take (suc k.place) calls) ≡ calls_on x.def.line r (take k.place calls) + 1 =
-          one_longer x.def.line r calls k.place k.call k.at ∙ ap (λ (b : Bool). cond b (calls_on x.def.line r (take k.place calls) + 1) (calls_on x.def.line r (take k.place calls))) is_x in
+          one_longer x.def.line r calls k.place k.call k.at
+          ∙ ap (λ (b : Bool). cond b (calls_on x.def.line r (take k.place calls) + 1)
+          (calls_on x.def.line r (take k.place calls))) is_x in
           let le = fewer x.def.line r calls (suc k.place) p (omega (arith, more)) in
           let is = u.complete i x at_x in
           let waits : done x r ≤ calls_on x.def.line r [] + calls_on x.def.line r (take k.place calls) = k.waits in
@@ -159,11 +173,13 @@ module _ (calls : List ScriptCall) (lines : List BoardLine) (apart : AreApart (m
   moved_is_x : same_line x.def.line m.0 ≡ true
   moved_is_x = ap (λ (l : LineNo). same_line x.def.line l) number ∙ same_self_line x.def.line
 
-  only_x : current_from lines r [] calls ≡ Some x → (y : BoardLine) (j : ℕ) (c : Call) (n : ℕ) → slice_get lines j ≡ Some y → due_call y.def r y.past ≡ Some (c, suc n) → x ≡ y
+  only_x : current_from lines r [] calls ≡ Some x → (y : BoardLine) (j : ℕ) (c : Call) (n : ℕ)
+      → slice_get lines j ≡ Some y → due_call y.def r y.past ≡ Some (c, suc n) → x ≡ y
   only_x is y j c n at due = the_same x y (sym is ∙ begun_is_current lines calls apart r p u j y c n at due)
 
   is_x_call : is_on x.def.line r k.call ≡ true
-  is_x_call = ap (λ (l : LineNo). same_line l x.def.line && same_driver r k.call.driver) k.line ∙ (ap (λ (b : Bool). b && same_driver r k.call.driver) (same_self_line x.def.line) ∙ k.mine)
+  is_x_call = ap (λ (l : LineNo). same_line l x.def.line && same_driver r k.call.driver) k.line
+      ∙ (ap (λ (b : Bool). b && same_driver r k.call.driver) (same_self_line x.def.line) ∙ k.mine)
 
   -- another line's count doesn't grow past the call
   not_others_call : (y : BoardLine) → same_line y.def.line m.0 ≡ false → is_on y.def.line r k.call ≡ false
@@ -176,37 +192,46 @@ module _ (calls : List ScriptCall) (lines : List BoardLine) (apart : AreApart (m
           both_ways (same_line y.def.line m.0) (ap (λ (l : LineNo). same_line y.def.line l) (sym its) ∙ same_self_line y.def.line) differs
 
   -- the call goes on
-  pub goes_on : is_by_driver r m.1 ≡ true → current_from lines r [] calls ≡ Some x → (d : Call) (n : ℕ) → due_call x.def r (m.1 ∷ x.past) ≡ Some (d, suc n) → IsUpTo calls (lines_after m lines) r k.place
+  pub goes_on : is_by_driver r m.1 ≡ true → current_from lines r [] calls ≡ Some x → (d : Call) (n : ℕ)
+      → due_call x.def r (m.1 ∷ x.past) ≡ Some (d, suc n) → IsUpTo calls (lines_after m lines) r k.place
   goes_on own is d n due = record { complete = complete; begun = begun }
     where
-      same_done : (y : BoardLine) (j : ℕ) → slice_get lines j ≡ Some y → (b : Bool) → same_line y.def.line m.0 ≡ b → done (record { def = y.def; past = cond b (m.1 ∷ y.past) y.past }) r ≡ done y r
-      same_done y j at true same = subst (λ (z : BoardLine). done (record { def = z.def; past = m.1 ∷ z.past }) r ≡ done z r) (is_moved_line y j at same) (not_completed x.def r m.1 x.past d n own due)
+      same_done : (y : BoardLine) (j : ℕ) → slice_get lines j ≡ Some y → (b : Bool) → same_line y.def.line m.0 ≡ b
+          → done (record { def = y.def; past = cond b (m.1 ∷ y.past) y.past }) r ≡ done y r
+      same_done y j at true same = subst (λ (z : BoardLine). done (record { def = z.def; past = m.1 ∷ z.past }) r
+          ≡ done z r) (is_moved_line y j at same) (not_completed x.def r m.1 x.past d n own due)
       same_done y j at false differs = refl
 
       complete : (j : ℕ) (y : BoardLine) → slice_get (lines_after m lines) j ≡ Some y → done y r ≡ calls_on y.def.line r (take k.place calls)
       complete j y at =
           let s = moved_at lines m j y at in
-          subst (λ (z : BoardLine). done z r ≡ calls_on z.def.line r (take k.place calls)) s.is (same_done s.line j s.at (same_line s.line.def.line m.0) refl ∙ up_to_here s.line j s.at)
+          subst (λ (z : BoardLine). done z r ≡ calls_on z.def.line r (take k.place calls)) s.is
+          (same_done s.line j s.at (same_line s.line.def.line m.0) refl ∙ up_to_here s.line j s.at)
 
       here : (y : BoardLine) → x ≡ y → IsSomeAnd (slice_get calls k.place) (IsCallOn y.def.line r)
       here y same =
           subst (λ (z : BoardLine). IsSomeAnd (slice_get calls k.place) (IsCallOn z.def.line r)) same
           (subst (λ (o : Option ScriptCall). IsSomeAnd o (IsCallOn x.def.line r)) (sym k.at) (k.line, sym (driver_from_same r k.call.driver k.mine)))
 
-      of_line : (y : BoardLine) (j : ℕ) → slice_get lines j ≡ Some y → (b : Bool) → same_line y.def.line m.0 ≡ b → (c : Call) (o : ℕ) → due_call y.def r (cond b (m.1 ∷ y.past) y.past) ≡ Some (c, suc o) → x ≡ y
+      of_line : (y : BoardLine) (j : ℕ) → slice_get lines j ≡ Some y → (b : Bool) → same_line y.def.line m.0 ≡ b
+          → (c : Call) (o : ℕ) → due_call y.def r (cond b (m.1 ∷ y.past) y.past) ≡ Some (c, suc o) → x ≡ y
       of_line y j at true same c o due = is_moved_line y j at same
       of_line y j at false differs c o due = only_x is y j c o at due
 
-      begun : (j : ℕ) (y : BoardLine) (c : Call) (o : ℕ) → slice_get (lines_after m lines) j ≡ Some y → due_call y.def r y.past ≡ Some (c, suc o) → IsSomeAnd (slice_get calls k.place) (IsCallOn y.def.line r)
+      begun : (j : ℕ) (y : BoardLine) (c : Call) (o : ℕ) → slice_get (lines_after m lines) j ≡ Some y
+          → due_call y.def r y.past ≡ Some (c, suc o) → IsSomeAnd (slice_get calls k.place) (IsCallOn y.def.line r)
       begun j y c o at due =
           let s = moved_at lines m j y at in
           let was = subst (λ (z : BoardLine). due_call z.def r z.past ≡ Some (c, suc o)) (sym s.is) due in
-          subst (λ (z : BoardLine). IsSomeAnd (slice_get calls k.place) (IsCallOn z.def.line r)) s.is (here s.line (of_line s.line j s.at (same_line s.line.def.line m.0) refl c o was))
+          subst (λ (z : BoardLine). IsSomeAnd (slice_get calls k.place) (IsCallOn z.def.line r)) s.is
+          (here s.line (of_line s.line j s.at (same_line s.line.def.line m.0) refl c o was))
 
   -- if it doesn't go on, no call has begun
   none : ((d : Call) (n : ℕ) → due_call x.def r (m.1 ∷ x.past) ≡ Some (d, suc n) → ⊥) → current_from lines r [] calls ≡ Some x
-      → (y : BoardLine) (j : ℕ) → slice_get lines j ≡ Some y → (b : Bool) → same_line y.def.line m.0 ≡ b → (c : Call) (o : ℕ) → due_call y.def r (cond b (m.1 ∷ y.past) y.past) ≡ Some (c, suc o) → ⊥
-  none not is y j at true same c o due = not c o (subst (λ (z : BoardLine). due_call z.def r (m.1 ∷ z.past) ≡ Some (c, suc o)) (sym (is_moved_line y j at same)) due)
+      → (y : BoardLine) (j : ℕ) → slice_get lines j ≡ Some y → (b : Bool) → same_line y.def.line m.0 ≡ b
+      → (c : Call) (o : ℕ) → due_call y.def r (cond b (m.1 ∷ y.past) y.past) ≡ Some (c, suc o) → ⊥
+  none not is y j at true same c o due = not c o (subst
+      (λ (z : BoardLine). due_call z.def r (m.1 ∷ z.past) ≡ Some (c, suc o)) (sym (is_moved_line y j at same)) due)
   none not is y j at false differs c o due =
       let here : x ≡ y = only_x is y j c o at due in
       both_ways (same_line y.def.line m.0) (subst (λ (z : BoardLine). same_line z.def.line m.0 ≡ true) here moved_is_x) differs
@@ -218,30 +243,40 @@ module _ (calls : List ScriptCall) (lines : List BoardLine) (apart : AreApart (m
       none not is s.line j s.at (same_line s.line.def.line m.0) refl c o (subst (λ (z : BoardLine). due_call z.def r z.past ≡ Some (c, suc o)) (sym s.is) due)
 
   -- the call is complete
-  pub is_complete : is_by_driver r m.1 ≡ true → current_from lines r [] calls ≡ Some x → (z : Call × ℕ) → due_call x.def r x.past ≡ Some z → ((d : Call) (n : ℕ) → due_call x.def r (m.1 ∷ x.past) ≡ Some (d, suc n) → ⊥)
+  pub is_complete : is_by_driver r m.1 ≡ true → current_from lines r [] calls ≡ Some x → (z : Call × ℕ)
+      → due_call x.def r x.past ≡ Some z → ((d : Call) (n : ℕ) → due_call x.def r (m.1 ∷ x.past) ≡ Some (d, suc n) → ⊥)
       → IsUpTo calls (lines_after m lines) r (suc k.place)
   is_complete own is z was not = record { complete = complete; begun = begun }
     where
       counted : (y : BoardLine) (j : ℕ) → slice_get lines j ≡ Some y → (b : Bool) → same_line y.def.line m.0 ≡ b
           → done (record { def = y.def; past = cond b (m.1 ∷ y.past) y.past }) r ≡ calls_on y.def.line r (take (suc k.place) calls)
       counted y j at true same =
-          subst (λ (z : BoardLine). done (record { def = z.def; past = m.1 ∷ z.past }) r ≡ calls_on z.def.line r (take (suc k.place) calls)) (is_moved_line y j at same)
+          subst (λ (z : BoardLine). done (record { def = z.def; past = m.1 ∷ z.past }) r
+          ≡ calls_on z.def.line r (take (suc k.place) calls)) (is_moved_line y j at same)
           (one_completed x.def r m.1 x.past z own was not ∙ (ap (λ (n : ℕ). n + 1) (up_to_here x i at_x)
-          ∙ (ap (λ (b : Bool). cond b (calls_on x.def.line r (take k.place calls) + 1) (calls_on x.def.line r (take k.place calls))) (sym is_x_call) ∙ sym (one_longer x.def.line r calls k.place k.call k.at))))
+          ∙ (ap (λ (b : Bool). cond b (calls_on x.def.line r (take k.place calls) + 1)
+          (calls_on x.def.line r (take k.place calls))) (sym is_x_call)
+          ∙ sym (one_longer x.def.line r calls k.place k.call k.at))))
       counted y j at false differs =
           up_to_here y j at
-          ∙ (ap (λ (b : Bool). cond b (calls_on y.def.line r (take k.place calls) + 1) (calls_on y.def.line r (take k.place calls))) (sym (not_others_call y differs)) ∙ sym (one_longer y.def.line r calls k.place k.call k.at))
+          ∙ (ap (λ (b : Bool). cond b (calls_on y.def.line r (take k.place calls) + 1)
+          (calls_on y.def.line r (take k.place calls))) (sym (not_others_call y differs))
+          ∙ sym (one_longer y.def.line r calls k.place k.call k.at))
 
       complete : (j : ℕ) (y : BoardLine) → slice_get (lines_after m lines) j ≡ Some y → done y r ≡ calls_on y.def.line r (take (suc k.place) calls)
       complete j y at =
           let s = moved_at lines m j y at in
-          subst (λ (z : BoardLine). done z r ≡ calls_on z.def.line r (take (suc k.place) calls)) s.is (counted s.line j s.at (same_line s.line.def.line m.0) refl)
+          subst (λ (z : BoardLine). done z r ≡ calls_on z.def.line r (take (suc k.place) calls)) s.is
+          (counted s.line j s.at (same_line s.line.def.line m.0) refl)
 
-      begun : (j : ℕ) (y : BoardLine) (c : Call) (o : ℕ) → slice_get (lines_after m lines) j ≡ Some y → due_call y.def r y.past ≡ Some (c, suc o) → IsSomeAnd (slice_get calls (suc k.place)) (IsCallOn y.def.line r)
+      begun : (j : ℕ) (y : BoardLine) (c : Call) (o : ℕ) → slice_get (lines_after m lines) j ≡ Some y
+          → due_call y.def r y.past ≡ Some (c, suc o) → IsSomeAnd (slice_get calls (suc k.place))
+          (IsCallOn y.def.line r)
       begun j y c o at due =
           absurd (none_begun not is j y c o at due)
 
-  own_move : is_by_driver r m.1 ≡ true → current_from lines r [] calls ≡ Some x → (z : Call × ℕ) → due_call x.def r x.past ≡ Some z → (q : ℕ) × IsUpTo calls (lines_after m lines) r q
+  own_move : is_by_driver r m.1 ≡ true → current_from lines r [] calls ≡ Some x → (z : Call × ℕ)
+      → due_call x.def r x.past ≡ Some z → (q : ℕ) × IsUpTo calls (lines_after m lines) r q
   own_move own is z was = by_due (due_call x.def r (m.1 ∷ x.past)) refl
     where
       by_due : (o : Option (Call × ℕ)) → due_call x.def r (m.1 ∷ x.past) ≡ o → (q : ℕ) × IsUpTo calls (lines_after m lines) r q
@@ -251,7 +286,8 @@ module _ (calls : List ScriptCall) (lines : List BoardLine) (apart : AreApart (m
 
 -- ---- each move
 
-pub up_to_more : (board : BoardSeen) (lines : List BoardLine) → AreApart (map (λ (x : BoardLine). x.def) lines) → (a : Actor) (m : Move) → MovesOn board lines a m → (r : DriverNo) (p : ℕ) → IsUpTo board.calls lines r p
+pub up_to_more : (board : BoardSeen) (lines : List BoardLine) → AreApart (map (λ (x : BoardLine). x.def) lines)
+    → (a : Actor) (m : Move) → MovesOn board lines a m → (r : DriverNo) (p : ℕ) → IsUpTo board.calls lines r p
     → (q : ℕ) × IsUpTo board.calls (lines_after m lines) r q
 up_to_more board lines apart a m moves r p u = by_test (is_by_driver r m.1) refl
   where
@@ -263,7 +299,8 @@ up_to_more board lines apart a m moves r p u = by_test (is_by_driver r m.1) refl
         let me : a ≡ actors.Driver r = is ∙ ap (λ (d : DriverNo). actors.Driver d) (sym same) in
         let its : line_for board lines (actors.Driver r) ≡ Some moves.line = ap (λ (b : Actor). line_for board lines b) (sym me) ∙ moves.its in
         let due = due_some moves.line.def r moves.line.past m.1 (ap (λ (b : Actor). next_past moves.line.def moves.line.past b) (sym me) ∙ moves.due) in
-        own_move board.calls lines apart m r p u moves.line moves.place moves.at moves.number (current lines r [] board.calls moves.line its) own its due.0 due.1
+        own_move board.calls lines apart m r p u moves.line moves.place moves.at moves.number
+        (current lines r [] board.calls moves.line its) own its due.0 due.1
 
     by_actor : (b : Actor) → a ≡ b → is_driver r b ≡ true → is_by_driver r m.1 ≡ true → (q : ℕ) × IsUpTo board.calls (lines_after m lines) r q
     by_actor (actors.Driver s) is test own = of_driver s is (driver_from_same r s test) own

@@ -1,6 +1,7 @@
 -- What is known of the definitions of a board's lines: each is the definition of a row, whatever
 -- the layout refuses.
-use Rattle.std.proofs.Common.{◌≡◌, ℕ, zero, suc, ◌+◌, ◌<◌, ◌==◌, Bool, true, false, ◌&&◌, cond, Some, List, [], ◌∷◌, map, filter, length, take, slice_get, refl, ap, ◌∙◌, subst, arith}
+use Rattle.std.proofs.Common.{◌≡◌, ℕ, zero, suc, ◌+◌, ◌<◌, ◌==◌, Bool, true, false, ◌&&◌, cond, Some, List, [], ◌∷◌}
+use Rattle.std.proofs.Common.{map, filter, length, take, slice_get, refl, ap, ◌∙◌, subst, arith}
 use Rattle.irq_base.specs.declared.calls.Call.{Call}
 use Rattle.irq_base.specs.declared.lines.LineDef.{LineDef}
 use Rattle.irq_base.specs.declared.numbers.DriverNo.{DriverNo}
@@ -33,12 +34,16 @@ pub record OfRow (b : BoardSeen) (rows : List LineRow) (d : LineDef) : Type 0 wh
 later : (b : BoardSeen) (row : LineRow) (rows : List LineRow) (d : LineDef) → OfRow b rows d → OfRow b (row ∷ rows) d
 later b row rows d o = record { place = suc o.place; row = o.row; at = o.at; is = o.is }
 
-of_row : (b : BoardSeen) (rows : List LineRow) (places : List Placement) (i : ℕ) (d : LineDef) → slice_get (map (line_of_row b) (mapped rows places)) i ≡ Some d → OfRow b rows d
+of_row : (b : BoardSeen) (rows : List LineRow) (places : List Placement) (i : ℕ) (d : LineDef)
+    → slice_get (map (line_of_row b) (mapped rows places)) i ≡ Some d → OfRow b rows d
 of_row b [] places i d at = cc
 of_row b (row ∷ rows) [] i d at = cc
 of_row b (row ∷ rows) (place ∷ places) i d at = by_test (is_mapped place) i at (λ i at. of_row b rows places i d at)
   where
-    by_test : (m : Bool) (i : ℕ) → slice_get (map (line_of_row b) (cond m (row ∷ mapped rows places) (mapped rows places))) i ≡ Some d → ((i : ℕ) → slice_get (map (line_of_row b) (mapped rows places)) i ≡ Some d → OfRow b rows d) → OfRow b (row ∷ rows) d
+    by_test : (m : Bool) (i : ℕ) → slice_get (map (line_of_row b)
+        (cond m (row ∷ mapped rows places) (mapped rows places))) i ≡ Some d
+        → ((i : ℕ) → slice_get (map (line_of_row b) (mapped rows places)) i ≡ Some d → OfRow b rows d)
+        → OfRow b (row ∷ rows) d
     by_test true zero at deeper = record { place = zero; row = row; at = refl; is = the_same (line_of_row b row) d at }
     by_test true (suc i) at deeper = later b row rows d (deeper i at)
     by_test false i at deeper = later b row rows d (deeper i at)
@@ -56,7 +61,8 @@ valid_defs b board i d at = let o = def_of_row b i d at in subst (λ (d : LineDe
 
 -- ---- their numbers differ
 
-apart : (b : BoardSeen) (rows : List LineRow) (places : List Placement) → Rises (λ (row : LineRow). row.line.0) rows → AreApart (map (line_of_row b) (mapped rows places))
+apart : (b : BoardSeen) (rows : List LineRow) (places : List Placement) → Rises (λ (row : LineRow). row.line.0) rows
+    → AreApart (map (line_of_row b) (mapped rows places))
 apart b [] places rises = tt
 apart b (row ∷ rows) [] rises = tt
 apart b (row ∷ rows) (place ∷ places) rises = by_test (is_mapped place) (apart b rows places (rises_on (λ (row : LineRow). row.line.0) row rows rises))
@@ -67,7 +73,8 @@ apart b (row ∷ rows) (place ∷ places) rises = by_test (is_mapped place) (apa
         let less : row.line.0 < o.row.line.0 = head_of (λ (x : LineRow). x.line.0 < o.row.line.0) row (take o.place rows) (rises (suc o.place) o.row o.at) in
         subst (λ (d : LineDef). same_line d.line row.line ≡ false) o.is (differ_back row.line.0 o.row.line.0 less)
 
-    by_test : (m : Bool) → AreApart (map (line_of_row b) (mapped rows places)) → AreApart (map (line_of_row b) (cond m (row ∷ mapped rows places) (mapped rows places)))
+    by_test : (m : Bool) → AreApart (map (line_of_row b) (mapped rows places))
+        → AreApart (map (line_of_row b) (cond m (row ∷ mapped rows places) (mapped rows places)))
     by_test true deeper = (above, deeper)
     by_test false deeper = deeper
 
@@ -76,26 +83,33 @@ apart_defs b board = apart b b.lines (layout_of b) (λ i row at. (board.lines i 
 
 -- ---- their calls are the script's on the line
 
-one_more : (cs : List (DriverNo × Call)) (r : DriverNo) (c : ScriptCall) (s : Bool) → length (cond s (c.call ∷ calls_by r cs) (calls_by r cs)) ≡ cond s (length (calls_by r cs) + 1) (length (calls_by r cs))
+one_more : (cs : List (DriverNo × Call)) (r : DriverNo) (c : ScriptCall) (s : Bool)
+    → length (cond s (c.call ∷ calls_by r cs) (calls_by r cs))
+    ≡ cond s (length (calls_by r cs) + 1) (length (calls_by r cs))
 one_more cs r c true = omega arith
 one_more cs r c false = refl
 
-calls_of_row : (line : LineNo) (r : DriverNo) (cs : List ScriptCall) → length (calls_by r (map with_driver (filter (λ c. c.line.0 == line.0) cs))) ≡ calls_on line r cs
+calls_of_row : (line : LineNo) (r : DriverNo) (cs : List ScriptCall)
+    → length (calls_by r (map with_driver (filter (λ c. c.line.0 == line.0) cs))) ≡ calls_on line r cs
 calls_of_row line r [] = refl
 calls_of_row line r (c ∷ cs) = by_test (c.line.0 == line.0) (calls_of_row line r cs)
   where
     by_test : (l : Bool) → length (calls_by r (map with_driver (filter (λ c. c.line.0 == line.0) cs))) ≡ calls_on line r cs
-        → length (calls_by r (map with_driver (cond l (c ∷ filter (λ c. c.line.0 == line.0) cs) (filter (λ c. c.line.0 == line.0) cs)))) ≡ cond (l && same_driver r c.driver) (calls_on line r cs + 1) (calls_on line r cs)
+        → length (calls_by r (map with_driver (cond l (c ∷ filter (λ c. c.line.0 == line.0) cs)
+        (filter (λ c. c.line.0 == line.0) cs)))) ≡ cond (l && same_driver r c.driver) (calls_on line r cs + 1)
+        (calls_on line r cs)
     by_test true deeper =
         one_more (map with_driver (filter (λ c. c.line.0 == line.0) cs)) r c (same_driver r c.driver)
         ∙ ap (λ (n : ℕ). cond (same_driver r c.driver) (n + 1) n) deeper
     by_test false deeper = deeper
 
-pub calls_fit : (b : BoardSeen) (i : ℕ) (d : LineDef) → slice_get (defs_of b) i ≡ Some d → (r : DriverNo) → length (calls_by r d.calls) ≡ calls_on d.line r b.calls
+pub calls_fit : (b : BoardSeen) (i : ℕ) (d : LineDef) → slice_get (defs_of b) i ≡ Some d → (r : DriverNo)
+    → length (calls_by r d.calls) ≡ calls_on d.line r b.calls
 calls_fit b i d at r =
     let o = def_of_row b i d at in
     subst (λ (d : LineDef). length (calls_by r d.calls) ≡ calls_on d.line r b.calls) o.is (calls_of_row o.row.line r b.calls)
 
 -- the definition has the calls about its line
-pub has_calls : (b : BoardSeen) (i : ℕ) (d : LineDef) → slice_get (defs_of b) i ≡ Some d → d.calls ≡ map with_driver (filter (λ c. c.line.0 == d.line.0) b.calls)
+pub has_calls : (b : BoardSeen) (i : ℕ) (d : LineDef) → slice_get (defs_of b) i ≡ Some d
+    → d.calls ≡ map with_driver (filter (λ c. c.line.0 == d.line.0) b.calls)
 has_calls b i d at = let o = def_of_row b i d at in subst (λ (d : LineDef). d.calls ≡ map with_driver (filter (λ c. c.line.0 == d.line.0) b.calls)) o.is refl

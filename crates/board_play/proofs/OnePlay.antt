@@ -31,7 +31,8 @@ same_left board picks (e ∷ p) l m a b =
     let before : a.0 ≡ b.0 = same_left board picks p a.0 b.0 a.1 b.1 in
     (same_move (next_move board p a.0) (next_move board p b.0) e e l m (ap (next_move board p) before) a.2 b.2).1
 
-same_past : (board : BoardSeen) (picks : List Actor) (p q : List Move) (l m : List Actor) → length p ≡ length q → IsChosen board picks p l → IsChosen board picks q m → p ≡ q
+same_past : (board : BoardSeen) (picks : List Actor) (p q : List Move) (l m : List Actor) → length p ≡ length q
+    → IsChosen board picks p l → IsChosen board picks q m → p ≡ q
 same_past board picks [] [] l m n a b = refl
 same_past board picks [] (f ∷ q) l m n a b = absurd (omega (arith, n))
 same_past board picks (e ∷ p) [] l m n a b = absurd (omega (arith, n))
@@ -39,7 +40,8 @@ same_past board picks (e ∷ p) (f ∷ q) l m n a b =
     let older : p ≡ q = same_past board picks p q a.0 b.0 (omega (arith, n)) a.1 b.1 in
     let chosen : IsChosen board picks p b.0 = subst (λ (x : List Move). IsChosen board picks x b.0) (sym older) b.1 in
     let before : a.0 ≡ b.0 = same_left board picks p a.0 b.0 a.1 chosen in
-    let moves : next_move board p a.0 ≡ next_move board q b.0 = ap (λ (x : List Actor). next_move board p x) before ∙ ap (λ (x : List Move). next_move board x b.0) older in
+    let moves : next_move board p a.0 ≡ next_move board q b.0 = ap (λ (x : List Actor). next_move board p x) before
+    ∙ ap (λ (x : List Move). next_move board x b.0) older in
     let newest : e ≡ f = (same_move (next_move board p a.0) (next_move board q b.0) e f l m moves a.2 b.2).0 in
     ap (λ x. x ∷ p) newest ∙ ap (λ x. f ∷ x) older
 
@@ -50,7 +52,8 @@ record Went (board : BoardSeen) (p : List Move) (l : List Actor) : Type 0 where
   pub is : next_move board p l ≡ Some (move, after)
   pub room : length (part move.0 p) < board.log
 
-at_length : (board : BoardSeen) (picks : List Actor) (p q : List Move) (l before m : List Actor) (f : Move) → IsChosen board picks p l → IsChosen board picks q before
+at_length : (board : BoardSeen) (picks : List Actor) (p q : List Move) (l before m : List Actor) (f : Move)
+    → IsChosen board picks p l → IsChosen board picks q before
     → next_move board q before ≡ Some (f, m) → length (part f.0 q) < board.log → length p ≡ length q → Went board p l
 at_length board picks p q l before m f a b is room n =
     let older : p ≡ q = same_past board picks p q l before n a b in
@@ -66,7 +69,8 @@ at_length board picks p q l before m f a b is room n =
 cases : (m n : ℕ) → m < suc n → (m ≡ n) ⊎ (m < n)
 cases m n h = grind arith
 
-went_on : (board : BoardSeen) (picks : List Actor) (p q : List Move) (l m : List Actor) → length p < length q → IsChosen board picks p l → IsChosen board picks q m → Went board p l
+went_on : (board : BoardSeen) (picks : List Actor) (p q : List Move) (l m : List Actor) → length p < length q
+    → IsChosen board picks p l → IsChosen board picks q m → Went board p l
 went_on board picks p [] l m n a b = absurd (omega (arith, n))
 went_on board picks p (f ∷ q) l m n a b =
     elim (cases (length p) (length q) n) [
@@ -92,7 +96,8 @@ no_end board p l (Full line) w is = full_and_room board p l line w is
 
 same_line_full : (board : BoardSeen) (p : List Move) (l : List Actor) (a b : LineNo) → IsFullAt board p l a → IsFullAt board p l b → a ≡ b
 same_line_full board p l a b x y =
-    sym x.of_line ∙ (ap (λ (m : Move). m.0) (same_move (next_move board p l) (next_move board p l) x.move y.move x.after y.after refl x.next y.next).0 ∙ y.of_line)
+    sym x.of_line ∙ (ap (λ (m : Move). m.0) (same_move (next_move board p l) (next_move board p l) x.move y.move x.after
+    y.after refl x.next y.next).0 ∙ y.of_line)
 
 same_end : (board : BoardSeen) (p : List Move) (l : List Actor) (a b : End) → IsEnd board p l a → IsEnd board p l b → a ≡ b
 same_end board p l Done Done x y = refl
@@ -113,7 +118,8 @@ play_is_one board picks p q a b x y =
             let is : p ≡ q = same_past board picks p q x.0 y.0 same x.1 y.1 in
             let chosen : IsChosen board picks p y.0 = subst (λ (z : List Move). IsChosen board picks z y.0) (sym is) y.1 in
             let lefts : x.0 ≡ y.0 = same_left board picks p x.0 y.0 x.1 chosen in
-            let ends : IsEnd board p x.0 b = subst (λ (z : List Actor). IsEnd board p z b) (sym lefts) (subst (λ (z : List Move). IsEnd board z y.0 b) (sym is) y.2) in
+            let ends : IsEnd board p x.0 b = subst (λ (z : List Actor). IsEnd board p z b) (sym lefts)
+            (subst (λ (z : List Move). IsEnd board z y.0 b) (sym is) y.2) in
             (is, same_end board p x.0 a b x.2 ends)
       ]
     ]

@@ -22,11 +22,13 @@ use Rattle.board_play.proofs.Listed.{all_rest, def_at}
 use Rattle.board_play.proofs.OfBoard.{valid_defs}
 use Rattle.board_play.proofs.Standstill.{scripts_end, lines_settle}
 
-pub scripts_are_complete : (board : BoardSeen) (lines : List BoardLine) → IsBoard board → AreKept board lines → ((a : Actor) → IsOneOf a (actors_of board) → due_move board lines a ≡ None) → (r : DriverNo)
+pub scripts_are_complete : (board : BoardSeen) (lines : List BoardLine) → IsBoard board → AreKept board lines
+    → ((a : Actor) → IsOneOf a (actors_of board) → due_move board lines a ≡ None) → (r : DriverNo)
     → current_line board.calls lines r ≡ None
 scripts_are_complete board lines is k rest = scripts_end board is (valid_defs board is) lines k (all_rest board is (valid_defs board is) lines k rest)
 
-pub lines_are_settled : (board : BoardSeen) (lines : List BoardLine) → IsBoard board → AreKept board lines → ((a : Actor) → IsOneOf a (actors_of board) → due_move board lines a ≡ None)
+pub lines_are_settled : (board : BoardSeen) (lines : List BoardLine) → IsBoard board → AreKept board lines
+    → ((a : Actor) → IsOneOf a (actors_of board) → due_move board lines a ≡ None)
     → (i : ℕ) (x : BoardLine) → slice_get lines i ≡ Some x → IsSettled x.def (reverse x.past)
 lines_are_settled board lines is k rest = lines_settle board is (valid_defs board is) lines k (all_rest board is (valid_defs board is) lines k rest)
 
@@ -36,7 +38,8 @@ none_first : (a b : Option Move) → or_move a b ≡ None → (a ≡ None) × (b
 none_first None b h = (refl, h)
 none_first (Some m) b h = cc
 
-none_listed : (board : BoardSeen) (lines : List BoardLine) (all : List Actor) (a : Actor) → first_move board lines all ≡ None → IsOneOf a all → due_move board lines a ≡ None
+none_listed : (board : BoardSeen) (lines : List BoardLine) (all : List Actor) (a : Actor)
+    → first_move board lines all ≡ None → IsOneOf a all → due_move board lines a ≡ None
 none_listed board lines [] a h at = absurd at
 none_listed board lines (x ∷ xs) a h at =
     let both = none_first (due_move board lines x) (first_move board lines xs) h in
@@ -54,16 +57,23 @@ none_left : (board : BoardSeen) (lines : List BoardLine) (left : List Actor) →
 none_left board lines [] h = no_picks [] (first_move board lines (actors_of board)) h
 none_left board lines (pick ∷ picks) h = none_left board lines picks (none_either (with_picks picks (due_move board lines pick)) (choice board lines picks) h)
 
-pub done_rests : (board : BoardSeen) (picks : List Actor) (g : List Move) → Plays board picks g Done → (a : Actor) → IsOneOf a (actors_of board) → due_move board (lines_of board g) a ≡ None
+pub done_rests : (board : BoardSeen) (picks : List Actor) (g : List Move) → Plays board picks g Done → (a : Actor)
+    → IsOneOf a (actors_of board) → due_move board (lines_of board g) a ≡ None
 done_rests board picks g plays a at = none_listed board (lines_of board g) (actors_of board) a (none_left board (lines_of board g) plays.0 plays.2) at
 
-pub done_is_complete : (board : BoardSeen) (picks : List Actor) (g : List Move) → IsBoard board → Plays board picks g Done → (r : DriverNo) → current_line board.calls (lines_of board g) r ≡ None
-done_is_complete board picks g is plays = scripts_are_complete board (lines_of board g) is (play_keeps board picks g Done is plays) (done_rests board picks g plays)
+pub done_is_complete : (board : BoardSeen) (picks : List Actor) (g : List Move) → IsBoard board
+    → Plays board picks g Done → (r : DriverNo) → current_line board.calls (lines_of board g) r ≡ None
+done_is_complete board picks g is plays = scripts_are_complete board (lines_of board g) is
+    (play_keeps board picks g Done is plays) (done_rests board picks g plays)
 
-pub done_is_settled : (board : BoardSeen) (picks : List Actor) (g : List Move) → IsBoard board → Plays board picks g Done → (i : ℕ) (x : BoardLine) → slice_get (lines_of board g) i ≡ Some x → IsSettled x.def (reverse x.past)
+pub done_is_settled : (board : BoardSeen) (picks : List Actor) (g : List Move) → IsBoard board
+    → Plays board picks g Done → (i : ℕ) (x : BoardLine) → slice_get (lines_of board g) i ≡ Some x
+    → IsSettled x.def (reverse x.past)
 done_is_settled board picks g is plays = lines_are_settled board (lines_of board g) is (play_keeps board picks g Done is plays) (done_rests board picks g plays)
 
-pub done_is_delivered : (board : BoardSeen) (picks : List Actor) (g : List Move) → IsBoard board → Plays board picks g Done → (i : ℕ) (x : BoardLine) → slice_get (lines_of board g) i ≡ Some x → IsDelivered x.def (reverse x.past)
+pub done_is_delivered : (board : BoardSeen) (picks : List Actor) (g : List Move) → IsBoard board
+    → Plays board picks g Done → (i : ℕ) (x : BoardLine) → slice_get (lines_of board g) i ≡ Some x
+    → IsDelivered x.def (reverse x.past)
 done_is_delivered board picks g is plays i x at =
     let k = play_keeps board picks g Done is plays in
     settled_is_delivered x.def (reverse x.past) (valid_defs board is i x.def (def_at board (lines_of board g) k i x at))

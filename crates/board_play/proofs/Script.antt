@@ -1,5 +1,7 @@
 -- Where a driver's current call stands in its script.
-use Rattle.std.proofs.Common.{◌≡◌, ℕ, zero, suc, ◌+◌, ◌<◌, ◌≤◌, Bool, true, false, ◌&&◌, cond, nat_le, leb-true, leb-false, le-leb, Option, Some, None, List, [], ◌∷◌, length, take, slice_get, refl, sym, ap, ◌∙◌, subst, arith}
+use Rattle.std.proofs.Common.{◌≡◌, ℕ, zero, suc, ◌+◌, ◌<◌, ◌≤◌, Bool, true, false, ◌&&◌, cond, nat_le, leb-true}
+use Rattle.std.proofs.Common.{leb-false, le-leb, Option, Some, None, List, [], ◌∷◌, length, take, slice_get, refl, sym}
+use Rattle.std.proofs.Common.{ap, ◌∙◌, subst, arith}
 use Rattle.std.proofs.lemmas.Bool.{and_parts, false_from_ne_true}
 use Rattle.irq_base.specs.declared.numbers.DriverNo.{DriverNo}
 use Rattle.irq_base.specs.declared.numbers.LineNo.{LineNo}
@@ -36,20 +38,24 @@ one_longer line r (d ∷ cs) (suc p) c at = by_tests (is_on line r d) (is_on lin
   where
     by_tests : (b k : Bool) → calls_on line r (take (suc p) cs) ≡ cond k (calls_on line r (take p cs) + 1) (calls_on line r (take p cs))
         → cond b (calls_on line r (take (suc p) cs) + 1) (calls_on line r (take (suc p) cs))
-        ≡ cond k (cond b (calls_on line r (take p cs) + 1) (calls_on line r (take p cs)) + 1) (cond b (calls_on line r (take p cs) + 1) (calls_on line r (take p cs)))
+        ≡ cond k (cond b (calls_on line r (take p cs) + 1) (calls_on line r (take p cs)) + 1)
+        (cond b (calls_on line r (take p cs) + 1) (calls_on line r (take p cs)))
     by_tests true true deeper = ap (λ (n : ℕ). n + 1) deeper
     by_tests true false deeper = ap (λ (n : ℕ). n + 1) deeper
     by_tests false true deeper = deeper
     by_tests false false deeper = deeper
 
-pub in_all : (line : LineNo) (r : DriverNo) (cs : List ScriptCall) (p : ℕ) (c : ScriptCall) → slice_get cs p ≡ Some c → is_on line r c ≡ true → calls_on line r (take p cs) < calls_on line r cs
+pub in_all : (line : LineNo) (r : DriverNo) (cs : List ScriptCall) (p : ℕ) (c : ScriptCall) → slice_get cs p ≡ Some c
+    → is_on line r c ≡ true → calls_on line r (take p cs) < calls_on line r cs
 in_all line r [] p c at on = cc
 in_all line r (d ∷ cs) zero c at on =
     let here : is_on line r d ≡ true = ap (λ (x : ScriptCall). is_on line r x) (the_same d c at) ∙ on in
     subst (λ (b : Bool). 0 < cond b (calls_on line r cs + 1) (calls_on line r cs)) (sym here) (omega arith)
 in_all line r (d ∷ cs) (suc p) c at on = by_test (is_on line r d) (in_all line r cs p c at on)
   where
-    by_test : (b : Bool) → calls_on line r (take p cs) < calls_on line r cs → cond b (calls_on line r (take p cs) + 1) (calls_on line r (take p cs)) < cond b (calls_on line r cs + 1) (calls_on line r cs)
+    by_test : (b : Bool) → calls_on line r (take p cs) < calls_on line r cs
+        → cond b (calls_on line r (take p cs) + 1) (calls_on line r (take p cs)) < cond b (calls_on line r cs + 1)
+        (calls_on line r cs)
     by_test true deeper = omega (arith, deeper)
     by_test false deeper = deeper
 
@@ -72,7 +78,8 @@ module _ (lines : List BoardLine) (r : DriverNo) where
     pub line : call.line ≡ x.def.line
     pub found : find_line lines x.def.line ≡ Some x
     pub waits : done x r ≤ calls_on x.def.line r before + calls_on x.def.line r (take place cs)
-    pub passed : (y : BoardLine) → IsThe lines y → calls_on y.def.line r before ≤ done y r → calls_on y.def.line r before + calls_on y.def.line r (take place cs) ≤ done y r
+    pub passed : (y : BoardLine) → IsThe lines y → calls_on y.def.line r before ≤ done y r
+        → calls_on y.def.line r before + calls_on y.def.line r (take place cs) ≤ done y r
 
   is_the : (line : LineNo) (x : BoardLine) → find_line lines line ≡ Some x → line ≡ x.def.line
   is_the line x is = (found lines line x is).number
@@ -85,7 +92,8 @@ module _ (lines : List BoardLine) (r : DriverNo) where
       complete : c.line ≡ y.def.line → is_open (find_line lines c.line) r (calls_on c.line r before) ≡ false → calls_on y.def.line r before + 1 ≤ done y r
       complete same closed =
           let shut : nat_le (done y r) (calls_on y.def.line r before) ≡ false =
-          ap (λ (o : Option BoardLine). is_open o r (calls_on y.def.line r before)) (sym is) ∙ (ap (λ (l : LineNo). is_open (find_line lines l) r (calls_on l r before)) (sym same) ∙ closed) in
+          ap (λ (o : Option BoardLine). is_open o r (calls_on y.def.line r before)) (sym is)
+          ∙ (ap (λ (l : LineNo). is_open (find_line lines l) r (calls_on l r before)) (sym same) ∙ closed) in
           let less = leb-false (done y r) (calls_on y.def.line r before) shut in
           omega (arith, less)
 
@@ -95,22 +103,27 @@ module _ (lines : List BoardLine) (r : DriverNo) where
       by_tests true same false closed = le
       by_tests false same b closed = le
 
-  shifted : (line : LineNo) (c : ScriptCall) (before cs : List ScriptCall) → calls_on line r (c ∷ before) + calls_on line r cs ≡ calls_on line r before + calls_on line r (c ∷ cs)
+  shifted : (line : LineNo) (c : ScriptCall) (before cs : List ScriptCall)
+      → calls_on line r (c ∷ before) + calls_on line r cs ≡ calls_on line r before + calls_on line r (c ∷ cs)
   shifted line c before cs = by_test (is_on line r c)
     where
-      by_test : (b : Bool) → cond b (calls_on line r before + 1) (calls_on line r before) + calls_on line r cs ≡ calls_on line r before + cond b (calls_on line r cs + 1) (calls_on line r cs)
+      by_test : (b : Bool) → cond b (calls_on line r before + 1) (calls_on line r before) + calls_on line r cs
+          ≡ calls_on line r before + cond b (calls_on line r cs + 1) (calls_on line r cs)
       by_test true = omega arith
       by_test false = refl
 
   pub current : (before cs : List ScriptCall) (x : BoardLine) → current_from lines r before cs ≡ Some x → Current before cs x
   current before [] x is = cc
-  current before (c ∷ cs) x is = by_test (same_driver r c.driver && is_open (find_line lines c.line) r (calls_on c.line r before)) refl is (current (c ∷ before) cs x)
+  current before (c ∷ cs) x is = by_test (same_driver r c.driver && is_open (find_line lines c.line) r
+      (calls_on c.line r before)) refl is (current (c ∷ before) cs x)
     where
-      here : find_line lines c.line ≡ Some x → same_driver r c.driver ≡ true → is_open (find_line lines c.line) r (calls_on c.line r before) ≡ true → Current before (c ∷ cs) x
+      here : find_line lines c.line ≡ Some x → same_driver r c.driver ≡ true
+          → is_open (find_line lines c.line) r (calls_on c.line r before) ≡ true → Current before (c ∷ cs) x
       here is mine waits =
           let same : c.line ≡ x.def.line = is_the c.line x is in
           let wide : nat_le (done x r) (calls_on x.def.line r before) ≡ true =
-          ap (λ (o : Option BoardLine). is_open o r (calls_on x.def.line r before)) (sym is) ∙ (ap (λ (l : LineNo). is_open (find_line lines c.line) r (calls_on l r before)) (sym same) ∙ waits) in
+          ap (λ (o : Option BoardLine). is_open o r (calls_on x.def.line r before)) (sym is)
+          ∙ (ap (λ (l : LineNo). is_open (find_line lines c.line) r (calls_on l r before)) (sym same) ∙ waits) in
           let le = leb-true (done x r) (calls_on x.def.line r before) wide in
           record {
             place = zero;
@@ -123,7 +136,8 @@ module _ (lines : List BoardLine) (r : DriverNo) where
             passed = λ y is le. omega (arith, le);
           }
 
-      later : (same_driver r c.driver && is_open (find_line lines c.line) r (calls_on c.line r before)) ≡ false → Current (c ∷ before) cs x → Current before (c ∷ cs) x
+      later : (same_driver r c.driver && is_open (find_line lines c.line) r (calls_on c.line r before)) ≡ false
+          → Current (c ∷ before) cs x → Current before (c ∷ cs) x
       later test k =
           let waits : done x r ≤ calls_on x.def.line r (c ∷ before) + calls_on x.def.line r (take k.place cs) = k.waits in
           record {
@@ -138,15 +152,18 @@ module _ (lines : List BoardLine) (r : DriverNo) where
           }
 
       by_test : (b : Bool) → (same_driver r c.driver && is_open (find_line lines c.line) r (calls_on c.line r before)) ≡ b
-          → cond b (find_line lines c.line) (current_from lines r (c ∷ before) cs) ≡ Some x → (current_from lines r (c ∷ before) cs ≡ Some x → Current (c ∷ before) cs x) → Current before (c ∷ cs) x
+          → cond b (find_line lines c.line) (current_from lines r (c ∷ before) cs) ≡ Some x
+          → (current_from lines r (c ∷ before) cs ≡ Some x → Current (c ∷ before) cs x) → Current before (c ∷ cs) x
       by_test true test is deeper = let b = and_parts (same_driver r c.driver) _ test in here is b.0 b.1
       by_test false test is deeper = later test (deeper is)
 
   -- if there is no current call, all calls are complete
-  pub no_current : (before cs : List ScriptCall) → current_from lines r before cs ≡ None → (y : BoardLine) → IsThe lines y → calls_on y.def.line r before ≤ done y r
+  pub no_current : (before cs : List ScriptCall) → current_from lines r before cs ≡ None → (y : BoardLine)
+      → IsThe lines y → calls_on y.def.line r before ≤ done y r
       → calls_on y.def.line r before + calls_on y.def.line r cs ≤ done y r
   no_current before [] is y the le = omega (arith, le)
-  no_current before (c ∷ cs) is y the le = by_test (same_driver r c.driver && is_open (find_line lines c.line) r (calls_on c.line r before)) refl is (λ is le. no_current (c ∷ before) cs is y the le)
+  no_current before (c ∷ cs) is y the le = by_test (same_driver r c.driver && is_open (find_line lines c.line) r
+      (calls_on c.line r before)) refl is (λ is le. no_current (c ∷ before) cs is y the le)
     where
       not_here : (o : Option BoardLine) (k : ℕ) → is_open o r k ≡ true → o ≡ None → ⊥
       not_here None k waits none = cc
@@ -154,7 +171,8 @@ module _ (lines : List BoardLine) (r : DriverNo) where
 
       by_test : (b : Bool) → (same_driver r c.driver && is_open (find_line lines c.line) r (calls_on c.line r before)) ≡ b
           → cond b (find_line lines c.line) (current_from lines r (c ∷ before) cs) ≡ None
-          → (current_from lines r (c ∷ before) cs ≡ None → calls_on y.def.line r (c ∷ before) ≤ done y r → calls_on y.def.line r (c ∷ before) + calls_on y.def.line r cs ≤ done y r)
+          → (current_from lines r (c ∷ before) cs ≡ None → calls_on y.def.line r (c ∷ before) ≤ done y r
+          → calls_on y.def.line r (c ∷ before) + calls_on y.def.line r cs ≤ done y r)
           → calls_on y.def.line r before + calls_on y.def.line r (c ∷ cs) ≤ done y r
       by_test true test is deeper = absurd (not_here (find_line lines c.line) (calls_on c.line r before) (and_parts (same_driver r c.driver) _ test).1 is)
       by_test false test is deeper = subst (λ (n : ℕ). n ≤ done y r) (shifted y.def.line c before cs) (deeper is (over c before test y the le))
@@ -162,30 +180,43 @@ module _ (lines : List BoardLine) (r : DriverNo) where
   -- the first that isn't complete is the current one
   pub is_current : (before cs : List ScriptCall) (p : ℕ) (c : ScriptCall) (x : BoardLine)
       → ((y : BoardLine) → IsThe lines y → calls_on y.def.line r before + calls_on y.def.line r (take p cs) ≤ done y r)
-      → slice_get cs p ≡ Some c → same_driver r c.driver ≡ true → c.line ≡ x.def.line → IsThe lines x → done x r ≤ calls_on x.def.line r before + calls_on x.def.line r (take p cs) → current_from lines r before cs ≡ Some x
+      → slice_get cs p ≡ Some c → same_driver r c.driver ≡ true → c.line ≡ x.def.line → IsThe lines x
+      → done x r ≤ calls_on x.def.line r before + calls_on x.def.line r (take p cs)
+      → current_from lines r before cs ≡ Some x
   is_current before [] p c x passed at mine line the waits = cc
   is_current before (d ∷ cs) zero c x passed at mine line the waits =
       let same : d ≡ c = the_same d c at in
-      let there : find_line lines d.line ≡ Some x = ap (λ (e : ScriptCall). find_line lines e.line) same ∙ (ap (λ (l : LineNo). find_line lines l) line ∙ the) in
+      let there : find_line lines d.line ≡ Some x = ap (λ (e : ScriptCall). find_line lines e.line) same
+      ∙ (ap (λ (l : LineNo). find_line lines l) line ∙ the) in
       let number : d.line ≡ x.def.line = ap (λ (e : ScriptCall). e.line) same ∙ line in
       let wide : is_open (find_line lines d.line) r (calls_on d.line r before) ≡ true =
-      ap (λ (o : Option BoardLine). is_open o r (calls_on d.line r before)) there ∙ (ap (λ (l : LineNo). nat_le (done x r) (calls_on l r before)) number ∙ le-leb (done x r) (calls_on x.def.line r before) (omega (arith, waits))) in
+      ap (λ (o : Option BoardLine). is_open o r (calls_on d.line r before)) there
+      ∙ (ap (λ (l : LineNo). nat_le (done x r) (calls_on l r before)) number
+      ∙ le-leb (done x r) (calls_on x.def.line r before) (omega (arith, waits))) in
       let driver : same_driver r d.driver ≡ true = ap (λ (e : ScriptCall). same_driver r e.driver) same ∙ mine in
-      ap (λ (b : Bool). cond (b && is_open (find_line lines d.line) r (calls_on d.line r before)) (find_line lines d.line) (current_from lines r (d ∷ before) cs)) driver
+      ap (λ (b : Bool). cond (b && is_open (find_line lines d.line) r (calls_on d.line r before))
+      (find_line lines d.line) (current_from lines r (d ∷ before) cs)) driver
       ∙ (ap (λ (b : Bool). cond b (find_line lines d.line) (current_from lines r (d ∷ before) cs)) wide ∙ there)
   is_current before (d ∷ cs) (suc p) c x passed at mine line the waits =
-      ap (λ (b : Bool). cond b (find_line lines d.line) (current_from lines r (d ∷ before) cs)) (closed (same_driver r d.driver) refl (find_line lines d.line) refl)
-      ∙ is_current (d ∷ before) cs p c x (λ y the. subst (λ (n : ℕ). n ≤ done y r) (sym (shifted y.def.line d before (take p cs))) (passed y the)) at mine line the
+      ap (λ (b : Bool). cond b (find_line lines d.line) (current_from lines r (d ∷ before) cs))
+      (closed (same_driver r d.driver) refl (find_line lines d.line) refl)
+      ∙ is_current (d ∷ before) cs p c x (λ y the. subst (λ (n : ℕ). n ≤ done y r)
+      (sym (shifted y.def.line d before (take p cs))) (passed y the)) at mine line the
       (subst (λ (n : ℕ). done x r ≤ n) (sym (shifted x.def.line d before (take p cs))) waits)
     where
-      closed : (b : Bool) → same_driver r d.driver ≡ b → (o : Option BoardLine) → find_line lines d.line ≡ o → (b && is_open o r (calls_on d.line r before)) ≡ false
+      closed : (b : Bool) → same_driver r d.driver ≡ b → (o : Option BoardLine) → find_line lines d.line ≡ o
+          → (b && is_open o r (calls_on d.line r before)) ≡ false
       closed false mine o there = refl
       closed true mine None there = refl
       closed true mine (Some y) there =
           let same : d.line ≡ y.def.line = is_the d.line y there in
           let the : IsThe lines y = subst (λ (l : LineNo). find_line lines l ≡ Some y) same there in
-          let on : is_on y.def.line r d ≡ true = ap (λ (l : LineNo). same_line l y.def.line && same_driver r d.driver) same ∙ (ap (λ (b : Bool). b && same_driver r d.driver) (same_self_line y.def.line) ∙ mine) in
+          let on : is_on y.def.line r d ≡ true = ap (λ (l : LineNo). same_line l y.def.line && same_driver r d.driver)
+          same ∙ (ap (λ (b : Bool). b && same_driver r d.driver) (same_self_line y.def.line) ∙ mine) in
           let all : calls_on y.def.line r before + calls_on y.def.line r (take (suc p) (d ∷ cs)) ≤ done y r = passed y the in
           let more : calls_on y.def.line r before + (calls_on y.def.line r (take p cs) + 1) ≤ done y r =
-          subst (λ (b : Bool). calls_on y.def.line r before + cond b (calls_on y.def.line r (take p cs) + 1) (calls_on y.def.line r (take p cs)) ≤ done y r) on all in
-          ap (λ (l : LineNo). nat_le (done y r) (calls_on l r before)) same ∙ false_from_ne_true (nat_le (done y r) (calls_on y.def.line r before)) (λ h. let le = leb-true (done y r) (calls_on y.def.line r before) h in omega (arith, le, more))
+          subst (λ (b : Bool). calls_on y.def.line r before + cond b (calls_on y.def.line r (take p cs) + 1)
+          (calls_on y.def.line r (take p cs)) ≤ done y r) on all in
+          ap (λ (l : LineNo). nat_le (done y r) (calls_on l r before)) same
+          ∙ false_from_ne_true (nat_le (done y r) (calls_on y.def.line r before))
+          (λ h. let le = leb-true (done y r) (calls_on y.def.line r before) h in omega (arith, le, more))

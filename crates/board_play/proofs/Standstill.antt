@@ -1,5 +1,7 @@
 -- No standstill: if nobody can move, every script is at its end.
-use Rattle.std.proofs.Common.{◌≡◌, ◌⊎◌, inl, inr, ℕ, zero, suc, ◌+◌, ◌≤◌, Bool, true, false, ◌&&◌, cond, is_some, IsSome, Option, Some, None, List, [], ◌∷◌, reverse, take, slice_get, refl, sym, ap, ◌∙◌, subst, arith}
+use Rattle.std.proofs.Common.{◌≡◌, ◌⊎◌, inl, inr, ℕ, zero, suc, ◌+◌, ◌≤◌, Bool, true, false, ◌&&◌, cond, is_some}
+use Rattle.std.proofs.Common.{IsSome, Option, Some, None, List, [], ◌∷◌, reverse, take, slice_get, refl, sym, ap, ◌∙◌}
+use Rattle.std.proofs.Common.{subst, arith}
 use Rattle.std.proofs.lemmas.List.{reverse-reverse}
 use Rattle.irq_base.specs.declared.calls.Call.{Call}
 use Rattle.irq_base.specs.declared.calls.Call.TheVariants as calls
@@ -41,7 +43,8 @@ none_due line None h = refl
 none_due line (Some e) h = cc
 
 -- an actor that can't move has nothing due on its line
-rests_on : (board : BoardSeen) (lines : List BoardLine) (a : Actor) (x : BoardLine) → line_for board lines a ≡ Some x → due_move board lines a ≡ None → next_past x.def x.past a ≡ None
+rests_on : (board : BoardSeen) (lines : List BoardLine) (a : Actor) (x : BoardLine) → line_for board lines a ≡ Some x
+    → due_move board lines a ≡ None → next_past x.def x.past a ≡ None
 rests_on board lines a x its rest = none_due x.def.line (next_past x.def x.past a) (ap (λ (o : Option BoardLine). due_on o a) (sym its) ∙ rest)
 
 not_some : (o : Option Entry) → is_some o ≡ true → o ≡ None → ⊥
@@ -60,7 +63,9 @@ flow_due (y ∷ ys) c x is = by_test (is_cpu c (flow y.def y.past)) refl is (flo
     here : y ≡ x → is_cpu c (flow y.def y.past) ≡ true → is_some (next_past x.def x.past (actors.Cpu c)) ≡ true
     here same test = subst (λ (z : BoardLine). is_some (next_past z.def z.past (actors.Cpu c)) ≡ true) same (flow_is_due y.def y.past c test)
 
-    by_test : (b : Bool) → is_cpu c (flow y.def y.past) ≡ b → cond b (Some y) (flow_line ys c) ≡ Some x → (flow_line ys c ≡ Some x → is_some (next_past x.def x.past (actors.Cpu c)) ≡ true) → is_some (next_past x.def x.past (actors.Cpu c)) ≡ true
+    by_test : (b : Bool) → is_cpu c (flow y.def y.past) ≡ b → cond b (Some y) (flow_line ys c) ≡ Some x
+        → (flow_line ys c ≡ Some x → is_some (next_past x.def x.past (actors.Cpu c)) ≡ true)
+        → is_some (next_past x.def x.past (actors.Cpu c)) ≡ true
     by_test true test is deeper = here (the_same y x is) test
     by_test false test is deeper = deeper is
 
@@ -68,7 +73,10 @@ line_due : (lines : List BoardLine) (c : CpuNo) (x : BoardLine) → due_line lin
 line_due [] c x is = cc
 line_due (y ∷ ys) c x is = by_test (is_some (next_past y.def y.past (actors.Cpu c))) refl is (line_due ys c x)
   where
-    by_test : (b : Bool) → is_some (next_past y.def y.past (actors.Cpu c)) ≡ b → cond b (Some y) (due_line ys c) ≡ Some x → (due_line ys c ≡ Some x → is_some (next_past x.def x.past (actors.Cpu c)) ≡ true) → is_some (next_past x.def x.past (actors.Cpu c)) ≡ true
+    by_test : (b : Bool) → is_some (next_past y.def y.past (actors.Cpu c)) ≡ b
+        → cond b (Some y) (due_line ys c) ≡ Some x → (due_line ys c ≡ Some x
+        → is_some (next_past x.def x.past (actors.Cpu c)) ≡ true)
+        → is_some (next_past x.def x.past (actors.Cpu c)) ≡ true
     by_test true test is deeper = subst (λ (z : BoardLine). is_some (next_past z.def z.past (actors.Cpu c)) ≡ true) (the_same y x is) test
     by_test false test is deeper = deeper is
 
@@ -76,23 +84,30 @@ none_is_due : (o : Option Entry) → is_some o ≡ false → o ≡ None
 none_is_due None h = refl
 none_is_due (Some e) h = cc
 
-no_line_due : (lines : List BoardLine) (c : CpuNo) → due_line lines c ≡ None → (i : ℕ) (x : BoardLine) → slice_get lines i ≡ Some x → next_past x.def x.past (actors.Cpu c) ≡ None
+no_line_due : (lines : List BoardLine) (c : CpuNo) → due_line lines c ≡ None → (i : ℕ) (x : BoardLine)
+    → slice_get lines i ≡ Some x → next_past x.def x.past (actors.Cpu c) ≡ None
 no_line_due [] c none i x at = cc
 no_line_due (y ∷ ys) c none i x at = by_test (is_some (next_past y.def y.past (actors.Cpu c))) refl none i at (λ none i at. no_line_due ys c none i x at)
   where
-    by_test : (b : Bool) → is_some (next_past y.def y.past (actors.Cpu c)) ≡ b → cond b (Some y) (due_line ys c) ≡ None → (i : ℕ) → slice_get (y ∷ ys) i ≡ Some x
-        → (due_line ys c ≡ None → (i : ℕ) → slice_get ys i ≡ Some x → next_past x.def x.past (actors.Cpu c) ≡ None) → next_past x.def x.past (actors.Cpu c) ≡ None
+    by_test : (b : Bool) → is_some (next_past y.def y.past (actors.Cpu c)) ≡ b → cond b (Some y) (due_line ys c) ≡ None
+        → (i : ℕ) → slice_get (y ∷ ys) i ≡ Some x
+        → (due_line ys c ≡ None → (i : ℕ) → slice_get ys i ≡ Some x → next_past x.def x.past (actors.Cpu c) ≡ None)
+        → next_past x.def x.past (actors.Cpu c) ≡ None
     by_test true test none i at deeper = cc
-    by_test false test none zero at deeper = subst (λ (z : BoardLine). next_past z.def z.past (actors.Cpu c) ≡ None) (the_same y x at) (none_is_due (next_past y.def y.past (actors.Cpu c)) test)
+    by_test false test none zero at deeper = subst (λ (z : BoardLine). next_past z.def z.past (actors.Cpu c) ≡ None)
+        (the_same y x at) (none_is_due (next_past y.def y.past (actors.Cpu c)) test)
     by_test false test none (suc i) at deeper = deeper none i at
 
-module _ (board : BoardSeen) (is : IsBoard board) (valid : AreValid board) (lines : List BoardLine) (k : AreKept board lines) (rest : (a : Actor) → due_move board lines a ≡ None) where
+module _ (board : BoardSeen) (is : IsBoard board) (valid : AreValid board) (lines : List BoardLine)
+    (k : AreKept board lines) (rest : (a : Actor) → due_move board lines a ≡ None) where
   threads_rest : (i : ℕ) (x : BoardLine) → slice_get lines i ≡ Some x → (line : LineNo) (d : DevNo) → next_past x.def x.past (actors.Thread line d) ≡ None
   threads_rest i x at line d = by_line (same_line line x.def.line) refl
     where
       here : line ≡ x.def.line → next_past x.def x.past (actors.Thread line d) ≡ None
       here same =
-          rests_on board lines (actors.Thread line d) x (ap (λ (l : LineNo). find_line lines l) same ∙ find_there lines (apart_kept board is lines k) i x at) (rest (actors.Thread line d))
+          rests_on board lines (actors.Thread line d) x
+          (ap (λ (l : LineNo). find_line lines l) same ∙ find_there lines (apart_kept board is lines k) i x at)
+          (rest (actors.Thread line d))
 
       by_line : (b : Bool) → same_line line x.def.line ≡ b → next_past x.def x.past (actors.Thread line d) ≡ None
       by_line true same = here (line_from_same line x.def.line same)
@@ -117,11 +132,13 @@ module _ (board : BoardSeen) (is : IsBoard board) (valid : AreValid board) (line
   driver_rests r x its = rests_on board lines (actors.Driver r) x its (rest (actors.Driver r))
 
   -- the current call of a driver isn't complete
-  current_due : (r : DriverNo) (x : BoardLine) (i : ℕ) → slice_get lines i ≡ Some x → current_line board.calls lines r ≡ Some x → due_call x.def r x.past ≡ None → ⊥
+  current_due : (r : DriverNo) (x : BoardLine) (i : ℕ) → slice_get lines i ≡ Some x
+      → current_line board.calls lines r ≡ Some x → due_call x.def r x.past ≡ None → ⊥
   current_due r x i at its none =
       let c = current lines r [] board.calls x its in
       let on : is_on x.def.line r c.call ≡ true =
-      ap (λ (l : LineNo). same_line l x.def.line && same_driver r c.call.driver) c.line ∙ (ap (λ (b : Bool). b && same_driver r c.call.driver) (same_self_line x.def.line) ∙ c.mine) in
+      ap (λ (l : LineNo). same_line l x.def.line && same_driver r c.call.driver) c.line
+      ∙ (ap (λ (b : Bool). b && same_driver r c.call.driver) (same_self_line x.def.line) ∙ c.mine) in
       let below = in_all x.def.line r board.calls c.place c.call c.at on in
       let waits : done x r ≤ calls_on x.def.line r [] + calls_on x.def.line r (take c.place board.calls) = c.waits in
       let all = all_complete x.def r x.past none in
@@ -136,18 +153,22 @@ module _ (board : BoardSeen) (is : IsBoard board) (valid : AreValid board) (line
       back P p = subst P (sym (reverse-reverse x.past)) p
 
       moves : IsSome (next x.def (reverse x.past) (actors.Driver r)) ⊎ FreeMoves x.def (reverse x.past) → ⊥
-      moves (inl some) = not_some (next x.def (reverse x.past) (actors.Driver r)) some (back (λ (p : List Entry). next_past x.def p (actors.Driver r) ≡ None) (driver_rests r x its))
+      moves (inl some) = not_some (next x.def (reverse x.past) (actors.Driver r)) some
+          (back (λ (p : List Entry). next_past x.def p (actors.Driver r) ≡ None) (driver_rests r x its))
       moves (inr f) =
           let call : due_call x.def f.driver x.past ≡ Some (calls.Free f.dev, suc f.after_unlink) =
           subst (λ (p : List Entry). due_call x.def f.driver p ≡ Some (calls.Free f.dev, suc f.after_unlink)) (reverse-reverse x.past) f.call in
           let o = k.in_order f.driver in
           let its = begun_is_current lines board.calls (apart_kept board is lines k) f.driver o.0 o.1 i x (calls.Free f.dev) f.after_unlink at call in
-          not_some (next x.def (reverse x.past) (actors.Driver f.driver)) f.moves (back (λ (p : List Entry). next_past x.def p (actors.Driver f.driver) ≡ None) (driver_rests f.driver x its))
+          not_some (next x.def (reverse x.past) (actors.Driver f.driver)) f.moves
+          (back (λ (p : List Entry). next_past x.def p (actors.Driver f.driver) ≡ None)
+          (driver_rests f.driver x its))
 
       by_due : (o : Option (Call × ℕ)) → due_call x.def r x.past ≡ o → ⊥
       by_due None due = current_due r x i at its due
       by_due (Some z) due =
-          moves (drivers_move x.def (reverse x.past) (valid i x.def (def_at board lines k i x at)) (back (λ (p : List Entry). IsLegalPast x.def p) (k.legal i x at))
+          moves (drivers_move x.def (reverse x.past) (valid i x.def (def_at board lines k i x at))
+          (back (λ (p : List Entry). IsLegalPast x.def p) (k.legal i x at))
           (λ line d. back (λ (p : List Entry). next_past x.def p (actors.Thread line d) ≡ None) (threads_rest i x at line d))
           (λ c. back (λ (p : List Entry). next_past x.def p (actors.Cpu c) ≡ None) (cpus_rest i x at c)) r
           (back (λ (p : List Entry). IsSome (due_call x.def r p)) (subst (λ (o : Option (Call × ℕ)). IsSome o) (sym due) refl)))

@@ -1,5 +1,6 @@
 -- The first number that passes.
-use Rattle.std.proofs.Common.{◌≡◌, ℕ, zero, suc, ◌+◌, ◌<◌, ◌≤◌, Bool, true, false, cond, eqb, Option, Some, None, IfSome, refl, sym, ap, ◌∙◌, eqb-true, subst, arith}
+use Rattle.std.proofs.Common.{◌≡◌, ℕ, zero, suc, ◌+◌, ◌<◌, ◌≤◌, Bool, true, false, cond, eqb, Option, Some, None}
+use Rattle.std.proofs.Common.{IfSome, refl, sym, ap, ◌∙◌, eqb-true, subst, arith}
 use Rattle.std.proofs.lemmas.Bool.{eqb-false}
 use Rattle.board_ready.specs.First.{first_from, first_of}
 
@@ -7,7 +8,8 @@ use Rattle.board_ready.specs.First.{first_from, first_of}
 pub from_same : (p q : ℕ → Bool) (k n : ℕ) → ((i : ℕ) → k ≤ i → i < k + n → p i ≡ q i) → first_from p k n ≡ first_from q k n
 from_same p q k zero h = refl
 from_same p q k (suc n) h =
-    ap (λ b. cond b (Some k) (first_from p (k + 1) n)) (h k (omega arith) (omega arith)) ∙ ap (cond (q k) (Some k)) (from_same p q (k + 1) n (λ i a b. h i (omega (arith, a)) (omega (arith, b))))
+    ap (λ b. cond b (Some k) (first_from p (k + 1) n)) (h k (omega arith) (omega arith))
+    ∙ ap (cond (q k) (Some k)) (from_same p q (k + 1) n (λ i a b. h i (omega (arith, a)) (omega (arith, b))))
 
 pub same_first : (p q : ℕ → Bool) (n : ℕ) → ((i : ℕ) → i < n → p i ≡ q i) → first_of p n ≡ first_of q n
 same_first p q n h = from_same p q 0 n (λ i a b. h i (omega (arith, b)))
@@ -15,7 +17,8 @@ same_first p q n h = from_same p q 0 n (λ i a b. h i (omega (arith, b)))
 -- none passes
 pub from_none : (p : ℕ → Bool) (k n : ℕ) → ((i : ℕ) → k ≤ i → i < k + n → p i ≡ false) → first_from p k n ≡ None
 from_none p k zero h = refl
-from_none p k (suc n) h = ap (λ b. cond b (Some k) (first_from p (k + 1) n)) (h k (omega arith) (omega arith)) ∙ from_none p (k + 1) n (λ i a b. h i (omega (arith, a)) (omega (arith, b)))
+from_none p k (suc n) h = ap (λ b. cond b (Some k) (first_from p (k + 1) n)) (h k (omega arith) (omega arith))
+    ∙ from_none p (k + 1) n (λ i a b. h i (omega (arith, a)) (omega (arith, b)))
 
 -- one passes, and none before it
 pub from_is : (p : ℕ → Bool) (k n t : ℕ) → k ≤ t → t < k + n → p t ≡ true → ((i : ℕ) → i < t → p i ≡ false) → first_from p k n ≡ Some t
@@ -33,7 +36,8 @@ from_is p k (suc n) t a b here none = by_test (eqb k t) refl (λ less. from_is p
 pub from_cut : (p : ℕ → Bool) (k n m : ℕ) → n ≤ m → ((i : ℕ) → k + n ≤ i → i < k + m → p i ≡ false) → first_from p k m ≡ first_from p k n
 from_cut p k zero m few none = from_none p k m (λ i a b. none i (omega (arith, a)) b)
 from_cut p k (suc n) zero few none = absurd (omega (arith, few))
-from_cut p k (suc n) (suc m) few none = ap (cond (p k) (Some k)) (from_cut p (k + 1) n m (omega (arith, few)) (λ i a b. none i (omega (arith, a)) (omega (arith, b))))
+from_cut p k (suc n) (suc m) few none = ap (cond (p k) (Some k))
+    (from_cut p (k + 1) n m (omega (arith, few)) (λ i a b. none i (omega (arith, a)) (omega (arith, b))))
 
 pub first_cut : (p : ℕ → Bool) (n m : ℕ) → n ≤ m → ((i : ℕ) → n ≤ i → i < m → p i ≡ false) → first_of p m ≡ first_of p n
 first_cut p n m few none = from_cut p 0 n m few (λ i a b. none i (omega (arith, a)) (omega (arith, b)))

@@ -1,5 +1,7 @@
 -- The sets go on saying the same as the lists.
-use Rattle.std.proofs.Common.{◌≡◌, ℕ, zero, suc, ◌<◌, Bool, true, false, not, ◌&&◌, ◌||◌, cond, eqb, unwrap_or, Option, Some, None, List, [], ◌∷◌, length, slice_get, set, replicate, refl, sym, ap, ◌∙◌, eqb-true, arith}
+use Rattle.std.proofs.Common.{◌≡◌, ℕ, zero, suc, ◌<◌, Bool, true, false, not, ◌&&◌, ◌||◌, cond, eqb, unwrap_or, Option}
+use Rattle.std.proofs.Common.{Some, None, List, [], ◌∷◌, length, slice_get, set, replicate, refl, sym, ap, ◌∙◌}
+use Rattle.std.proofs.Common.{eqb-true, arith}
 use Rattle.std.proofs.lemmas.Bool.{eqb-false}
 use Rattle.board_ready.specs.Kept.{thread_of, AreThreads, AreOnLines, AreWaiting, AreReady}
 use Rattle.board_ready.specs.Ready.{idle, thread_on, is_barred, is_open, can_go_on, current_call}
@@ -49,7 +51,8 @@ replaced false true x false h = refl
 replaced false false x false h = refl
 
 -- the driver's call that was replaced
-current_set : (drivers : List (Option CurrentCall)) (d r : ℕ) (call : Option CurrentCall) → d < length drivers → current_call (set drivers d call) r ≡ cond (eqb r d) call (current_call drivers r)
+current_set : (drivers : List (Option CurrentCall)) (d r : ℕ) (call : Option CurrentCall) → d < length drivers
+    → current_call (set drivers d call) r ≡ cond (eqb r d) call (current_call drivers r)
 current_set drivers d r call inside = ap (λ (o : Option (Option CurrentCall)). unwrap_or o None) (item_set drivers d r call inside) ∙ by_test (eqb r d)
   where
     by_test : (b : Bool) → unwrap_or (cond b (Some call) (slice_get drivers r)) None ≡ cond b call (current_call drivers r)
@@ -57,7 +60,8 @@ current_set drivers d r call inside = ap (λ (o : Option (Option CurrentCall)). 
     by_test false = refl
 
 -- a set of the drivers whose calls pass a test
-pub drivers_set : (test : Option CurrentCall → Bool) (drivers : List (Option CurrentCall)) (d : ℕ) (before call : Option CurrentCall) (old new : ℕ → Bool) → d < length drivers → current_call drivers d ≡ before
+pub drivers_set : (test : Option CurrentCall → Bool) (drivers : List (Option CurrentCall)) (d : ℕ)
+    (before call : Option CurrentCall) (old new : ℕ → Bool) → d < length drivers → current_call drivers d ≡ before
     → ((r : ℕ) → r < 64 → old r ≡ test (current_call drivers r))
     → ((r : ℕ) → r < 64 → new r ≡ cond (test call && eqb r d) true (cond (test before && eqb r d) false (old r)))
     → (r : ℕ) → r < 64 → new r ≡ test (current_call (set drivers d call) r)
@@ -71,23 +75,27 @@ drivers_set test drivers d before call old new inside at_d was is r small =
     by_test false = refl
 
 -- the drivers that can go on
-pub ready_driver : (lines : List LineReadiness) (drivers : List (Option CurrentCall)) (d old new : ℕ) (call : Option CurrentCall) → d < length drivers → AreReady lines drivers old
+pub ready_driver : (lines : List LineReadiness) (drivers : List (Option CurrentCall)) (d old new : ℕ)
+    (call : Option CurrentCall) → d < length drivers → AreReady lines drivers old
     → ((r : ℕ) → r < 64 → has new r ≡ cond (eqb r d) (can_go_on lines call) (has old r)) → AreReady lines (set drivers d call) new
 ready_driver lines drivers d old new call inside was is r small =
-    is r small ∙ (ap (cond (eqb r d) (can_go_on lines call)) (was r small) ∙ (by_test (eqb r d) ∙ ap (can_go_on lines) (sym (current_set drivers d r call inside))))
+    is r small ∙ (ap (cond (eqb r d) (can_go_on lines call)) (was r small)
+    ∙ (by_test (eqb r d) ∙ ap (can_go_on lines) (sym (current_set drivers d r call inside))))
   where
     by_test : (b : Bool) → cond b (can_go_on lines call) (can_go_on lines (current_call drivers r)) ≡ can_go_on lines (cond b call (current_call drivers r))
     by_test true = refl
     by_test false = refl
 
 -- a processor's lines, by a test of the lines' parts
-pub lines_set : (test : Option LineReadiness → Bool) (lines : List LineReadiness) (i : ℕ) (before readiness : LineReadiness) (old new : ℕ → Bool) → i < length lines → slice_get lines i ≡ Some before
+pub lines_set : (test : Option LineReadiness → Bool) (lines : List LineReadiness) (i : ℕ)
+    (before readiness : LineReadiness) (old new : ℕ → Bool) → i < length lines → slice_get lines i ≡ Some before
     → ((k : ℕ) → k < 64 → old k ≡ test (slice_get lines k))
     → ((k : ℕ) → k < 64 → new k ≡ cond (test (Some readiness) && eqb k i) true (cond (test (Some before) && eqb k i) false (old k)))
     → (k : ℕ) → k < 64 → new k ≡ test (slice_get (set lines i readiness) k)
 lines_set test lines i before readiness old new inside at_i was is k small =
     is k small
-    ∙ (replaced (test (Some before)) (test (Some readiness)) (old k) (eqb k i) (λ same. was k small ∙ (ap (λ j. test (slice_get lines j)) (eqb-true k i same) ∙ ap test at_i))
+    ∙ (replaced (test (Some before)) (test (Some readiness)) (old k) (eqb k i)
+    (λ same. was k small ∙ (ap (λ j. test (slice_get lines j)) (eqb-true k i same) ∙ ap test at_i))
     ∙ (ap (cond (eqb k i) (test (Some readiness))) (was k small) ∙ (by_test (eqb k i) ∙ ap test (sym (item_set lines i k readiness inside)))))
   where
     by_test : (b : Bool) → cond b (test (Some readiness)) (test (slice_get lines k)) ≡ test (cond b (Some readiness) (slice_get lines k))
@@ -95,17 +103,23 @@ lines_set test lines i before readiness old new inside at_i was is k small =
     by_test false = refl
 
 -- the threads
-pub threads_set : (lines : List LineReadiness) (i : ℕ) (readiness : LineReadiness) (old new : List (Option ReadyThread)) → i < length lines → AreThreads lines old
+pub threads_set : (lines : List LineReadiness) (i : ℕ) (readiness : LineReadiness) (old new : List (Option ReadyThread))
+    → i < length lines → AreThreads lines old
     → ((k : ℕ) → k < 64 → leaf new k ≡ cond (eqb k i) (thread_on i readiness.thread) (leaf old k)) → AreThreads (set lines i readiness) new
-threads_set lines i readiness old new inside was is k small = is k small ∙ (by_test (eqb k i) refl ∙ ap (λ (o : Option LineReadiness). thread_on k (thread_of o)) (sym (item_set lines i k readiness inside)))
+threads_set lines i readiness old new inside was is k small = is k small
+    ∙ (by_test (eqb k i) refl ∙ ap (λ (o : Option LineReadiness). thread_on k (thread_of o))
+    (sym (item_set lines i k readiness inside)))
   where
-    by_test : (b : Bool) → eqb k i ≡ b → cond b (thread_on i readiness.thread) (leaf old k) ≡ thread_on k (thread_of (cond b (Some readiness) (slice_get lines k)))
+    by_test : (b : Bool) → eqb k i ≡ b → cond b (thread_on i readiness.thread) (leaf old k)
+        ≡ thread_on k (thread_of (cond b (Some readiness) (slice_get lines k)))
     by_test true same = ap (λ j. thread_on j readiness.thread) (sym (eqb-true k i same))
     by_test false other = was k small
 
 -- a call can go on if what it waits for doesn't stand in the way
 open_by : (wait : WaitFor) (x : Blocks)
-    → (is_wait waits.Nothing wait || (is_wait waits.Flow wait && not x.flow) || (is_wait waits.Threads wait && not x.threads) || (is_wait waits.Mutex wait && not x.mutex) || (is_wait waits.Freed wait && not x.freed))
+    → (is_wait waits.Nothing wait || (is_wait waits.Flow wait && not x.flow) ||
+    (is_wait waits.Threads wait && not x.threads) || (is_wait waits.Mutex wait && not x.mutex) ||
+    (is_wait waits.Freed wait && not x.freed))
     ≡ not (is_barred wait x)
 open_by waits.Nothing x = refl
 open_by waits.Flow x = alone (not x.flow)
@@ -128,25 +142,42 @@ open_by waits.Freed x = refl
 either : {u v p q : Bool} → u ≡ p → v ≡ q → (u || v) ≡ (p || q)
 either {u} {v} {p} {q} a b = ap (λ z. z || v) a ∙ ap (λ z. p || z) b
 
-open_is : (drivers : List (Option CurrentCall)) (calls : CallsSeen) (x : Blocks) (r : ℕ) (call : CurrentCall) → r < 64 → AreWaiting drivers calls → current_call drivers r ≡ Some call → may_go_on x calls.waiting r ≡ not (is_barred call.wait x)
+open_is : (drivers : List (Option CurrentCall)) (calls : CallsSeen) (x : Blocks) (r : ℕ) (call : CurrentCall) → r < 64
+    → AreWaiting drivers calls → current_call drivers r ≡ Some call
+    → may_go_on x calls.waiting r ≡ not (is_barred call.wait x)
 open_is drivers calls x r call small was is =
-    either (either (either (either (at waits.Nothing) (ap (λ z. z && not x.flow) (at waits.Flow))) (ap (λ z. z && not x.threads) (at waits.Threads))) (ap (λ z. z && not x.mutex) (at waits.Mutex))) (ap (λ z. z && not x.freed) (at waits.Freed))
+    either (either (either (either (at waits.Nothing) (ap (λ z. z && not x.flow) (at waits.Flow)))
+    (ap (λ z. z && not x.threads) (at waits.Threads))) (ap (λ z. z && not x.mutex) (at waits.Mutex)))
+    (ap (λ z. z && not x.freed) (at waits.Freed))
     ∙ open_by call.wait x
   where
     at : (w : WaitFor) → has (word_for w calls.waiting) r ≡ is_wait w call.wait
     at w = was w r small ∙ ap (is_waiting w) is
 
 -- the drivers that can go on when a line's readiness is replaced
-pub ready_line : (lines : List LineReadiness) (drivers : List (Option CurrentCall)) (calls : CallsSeen) (i on free old new : ℕ) (readiness : LineReadiness) → i < length lines → i < 64 → AreOnLines drivers calls → AreWaiting drivers calls → AreReady lines drivers old
-    → on ≡ on_line calls i → ((r : ℕ) → has free r ≡ may_go_on readiness.blocks calls.waiting r) → ((r : ℕ) → r < 64 → has new r ≡ cond (has on r) (has free r) (has old r)) → AreReady (set lines i readiness) drivers new
+pub ready_line : (lines : List LineReadiness) (drivers : List (Option CurrentCall)) (calls : CallsSeen)
+    (i on free old new : ℕ) (readiness : LineReadiness) → i < length lines → i < 64 → AreOnLines drivers calls
+    → AreWaiting drivers calls → AreReady lines drivers old
+    → on ≡ on_line calls i → ((r : ℕ) → has free r ≡ may_go_on readiness.blocks calls.waiting r)
+    → ((r : ℕ) → r < 64 → has new r ≡ cond (has on r) (has free r) (has old r))
+    → AreReady (set lines i readiness) drivers new
 ready_line lines drivers calls i on free old new readiness inside few on_lines waiting was is_on_line is_may is r small =
-    is r small ∙ (ap (λ b. cond b (has free r) (has old r)) (ap (λ w. has w r) is_on_line ∙ on_lines i r few small) ∙ (ap (cond (is_on i (current_call drivers r)) (has free r)) (was r small) ∙ by_call (current_call drivers r) refl))
+    is r small ∙ (ap (λ b. cond b (has free r) (has old r)) (ap (λ w. has w r) is_on_line ∙ on_lines i r few small)
+    ∙ (ap (cond (is_on i (current_call drivers r)) (has free r)) (was r small)
+    ∙ by_call (current_call drivers r) refl))
   where
-    moved : (call : CurrentCall) → current_call drivers r ≡ Some call → (b : Bool) → eqb call.line i ≡ b → cond b (has free r) (is_open call.wait (slice_get lines call.line)) ≡ is_open call.wait (slice_get (set lines i readiness) call.line)
-    moved call c true same = is_may r ∙ (open_is drivers calls readiness.blocks r call small waiting c ∙ ap (is_open call.wait) (sym (item_set lines i call.line readiness inside ∙ ap (λ b. cond b (Some readiness) (slice_get lines call.line)) same)))
-    moved call c false other = ap (is_open call.wait) (sym (item_set lines i call.line readiness inside ∙ ap (λ b. cond b (Some readiness) (slice_get lines call.line)) other))
+    moved : (call : CurrentCall) → current_call drivers r ≡ Some call → (b : Bool) → eqb call.line i ≡ b
+        → cond b (has free r) (is_open call.wait (slice_get lines call.line))
+        ≡ is_open call.wait (slice_get (set lines i readiness) call.line)
+    moved call c true same = is_may r ∙ (open_is drivers calls readiness.blocks r call small waiting c
+        ∙ ap (is_open call.wait) (sym (item_set lines i call.line readiness inside
+        ∙ ap (λ b. cond b (Some readiness) (slice_get lines call.line)) same)))
+    moved call c false other = ap (is_open call.wait) (sym
+        (item_set lines i call.line readiness inside ∙ ap (λ b. cond b (Some readiness) (slice_get lines call.line))
+        other))
 
-    by_call : (call : Option CurrentCall) → current_call drivers r ≡ call → cond (is_on i call) (has free r) (can_go_on lines call) ≡ can_go_on (set lines i readiness) call
+    by_call : (call : Option CurrentCall) → current_call drivers r ≡ call
+        → cond (is_on i call) (has free r) (can_go_on lines call) ≡ can_go_on (set lines i readiness) call
     by_call None c = refl
     by_call (Some call) c = moved call c (eqb call.line i) refl
 
@@ -154,8 +185,11 @@ ready_line lines drivers calls i on free old new readiness inside few on_lines w
 abbrev no_call : Option CurrentCall
 no_call = None
 
-pub fresh_readiness : {Y : Type 0} (g : Option LineReadiness → Y) (lines : List LineReadiness) (n k : ℕ) (y : Y) → lines ≡ replicate n idle → g None ≡ y → g (Some idle) ≡ y → y ≡ g (slice_get lines k)
+pub fresh_readiness : {Y : Type 0} (g : Option LineReadiness → Y) (lines : List LineReadiness) (n k : ℕ) (y : Y)
+    → lines ≡ replicate n idle → g None ≡ y → g (Some idle) ≡ y → y ≡ g (slice_get lines k)
 fresh_readiness g lines n k y is none some = sym (ap (λ (s : List LineReadiness). g (slice_get s k)) is ∙ item_fresh g idle y n k none some)
 
-pub fresh_call : {Y : Type 0} (g : Option CurrentCall → Y) (drivers : List (Option CurrentCall)) (n r : ℕ) → drivers ≡ replicate n no_call → g None ≡ g (current_call drivers r)
-fresh_call g drivers n r is = sym (ap (λ (s : List (Option CurrentCall)). g (current_call s r)) is ∙ item_fresh (λ (o : Option (Option CurrentCall)). g (unwrap_or o None)) no_call (g None) n r refl refl)
+pub fresh_call : {Y : Type 0} (g : Option CurrentCall → Y) (drivers : List (Option CurrentCall)) (n r : ℕ)
+    → drivers ≡ replicate n no_call → g None ≡ g (current_call drivers r)
+fresh_call g drivers n r is = sym (ap (λ (s : List (Option CurrentCall)). g (current_call s r)) is
+    ∙ item_fresh (λ (o : Option (Option CurrentCall)). g (unwrap_or o None)) no_call (g None) n r refl refl)

@@ -1,7 +1,10 @@
 -- Bits of a word, as truth values.
-use Rattle.std.proofs.Common.{◌≡◌, ℕ, zero, suc, ◌-◌, ◌<◌, ◌^◌, ◌*◌, ◌%◌, Bool, true, false, not, ◌||◌, ◌&&◌, cond, ◌==◌, eqb, min, max, is_some, Some, None, bit_or, bit_and, w64, refl, sym, ap, ◌∙◌, eqb-true, arith}
+use Rattle.std.proofs.Common.{◌≡◌, ℕ, zero, suc, ◌-◌, ◌<◌, ◌^◌, ◌*◌, ◌%◌, Bool, true, false, not, ◌||◌, ◌&&◌, cond}
+use Rattle.std.proofs.Common.{◌==◌, eqb, min, max, is_some, Some, None, bit_or, bit_and, w64, refl, sym, ap, ◌∙◌}
+use Rattle.std.proofs.Common.{eqb-true, arith}
 use Rattle.std.proofs.lemmas.Bool.{eqb-false}
-use Rattle.std.proofs.lemmas.Nat.Bits.{bit_at_or, bit_at_and, bit_at_not, bit_at-lt, bit_at-zero, bit_at-trailing_zeros, bit_at_set_same, bit_at_set_other, bit_at_clear_same, bit_at_clear_other}
+use Rattle.std.proofs.lemmas.Nat.Bits.{bit_at_or, bit_at_and, bit_at_not, bit_at-lt, bit_at-zero, bit_at-trailing_zeros}
+use Rattle.std.proofs.lemmas.Nat.Bits.{bit_at_set_same, bit_at_set_other, bit_at_clear_same, bit_at_clear_other}
 use Rattle.std.specs.Int.{bit_at, bit_not, trailing_zeros}
 use Rattle.board_ready.specs.First.{first_of}
 use Rattle.board_ready.specs.Sets.{has}
@@ -49,11 +52,15 @@ pub without_number : (word n i : ℕ) → n < 64 → i < 64 → has (bit_and wor
 without_number word n i few small = by_test (eqb i n) refl
   where
     by_test : (b : Bool) → eqb i n ≡ b → has (bit_and word (bit_not w64 (1 * 2 ^ n % 2 ^ 64))) i ≡ cond b false (has word i)
-    by_test true is = let e : i ≡ n = eqb-true i n is in ap (has (bit_and word (bit_not w64 (1 * 2 ^ n % 2 ^ 64)))) e ∙ ap (λ m. m == 1) (bit_at_clear_same w64 word n few)
+    by_test true is = let e : i ≡ n = eqb-true i n is in
+        ap (has (bit_and word (bit_not w64 (1 * 2 ^ n % 2 ^ 64)))) e
+        ∙ ap (λ m. m == 1) (bit_at_clear_same w64 word n few)
     by_test false is = ap (λ m. m == 1) (bit_at_clear_other w64 word n few i small (eqb-false i n is))
 
 -- the numbers of one word that the choice has, and the others of the other word
-pub chosen_has : (word choice other i : ℕ) → choice < 2 ^ 64 → i < 64 → has (bit_or (bit_and word (bit_not w64 choice)) (bit_and choice other)) i ≡ cond (has choice i) (has other i) (has word i)
+pub chosen_has : (word choice other i : ℕ) → choice < 2 ^ 64 → i < 64
+    → has (bit_or (bit_and word (bit_not w64 choice)) (bit_and choice other)) i
+    ≡ cond (has choice i) (has other i) (has word i)
 chosen_has word choice other i small few =
     either_has (bit_and word (bit_not w64 choice)) (bit_and choice other) i
     ∙ (ap (λ b. b || has (bit_and choice other) i) (both_have word (bit_not w64 choice) i ∙ ap (λ b. has word i && b) (others_have choice i small few))
@@ -71,7 +78,8 @@ chosen_has word choice other i small few =
 pub lowest_number : (word : ℕ) → 0 < word → word < 2 ^ 64 → first_of (has word) 64 ≡ Some (trailing_zeros w64 word)
 lowest_number word some small =
     let low = bit_at-trailing_zeros w64 word some small in
-    from_is (has word) 0 64 (trailing_zeros w64 word) (omega arith) (omega (arith, low.0)) (ap (λ n. n == 1) low.1) (λ i below. ap (λ n. n == 1) (low.2 i below))
+    from_is (has word) 0 64 (trailing_zeros w64 word) (omega arith) (omega (arith, low.0)) (ap (λ n. n == 1) low.1)
+    (λ i below. ap (λ n. n == 1) (low.2 i below))
 
 pub no_number : (n : ℕ) → first_of (has 0) n ≡ None
 no_number n = from_none (has 0) 0 n (λ i a b. ap (λ m. m == 1) (bit_at-zero i))
@@ -85,9 +93,12 @@ some_number word small = by_test (eqb word 0) refl
     by_test false is = let ne : word ≡ 0 → ⊥ = eqb-false word 0 is in sym (ap is_some (lowest_number word (omega (arith, ne)) small))
 
 -- the numbers of five words
-pub all_have : (n a b c d r : ℕ) (p q s t : Bool) → has a r ≡ p → has b r ≡ q → has c r ≡ s → has d r ≡ t → has (bit_or (bit_or (bit_or (bit_or n a) b) c) d) r ≡ ((((has n r || p) || q) || s) || t)
+pub all_have : (n a b c d r : ℕ) (p q s t : Bool) → has a r ≡ p → has b r ≡ q → has c r ≡ s → has d r ≡ t
+    → has (bit_or (bit_or (bit_or (bit_or n a) b) c) d) r ≡ ((((has n r || p) || q) || s) || t)
 all_have n a b c d r p q s t of_a of_b of_c of_d =
-    step (bit_or (bit_or (bit_or n a) b) c) d (((has n r || p) || q) || s) t (step (bit_or (bit_or n a) b) c ((has n r || p) || q) s (step (bit_or n a) b (has n r || p) q (step n a (has n r) p refl of_a) of_b) of_c) of_d
+    step (bit_or (bit_or (bit_or n a) b) c) d (((has n r || p) || q) || s) t
+    (step (bit_or (bit_or n a) b) c ((has n r || p) || q) s
+    (step (bit_or n a) b (has n r || p) q (step n a (has n r) p refl of_a) of_b) of_c) of_d
   where
     step : (x y : ℕ) (u v : Bool) → has x r ≡ u → has y r ≡ v → has (bit_or x y) r ≡ (u || v)
     step x y u v of_x of_y = either_has x y r ∙ (ap (λ e. e || has y r) of_x ∙ ap (λ e. u || e) of_y)

@@ -1,5 +1,6 @@
 -- Words of lines, one for each processor.
-use Rattle.std.proofs.Common.{◌≡◌, ℕ, zero, suc, ◌<◌, ◌≤◌, ◌^◌, Bool, true, false, not, cond, eqb, is_some, List, length, slice_index, slice_set, get_or, replicate, refl, sym, ap, ◌∙◌, eqb-true}
+use Rattle.std.proofs.Common.{◌≡◌, ℕ, zero, suc, ◌<◌, ◌≤◌, ◌^◌, Bool, true, false, not, cond, eqb, is_some, List}
+use Rattle.std.proofs.Common.{length, slice_index, slice_set, get_or, replicate, refl, sym, ap, ◌∙◌, eqb-true}
 use Rattle.std.proofs.lemmas.Bool.{eqb-false}
 use Rattle.std.proofs.lemmas.List.{get_or-set_same, get_or-set_other, get_or_past}
 use Rattle.std.proofs.lemmas.Nat.Bits.{bit_at-zero}
@@ -28,13 +29,16 @@ fresh_some words is c small =
     nothing_in 0 c refl ∙ sym (ap is_some (ap (λ w. first_of (has w) 64) none ∙ no_number 64))
 
 -- one processor's word changes, and with it whether it has some
-pub put_some : (words : List ℕ) (some after cpu word : ℕ) → cpu < length words → word < 2 ^ 64 → AreSome words some → ((c : ℕ) → c < 64 → has after c ≡ cond (eqb c cpu) (not (eqb word 0)) (has some c)) → AreSome (slice_set words cpu word) after
+pub put_some : (words : List ℕ) (some after cpu word : ℕ) → cpu < length words → word < 2 ^ 64 → AreSome words some
+    → ((c : ℕ) → c < 64 → has after c ≡ cond (eqb c cpu) (not (eqb word 0)) (has some c))
+    → AreSome (slice_set words cpu word) after
 put_some words some after cpu word inside small old is c few = is c few ∙ by_test (eqb c cpu) refl
   where
     by_test : (b : Bool) → eqb c cpu ≡ b → cond b (not (eqb word 0)) (has some c) ≡ is_some (first_of (is_of (slice_set words cpu word) c) 64)
     by_test true same =
         let e : c ≡ cpu = eqb-true c cpu same in
-        some_number word small ∙ ap (λ w. is_some (first_of (has w) 64)) (sym (ap (slice_index (slice_set words cpu word)) e ∙ get_or-set_same words cpu word 0 inside))
+        some_number word small ∙ ap (λ w. is_some (first_of (has w) 64))
+        (sym (ap (slice_index (slice_set words cpu word)) e ∙ get_or-set_same words cpu word 0 inside))
     by_test false other = old c few ∙ ap (λ w. is_some (first_of (has w) 64)) (sym (get_or-set_other words cpu c word 0 (eqb-false c cpu other)))
 
 -- there are no more words than processors

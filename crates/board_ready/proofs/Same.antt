@@ -30,9 +30,11 @@ same_blocks a b f t m d =
     ∙ (ap (λ (z : Bool). record b { mutex = z; freed = a.freed }) m ∙ ap (λ (z : Bool). record b { freed = z }) d))
 
 -- the readiness is put in its own place
-pub readiness_stands : (lines : List LineReadiness) (k : ℕ) (was readiness : LineReadiness) → was ≡ get_or lines k was → was ≡ readiness → lines ≡ set lines k readiness
+pub readiness_stands : (lines : List LineReadiness) (k : ℕ) (was readiness : LineReadiness) → was ≡ get_or lines k was
+    → was ≡ readiness → lines ≡ set lines k readiness
 readiness_stands lines k was readiness read same = sym (ap (set lines k) (sym same ∙ read) ∙ set-get_or lines k was)
 
 -- the call is put in its own place
-pub call_stands : (drivers : List (Option CurrentCall)) (j : ℕ) (was call : Option CurrentCall) → was ≡ get_or drivers j was → was ≡ call → drivers ≡ set drivers j call
+pub call_stands : (drivers : List (Option CurrentCall)) (j : ℕ) (was call : Option CurrentCall)
+    → was ≡ get_or drivers j was → was ≡ call → drivers ≡ set drivers j call
 call_stands drivers j was call read same = sym (ap (set drivers j) (sym same ∙ read) ∙ set-get_or drivers j was)

@@ -1,10 +1,14 @@
 -- What the sets tell is what a search over the lists finds.
-use Rattle.std.proofs.Common.{IfSome, ◌≡◌, ℕ, zero, suc, ◌+◌, ◌<◌, ◌≤◌, Bool, false, ◌||◌, ◌&&◌, cond, nat_lt, is_some, unwrap_or, Option, Some, None, List, [], ◌∷◌, length, slice_get, bit_or, refl, sym, ap, ◌∙◌, subst, arith}
+use Rattle.std.proofs.Common.{IfSome, ◌≡◌, ℕ, zero, suc, ◌+◌, ◌<◌, ◌≤◌, Bool, false, ◌||◌, ◌&&◌, cond, nat_lt, is_some}
+use Rattle.std.proofs.Common.{unwrap_or, Option, Some, None, List, [], ◌∷◌, length, slice_get, bit_or, refl, sym, ap}
+use Rattle.std.proofs.Common.{◌∙◌, subst, arith}
 use Rattle.std.proofs.lemmas.Bool.{lt-ltb, le-ltb}
 use Rattle.std.proofs.lemmas.Option.{slice_get_past}
 use Rattle.board_ready.specs.First.{first_of}
 use Rattle.board_ready.specs.Kept.{thread_of, AreThreads, AreFlows, AreTakes, AreReady}
-use Rattle.board_ready.specs.Ready.{lower_of, thread_on, lowest_from, lowest_thread, has_flow, has_take, flow_line, take_line, flow_or_take, cpu_line, is_cpu_ready, lowest_cpu, current_call, can_go_on}
+use Rattle.board_ready.specs.Ready.{lower_of, thread_on, lowest_from, lowest_thread, has_flow, has_take, flow_line}
+use Rattle.board_ready.specs.Ready.{take_line, flow_or_take, cpu_line, is_cpu_ready, lowest_cpu, current_call}
+use Rattle.board_ready.specs.Ready.{can_go_on}
 use Rattle.board_ready.specs.Sets.{has, leaf, lowest_in, is_of}
 use Rattle.board_ready.specs.declared.parts.CurrentCall.{CurrentCall}
 use Rattle.board_ready.specs.declared.parts.LineReadiness.{LineReadiness}
@@ -14,26 +18,32 @@ use Rattle.board_ready.proofs.Numbers.{either_has}
 use Rattle.board_ready.proofs.Processors.{nothing_in}
 
 -- a search over 64 places finds the first of the lines that there are
-parts_first : (test : Option LineReadiness → Bool) (lines : List LineReadiness) (on : ℕ → Bool) → test None ≡ false → length lines ≤ 64 → ((k : ℕ) → k < 64 → on k ≡ test (slice_get lines k))
+parts_first : (test : Option LineReadiness → Bool) (lines : List LineReadiness) (on : ℕ → Bool) → test None ≡ false
+    → length lines ≤ 64 → ((k : ℕ) → k < 64 → on k ≡ test (slice_get lines k))
     → first_of on 64 ≡ first_of (λ k. test (slice_get lines k)) (length lines)
 parts_first test lines on none few is =
-    first_within (λ k. test (slice_get lines k)) on (length lines) 64 few (λ k inside. is k (omega (arith, inside, few))) (λ k past small. is k small ∙ (ap test (slice_get_past lines k past) ∙ none))
+    first_within (λ k. test (slice_get lines k)) on (length lines) 64 few
+    (λ k inside. is k (omega (arith, inside, few)))
+    (λ k past small. is k small ∙ (ap test (slice_get_past lines k past) ∙ none))
 
 -- flows go before takes
 pub chosen_line : (lines : List LineReadiness) (flows takes : List ℕ) (c : ℕ) → length lines ≤ 64 → c < 32 → AreFlows lines flows → AreTakes lines takes
     → flow_or_take (first_of (is_of flows c) 64) (first_of (is_of takes c) 64) ≡ cpu_line lines c
 chosen_line lines flows takes c few small are_flows are_takes =
-    ap (λ (o : Option ℕ). flow_or_take o (first_of (is_of takes c) 64)) (parts_first (has_flow c) lines (is_of flows c) refl few (λ k less. are_flows c k small less))
+    ap (λ (o : Option ℕ). flow_or_take o (first_of (is_of takes c) 64))
+    (parts_first (has_flow c) lines (is_of flows c) refl few (λ k less. are_flows c k small less))
     ∙ (ap (flow_or_take (flow_line lines c)) (parts_first (has_take c) lines (is_of takes c) refl few (λ k less. are_takes c k small less))
     ∙ sym (ap (λ b. cond b (flow_or_take (flow_line lines c) (take_line lines c)) None) (lt-ltb c 32 small)))
 
 -- the first line with its flow
-pub flow_found : (lines : List LineReadiness) (flows : List ℕ) (c : ℕ) → length lines ≤ 64 → c < 32 → AreFlows lines flows → first_of (is_of flows c) 64 ≡ cond (nat_lt c 32) (flow_line lines c) None
+pub flow_found : (lines : List LineReadiness) (flows : List ℕ) (c : ℕ) → length lines ≤ 64 → c < 32
+    → AreFlows lines flows → first_of (is_of flows c) 64 ≡ cond (nat_lt c 32) (flow_line lines c) None
 flow_found lines flows c few small are =
     parts_first (has_flow c) lines (is_of flows c) refl few (λ k less. are c k small less) ∙ sym (ap (λ b. cond b (flow_line lines c) None) (lt-ltb c 32 small))
 
 -- the lines with a take due of it
-pub take_found : (lines : List LineReadiness) (takes : List ℕ) (c k : ℕ) → c < 32 → k < 64 → AreTakes lines takes → is_of takes c k ≡ (nat_lt c 32 && has_take c (slice_get lines k))
+pub take_found : (lines : List LineReadiness) (takes : List ℕ) (c k : ℕ) → c < 32 → k < 64 → AreTakes lines takes
+    → is_of takes c k ≡ (nat_lt c 32 && has_take c (slice_get lines k))
 take_found lines takes c k small less are = are c k small less ∙ sym (ap (λ b. b && has_take c (slice_get lines k)) (lt-ltb c 32 small))
 
 pub no_take_kept : (lines : List LineReadiness) (c k : ℕ) → 32 ≤ c → has 0 k ≡ (nat_lt c 32 && has_take c (slice_get lines k))
@@ -47,7 +57,9 @@ pub cpu_found : (lines : List LineReadiness) (flows takes : List ℕ) (a b : ℕ
 unfolding lowest_cpu
 cpu_found lines flows takes a b few are_flows are_takes of_a of_b past_a past_b =
     first_within (is_cpu_ready lines) (has (bit_or a b)) 32 64 (omega arith)
-    (λ c small. of_two c (of_a c small) (of_b c small) ∙ (either_some (first_of (is_of flows c) 64) (first_of (is_of takes c) 64) ∙ ap is_some (chosen_line lines flows takes c few small are_flows are_takes)))
+    (λ c small. of_two c (of_a c small) (of_b c small)
+    ∙ (either_some (first_of (is_of flows c) 64) (first_of (is_of takes c) 64)
+    ∙ ap is_some (chosen_line lines flows takes c few small are_flows are_takes)))
     (λ c past small. of_two c (past_a c past small) (past_b c past small))
   where
     of_two : {x y : Bool} (c : ℕ) → has a c ≡ x → has b c ≡ y → has (bit_or a b) c ≡ (x || y)
@@ -80,12 +92,16 @@ nobody f k (suc n) none =
     next : (j : ℕ) → k + 1 + j ≡ k + suc j
     next j = omega arith
 
-listed : (lines : List LineReadiness) (f : ℕ → Option ReadyThread) (k n : ℕ) → length lines ≤ n → ((j : ℕ) → j < n → f (k + j) ≡ thread_on (k + j) (thread_of (slice_get lines j))) → lowest_in f k n ≡ lowest_from k lines
+listed : (lines : List LineReadiness) (f : ℕ → Option ReadyThread) (k n : ℕ) → length lines ≤ n
+    → ((j : ℕ) → j < n → f (k + j) ≡ thread_on (k + j) (thread_of (slice_get lines j)))
+    → lowest_in f k n ≡ lowest_from k lines
 listed [] f k n few is = nobody f k n is
 listed (x ∷ xs) f k zero few is = absurd (omega (arith, few))
 listed (x ∷ xs) f k (suc n) few is =
     ap (λ (o : Option ReadyThread). lower_of o (lowest_in f (k + 1) n)) (subst (λ i. f i ≡ thread_on i x.thread) first (is 0 (omega arith)))
-    ∙ ap (lower_of (thread_on k x.thread)) (listed xs f (k + 1) n (omega (arith, few)) (λ j less. subst (λ i. f i ≡ thread_on i (thread_of (slice_get xs j))) (next j) (is (suc j) (omega (arith, less)))))
+    ∙ ap (lower_of (thread_on k x.thread)) (listed xs f (k + 1) n (omega (arith, few))
+    (λ j less. subst (λ i. f i ≡ thread_on i (thread_of (slice_get xs j))) (next j)
+    (is (suc j) (omega (arith, less)))))
   where
     first : k + 0 ≡ k
     first = omega arith
@@ -93,8 +109,10 @@ listed (x ∷ xs) f k (suc n) few is =
     next : (j : ℕ) → k + suc j ≡ k + 1 + j
     next j = omega arith
 
-pub thread_found : (lines : List LineReadiness) (nodes : List (Option ReadyThread)) → length lines ≤ 64 → AreThreads lines nodes → lowest_in (leaf nodes) 0 64 ≡ lowest_thread lines
-thread_found lines nodes few are = listed lines (leaf nodes) 0 64 few (λ j less. subst (λ i. leaf nodes i ≡ thread_on i (thread_of (slice_get lines j))) (from_zero j) (are j less))
+pub thread_found : (lines : List LineReadiness) (nodes : List (Option ReadyThread)) → length lines ≤ 64
+    → AreThreads lines nodes → lowest_in (leaf nodes) 0 64 ≡ lowest_thread lines
+thread_found lines nodes few are = listed lines (leaf nodes) 0 64 few
+    (λ j less. subst (λ i. leaf nodes i ≡ thread_on i (thread_of (slice_get lines j))) (from_zero j) (are j less))
   where
     from_zero : (j : ℕ) → j ≡ 0 + j
     from_zero j = omega arith

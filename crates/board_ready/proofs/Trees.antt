@@ -1,5 +1,7 @@
 -- The lowest of 64 threads is what stands at the root of their tree.
-use Rattle.std.proofs.Common.{◌≡◌, ℕ, zero, suc, ◌+◌, ◌*◌, ◌/◌, ◌<◌, ◌≤◌, Bool, true, false, cond, eqb, nat_lt, Option, Some, None, List, length, slice_set, get_or, refl, sym, ap, ◌∙◌, replicate, eqb-true, subst, arith}
+use Rattle.std.proofs.Common.{◌≡◌, ℕ, zero, suc, ◌+◌, ◌*◌, ◌/◌, ◌<◌, ◌≤◌, Bool, true, false, cond, eqb, nat_lt, Option}
+use Rattle.std.proofs.Common.{Some, None, List, length, slice_set, get_or, refl, sym, ap, ◌∙◌, replicate, eqb-true}
+use Rattle.std.proofs.Common.{subst, arith}
 use Rattle.std.proofs.lemmas.Bool.{eqb-false, lt-ltb, le-ltb, ltb-true, ltb-false}
 use Rattle.std.proofs.lemmas.List.{get_or-set_same, get_or-set_other}
 use Rattle.board_ready.specs.declared.parts.ReadyThread.{ReadyThread}
@@ -68,36 +70,45 @@ some_below zero = omega arith
 some_below (suc h) = omega (arith, some_below h)
 
 -- a node is the lowest of the threads below it
-node_is : (nodes : List (Option ReadyThread)) → IsTree nodes → (h i : ℕ) → 0 < i → first_below h i + size h ≤ 128 → lowest_in (node nodes) (first_below h i) (size h) ≡ node nodes i
+node_is : (nodes : List (Option ReadyThread)) → IsTree nodes → (h i : ℕ) → 0 < i → first_below h i + size h ≤ 128
+    → lowest_in (node nodes) (first_below h i) (size h) ≡ node nodes i
 node_is nodes tree zero i some within = joined_none (node nodes i)
 node_is nodes tree (suc h) i some within =
     let a : ℕ = first_below h (2 * i) in
     let half : ℕ = size h in
     let second : first_below h (2 * i + 1) ≡ first_below h (2 * i) + size h = next_below h (2 * i) in
     let few : i < 64 = omega (arith, not_above h (2 * i), some_below h, within) in
-    let left : lowest_in (node nodes) (first_below h (2 * i)) (size h) ≡ node nodes (2 * i) = node_is nodes tree h (2 * i) (omega (arith, some)) (omega (arith, within)) in
-    let right : lowest_in (node nodes) (first_below h (2 * i + 1)) (size h) ≡ node nodes (2 * i + 1) = node_is nodes tree h (2 * i + 1) (omega arith) (omega (arith, within, second)) in
+    let left : lowest_in (node nodes) (first_below h (2 * i)) (size h)
+    ≡ node nodes (2 * i) = node_is nodes tree h (2 * i) (omega (arith, some)) (omega (arith, within)) in
+    let right : lowest_in (node nodes) (first_below h (2 * i + 1)) (size h)
+    ≡ node nodes (2 * i + 1) = node_is nodes tree h (2 * i + 1) (omega arith) (omega (arith, within, second)) in
     sym (lowest_split (node nodes) (first_below h (2 * i)) (size h) (size h))
     ∙ (ap (λ x. lower_of x (lowest_in (node nodes) (first_below h (2 * i) + size h) (size h))) left
     ∙ (ap (lower_of (node nodes (2 * i))) (ap (λ j. lowest_in (node nodes) j (size h)) (sym second) ∙ right) ∙ sym (tree i some few)))
 
 shifted : (nodes : List (Option ReadyThread)) (k n : ℕ) → lowest_in (node nodes) (64 + k) n ≡ lowest_in (leaf nodes) k n
 shifted nodes k zero = refl
-shifted nodes k (suc n) = ap (lower_of (leaf nodes k)) (ap (λ j. lowest_in (node nodes) j n) (let e : 64 + k + 1 ≡ 64 + (k + 1) = omega arith in e) ∙ shifted nodes (k + 1) n)
+shifted nodes k (suc n) = ap (lower_of (leaf nodes k))
+    (ap (λ j. lowest_in (node nodes) j n) (let e : 64 + k + 1 ≡ 64 + (k + 1) = omega arith in e)
+    ∙ shifted nodes (k + 1) n)
 
 pub root_is : (nodes : List (Option ReadyThread)) → IsTree nodes → node nodes 1 ≡ lowest_in (leaf nodes) 0 64
 root_is nodes tree = sym (sym (shifted nodes 0 64) ∙ node_is nodes tree 6 1 (omega arith) (omega arith))
 
 -- a thread is put at its line's node: the nodes above it are to be joined again
-pub leaf_set : (nodes : List (Option ReadyThread)) (line k : ℕ) (t : Option ReadyThread) → length nodes ≡ 128 → line < 64 → leaf (slice_set nodes (64 + line) t) k ≡ cond (eqb k line) t (leaf nodes k)
+pub leaf_set : (nodes : List (Option ReadyThread)) (line k : ℕ) (t : Option ReadyThread) → length nodes ≡ 128
+    → line < 64 → leaf (slice_set nodes (64 + line) t) k ≡ cond (eqb k line) t (leaf nodes k)
 leaf_set nodes line k t long few = by_test (eqb k line) refl
   where
     by_test : (b : Bool) → eqb k line ≡ b → leaf (slice_set nodes (64 + line) t) k ≡ cond b t (leaf nodes k)
-    by_test true is = let e : k ≡ line = eqb-true k line is in ap (leaf (slice_set nodes (64 + line) t)) e ∙ get_or-set_same nodes (64 + line) t None (omega (arith, long, few))
+    by_test true is = let e : k ≡ line = eqb-true k line is in
+        ap (leaf (slice_set nodes (64 + line) t)) e ∙ get_or-set_same nodes (64 + line) t None
+        (omega (arith, long, few))
     by_test false is = let ne : k ≡ line → ⊥ = eqb-false k line is in get_or-set_other nodes (64 + line) (64 + k) t None (λ e. ne (omega (arith, e)))
 
 -- a line that has the thread already
-pub leaf_stands : (nodes : List (Option ReadyThread)) (line k : ℕ) (t : Option ReadyThread) → leaf nodes line ≡ t → leaf nodes k ≡ cond (eqb k line) t (leaf nodes k)
+pub leaf_stands : (nodes : List (Option ReadyThread)) (line k : ℕ) (t : Option ReadyThread) → leaf nodes line ≡ t
+    → leaf nodes k ≡ cond (eqb k line) t (leaf nodes k)
 leaf_stands nodes line k t is = by_test (eqb k line) refl
   where
     by_test : (b : Bool) → eqb k line ≡ b → leaf nodes k ≡ cond b t (leaf nodes k)
@@ -105,20 +116,24 @@ leaf_stands nodes line k t is = by_test (eqb k line) refl
     by_test false other = refl
 
 -- all but the node above the one that was set
-pub joined_but : (nodes : List (Option ReadyThread)) (place i : ℕ) (t : Option ReadyThread) → (i ≡ place → ⊥) → (i ≡ place / 2 → ⊥) → IsJoined nodes i → IsJoined (slice_set nodes place t) i
+pub joined_but : (nodes : List (Option ReadyThread)) (place i : ℕ) (t : Option ReadyThread) → (i ≡ place → ⊥)
+    → (i ≡ place / 2 → ⊥) → IsJoined nodes i → IsJoined (slice_set nodes place t) i
 joined_but nodes place i t other above is =
     let here : node (slice_set nodes place t) i ≡ node nodes i = get_or-set_other nodes place i t None other in
     let left : node (slice_set nodes place t) (2 * i) ≡ node nodes (2 * i) = get_or-set_other nodes place (2 * i) t None (λ e. above (omega (arith, e))) in
-    let right : node (slice_set nodes place t) (2 * i + 1) ≡ node nodes (2 * i + 1) = get_or-set_other nodes place (2 * i + 1) t None (λ e. above (omega (arith, e))) in
+    let right : node (slice_set nodes place t) (2 * i + 1)
+    ≡ node nodes (2 * i + 1) = get_or-set_other nodes place (2 * i + 1) t None (λ e. above (omega (arith, e))) in
     here ∙ (is ∙ (ap (λ x. lower_of x (node nodes (2 * i + 1))) (sym left) ∙ ap (lower_of (node (slice_set nodes place t) (2 * i))) (sym right)))
 
 -- a node that is set to what stands below it is joined
-pub joined_here : (nodes : List (Option ReadyThread)) (i : ℕ) → 0 < i → i < length nodes → IsJoined (slice_set nodes i (lower_of (node nodes (2 * i)) (node nodes (2 * i + 1)))) i
+pub joined_here : (nodes : List (Option ReadyThread)) (i : ℕ) → 0 < i → i < length nodes
+    → IsJoined (slice_set nodes i (lower_of (node nodes (2 * i)) (node nodes (2 * i + 1)))) i
 joined_here nodes i some inside =
     let t : Option ReadyThread = lower_of (node nodes (2 * i)) (node nodes (2 * i + 1)) in
     let left : node (slice_set nodes i t) (2 * i) ≡ node nodes (2 * i) = get_or-set_other nodes i (2 * i) t None (λ e. omega (arith, some, e)) in
     let right : node (slice_set nodes i t) (2 * i + 1) ≡ node nodes (2 * i + 1) = get_or-set_other nodes i (2 * i + 1) t None (λ e. omega (arith, some, e)) in
-    get_or-set_same nodes i t None inside ∙ (ap (λ x. lower_of x (node nodes (2 * i + 1))) (sym left) ∙ ap (lower_of (node (slice_set nodes i t) (2 * i))) (sym right))
+    get_or-set_same nodes i t None inside ∙ (ap (λ x. lower_of x (node nodes (2 * i + 1))) (sym left)
+    ∙ ap (lower_of (node (slice_set nodes i t) (2 * i))) (sym right))
 
 -- while a line's thread is being put: all nodes are joined but one, and the threads are the new
 -- ones
@@ -127,13 +142,25 @@ pub record IsUpTo (nodes old : List (Option ReadyThread)) (line n : ℕ) (t : Op
   pub joined : (i : ℕ) → 0 < i → i < 64 → (i ≡ n → ⊥) → IsJoined nodes i
   pub leaves : (k : ℕ) → k < 64 → leaf nodes k ≡ cond (eqb k line) t (leaf old k)
 
-pub up_first : (nodes : List (Option ReadyThread)) (line : ℕ) (t : Option ReadyThread) → length nodes ≡ 128 → line < 64 → IsTree nodes → IsUpTo (slice_set nodes (64 + line) t) nodes line ((64 + line) / 2) t
-up_first nodes line t long few tree = record
-    { few = omega (arith, few); joined = λ i some below other. joined_but nodes (64 + line) i t (λ e. omega (arith, e, below)) other (tree i some below); leaves = λ k small. leaf_set nodes line k t long few }
+pub up_first : (nodes : List (Option ReadyThread)) (line : ℕ) (t : Option ReadyThread) → length nodes ≡ 128 → line < 64
+    → IsTree nodes → IsUpTo (slice_set nodes (64 + line) t) nodes line ((64 + line) / 2) t
+up_first nodes line t long few tree = record {
+  few = omega (arith, few);
+  joined = λ i some below other. joined_but nodes (64 + line) i t
+      (λ e. omega (arith, e, below)) other (tree i some below);
+  leaves = λ k small. leaf_set nodes line k t long few;
+}
 
-pub up_next : (nodes old : List (Option ReadyThread)) (line n : ℕ) (t x : Option ReadyThread) → length nodes ≡ 128 → 0 < n → x ≡ lower_of (node nodes (2 * n)) (node nodes (2 * n + 1)) → IsUpTo nodes old line n t
+pub up_next : (nodes old : List (Option ReadyThread)) (line n : ℕ) (t x : Option ReadyThread) → length nodes ≡ 128
+    → 0 < n → x ≡ lower_of (node nodes (2 * n)) (node nodes (2 * n + 1)) → IsUpTo nodes old line n t
     → IsUpTo (slice_set nodes n x) old line (n / 2) t
-up_next nodes old line n t x long some is up = record { few = omega (arith, up.few); joined = λ i pos below other. by_test i pos below other (eqb i n) refl; leaves = λ k small. get_or-set_other nodes n (64 + k) x None (λ e. omega (arith, e, up.few)) ∙ up.leaves k small }
+up_next nodes old line n t x long some is up = record {
+  few = omega (arith, up.few);
+  joined
+      = λ i pos below other. by_test i pos below other (eqb i n) refl;
+  leaves
+      = λ k small. get_or-set_other nodes n (64 + k) x None (λ e. omega (arith, e, up.few)) ∙ up.leaves k small;
+}
   where
     here : IsJoined (slice_set nodes n x) n
     here = subst (λ y. IsJoined (slice_set nodes n y) n) (sym is) (joined_here nodes n some (omega (arith, up.few, long)))

@@ -22,7 +22,8 @@ use Rattle.board_report.proofs.Laid.{no_entries}
 none_due : (o : Option Entry) → IsSome o → o ≡ None → ⊥
 none_due o due is = let none : IsSome {T = Entry} None = subst (λ (p : Option Entry). IsSome p) is due in cc
 
-module _ (b : BoardSeen) (board : IsBoard b) (lines : List BoardLine) (k : AreKept b lines) (line : LineNo) (len : ℕ) (f : IsFullLine b (entries_in lines) line len) where
+module _ (b : BoardSeen) (board : IsBoard b) (lines : List BoardLine) (k : AreKept b lines) (line : LineNo) (len : ℕ)
+    (f : IsFullLine b (entries_in lines) line len) where
   abbrev def : LineDef
   def = line_of_row b f.row
 
@@ -46,7 +47,8 @@ module _ (b : BoardSeen) (board : IsBoard b) (lines : List BoardLine) (k : AreKe
   nothing_due laid ample =
       let there = takes_part b f.place f.row f.at laid in
       none_due (next def entries f.actor) due
-      (never_full def entries f.actor (valid_row b f.place f.row board f.at) (legal_row b board lines k f.place f.row f.at laid) (ample there.place def there.at) long)
+      (never_full def entries f.actor (valid_row b f.place f.row board f.at)
+      (legal_row b board lines k f.place f.row f.at laid) (ample there.place def there.at) long)
 
   pub not_full : IsAmple b → ⊥
   not_full ample = by_place (is_mapped_at (slice_get (layout_of b) f.place)) refl

@@ -1,5 +1,7 @@
 -- One report after another.
-use Rattle.std.proofs.Common.{◌≡◌, ℕ, zero, suc, ◌+◌, ◌<◌, ◌≤◌, Bool, true, false, cond, Option, Some, None, OnOk, Result, Ok, Err, List, [], ◌∷◌, ◌++◌, length, map, reverse, get_or, take, drop, slice_get, refl, sym, ap, ◌∙◌, subst, arith, add-one}
+use Rattle.std.proofs.Common.{◌≡◌, ℕ, zero, suc, ◌+◌, ◌<◌, ◌≤◌, Bool, true, false, cond, Option, Some, None, OnOk}
+use Rattle.std.proofs.Common.{Result, Ok, Err, List, [], ◌∷◌, ◌++◌, length, map, reverse, get_or, take, drop, slice_get}
+use Rattle.std.proofs.Common.{refl, sym, ap, ◌∙◌, subst, arith, add-one}
 use Rattle.std.proofs.lemmas.List.{map-append, reverse-append, reverse-reverse, take_more, take_all}
 use Rattle.std.proofs.lemmas.Option.{slice_get_within, get_or_from_slice_get}
 use Rattle.irq_base.specs.declared.entries.Entry.{Entry}
@@ -67,7 +69,8 @@ drop_nil (suc i) = refl
 
 -- the next of them takes part, or doesn't
 next_mapped : (rows : List LineRow) (places : List Placement) (i : ℕ) (row : LineRow) → slice_get rows i ≡ Some row
-    → mapped (drop i rows) (drop i places) ≡ cond (is_mapped_at (slice_get places i)) (row ∷ mapped (drop (suc i) rows) (drop (suc i) places)) (mapped (drop (suc i) rows) (drop (suc i) places))
+    → mapped (drop i rows) (drop i places) ≡ cond (is_mapped_at (slice_get places i))
+    (row ∷ mapped (drop (suc i) rows) (drop (suc i) places)) (mapped (drop (suc i) rows) (drop (suc i) places))
 next_mapped [] places i row at = cc
 next_mapped (r ∷ rows) [] i row at =
     ap (λ (ps : List Placement). mapped (drop i (r ∷ rows)) ps) (drop_nil i) ∙ (mapped_nil (drop i (r ∷ rows)) ∙ sym (mapped_nil (drop i rows)))
@@ -84,7 +87,8 @@ pub record IsFilled (b : BoardSeen) (all left : List BoardLine) (i : ℕ) (repor
   pub rest : left ≡ drop passed all
   pub defs : map (λ (x : BoardLine). x.def) left ≡ map (line_of_row b) (mapped (drop i b.lines) (drop i (layout_of b)))
 
-pub none_filled : (b : BoardSeen) (all left : List BoardLine) (reports : List LineReport) → AreOfBoard b all → left ≡ all → reports ≡ [] → IsFilled b all left 0 reports
+pub none_filled : (b : BoardSeen) (all left : List BoardLine) (reports : List LineReport) → AreOfBoard b all
+    → left ≡ all → reports ≡ [] → IsFilled b all left 0 reports
 none_filled b all left reports are same none =
     record {
       told = ap (λ (rs : List LineReport). map told_by rs) none;
@@ -104,25 +108,36 @@ module _ (b : BoardSeen) (board : IsBoard b) (all : List BoardLine) (are : AreOf
   after : List LineDef
   after = map (line_of_row b) (mapped (drop (suc i) b.lines) (drop (suc i) (layout_of b)))
 
-  defs_after : (new : List BoardLine) → map (λ (x : BoardLine). x.def) new ≡ after → map (λ (x : BoardLine). x.def) new ≡ map (line_of_row b) (mapped (drop (i + 1) b.lines) (drop (i + 1) (layout_of b)))
+  defs_after : (new : List BoardLine) → map (λ (x : BoardLine). x.def) new ≡ after
+      → map (λ (x : BoardLine). x.def) new ≡ map (line_of_row b)
+      (mapped (drop (i + 1) b.lines) (drop (i + 1) (layout_of b)))
   unfolding after
   defs_after new is = is ∙ ap (λ (n : ℕ). map (line_of_row b) (mapped (drop n b.lines) (drop n (layout_of b)))) (sym (add-one i))
 
   -- the definitions that are left, when the row's line takes part, and when it doesn't
-  next_defs : (t : Bool) (defs : List LineDef) → is_mapped_at (slice_get (layout_of b) i) ≡ t → defs ≡ map (line_of_row b) (mapped (drop i b.lines) (drop i (layout_of b))) → defs ≡ cond t (line_of_row b row ∷ after) after
+  next_defs : (t : Bool) (defs : List LineDef) → is_mapped_at (slice_get (layout_of b) i) ≡ t
+      → defs ≡ map (line_of_row b) (mapped (drop i b.lines) (drop i (layout_of b)))
+      → defs ≡ cond t (line_of_row b row ∷ after) after
   unfolding after
   next_defs t defs test is =
       is ∙ (ap (λ (rows : List LineRow). map (line_of_row b) rows)
-      (next_mapped b.lines (layout_of b) i row at ∙ ap (λ (s : Bool). cond s (row ∷ mapped (drop (suc i) b.lines) (drop (suc i) (layout_of b))) (mapped (drop (suc i) b.lines) (drop (suc i) (layout_of b)))) test)
+      (next_mapped b.lines (layout_of b) i row at ∙ ap
+      (λ (s : Bool). cond s (row ∷ mapped (drop (suc i) b.lines) (drop (suc i) (layout_of b)))
+      (mapped (drop (suc i) b.lines) (drop (suc i) (layout_of b)))) test)
       ∙ by_test t)
     where
       by_test : (t : Bool)
-          → map (line_of_row b) (cond t (row ∷ mapped (drop (suc i) b.lines) (drop (suc i) (layout_of b))) (mapped (drop (suc i) b.lines) (drop (suc i) (layout_of b))))
-          ≡ cond t (line_of_row b row ∷ map (line_of_row b) (mapped (drop (suc i) b.lines) (drop (suc i) (layout_of b)))) (map (line_of_row b) (mapped (drop (suc i) b.lines) (drop (suc i) (layout_of b))))
+          → map (line_of_row b) (cond t (row ∷ mapped (drop (suc i) b.lines) (drop (suc i) (layout_of b)))
+          (mapped (drop (suc i) b.lines) (drop (suc i) (layout_of b))))
+          ≡ cond t (line_of_row b row ∷ map (line_of_row b)
+          (mapped (drop (suc i) b.lines) (drop (suc i) (layout_of b))))
+          (map (line_of_row b) (mapped (drop (suc i) b.lines) (drop (suc i) (layout_of b))))
       by_test true = refl
       by_test false = refl
 
-  more_told : (reports now : List LineReport) (report : LineReport) → map told_by reports ≡ map (history_among all) (take i b.lines) → now ≡ reports ++ report ∷ [] → told_by report ≡ history_among all row
+  more_told : (reports now : List LineReport) (report : LineReport)
+      → map told_by reports ≡ map (history_among all) (take i b.lines) → now ≡ reports ++ report ∷ []
+      → told_by report ≡ history_among all row
       → map told_by now ≡ map (history_among all) (take (i + 1) b.lines)
   more_told reports now report told is its =
       ap (λ (rs : List LineReport). map told_by rs) is
@@ -130,19 +145,24 @@ module _ (b : BoardSeen) (board : IsBoard b) (all : List BoardLine) (are : AreOf
       ∙ (ap (λ (hs : List LineHistory). hs ++ told_by report ∷ []) told
       ∙ (ap (λ (h : LineHistory). map (history_among all) (take i b.lines) ++ h ∷ []) its ∙ sym (map_taken (history_among all) b.lines i row at))))
 
-  its_history : (report : LineReport) (o : Option BoardLine) → find_line all row.line ≡ o → report.line ≡ row.line → report.history.entries ≡ entries_of o → told_by report ≡ history_among all row
+  its_history : (report : LineReport) (o : Option BoardLine) → find_line all row.line ≡ o → report.line ≡ row.line
+      → report.history.entries ≡ entries_of o → told_by report ≡ history_among all row
   its_history report o found line entries =
       pair (report.line) (row.line) (report.history.entries) (entries_of (find_line all row.line)) line (entries ∙ ap entries_of (sym found))
     where
       pair : (l m : LineNo) (es fs : List Entry) → l ≡ m → es ≡ fs → ◌≡◌ {A = LineHistory} (l, es) (m, fs)
       pair l m es fs p q = cc
 
-  module _ (new : List BoardLine) (reports now : List LineReport) (report : LineReport) (is : now ≡ reports ++ report ∷ []) (line : report.line ≡ row.line) where
+  module _ (new : List BoardLine) (reports now : List LineReport) (report : LineReport)
+      (is : now ≡ reports ++ report ∷ []) (line : report.line ≡ row.line) where
     -- the row's line takes part: it is the first that is left
-    fill_mapped : (left : List BoardLine) → is_mapped_at (slice_get (layout_of b) i) ≡ true → IsFilled b all left i reports → TakesFirst (is_first row.line left) left new report.history.entries → IsFilled b all new (i + 1) now
+    fill_mapped : (left : List BoardLine) → is_mapped_at (slice_get (layout_of b) i) ≡ true
+        → IsFilled b all left i reports → TakesFirst (is_first row.line left) left new report.history.entries
+        → IsFilled b all new (i + 1) now
     fill_mapped [] test f takes = let defs = next_defs true [] test f.defs in cc
     fill_mapped (x ∷ xs) test f takes =
-        let both = heads x.def (line_of_row b row) (map (λ (x : BoardLine). x.def) xs) after (next_defs true (map (λ (x : BoardLine). x.def) (x ∷ xs)) test f.defs) in
+        let both = heads x.def (line_of_row b row) (map (λ (x : BoardLine). x.def) xs) after
+        (next_defs true (map (λ (x : BoardLine). x.def) (x ∷ xs)) test f.defs) in
         let number : x.def.line ≡ row.line = ap (λ (d : LineDef). d.line) both.0 in
         let first : same_line row.line x.def.line ≡ true = ap (λ (l : LineNo). same_line row.line l) number ∙ same_self_line row.line in
         let taken = subst (λ (t : Bool). TakesFirst t (x ∷ xs) new report.history.entries) first takes in
@@ -163,11 +183,15 @@ module _ (b : BoardSeen) (board : IsBoard b) (all : List BoardLine) (are : AreOf
         by_test : (t : Bool) → same_line row.line x.def.line ≡ t → t ≡ false
         by_test true same =
             let there = at_front all f.passed x xs f.rest in
-            let found : find_line all row.line ≡ Some x = ap (λ (l : LineNo). find_line all l) (line_from_same row.line x.def.line same) ∙ find_there all apart f.passed x there.0 in
+            let found : find_line all row.line ≡ Some x
+            = ap (λ (l : LineNo). find_line all l) (line_from_same row.line x.def.line same)
+            ∙ find_there all apart f.passed x there.0 in
             let both = sym none ∙ found in cc
         by_test false same = refl
 
-    fill_refused : (left : List BoardLine) → is_mapped_at (slice_get (layout_of b) i) ≡ false → IsFilled b all left i reports → TakesFirst (is_first row.line left) left new report.history.entries → IsFilled b all new (i + 1) now
+    fill_refused : (left : List BoardLine) → is_mapped_at (slice_get (layout_of b) i) ≡ false
+        → IsFilled b all left i reports → TakesFirst (is_first row.line left) left new report.history.entries
+        → IsFilled b all new (i + 1) now
     fill_refused left test f takes =
         let none = takes_no_part b board all are i row at test in
         let taken = subst (λ (t : Bool). TakesFirst t left new report.history.entries) (is_another left f none) takes in
@@ -175,17 +199,20 @@ module _ (b : BoardSeen) (board : IsBoard b) (all : List BoardLine) (are : AreOf
           told = more_told reports now report f.told is (its_history report None none line taken.0);
           passed = f.passed;
           rest = taken.1 ∙ f.rest;
-          defs = ap (λ (ys : List BoardLine). map (λ (x : BoardLine). x.def) ys) taken.1 ∙ defs_after left (next_defs false (map (λ (x : BoardLine). x.def) left) test f.defs);
+          defs = ap (λ (ys : List BoardLine). map (λ (x : BoardLine). x.def) ys) taken.1
+              ∙ defs_after left (next_defs false (map (λ (x : BoardLine). x.def) left) test f.defs);
         }
 
-    pub fill_more : (left : List BoardLine) → IsFilled b all left i reports → TakesFirst (is_first row.line left) left new report.history.entries → IsFilled b all new (i + 1) now
+    pub fill_more : (left : List BoardLine) → IsFilled b all left i reports
+        → TakesFirst (is_first row.line left) left new report.history.entries → IsFilled b all new (i + 1) now
     fill_more left f takes = by_test (is_mapped_at (slice_get (layout_of b) i)) refl
       where
         by_test : (t : Bool) → is_mapped_at (slice_get (layout_of b) i) ≡ t → IsFilled b all new (i + 1) now
         by_test true test = fill_mapped left test f takes
         by_test false test = fill_refused left test f takes
 
-pub all_filled : (b : BoardSeen) (all left : List BoardLine) (i : ℕ) (reports : List LineReport) → length b.lines ≤ i → IsFilled b all left i reports → map told_by reports ≡ map (history_among all) b.lines
+pub all_filled : (b : BoardSeen) (all left : List BoardLine) (i : ℕ) (reports : List LineReport) → length b.lines ≤ i
+    → IsFilled b all left i reports → map told_by reports ≡ map (history_among all) b.lines
 all_filled b all left i reports end f = f.told ∙ ap (λ (rows : List LineRow). map (history_among all) rows) (take_all i b.lines end)
 
 -- ---- the lines from the last one on

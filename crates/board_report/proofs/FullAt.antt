@@ -36,7 +36,9 @@ module _ (b : BoardSeen) (board : IsBoard b) (lines : List BoardLine) (k : AreKe
         let number : x.def.line ≡ line = sym f.number in
         let entries : entries_in lines line ≡ reverse x.past = ap entries_of is in
         let past : reverse (entries_in lines line) ≡ x.past = ap (λ (es : List Entry). reverse es) entries ∙ reverse-reverse x.past in
-        let due : IsSome (next_past x.def x.past h.actor) = entry_due x.def.line (next_past x.def x.past h.actor) (subst (λ (o : Option BoardLine). IsSome (due_on o h.actor)) is h.due) in
+        let due : IsSome (next_past x.def x.past h.actor)
+        = entry_due x.def.line (next_past x.def x.past h.actor)
+        (subst (λ (o : Option BoardLine). IsSome (due_on o h.actor)) is h.due) in
         let there : IsSome (next x.def (entries_in lines line) h.actor) = subst (λ (p : List Entry). IsSome (next_past x.def p h.actor)) (sym past) due in
         record {
           place = o.place;
@@ -63,7 +65,8 @@ module _ (b : BoardSeen) (board : IsBoard b) (lines : List BoardLine) (k : AreKe
         let on = moves_on b lines a m moves in
         let x : BoardLine = on.line in
         let number : x.def.line ≡ line = sym on.number ∙ at in
-        let found : find_line lines line ≡ Some x = ap (λ (l : LineNo). find_line lines l) (sym number) ∙ find_there lines (apart_kept b board lines k) on.place x on.at in
+        let found : find_line lines line ≡ Some x = ap (λ (l : LineNo). find_line lines l) (sym number)
+        ∙ find_there lines (apart_kept b board lines k) on.place x on.at in
         let due : IsSome (move_on x.def.line (next_past x.def x.past a)) = subst (λ (o : Option Entry). IsSome (move_on x.def.line o)) (sym on.due) refl in
         record { actor = a; due = subst (λ (o : Option BoardLine). IsSome (due_on o a)) (sym found) due; length = long; limit = limit }
 

@@ -25,7 +25,8 @@ module _ (b : BoardSeen) (s : SystemSeen) (of_board : s.board ≡ b) (kept : Are
   pub of_its_board : (lines : List LineSeen) → lines ≡ s.lines → AreOfBoard b (board_lines lines)
   of_its_board lines are = subst (λ (ls : List LineSeen). AreOfBoard b (board_lines ls)) (sym are) k.defs
 
-  module _ (board : IsBoard b) (lines : List LineSeen) (are : lines ≡ s.lines) (reports : List LineReport) (is : map told_by reports ≡ map (history_among (board_lines lines)) b.lines) where
+  module _ (board : IsBoard b) (lines : List LineSeen) (are : lines ≡ s.lines) (reports : List LineReport)
+      (is : map told_by reports ≡ map (history_among (board_lines lines)) b.lines) where
     told : map told_by reports ≡ histories_of b (entries_in (board_lines s.lines))
     told = is ∙ ap (λ (ls : List LineSeen). map (history_among (board_lines ls)) b.lines) are
 
@@ -33,7 +34,12 @@ module _ (b : BoardSeen) (s : SystemSeen) (of_board : s.board ≡ b) (kept : Are
     so_far = record { handed_out = told; mapped = all_keep_laws b board (board_lines s.lines) k; refused = refused_have_none b board (board_lines s.lines) k }
 
     pub done : AreAtRest b (board_lines s.lines) → Headline b (entries_in (board_lines s.lines)) reports
-    done rest = record { handed_out = told; mapped = all_end_well b board (board_lines s.lines) k rest; refused = refused_have_none b board (board_lines s.lines) k }
+    done rest = record {
+      handed_out = told;
+      mapped = all_end_well b board (board_lines s.lines) k rest;
+      refused
+          = refused_have_none b board (board_lines s.lines) k;
+    }
 
     pub full : (line : LineNo) (len : ℕ) → HasNoRoom b (board_lines s.lines) line len → FullLog b (entries_in (board_lines s.lines)) reports line len
     full line len h =

@@ -28,24 +28,28 @@ module _ (b : BoardSeen) (board : IsBoard b) (lines : List BoardLine) (k : AreKe
   of_row : (P : LineDef → List Entry → Type 0) (i : ℕ) (row : LineRow) (at : slice_get b.lines i ≡ Some row) (h : HasLine lines (line_of_row b row))
       → P h.line.def (reverse h.line.past) → P (line_of_row b row) (entries_in lines row.line)
   of_row P i row at h p =
-      subst (λ (es : List Entry). P (line_of_row b row) es) (sym (its_entries b board lines k i row at h)) (subst (λ (def : LineDef). P def (reverse h.line.past)) h.is p)
+      subst (λ (es : List Entry). P (line_of_row b row) es) (sym (its_entries b board lines k i row at h))
+      (subst (λ (def : LineDef). P def (reverse h.line.past)) h.is p)
 
   legal_there : (def : LineDef) (h : HasLine lines def) → IsLegal h.line.def (reverse h.line.past)
   legal_there def h = subst (λ (past : List Entry). IsLegalPast h.line.def past) (sym (reverse-reverse h.line.past)) (k.legal h.place h.line h.at)
 
-  pub legal_row : (i : ℕ) (row : LineRow) → slice_get b.lines i ≡ Some row → is_mapped_at (slice_get (layout_of b) i) ≡ true → IsLegal (line_of_row b row) (entries_in lines row.line)
+  pub legal_row : (i : ℕ) (row : LineRow) → slice_get b.lines i ≡ Some row
+      → is_mapped_at (slice_get (layout_of b) i) ≡ true → IsLegal (line_of_row b row) (entries_in lines row.line)
   legal_row i row at laid =
       let h = line_laid b board lines k i row at laid in
       of_row (λ def es. IsLegal def es) i row at h (legal_there (line_of_row b row) h)
 
   pub all_keep_laws : EachMapped b (λ row. KeepsLaws (line_of_row b row) (entries_in lines row.line))
-  all_keep_laws i row virq path at laid = keeps_laws (line_of_row b row) (entries_in lines row.line) (valid_row b i row board at) (legal_row i row at (ap is_mapped_at laid))
+  all_keep_laws i row virq path at laid = keeps_laws (line_of_row b row) (entries_in lines row.line)
+      (valid_row b i row board at) (legal_row i row at (ap is_mapped_at laid))
 
   pub refused_have_none : EachRefused b (λ row. entries_in lines row.line ≡ [])
   refused_have_none i row why at laid = no_entries b board lines k i row at (ap is_mapped_at laid)
 
   -- when none of the board's actors can move
-  pub all_end_well : ((a : Actor) → IsOneOf a (actors_of b) → due_move b lines a ≡ None) → EachMapped b (λ row. LineHeadline (line_of_row b row) (entries_in lines row.line))
+  pub all_end_well : ((a : Actor) → IsOneOf a (actors_of b) → due_move b lines a ≡ None)
+      → EachMapped b (λ row. LineHeadline (line_of_row b row) (entries_in lines row.line))
   all_end_well rest i row virq path at laid =
       let h = line_laid b board lines k i row at (ap is_mapped_at laid) in
       line_headline (line_of_row b row) (entries_in lines row.line) (valid_row b i row board at) (legal_row i row at (ap is_mapped_at laid))

@@ -26,7 +26,12 @@ beginning def h before after legal is =
     (subst (λ (xs : List Entry). IsLegalPast def xs) (reverse-append before after) (subst (λ (xs : List Entry). IsLegal def xs) is legal))
 
 holds_at : (def : LineDef) (h : List Entry) → IsValid def → IsLegal def h → HoldsAt def h
-holds_at def h valid legal = record { covered = is_covered_law def h valid legal; has_reason = has_reason def h valid legal; served_when_idle = served_when_idle def h valid legal }
+holds_at def h valid legal = record {
+  covered = is_covered_law def h valid legal;
+  has_reason
+      = has_reason def h valid legal;
+  served_when_idle = served_when_idle def h valid legal;
+}
 
 pub keeps_laws : (def : LineDef) (h : List Entry) → IsValid def → IsLegal def h → KeepsLaws def h
 keeps_laws def h valid legal =

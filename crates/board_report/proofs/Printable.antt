@@ -22,11 +22,13 @@ use Rattle.irq_laws.proofs.ImpliesDriver.{IsRequestDue, opened_with, request_due
 use Rattle.log_text.specs.EntryWords.{IsPrintable}
 
 -- a request that was refused opened nothing
-opened_nothing : (def : LineDef) (r : DriverNo) (d : DevNo) (flags : Flags) (error : Errno) (opened : Opened) (past : List Entry) → IsRequestDue def r d flags (links.Refused error) opened past → opened ≡ opens.No
+opened_nothing : (def : LineDef) (r : DriverNo) (d : DevNo) (flags : Flags) (error : Errno) (opened : Opened)
+    (past : List Entry) → IsRequestDue def r d flags (links.Refused error) opened past → opened ≡ opens.No
 opened_nothing def r d flags error opened past due = due.opened_is ∙ ap (opened_with def flags past) (sym due.answer_is)
 
 -- a mask is only refused as invalid
-refused_as : (error : Errno) (some later : Bool) → ◌≡◌ {A = AffinityAnswer} (moves.Refused error) (cond some (cond later moves.Later moves.Now) (moves.Refused errors.Inval)) → error ≡ errors.Inval
+refused_as : (error : Errno) (some later : Bool) → ◌≡◌ {A = AffinityAnswer} (moves.Refused error)
+    (cond some (cond later moves.Later moves.Now) (moves.Refused errors.Inval)) → error ≡ errors.Inval
 refused_as error true true h = cc
 refused_as error true false h = cc
 refused_as error false later h = cc

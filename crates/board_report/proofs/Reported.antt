@@ -55,8 +55,10 @@ of_seen (x ∷ xs) (suc i) y at = let o = of_seen xs i y at in record { line = o
 -- ---- all reports
 
 -- what holds of the entries of each row holds of each report of them
-each_report : (P : List Entry → Type 0) (Q : LineReport → Type 0) → ((r : LineReport) → P r.history.entries → Q r) → (entries : Histories) (reports : List LineReport) (rows : List LineRow)
-    → map told_by reports ≡ map (λ (row : LineRow). (row.line, entries row.line)) rows → ((i : ℕ) (row : LineRow) → slice_get rows i ≡ Some row → P (entries row.line)) → All Q reports
+each_report : (P : List Entry → Type 0) (Q : LineReport → Type 0) → ((r : LineReport) → P r.history.entries → Q r)
+    → (entries : Histories) (reports : List LineReport) (rows : List LineRow)
+    → map told_by reports ≡ map (λ (row : LineRow). (row.line, entries row.line)) rows
+    → ((i : ℕ) (row : LineRow) → slice_get rows i ≡ Some row → P (entries row.line)) → All Q reports
 each_report P Q from entries [] rows told each = All-nil Q
 each_report P Q from entries (r ∷ reports) [] told each = cc
 each_report P Q from entries (r ∷ reports) (row ∷ rows) told each =
@@ -68,7 +70,8 @@ each_report P Q from entries (r ∷ reports) (row ∷ rows) told each =
     first : (h k : LineHistory) (hs ks : List LineHistory) → h ∷ hs ≡ k ∷ ks → (h ≡ k) × (hs ≡ ks)
     first h k hs ks is = (cc, cc)
 
-module _ (b : BoardSeen) (board : IsBoard b) (seen : List LineSeen) (k : AreKept b (board_lines seen)) (reports : List LineReport) (told : map told_by reports ≡ histories_of b (entries_in (board_lines seen))) where
+module _ (b : BoardSeen) (board : IsBoard b) (seen : List LineSeen) (k : AreKept b (board_lines seen))
+    (reports : List LineReport) (told : map told_by reports ≡ histories_of b (entries_in (board_lines seen))) where
   -- of a row that takes part, and of one that doesn't
   by_row : (P : List Entry → Type 0) → P [] → (i : ℕ) (row : LineRow) → slice_get b.lines i ≡ Some row
       → (is_mapped_at (slice_get (layout_of b) i) ≡ true → P (entries_in (board_lines seen) row.line)) → P (entries_in (board_lines seen) row.line)
@@ -84,7 +87,8 @@ module _ (b : BoardSeen) (board : IsBoard b) (seen : List LineSeen) (k : AreKept
       (λ i row at. by_row (λ es. All IsPrintable es) (All-nil IsPrintable) i row at
       (λ laid. all_printable (line_of_row b row) (entries_in (board_lines seen) row.line) (legal_row b board (board_lines seen) k i row at laid)))
 
-  is_short : AreSound seen → (i : ℕ) (row : LineRow) → slice_get b.lines i ≡ Some row → is_mapped_at (slice_get (layout_of b) i) ≡ true → length (entries_in (board_lines seen) row.line) ≤ 100000000
+  is_short : AreSound seen → (i : ℕ) (row : LineRow) → slice_get b.lines i ≡ Some row
+      → is_mapped_at (slice_get (layout_of b) i) ≡ true → length (entries_in (board_lines seen) row.line) ≤ 100000000
   is_short sound i row at laid =
       let h = line_laid b board (board_lines seen) k i row at laid in
       let o = of_seen seen h.place h.line h.at in
@@ -98,9 +102,14 @@ module _ (b : BoardSeen) (board : IsBoard b) (seen : List LineSeen) (k : AreKept
 
   pub all_summable : AreSound seen → All IsSummable reports
   all_summable sound =
-      each_report (λ es. (length es ≤ 100000000) × TellsLasts es) IsSummable (λ r both. record { few = both.0; lasts = both.1 }) (entries_in (board_lines seen)) reports b.lines told
+      each_report (λ es. (length es ≤ 100000000) × TellsLasts es) IsSummable
+      (λ r both. record { few = both.0; lasts = both.1 }) (entries_in (board_lines seen)) reports b.lines told
       (λ i row at. by_row (λ es. (length es ≤ 100000000) × TellsLasts es) (omega arith, tt) i row at
-      (λ laid. (is_short sound i row at laid, legal_tells (line_of_row b row) (entries_in (board_lines seen) row.line) (legal_row b board (board_lines seen) k i row at laid))))
+      (λ laid. (
+        is_short sound i row at laid,
+        legal_tells (line_of_row b row) (entries_in (board_lines seen) row.line)
+            (legal_row b board (board_lines seen) k i row at laid),
+      )))
 
   pub few_reports : length reports ≤ 64
   few_reports =

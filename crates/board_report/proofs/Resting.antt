@@ -12,7 +12,8 @@ none_first : (a b : Option Move) → or_move a b ≡ None → (a ≡ None) × (b
 none_first None b h = (refl, h)
 none_first (Some m) b h = cc
 
-none_moves : (board : BoardSeen) (lines : List BoardLine) (all : List Actor) → first_move board lines all ≡ None → (a : Actor) → IsOneOf a all → due_move board lines a ≡ None
+none_moves : (board : BoardSeen) (lines : List BoardLine) (all : List Actor) → first_move board lines all ≡ None
+    → (a : Actor) → IsOneOf a all → due_move board lines a ≡ None
 none_moves board lines [] none a at = absurd at
 none_moves board lines (x ∷ xs) none a at =
     let both = none_first (due_move board lines x) (first_move board lines xs) none in

@@ -26,11 +26,16 @@ lengths [] = refl
 lengths (r ∷ reports) = ap (λ (ns : List ℕ). entries_in r ∷ ns) (lengths reports)
 
 pub entries_of_reports : (reports : List LineReport) → sum_by entries_in reports ≡ count_of_entries (map told_by reports)
-entries_of_reports reports = sym (sum-map entries_in reports) ∙ (ap (λ (ns : List ℕ). sum ns) (lengths reports) ∙ sum-map (λ (h : LineHistory). length h.1) (map told_by reports))
+entries_of_reports reports = sym (sum-map entries_in reports)
+    ∙ (ap (λ (ns : List ℕ). sum ns) (lengths reports) ∙ sum-map (λ (h : LineHistory). length h.1) (map told_by reports))
 
 pub summable_at : (reports : List LineReport) (i : ℕ) (r : LineReport) → All IsSummable reports → slice_get reports i ≡ Some r → IsSummable r
-summable_at reports i r all at = subst IsSummable (get_or_from_slice_get reports i r r at) (All-get_or IsSummable reports i r (slice_get_within reports i r at) all)
+summable_at reports i r all at = subst IsSummable (get_or_from_slice_get reports i r r at)
+    (All-get_or IsSummable reports i r (slice_get_within reports i r at) all)
 
-pub one_more : (reports : List LineReport) (i : ℕ) (r : LineReport) → slice_get reports i ≡ Some r → sum_by entries_in (take (i + 1) reports) ≡ sum_by entries_in (take i reports) + entries_in r
+pub one_more : (reports : List LineReport) (i : ℕ) (r : LineReport) → slice_get reports i ≡ Some r
+    → sum_by entries_in (take (i + 1) reports) ≡ sum_by entries_in (take i reports) + entries_in r
 one_more reports i r at =
-    sum_by_more entries_in reports i r (slice_get_within reports i r at) ∙ ap (λ (x : LineReport). sum_by entries_in (take i reports) + entries_in x) (get_or_from_slice_get reports i r r at)
+    sum_by_more entries_in reports i r (slice_get_within reports i r at)
+    ∙ ap (λ (x : LineReport). sum_by entries_in (take i reports) + entries_in x)
+    (get_or_from_slice_get reports i r r at)

@@ -1,5 +1,6 @@
 -- One writing after another.
-use Rattle.std.proofs.Common.{◌≡◌, ℕ, ◌+◌, ◌<◌, ◌≤◌, Option, Some, None, List, [], ◌∷◌, ◌++◌, get_or, slice_get, take, drop, length, sym, ap, subst, ◌∙◌, append_assoc, zero-add, arith}
+use Rattle.std.proofs.Common.{◌≡◌, ℕ, ◌+◌, ◌<◌, ◌≤◌, Option, Some, None, List, [], ◌∷◌, ◌++◌, get_or, slice_get, take}
+use Rattle.std.proofs.Common.{drop, length, sym, ap, subst, ◌∙◌, append_assoc, zero-add, arith}
 use Rattle.std.specs.List.{flat_map, range_with_len}
 use Rattle.std.proofs.lemmas.Grind.{flat_map-append}
 use Rattle.std.proofs.lemmas.List.{take_more, take_all, flat_map_more, take-append-drop, append-nil}
@@ -41,21 +42,24 @@ then_stays (Some old) b c xs ends.Done h k = subst (λ (o : Option (List ℕ)). 
 then_stays (Some old) b c xs ends.Failed h k = (h.0, h.1, subst (λ (o : Option (List ℕ)). Stays o c) h.2 k)
 
 -- one item more
-items_more : {X : Type 0} (f : X → List ℕ) (xs : List X) (i : ℕ) (x : X) → slice_get xs i ≡ Some x → flat_map f (take (i + 1) xs) ≡ flat_map f (take i xs) ++ f x
+items_more : {X : Type 0} (f : X → List ℕ) (xs : List X) (i : ℕ) (x : X) → slice_get xs i ≡ Some x
+    → flat_map f (take (i + 1) xs) ≡ flat_map f (take i xs) ++ f x
 items_more f xs i x at =
     let within : i < length xs = slice_get_within xs i x at in
     let is : get_or xs i x ≡ x = get_or_from_slice_get xs i x x at in
     ap (flat_map f) (take_more xs i x within ∙ ap (λ y. take i xs ++ y ∷ []) is) ∙ sym (flat_map_more f [] (take i xs) x)
 
 -- the texts of the items after one more
-pub items_done : {X : Type 0} (f : X → List ℕ) (a b c : Option (List ℕ)) (xs : List X) (i : ℕ) (x : X) (row : List ℕ) → slice_get xs i ≡ Some x → row ≡ f x → WritesAll a b (flat_map f (take i xs)) ends.Done
+pub items_done : {X : Type 0} (f : X → List ℕ) (a b c : Option (List ℕ)) (xs : List X) (i : ℕ) (x : X) (row : List ℕ)
+    → slice_get xs i ≡ Some x → row ≡ f x → WritesAll a b (flat_map f (take i xs)) ends.Done
     → WritesAll b c row ends.Done → WritesAll a c (flat_map f (take (i + 1) xs)) ends.Done
 items_done f a b c xs i x row at is so_far next =
     let now = and_then a b c (flat_map f (take i xs)) row ends.Done so_far next in
     subst (λ (text : List ℕ). WritesAll a c text ends.Done) (ap (λ zs. flat_map f (take i xs) ++ zs) is ∙ sym (items_more f xs i x at)) now
 
 -- the texts of the items after one that failed
-pub items_failed : {X : Type 0} (f : X → List ℕ) (a b c : Option (List ℕ)) (xs : List X) (i : ℕ) (x : X) (row : List ℕ) → slice_get xs i ≡ Some x → row ≡ f x → WritesAll a b (flat_map f (take i xs)) ends.Done
+pub items_failed : {X : Type 0} (f : X → List ℕ) (a b c : Option (List ℕ)) (xs : List X) (i : ℕ) (x : X) (row : List ℕ)
+    → slice_get xs i ≡ Some x → row ≡ f x → WritesAll a b (flat_map f (take i xs)) ends.Done
     → WritesAll b c row ends.Failed → WritesAll a c (flat_map f xs) ends.Failed
 items_failed f a b c xs i x row at is so_far next =
     let now = and_then a b c (flat_map f (take i xs)) row ends.Failed so_far next in
@@ -68,7 +72,8 @@ items_failed f a b c xs i x row at is so_far next =
 -- the number at a place of the numbers from 0 on
 pub number_at : (n i : ℕ) → i < n → slice_get (range_with_len 0 n) i ≡ Some i
 number_at n i within =
-    slice_get-get_or (range_with_len 0 n) i 0 (subst (λ (k : ℕ). i < k) (sym (length-range_with_len 0 n)) within) ∙ ap Some (get_or-range_with_len 0 n i 0 within ∙ zero-add i)
+    slice_get-get_or (range_with_len 0 n) i 0 (subst (λ (k : ℕ). i < k) (sym (length-range_with_len 0 n)) within)
+    ∙ ap Some (get_or-range_with_len 0 n i 0 within ∙ zero-add i)
 
 -- all of the numbers
 pub numbers_all : (n i : ℕ) → n ≤ i → take i (range_with_len 0 n) ≡ range_with_len 0 n

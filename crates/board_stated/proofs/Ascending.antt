@@ -1,5 +1,6 @@
 -- Lists whose items rise, and what holds of each item.
-use Rattle.std.proofs.Common.{◌≡◌, ℕ, zero, suc, ◌<◌, ◌≤◌, ◌==◌, Bool, true, false, ◌||◌, IfSome, Option, Some, None, List, [], ◌∷◌, ◌++◌, length, nat_le, refl, arith}
+use Rattle.std.proofs.Common.{◌≡◌, ℕ, zero, suc, ◌<◌, ◌≤◌, ◌==◌, Bool, true, false, ◌||◌, IfSome, Option, Some, None}
+use Rattle.std.proofs.Common.{List, [], ◌∷◌, ◌++◌, length, nat_le, refl, arith}
 use Rattle.std.specs.List.{All, list_any}
 use Rattle.std.specs.Option.{option_map_or}
 use Rattle.std.proofs.lemmas.Bool.{leb-false, eqb-true}
@@ -9,7 +10,8 @@ use Rattle.domain_rules.specs.Domains.{EachAfter}
 use Rattle.domain_rules.proofs.EachAfters.{each_none}
 
 -- a number that isn't at most the last one is above it
-pub last_below : {A : Type 0} (number : A → ℕ) (n : ℕ) (last : Option A) → option_map_or (λ x. nat_le n (number x)) last false ≡ false → IfSome last (λ x. number x < n)
+pub last_below : {A : Type 0} (number : A → ℕ) (n : ℕ) (last : Option A)
+    → option_map_or (λ x. nat_le n (number x)) last false ≡ false → IfSome last (λ x. number x < n)
 last_below number n None h = tt
 last_below number n (Some x) h = leb-false n (number x) h
 
@@ -42,5 +44,7 @@ module _ {A : Type 0} where
   pub below : (number : A → ℕ) (n k : ℕ) (xs : List A) → All (λ e. number e < n) xs → list_any (λ x. number x == k) xs ≡ true → k < n
   below number n k [] all h = absurd cc
   below number n k (x ∷ xs) all h =
-      first_or_rest (number x == k) (list_any (λ y. number y == k) xs) (λ is. let first = All-head (λ e. number e < n) x xs all in let same = eqb-true (number x) k is in omega arith)
+      first_or_rest (number x == k) (list_any (λ y. number y == k) xs)
+      (λ is. let first = All-head (λ e. number e < n) x xs all in let same = eqb-true (number x) k is in
+      omega arith)
       (λ is. below number n k xs (All-tail (λ e. number e < n) x xs all) is) h

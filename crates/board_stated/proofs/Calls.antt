@@ -34,7 +34,8 @@ pub found_device : (P : DeviceDef → Type 0) (devices : List DeviceDef) (dev : 
 found_device P [] dev all = tt
 found_device P (x ∷ xs) dev all = found P (same_dev dev x.dev) x (find_device xs dev) (All-head P x xs all) (found_device P xs dev (All-tail P x xs all))
 
-on_line : (lines : List LineRow) (o : Option DeviceDef) → is_none o ≡ false → IfSome o (λ x. has_line lines x.line ≡ true) → has_line lines (line_or_none o) ≡ true
+on_line : (lines : List LineRow) (o : Option DeviceDef) → is_none o ≡ false
+    → IfSome o (λ x. has_line lines x.line ≡ true) → has_line lines (line_or_none o) ≡ true
 on_line lines (Some x) some h = h
 on_line lines None some h = absurd cc
 
@@ -47,10 +48,15 @@ is_of_line None some = absurd cc
 pub devices_on_lines : (b : BoardSeen) → EachAfter (IsDeviceAfter b) b.devices → All (λ x. has_line b.lines x.line ≡ true) b.devices
 devices_on_lines b each = each_alone (IsDeviceAfter b) (λ x. has_line b.lines x.line ≡ true) b.devices (λ earlier x p. p.line) each
 
-line_declared : (b : BoardSeen) (c : CallWords) → EachAfter (IsDeviceAfter b) b.devices → names_nothing b c ≡ false → has_line b.lines (line_of_call b.devices c) ≡ true
-line_declared b (words.Request dev flags twice) each h = on_line b.lines (find_device b.devices dev) h (found_device (λ x. has_line b.lines x.line ≡ true) b.devices dev (devices_on_lines b each))
-line_declared b (words.Free dev) each h = on_line b.lines (find_device b.devices dev) h (found_device (λ x. has_line b.lines x.line ≡ true) b.devices dev (devices_on_lines b each))
-line_declared b (words.Ask dev) each h = on_line b.lines (find_device b.devices dev) h (found_device (λ x. has_line b.lines x.line ≡ true) b.devices dev (devices_on_lines b each))
+line_declared : (b : BoardSeen) (c : CallWords) → EachAfter (IsDeviceAfter b) b.devices → names_nothing b c ≡ false
+    → has_line b.lines (line_of_call b.devices c) ≡ true
+line_declared b (words.Request dev flags twice) each h
+    = on_line b.lines (find_device b.devices dev) h (found_device (λ x. has_line b.lines x.line ≡ true) b.devices dev
+    (devices_on_lines b each))
+line_declared b (words.Free dev) each h = on_line b.lines (find_device b.devices dev) h
+    (found_device (λ x. has_line b.lines x.line ≡ true) b.devices dev (devices_on_lines b each))
+line_declared b (words.Ask dev) each h = on_line b.lines (find_device b.devices dev) h
+    (found_device (λ x. has_line b.lines x.line ≡ true) b.devices dev (devices_on_lines b each))
 line_declared b (words.Disable line) each h = not-false (has_line b.lines line) h
 line_declared b (words.DisableNosync line) each h = not-false (has_line b.lines line) h
 line_declared b (words.Enable line) each h = not-false (has_line b.lines line) h
@@ -72,7 +78,8 @@ device_fits b (words.Moment line at) h = refl
 -- the calls before are of drivers declared before
 scripts_in_order : (b : BoardSeen) → IsBoard b → All (λ e. e.driver.0 ≤ (driver_writing b.drivers).0) b.calls
 scripts_in_order b board =
-    All-weaker (λ e. has_driver b.drivers e.driver ≡ true) (λ e. e.driver.0 ≤ (driver_writing b.drivers).0) (λ e is. last_greatest b.drivers e.driver board.drivers is) b.calls
+    All-weaker (λ e. has_driver b.drivers e.driver ≡ true) (λ e. e.driver.0 ≤ (driver_writing b.drivers).0)
+    (λ e is. last_greatest b.drivers e.driver board.drivers is) b.calls
     (each_alone (IsCallAfter b) (λ e. has_driver b.drivers e.driver ≡ true) b.calls (λ earlier e p. p.driver) board.calls)
 
 -- ---- one more
@@ -88,10 +95,12 @@ call_after b c board placed there owner = record {
 }
 
 -- a board with more calls
-more_calls : (b : BoardSeen) (c : CallWords) (earlier : List ScriptCall) (e : ScriptCall) → IsCallAfter b earlier e → IsCallAfter (with_statement (statements.Call c) b) earlier e
+more_calls : (b : BoardSeen) (c : CallWords) (earlier : List ScriptCall) (e : ScriptCall) → IsCallAfter b earlier e
+    → IsCallAfter (with_statement (statements.Call c) b) earlier e
 more_calls b c earlier e p = record { driver = p.driver; in_order = p.in_order; line = p.line; device = p.device; owner = p.owner }
 
-pub call_kept : (b : BoardSeen) (c : CallWords) (n : ℕ) → n ≤ 5 → NoneLater n b → IsBoard b → is_misplaced b (statements.Call c) ≡ false → is_not_there b (statements.Call c) ≡ false
+pub call_kept : (b : BoardSeen) (c : CallWords) (n : ℕ) → n ≤ 5 → NoneLater n b → IsBoard b
+    → is_misplaced b (statements.Call c) ≡ false → is_not_there b (statements.Call c) ≡ false
     → has_bad_owner b (statements.Call c) ≡ false → is_one_too_many b (statements.Call c) ≡ false → IsBoard (with_statement (statements.Call c) b)
 call_kept b c n early none board placed there owner room =
     let call = script_call b c in

@@ -22,7 +22,8 @@ use Rattle.board_stated.proofs.Reached.{NoneLater}
 
 -- ---- a board with the same lines
 
-same_device : (b c : BoardSeen) → c.lines ≡ b.lines → (earlier : List DeviceDef) (device : DeviceDef) → IsDeviceAfter b earlier device → IsDeviceAfter c earlier device
+same_device : (b c : BoardSeen) → c.lines ≡ b.lines → (earlier : List DeviceDef) (device : DeviceDef)
+    → IsDeviceAfter b earlier device → IsDeviceAfter c earlier device
 same_device b c lines earlier device p = record {
   number = p.number;
   rises = p.rises;
@@ -35,15 +36,21 @@ devices_kept b c lines = each_weaker (IsDeviceAfter b) (IsDeviceAfter c) b.devic
 -- ---- one more
 
 device_after : (b : BoardSeen) (dev : DevNo) (line : LineNo) (kind : Kind) → IsNumber dev.0 → EachAfter (IsDeviceAfter b) b.devices
-    → is_misplaced b (statements.Device dev line kind) ≡ false → is_not_there b (statements.Device dev line kind) ≡ false → IsDeviceAfter b b.devices (record { dev = dev; line = line; kind = kind })
+    → is_misplaced b (statements.Device dev line kind) ≡ false
+    → is_not_there b (statements.Device dev line kind) ≡ false
+    → IsDeviceAfter b b.devices (record { dev = dev; line = line; kind = kind })
 device_after b dev line kind number each placed there = record {
   number = number;
-  rises = all_below (λ x. x.dev.0) b.devices dev.0 (λ i x at. (each i x at).rises) (last_number (λ (x : DeviceDef). x.dev) (λ d. d.0 < dev.0) (last_item b.devices) (last_below (λ d. d.0) dev.0 (last_device b.devices) placed));
+  rises = all_below (λ x. x.dev.0) b.devices dev.0 (λ i x at. (each i x at).rises)
+      (last_number (λ (x : DeviceDef). x.dev) (λ d. d.0 < dev.0) (last_item b.devices)
+      (last_below (λ d. d.0) dev.0 (last_device b.devices) placed));
   line = not-false (has_line b.lines line) there;
 }
 
 pub device_kept : (b : BoardSeen) (dev : DevNo) (line : LineNo) (kind : Kind) (n : ℕ) → n ≤ 4 → NoneLater n b → IsBoard b → IsNumber dev.0
-    → is_misplaced b (statements.Device dev line kind) ≡ false → is_not_there b (statements.Device dev line kind) ≡ false → is_one_too_many b (statements.Device dev line kind) ≡ false
+    → is_misplaced b (statements.Device dev line kind) ≡ false
+    → is_not_there b (statements.Device dev line kind) ≡ false
+    → is_one_too_many b (statements.Device dev line kind) ≡ false
     → IsBoard (with_statement (statements.Device dev line kind) b)
 device_kept b dev line kind n early none board number placed there room =
     let device : DeviceDef = record { dev = dev; line = line; kind = kind } in

@@ -49,7 +49,8 @@ domain_after b d fits once parent = record {
   def = record { size = fits.1; declared = declared_def b.domains (parent_place b.domains d.parent) (parent_declared b.domains d.parent); parent = parent };
 }
 
-pub domain_kept : (b : BoardSeen) (d : DomainWords) (n : ℕ) → n ≤ 2 → NoneLater n b → IsBoard b → IsWellFormed (statements.Domain d) → (has_name b.domains d.name || d.twice) ≡ false
+pub domain_kept : (b : BoardSeen) (d : DomainWords) (n : ℕ) → n ≤ 2 → NoneLater n b → IsBoard b
+    → IsWellFormed (statements.Domain d) → (has_name b.domains d.name || d.twice) ≡ false
     → has_bad_parent b (statements.Domain d) ≡ false → is_one_too_many b (statements.Domain d) ≡ false → IsBoard (with_statement (statements.Domain d) b)
 domain_kept b d n early none board fits once parent room =
     let row = domain_row b.domains d in

@@ -39,7 +39,8 @@ is_last n [] h = tt
 is_last n (d ∷ ds) h = h
 
 -- and none is above it
-pub last_greatest : (drivers : List DriverNo) (driver : DriverNo) → EachAfter IsDriverAfter drivers → has_driver drivers driver ≡ true → driver.0 ≤ (driver_writing drivers).0
+pub last_greatest : (drivers : List DriverNo) (driver : DriverNo) → EachAfter IsDriverAfter drivers
+    → has_driver drivers driver ≡ true → driver.0 ≤ (driver_writing drivers).0
 last_greatest drivers driver each is =
     let last = (driver_writing drivers).0 in
     let h = below (λ d. d.0) (last + 1) driver.0 drivers (driver_rises (last + 1) drivers each (is_last (last + 1) drivers (omega arith))) is in
@@ -53,17 +54,27 @@ still_declared drivers new driver is =
 
 -- ---- one more
 
-driver_after : (b : BoardSeen) (driver : DriverNo) → IsNumber driver.0 → EachAfter IsDriverAfter b.drivers → is_misplaced b (statements.Driver driver) ≡ false → IsDriverAfter b.drivers driver
+driver_after : (b : BoardSeen) (driver : DriverNo) → IsNumber driver.0 → EachAfter IsDriverAfter b.drivers
+    → is_misplaced b (statements.Driver driver) ≡ false → IsDriverAfter b.drivers driver
 driver_after b driver number each placed = record {
   number = number;
   rises = driver_rises driver.0 b.drivers each (last_below (λ d. d.0) driver.0 (last_item b.drivers) placed);
 }
 
-same_call : (b : BoardSeen) (driver : DriverNo) (earlier : List ScriptCall) (c : ScriptCall) → IsCallAfter b earlier c → IsCallAfter (with_statement (statements.Driver driver) b) earlier c
-same_call b driver earlier c p = record { driver = still_declared b.drivers driver c.driver p.driver; in_order = p.in_order; line = p.line; device = p.device; owner = p.owner }
+same_call : (b : BoardSeen) (driver : DriverNo) (earlier : List ScriptCall) (c : ScriptCall) → IsCallAfter b earlier c
+    → IsCallAfter (with_statement (statements.Driver driver) b) earlier c
+same_call b driver earlier c p = record {
+  driver = still_declared b.drivers driver c.driver p.driver;
+  in_order
+      = p.in_order;
+  line = p.line;
+  device = p.device;
+  owner = p.owner;
+}
 
 pub driver_kept : (b : BoardSeen) (driver : DriverNo) (n : ℕ) → n ≤ 5 → NoneLater n b → IsBoard b → IsNumber driver.0
-    → is_misplaced b (statements.Driver driver) ≡ false → is_one_too_many b (statements.Driver driver) ≡ false → IsBoard (with_statement (statements.Driver driver) b)
+    → is_misplaced b (statements.Driver driver) ≡ false → is_one_too_many b (statements.Driver driver) ≡ false
+    → IsBoard (with_statement (statements.Driver driver) b)
 driver_kept b driver n early none board number placed room =
     let next = with_statement (statements.Driver driver) b in
     record {

@@ -1,5 +1,6 @@
 -- The board of a text keeps the rules.
-use Rattle.std.proofs.Common.{◌≡◌, ℕ, ◌+◌, ◌*◌, ◌≤◌, Bool, true, false, not, ◌&&◌, cond, nat_lt, Option, Some, None, Result, Ok, Err, List, [], ◌∷◌, length, refl, sym, subst, arith}
+use Rattle.std.proofs.Common.{◌≡◌, ℕ, ◌+◌, ◌*◌, ◌≤◌, Bool, true, false, not, ◌&&◌, cond, nat_lt, Option, Some, None}
+use Rattle.std.proofs.Common.{Result, Ok, Err, List, [], ◌∷◌, length, refl, sym, subst, arith}
 use Rattle.std.specs.List.{list_any}
 use Rattle.std.proofs.lemmas.Bool.{ltb-false}
 use Rattle.std.proofs.lemmas.List.Elements.{All-nil}
@@ -18,7 +19,9 @@ use Rattle.board_stated.specs.Sections.{section_reached}
 use Rattle.board_stated.specs.Sound.{IsWellFormed, IsSound, draft_of}
 use Rattle.board_stated.specs.Stated.{board_of}
 use Rattle.board_stated.specs.Sections.{has_moments}
-use Rattle.board_stated.specs.TextOf.{begins_with_board, or_else, fault_of_statement, fault_of_line, with_line, with_lines, fault_or, first_fault, has_words, fault_of_lines, longest_text, whole, board_unless, board_of_text}
+use Rattle.board_stated.specs.TextOf.{begins_with_board, or_else, fault_of_statement, fault_of_line, with_line}
+use Rattle.board_stated.specs.TextOf.{with_lines, fault_or, first_fault, has_words, fault_of_lines, longest_text, whole}
+use Rattle.board_stated.specs.TextOf.{board_unless, board_of_text}
 use Rattle.board_words.specs.declared.faults.BoardFault.{BoardFault}
 use Rattle.board_stated.proofs.Calls.{call_kept}
 use Rattle.board_stated.proofs.Devices.{device_kept}
@@ -56,12 +59,22 @@ first_draft = record {
 }
 
 none_drafted : (n : ℕ) (past : List Statement) → NoneLater n (board_of past) → NoneLater n (draft_of past)
-none_drafted n past none = record { domains = none.domains; lines = none.lines; devices = none.devices; drivers = none.drivers; calls = none.calls; picks = none.picks }
+none_drafted n past none = record {
+  domains = none.domains;
+  lines = none.lines;
+  devices = none.devices;
+  drivers
+      = none.drivers;
+  calls = none.calls;
+  picks = none.picks;
+}
 
-draft_more : (past : List Statement) (s : Statement) → FitsAfter past s → IsWellFormed s → NoneLater (section_reached past) (draft_of past) → IsBoard (draft_of past) → IsBoard (draft_of (s ∷ past))
+draft_more : (past : List Statement) (s : Statement) → FitsAfter past s → IsWellFormed s
+    → NoneLater (section_reached past) (draft_of past) → IsBoard (draft_of past) → IsBoard (draft_of (s ∷ past))
 draft_more past (statements.Board version) fits formed none board = board
 draft_more past (statements.Cpus cpus) fits formed none board = cpus_kept (draft_of past) cpus (section_reached past) fits.section none board formed
-draft_more past (statements.Spurious window limit) fits formed none board = spurious_kept (draft_of past) window limit (section_reached past) fits.section none board formed
+draft_more past (statements.Spurious window limit) fits formed none board
+    = spurious_kept (draft_of past) window limit (section_reached past) fits.section none board formed
 draft_more past (statements.Log log) fits formed none board = board
 draft_more past (statements.Domain d) fits formed none board =
     domain_kept (draft_of past) d (section_reached past) fits.section none board formed fits.once fits.parent fits.room
@@ -96,10 +109,12 @@ after_test false kind rest h = h
 
 sound_statement : (past : List Statement) (words : List (List ℕ)) → IsSound past → fault_of_statement past words ≡ None → IsSound (statement_of words ∷ past)
 sound_statement past words sound h =
-    let both = neither (fault_of_words (has_moments past) words) (fault_after past (statement_of words)) (after_test (is_empty past && not (begins_with_board words)) faults.NoHeader _ h) in
+    let both = neither (fault_of_words (has_moments past) words) (fault_after past (statement_of words))
+    (after_test (is_empty past && not (begins_with_board words)) faults.NoHeader _ h) in
     (sound, statement_is_well_formed (has_moments past) words both.0, both.1)
 
-by_words : (t : Bool) (past : List Statement) (words : List (List ℕ)) → IsSound past → cond t None (fault_of_statement past words) ≡ None → IsSound (cond t past (statement_of words ∷ past))
+by_words : (t : Bool) (past : List Statement) (words : List (List ℕ)) → IsSound past
+    → cond t None (fault_of_statement past words) ≡ None → IsSound (cond t past (statement_of words ∷ past))
 by_words true past words sound h = sound
 by_words false past words sound h = sound_statement past words sound h
 
@@ -128,7 +143,8 @@ no_fault_of : (t : Bool) (rest : Option BoardFault) (x : BoardFault) → cond t 
 no_fault_of true rest x h = h
 no_fault_of false rest x h = absurd cc
 
-unless : (lines : List (List ℕ)) (fault : Option BoardFault) (b : BoardSeen) → fault_of_lines lines ≡ fault → board_unless fault (with_lines [] lines) ≡ Ok b → IsTextOf lines b
+unless : (lines : List (List ℕ)) (fault : Option BoardFault) (b : BoardSeen) → fault_of_lines lines ≡ fault
+    → board_unless fault (with_lines [] lines) ≡ Ok b → IsTextOf lines b
 unless lines (Some fault) b is h = absurd cc
 unless lines None b is h =
     let past = with_lines [] lines in

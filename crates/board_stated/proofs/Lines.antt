@@ -24,7 +24,8 @@ use Rattle.board_stated.proofs.Reached.{NoneLater}
 
 -- ---- a board with the same domains and processors
 
-same_line : (b c : BoardSeen) → c.domains ≡ b.domains → c.cpus ≡ b.cpus → (earlier : List LineRow) (row : LineRow) → IsLineAfter b earlier row → IsLineAfter c earlier row
+same_line : (b c : BoardSeen) → c.domains ≡ b.domains → c.cpus ≡ b.cpus → (earlier : List LineRow) (row : LineRow)
+    → IsLineAfter b earlier row → IsLineAfter c earlier row
 same_line b c domains cpus earlier row p = record {
   number = p.number;
   rises = p.rises;
@@ -57,10 +58,13 @@ mask_has_one cpus None some h = first_of_all cpus (all_processors cpus) some (al
 -- ---- one more
 
 line_after : (b : BoardSeen) (l : LineWords) → IsNumber l.line.0 → 1 ≤ b.cpus → EachAfter (IsLineAfter b) b.lines → is_misplaced b (statements.Line l) ≡ false
-    → is_not_there b (statements.Line l) ≡ false → has_bad_unlazy b (statements.Line l) ≡ false → has_bad_mask b (statements.Line l) ≡ false → IsLineAfter b b.lines (line_row b l)
+    → is_not_there b (statements.Line l) ≡ false → has_bad_unlazy b (statements.Line l) ≡ false
+    → has_bad_mask b (statements.Line l) ≡ false → IsLineAfter b b.lines (line_row b l)
 line_after b l number some each placed there unlazy mask = record {
   number = number;
-  rises = all_below (λ r. r.line.0) b.lines l.line.0 (λ i row at. (each i row at).rises) (last_number (λ (r : LineRow). r.line) (λ line. line.0 < l.line.0) (last_item b.lines) (last_below (λ line. line.0) l.line.0 (last_line b.lines) placed));
+  rises = all_below (λ r. r.line.0) b.lines l.line.0 (λ i row at. (each i row at).rises)
+      (last_number (λ (r : LineRow). r.line) (λ line. line.0 < l.line.0) (last_item b.lines)
+      (last_below (λ line. line.0) l.line.0 (last_line b.lines) placed));
   domain = named_place b.domains l.domain (not-false (has_name b.domains l.domain) there);
   unlazy = unlazy;
   mask = mask_has_one b.cpus l.mask some mask;
@@ -69,8 +73,10 @@ line_after b l number some each placed there unlazy mask = record {
 few_entries : (log n : ℕ) → log ≡ 1 → n ≤ 64 → log * n ≤ 4000000
 few_entries log n one few = rw one (omega arith)
 
-pub line_kept : (b : BoardSeen) (l : LineWords) (n : ℕ) → n ≤ 3 → NoneLater n b → IsBoard b → b.log ≡ 1 → IsNumber l.line.0 → is_misplaced b (statements.Line l) ≡ false
-    → is_not_there b (statements.Line l) ≡ false → has_bad_unlazy b (statements.Line l) ≡ false → has_bad_mask b (statements.Line l) ≡ false → is_one_too_many b (statements.Line l) ≡ false
+pub line_kept : (b : BoardSeen) (l : LineWords) (n : ℕ) → n ≤ 3 → NoneLater n b → IsBoard b → b.log ≡ 1
+    → IsNumber l.line.0 → is_misplaced b (statements.Line l) ≡ false
+    → is_not_there b (statements.Line l) ≡ false → has_bad_unlazy b (statements.Line l) ≡ false
+    → has_bad_mask b (statements.Line l) ≡ false → is_one_too_many b (statements.Line l) ≡ false
     → IsBoard (with_statement (statements.Line l) b)
 line_kept b l n early none board log number placed there unlazy mask room =
     let row = line_row b l in

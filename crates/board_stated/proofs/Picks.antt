@@ -32,7 +32,8 @@ actor_there b (picked.Thread dev) h = threaded (find_device b.devices dev) h
 actor_there b (picked.Cpu cpu) h = leb-false b.cpus cpu.0 h
 actor_there b (picked.Driver driver) h = not-false (has_driver b.drivers driver) h
 
-actors_there : (b : BoardSeen) (picks : List PickWord) → list_any (λ p. picks_nothing b p.who) picks ≡ false → All (IsActorOf b) (flat_map (actors_picked b.devices) picks)
+actors_there : (b : BoardSeen) (picks : List PickWord) → list_any (λ p. picks_nothing b p.who) picks ≡ false
+    → All (IsActorOf b) (flat_map (actors_picked b.devices) picks)
 actors_there b [] h = All-nil (IsActorOf b)
 actors_there b (p ∷ ps) h =
     let parts = or_parts (picks_nothing b p.who) (list_any (λ q. picks_nothing b q.who) ps) h in
@@ -48,7 +49,8 @@ count_told devices (p ∷ ps) =
     let first = length-replicate p.times (actor_picked devices p.who) in
     omega (arith, length-append (actors_picked devices p) (flat_map (actors_picked devices) ps))
 
-few_after : (b : BoardSeen) (picks : List PickWord) → is_one_too_many b (statements.Picks picks) ≡ false → length (b.picks ++ flat_map (actors_picked b.devices) picks) ≤ 65536
+few_after : (b : BoardSeen) (picks : List PickWord) → is_one_too_many b (statements.Picks picks) ≡ false
+    → length (b.picks ++ flat_map (actors_picked b.devices) picks) ≤ 65536
 few_after b picks h =
     let few = ltb-false 65536 (length b.picks + count_of_picks picks) h in
     let told = count_told b.devices picks in
@@ -61,10 +63,12 @@ same_actor b picks (actors.Thread line dev) h = h
 same_actor b picks (actors.Cpu cpu) h = h
 same_actor b picks (actors.Driver driver) h = h
 
-more_picks : (b : BoardSeen) (picks : List PickWord) (earlier : List ScriptCall) (e : ScriptCall) → IsCallAfter b earlier e → IsCallAfter (with_statement (statements.Picks picks) b) earlier e
+more_picks : (b : BoardSeen) (picks : List PickWord) (earlier : List ScriptCall) (e : ScriptCall)
+    → IsCallAfter b earlier e → IsCallAfter (with_statement (statements.Picks picks) b) earlier e
 more_picks b picks earlier e p = record { driver = p.driver; in_order = p.in_order; line = p.line; device = p.device; owner = p.owner }
 
-pub picks_kept : (b : BoardSeen) (picks : List PickWord) → IsBoard b → is_not_there b (statements.Picks picks) ≡ false → is_one_too_many b (statements.Picks picks) ≡ false
+pub picks_kept : (b : BoardSeen) (picks : List PickWord) → IsBoard b → is_not_there b (statements.Picks picks) ≡ false
+    → is_one_too_many b (statements.Picks picks) ≡ false
     → IsBoard (with_statement (statements.Picks picks) b)
 picks_kept b picks board there room =
     let next = with_statement (statements.Picks picks) b in

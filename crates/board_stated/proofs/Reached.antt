@@ -8,7 +8,8 @@ use Rattle.board_words.specs.declared.faults.FaultKind.TheVariants as faults
 use Rattle.board_words.specs.declared.statements.Statement.{Statement}
 use Rattle.board_words.specs.declared.statements.Statement.TheVariants as statements
 use Rattle.board_stated.specs.Sections.{section_of, section_reached}
-use Rattle.board_stated.specs.FaultsAfter.{is_misplaced, is_out_of_order, is_twice, is_not_there, has_bad_parent, has_bad_unlazy, has_bad_mask, has_bad_owner, is_one_too_many, fault_after}
+use Rattle.board_stated.specs.FaultsAfter.{is_misplaced, is_out_of_order, is_twice, is_not_there, has_bad_parent}
+use Rattle.board_stated.specs.FaultsAfter.{has_bad_unlazy, has_bad_mask, has_bad_owner, is_one_too_many, fault_after}
 use Rattle.board_stated.specs.Sound.{IsSound}
 use Rattle.board_stated.specs.Stated.{with_statement, board_of}
 
@@ -66,16 +67,108 @@ none_first : NoneLater 0 (board_of [])
 none_first = record { domains = λ h. refl; lines = λ h. refl; devices = λ h. refl; drivers = λ h. refl; calls = λ h. refl; picks = λ h. refl }
 
 none_more : (s : Statement) (section : ℕ) (b : BoardSeen) → section ≤ section_of s → NoneLater section b → NoneLater (section_of s) (with_statement s b)
-none_more (statements.Board version) section b h n = record { domains = λ i. n.domains (omega arith); lines = λ i. n.lines (omega arith); devices = λ i. n.devices (omega arith); drivers = λ i. n.drivers (omega arith); calls = λ i. n.calls (omega arith); picks = λ i. n.picks (omega arith) }
-none_more (statements.Cpus cpus) section b h n = record { domains = λ i. n.domains (omega arith); lines = λ i. n.lines (omega arith); devices = λ i. n.devices (omega arith); drivers = λ i. n.drivers (omega arith); calls = λ i. n.calls (omega arith); picks = λ i. n.picks (omega arith) }
-none_more (statements.Spurious window limit) section b h n = record { domains = λ i. n.domains (omega arith); lines = λ i. n.lines (omega arith); devices = λ i. n.devices (omega arith); drivers = λ i. n.drivers (omega arith); calls = λ i. n.calls (omega arith); picks = λ i. n.picks (omega arith) }
-none_more (statements.Log log) section b h n = record { domains = λ i. n.domains (omega arith); lines = λ i. n.lines (omega arith); devices = λ i. n.devices (omega arith); drivers = λ i. n.drivers (omega arith); calls = λ i. n.calls (omega arith); picks = λ i. n.picks (omega arith) }
-none_more (statements.Domain d) section b h n = record { domains = λ i. absurd (omega arith); lines = λ i. n.lines (omega arith); devices = λ i. n.devices (omega arith); drivers = λ i. n.drivers (omega arith); calls = λ i. n.calls (omega arith); picks = λ i. n.picks (omega arith) }
-none_more (statements.Line l) section b h n = record { domains = λ i. absurd (omega arith); lines = λ i. absurd (omega arith); devices = λ i. n.devices (omega arith); drivers = λ i. n.drivers (omega arith); calls = λ i. n.calls (omega arith); picks = λ i. n.picks (omega arith) }
-none_more (statements.Device dev line kind) section b h n = record { domains = λ i. absurd (omega arith); lines = λ i. absurd (omega arith); devices = λ i. absurd (omega arith); drivers = λ i. n.drivers (omega arith); calls = λ i. n.calls (omega arith); picks = λ i. n.picks (omega arith) }
-none_more (statements.Driver driver) section b h n = record { domains = λ i. absurd (omega arith); lines = λ i. absurd (omega arith); devices = λ i. absurd (omega arith); drivers = λ i. absurd (omega arith); calls = λ i. absurd (omega arith); picks = λ i. n.picks (omega arith) }
-none_more (statements.Call c) section b h n = record { domains = λ i. absurd (omega arith); lines = λ i. absurd (omega arith); devices = λ i. absurd (omega arith); drivers = λ i. absurd (omega arith); calls = λ i. absurd (omega arith); picks = λ i. n.picks (omega arith) }
-none_more (statements.Picks picks) section b h n = record { domains = λ i. absurd (omega arith); lines = λ i. absurd (omega arith); devices = λ i. absurd (omega arith); drivers = λ i. absurd (omega arith); calls = λ i. absurd (omega arith); picks = λ i. absurd (omega arith) }
+none_more (statements.Board version) section b h n = record {
+  domains = λ i. n.domains (omega arith);
+  lines
+      = λ i. n.lines (omega arith);
+  devices = λ i. n.devices (omega arith);
+  drivers = λ i. n.drivers (omega arith);
+  calls
+      = λ i. n.calls (omega arith);
+  picks = λ i. n.picks (omega arith);
+}
+none_more (statements.Cpus cpus) section b h n = record {
+  domains = λ i. n.domains (omega arith);
+  lines
+      = λ i. n.lines (omega arith);
+  devices = λ i. n.devices (omega arith);
+  drivers = λ i. n.drivers (omega arith);
+  calls
+      = λ i. n.calls (omega arith);
+  picks = λ i. n.picks (omega arith);
+}
+none_more (statements.Spurious window limit) section b h n
+    = record {
+      domains = λ i. n.domains (omega arith);
+      lines = λ i. n.lines (omega arith);
+      devices
+          = λ i. n.devices (omega arith);
+      drivers = λ i. n.drivers (omega arith);
+      calls = λ i. n.calls (omega arith);
+      picks
+          = λ i. n.picks (omega arith);
+    }
+none_more (statements.Log log) section b h n = record {
+  domains = λ i. n.domains (omega arith);
+  lines
+      = λ i. n.lines (omega arith);
+  devices = λ i. n.devices (omega arith);
+  drivers = λ i. n.drivers (omega arith);
+  calls
+      = λ i. n.calls (omega arith);
+  picks = λ i. n.picks (omega arith);
+}
+none_more (statements.Domain d) section b h n = record {
+  domains = λ i. absurd (omega arith);
+  lines
+      = λ i. n.lines (omega arith);
+  devices = λ i. n.devices (omega arith);
+  drivers = λ i. n.drivers (omega arith);
+  calls
+      = λ i. n.calls (omega arith);
+  picks = λ i. n.picks (omega arith);
+}
+none_more (statements.Line l) section b h n = record {
+  domains = λ i. absurd (omega arith);
+  lines
+      = λ i. absurd (omega arith);
+  devices = λ i. n.devices (omega arith);
+  drivers = λ i. n.drivers (omega arith);
+  calls
+      = λ i. n.calls (omega arith);
+  picks = λ i. n.picks (omega arith);
+}
+none_more (statements.Device dev line kind) section b h n
+    = record {
+      domains = λ i. absurd (omega arith);
+      lines = λ i. absurd (omega arith);
+      devices
+          = λ i. absurd (omega arith);
+      drivers = λ i. n.drivers (omega arith);
+      calls = λ i. n.calls (omega arith);
+      picks
+          = λ i. n.picks (omega arith);
+    }
+none_more (statements.Driver driver) section b h n = record {
+  domains = λ i. absurd (omega arith);
+  lines
+      = λ i. absurd (omega arith);
+  devices = λ i. absurd (omega arith);
+  drivers = λ i. absurd (omega arith);
+  calls
+      = λ i. absurd (omega arith);
+  picks = λ i. n.picks (omega arith);
+}
+none_more (statements.Call c) section b h n = record {
+  domains = λ i. absurd (omega arith);
+  lines
+      = λ i. absurd (omega arith);
+  devices = λ i. absurd (omega arith);
+  drivers = λ i. absurd (omega arith);
+  calls
+      = λ i. absurd (omega arith);
+  picks = λ i. n.picks (omega arith);
+}
+none_more (statements.Picks picks) section b h n = record {
+  domains = λ i. absurd (omega arith);
+  lines
+      = λ i. absurd (omega arith);
+  devices = λ i. absurd (omega arith);
+  drivers = λ i. absurd (omega arith);
+  calls
+      = λ i. absurd (omega arith);
+  picks = λ i. absurd (omega arith);
+}
 
 pub none_later : (past : List Statement) → IsSound past → NoneLater (section_reached past) (board_of past)
 none_later [] sound = none_first

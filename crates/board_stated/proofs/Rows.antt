@@ -34,7 +34,9 @@ on_latch lines = text (codes "board 1" ∷ codes "domain a linear 4 latch" ∷ c
 
 -- ---- a board
 
-one_line : board_of_text (text (codes "board 1" ∷ codes "domain intc linear 4 latch" ∷ codes "line 1 intc 2" ∷ codes "device 1 1 direct" ∷ codes "driver 1" ∷ codes "request 1" ∷ codes "ask 1" ∷ codes "free 1" ∷ codes "picks c0*2 d1" ∷ []))
+one_line : board_of_text (text (codes "board 1" ∷ codes "domain intc linear 4 latch" ∷ codes "line 1 intc 2"
+    ∷ codes "device 1 1 direct" ∷ codes "driver 1" ∷ codes "request 1" ∷ codes "ask 1" ∷ codes "free 1"
+    ∷ codes "picks c0*2 d1" ∷ []))
     ≡ Ok (record {
       cpus = 1;
       window = 100000;
@@ -44,7 +46,12 @@ one_line : board_of_text (text (codes "board 1" ∷ codes "domain intc linear 4 
       lines = record { line = record { 0 = 1 }; domain = 0; hw = 2; unlazy = false; later = false; mask = 1 } ∷ [];
       devices = record { dev = record { 0 = 1 }; line = record { 0 = 1 }; kind = kinds.Direct } ∷ [];
       drivers = record { 0 = 1 } ∷ [];
-      calls = record { driver = record { 0 = 1 }; line = record { 0 = 1 }; call = calls.Request (record { 0 = 1 }) (record { shared = false; oneshot = false; noauto = false }) }
+      calls = record {
+        driver = record { 0 = 1 };
+        line = record { 0 = 1 };
+        call
+            = calls.Request (record { 0 = 1 }) (record { shared = false; oneshot = false; noauto = false });
+      }
           ∷ record { driver = record { 0 = 1 }; line = record { 0 = 1 }; call = calls.Ask (record { 0 = 1 }) }
           ∷ record { driver = record { 0 = 1 }; line = record { 0 = 1 }; call = calls.Free (record { 0 = 1 }) } ∷ [];
       picks = actors.Cpu (record { 0 = 0 }) ∷ actors.Cpu (record { 0 = 0 }) ∷ actors.Driver (record { 0 = 1 }) ∷ [];
@@ -173,7 +180,9 @@ picks_count_their_times = refl
 
 -- ---- faults of the whole text
 
-refused_lines_count : board_of_text (text (codes "board 1" ∷ codes "log 1000000" ∷ codes "domain a linear 1 latch" ∷ codes "line 1 a 0" ∷ codes "line 2 a 0" ∷ codes "line 3 a 0" ∷ codes "line 4 a 0" ∷ codes "line 5 a 0" ∷ [])) ≡ fault 0 faults.LogTooLarge
+refused_lines_count : board_of_text (text (codes "board 1" ∷ codes "log 1000000" ∷ codes "domain a linear 1 latch"
+    ∷ codes "line 1 a 0" ∷ codes "line 2 a 0" ∷ codes "line 3 a 0" ∷ codes "line 4 a 0" ∷ codes "line 5 a 0" ∷ []))
+    ≡ fault 0 faults.LogTooLarge
 refused_lines_count = refl
 
 -- ---- texts without a fault
@@ -195,7 +204,8 @@ no_third_version = refl
 -- an LPI controller, two lines on it, the second through messages, and a driver; and then these
 -- text lines
 abbrev on_lpi : List (List ℕ) → List ℕ
-on_lpi lines = text (codes "board 2" ∷ codes "domain its tree lpi" ∷ codes "domain m tree msi parent its" ∷ codes "line 1 its 2 unlazy" ∷ codes "line 2 m 2 unlazy" ∷ codes "driver 1" ∷ lines)
+on_lpi lines = text (codes "board 2" ∷ codes "domain its tree lpi" ∷ codes "domain m tree msi parent its"
+    ∷ codes "line 1 its 2 unlazy" ∷ codes "line 2 m 2 unlazy" ∷ codes "driver 1" ∷ lines)
 
 moments : board_of_text (on_lpi (codes "moment 1 0" ∷ codes "moment 2 4294967295" ∷ []))
     ≡ Ok (record {

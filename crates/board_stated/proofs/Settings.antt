@@ -14,7 +14,8 @@ use Rattle.board_stated.proofs.Devices.{devices_kept}
 use Rattle.board_stated.proofs.Lines.{lines_kept}
 use Rattle.board_stated.proofs.Reached.{NoneLater}
 
-pub cpus_kept : (b : BoardSeen) (cpus n : ℕ) → n ≤ 1 → NoneLater n b → IsBoard b → IsWellFormed (statements.Cpus cpus) → IsBoard (with_statement (statements.Cpus cpus) b)
+pub cpus_kept : (b : BoardSeen) (cpus n : ℕ) → n ≤ 1 → NoneLater n b → IsBoard b → IsWellFormed (statements.Cpus cpus)
+    → IsBoard (with_statement (statements.Cpus cpus) b)
 cpus_kept b cpus n early none board fits =
     let next = with_statement (statements.Cpus cpus) b in
     record {
@@ -67,7 +68,8 @@ spurious_kept b window limit n early none board fits =
 
 -- ---- the log limit
 
-log_more : (s : Statement) (b : BoardSeen) → IsWellFormed s → (1 ≤ b.log) × (b.log ≤ 1000000) → (1 ≤ (with_statement s b).log) × ((with_statement s b).log ≤ 1000000)
+log_more : (s : Statement) (b : BoardSeen) → IsWellFormed s → (1 ≤ b.log) × (b.log ≤ 1000000)
+    → (1 ≤ (with_statement s b).log) × ((with_statement s b).log ≤ 1000000)
 log_more (statements.Board version) b fits h = h
 log_more (statements.Cpus cpus) b fits h = h
 log_more (statements.Spurious window limit) b fits h = h
@@ -110,6 +112,14 @@ log_kept b board log entries =
       lines = lines_kept least b refl refl board.lines;
       devices = devices_kept least b refl board.devices;
       drivers = board.drivers;
-      calls = each_weaker (IsCallAfter least) (IsCallAfter b) b.calls (λ earlier e p. record { driver = p.driver; in_order = p.in_order; line = p.line; device = p.device; owner = p.owner }) board.calls;
+      calls = each_weaker (IsCallAfter least) (IsCallAfter b) b.calls
+          (λ earlier e p. record {
+            driver = p.driver;
+            in_order = p.in_order;
+            line = p.line;
+            device = p.device;
+            owner
+                = p.owner;
+          }) board.calls;
       picks = All-weaker (IsActorOf least) (IsActorOf b) (same_actor least b refl refl refl) b.picks board.picks;
     }

@@ -1,11 +1,14 @@
 -- A statement without a fault in itself has its numbers in their ranges, and its name is spelled
 -- right.
-use Rattle.std.proofs.Common.{◌≡◌, ℕ, ◌-◌, ◌≤◌, Bool, true, false, ◌&&◌, cond, Option, Some, None, List, [], ◌∷◌, ◌++◌, codes, drop, nat_lt, nat_le, is_some, refl, arith}
+use Rattle.std.proofs.Common.{◌≡◌, ℕ, ◌-◌, ◌≤◌, Bool, true, false, ◌&&◌, cond, Option, Some, None, List, [], ◌∷◌, ◌++◌}
+use Rattle.std.proofs.Common.{codes, drop, nat_lt, nat_le, is_some, refl, arith}
 use Rattle.std.proofs.lemmas.Bool.{leb-true}
 use Rattle.board_def.specs.Names.{is_name, name_of, name_bytes}
 use Rattle.board_def.proofs.NameBack.{name_back}
 use Rattle.board_words.specs.Faults.{rank, earlier, first_in_order}
-use Rattle.board_words.specs.Forms.{is, number, name, at, full, part_number, mask_number, level_kinds, device_kinds, one_of, spurious_form, parents_form, map_form, line_options, form_after, is_unknown_moment, faults_of, fault_of_words}
+use Rattle.board_words.specs.Forms.{is, number, name, at, full, part_number, mask_number, level_kinds, device_kinds}
+use Rattle.board_words.specs.Forms.{one_of, spurious_form, parents_form, map_form, line_options, form_after}
+use Rattle.board_words.specs.Forms.{is_unknown_moment, faults_of, fault_of_words}
 use Rattle.board_words.specs.Spelling.{value_of, is_decimal}
 use Rattle.board_words.specs.Statements.{number_at, domain_words, domain_of, picks_of, call_of, statement_after, statement_of}
 use Rattle.board_words.specs.declared.faults.FaultKind.{FaultKind}
@@ -56,7 +59,8 @@ name_fits : (word : List ℕ) → name word ≡ [] → is_name (name_bytes (name
 name_fits word h = let spelled = is_spelled (is_name word) h in rw (name_back word spelled) spelled
 
 -- the first word is a number of that range
-first_number : (low high : ℕ) (rest : List (List ℕ) → List FaultKind) (words : List (List ℕ)) → at (number low high) rest words ≡ [] → (low ≤ number_at 0 words) × (number_at 0 words ≤ high)
+first_number : (low high : ℕ) (rest : List (List ℕ) → List FaultKind) (words : List (List ℕ))
+    → at (number low high) rest words ≡ [] → (low ≤ number_at 0 words) × (number_at 0 words ≤ high)
 first_number low high rest [] h = absurd cc
 first_number low high rest (word ∷ words) h = number_fits low high word (both_empty (number low high word) (rest words) h).0
 
@@ -72,8 +76,11 @@ spurious_fits (window ∷ limit ∷ words) h =
     (w.1, omega arith)
 
 by_map : (t u : Bool) (first of : List ℕ) (words : List (List ℕ)) → is_name (name_bytes (name_of first)) ≡ true
-    → cond t (at (number 1 1024) (at (one_of level_kinds) parents_form) words) (cond u (at (one_of level_kinds) parents_form words) (faults.UnknownWord ∷ [])) ≡ []
-    → IsWellFormed (statements.Domain (cond t (domain_of (first ∷ of ∷ words) (maps.Linear (number_at 2 (first ∷ of ∷ words))) (drop 3 (first ∷ of ∷ words))) (domain_of (first ∷ of ∷ words) maps.Tree (drop 2 (first ∷ of ∷ words)))))
+    → cond t (at (number 1 1024) (at (one_of level_kinds) parents_form) words)
+    (cond u (at (one_of level_kinds) parents_form words) (faults.UnknownWord ∷ [])) ≡ []
+    → IsWellFormed (statements.Domain (cond t (domain_of (first ∷ of ∷ words)
+    (maps.Linear (number_at 2 (first ∷ of ∷ words))) (drop 3 (first ∷ of ∷ words)))
+    (domain_of (first ∷ of ∷ words) maps.Tree (drop 2 (first ∷ of ∷ words)))))
 by_map true u first of words spelled h = (spelled, first_number 1 1024 (at (one_of level_kinds) parents_form) words h)
 by_map false u first of words spelled h = (spelled, tt)
 
@@ -86,7 +93,8 @@ domain_fits (word ∷ of ∷ words) h =
 
 -- ---- the statement of a first word is of the form of that word
 
-if_right : (t : Bool) (xs ys : List FaultKind) (s r : Statement) → (xs ≡ [] → IsWellFormed s) → (ys ≡ [] → IsWellFormed r) → cond t xs ys ≡ [] → IsWellFormed (cond t s r)
+if_right : (t : Bool) (xs ys : List FaultKind) (s r : Statement) → (xs ≡ [] → IsWellFormed s)
+    → (ys ≡ [] → IsWellFormed r) → cond t xs ys ≡ [] → IsWellFormed (cond t s r)
 if_right true xs ys s r then otherwise h = then h
 if_right false xs ys s r then otherwise h = otherwise h
 
@@ -98,7 +106,8 @@ after_first : (word : List ℕ) (words : List (List ℕ)) → form_after word wo
 after_first word words =
     if_right (is word (codes "board")) _ _ _ _ (λ h. tt) (if_right (is word (codes "cpus")) _ _ _ _ (first_number 1 32 full words)
     (if_right (is word (codes "spurious")) _ _ _ _ (spurious_fits words) (if_right (is word (codes "log")) _ _ _ _ (first_number 1 1000000 full words)
-    (if_right (is word (codes "domain")) _ _ _ _ (domain_fits words) (if_right (is word (codes "line")) _ _ _ _ (first_number 1 65535 (at name (at mask_number line_options)) words)
+    (if_right (is word (codes "domain")) _ _ _ _ (domain_fits words)
+    (if_right (is word (codes "line")) _ _ _ _ (first_number 1 65535 (at name (at mask_number line_options)) words)
     (if_right (is word (codes "device")) _ _ _ _ (first_number 1 65535 (at part_number (at (one_of device_kinds) full)) words)
     (if_right (is word (codes "driver")) _ _ _ _ (first_number 1 65535 full words)
     (λ h. call_or_picks (is word (codes "picks")) (picks_of words) (call_of word words)))))))))

@@ -1,7 +1,8 @@
 -- The draft of a board is the board but for its log limit, which no statement's fault looks at.
 use Rattle.std.proofs.Common.{◌≡◌, Bool, ◌||◌, List, [], ◌∷◌, refl, ap, ◌∙◌}
 use Rattle.std.specs.List.{list_any}
-use Rattle.board_stated.specs.FaultsAfter.{is_misplaced, is_not_there, names_nothing, picks_nothing, has_bad_parent, has_bad_unlazy, has_bad_mask, is_one_too_many}
+use Rattle.board_stated.specs.FaultsAfter.{is_misplaced, is_not_there, names_nothing, picks_nothing, has_bad_parent}
+use Rattle.board_stated.specs.FaultsAfter.{has_bad_unlazy, has_bad_mask, is_one_too_many}
 use Rattle.board_stated.specs.Sound.{draft_of}
 use Rattle.board_stated.specs.Stated.{board_of, with_statement}
 use Rattle.board_words.specs.declared.statements.CallWords.{CallWords}
@@ -77,7 +78,9 @@ pick_same past (picked.Thread dev) = refl
 pick_same past (picked.Cpu cpu) = refl
 pick_same past (picked.Driver driver) = refl
 
-picks_same : (past : List Statement) (picks : List PickWord) → list_any (λ p. picks_nothing (draft_of past) p.who) picks ≡ list_any (λ p. picks_nothing (board_of past) p.who) picks
+picks_same : (past : List Statement) (picks : List PickWord)
+    → list_any (λ p. picks_nothing (draft_of past) p.who) picks
+    ≡ list_any (λ p. picks_nothing (board_of past) p.who) picks
 picks_same past [] = refl
 picks_same past (p ∷ ps) = both (picks_nothing (draft_of past) p.who) (picks_nothing (board_of past) p.who) _ _ (pick_same past p.who) (picks_same past ps)
   where

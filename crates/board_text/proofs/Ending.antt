@@ -1,5 +1,6 @@
 -- The end of a text.
-use Rattle.std.proofs.Common.{◌≡◌, ℕ, ◌*◌, ◌<◌, ◌≤◌, Bool, true, false, cond, nat_lt, Option, None, Result, Ok, Err, List, length, refl, sym, ap, subst, ◌∙◌, arith}
+use Rattle.std.proofs.Common.{◌≡◌, ℕ, ◌*◌, ◌<◌, ◌≤◌, Bool, true, false, cond, nat_lt, Option, None, Result, Ok, Err}
+use Rattle.std.proofs.Common.{List, length, refl, sym, ap, subst, ◌∙◌, arith}
 use Rattle.std.proofs.lemmas.Bool.Decides.{nat_tests}
 use Rattle.board_def.specs.Rules.{IsBoard}
 use Rattle.board_def.specs.Seen.{BoardSeen}
@@ -30,7 +31,8 @@ within n h = grind (arith, nat_tests)
 entries_of : (past : List Statement) (r : Reader) → Keeps past r → r.log * length r.board.lines ≡ (board_of past).log * length (board_of past).lines
 entries_of past r h = ap (λ n. n * length r.board.lines) h.agrees.log ∙ ap (λ (b : BoardSeen). (board_of past).log * length b.lines) h.agrees.board
 
-pub ends_large : (past : List Statement) (r : Reader) → Keeps past r → 4000000 < r.log * length r.board.lines → board_unless None past ≡ Err (whole faults.LogTooLarge)
+pub ends_large : (past : List Statement) (r : Reader) → Keeps past r → 4000000 < r.log * length r.board.lines
+    → board_unless None past ≡ Err (whole faults.LogTooLarge)
 ends_large past r h more = large _ (board_of past) (whole faults.LogTooLarge) (above _ (subst (λ n. 4000000 < n) (entries_of past r h) more))
 
 -- the board with its log limit
@@ -38,7 +40,8 @@ board_with_log : (past : List Statement) (r : Reader) → Keeps past r → recor
 board_with_log past r h =
     ap (λ (b : BoardSeen). record b { log = r.log }) h.agrees.board ∙ ap (λ n. record (board_of past) { log = n }) h.agrees.log
 
-pub ends_good : (past : List Statement) (r : Reader) (b : BoardSeen) → Keeps past r → r.log * length r.board.lines ≤ 4000000 → b ≡ record r.board { log = r.log } → board_unless None past ≡ Ok b
+pub ends_good : (past : List Statement) (r : Reader) (b : BoardSeen) → Keeps past r
+    → r.log * length r.board.lines ≤ 4000000 → b ≡ record r.board { log = r.log } → board_unless None past ≡ Ok b
 ends_good past r b h few is =
     good _ (board_of past) (whole faults.LogTooLarge) (within _ (subst (λ n. n ≤ 4000000) (entries_of past r h) few))
     ∙ ap (λ (x : BoardSeen). Ok x) (sym (is ∙ board_with_log past r h))
@@ -55,6 +58,8 @@ unless_is : (fault : Option BoardFault) (past : List Statement) → fault ≡ No
 unless_is fault past e = ap (λ f. board_unless f past) e
 
 -- a text whose lines have no fault is what its end says
-pub text_ended : (bytes : List ℕ) → nat_lt longest_text (length bytes) ≡ false → fault_of_lines (text_lines bytes) ≡ None → board_of_text bytes ≡ board_unless None (statements_of bytes)
+pub text_ended : (bytes : List ℕ) → nat_lt longest_text (length bytes) ≡ false
+    → fault_of_lines (text_lines bytes) ≡ None → board_of_text bytes ≡ board_unless None (statements_of bytes)
 text_ended bytes short none =
-    ap (λ b. cond b (Err (whole faults.TooLong)) (board_unless (fault_of_lines (text_lines bytes)) (statements_of bytes))) short ∙ unless_is (fault_of_lines (text_lines bytes)) (statements_of bytes) none
+    ap (λ b. cond b (Err (whole faults.TooLong)) (board_unless (fault_of_lines (text_lines bytes))
+    (statements_of bytes))) short ∙ unless_is (fault_of_lines (text_lines bytes)) (statements_of bytes) none

@@ -14,5 +14,6 @@ item_there (y ∷ ys) zero none within = cc
 item_there (y ∷ ys) (suc i) none within = item_there ys i none (omega arith)
 
 -- past an item that fails the test
-pub any_left : {A : Type 0} (p : A → Bool) (xs : List A) (i : ℕ) (x : A) → slice_get xs i ≡ Some x → p x ≡ false → list_any p (drop i xs) ≡ list_any p (drop (i + 1) xs)
+pub any_left : {A : Type 0} (p : A → Bool) (xs : List A) (i : ℕ) (x : A) → slice_get xs i ≡ Some x → p x ≡ false
+    → list_any p (drop i xs) ≡ list_any p (drop (i + 1) xs)
 any_left p xs i x at fails = rw (left_at xs i x at) (grind arith)

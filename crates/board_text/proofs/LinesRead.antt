@@ -19,7 +19,8 @@ pub none_read : (all : List (List ℕ)) (r : Reader) → Keeps [] r → ReadSoFa
 none_read all r keeps = record { past = []; keeps = keeps; faults = refl; stated = refl; counted = omega arith }
 
 -- one more line without a fault
-pub one_read : (all left : List (List ℕ)) (line : List ℕ) (at : ℕ) (r q : Reader) (h : ReadSoFar all (line ∷ left) at r) → fault_of_line h.past line ≡ None → Keeps (with_line h.past line) q → ReadSoFar all left (at + 1) q
+pub one_read : (all left : List (List ℕ)) (line : List ℕ) (at : ℕ) (r q : Reader) (h : ReadSoFar all (line ∷ left) at r)
+    → fault_of_line h.past line ≡ None → Keeps (with_line h.past line) q → ReadSoFar all left (at + 1) q
 one_read all left line at r q h none keeps = record {
   past = with_line h.past line;
   keeps = keeps;
@@ -29,7 +30,9 @@ one_read all left line at r q h none keeps = record {
 }
 
 -- a line with a fault
-pub fault_read : (all left : List (List ℕ)) (line : List ℕ) (at : ℕ) (r : Reader) (kind : FaultKind) (h : ReadSoFar all (line ∷ left) at r) → fault_of_line h.past line ≡ Some kind → first_fault 1 [] all ≡ Some (record { at = at; kind = kind })
+pub fault_read : (all left : List (List ℕ)) (line : List ℕ) (at : ℕ) (r : Reader) (kind : FaultKind)
+    (h : ReadSoFar all (line ∷ left) at r) → fault_of_line h.past line ≡ Some kind
+    → first_fault 1 [] all ≡ Some (record { at = at; kind = kind })
 fault_read all left line at r kind h some = h.faults ∙ ap (λ o. fault_or at o (first_fault (at + 1) (with_line h.past line) left)) some
 
 -- there are no more lines than bytes
@@ -41,6 +44,8 @@ pub lines_within : (bytes : List ℕ) → length (text_lines bytes) ≤ length b
 lines_within [] = omega arith
 lines_within (b ∷ bs) = by (is_line_feed b) (lines_within bs) (onto_length b (text_lines bs))
   where
-    by : (t : Bool) → length (text_lines bs) ≤ length bs → length (onto_first b (text_lines bs)) ≤ length (text_lines bs) + 1 → length (cond t ([] ∷ text_lines bs) (onto_first b (text_lines bs))) ≤ length (b ∷ bs)
+    by : (t : Bool) → length (text_lines bs) ≤ length bs
+        → length (onto_first b (text_lines bs)) ≤ length (text_lines bs) + 1
+        → length (cond t ([] ∷ text_lines bs) (onto_first b (text_lines bs))) ≤ length (b ∷ bs)
     by true h k = omega arith
     by false h k = omega arith

@@ -14,7 +14,8 @@ use Rattle.board_text.proofs.Drafts.{draft_more, calls_more, log_more}
 pub next_is_board : (r : Reader) (s : Statement) → IsNext r s → IsBoard (drafted s r.board)
 next_is_board r s h = subst IsBoard (draft_more h.past s ∙ ap (drafted s) (sym h.agrees.board)) (draft_is_board (s ∷ h.past) h.sound)
 
-pub agrees_more : (past : List Statement) (r q : Reader) (s : Statement) → Agrees past r → q.board ≡ drafted s r.board → q.log ≡ log_after r.log s → place_of q.section ≡ section_of s → q.stood ≡ stood_after (s ∷ past)
+pub agrees_more : (past : List Statement) (r q : Reader) (s : Statement) → Agrees past r → q.board ≡ drafted s r.board
+    → q.log ≡ log_after r.log s → place_of q.section ≡ section_of s → q.stood ≡ stood_after (s ∷ past)
     → Owns q.owners (with_statement s r.board).calls → Agrees (s ∷ past) q
 agrees_more past r q s h board log section stood owners = record {
   board = board ∙ (ap (drafted s) h.board ∙ sym (draft_more past s));

@@ -22,11 +22,14 @@ step : (d k e : ℕ) (v w : Owner) (rest more : Option Owner) (b : Bool) → (k 
 step d k e v w rest more true at h = grind (arith, nat_tests)
 step d k e v w rest more false at h = grind (arith, nat_tests)
 
-split : (d : DevNo) (b : Bool) (x : DevNo × Owner) (v : Owner) (es more : List (DevNo × Owner)) → owner_in d (cond b ((x.0, v) ∷ es) (x ∷ more)) ≡ cond b (cond (d.0 == x.0.0) (Some v) (owner_in d es)) (cond (d.0 == x.0.0) (Some x.1) (owner_in d more))
+split : (d : DevNo) (b : Bool) (x : DevNo × Owner) (v : Owner) (es more : List (DevNo × Owner))
+    → owner_in d (cond b ((x.0, v) ∷ es) (x ∷ more)) ≡ cond b (cond (d.0 == x.0.0) (Some v) (owner_in d es))
+    (cond (d.0 == x.0.0) (Some x.1) (owner_in d more))
 split d true x v es more = refl
 split d false x v es more = refl
 
-pub owner_inserted : (d k : DevNo) (v : Owner) (es : List (DevNo × Owner)) → owner_in d (insert_entry same_dev es k v) ≡ cond (same_dev d k) (Some v) (owner_in d es)
+pub owner_inserted : (d k : DevNo) (v : Owner) (es : List (DevNo × Owner))
+    → owner_in d (insert_entry same_dev es k v) ≡ cond (same_dev d k) (Some v) (owner_in d es)
 owner_inserted d k v [] = refl
 owner_inserted d k v (x ∷ es) =
     split d (same_dev k x.0) x v es (insert_entry same_dev es k v)
@@ -37,7 +40,8 @@ or_call (Some c) other = Some c
 or_call None other = other
 
 -- the first request or free, with one call more
-first_more : (d : DevNo) (calls : List ScriptCall) (c : ScriptCall) → first_owning d (calls ++ c ∷ []) ≡ or_call (first_owning d calls) (cond (is_owning d c) (Some c) None)
+first_more : (d : DevNo) (calls : List ScriptCall) (c : ScriptCall)
+    → first_owning d (calls ++ c ∷ []) ≡ or_call (first_owning d calls) (cond (is_owning d c) (Some c) None)
 first_more d [] c = refl
 first_more d (x ∷ xs) c = by (is_owning d x) (first_more d xs c)
   where
@@ -47,7 +51,8 @@ first_more d (x ∷ xs) c = by (is_owning d x) (first_more d xs c)
     by false h = h
 
 -- the last one, with one call more
-last_more : (d : DevNo) (calls : List ScriptCall) (c : ScriptCall) → first_owning d (reverse (calls ++ c ∷ [])) ≡ cond (is_owning d c) (Some c) (first_owning d (reverse calls))
+last_more : (d : DevNo) (calls : List ScriptCall) (c : ScriptCall)
+    → first_owning d (reverse (calls ++ c ∷ [])) ≡ cond (is_owning d c) (Some c) (first_owning d (reverse calls))
 last_more d calls c = ap (first_owning d) (reverse-append calls (c ∷ []))
 
 same_number : (d k : DevNo) → (d.0 == k.0) ≡ true → d ≡ k
@@ -63,10 +68,13 @@ kept_driver None None c requested h = refl
 -- what Owns says of one device
 abbrev Owned : DevNo → List (DevNo × Owner) → List ScriptCall → Type 0
 Owned d owners calls =
-    (option_map (λ o. o.driver) (owner_in d owners) ≡ option_map (λ c. c.driver) (first_owning d calls)) × (is_requested (owner_in d owners) ≡ is_a_request d (first_owning d (reverse calls)))
+    (option_map (λ o. o.driver) (owner_in d owners) ≡ option_map (λ c. c.driver) (first_owning d calls))
+    × (is_requested (owner_in d owners) ≡ is_a_request d (first_owning d (reverse calls)))
 
 -- a call that is no request or free of the device
-other : (d : DevNo) (owners more : List (DevNo × Owner)) (calls : List ScriptCall) (c : ScriptCall) → owner_in d more ≡ owner_in d owners → is_owning d c ≡ false → Owned d owners calls → Owned d more (calls ++ c ∷ [])
+other : (d : DevNo) (owners more : List (DevNo × Owner)) (calls : List ScriptCall) (c : ScriptCall)
+    → owner_in d more ≡ owner_in d owners → is_owning d c ≡ false → Owned d owners calls
+    → Owned d more (calls ++ c ∷ [])
 other d owners more calls c e apart h =
     let first : first_owning d (calls ++ c ∷ []) ≡ first_owning d calls = first_more d calls c ∙ rw apart (same (first_owning d calls)) in
     let last : first_owning d (reverse (calls ++ c ∷ [])) ≡ first_owning d (reverse calls) = rw apart at (last_more d calls c) in
@@ -78,11 +86,13 @@ other d owners more calls c e apart h =
 
 -- a request or a free of the device
 own : (d : DevNo) (owners more : List (DevNo × Owner)) (calls : List ScriptCall) (c : ScriptCall) (requested : Bool)
-    → owner_in d more ≡ Some (owner_noted (owner_in d owners) c.driver requested) → is_owning d c ≡ true → requests_dev d c.call ≡ requested → Owned d owners calls → Owned d more (calls ++ c ∷ [])
+    → owner_in d more ≡ Some (owner_noted (owner_in d owners) c.driver requested) → is_owning d c ≡ true
+    → requests_dev d c.call ≡ requested → Owned d owners calls → Owned d more (calls ++ c ∷ [])
 own d owners more calls c requested e owns asks h =
     let first : first_owning d (calls ++ c ∷ []) ≡ or_call (first_owning d calls) (Some c) = rw owns at (first_more d calls c) in
     let last : first_owning d (reverse (calls ++ c ∷ [])) ≡ Some c = rw owns at (last_more d calls c) in (
-      ap (option_map (λ o. o.driver)) e ∙ (kept_driver (owner_in d owners) (first_owning d calls) c requested h.0 ∙ sym (ap (option_map (λ c. c.driver)) first)),
+      ap (option_map (λ o. o.driver)) e ∙ (kept_driver (owner_in d owners) (first_owning d calls) c requested h.0
+          ∙ sym (ap (option_map (λ c. c.driver)) first)),
       ap is_requested e ∙ (requested_noted (owner_in d owners) c.driver requested ∙ (sym asks ∙ sym (ap (is_a_request d) last))),
     )
   where
@@ -95,16 +105,19 @@ pub noted : (owners : List (DevNo × Owner)) (calls : List ScriptCall) (c : Scri
     → Owns (insert_entry same_dev owners k (owner_noted (owner_in k owners) c.driver requested)) (calls ++ c ∷ [])
 noted owners calls c k requested owning asking h = λ d. by d (same_dev d k) refl
   where
-    by : (d : DevNo) (b : Bool) → same_dev d k ≡ b → Owned d (insert_entry same_dev owners k (owner_noted (owner_in k owners) c.driver requested)) (calls ++ c ∷ [])
+    by : (d : DevNo) (b : Bool) → same_dev d k ≡ b → Owned d
+        (insert_entry same_dev owners k (owner_noted (owner_in k owners) c.driver requested)) (calls ++ c ∷ [])
     by d false e = other d owners (insert_entry same_dev owners k (owner_noted (owner_in k owners) c.driver requested)) calls c
         (rw e at (owner_inserted d k (owner_noted (owner_in k owners) c.driver requested) owners)) (owning d ∙ e) (h d)
     by d true e =
         let is : d ≡ k = same_number d k e in
         own d owners (insert_entry same_dev owners k (owner_noted (owner_in k owners) c.driver requested)) calls c requested
-        (rw e at (owner_inserted d k (owner_noted (owner_in k owners) c.driver requested) owners) ∙ ap (λ x. Some (owner_noted (owner_in x owners) c.driver requested)) (sym is))
+        (rw e at (owner_inserted d k (owner_noted (owner_in k owners) c.driver requested) owners)
+        ∙ ap (λ x. Some (owner_noted (owner_in x owners) c.driver requested)) (sym is))
         (owning d ∙ e) (rw e at (asking d)) (h d)
 
-pub unnoted : (owners : List (DevNo × Owner)) (calls : List ScriptCall) (c : ScriptCall) → ((d : DevNo) → is_owning d c ≡ false) → Owns owners calls → Owns owners (calls ++ c ∷ [])
+pub unnoted : (owners : List (DevNo × Owner)) (calls : List ScriptCall) (c : ScriptCall)
+    → ((d : DevNo) → is_owning d c ≡ false) → Owns owners calls → Owns owners (calls ++ c ∷ [])
 unnoted owners calls c none h = λ d. other d owners owners calls c refl (none d) (h d)
 
 or_neither : (b : Bool) → (b || false) ≡ b
@@ -121,7 +134,8 @@ and_not false = refl
 
 pub request_noted : (owners more : List (DevNo × Owner)) (calls : List ScriptCall) (c : ScriptCall) (k : DevNo) (flags : Flags) → c.call ≡ kinds.Request k flags
     → more ≡ insert_entry same_dev owners k (owner_noted (owner_in k owners) c.driver true) → Owns owners calls → Owns more (calls ++ c ∷ [])
-request_noted owners more calls c k flags is now h = rw now (noted owners calls c k true (λ d. rw is (or_neither (same_dev d k))) (λ d. rw is (and_so (same_dev d k))) h)
+request_noted owners more calls c k flags is now h = rw now
+    (noted owners calls c k true (λ d. rw is (or_neither (same_dev d k))) (λ d. rw is (and_so (same_dev d k))) h)
 
 pub free_noted : (owners more : List (DevNo × Owner)) (calls : List ScriptCall) (c : ScriptCall) (k : DevNo) → c.call ≡ kinds.Free k
     → more ≡ insert_entry same_dev owners k (owner_noted (owner_in k owners) c.driver false) → Owns owners calls → Owns more (calls ++ c ∷ [])
@@ -130,7 +144,8 @@ free_noted owners more calls c k is now h = rw now (noted owners calls c k false
 abbrev owns : DevNo → Call → Bool
 owns d call = requests_dev d call || frees_dev d call
 
-pub other_noted : (owners : List (DevNo × Owner)) (calls : List ScriptCall) (c : ScriptCall) → ((k : DevNo) (flags : Flags) → c.call ≡ kinds.Request k flags → ⊥) → ((k : DevNo) → c.call ≡ kinds.Free k → ⊥)
+pub other_noted : (owners : List (DevNo × Owner)) (calls : List ScriptCall) (c : ScriptCall)
+    → ((k : DevNo) (flags : Flags) → c.call ≡ kinds.Request k flags → ⊥) → ((k : DevNo) → c.call ≡ kinds.Free k → ⊥)
     → Owns owners calls → Owns owners (calls ++ c ∷ [])
 other_noted owners calls c request free h = unnoted owners calls c (λ d. by d c.call refl) h
   where

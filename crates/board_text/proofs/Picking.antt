@@ -43,15 +43,18 @@ fewer_picks b xs ys h = record {
   devices = λ i device at. let r = h.devices i device at in record { number = r.number; rises = r.rises; line = r.line };
   drivers = h.drivers;
   calls = λ i call at. let r = h.calls i call at in record { driver = r.driver; in_order = r.in_order; line = r.line; device = r.device; owner = r.owner };
-  picks = All-weaker (IsActorOf (with_picks b (xs ++ ys))) (IsActorOf (with_picks b xs)) (actor_of b xs (xs ++ ys)) xs (all_before (IsActorOf (with_picks b (xs ++ ys))) xs ys h.picks);
+  picks = All-weaker (IsActorOf (with_picks b (xs ++ ys))) (IsActorOf (with_picks b xs)) (actor_of b xs (xs ++ ys)) xs
+      (all_before (IsActorOf (with_picks b (xs ++ ys))) xs ys h.picks);
 }
 
 -- one of n picks of an actor, after i others
-pub one_pick : (b c : BoardSeen) (a : Actor) (i n : ℕ) → i < n → c ≡ with_picks b (b.picks ++ replicate i a) → IsBoard (with_picks b (b.picks ++ replicate n a)) → IsBoard (with_picks c (c.picks ++ a ∷ []))
+pub one_pick : (b c : BoardSeen) (a : Actor) (i n : ℕ) → i < n → c ≡ with_picks b (b.picks ++ replicate i a)
+    → IsBoard (with_picks b (b.picks ++ replicate n a)) → IsBoard (with_picks c (c.picks ++ a ∷ []))
 one_pick b c a i n within is h =
     let count : (i + 1) + (n - (i + 1)) ≡ n = omega arith in
     let parts : replicate n a ≡ (replicate i a ++ a ∷ []) ++ replicate (n - (i + 1)) a =
-    ap (λ k. replicate k a) (sym count) ∙ (sym (replicate-append-replicate (i + 1) (n - (i + 1)) a) ∙ ap (λ xs. xs ++ replicate (n - (i + 1)) a) (sym (replicate_more i a))) in
+    ap (λ k. replicate k a) (sym count) ∙ (sym (replicate-append-replicate (i + 1) (n - (i + 1)) a)
+    ∙ ap (λ xs. xs ++ replicate (n - (i + 1)) a) (sym (replicate_more i a))) in
     let whole : b.picks ++ replicate n a ≡ ((b.picks ++ replicate i a) ++ a ∷ []) ++ replicate (n - (i + 1)) a =
     ap (λ xs. b.picks ++ xs) parts ∙ simp append_assoc in
     let fewer = fewer_picks b ((b.picks ++ replicate i a) ++ a ∷ []) (replicate (n - (i + 1)) a) (subst (λ xs. IsBoard (with_picks b xs)) whole h) in
@@ -66,7 +69,8 @@ word_of_picks b c a picks i p at same left is h =
     let actor : a ≡ actor_picked b.devices p.who = is ∙ ap (λ ds. actor_picked ds p.who) devices in
     let rest = flat_map (actors_picked b.devices) (drop (i + 1) picks) in
     let whole : (c.picks ++ replicate p.times (actor_picked b.devices p.who)) ++ rest ≡ b.picks ++ flat_map (actors_picked b.devices) picks =
-    append_assoc c.picks (replicate p.times (actor_picked b.devices p.who)) rest ∙ (ap (λ xs. c.picks ++ flat_map (actors_picked b.devices) xs) (sym (left_at picks i p at)) ∙ left) in
+    append_assoc c.picks (replicate p.times (actor_picked b.devices p.who)) rest
+    ∙ (ap (λ xs. c.picks ++ flat_map (actors_picked b.devices) xs) (sym (left_at picks i p at)) ∙ left) in
     let fewer = fewer_picks b (c.picks ++ replicate p.times (actor_picked b.devices p.who)) rest (subst (λ xs. IsBoard (with_picks b xs)) (sym whole) h) in
     rw actor (subst (λ (x : BoardSeen). IsBoard (with_picks x (c.picks ++ replicate p.times (actor_picked b.devices p.who)))) (sym same) fewer)
 
@@ -79,7 +83,9 @@ picks_so_far b c d a picks i p at same left is now =
     let devices : c.devices ≡ b.devices = ap (λ (x : BoardSeen). x.devices) same in
     let actor : a ≡ actor_picked b.devices p.who = is ∙ ap (λ ds. actor_picked ds p.who) devices in
     let rest = flat_map (actors_picked b.devices) (drop (i + 1) picks) in
-    let picks_now : d.picks ≡ c.picks ++ replicate p.times (actor_picked b.devices p.who) = ap (λ (x : BoardSeen). x.picks) now ∙ ap (λ x. c.picks ++ replicate p.times x) actor in (
+    let picks_now : d.picks ≡ c.picks ++ replicate p.times (actor_picked b.devices p.who)
+    = ap (λ (x : BoardSeen). x.picks) now ∙ ap (λ x. c.picks ++ replicate p.times x) actor in (
       now ∙ (ap (λ (x : BoardSeen). with_picks x (c.picks ++ replicate p.times a)) same ∙ ap (with_picks b) (sym (ap (λ (x : BoardSeen). x.picks) now))),
-      ap (λ xs. xs ++ rest) picks_now ∙ (append_assoc c.picks (replicate p.times (actor_picked b.devices p.who)) rest ∙ (ap (λ xs. c.picks ++ flat_map (actors_picked b.devices) xs) (sym (left_at picks i p at)) ∙ left)),
+      ap (λ xs. xs ++ rest) picks_now ∙ (append_assoc c.picks (replicate p.times (actor_picked b.devices p.who)) rest
+          ∙ (ap (λ xs. c.picks ++ flat_map (actors_picked b.devices) xs) (sym (left_at picks i p at)) ∙ left)),
     )

@@ -29,25 +29,33 @@ told : (bad none lacks : Bool) (own after kind : Option FaultKind) → bad ≡ f
 told bad none lacks own after kind e f g h is = rw (e, f, g, h) (sym is)
 
 -- the fault of a line whose words have none in themselves
-pub line_told : (past : List Statement) (line : List ℕ) (words : List (List ℕ)) (s : Statement) (kind : Option FaultKind) → words ≡ words_of line → has_bad_byte line ≡ false → are_none words ≡ false
-    → (is_empty past && not (begins_with_board words)) ≡ false → fault_of_words (has_moments past) words ≡ None → s ≡ statement_of words → kind ≡ fault_after past s → fault_of_line past line ≡ kind
+pub line_told : (past : List Statement) (line : List ℕ) (words : List (List ℕ)) (s : Statement)
+    (kind : Option FaultKind) → words ≡ words_of line → has_bad_byte line ≡ false → are_none words ≡ false
+    → (is_empty past && not (begins_with_board words)) ≡ false → fault_of_words (has_moments past) words ≡ None
+    → s ≡ statement_of words → kind ≡ fault_after past s → fault_of_line past line ≡ kind
 line_told past line words s kind e bad none lacks own is after =
     let there : is_empty words ≡ false = rw (none_same words) none in
     let at_end : kind ≡ fault_after past (statement_of words) = subst (λ s. kind ≡ fault_after past s) is after in
     let P : List (List ℕ) → Type 0 = λ ws. cond (has_bad_byte line) (Some faults.BadByte) (cond (is_empty ws) None (fault_of_statement past ws)) ≡ kind in
-    subst P e (told (has_bad_byte line) (is_empty words) (is_empty past && not (begins_with_board words)) (fault_of_words (has_moments past) words) (fault_after past (statement_of words)) kind bad there lacks own at_end)
+    subst P e (told (has_bad_byte line) (is_empty words) (is_empty past && not (begins_with_board words))
+    (fault_of_words (has_moments past) words) (fault_after past (statement_of words)) kind bad there lacks own
+    at_end)
 
 -- the statements after it
-pub line_added : (past : List Statement) (line : List ℕ) (words : List (List ℕ)) (s : Statement) → words ≡ words_of line → are_none words ≡ false → s ≡ statement_of words → with_line past line ≡ s ∷ past
+pub line_added : (past : List Statement) (line : List ℕ) (words : List (List ℕ)) (s : Statement) → words ≡ words_of line
+    → are_none words ≡ false → s ≡ statement_of words → with_line past line ≡ s ∷ past
 line_added past line words s e none is =
     let there : is_empty words ≡ false = rw (none_same words) none in
     let P : List (List ℕ) → Type 0 = λ ws. cond (is_empty ws) past (statement_of ws ∷ past) ≡ s ∷ past in
     subst P e (rw (there, is) refl)
 
 -- they have no fault
-pub sound_next : (past : List Statement) (words : List (List ℕ)) (s : Statement) → IsSound past → fault_of_words (has_moments past) words ≡ None → s ≡ statement_of words → None ≡ fault_after past s → IsSound (s ∷ past)
+pub sound_next : (past : List Statement) (words : List (List ℕ)) (s : Statement) → IsSound past
+    → fault_of_words (has_moments past) words ≡ None → s ≡ statement_of words → None ≡ fault_after past s
+    → IsSound (s ∷ past)
 sound_next past words s sound own is after = (sound, subst IsWellFormed (sym is) (statement_is_well_formed (has_moments past) words own), sym after)
 
 -- the version that the reader keeps is the text's
-pub own_fault : (past : List Statement) (r : Reader) (words : List (List ℕ)) (o : Option FaultKind) → Agrees past r → fault_of_words r.stood.moments words ≡ o → fault_of_words (has_moments past) words ≡ o
+pub own_fault : (past : List Statement) (r : Reader) (words : List (List ℕ)) (o : Option FaultKind) → Agrees past r
+    → fault_of_words r.stood.moments words ≡ o → fault_of_words (has_moments past) words ≡ o
 own_fault past r words o h is = subst (λ (m : Bool). fault_of_words m words ≡ o) (ap (λ (s : Stood). s.moments) h.stood) is

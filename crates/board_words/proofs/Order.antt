@@ -1,5 +1,6 @@
 -- The first of several faults, place by place.
-use Rattle.std.proofs.Common.{◌≡◌, ℕ, zero, suc, Bool, true, false, cond, ltb, List, [], ◌∷◌, ◌++◌, drop, get_or, length, ◌<◌, Option, Some, None, Ok, Err, refl, sym, ap, ◌∙◌, arith}
+use Rattle.std.proofs.Common.{◌≡◌, ℕ, zero, suc, Bool, true, false, cond, ltb, List, [], ◌∷◌, ◌++◌, drop, get_or}
+use Rattle.std.proofs.Common.{length, ◌<◌, Option, Some, None, Ok, Err, refl, sym, ap, ◌∙◌, arith}
 use Rattle.std.proofs.lemmas.Bool.Decides.{nat_tests}
 use Rattle.board_def.specs.Names.{name_of}
 use Rattle.board_def.specs.declared.names.Name.{Name}
@@ -45,7 +46,8 @@ EndsWell [] = Unit {0}
 EndsWell (k ∷ []) = k ≡ faults.WrongCount
 EndsWell (k ∷ j ∷ ks) = ⊥
 
-ended : (f : Option FaultKind) (ks : List FaultKind) → EndsWell ks → both f (Some faults.WrongCount) ≡ both (both f (Some faults.WrongCount)) (first_in_order ks)
+ended : (f : Option FaultKind) (ks : List FaultKind) → EndsWell ks
+    → both f (Some faults.WrongCount) ≡ both (both f (Some faults.WrongCount)) (first_in_order ks)
 ended f [] h = sym (both_none (both f (Some faults.WrongCount)))
 ended f (k ∷ []) h =
     sym (both_assoc f (Some faults.WrongCount) (Some faults.WrongCount)) ∙ ap (λ j. both (both f (Some faults.WrongCount)) (Some j)) (sym h)
@@ -76,14 +78,18 @@ left_none (Some k) (Some j) h = kept (ltb (rank j) (rank k)) j k h where
 pub none_before : {place : List ℕ → List FaultKind} {old new : Places} → Takes place old new → new.found ≡ None → old.found ≡ None
 none_before {place} {old} {new} takes none = left_none old.found (fault_at place (words_left old.words)) (sym takes.found ∙ none)
 
-pub none_before_all : (old : Places) (form : List (List ℕ) → List FaultKind) (found : Option FaultKind) → found ≡ in_all old form → found ≡ None → old.found ≡ None
+pub none_before_all : (old : Places) (form : List (List ℕ) → List FaultKind) (found : Option FaultKind)
+    → found ≡ in_all old form → found ≡ None → old.found ≡ None
 none_before_all old form found is none = left_none old.found (first_in_order (form (words_left old.words))) (sym is ∙ none)
 
 -- the outcome of a whole form
 pub whole : {A : Type 0} (form : List (List ℕ) → List FaultKind) (begun : Places) (words : List (List ℕ)) (found : Option FaultKind) (v w : A)
-    → begun.found ≡ None → words_left begun.words ≡ words → in_all begun form ≡ found → (found ≡ None → v ≡ w) → outcome found v ≡ outcome (first_in_order (form words)) w
+    → begun.found ≡ None → words_left begun.words ≡ words → in_all begun form ≡ found → (found ≡ None → v ≡ w)
+    → outcome found v ≡ outcome (first_in_order (form words)) w
 whole form begun words found v w none is all same =
-    same_value found v w same ∙ ap (λ f. outcome f w) (sym all ∙ ap (λ f. both f (first_in_order (form (words_left begun.words)))) none ∙ ap (λ ws. first_in_order (form ws)) is) where
+    same_value found v w same ∙ ap (λ f. outcome f w) (sym all
+    ∙ ap (λ f. both f (first_in_order (form (words_left begun.words)))) none
+    ∙ ap (λ ws. first_in_order (form ws)) is) where
       same_value : {A : Type 0} (found : Option FaultKind) (v w : A) → (found ≡ None → v ≡ w) → outcome found v ≡ outcome found w
       same_value None v w same = ap (λ x. Ok x) (same refl)
       same_value (Some kind) v w same = refl
@@ -103,7 +109,8 @@ drop_next (suc i) [] = refl
 drop_next (suc i) (word ∷ words) = drop_next i words
 
 -- how many words are taken
-pub left : {place : List ℕ → List FaultKind} {old new : Places} (i : ℕ) (words : List (List ℕ)) → Takes place old new → words_left old.words ≡ drop i words → words_left new.words ≡ drop (suc i) words
+pub left : {place : List ℕ → List FaultKind} {old new : Places} (i : ℕ) (words : List (List ℕ)) → Takes place old new
+    → words_left old.words ≡ drop i words → words_left new.words ≡ drop (suc i) words
 left i words takes e = takes.words ∙ ap (drop 1) e ∙ drop_next i words
 
 front_of : (i : ℕ) (words : List (List ℕ)) → get_or (drop i words) 0 [] ≡ get_or words i []

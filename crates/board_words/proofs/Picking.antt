@@ -22,7 +22,8 @@ after_bad (word ∷ words) =
     ∙ ap (λ f. both f (first_in_order (flat_map pick words))) (absorbed (is_some (pick_of word)))
     ∙ after_bad words
 
-bad_first : (words rest : List (List ℕ)) (word : List ℕ) → words ≡ word ∷ rest → None ≡ pick_of word → first_in_order (flat_map pick words) ≡ Some faults.BadName
+bad_first : (words rest : List (List ℕ)) (word : List ℕ) → words ≡ word ∷ rest → None ≡ pick_of word
+    → first_in_order (flat_map pick words) ≡ Some faults.BadName
 bad_first words rest word e none =
     ap (λ ws. first_in_order (flat_map pick ws)) e
     ∙ ap (λ o. first_in_order (cond (is_some o) [] (faults.BadName ∷ []) ++ flat_map pick rest)) (sym none)

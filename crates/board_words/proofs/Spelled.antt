@@ -1,5 +1,6 @@
 -- How numbers and picks are spelled, place by place.
-use Rattle.std.proofs.Common.{◌≡◌, ℕ, suc, ◌+◌, ◌-◌, ◌*◌, ◌<◌, ◌≤◌, Bool, true, false, not, cond, ltb, leb, List, [], ◌∷◌, length, take, drop, get_or, Some, None, refl, sym, ap, ◌∙◌, arith}
+use Rattle.std.proofs.Common.{◌≡◌, ℕ, suc, ◌+◌, ◌-◌, ◌*◌, ◌<◌, ◌≤◌, Bool, true, false, not, cond, ltb, leb, List, []}
+use Rattle.std.proofs.Common.{◌∷◌, length, take, drop, get_or, Some, None, refl, sym, ap, ◌∙◌, arith}
 use Rattle.std.specs.List.{position, position_or_len}
 use Rattle.std.proofs.lemmas.Bool.{lt-leb, le-leb}
 use Rattle.std.proofs.lemmas.Bool.Decides.{nat_tests}
@@ -11,16 +12,20 @@ pub grows : (n : ℕ) (bs : List ℕ) → n ≤ value_after n bs
 grows n [] = omega arith
 grows n (b ∷ bs) = let more = grows (10 * n + (b - 48)) bs in omega (arith, more)
 
-pub value_more : (digits : List ℕ) (i v : ℕ) → i < length digits → value_after v (drop i digits) ≡ value_after (10 * v + (get_or digits i 0 - 48)) (drop (i + 1) digits)
+pub value_more : (digits : List ℕ) (i v : ℕ) → i < length digits
+    → value_after v (drop i digits) ≡ value_after (10 * v + (get_or digits i 0 - 48)) (drop (i + 1) digits)
 value_more digits i v less = at_drop_more (value_after v) digits i 0 less
 
-pub too_large : (digits : List ℕ) (i v high : ℕ) → high < v → value_after v (drop i digits) ≡ value_of digits → None ≡ cond (leb (value_of digits) high) (Some (value_of digits)) None
+pub too_large : (digits : List ℕ) (i v high : ℕ) → high < v → value_after v (drop i digits) ≡ value_of digits
+    → None ≡ cond (leb (value_of digits) high) (Some (value_of digits)) None
 too_large digits i v high more is =
     let grown = grows v (drop i digits) in
     let above : high < value_of digits = omega (arith, grown, is) in
     rw (lt-leb (value_of digits) high above) refl
 
-pub whole : (digits : List ℕ) (i v high : ℕ) → length digits ≤ i → v ≤ high → value_after v (drop i digits) ≡ value_of digits → Some v ≡ cond (leb (value_of digits) high) (Some (value_of digits)) None
+pub whole : (digits : List ℕ) (i v high : ℕ) → length digits ≤ i → v ≤ high
+    → value_after v (drop i digits) ≡ value_of digits → Some v
+    ≡ cond (leb (value_of digits) high) (Some (value_of digits)) None
 whole digits i v high past small is =
     let same : v ≡ value_of digits = sym (at_drop_all (value_after v) digits i past) ∙ is in
     let below : value_of digits ≤ high = omega (arith, same) in
@@ -44,9 +49,11 @@ after_if false b bs n known =
     let e : 1 + n ≡ suc n = omega arith in
     let f : 1 + n + 1 ≡ suc (n + 1) = omega arith in
     let g : ltb (1 + n) (length (b ∷ bs)) ≡ ltb n (length bs) = grind (arith, nat_tests) in
-    known ∙ ap (λ (d : List ℕ). cond (ltb n (length bs)) (Some d) None) (sym (ap (λ m. drop m (b ∷ bs)) f)) ∙ ap (λ t. cond t (Some (drop (1 + n + 1) (b ∷ bs))) None) (sym g)
+    known ∙ ap (λ (d : List ℕ). cond (ltb n (length bs)) (Some d) None) (sym (ap (λ m. drop m (b ∷ bs)) f))
+    ∙ ap (λ t. cond t (Some (drop (1 + n + 1) (b ∷ bs))) None) (sym g)
 
-pub after_star_is : (word : List ℕ) → after_star word ≡ cond (ltb (position_or_len is_star word) (length word)) (Some (drop (position_or_len is_star word + 1) word)) None
+pub after_star_is : (word : List ℕ) → after_star word ≡ cond (ltb (position_or_len is_star word) (length word))
+    (Some (drop (position_or_len is_star word + 1) word)) None
 after_star_is [] = refl
 after_star_is (b ∷ bs) = after_if (is_star b) b bs (position_or_len is_star bs) (after_star_is bs)
 

@@ -17,7 +17,9 @@ absorbed : (t : Bool) → both (Some faults.BadNumber) (first_in_order (cond t [
 absorbed true = refl
 absorbed false = refl
 
-after_bad : (low high : ℕ) (words : List (List ℕ)) → both (Some faults.BadNumber) (first_in_order (at (number low high) full words)) ≡ both (Some faults.BadNumber) (first_in_order (at (λ w. []) full words))
+after_bad : (low high : ℕ) (words : List (List ℕ)) → both (Some faults.BadNumber)
+    (first_in_order (at (number low high) full words))
+    ≡ both (Some faults.BadNumber) (first_in_order (at (λ w. []) full words))
 after_bad low high [] = refl
 after_bad low high (word ∷ words) =
     both_append (Some faults.BadNumber) (number low high word) (full words)
@@ -31,16 +33,19 @@ spurious_is [] = refl
 spurious_is (word ∷ words) = refl
 
 -- the limit's range matters only if the window is well
-limit_if : (t : Bool) (found : Option FaultKind) (words : List (List ℕ)) (a b : ℕ) → found ≡ first_in_order (cond t [] (faults.BadNumber ∷ [])) → (found ≡ None → a ≡ b)
+limit_if : (t : Bool) (found : Option FaultKind) (words : List (List ℕ)) (a b : ℕ)
+    → found ≡ first_in_order (cond t [] (faults.BadNumber ∷ [])) → (found ≡ None → a ≡ b)
     → both found (first_in_order (limit_form b words)) ≡ both found (first_in_order (limit_form a words))
 limit_if true found words a b is same = ap (λ n. both found (first_in_order (limit_form n words))) (sym (same is))
 limit_if false found words a b is same =
     ap (λ f. both f (first_in_order (limit_form b words))) is ∙ after_bad 0 (b - 1) words ∙ sym (after_bad 0 (a - 1) words)
     ∙ ap (λ f. both f (first_in_order (limit_form a words))) (sym is)
 
-limit_at : (found : Option FaultKind) (words rest : List (List ℕ)) (a b : ℕ) → found ≡ fault_at (number 1 1000000) words → rest ≡ drop 1 words → (found ≡ None → a ≡ b)
+limit_at : (found : Option FaultKind) (words rest : List (List ℕ)) (a b : ℕ) → found ≡ fault_at (number 1 1000000) words
+    → rest ≡ drop 1 words → (found ≡ None → a ≡ b)
     → both found (first_in_order (limit_form b rest)) ≡ both found (first_in_order (limit_form a rest))
-limit_at found [] rest a b is e same = ap (λ ws. both found (first_in_order (limit_form b ws))) e ∙ sym (ap (λ ws. both found (first_in_order (limit_form a ws))) e)
+limit_at found [] rest a b is e same = ap (λ ws. both found (first_in_order (limit_form b ws))) e
+    ∙ sym (ap (λ ws. both found (first_in_order (limit_form a ws))) e)
 limit_at found (word ∷ words) rest a b is e same = limit_if (is_some (number_between 1 1000000 word)) found rest a b is same
 
 pub spurious_taken : {begun mid new : Places} (window : ℕ) → Takes (number 1 1000000) begun mid → Takes (number 0 (window - 1)) mid new → begun.found ≡ None

@@ -1,5 +1,6 @@
 -- How a text falls into text lines, and a text line into words.
-use Rattle.std.proofs.Common.{◌≡◌, ℕ, suc, ◌+◌, ◌<◌, ◌≤◌, Bool, true, false, not, cond, ◌||◌, List, [], ◌∷◌, length, take, drop, Some, None, refl, sym, ap, ◌∙◌, subst, arith}
+use Rattle.std.proofs.Common.{◌≡◌, ℕ, suc, ◌+◌, ◌<◌, ◌≤◌, Bool, true, false, not, cond, ◌||◌, List, [], ◌∷◌, length}
+use Rattle.std.proofs.Common.{take, drop, Some, None, refl, sym, ap, ◌∙◌, subst, arith}
 use Rattle.std.specs.List.{position, position_or_len}
 use Rattle.std.proofs.lemmas.Bool.Decides.{nat_tests}
 use Rattle.std.proofs.lemmas.List.{take_all, drop_all}
@@ -19,7 +20,8 @@ drop_past_front b bs n = let e : 1 + n + 1 ≡ suc (n + 1) = omega arith in ap (
 
 line_if : (t : Bool) (b : ℕ) (bs : List ℕ) (n : ℕ) → (n ≡ position_or_len is_line_feed bs)
     → (0 < length bs → text_lines bs ≡ take n bs ∷ text_lines (drop (n + 1) bs))
-    → cond t ([] ∷ text_lines bs) (onto_first b (text_lines bs)) ≡ take (cond (not t) (1 + n) 0) (b ∷ bs) ∷ text_lines (drop (cond (not t) (1 + n) 0 + 1) (b ∷ bs))
+    → cond t ([] ∷ text_lines bs) (onto_first b (text_lines bs))
+    ≡ take (cond (not t) (1 + n) 0) (b ∷ bs) ∷ text_lines (drop (cond (not t) (1 + n) 0 + 1) (b ∷ bs))
 line_if true b bs n is known = refl
 line_if false b [] n is known = rw is refl
 line_if false b (c ∷ cs) n is known =
@@ -82,11 +84,14 @@ skipped [] = refl
 skipped (b ∷ bs) = skip_if (is_blank b) b bs refl (skipped bs)
 
 word_on : (blank hash : Bool) (b c : ℕ) (cs : List ℕ) → is_blank b ≡ false → is_hash b ≡ false → is_blank c ≡ blank → is_hash c ≡ hash
-    → (is_blank c ≡ false → is_hash c ≡ false → words_of (c ∷ cs) ≡ (c ∷ take (position_or_len ends_word cs) cs) ∷ words_of (drop (position_or_len ends_word cs) cs))
-    → words_of (b ∷ c ∷ cs) ≡ (b ∷ take (cond (not (blank || hash)) (1 + position_or_len ends_word cs) 0) (c ∷ cs)) ∷ words_of (drop (cond (not (blank || hash)) (1 + position_or_len ends_word cs) 0) (c ∷ cs))
+    → (is_blank c ≡ false → is_hash c ≡ false → words_of (c ∷ cs)
+    ≡ (c ∷ take (position_or_len ends_word cs) cs) ∷ words_of (drop (position_or_len ends_word cs) cs))
+    → words_of (b ∷ c ∷ cs) ≡ (b ∷ take (cond (not (blank || hash)) (1 + position_or_len ends_word cs) 0) (c ∷ cs))
+    ∷ words_of (drop (cond (not (blank || hash)) (1 + position_or_len ends_word cs) 0) (c ∷ cs))
 word_on true hash b c cs no_blank no_hash is_b is_h known =
     begun b (c ∷ cs) no_blank no_hash
-    ∙ ap (λ t. cond (is_within_word (cond t [] (c ∷ without_comment cs))) (onto_first b (words_of (c ∷ cs))) ((b ∷ []) ∷ words_of (c ∷ cs))) (hash_is_no_blank c is_b)
+    ∙ ap (λ t. cond (is_within_word (cond t [] (c ∷ without_comment cs))) (onto_first b (words_of (c ∷ cs)))
+    ((b ∷ []) ∷ words_of (c ∷ cs))) (hash_is_no_blank c is_b)
     ∙ ap (λ t. cond (not t) (onto_first b (words_of (c ∷ cs))) ((b ∷ []) ∷ words_of (c ∷ cs))) is_b
 word_on false true b c cs no_blank no_hash is_b is_h known =
     begun b (c ∷ cs) no_blank no_hash
@@ -103,8 +108,10 @@ word_begun : (b : ℕ) (bs : List ℕ) → is_blank b ≡ false → is_hash b �
 word_begun b [] no_blank no_hash = begun b [] no_blank no_hash
 word_begun b (c ∷ cs) no_blank no_hash = word_on (is_blank c) (is_hash c) b c cs no_blank no_hash refl refl (word_begun c cs)
 
-word_if : (blank hash : Bool) (b : ℕ) (bs : List ℕ) → is_blank b ≡ blank → is_hash b ≡ hash → 0 < cond (not (blank || hash)) (1 + position_or_len ends_word bs) 0
-    → words_of (b ∷ bs) ≡ take (cond (not (blank || hash)) (1 + position_or_len ends_word bs) 0) (b ∷ bs) ∷ words_of (drop (cond (not (blank || hash)) (1 + position_or_len ends_word bs) 0) (b ∷ bs))
+word_if : (blank hash : Bool) (b : ℕ) (bs : List ℕ) → is_blank b ≡ blank → is_hash b ≡ hash
+    → 0 < cond (not (blank || hash)) (1 + position_or_len ends_word bs) 0
+    → words_of (b ∷ bs) ≡ take (cond (not (blank || hash)) (1 + position_or_len ends_word bs) 0) (b ∷ bs)
+    ∷ words_of (drop (cond (not (blank || hash)) (1 + position_or_len ends_word bs) 0) (b ∷ bs))
 word_if true hash b bs is_b is_h some = absurd (omega arith)
 word_if false true b bs is_b is_h some = absurd (omega arith)
 word_if false false b bs is_b is_h some =
@@ -117,7 +124,10 @@ word_cut (b ∷ bs) some = word_if (is_blank b) (is_hash b) b bs refl refl some
 
 -- the first word, when one begins after the blanks
 pub first_word : (line : List ℕ) → 0 < position_or_len ends_word (drop (position_or_len starts_word line) line)
-    → words_of line ≡ take (position_or_len ends_word (drop (position_or_len starts_word line) line)) (drop (position_or_len starts_word line) line) ∷ words_of (drop (position_or_len ends_word (drop (position_or_len starts_word line) line)) (drop (position_or_len starts_word line) line))
+    → words_of line ≡ take (position_or_len ends_word (drop (position_or_len starts_word line) line))
+    (drop (position_or_len starts_word line) line)
+    ∷ words_of (drop (position_or_len ends_word (drop (position_or_len starts_word line) line))
+    (drop (position_or_len starts_word line) line))
 first_word line some = skipped line ∙ word_cut (drop (position_or_len starts_word line) line) some
 
 comment_if : (hash : Bool) (b : ℕ) (bs : List ℕ) → is_hash b ≡ hash → cond (not hash) (1 + position_or_len ends_word bs) 0 ≡ 0 → words_of (b ∷ bs) ≡ []
@@ -135,12 +145,15 @@ no_word [] none = refl
 no_word (b ∷ bs) none = none_if (is_blank b) b bs refl (no_word bs) none
 
 -- the same, of what the reader of a word computes
-pub no_word_of : (line begun : List ℕ) (start end : ℕ) → start ≡ position_or_len starts_word line → begun ≡ drop start line → end ≡ position_or_len ends_word begun → end ≡ 0 → words_of line ≡ []
+pub no_word_of : (line begun : List ℕ) (start end : ℕ) → start ≡ position_or_len starts_word line
+    → begun ≡ drop start line → end ≡ position_or_len ends_word begun → end ≡ 0 → words_of line ≡ []
 no_word_of line begun start end is_start is_begun is_end none =
     let cut : begun ≡ drop (position_or_len starts_word line) line = is_begun ∙ ap (λ n. drop n line) is_start in
     no_word line (ap (position_or_len ends_word) (sym cut) ∙ sym is_end ∙ none)
 
-pub first_word_of : (line begun : List ℕ) (start end : ℕ) (word rest : List ℕ) → start ≡ position_or_len starts_word line → begun ≡ drop start line → end ≡ position_or_len ends_word begun → 0 < end
+pub first_word_of : (line begun : List ℕ) (start end : ℕ) (word rest : List ℕ)
+    → start ≡ position_or_len starts_word line → begun ≡ drop start line → end ≡ position_or_len ends_word begun
+    → 0 < end
     → word ≡ take end begun → rest ≡ drop end begun → words_of line ≡ word ∷ words_of rest
 first_word_of line begun start end word rest is_start is_begun is_end some is_word is_rest =
     let cut : begun ≡ drop (position_or_len starts_word line) line = is_begun ∙ ap (λ n. drop n line) is_start in

@@ -13,7 +13,8 @@ use Rattle.board_words.specs.declared.places.Places.{Places}
 use Rattle.board_words.proofs.Order.{step}
 
 -- two forms that agree on the words that are left
-agree : (old : Places) (form other : List (List ℕ) → List FaultKind) → form (words_left old.words) ≡ other (words_left old.words) → in_all old form ≡ in_all old other
+agree : (old : Places) (form other : List (List ℕ) → List FaultKind)
+    → form (words_left old.words) ≡ other (words_left old.words) → in_all old form ≡ in_all old other
 agree old form other e = ap (λ kinds. both old.found (first_in_order kinds)) e
 
 parents_are : (words : List (List ℕ)) → are_none words ≡ false → parents_form words ≡ at (one_of (codes "parent" ∷ [])) (at name parents_form) words
@@ -21,7 +22,8 @@ parents_are [] h = cc
 parents_are (word ∷ []) h = refl
 parents_are (word ∷ of ∷ words) h = refl
 
-pub one_parent : {old mid new : Places} → Takes (one_of (codes "parent" ∷ [])) old mid → Takes name mid new → are_none (words_left old.words) ≡ false → in_all old parents_form ≡ in_all new parents_form
+pub one_parent : {old mid new : Places} → Takes (one_of (codes "parent" ∷ [])) old mid → Takes name mid new
+    → are_none (words_left old.words) ≡ false → in_all old parents_form ≡ in_all new parents_form
 one_parent {old} {mid} {new} word_takes name_takes some =
     agree old parents_form (at (one_of (codes "parent" ∷ [])) (at name parents_form)) (parents_are (words_left old.words) some)
     ∙ step word_takes (at name parents_form) refl ∙ step name_takes parents_form tt
@@ -48,9 +50,11 @@ right_none (Some k) (Some j) h = chosen (cond_some _ j k h) where
 linear_words : (words rest : List (List ℕ)) (word : List ℕ) → words ≡ word ∷ rest → is word (codes "linear") ≡ true
     → map_form words ≡ at (number 1 1024) (at (one_of level_kinds) parents_form) rest
 linear_words words rest word e h =
-    ap map_form e ∙ ap (λ t. cond t (at (number 1 1024) (at (one_of level_kinds) parents_form) rest) (cond (is word (codes "tree")) (at (one_of level_kinds) parents_form rest) (faults.UnknownWord ∷ []))) h
+    ap map_form e ∙ ap (λ t. cond t (at (number 1 1024) (at (one_of level_kinds) parents_form) rest)
+    (cond (is word (codes "tree")) (at (one_of level_kinds) parents_form rest) (faults.UnknownWord ∷ []))) h
 
-pub linear_taken : (old : Places) (word : List ℕ) {mid new : Places} → Takes (number 1 1024) mid new → mid.found ≡ old.found → words_left old.words ≡ word ∷ words_left mid.words → is word (codes "linear") ≡ true
+pub linear_taken : (old : Places) (word : List ℕ) {mid new : Places} → Takes (number 1 1024) mid new
+    → mid.found ≡ old.found → words_left old.words ≡ word ∷ words_left mid.words → is word (codes "linear") ≡ true
     → in_all old map_form ≡ in_all new (at (one_of level_kinds) parents_form)
 linear_taken old word {mid} {new} takes same e h =
     let form = at (number 1 1024) (at (one_of level_kinds) parents_form) in
@@ -65,30 +69,39 @@ other_if : (t s : Bool) (word : List ℕ) (then : List FaultKind) (rest : List F
 other_if true s word then rest h = cc
 other_if false s word then rest h = refl
 
-other_is : (words : List (List ℕ)) → are_none words ≡ false → is (get_or words 0 []) (codes "mask") ≡ false → line_options words ≡ at (one_of option_texts) line_options words
+other_is : (words : List (List ℕ)) → are_none words ≡ false → is (get_or words 0 []) (codes "mask") ≡ false
+    → line_options words ≡ at (one_of option_texts) line_options words
 other_is [] some h = cc
 other_is (word ∷ []) some h =
     ap (cond (is word (codes "mask")) (faults.WrongCount ∷ [])) (sym (append-nil (one_of (codes "unlazy" ∷ codes "later" ∷ []) word)))
     ∙ other_if (is word (codes "mask")) (list_any (is word) (codes "unlazy" ∷ codes "later" ∷ [])) word (faults.WrongCount ∷ []) [] h
 other_is (word ∷ next ∷ words) some h =
-    other_if (is word (codes "mask")) (list_any (is word) (codes "unlazy" ∷ codes "later" ∷ [])) word (mask_number next ++ line_options words) (line_options (next ∷ words)) h
+    other_if (is word (codes "mask")) (list_any (is word) (codes "unlazy" ∷ codes "later" ∷ [])) word
+    (mask_number next ++ line_options words) (line_options (next ∷ words)) h
 
-pub other_option : {old new : Places} → Takes (one_of option_texts) old new → are_none (words_left old.words) ≡ false → is (get_or (words_left old.words) 0 []) (codes "mask") ≡ false
+pub other_option : {old new : Places} → Takes (one_of option_texts) old new → are_none (words_left old.words) ≡ false
+    → is (get_or (words_left old.words) 0 []) (codes "mask") ≡ false
     → in_all old line_options ≡ in_all new line_options
-other_option {old} {new} takes some h = agree old line_options (at (one_of option_texts) line_options) (other_is (words_left old.words) some h) ∙ step takes line_options tt
+other_option {old} {new} takes some h = agree old line_options (at (one_of option_texts) line_options)
+    (other_is (words_left old.words) some h) ∙ step takes line_options tt
 
 mask_if : (t s : Bool) (then rest : List FaultKind) → t ≡ true → cond t then rest ≡ cond (t || s) [] (faults.UnknownWord ∷ []) ++ then
 mask_if true s then rest h = refl
 mask_if false s then rest h = cc
 
-mask_is : (words : List (List ℕ)) → are_none words ≡ false → is (get_or words 0 []) (codes "mask") ≡ true → line_options words ≡ at (one_of option_texts) (at mask_number line_options) words
+mask_is : (words : List (List ℕ)) → are_none words ≡ false → is (get_or words 0 []) (codes "mask") ≡ true
+    → line_options words ≡ at (one_of option_texts) (at mask_number line_options) words
 mask_is [] some h = cc
 mask_is (word ∷ []) some h =
-    mask_if (is word (codes "mask")) (list_any (is word) (codes "unlazy" ∷ codes "later" ∷ [])) (faults.WrongCount ∷ []) (one_of (codes "unlazy" ∷ codes "later" ∷ []) word) h
+    mask_if (is word (codes "mask")) (list_any (is word) (codes "unlazy" ∷ codes "later" ∷ [])) (faults.WrongCount ∷ [])
+    (one_of (codes "unlazy" ∷ codes "later" ∷ []) word) h
 mask_is (word ∷ next ∷ words) some h =
-    mask_if (is word (codes "mask")) (list_any (is word) (codes "unlazy" ∷ codes "later" ∷ [])) (mask_number next ++ line_options words) (one_of (codes "unlazy" ∷ codes "later" ∷ []) word ++ line_options (next ∷ words)) h
+    mask_if (is word (codes "mask")) (list_any (is word) (codes "unlazy" ∷ codes "later" ∷ []))
+    (mask_number next ++ line_options words) (one_of (codes "unlazy" ∷ codes "later" ∷ []) word
+    ++ line_options (next ∷ words)) h
 
-pub mask_option : {old mid new : Places} → Takes (one_of option_texts) old mid → Takes mask_number mid new → are_none (words_left old.words) ≡ false → is (get_or (words_left old.words) 0 []) (codes "mask") ≡ true
+pub mask_option : {old mid new : Places} → Takes (one_of option_texts) old mid → Takes mask_number mid new
+    → are_none (words_left old.words) ≡ false → is (get_or (words_left old.words) 0 []) (codes "mask") ≡ true
     → in_all old line_options ≡ in_all new line_options
 mask_option {old} {mid} {new} takes mask_takes some h =
     agree old line_options (at (one_of option_texts) (at mask_number line_options)) (mask_is (words_left old.words) some h)

@@ -19,7 +19,8 @@ use Rattle.board_play.proofs.Parts.{due_of}
 use Rattle.board_ready.specs.First.{first_of}
 use Rattle.board_core.specs.Places.{line_at}
 use Rattle.board_report.proofs.Printable.{printable, turned}
-use Rattle.irq_chained.specs.Chain.{IsChainLegal, chain_next, child, cpu_0, first_left, in_chain, is_left, lines_in, of_cpu_0, open_status, or_exit, status_of, stepper_of}
+use Rattle.irq_chained.specs.Chain.{IsChainLegal, chain_next, child, cpu_0, first_left, in_chain, is_left, lines_in}
+use Rattle.irq_chained.specs.Chain.{of_cpu_0, open_status, or_exit, status_of, stepper_of}
 use Rattle.irq_chained.specs.declared.chain.ChainEntry.{ChainEntry}
 use Rattle.irq_chained.specs.declared.chain.ChainEntry.TheVariants as steps
 use Rattle.chained_play.specs.Printing.{HasRow}
@@ -48,7 +49,9 @@ place_there : (lines : List BoardLine) (o : Option ℕ) (y : BoardLine) → line
 place_there lines None y is = cc
 place_there lines (Some k) y is = (k, is)
 
-child_on : (lines : List BoardLine) (x : Option BoardLine) (a : Actor) (line : LineNo) (e : Entry) → ((y : BoardLine) → x ≡ Some y → IsThere lines y) → child (due_on x a) ≡ Some (steps.Child line e) → IsOn lines line e
+child_on : (lines : List BoardLine) (x : Option BoardLine) (a : Actor) (line : LineNo) (e : Entry)
+    → ((y : BoardLine) → x ≡ Some y → IsThere lines y) → child (due_on x a) ≡ Some (steps.Child line e)
+    → IsOn lines line e
 child_on lines None a line e there is = cc
 child_on lines (Some y) a line e there is = by_entry (next_past y.def y.past a) refl is
   where
@@ -60,11 +63,14 @@ child_on lines (Some y) a line e there is = by_entry (next_past y.def y.past a) 
         let entry : f ≡ e = cc in
         record { actor = a; of = y; place = t.0; at = t.1; number = number; due = due ∙ ap (λ (x : Entry). Some x) entry }
 
-pub child_step : (b : BoardSeen) (g : List ChainEntry) (a : Actor) (line : LineNo) (e : Entry) → chain_next b g a ≡ Some (steps.Child line e) → IsOn (lines_in b g) line e
+pub child_step : (b : BoardSeen) (g : List ChainEntry) (a : Actor) (line : LineNo) (e : Entry)
+    → chain_next b g a ≡ Some (steps.Child line e) → IsOn (lines_in b g) line e
 child_step b g (actors.Thread l d) line e is =
-    child_on (lines_in b g) (line_for b (lines_in b g) (actors.Thread l d)) (actors.Thread l d) line e (λ y its. let s = line_stands b (lines_in b g) (actors.Thread l d) y its in (s.place, s.at)) is
+    child_on (lines_in b g) (line_for b (lines_in b g) (actors.Thread l d)) (actors.Thread l d) line e
+    (λ y its. let s = line_stands b (lines_in b g) (actors.Thread l d) y its in (s.place, s.at)) is
 child_step b g (actors.Driver r) line e is =
-    child_on (lines_in b g) (line_for b (lines_in b g) (actors.Driver r)) (actors.Driver r) line e (λ y its. let s = line_stands b (lines_in b g) (actors.Driver r) y its in (s.place, s.at)) is
+    child_on (lines_in b g) (line_for b (lines_in b g) (actors.Driver r)) (actors.Driver r) line e
+    (λ y its. let s = line_stands b (lines_in b g) (actors.Driver r) y its in (s.place, s.at)) is
 child_step b g (actors.Cpu c) line e is = by_zero (c.0 == 0) is
   where
     lines : List BoardLine
@@ -74,10 +80,12 @@ child_step b g (actors.Cpu c) line e is = by_zero (c.0 == 0) is
     by_status true h = cc
     by_status false h = cc
 
-    by_take : (s : ℕ) (o : Option ChainEntry) → child (due_on (first_left g lines s) (actors.Cpu cpu_0)) ≡ o → or_exit o ≡ Some (steps.Child line e) → IsOn lines line e
+    by_take : (s : ℕ) (o : Option ChainEntry) → child (due_on (first_left g lines s) (actors.Cpu cpu_0)) ≡ o
+        → or_exit o ≡ Some (steps.Child line e) → IsOn lines line e
     by_take s None due h = cc
     by_take s (Some x) due h =
-        child_on lines (first_left g lines s) (actors.Cpu cpu_0) line e (λ y its. place_there lines (first_of (is_left g lines s) (length lines)) y its) (due ∙ h)
+        child_on lines (first_left g lines s) (actors.Cpu cpu_0) line e
+        (λ y its. place_there lines (first_of (is_left g lines s) (length lines)) y its) (due ∙ h)
 
     by_flow : (s : ℕ) (x : Option BoardLine) → flow_line lines cpu_0 ≡ x → in_chain g lines s x ≡ Some (steps.Child line e) → IsOn lines line e
     by_flow s None on h = by_take s (child (due_on (first_left g lines s) (actors.Cpu cpu_0))) refl h

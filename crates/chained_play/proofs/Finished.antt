@@ -59,7 +59,8 @@ module _ (can : Actor → Option ChainEntry) where
   none_left all [] none = none_lowest (first_step can all) none
   none_left all (pick ∷ picks) none = by_pick (can pick) none (λ h. none_left all picks h)
     where
-      by_pick : (o : Option ChainEntry) → or_choice (with_left picks o) (choice_by can all picks) ≡ None → (choice_by can all picks ≡ None → first_step can all ≡ None) → first_step can all ≡ None
+      by_pick : (o : Option ChainEntry) → or_choice (with_left picks o) (choice_by can all picks) ≡ None
+          → (choice_by can all picks ≡ None → first_step can all ≡ None) → first_step can all ≡ None
       by_pick None none deeper = deeper none
       by_pick (Some e) none deeper = cc
 
@@ -73,7 +74,9 @@ pub record Stands (b : BoardSeen) (d : DemuxSeen) : Type 0 where
   pub lines : board_lines d.lines ≡ lines_in b (reverse d.log)
   pub kept : AreKept b (lines_in b (reverse d.log))
 
-pub stands : (b : BoardSeen) (d : DemuxSeen) → d.board ≡ b → IsBoard d.board → is_for_chain d.board ≡ true → IsChainLegal d.board (reverse d.log) → board_lines d.lines ≡ lines_in d.board (reverse d.log) → AreKept d.board (board_lines d.lines) → Stands b d
+pub stands : (b : BoardSeen) (d : DemuxSeen) → d.board ≡ b → IsBoard d.board → is_for_chain d.board ≡ true
+    → IsChainLegal d.board (reverse d.log) → board_lines d.lines ≡ lines_in d.board (reverse d.log)
+    → AreKept d.board (board_lines d.lines) → Stands b d
 stands b d same board fits legal lines kept =
     let now : board_lines d.lines ≡ lines_in b (reverse d.log) = subst (λ (c : BoardSeen). board_lines d.lines ≡ lines_in c (reverse d.log)) same lines in
     record {
@@ -120,9 +123,13 @@ module _ (b : BoardSeen) (d : DemuxSeen) (s : Stands b d) (lines : List LineSeen
         let g = reverse d.log in
         let ls = lines_in b g in
         let number : on.of.def.line ≡ line = on.number ∙ same in
-        let found : find_line ls line ≡ Some on.of = ap (λ (l : LineNo). find_line ls l) (sym number) ∙ find_there ls (apart_kept b s.board ls s.kept) on.place on.of on.at in
-        let long : length on.of.past ≡ len = ap (λ (es : List Entry). length es) (past_at (defs_of b) (children g) on.place on.of on.at ∙ ap (λ (l : LineNo). part l (children g)) number) ∙ p.play.1 in
-        let due : IsSome (move_on on.of.def.line (next_past on.of.def on.of.past on.actor)) = subst (λ (o : Option Entry). IsSome (move_on on.of.def.line o)) (sym on.due) refl in
+        let found : find_line ls line ≡ Some on.of = ap (λ (l : LineNo). find_line ls l) (sym number)
+        ∙ find_there ls (apart_kept b s.board ls s.kept) on.place on.of on.at in
+        let long : length on.of.past ≡ len = ap (λ (es : List Entry). length es)
+        (past_at (defs_of b) (children g) on.place on.of on.at ∙ ap (λ (l : LineNo). part l (children g)) number)
+        ∙ p.play.1 in
+        let due : IsSome (move_on on.of.def.line (next_past on.of.def on.of.past on.actor))
+        = subst (λ (o : Option Entry). IsSome (move_on on.of.def.line o)) (sym on.due) refl in
         record {
           actor = on.actor;
           due = subst (λ (o : Option BoardLine). IsSome (due_on o on.actor)) (sym found) due;
@@ -130,7 +137,8 @@ module _ (b : BoardSeen) (d : DemuxSeen) (s : Stands b d) (lines : List LineSeen
           limit = sym p.play.1 ∙ (ap (λ (ms : List Move). length (part line ms)) (same_children b g) ∙ full.2.is_long);
         }
 
-    no_room_of : (a : Actor) (e : ChainEntry) (m : Move) → chain_next b (reverse d.log) a ≡ Some e → told e ≡ Some m → m.0 ≡ line → HasNoRoom b (lines_in b (reverse d.log)) line len
+    no_room_of : (a : Actor) (e : ChainEntry) (m : Move) → chain_next b (reverse d.log) a ≡ Some e → told e ≡ Some m
+        → m.0 ≡ line → HasNoRoom b (lines_in b (reverse d.log)) line len
     no_room_of a (steps.Enter cpu status) m is tells of_line = cc
     no_room_of a (steps.Exit cpu) m is tells of_line = cc
     no_room_of a (steps.Child l e) m is tells of_line =
@@ -163,6 +171,7 @@ module _ (b : BoardSeen) (d : DemuxSeen) (s : Stands b d) (lines : List LineSeen
   }
 
 -- how the printing ended is how it all did
-pub printed : (b : BoardSeen) (reports : List LineReport) (before now : Option (List ℕ)) (end : WriteEnd) → IsPrinted b reports before now end → ChainsBoard b reports before now (end_of_writing end)
+pub printed : (b : BoardSeen) (reports : List LineReport) (before now : Option (List ℕ)) (end : WriteEnd)
+    → IsPrinted b reports before now end → ChainsBoard b reports before now (end_of_writing end)
 printed b reports before now writes.Done h = h
 printed b reports before now writes.Failed h = h

@@ -21,7 +21,8 @@ next_row : (left : List ChainEntry) (m : ChainEntry) → slice_get left 0 ≡ So
 next_row [] m at = cc
 next_row (x ∷ xs) m at = ap (λ (y : ChainEntry). step_text y ++ steps_text xs) (the_same x m at)
 
-module _ (before now after : Option (List ℕ)) (all left : List ChainEntry) (m : ChainEntry) (at : slice_get left 0 ≡ Some m) (row : List ℕ) (is : row ≡ step_text m) (p : IsPrinting before now all left) where
+module _ (before now after : Option (List ℕ)) (all left : List ChainEntry) (m : ChainEntry)
+    (at : slice_get left 0 ≡ Some m) (row : List ℕ) (is : row ≡ step_text m) (p : IsPrinting before now all left) where
   with_row : (p.done ++ row) ++ steps_text (drop 1 left) ≡ steps_text all
   with_row =
       append_assoc p.done row (steps_text (drop 1 left))
@@ -40,6 +41,7 @@ module _ (before now after : Option (List ℕ)) (all left : List ChainEntry) (m 
       subst (λ (text : List ℕ). WritesAll before after text ends.Failed) with_row
       (failed_within before after (p.done ++ row) (steps_text (drop 1 left)) (and_then before now after p.done row ends.Failed p.written w))
 
-pub all_printed : (before now : Option (List ℕ)) (all left : List ChainEntry) → slice_get left 0 ≡ None → IsPrinting before now all left → WritesAll before now (steps_text all) ends.Done
+pub all_printed : (before now : Option (List ℕ)) (all left : List ChainEntry) → slice_get left 0 ≡ None
+    → IsPrinting before now all left → WritesAll before now (steps_text all) ends.Done
 all_printed before now all [] at p = subst (λ (text : List ℕ). WritesAll before now text ends.Done) (sym (append-nil p.done) ∙ p.rest) p.written
 all_printed before now all (m ∷ left) at p = cc

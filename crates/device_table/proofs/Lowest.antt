@@ -19,7 +19,8 @@ module _ {R : Type 0} where
   none_put [] d e r h = refl
   none_put (y ∷ ys) d e r h = by_tests (same_dev e y.0) (same_dev d y.0) refl h (none_put ys d e r)
     where
-      by_tests : (a b : Bool) → same_dev e y.0 ≡ a → cond a (Some y.1) (at ys e) ≡ None → (at ys e ≡ None → at (put ys d r) e ≡ None) → at (cond b ((y.0, r) ∷ ys) (y ∷ put ys d r)) e ≡ None
+      by_tests : (a b : Bool) → same_dev e y.0 ≡ a → cond a (Some y.1) (at ys e) ≡ None
+          → (at ys e ≡ None → at (put ys d r) e ≡ None) → at (cond b ((y.0, r) ∷ ys) (y ∷ put ys d r)) e ≡ None
       by_tests true b is i rest = cc
       by_tests false true is i rest = ap (λ c. cond c (Some r) (at ys e)) is ∙ i
       by_tests false false is i rest = ap (λ c. cond c (Some y.1) (at (put ys d r) e)) is ∙ rest i
@@ -38,7 +39,8 @@ module _ {R : Type 0} where
   at_put_same [] d r old h = cc
   at_put_same (e ∷ es) d r old h = by_test (same_dev d e.0) refl h (at_put_same es d r old)
     where
-      by_test : (b : Bool) → same_dev d e.0 ≡ b → cond b (Some e.1) (at es d) ≡ Some old → (at es d ≡ Some old → at (put es d r) d ≡ Some r) → at (cond b ((e.0, r) ∷ es) (e ∷ put es d r)) d ≡ Some r
+      by_test : (b : Bool) → same_dev d e.0 ≡ b → cond b (Some e.1) (at es d) ≡ Some old
+          → (at es d ≡ Some old → at (put es d r) d ≡ Some r) → at (cond b ((e.0, r) ∷ es) (e ∷ put es d r)) d ≡ Some r
       by_test true is i rest = ap (λ c. cond c (Some r) (at es d)) is
       by_test false is i rest = ap (λ c. cond c (Some e.1) (at (put es d r) d)) is ∙ rest i
 
@@ -46,7 +48,8 @@ module _ {R : Type 0} where
   at_put_other [] d x r h = refl
   at_put_other (e ∷ es) d x r h = by_tests (same_dev d e.0) (same_dev x e.0) refl refl (at_put_other es d x r h)
     where
-      by_tests : (a b : Bool) → same_dev d e.0 ≡ a → same_dev x e.0 ≡ b → at (put es d r) x ≡ at es x → at (cond a ((e.0, r) ∷ es) (e ∷ put es d r)) x ≡ cond b (Some e.1) (at es x)
+      by_tests : (a b : Bool) → same_dev d e.0 ≡ a → same_dev x e.0 ≡ b → at (put es d r) x ≡ at es x
+          → at (cond a ((e.0, r) ∷ es) (e ∷ put es d r)) x ≡ cond b (Some e.1) (at es x)
       by_tests true true p q rest = absurd (both_ways (same_dev d x) h (ap (λ (y : DevNo). same_dev d y) (dev_from_same x e.0 q) ∙ p))
       by_tests true false p q rest = ap (λ c. cond c (Some r) (at es x)) q
       by_tests false b p q rest = ap (λ c. cond c (Some e.1) (at (put es d r) x)) q ∙ ap (cond b (Some e.1)) rest
@@ -65,7 +68,8 @@ module _ {R : Type 0} where
   pub lowest_none : (p : R → Bool) (t : List (DevNo × R)) → HasOwnKeys t → ((x : DevNo) (r : R) → at t x ≡ Some r → p r ≡ false) → lowest_where p t ≡ None
   lowest_none p [] own none = refl
   lowest_none p (e ∷ es) own none =
-      ap (λ b. cond b (Some (lower e.0 (lowest_where p es))) (lowest_where p es)) (none e.0 e.1 (ahead e es)) ∙ lowest_none p es own.1 (λ x r h. none x r (behind e es x r own.0 h))
+      ap (λ b. cond b (Some (lower e.0 (lowest_where p es))) (lowest_where p es)) (none e.0 e.1 (ahead e es))
+      ∙ lowest_none p es own.1 (λ x r h. none x r (behind e es x r own.0 h))
 
   -- the lowest passes
   lowest_passes : (p : R → Bool) (t : List (DevNo × R)) (x : DevNo) → HasOwnKeys t → lowest_where p t ≡ Some x → (r : R) × (at t x ≡ Some r) × (p r ≡ true)
@@ -78,7 +82,9 @@ module _ {R : Type 0} where
       itself : p e.1 ≡ true → e.0 ≡ x → (r : R) × (at (e ∷ es) x ≡ Some r) × (p r ≡ true)
       itself is same = (e.1, ap (at (e ∷ es)) (sym same) ∙ ahead e es, is)
 
-      by_lower : (b : Bool) (y : DevNo) → p e.1 ≡ true → lowest_where p es ≡ Some y → Some (cond b y e.0) ≡ Some x → ((z : DevNo) → lowest_where p es ≡ Some z → (r : R) × (at es z ≡ Some r) × (p r ≡ true)) → (r : R) × (at (e ∷ es) x ≡ Some r) × (p r ≡ true)
+      by_lower : (b : Bool) (y : DevNo) → p e.1 ≡ true → lowest_where p es ≡ Some y → Some (cond b y e.0) ≡ Some x
+          → ((z : DevNo) → lowest_where p es ≡ Some z → (r : R) × (at es z ≡ Some r) × (p r ≡ true))
+          → (r : R) × (at (e ∷ es) x ≡ Some r) × (p r ≡ true)
       by_lower true y is o k rest = let same : y ≡ x = cc in of_rest (rest x (o ∙ ap Some same))
       by_lower false y is o k rest = let same : e.0 ≡ x = cc in itself is same
 
@@ -89,10 +95,12 @@ module _ {R : Type 0} where
       by_test false is k _ o rest = of_rest (rest x k)
 
   -- a device that passes, with none that passes below it
-  pub lowest_is : (p : R → Bool) (t : List (DevNo × R)) (d : DevNo) (old : R) → HasOwnKeys t → at t d ≡ Some old → p old ≡ true → ((x : DevNo) (r : R) → at t x ≡ Some r → p r ≡ true → d.0 ≤ x.0) → lowest_where p t ≡ Some d
+  pub lowest_is : (p : R → Bool) (t : List (DevNo × R)) (d : DevNo) (old : R) → HasOwnKeys t → at t d ≡ Some old
+      → p old ≡ true → ((x : DevNo) (r : R) → at t x ≡ Some r → p r ≡ true → d.0 ≤ x.0) → lowest_where p t ≡ Some d
   lowest_is p [] d old own there is least = cc
   lowest_is p (e ∷ es) d old own there is least =
-      by_test (same_dev d e.0) refl there (λ found. lowest_is p es d old own.1 found is (λ x r h q. least x r (behind e es x r own.0 h) q)) (lowest_where p es) refl
+      by_test (same_dev d e.0) refl there (λ found. lowest_is p es d old own.1 found is
+      (λ x r h q. least x r (behind e es x r own.0 h) q)) (lowest_where p es) refl
     where
       here : d ≡ e.0 → (o : Option DevNo) → lowest_where p es ≡ o → Some (lower e.0 o) ≡ Some d
       here same None o = ap Some (sym same)
@@ -102,14 +110,16 @@ module _ {R : Type 0} where
           let num : d.0 ≡ e.0.0 = ap (λ (z : DevNo). z.0) same in
           ap (λ b. Some (cond b y e.0)) (le-ltb y.0 e.0.0 (omega (arith, le, num))) ∙ ap Some (sym same)
 
-      later : (b : Bool) → p e.1 ≡ b → same_dev d e.0 ≡ false → lowest_where p es ≡ Some d → cond b (Some (lower e.0 (lowest_where p es))) (lowest_where p es) ≡ Some d
+      later : (b : Bool) → p e.1 ≡ b → same_dev d e.0 ≡ false → lowest_where p es ≡ Some d
+          → cond b (Some (lower e.0 (lowest_where p es))) (lowest_where p es) ≡ Some d
       later true q other o =
           let le : d.0 ≤ e.0.0 = least e.0 e.1 (ahead e es) q in
           let ne : d.0 ≡ e.0.0 → ⊥ = eqb-false d.0 e.0.0 other in
           ap (λ z. Some (lower e.0 z)) o ∙ ap (λ b. Some (cond b d e.0)) (lt-ltb d.0 e.0.0 (omega (arith, le, ne)))
       later false q other o = o
 
-      by_test : (b : Bool) → same_dev d e.0 ≡ b → cond b (Some e.1) (at es d) ≡ Some old → (at es d ≡ Some old → lowest_where p es ≡ Some d) → (o : Option DevNo) → lowest_where p es ≡ o
+      by_test : (b : Bool) → same_dev d e.0 ≡ b → cond b (Some e.1) (at es d) ≡ Some old
+          → (at es d ≡ Some old → lowest_where p es ≡ Some d) → (o : Option DevNo) → lowest_where p es ≡ o
           → cond (p e.1) (Some (lower e.0 (lowest_where p es))) (lowest_where p es) ≡ Some d
       by_test true same k rest o eq =
           let row : e.1 ≡ old = cc in

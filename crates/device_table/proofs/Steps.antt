@@ -1,5 +1,6 @@
 -- A list of devices that is gone over from its head.
-use Rattle.std.proofs.Common.{◌≡◌, ℕ, zero, suc, ◌+◌, ◌≤◌, ◌<◌, Bool, true, false, ◌||◌, cond, Option, Some, None, List, [], ◌∷◌, ◌++◌, take, length, slice_get, refl, sym, ap, ◌∙◌, add-one, arith}
+use Rattle.std.proofs.Common.{◌≡◌, ℕ, zero, suc, ◌+◌, ◌≤◌, ◌<◌, Bool, true, false, ◌||◌, cond, Option, Some, None, List}
+use Rattle.std.proofs.Common.{[], ◌∷◌, ◌++◌, take, length, slice_get, refl, sym, ap, ◌∙◌, add-one, arith}
 use Rattle.std.specs.List.{list_any}
 use Rattle.irq_base.specs.declared.devices.DeviceDef.{DeviceDef}
 use Rattle.irq_base.specs.declared.numbers.DevNo.{DevNo}
@@ -30,7 +31,9 @@ count_last p [] x = by_test (p x)
     by_test false = refl
 count_last p (y ∷ ys) x = by_test (p y) (count_last p ys x)
   where
-    by_test : (b : Bool) → count_of p (ys ++ x ∷ []) ≡ count_of p ys + cond (p x) 1 0 → cond b (count_of p (ys ++ x ∷ []) + 1) (count_of p (ys ++ x ∷ [])) ≡ cond b (count_of p ys + 1) (count_of p ys) + cond (p x) 1 0
+    by_test : (b : Bool) → count_of p (ys ++ x ∷ []) ≡ count_of p ys + cond (p x) 1 0
+        → cond b (count_of p (ys ++ x ∷ []) + 1) (count_of p (ys ++ x ∷ []))
+        ≡ cond b (count_of p ys + 1) (count_of p ys) + cond (p x) 1 0
     by_test true h = omega (arith, h)
     by_test false h = h
 
@@ -70,7 +73,8 @@ apart (y ∷ ys) (suc i) x d none h = apart ys i x d (both_none (same_dev d y.de
 pub own_next : (xs : List DeviceDef) (i : ℕ) (x : DeviceDef) → HasDistinctDevices xs → slice_get xs i ≡ Some x → list_any (is_device x.dev) (take i xs) ≡ false
 own_next [] i x own h = cc
 own_next (y ∷ ys) zero x own h = refl
-own_next (y ∷ ys) (suc i) x own h = neither (same_dev x.dev y.dev) (list_any (is_device x.dev) (take i ys)) (same_both x.dev y.dev ∙ apart ys i x y.dev own.0 h) (own_next ys i x own.1 h)
+own_next (y ∷ ys) (suc i) x own h = neither (same_dev x.dev y.dev) (list_any (is_device x.dev) (take i ys))
+    (same_both x.dev y.dev ∙ apart ys i x y.dev own.0 h) (own_next ys i x own.1 h)
   where
     neither : (a b : Bool) → a ≡ false → b ≡ false → (a || b) ≡ false
     neither a b p q = grind arith
@@ -103,8 +107,10 @@ module _ {R : Type 0} where
   by_last f (y ∷ ys) x = ap (λ (t : List (DevNo × R)). (y.dev, f y.dev) ∷ t) (by_last f ys x)
 
   -- the table of one device more
-  pub table_next : (f : DevNo → R) (xs : List DeviceDef) (i : ℕ) (x : DeviceDef) → slice_get xs i ≡ Some x → table_by f (take i xs) ++ (x.dev, f x.dev) ∷ [] ≡ table_by f (take (i + 1) xs)
+  pub table_next : (f : DevNo → R) (xs : List DeviceDef) (i : ℕ) (x : DeviceDef) → slice_get xs i ≡ Some x
+      → table_by f (take i xs) ++ (x.dev, f x.dev) ∷ [] ≡ table_by f (take (i + 1) xs)
   table_next f xs i x h = sym (by_last f (take i xs) x) ∙ ap (table_by f) (sym (take_item xs i x h))
 
-  pub absent_next : (f : DevNo → R) (xs : List DeviceDef) (i : ℕ) (x : DeviceDef) → HasDistinctDevices xs → slice_get xs i ≡ Some x → at (table_by f (take i xs)) x.dev ≡ None
+  pub absent_next : (f : DevNo → R) (xs : List DeviceDef) (i : ℕ) (x : DeviceDef) → HasDistinctDevices xs
+      → slice_get xs i ≡ Some x → at (table_by f (take i xs)) x.dev ≡ None
   absent_next f xs i x own h = at_none f (take i xs) x.dev (own_next xs i x own h)

@@ -1,5 +1,7 @@
 -- A bit of a list of words.
-use Rattle.std.proofs.Common.{◌≡◌, ℕ, zero, suc, ◌+◌, ◌*◌, ◌/◌, ◌%◌, ◌<◌, ◌≤◌, Bool, true, false, ◌||◌, ◌&&◌, cond, ◌==◌, eqb, max, Option, Some, None, List, length, set, get_or, slice_index, slice_set, bit_or, refl, sym, ap, ◌∙◌, eqb-true, inl, inr, ◌⊎◌, ◌^◌, ◌-◌, w64, arith}
+use Rattle.std.proofs.Common.{◌≡◌, ℕ, zero, suc, ◌+◌, ◌*◌, ◌/◌, ◌%◌, ◌<◌, ◌≤◌, Bool, true, false, ◌||◌, ◌&&◌, cond}
+use Rattle.std.proofs.Common.{◌==◌, eqb, max, Option, Some, None, List, length, set, get_or, slice_index, slice_set}
+use Rattle.std.proofs.Common.{bit_or, refl, sym, ap, ◌∙◌, eqb-true, inl, inr, ◌⊎◌, ◌^◌, ◌-◌, w64, arith}
 use Rattle.std.proofs.lemmas.Bool.{eqb-false, cases_lt}
 use Rattle.std.proofs.lemmas.List.{get_or-set_same, get_or-set_other}
 use Rattle.std.proofs.lemmas.Nat.Bits.{bit_at_or, bit_at-lt, bit_at-zero, bit_at-trailing_zeros}
@@ -22,8 +24,11 @@ change_bit ws rank r b word inside own others = by_test (eqb r rank) refl
     same_word e n =
         let apart : r % 64 ≡ rank % 64 → ⊥ = λ m. n (omega (arith, e, m)) in
         let small : r % 64 < 64 = omega arith in
-        let read : slice_index (slice_set ws (rank / 64) word) (r / 64) ≡ word = ap (slice_index (slice_set ws (rank / 64) word)) e ∙ get_or-set_same ws (rank / 64) word 0 inside in
-        let kept : bit_at word (r % 64) ≡ bit_at (slice_index ws (r / 64)) (r % 64) = others (r % 64) small apart ∙ ap (λ k. bit_at (slice_index ws k) (r % 64)) (sym e) in
+        let read : slice_index (slice_set ws (rank / 64) word) (r / 64)
+        ≡ word = ap (slice_index (slice_set ws (rank / 64) word)) e
+        ∙ get_or-set_same ws (rank / 64) word 0 inside in
+        let kept : bit_at word (r % 64) ≡ bit_at (slice_index ws (r / 64)) (r % 64) = others (r % 64) small apart
+        ∙ ap (λ k. bit_at (slice_index ws k) (r % 64)) (sym e) in
         ap (λ w. bit_at w (r % 64) == 1) read ∙ ap (λ n. n == 1) kept
 
     by_word : (t : Bool) → eqb (r / 64) (rank / 64) ≡ t → (r ≡ rank → ⊥) → holds (slice_set ws (rank / 64) word) r ≡ holds ws r
@@ -49,9 +54,15 @@ either_bit a b i = ap (λ n. n == 1) (bit_at_or a b i) ∙ of_two (bit_at a i) (
     of_two x (suc (suc y)) p q = absurd (omega (arith, q))
 
 -- the lowest bit of a word, after words without any
-pub found_first : (test : ℕ → Bool) (word k : ℕ) → k < 4 → 0 < word → word < 2 ^ 64 → ((r : ℕ) → r / 64 ≡ k → test r ≡ (bit_at word (r % 64) == 1)) → ((r : ℕ) → r < 64 * k → test r ≡ false)
+pub found_first : (test : ℕ → Bool) (word k : ℕ) → k < 4 → 0 < word → word < 2 ^ 64
+    → ((r : ℕ) → r / 64 ≡ k → test r ≡ (bit_at word (r % 64) == 1)) → ((r : ℕ) → r < 64 * k → test r ≡ false)
     → IsFirst test (Some (64 * k + trailing_zeros w64 word))
-found_first test word k few some small is none = (omega (arith, low.0, few), is r at ∙ (ap (λ i. bit_at word i == 1) rest ∙ ap (λ n. n == 1) low.1), λ q below. by_order q below (cases_lt q (64 * k)))
+found_first test word k few some small is none = (
+  omega (arith, low.0, few),
+  is r at
+      ∙ (ap (λ i. bit_at word i == 1) rest ∙ ap (λ n. n == 1) low.1),
+  λ q below. by_order q below (cases_lt q (64 * k)),
+)
   where
     low : (trailing_zeros w64 word < 64) × (bit_at word (trailing_zeros w64 word) ≡ 1) × ((i : ℕ) → i < trailing_zeros w64 word → bit_at word i ≡ 0)
     low = bit_at-trailing_zeros w64 word some small
@@ -73,7 +84,9 @@ found_first test word k few some small is none = (omega (arith, low.0, few), is 
         is q e ∙ ap (λ n. n == 1) (low.2 (q % 64) less)
 
 -- a word without bits
-pub none_here : (test : ℕ → Bool) (word k : ℕ) → word ≡ 0 → ((r : ℕ) → r / 64 ≡ k → test r ≡ (bit_at word (r % 64) == 1)) → ((r : ℕ) → r < 64 * k → test r ≡ false) → (r : ℕ) → r < 64 * (k + 1) → test r ≡ false
+pub none_here : (test : ℕ → Bool) (word k : ℕ) → word ≡ 0
+    → ((r : ℕ) → r / 64 ≡ k → test r ≡ (bit_at word (r % 64) == 1)) → ((r : ℕ) → r < 64 * k → test r ≡ false) → (r : ℕ)
+    → r < 64 * (k + 1) → test r ≡ false
 none_here test word k empty is none r below = by_order (cases_lt r (64 * k))
   where
     by_order : (r < 64 * k) ⊎ (64 * k ≤ r) → test r ≡ false
@@ -83,6 +96,9 @@ none_here test word k empty is none r below = by_order (cases_lt r (64 * k))
         is r e ∙ (ap (λ w. bit_at w (r % 64) == 1) empty ∙ ap (λ n. n == 1) (bit_at-zero (r % 64)))
 
 -- the test of a rank is a bit of its word
-pub word_test : (ws os : List ℕ) (b : Bool) (word k : ℕ) → ((i : ℕ) → (bit_at word i == 1) ≡ ((bit_at (slice_index ws k) i == 1) || (b && (bit_at (slice_index os k) i == 1))))
+pub word_test : (ws os : List ℕ) (b : Bool) (word k : ℕ)
+    → ((i : ℕ) → (bit_at word i == 1) ≡ ((bit_at (slice_index ws k) i == 1) ||
+    (b && (bit_at (slice_index os k) i == 1))))
     → (r : ℕ) → r / 64 ≡ k → (holds ws r || (b && holds os r)) ≡ (bit_at word (r % 64) == 1)
-word_test ws os b word k joined r e = ap (λ j. (bit_at (slice_index ws j) (r % 64) == 1) || (b && (bit_at (slice_index os j) (r % 64) == 1))) e ∙ sym (joined (r % 64))
+word_test ws os b word k joined r e = ap (λ j. (bit_at (slice_index ws j) (r % 64) == 1) ||
+    (b && (bit_at (slice_index os j) (r % 64) == 1))) e ∙ sym (joined (r % 64))

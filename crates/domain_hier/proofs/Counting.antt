@@ -1,6 +1,7 @@
 -- n lines use at most n numbers of a domain. So a search over n numbers finds the lowest unused
 -- one, which is the lowest number that isn't mapped.
-use Rattle.std.proofs.Common.{◌≡◌, ◌≢◌, ℕ, zero, suc, ◌+◌, ◌<◌, ◌≤◌, Bool, true, false, cond, ◌||◌, ◌==◌, ◌⊎◌, inl, inr, List, [], ◌∷◌, length, refl, sym, ap, ◌∙◌, eqb-true, arith}
+use Rattle.std.proofs.Common.{◌≡◌, ◌≢◌, ℕ, zero, suc, ◌+◌, ◌<◌, ◌≤◌, Bool, true, false, cond, ◌||◌, ◌==◌, ◌⊎◌, inl, inr}
+use Rattle.std.proofs.Common.{List, [], ◌∷◌, length, refl, sym, ap, ◌∙◌, eqb-true, arith}
 use Rattle.std.proofs.lemmas.Bool.{false≢true, eqb-false}
 use Rattle.domain_rules.specs.Layout.{has_number, is_used, unused_from, lowest_unused}
 use Rattle.domain_rules.specs.declared.layouts.Placement.{Placement}
@@ -12,11 +13,13 @@ tally (suc c) test = cond (test c) (tally c test + 1) (tally c test)
 
 tally_all : (c : ℕ) (test : ℕ → Bool) → ((j : ℕ) → j < c → test j ≡ true) → tally c test ≡ c
 tally_all zero test all = refl
-tally_all (suc c) test all = ap (λ b. cond b (tally c test + 1) (tally c test)) (all c (omega arith)) ∙ omega (arith, tally_all c test (λ j below. all j (omega (arith, below))))
+tally_all (suc c) test all = ap (λ b. cond b (tally c test + 1) (tally c test)) (all c (omega arith))
+    ∙ omega (arith, tally_all c test (λ j below. all j (omega (arith, below))))
 
 tally_none : (c : ℕ) (test : ℕ → Bool) → ((j : ℕ) → j < c → test j ≡ false) → tally c test ≡ 0
 tally_none zero test none = refl
-tally_none (suc c) test none = ap (λ b. cond b (tally c test + 1) (tally c test)) (none c (omega arith)) ∙ tally_none c test (λ j below. none j (omega (arith, below)))
+tally_none (suc c) test none = ap (λ b. cond b (tally c test + 1) (tally c test)) (none c (omega arith))
+    ∙ tally_none c test (λ j below. none j (omega (arith, below)))
 
 tally_or : (c : ℕ) (s t : ℕ → Bool) → tally c (λ j. s j || t j) ≤ tally c s + tally c t
 tally_or zero s t = omega arith
@@ -54,7 +57,8 @@ tally_used c d (p ∷ ps) one =
 pub used_below : (c d : ℕ) (earlier : List Placement) → OneEach d earlier → ((j : ℕ) → j < c → is_used earlier d j ≡ true) → c ≤ length earlier
 used_below c d earlier one all = omega (arith, tally_all c (is_used earlier d) all, tally_used c d earlier one)
 
-pub found : (left k n d : ℕ) (earlier : List Placement) → ((j : ℕ) → j < n → is_used earlier d j ≡ true) → is_used earlier d n ≡ false → k ≤ n → n ≤ k + left → unused_from left k earlier d ≡ n
+pub found : (left k n d : ℕ) (earlier : List Placement) → ((j : ℕ) → j < n → is_used earlier d j ≡ true)
+    → is_used earlier d n ≡ false → k ≤ n → n ≤ k + left → unused_from left k earlier d ≡ n
 found zero k n d earlier all none from within = omega (arith, from, within)
 found (suc left) k n d earlier all none from within =
     by (is_used earlier d k) refl (λ more. found left (k + 1) n d earlier all none more (omega (arith, within)))
@@ -68,7 +72,8 @@ found (suc left) k n d earlier all none from within =
         omega (arith, from, not_below)
 
 -- the lowest number that isn't used is what the search finds
-pub lowest_is : (n d : ℕ) (earlier : List Placement) → OneEach d earlier → ((j : ℕ) → j < n → is_used earlier d j ≡ true) → is_used earlier d n ≡ false → lowest_unused earlier d ≡ n
+pub lowest_is : (n d : ℕ) (earlier : List Placement) → OneEach d earlier
+    → ((j : ℕ) → j < n → is_used earlier d j ≡ true) → is_used earlier d n ≡ false → lowest_unused earlier d ≡ n
 lowest_is n d earlier one all none =
     let few : n ≤ length earlier = used_below n d earlier one all in
     found (length earlier) 0 n d earlier all none (omega arith) (omega (arith, few))
@@ -77,7 +82,8 @@ lowest_is n d earlier one all none =
 
 -- one is found, or all up to the search's end are used, and that is what it gives
 ends : (left k d : ℕ) (earlier : List Placement) → ((j : ℕ) → j < k → is_used earlier d j ≡ true)
-    → (is_used earlier d (unused_from left k earlier d) ≡ false) ⊎ ((unused_from left k earlier d ≡ k + left) × ((j : ℕ) → j < k + left → is_used earlier d j ≡ true))
+    → (is_used earlier d (unused_from left k earlier d) ≡ false)
+    ⊎ ((unused_from left k earlier d ≡ k + left) × ((j : ℕ) → j < k + left → is_used earlier d j ≡ true))
 ends zero k d earlier all = inr (omega arith, λ j below. all j (omega (arith, below)))
 ends (suc left) k d earlier all = by (is_used earlier d k) refl (λ more. ends left (k + 1) d earlier more)
   where
@@ -89,20 +95,32 @@ ends (suc left) k d earlier all = by (is_used earlier d k) refl (λ more. ends l
         at false e = let other : j ≢ k = eqb-false j k e in all j (omega (arith, below, other))
 
     by : (b : Bool) → is_used earlier d k ≡ b
-        → (((j : ℕ) → j < k + 1 → is_used earlier d j ≡ true) → (is_used earlier d (unused_from left (k + 1) earlier d) ≡ false) ⊎ ((unused_from left (k + 1) earlier d ≡ k + 1 + left) × ((j : ℕ) → j < k + 1 + left → is_used earlier d j ≡ true)))
-        → (is_used earlier d (cond b (unused_from left (k + 1) earlier d) k) ≡ false) ⊎ ((cond b (unused_from left (k + 1) earlier d) k ≡ k + suc left) × ((j : ℕ) → j < k + suc left → is_used earlier d j ≡ true))
+        → (((j : ℕ) → j < k + 1 → is_used earlier d j ≡ true)
+        → (is_used earlier d (unused_from left (k + 1) earlier d) ≡ false)
+        ⊎ ((unused_from left (k + 1) earlier d ≡ k + 1 + left)
+        × ((j : ℕ) → j < k + 1 + left → is_used earlier d j ≡ true)))
+        → (is_used earlier d (cond b (unused_from left (k + 1) earlier d) k) ≡ false)
+        ⊎ ((cond b (unused_from left (k + 1) earlier d) k ≡ k + suc left)
+        × ((j : ℕ) → j < k + suc left → is_used earlier d j ≡ true))
     by true is rest = on (rest (up_to is))
       where
-        on : (is_used earlier d (unused_from left (k + 1) earlier d) ≡ false) ⊎ ((unused_from left (k + 1) earlier d ≡ k + 1 + left) × ((j : ℕ) → j < k + 1 + left → is_used earlier d j ≡ true))
-            → (is_used earlier d (unused_from left (k + 1) earlier d) ≡ false) ⊎ ((unused_from left (k + 1) earlier d ≡ k + suc left) × ((j : ℕ) → j < k + suc left → is_used earlier d j ≡ true))
+        on : (is_used earlier d (unused_from left (k + 1) earlier d) ≡ false)
+            ⊎ ((unused_from left (k + 1) earlier d ≡ k + 1 + left)
+            × ((j : ℕ) → j < k + 1 + left → is_used earlier d j ≡ true))
+            → (is_used earlier d (unused_from left (k + 1) earlier d) ≡ false)
+            ⊎ ((unused_from left (k + 1) earlier d ≡ k + suc left)
+            × ((j : ℕ) → j < k + suc left → is_used earlier d j ≡ true))
         on (inl none) = inl none
         on (inr h) = inr (omega (arith, h.0), λ j below. h.1 j (omega (arith, below)))
     by false is rest = inl is
 
 pub lowest_is_unused : (d : ℕ) (earlier : List Placement) → OneEach d earlier → is_used earlier d (lowest_unused earlier d) ≡ false
-lowest_is_unused d earlier one = by (ends (length earlier) 0 d earlier (λ j below. absurd (omega (arith, below)))) (is_used earlier d (lowest_unused earlier d)) refl
+lowest_is_unused d earlier one = by (ends (length earlier) 0 d earlier (λ j below. absurd (omega (arith, below))))
+    (is_used earlier d (lowest_unused earlier d)) refl
   where
-    by : (is_used earlier d (lowest_unused earlier d) ≡ false) ⊎ ((lowest_unused earlier d ≡ 0 + length earlier) × ((j : ℕ) → j < 0 + length earlier → is_used earlier d j ≡ true))
+    by : (is_used earlier d (lowest_unused earlier d) ≡ false)
+        ⊎ ((lowest_unused earlier d ≡ 0 + length earlier)
+        × ((j : ℕ) → j < 0 + length earlier → is_used earlier d j ≡ true))
         → (b : Bool) → is_used earlier d (lowest_unused earlier d) ≡ b → is_used earlier d (lowest_unused earlier d) ≡ false
     by (inl none) b is = none
     by (inr h) false is = is

@@ -1,6 +1,7 @@
 -- The kinds on a path make a chain: children, and a root at the end; and a path with messages has a
 -- root that presents edges.
-use Rattle.std.proofs.Common.{◌≡◌, ℕ, zero, suc, ◌+◌, ◌<◌, ◌≤◌, Bool, true, false, not, ◌&&◌, ◌||◌, Option, Some, None, List, [], ◌∷◌, ◌++◌, length, map, take, refl, sym, ap, subst, ◌∙◌, arith}
+use Rattle.std.proofs.Common.{◌≡◌, ℕ, zero, suc, ◌+◌, ◌<◌, ◌≤◌, Bool, true, false, not, ◌&&◌, ◌||◌, Option, Some, None}
+use Rattle.std.proofs.Common.{List, [], ◌∷◌, ◌++◌, length, map, take, refl, sym, ap, subst, ◌∙◌, arith}
 use Rattle.std.proofs.Math.ListN.{set, length-map}
 use Rattle.std.specs.List.{slice_get}
 use Rattle.std.specs.Prelude.{nat_le}
@@ -25,7 +26,8 @@ get_taken [] (suc n) i below = refl
 get_taken (d ∷ ds) (suc n) zero below = refl
 get_taken (d ∷ ds) (suc n) (suc i) below = get_taken ds n i (omega (arith, below))
 
-way_taken : (domains : List DomainDef) → EachAfter IsDomainAfter domains → (i n : ℕ) (at : Option ℕ) → IsBelow i at → way n (take i domains) at ≡ way n domains at
+way_taken : (domains : List DomainDef) → EachAfter IsDomainAfter domains → (i n : ℕ) (at : Option ℕ) → IsBelow i at
+    → way n (take i domains) at ≡ way n domains at
 way_taken domains each i zero at below = refl
 way_taken domains each i (suc n) None below = refl
 way_taken domains each i (suc n) (Some p) below =
@@ -42,12 +44,15 @@ way_shorter domains zero (Some p) few = absurd (omega (arith, few))
 way_shorter domains (suc n) None few = refl
 way_shorter domains (suc n) (Some p) few = ap (λ ps. p ∷ ps) (way_shorter domains n (parent_in (slice_get domains p)) (omega (arith, few)))
 
-kinds_taken : (domains : List DomainDef) (i : ℕ) (ps : List ℕ) → AllBelow i ps → map (λ place. kind_in (slice_get (take i domains) place)) ps ≡ map (λ place. kind_in (slice_get domains place)) ps
+kinds_taken : (domains : List DomainDef) (i : ℕ) (ps : List ℕ) → AllBelow i ps
+    → map (λ place. kind_in (slice_get (take i domains) place)) ps ≡ map (λ place. kind_in (slice_get domains place)) ps
 kinds_taken domains i [] below = refl
 kinds_taken domains i (p ∷ ps) below =
-    ap (λ o. kind_in o ∷ map (λ place. kind_in (slice_get (take i domains) place)) ps) (get_taken domains i p below.0) ∙ ap (λ ks. kind_in (slice_get domains p) ∷ ks) (kinds_taken domains i ps below.1)
+    ap (λ o. kind_in o ∷ map (λ place. kind_in (slice_get (take i domains) place)) ps) (get_taken domains i p below.0)
+    ∙ ap (λ ks. kind_in (slice_get domains p) ∷ ks) (kinds_taken domains i ps below.1)
 
-kinds_from_taken : (domains : List DomainDef) → EachAfter IsDomainAfter domains → (i p : ℕ) → p < i → kinds_from (take i domains) (Some p) ≡ kinds_from domains (Some p)
+kinds_from_taken : (domains : List DomainDef) → EachAfter IsDomainAfter domains → (i p : ℕ) → p < i
+    → kinds_from (take i domains) (Some p) ≡ kinds_from domains (Some p)
 kinds_from_taken domains each i p below =
     ap (map (λ place. kind_in (slice_get (take i domains) place))) (way_taken domains each i most_levels (Some p) below)
     ∙ kinds_taken domains i (way most_levels domains (Some p)) (way_below domains each most_levels i (Some p) below)
@@ -76,7 +81,8 @@ root_alone levels.Lpi r = record { path = refl; edges = refl }
 root_alone levels.Msi r = absurd (false≢true r)
 root_alone levels.Remap r = absurd (false≢true r)
 
-child_above : (k : ControllerKind) (ks : List ControllerKind) → is_root_kind k ≡ false → is_msi k && presents_level_kind (root_kind ks) ≡ false → IsPathOfKinds ks → IsPathOfKinds (k ∷ ks)
+child_above : (k : ControllerKind) (ks : List ControllerKind) → is_root_kind k ≡ false
+    → is_msi k && presents_level_kind (root_kind ks) ≡ false → IsPathOfKinds ks → IsPathOfKinds (k ∷ ks)
 child_above k [] r m h = absurd (false≢true h.path)
 child_above levels.Msi (x ∷ xs) r m h = record { path = h.path; edges = m }
 child_above levels.Remap (x ∷ xs) r m h = record { path = h.path; edges = h.edges }
@@ -88,7 +94,8 @@ child_above levels.Vector (x ∷ xs) r m h = absurd (false≢true (sym r))
 child_above levels.Lpi (x ∷ xs) r m h = absurd (false≢true (sym r))
 
 kinds_by : (domains : List DomainDef) → EachAfter IsDomainAfter domains → (i : ℕ) (def : DomainDef) → slice_get domains i ≡ Some def
-    → ((p : ℕ) → p < i → IsPathOfKinds (kinds_from domains (Some p))) → (o : Option ℕ) → def.parent ≡ o → IsBelow i o → is_bad_parent (take i domains) def.kind o ≡ false
+    → ((p : ℕ) → p < i → IsPathOfKinds (kinds_from domains (Some p))) → (o : Option ℕ) → def.parent ≡ o → IsBelow i o
+    → is_bad_parent (take i domains) def.kind o ≡ false
     → IsPathOfKinds (kind_in (slice_get domains i) ∷ map (λ place. kind_in (slice_get domains place)) (way 7 domains o))
 kinds_by domains each i def at below None is there good =
     subst (λ o. IsPathOfKinds (kind_in o ∷ [])) (sym at) (root_alone def.kind (is_root_by (is_root_kind def.kind) good))
@@ -98,18 +105,26 @@ kinds_by domains each i def at below (Some p) is there good =
     let first = neither (is_root_kind def.kind) ((is_msi def.kind && presents_level_kind (root_kind kinds)) || nat_le most_levels (length goes)) good in
     let second = neither (is_msi def.kind && presents_level_kind (root_kind kinds)) (nat_le most_levels (length goes)) first.1 in
     let same : kinds ≡ kinds_from domains (Some p) = kinds_from_taken domains each i p there in
-    let short : length (way 8 domains (Some p)) < 8 = omega (arith, ap length (way_taken domains each i most_levels (Some p) there), leb-false most_levels (length goes) second.1) in
+    let short : length (way 8 domains (Some p)) < 8 = omega (
+      arith,
+      ap length (way_taken domains each i most_levels (Some p) there),
+      leb-false most_levels (length goes)
+          second.1,
+    ) in
     let above : way 8 domains (Some p) ≡ way 7 domains (Some p) = way_shorter domains 7 (Some p) (omega (arith, short)) in
-    let root : is_msi def.kind && presents_level_kind (root_kind (kinds_from domains (Some p))) ≡ false = ap (λ ks. is_msi def.kind && presents_level_kind (root_kind ks)) (sym same) ∙ second.0 in
+    let root : is_msi def.kind && presents_level_kind (root_kind (kinds_from domains (Some p)))
+    ≡ false = ap (λ ks. is_msi def.kind && presents_level_kind (root_kind ks)) (sym same) ∙ second.0 in
     subst (λ o. IsPathOfKinds (kind_in o ∷ map (λ place. kind_in (slice_get domains place)) (way 7 domains (Some p)))) (sym at)
-    (subst (λ ps. IsPathOfKinds (def.kind ∷ map (λ place. kind_in (slice_get domains place)) ps)) above (child_above def.kind (kinds_from domains (Some p)) first.0 root (below p there)))
+    (subst (λ ps. IsPathOfKinds (def.kind ∷ map (λ place. kind_in (slice_get domains place)) ps)) above
+    (child_above def.kind (kinds_from domains (Some p)) first.0 root (below p there)))
 
 at_place : (domains : List DomainDef) (i : ℕ) → i < length domains → (def : DomainDef) × (slice_get domains i ≡ Some def)
 at_place [] i within = absurd (omega (arith, within))
 at_place (d ∷ ds) zero within = (d, refl)
 at_place (d ∷ ds) (suc i) within = at_place ds i (omega (arith, within))
 
-kinds_below : (domains : List DomainDef) → EachAfter IsDomainAfter domains → (bound i : ℕ) → i < bound → i < length domains → IsPathOfKinds (kinds_from domains (Some i))
+kinds_below : (domains : List DomainDef) → EachAfter IsDomainAfter domains → (bound i : ℕ) → i < bound
+    → i < length domains → IsPathOfKinds (kinds_from domains (Some i))
 kinds_below domains each zero i below within = absurd (omega (arith, below))
 kinds_below domains each (suc bound) i below within =
     let d = at_place domains i within in
@@ -118,11 +133,13 @@ kinds_below domains each (suc bound) i below within =
     let parent : parent_in (slice_get domains i) ≡ def.parent = ap parent_in d.1 in
     let there : IsBelow i def.parent = subst (IsBelow i) parent (parent_before domains each i) in
     subst (λ o. IsPathOfKinds (kind_in (slice_get domains i) ∷ map (λ place. kind_in (slice_get domains place)) (way 7 domains o))) (sym parent)
-    (kinds_by domains each i def d.1 (λ p lower. kinds_below domains each bound p (omega (arith, lower, below)) (omega (arith, lower, within))) def.parent refl there own.parent)
+    (kinds_by domains each i def d.1 (λ p lower. kinds_below domains each bound p (omega (arith, lower, below))
+    (omega (arith, lower, within))) def.parent refl there own.parent)
 
 -- ---- a path in use
 
-pub path_of_kinds : (domains : List DomainDef) (path : List (ℕ × ℕ)) → EachAfter IsDomainAfter domains → IsPlaced domains path → IsPathOfKinds (kinds_on domains path)
+pub path_of_kinds : (domains : List DomainDef) (path : List (ℕ × ℕ)) → EachAfter IsDomainAfter domains
+    → IsPlaced domains path → IsPathOfKinds (kinds_on domains path)
 path_of_kinds domains [] each own = absurd (false≢true own.masks)
 path_of_kinds domains (level ∷ rest) each own =
     subst IsPathOfKinds (sym (kinds_of_places domains (level ∷ rest) ∙ ap (map (λ place. kind_in (slice_get domains place))) own.way))
@@ -154,7 +171,8 @@ take_end (y ∷ ys) zero none within = absurd cc
 take_end (y ∷ ys) (suc i) none within = let rest = take_end ys i none (omega (arith, within)) in (omega (arith, rest.0), ap (λ zs. y ∷ zs) rest.1)
 
 -- one more level's kind is in its place
-pub kinds_go_on : (domains : List DomainDef) (path : List (ℕ × ℕ)) (kinds : List ControllerKind) (i : ℕ) (level : ℕ × ℕ) (k : ControllerKind) → slice_get path i ≡ Some level → k ≡ kind_at domains level → i < length kinds
+pub kinds_go_on : (domains : List DomainDef) (path : List (ℕ × ℕ)) (kinds : List ControllerKind) (i : ℕ) (level : ℕ × ℕ)
+    (k : ControllerKind) → slice_get path i ≡ Some level → k ≡ kind_at domains level → i < length kinds
     → take i kinds ≡ kinds_on domains (take i path) → take (i + 1) (set kinds i k) ≡ kinds_on domains (take (i + 1) path)
 kinds_go_on domains path kinds i level k at is within e =
     take_set kinds i k within ∙ (ap (λ ks. ks ++ k ∷ []) e ∙ (ap (λ x. kinds_on domains (take i path) ++ x ∷ []) is

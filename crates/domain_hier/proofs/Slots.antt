@@ -1,5 +1,6 @@
 -- Places and virqs.
-use Rattle.std.proofs.Common.{◌≡◌, ◌≢◌, ℕ, zero, suc, ◌+◌, ◌-◌, ◌<◌, ◌≤◌, Option, Some, None, List, [], ◌∷◌, ◌++◌, length, drop, refl, sym, ap, ◌∙◌, add-one, arith}
+use Rattle.std.proofs.Common.{◌≡◌, ◌≢◌, ℕ, zero, suc, ◌+◌, ◌-◌, ◌<◌, ◌≤◌, Option, Some, None, List, [], ◌∷◌, ◌++◌}
+use Rattle.std.proofs.Common.{length, drop, refl, sym, ap, ◌∙◌, add-one, arith}
 use Rattle.std.proofs.Math.ListN.{set}
 use Rattle.domain_hier.specs.PathsInUse.{slot, path_in, first_free, placed, in_use_from}
 
@@ -19,7 +20,8 @@ place_within (Some path ∷ paths) new zero e within = absurd (omega (arith, e))
 place_within (Some path ∷ paths) new (suc n) e within = ap (λ ps. Some path ∷ ps) (place_within paths new n (omega (arith, e)) (omega (arith, within)))
 
 -- none before the place that was taken is free
-pub free_after : (paths : Paths) (new : List (ℕ × ℕ)) (n : ℕ) → n ≡ first_free paths → first_free (drop n (placed paths new)) + n ≡ first_free (placed paths new)
+pub free_after : (paths : Paths) (new : List (ℕ × ℕ)) (n : ℕ) → n ≡ first_free paths
+    → first_free (drop n (placed paths new)) + n ≡ first_free (placed paths new)
 free_after [] new zero e = refl
 free_after [] new (suc n) e = absurd (omega (arith, e))
 free_after (None ∷ paths) new zero e = omega arith

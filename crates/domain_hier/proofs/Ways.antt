@@ -1,5 +1,6 @@
 -- The way from a domain to its root: parents stand before their children.
-use Rattle.std.proofs.Common.{◌≡◌, ℕ, zero, suc, ◌<◌, ◌≤◌, Bool, true, false, ◌==◌, ◌&&◌, ◌||◌, IfSome, Option, Some, None, List, [], ◌∷◌, length, map, take, refl, sym, ap, subst, ◌∙◌, eqb-true, arith}
+use Rattle.std.proofs.Common.{◌≡◌, ℕ, zero, suc, ◌<◌, ◌≤◌, Bool, true, false, ◌==◌, ◌&&◌, ◌||◌, IfSome, Option, Some}
+use Rattle.std.proofs.Common.{None, List, [], ◌∷◌, length, map, take, refl, sym, ap, subst, ◌∙◌, eqb-true, arith}
 use Rattle.std.specs.List.{slice_get}
 use Rattle.std.proofs.lemmas.Bool.{false≢true}
 use Rattle.irq_base.specs.declared.domains.DomainDef.{DomainDef}
@@ -27,7 +28,8 @@ parent_before domains each i = by (slice_get domains i) refl
     by (Some def) is = below_more (length (take i domains)) i def.parent (length_take i domains) (each i def is).declared
     by None is = tt
 
-pub parent_there : (domains : List DomainDef) → EachAfter IsDomainAfter domains → (i : ℕ) → i < length domains → IsBelow (length domains) (parent_in (slice_get domains i))
+pub parent_there : (domains : List DomainDef) → EachAfter IsDomainAfter domains → (i : ℕ) → i < length domains
+    → IsBelow (length domains) (parent_in (slice_get domains i))
 parent_there domains each i there = below_more i (length domains) (parent_in (slice_get domains i)) (omega (arith, there)) (parent_before domains each i)
 
 -- ---- places that fall
@@ -40,11 +42,15 @@ abbrev pub Falls : List ℕ → Type 0
 Falls [] = Unit {0}
 Falls (x ∷ xs) = AllBelow x xs × Falls xs
 
-pub way_below : (domains : List DomainDef) → EachAfter IsDomainAfter domains → (n bound : ℕ) (at : Option ℕ) → IsBelow bound at → AllBelow bound (way n domains at)
+pub way_below : (domains : List DomainDef) → EachAfter IsDomainAfter domains → (n bound : ℕ) (at : Option ℕ)
+    → IsBelow bound at → AllBelow bound (way n domains at)
 way_below domains each zero bound at h = tt
 way_below domains each (suc n) bound None h = tt
-way_below domains each (suc n) bound (Some p) h =
-    (h, way_below domains each n bound (parent_in (slice_get domains p)) (below_more p bound (parent_in (slice_get domains p)) (omega (arith, h)) (parent_before domains each p)))
+way_below domains each (suc n) bound (Some p) h = (
+  h,
+  way_below domains each n bound (parent_in (slice_get domains p))
+      (below_more p bound (parent_in (slice_get domains p)) (omega (arith, h)) (parent_before domains each p)),
+)
 
 pub way_falls : (domains : List DomainDef) → EachAfter IsDomainAfter domains → (n : ℕ) (at : Option ℕ) → Falls (way n domains at)
 way_falls domains each zero at = tt

@@ -1,5 +1,7 @@
 -- A path from a place on, and one number of one map changed.
-use Rattle.std.proofs.Common.{◌≡◌, ◌≢◌, ℕ, zero, suc, ◌+◌, ◌<◌, ◌≤◌, Bool, true, false, cond, ◌&&◌, ◌||◌, ◌==◌, Option, Some, None, option_map, List, [], ◌∷◌, drop, length, get_or, refl, sym, ap, ◌∙◌, eqb-true, eq-eqb, arith}
+use Rattle.std.proofs.Common.{◌≡◌, ◌≢◌, ℕ, zero, suc, ◌+◌, ◌<◌, ◌≤◌, Bool, true, false, cond, ◌&&◌, ◌||◌, ◌==◌, Option}
+use Rattle.std.proofs.Common.{Some, None, option_map, List, [], ◌∷◌, drop, length, get_or, refl, sym, ap, ◌∙◌, eqb-true}
+use Rattle.std.proofs.Common.{eq-eqb, arith}
 use Rattle.std.proofs.Math.ListN.{set}
 use Rattle.std.proofs.lemmas.Bool.{eqb-false, false≢true}
 use Rattle.std.specs.Cmp.{both_ways}
@@ -65,7 +67,8 @@ pub changed : (maps : List DomainMap) (i : ℕ) (old new : DomainMap) (b : Bool)
     → (d k : ℕ) → virq_at (set maps i new) d k ≡ cond (b && is_level d k (i, hw)) v (virq_at maps d k)
 changed maps i old new b v hw is within h d k = changed_by maps i old new b v hw is within h d k (i == d) refl
 
-pub same_sizes : (maps : List DomainMap) (i : ℕ) (old new : DomainMap) → old ≡ get_or maps i old → map_size new ≡ map_size old → sizes (set maps i new) ≡ sizes maps
+pub same_sizes : (maps : List DomainMap) (i : ℕ) (old new : DomainMap) → old ≡ get_or maps i old
+    → map_size new ≡ map_size old → sizes (set maps i new) ≡ sizes maps
 same_sizes maps i old new is s = map-set_same map_size maps i new old (s ∙ ap map_size is)
 
 -- a place that isn't there
@@ -74,19 +77,22 @@ none_there [] d k past = refl
 none_there (m ∷ ms) zero k past = absurd (omega (arith, past))
 none_there (m ∷ ms) (suc d) k past = none_there ms d k (omega (arith, past))
 
-there_by : (maps : List DomainMap) (i k : ℕ) (o : Option DomainMap) → slice_get maps i ≡ o → has_place_in (option_map map_size (slice_get maps i)) k ≡ true → i < length maps
+there_by : (maps : List DomainMap) (i k : ℕ) (o : Option DomainMap) → slice_get maps i ≡ o
+    → has_place_in (option_map map_size (slice_get maps i)) k ≡ true → i < length maps
 there_by maps i k (Some m) e w = slice_get_within maps i m e
 there_by maps i k None e w = absurd (false≢true (ap (λ o. has_place_in (option_map map_size o) k) (sym e) ∙ w))
 
 -- a place within is there
 pub is_there : (maps : List DomainMap) (level : ℕ × ℕ) → is_within (sizes maps) level ≡ true → level.0 < length maps
-is_there maps level w = there_by maps level.0 level.1 (slice_get maps level.0) refl (ap (λ o. has_place_in o level.1) (sym (slice_get-map map_size maps level.0)) ∙ w)
+is_there maps level w = there_by maps level.0 level.1 (slice_get maps level.0) refl
+    (ap (λ o. has_place_in o level.1) (sym (slice_get-map map_size maps level.0)) ∙ w)
 
 always : (t : Bool) → cond {A = Option ℕ} t None None ≡ None
 always true = refl
 always false = refl
 
-gone_by : (maps : List DomainMap) (i hw : ℕ) → length maps ≤ i → (d k : ℕ) (t : Bool) → (i == d) ≡ t → virq_at maps d k ≡ cond (t && (hw == k)) None (virq_at maps d k)
+gone_by : (maps : List DomainMap) (i hw : ℕ) → length maps ≤ i → (d k : ℕ) (t : Bool) → (i == d) ≡ t
+    → virq_at maps d k ≡ cond (t && (hw == k)) None (virq_at maps d k)
 gone_by maps i hw past d k true e =
     let none : virq_at maps d k ≡ None = none_there maps d k (omega (arith, past, eqb-true i d e)) in
     none ∙ (sym (always (hw == k)) ∙ ap (cond (hw == k) None) (sym none))
@@ -103,7 +109,9 @@ gone_both true false x = refl
 gone_both false b x = refl
 
 -- one level is given up, and then the levels after it
-pub gives_up_more : (level : ℕ × ℕ) (rest : List (ℕ × ℕ)) (d k : ℕ) (old mid new : Option ℕ) → mid ≡ cond (is_level d k level) None old → new ≡ cond (is_on rest d k) None mid → new ≡ cond (is_on (level ∷ rest) d k) None old
+pub gives_up_more : (level : ℕ × ℕ) (rest : List (ℕ × ℕ)) (d k : ℕ) (old mid new : Option ℕ)
+    → mid ≡ cond (is_level d k level) None old → new ≡ cond (is_on rest d k) None mid
+    → new ≡ cond (is_on (level ∷ rest) d k) None old
 gives_up_more level rest d k old mid new m n = n ∙ (ap (cond (is_on rest d k) None) m ∙ gone_both (is_level d k level) (is_on rest d k) old)
 
 both_set : (a b : Bool) (v x : Option ℕ) → cond a v (cond b v x) ≡ cond (a || b) v x
@@ -111,15 +119,21 @@ both_set true b v x = refl
 both_set false b v x = refl
 
 -- the levels after one are written, and then that one
-pub writes_more : (level : ℕ × ℕ) (rest : List (ℕ × ℕ)) (d k : ℕ) (v old mid new : Option ℕ) → mid ≡ cond (is_on rest d k) v old → new ≡ cond (is_level d k level) v mid → new ≡ cond (is_on (level ∷ rest) d k) v old
+pub writes_more : (level : ℕ × ℕ) (rest : List (ℕ × ℕ)) (d k : ℕ) (v old mid new : Option ℕ)
+    → mid ≡ cond (is_on rest d k) v old → new ≡ cond (is_level d k level) v mid
+    → new ≡ cond (is_on (level ∷ rest) d k) v old
 writes_more level rest d k v old mid new m n = n ∙ (ap (cond (is_level d k level) v) m ∙ both_set (is_level d k level) (is_on rest d k) v old)
 
-free_by : (maps : List DomainMap) (level : ℕ × ℕ) (d k : ℕ) (t u : Bool) → (level.0 == d) ≡ t → (level.1 == k) ≡ u → t && u ≡ true → virq_at maps level.0 level.1 ≡ None → virq_at maps d k ≡ None
-free_by maps level d k true true e f o n = ap (λ x. virq_at maps x k) (sym (eqb-true level.0 d e)) ∙ (ap (virq_at maps level.0) (sym (eqb-true level.1 k f)) ∙ n)
+free_by : (maps : List DomainMap) (level : ℕ × ℕ) (d k : ℕ) (t u : Bool) → (level.0 == d) ≡ t → (level.1 == k) ≡ u
+    → t && u ≡ true → virq_at maps level.0 level.1 ≡ None → virq_at maps d k ≡ None
+free_by maps level d k true true e f o n = ap (λ x. virq_at maps x k) (sym (eqb-true level.0 d e))
+    ∙ (ap (virq_at maps level.0) (sym (eqb-true level.1 k f)) ∙ n)
 free_by maps level d k true false e f o n = absurd (false≢true o)
 free_by maps level d k false u e f o n = absurd (false≢true o)
 
-is_free_by : (maps : List DomainMap) (level : ℕ × ℕ) (rest : List (ℕ × ℕ)) (d k : ℕ) (t : Bool) → is_level d k level ≡ t → t || is_on rest d k ≡ true → virq_at maps level.0 level.1 ≡ None → (is_on rest d k ≡ true → virq_at maps d k ≡ None) → virq_at maps d k ≡ None
+is_free_by : (maps : List DomainMap) (level : ℕ × ℕ) (rest : List (ℕ × ℕ)) (d k : ℕ) (t : Bool) → is_level d k level ≡ t
+    → t || is_on rest d k ≡ true → virq_at maps level.0 level.1 ≡ None
+    → (is_on rest d k ≡ true → virq_at maps d k ≡ None) → virq_at maps d k ≡ None
 is_free_by maps level rest d k true e o n r = free_by maps level d k (level.0 == d) (level.1 == k) refl refl e n
 is_free_by maps level rest d k false e o n r = r o
 
@@ -133,8 +147,10 @@ undone true v x h = sym (h refl)
 undone false v x h = refl
 
 -- what was written is given up again
-pub gives_back : (maps : List DomainMap) (rest : List (ℕ × ℕ)) (d k : ℕ) (v mid new : Option ℕ) → HasRoom maps rest → mid ≡ cond (is_on rest d k) v (virq_at maps d k) → new ≡ cond (is_on rest d k) None mid → new ≡ virq_at maps d k
-gives_back maps rest d k v mid new room m n = n ∙ (ap (cond (is_on rest d k) None) m ∙ undone (is_on rest d k) v (virq_at maps d k) (is_free maps rest d k room))
+pub gives_back : (maps : List DomainMap) (rest : List (ℕ × ℕ)) (d k : ℕ) (v mid new : Option ℕ) → HasRoom maps rest
+    → mid ≡ cond (is_on rest d k) v (virq_at maps d k) → new ≡ cond (is_on rest d k) None mid → new ≡ virq_at maps d k
+gives_back maps rest d k v mid new room m n = n ∙ (ap (cond (is_on rest d k) None) m
+    ∙ undone (is_on rest d k) v (virq_at maps d k) (is_free maps rest d k room))
 
 pub not_mapped : (answer : AssocAnswer) → (answer ≡ associated.Ok → ⊥) → is_associated answer ≡ false
 not_mapped associated.Ok h = absurd (h refl)

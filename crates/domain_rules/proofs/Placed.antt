@@ -12,16 +12,19 @@ use Rattle.domain_rules.specs.declared.layouts.Unmapped.TheVariants as reasons
 use Rattle.domain_rules.proofs.Ways.{way_short}
 
 mapped_path : (a b c : Bool) (n virq : ℕ) (p path : List (ℕ × ℕ))
-    → cond a (placements.Refused reasons.NoMask) (cond b (placements.Refused reasons.OutOfRange) (cond c (placements.Refused reasons.Taken) (placements.Mapped n p))) ≡ placements.Mapped virq path → p ≡ path
+    → cond a (placements.Refused reasons.NoMask) (cond b (placements.Refused reasons.OutOfRange)
+    (cond c (placements.Refused reasons.Taken) (placements.Mapped n p))) ≡ placements.Mapped virq path → p ≡ path
 mapped_path true b c n virq p path e = absurd cc
 mapped_path false true c n virq p path e = absurd cc
 mapped_path false false true n virq p path e = absurd cc
 mapped_path false false false n virq p path e = cc
 
-pub placed_path : (domains : List DomainDef) (earlier : List Placement) (leaf : ℕ × ℕ) (virq : ℕ) (path : List (ℕ × ℕ)) → placement_of domains earlier leaf ≡ placements.Mapped virq path → path_of domains earlier leaf ≡ path
+pub placed_path : (domains : List DomainDef) (earlier : List Placement) (leaf : ℕ × ℕ) (virq : ℕ) (path : List (ℕ × ℕ))
+    → placement_of domains earlier leaf ≡ placements.Mapped virq path → path_of domains earlier leaf ≡ path
 placed_path domains earlier leaf virq path e =
     let own = path_of domains earlier leaf in
-    mapped_path (is_none (masking_kind (kinds_from domains (Some leaf.0)))) (list_any (is_past_path domains) own) (is_used earlier leaf.0 leaf.1) (count_of_mapped earlier + 1) virq own path e
+    mapped_path (is_none (masking_kind (kinds_from domains (Some leaf.0)))) (list_any (is_past_path domains) own)
+    (is_used earlier leaf.0 leaf.1) (count_of_mapped earlier + 1) virq own path e
 
 -- the placement at a line's place is the line's, after some
 pub laid : (domains : List DomainDef) (earlier : List Placement) (leaves : List (ℕ × ℕ)) (i : ℕ) (leaf : ℕ × ℕ) (p : Placement) → slice_get leaves i ≡ Some leaf
@@ -38,12 +41,15 @@ pub laid_all : (domains : List DomainDef) (earlier : List Placement) (leaves : L
 laid_all domains earlier [] = refl
 laid_all domains earlier (leaf ∷ leaves) = ap suc (laid_all domains (earlier ++ placement_of domains earlier leaf ∷ []) leaves)
 
-kinds_above : (domains : List DomainDef) (f : ℕ → ℕ) (places : List ℕ) → kinds_on domains (map (λ place. (place, f place)) places) ≡ map (λ place. kind_in (slice_get domains place)) places
+kinds_above : (domains : List DomainDef) (f : ℕ → ℕ) (places : List ℕ)
+    → kinds_on domains (map (λ place. (place, f place)) places)
+    ≡ map (λ place. kind_in (slice_get domains place)) places
 kinds_above domains f [] = refl
 kinds_above domains f (place ∷ places) = ap (λ ks. kind_in (slice_get domains place) ∷ ks) (kinds_above domains f places)
 
 -- the kinds on a line's path are the kinds on the way from its domain
-pub path_kinds : (domains : List DomainDef) (earlier : List Placement) (leaf : ℕ × ℕ) → kinds_on domains (path_of domains earlier leaf) ≡ kinds_from domains (Some leaf.0)
+pub path_kinds : (domains : List DomainDef) (earlier : List Placement) (leaf : ℕ × ℕ)
+    → kinds_on domains (path_of domains earlier leaf) ≡ kinds_from domains (Some leaf.0)
 path_kinds domains earlier leaf =
     ap (λ ks. kind_in (slice_get domains leaf.0) ∷ ks) (kinds_above domains (lowest_unused earlier) (way 7 domains (parent_in (slice_get domains leaf.0))))
 

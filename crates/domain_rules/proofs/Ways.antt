@@ -1,6 +1,7 @@
 -- The way from a domain to its root: how long it is, that it stays as domains are added, and what
 -- an Lpi root makes of its path.
-use Rattle.std.proofs.Common.{◌≡◌, ℕ, zero, suc, ◌<◌, ◌≤◌, Bool, true, false, ◌||◌, Option, Some, None, IfSome, List, [], ◌∷◌, ◌++◌, length, map, take, refl, sym, ap, ◌∙◌, arith}
+use Rattle.std.proofs.Common.{◌≡◌, ℕ, zero, suc, ◌<◌, ◌≤◌, Bool, true, false, ◌||◌, Option, Some, None, IfSome, List}
+use Rattle.std.proofs.Common.{[], ◌∷◌, ◌++◌, length, map, take, refl, sym, ap, ◌∙◌, arith}
 use Rattle.std.specs.List.{slice_get}
 use Rattle.std.proofs.lemmas.List.{length-take}
 use Rattle.irq_base.specs.declared.domains.DomainDef.{DomainDef}
@@ -40,14 +41,17 @@ way_stays (suc n) xs x None each h = refl
 way_stays (suc n) xs x (Some place) each h =
     let same = domain_stays xs x place h in
     ap (λ r. kind_in r ∷ map (λ place. kind_in (slice_get (xs ++ x ∷ []) place)) (way n (xs ++ x ∷ []) (parent_in r))) same
-    ∙ ap (λ ks. kind_in (slice_get xs place) ∷ ks) (way_stays n xs x (parent_in (slice_get xs place)) each (declared_up xs each place (slice_get xs place) refl))
+    ∙ ap (λ ks. kind_in (slice_get xs place) ∷ ks) (way_stays n xs x (parent_in (slice_get xs place)) each
+    (declared_up xs each place (slice_get xs place) refl))
 
-pub kinds_stay : (xs : List DomainDef) (x : DomainDef) (place : ℕ) → EachAfter IsDomainAfter xs → place < length xs → kinds_from (xs ++ x ∷ []) (Some place) ≡ kinds_from xs (Some place)
+pub kinds_stay : (xs : List DomainDef) (x : DomainDef) (place : ℕ) → EachAfter IsDomainAfter xs → place < length xs
+    → kinds_from (xs ++ x ∷ []) (Some place) ≡ kinds_from xs (Some place)
 kinds_stay xs x place each within = way_stays most_levels xs x (Some place) each within
 
 -- each level above which another stands is a child
 abbrev AreChildren : List DomainDef → Type 0
-AreChildren domains = (place : ℕ) (def : DomainDef) → slice_get domains place ≡ Some def → (parent : ℕ) → def.parent ≡ Some parent → is_root_kind def.kind ≡ false
+AreChildren domains = (place : ℕ) (def : DomainDef) → slice_get domains place ≡ Some def → (parent : ℕ)
+    → def.parent ≡ Some parent → is_root_kind def.kind ≡ false
 
 no_parent_of_root : (r rest : Bool) → (r || rest) ≡ false → r ≡ false
 no_parent_of_root r rest h = grind arith
@@ -56,7 +60,8 @@ are_children : (domains : List DomainDef) → EachAfter IsDomainAfter domains �
 are_children domains each place def at parent up =
     no_parent_of_root (is_root_kind def.kind) _ (sym (ap (is_bad_parent (take place domains) def.kind) up) ∙ (each place def at).parent)
 
-child_of : (domains : List DomainDef) → AreChildren domains → (place parent : ℕ) (r : Option DomainDef) → slice_get domains place ≡ r → parent_in r ≡ Some parent → is_root_kind (kind_in r) ≡ false
+child_of : (domains : List DomainDef) → AreChildren domains → (place parent : ℕ) (r : Option DomainDef)
+    → slice_get domains place ≡ r → parent_in r ≡ Some parent → is_root_kind (kind_in r) ≡ false
 child_of domains children place parent None at up = absurd cc
 child_of domains children place parent (Some def) at up = children place def at parent up
 
@@ -80,8 +85,12 @@ lpi_keeps domains children zero place root = absurd cc
 lpi_keeps domains children (suc n) place root =
     by n (parent_in (slice_get domains place)) refl root (λ parent. lpi_keeps domains children n parent)
   where
-    by : (n : ℕ) (up : Option ℕ) → parent_in (slice_get domains place) ≡ up → root_kind (kind_in (slice_get domains place) ∷ map (λ place. kind_in (slice_get domains place)) (way n domains up)) ≡ levels.Lpi
-        → ((parent : ℕ) → root_kind (map (λ place. kind_in (slice_get domains place)) (way n domains (Some parent))) ≡ levels.Lpi → keeps (map (λ place. kind_in (slice_get domains place)) (way n domains (Some parent))) ≡ true)
+    by : (n : ℕ) (up : Option ℕ) → parent_in (slice_get domains place) ≡ up
+        → root_kind (kind_in (slice_get domains place)
+        ∷ map (λ place. kind_in (slice_get domains place)) (way n domains up)) ≡ levels.Lpi
+        → ((parent : ℕ) → root_kind (map (λ place. kind_in (slice_get domains place)) (way n domains (Some parent)))
+        ≡ levels.Lpi → keeps (map (λ place. kind_in (slice_get domains place)) (way n domains (Some parent)))
+        ≡ true)
         → keeps (kind_in (slice_get domains place) ∷ map (λ place. kind_in (slice_get domains place)) (way n domains up)) ≡ true
     by zero up is root rest = lpi_alone (kind_in (slice_get domains place)) root
     by (suc n) None is root rest = lpi_alone (kind_in (slice_get domains place)) root
@@ -90,5 +99,6 @@ lpi_keeps domains children (suc n) place root =
         (child_of domains children place parent (slice_get domains place) refl is) (rest parent root)
 
 -- a path whose root is an Lpi keeps
-pub keeps_under_lpi : (domains : List DomainDef) → EachAfter IsDomainAfter domains → (place : ℕ) → root_kind (kinds_from domains (Some place)) ≡ levels.Lpi → keeps (kinds_from domains (Some place)) ≡ true
+pub keeps_under_lpi : (domains : List DomainDef) → EachAfter IsDomainAfter domains → (place : ℕ)
+    → root_kind (kinds_from domains (Some place)) ≡ levels.Lpi → keeps (kinds_from domains (Some place)) ≡ true
 keeps_under_lpi domains each place root = lpi_keeps domains (are_children domains each) most_levels place root

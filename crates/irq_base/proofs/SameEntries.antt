@@ -76,6 +76,7 @@ same_entries (entries.Moment a b) (entries.Moment v w) h = search rules
 same_entries (entries.Moment a b) q h = cc
 
 -- the test whether an entry was found, and is that one
-pub found_same : (found : Option Entry) (p : Entry) (answer : Bool) → answer ≡ option_eq (entry_eq.eq-value).it found (Some p) → IsTrue answer ↔ (found ≡ Some p)
+pub found_same : (found : Option Entry) (p : Entry) (answer : Bool)
+    → answer ≡ option_eq (entry_eq.eq-value).it found (Some p) → IsTrue answer ↔ (found ≡ Some p)
 found_same None p answer h = search rules
 found_same (Some q) p answer h = let laws = entry_laws.laws-law in search (rules, same_entries q p)

@@ -60,4 +60,5 @@ placed-narrow n w words h is_not = All-push (IsPlaced n) words w h (λ so. cc)
 pub placed-wide : (n : ℕ) (w : Packed) (words : List Packed) → All (IsPlaced n) words → place_of w ≡ n
     → All (IsPlaced (n + 1)) (words ++ w ∷ [])
 placed-wide n w words h there =
-    All-push (IsPlaced (n + 1)) words w (All-weaker (IsPlaced n) (IsPlaced (n + 1)) (λ x before so. within (place_of x) n (before so)) words h) (λ so. omega arith)
+    All-push (IsPlaced (n + 1)) words w (All-weaker (IsPlaced n) (IsPlaced (n + 1))
+    (λ x before so. within (place_of x) n (before so)) words h) (λ so. omega arith)

@@ -1,5 +1,7 @@
 -- The chain's next step, over the definitions alone.
-use Rattle.std.proofs.Common.{◌≡◌, ℕ, ◌==◌, ◌<◌, Bool, true, false, not, ◌&&◌, ◌||◌, cond, is_some, IsTrue, Option, Some, None, List, [], ◌∷◌, ◌++◌, length, reverse, slice_get, refl, sym, ap, ◌∙◌, subst, eqb-true}
+use Rattle.std.proofs.Common.{◌≡◌, ℕ, ◌==◌, ◌<◌, Bool, true, false, not, ◌&&◌, ◌||◌, cond, is_some, IsTrue, Option}
+use Rattle.std.proofs.Common.{Some, None, List, [], ◌∷◌, ◌++◌, length, reverse, slice_get, refl, sym, ap, ◌∙◌, subst}
+use Rattle.std.proofs.Common.{eqb-true}
 use Rattle.std.proofs.lemmas.List.{append_assoc, reverse-append}
 use Rattle.std.proofs.lemmas.Option.{slice_get_within}
 use Rattle.irq_base.specs.Cell.{Cell, after_high, signals}
@@ -25,7 +27,10 @@ use Rattle.board_ready.proofs.Lowest.{first_none, first_some}
 use Rattle.board_core.specs.Firsts.{is_take_due}
 use Rattle.board_core.specs.Places.{line_at}
 use Rattle.play_orders.specs.Orders.{IsMade, moves_in, onto}
-use Rattle.irq_chained.specs.Chain.{IsChainLegal, chain_next, chain_order, child, children, choice_by, cpu_0, first_left, first_step, has_take_due, in_chain, is_left, is_taken, is_taken_on, lines_in, of_cpu_0, open_status, or_choice, or_exit, or_step, status_of, stepper_of, told, with_left}
+use Rattle.irq_chained.specs.Chain.{IsChainLegal, chain_next, chain_order, child, children, choice_by, cpu_0}
+use Rattle.irq_chained.specs.Chain.{first_left, first_step, has_take_due, in_chain, is_left, is_taken, is_taken_on}
+use Rattle.irq_chained.specs.Chain.{lines_in, of_cpu_0, open_status, or_choice, or_exit, or_step, status_of, stepper_of}
+use Rattle.irq_chained.specs.Chain.{told, with_left}
 use Rattle.irq_chained.specs.Parent.{is_asked, parent_after, parent_cell}
 use Rattle.irq_chained.specs.Promise.{IsWalked, KeepsSignals, LosesNothing}
 use Rattle.irq_chained.specs.declared.chain.ChainEntry.{ChainEntry}
@@ -39,12 +44,26 @@ same_children b (e ∷ g) = ap (λ (m : List Move). onto (told e) m) (same_child
 -- ---- the parent
 
 abbrev pub level : Bool → Bool → Cell
-level masked high = record { trigger = triggers.Level; keeps = false; recalls = false; retriggers = false; serves = false; masked = masked; stored = false; sent = false; high = high; in_service = false }
+level masked high = record {
+  trigger = triggers.Level;
+  keeps = false;
+  recalls = false;
+  retriggers = false;
+  serves
+      = false;
+  masked = masked;
+  stored = false;
+  sent = false;
+  high = high;
+  in_service = false;
+}
 
 pub parent_is : (b : BoardSeen) (g : List ChainEntry) → parent_cell b g ≡ level (is_some (open_status g)) (is_asked (lines_in b g))
 parent_is b [] = refl
-parent_is b (steps.Enter cpu status ∷ g) = ap (λ (c : Cell). after_high (is_asked (lines_in b (steps.Enter cpu status ∷ g))) (parent_after (steps.Enter cpu status) c)) (parent_is b g)
-parent_is b (steps.Child line e ∷ g) = ap (λ (c : Cell). after_high (is_asked (lines_in b (steps.Child line e ∷ g))) (parent_after (steps.Child line e) c)) (parent_is b g)
+parent_is b (steps.Enter cpu status ∷ g) = ap (λ (c : Cell). after_high
+    (is_asked (lines_in b (steps.Enter cpu status ∷ g))) (parent_after (steps.Enter cpu status) c)) (parent_is b g)
+parent_is b (steps.Child line e ∷ g) = ap (λ (c : Cell). after_high (is_asked (lines_in b (steps.Child line e ∷ g)))
+    (parent_after (steps.Child line e) c)) (parent_is b g)
 parent_is b (steps.Exit cpu ∷ g) = ap (λ (c : Cell). after_high (is_asked (lines_in b (steps.Exit cpu ∷ g))) (parent_after (steps.Exit cpu) c)) (parent_is b g)
 
 pub loses_nothing : (b : BoardSeen) (g : List ChainEntry) → LosesNothing b g
@@ -115,7 +134,8 @@ module _ {E : Type 0} (can : Actor → Option E) where
   first_is_some [] e is = cc
   first_is_some (a ∷ rest) e is = by_first (can a) refl is (λ h. first_is_some rest e h)
     where
-      by_first : (o : Option E) → can a ≡ o → or_step o (first_step can rest) ≡ Some e → (first_step can rest ≡ Some e → (a : Actor) × (can a ≡ Some e)) → (a : Actor) × (can a ≡ Some e)
+      by_first : (o : Option E) → can a ≡ o → or_step o (first_step can rest) ≡ Some e
+          → (first_step can rest ≡ Some e → (a : Actor) × (can a ≡ Some e)) → (a : Actor) × (can a ≡ Some e)
       by_first None none is deeper = deeper is
       by_first (Some f) some is deeper = (a, some ∙ is)
 
@@ -133,7 +153,9 @@ module _ {E : Type 0} (can : Actor → Option E) where
       by_first (Some f) some is = first_is_some all e (some ∙ ap (λ (x : E). Some x) (same_pair f e [] after is))
   choice_is_some all (pick ∷ picks) e after is = by_pick (can pick) refl is (λ h. choice_is_some all picks e after h)
     where
-      by_pick : (o : Option E) → can pick ≡ o → or_choice (with_left picks o) (choice_by can all picks) ≡ Some (e, after) → (choice_by can all picks ≡ Some (e, after) → (a : Actor) × (can a ≡ Some e)) → (a : Actor) × (can a ≡ Some e)
+      by_pick : (o : Option E) → can pick ≡ o → or_choice (with_left picks o) (choice_by can all picks)
+          ≡ Some (e, after) → (choice_by can all picks ≡ Some (e, after) → (a : Actor) × (can a ≡ Some e))
+          → (a : Actor) × (can a ≡ Some e)
       by_pick None none is deeper = deeper is
       by_pick (Some f) some is deeper = (pick, some ∙ ap (λ (x : E). Some x) (same_pair f e picks after is))
 
@@ -150,7 +172,8 @@ pub take_is_due : (o : Option BoardLine) → is_take_due cpu_0 o ≡ true → (m
 take_is_due None due = cc
 take_is_due (Some x) due = by_entry (next_past x.def x.past (actors.Cpu cpu_0)) refl due
   where
-    by_entry : (e : Option Entry) → next_past x.def x.past (actors.Cpu cpu_0) ≡ e → is_some_take e ≡ true → (m : Move) × (move_on x.def.line (next_past x.def x.past (actors.Cpu cpu_0)) ≡ Some m) × (is_take m.1 ≡ true)
+    by_entry : (e : Option Entry) → next_past x.def x.past (actors.Cpu cpu_0) ≡ e → is_some_take e ≡ true
+        → (m : Move) × (move_on x.def.line (next_past x.def x.past (actors.Cpu cpu_0)) ≡ Some m) × (is_take m.1 ≡ true)
     by_entry None next due = cc
     by_entry (Some e) next due = ((x.def.line, e), ap (λ (o : Option Entry). move_on x.def.line o) next, due)
 
@@ -163,7 +186,9 @@ first true b h = refl
 first false b h = cc
 
 -- if no take of the status comes next, no child of it is left
-pub none_is_left : (g : List ChainEntry) (lines : List BoardLine) (status : ℕ) → due_on (first_left g lines status) (actors.Cpu cpu_0) ≡ None → first_of (is_left g lines status) (length lines) ≡ None
+pub none_is_left : (g : List ChainEntry) (lines : List BoardLine) (status : ℕ)
+    → due_on (first_left g lines status) (actors.Cpu cpu_0) ≡ None
+    → first_of (is_left g lines status) (length lines) ≡ None
 none_is_left g lines status none = by_first (first_of (is_left g lines status) (length lines)) refl none
   where
     by_first : (o : Option ℕ) → first_of (is_left g lines status) (length lines) ≡ o → due_on (line_at lines o) (actors.Cpu cpu_0) ≡ None → o ≡ None
@@ -175,7 +200,9 @@ none_is_left g lines status none = by_first (first_of (is_left g lines status) (
         let bad : None ≡ Some d.0 = sym none ∙ d.1 in
         cc
 
-all_true : (g : List ChainEntry) (lines : List BoardLine) (status : ℕ) → first_of (is_left g lines status) (length lines) ≡ None → (i : ℕ) (x : BoardLine) → slice_get lines i ≡ Some x → i < length lines → has status i ≡ true → has_take_due x ≡ true → is_taken g x.def.line ≡ true
+all_true : (g : List ChainEntry) (lines : List BoardLine) (status : ℕ)
+    → first_of (is_left g lines status) (length lines) ≡ None → (i : ℕ) (x : BoardLine) → slice_get lines i ≡ Some x
+    → i < length lines → has status i ≡ true → has_take_due x ≡ true → is_taken g x.def.line ≡ true
 all_true g lines status none i x at within set due = by_taken (is_taken g x.def.line) refl
   where
     by_taken : (b : Bool) → is_taken g x.def.line ≡ b → b ≡ true
@@ -183,7 +210,8 @@ all_true g lines status none i x at within set due = by_taken (is_taken g x.def.
     by_taken false is =
         let left : is_left g lines status i ≡ true =
         ap (λ (o : Option BoardLine). has status i && (is_take_due cpu_0 o && not (is_taken_on g o))) at
-        ∙ (ap (λ (b : Bool). b && (has_take_due x && not (is_taken g x.def.line))) set ∙ (ap (λ (b : Bool). b && not (is_taken g x.def.line)) due ∙ ap not is)) in
+        ∙ (ap (λ (b : Bool). b && (has_take_due x && not (is_taken g x.def.line))) set
+        ∙ (ap (λ (b : Bool). b && not (is_taken g x.def.line)) due ∙ ap not is)) in
         both_ways (is_left g lines status i) left (first_none (is_left g lines status) (length lines) i none within)
 
 pub exit_is_walked : (b : BoardSeen) (g : List ChainEntry) (c : CpuNo) → chain_next b g (actors.Cpu cpu_0) ≡ Some (steps.Exit c) → IsWalked b g
@@ -196,9 +224,17 @@ exit_is_walked b g c is = by_open (open_status g) refl is
     by_status true s is = cc
     by_status false s is = cc
 
-    by_take : (s : ℕ) → open_status g ≡ Some s → flow_line lines cpu_0 ≡ None → (d : Option Move) → due_on (first_left g lines s) (actors.Cpu cpu_0) ≡ d → or_exit (child d) ≡ Some (steps.Exit c) → IsWalked b g
+    by_take : (s : ℕ) → open_status g ≡ Some s → flow_line lines cpu_0 ≡ None → (d : Option Move)
+        → due_on (first_left g lines s) (actors.Cpu cpu_0) ≡ d → or_exit (child d) ≡ Some (steps.Exit c) → IsWalked b g
     by_take s opens_at rests None due is =
-        record { status = s; is = opens_at; at_rest = rests; each = λ i x at set asks. all_true g lines s (none_is_left g lines s due) i x at (slice_get_within lines i x at) set asks }
+        record {
+          status = s;
+          is = opens_at;
+          at_rest = rests;
+          each
+              = λ i x at set asks. all_true g lines s (none_is_left g lines s due) i x at (slice_get_within lines i x at)
+              set asks;
+        }
     by_take s opens_at rests (Some m) due is = cc
 
     by_move : (d : Option Move) → child d ≡ Some (steps.Exit c) → IsWalked b g
@@ -227,6 +263,7 @@ keeps_signals b log legal = record { always = λ before after is. loses_nothing 
         let turned : reverse log ≡ reverse after ++ (steps.Exit cpu_0 ∷ reverse before) =
         ap (λ (l : List ChainEntry). reverse l) is
         ∙ (reverse-append before (steps.Exit cpu_0 ∷ after)
-        ∙ (ap (λ (l : List ChainEntry). l ++ reverse before) (reverse-append (steps.Exit cpu_0 ∷ []) after) ∙ append_assoc (reverse after) (steps.Exit cpu_0 ∷ []) (reverse before))) in
+        ∙ (ap (λ (l : List ChainEntry). l ++ reverse before) (reverse-append (steps.Exit cpu_0 ∷ []) after)
+        ∙ append_assoc (reverse after) (steps.Exit cpu_0 ∷ []) (reverse before))) in
         let each = later_part _ (reverse after) (steps.Exit cpu_0 ∷ reverse before) (subst (λ (l : List ChainEntry). IsChainLegal b l) turned legal) in
         exit_is_walked b (reverse before) cpu_0 each.0

@@ -1,6 +1,7 @@
 -- The lowest actor that has a step of the chain: the lowest thread that can move; else processor 0;
 -- else the lowest driver that can move.
-use Rattle.std.proofs.Common.{◌≡◌, ◌⊎◌, inl, inr, ℕ, zero, suc, ◌+◌, ◌<◌, ◌≤◌, ◌==◌, Bool, false, cond, IsSome, Option, Some, None, List, [], ◌∷◌, ◌++◌, length, map, slice_get, refl, sym, ap, ◌∙◌, subst, arith}
+use Rattle.std.proofs.Common.{◌≡◌, ◌⊎◌, inl, inr, ℕ, zero, suc, ◌+◌, ◌<◌, ◌≤◌, ◌==◌, Bool, false, cond, IsSome, Option}
+use Rattle.std.proofs.Common.{Some, None, List, [], ◌∷◌, ◌++◌, length, map, slice_get, refl, sym, ap, ◌∙◌, subst, arith}
 use Rattle.std.proofs.lemmas.Bool.Decides.{nat_tests}
 use Rattle.std.proofs.lemmas.Option.{slice_get_within}
 use Rattle.irq_base.specs.Cell.{Cell}
@@ -44,7 +45,8 @@ module _ {E : Type 0} (can : Actor → Option E) where
   first_append [] ys = refl
   first_append (a ∷ xs) ys = by_first (can a) (first_append xs ys)
     where
-      by_first : (o : Option E) → first_step can (xs ++ ys) ≡ or_step (first_step can xs) (first_step can ys) → or_step o (first_step can (xs ++ ys)) ≡ or_step (or_step o (first_step can xs)) (first_step can ys)
+      by_first : (o : Option E) → first_step can (xs ++ ys) ≡ or_step (first_step can xs) (first_step can ys)
+          → or_step o (first_step can (xs ++ ys)) ≡ or_step (or_step o (first_step can xs)) (first_step can ys)
       by_first None deeper = deeper
       by_first (Some e) deeper = refl
 
@@ -52,15 +54,20 @@ module _ {E : Type 0} (can : Actor → Option E) where
   first_none [] none = refl
   first_none (a ∷ rest) none = ap (λ (o : Option E). or_step o (first_step can rest)) (none 0 a refl) ∙ first_none rest (λ j b at. none (suc j) b at)
 
-  first_at : (all : List Actor) (k : ℕ) (a : Actor) → slice_get all k ≡ Some a → ((j : ℕ) (b : Actor) → j < k → slice_get all j ≡ Some b → can b ≡ None) → IsSome (can a) → first_step can all ≡ can a
+  first_at : (all : List Actor) (k : ℕ) (a : Actor) → slice_get all k ≡ Some a
+      → ((j : ℕ) (b : Actor) → j < k → slice_get all j ≡ Some b → can b ≡ None) → IsSome (can a)
+      → first_step can all ≡ can a
   first_at [] k a at before some = cc
   first_at (x ∷ rest) zero a at before some =
       let same : x ≡ a = the_same x a at in
       ap (λ (y : Actor). or_step (can y) (first_step can rest)) same ∙ or_some (can a) (first_step can rest) some
   first_at (x ∷ rest) (suc k) a at before some =
-      ap (λ (o : Option E). or_step o (first_step can rest)) (before 0 x (omega arith) refl) ∙ first_at rest k a at (λ j b less there. before (suc j) b (omega (arith, less)) there) some
+      ap (λ (o : Option E). or_step o (first_step can rest)) (before 0 x (omega arith) refl)
+      ∙ first_at rest k a at (λ j b less there. before (suc j) b (omega (arith, less)) there) some
 
-is_thread : (ds : List DeviceDef) (j : ℕ) (a : Actor) → slice_get (map (λ (x : DeviceDef). actors.Thread x.line x.dev) ds) j ≡ Some a → (line : LineNo) × (d : DevNo) × (a ≡ actors.Thread line d)
+is_thread : (ds : List DeviceDef) (j : ℕ) (a : Actor) → slice_get
+    (map (λ (x : DeviceDef). actors.Thread x.line x.dev) ds) j ≡ Some a
+    → (line : LineNo) × (d : DevNo) × (a ≡ actors.Thread line d)
 is_thread [] j a at = cc
 is_thread (x ∷ ds) zero a at = (x.line, x.dev, sym (the_same (actors.Thread x.line x.dev) a at))
 is_thread (x ∷ ds) (suc j) a at = is_thread ds j a at
@@ -70,17 +77,21 @@ is_a_cpu [] j a at = cc
 is_a_cpu (x ∷ ns) zero a at = (record { 0 = x }, sym (the_same (actors.Cpu (record { 0 = x })) a at))
 is_a_cpu (x ∷ ns) (suc j) a at = is_a_cpu ns j a at
 
-is_a_driver : (rs : List DriverNo) (j : ℕ) (a : Actor) → slice_get (map (λ (r : DriverNo). actors.Driver r) rs) j ≡ Some a → (r : DriverNo) × (a ≡ actors.Driver r)
+is_a_driver : (rs : List DriverNo) (j : ℕ) (a : Actor)
+    → slice_get (map (λ (r : DriverNo). actors.Driver r) rs) j ≡ Some a → (r : DriverNo) × (a ≡ actors.Driver r)
 is_a_driver [] j a at = cc
 is_a_driver (x ∷ rs) zero a at = (x, sym (the_same (actors.Driver x) a at))
 is_a_driver (x ∷ rs) (suc j) a at = is_a_driver rs j a at
 
 -- of the processors only the first has steps
-no_others : (b : BoardSeen) (g : List ChainEntry) (c n : ℕ) → 1 ≤ c → first_step (chain_next b g) (map (λ (n : ℕ). actors.Cpu (record { 0 = n })) (count_up c n)) ≡ None
+no_others : (b : BoardSeen) (g : List ChainEntry) (c n : ℕ) → 1 ≤ c
+    → first_step (chain_next b g) (map (λ (n : ℕ). actors.Cpu (record { 0 = n })) (count_up c n)) ≡ None
 no_others b g c zero some = refl
 no_others b g zero (suc n) some = absurd (omega (arith, some))
 no_others b g (suc c) (suc n) some =
-    ap (λ (t : Bool). or_step (cond t (of_cpu_0 g (lines_in b g) (open_status g)) None) (first_step (chain_next b g) (map (λ (n : ℕ). actors.Cpu (record { 0 = n })) (count_up (suc c + 1) n)))) (not_zero c)
+    ap (λ (t : Bool). or_step (cond t (of_cpu_0 g (lines_in b g) (open_status g)) None)
+    (first_step (chain_next b g) (map (λ (n : ℕ). actors.Cpu (record { 0 = n })) (count_up (suc c + 1) n))))
+    (not_zero c)
     ∙ no_others b g (suc c + 1) n (omega arith)
   where
     not_zero : (c : ℕ) → (suc c == 0) ≡ false
@@ -92,7 +103,8 @@ first_cpu b g some = by_count b.cpus some
     by_count : (n : ℕ) → 1 ≤ n → first_step (chain_next b g) (map (λ (n : ℕ). actors.Cpu (record { 0 = n })) (count_up 0 n)) ≡ chain_next b g (actors.Cpu cpu_0)
     by_count zero some = absurd (omega (arith, some))
     by_count (suc n) some =
-        ap (λ (o : Option ChainEntry). or_step (chain_next b g (actors.Cpu cpu_0)) o) (no_others b g 1 n (omega arith)) ∙ or_none (chain_next b g) (chain_next b g (actors.Cpu cpu_0))
+        ap (λ (o : Option ChainEntry). or_step (chain_next b g (actors.Cpu cpu_0)) o) (no_others b g 1 n (omega arith))
+        ∙ or_none (chain_next b g) (chain_next b g (actors.Cpu cpu_0))
 
 module _ (s : SystemSeen) (ms : List Mark) (walk : Option Walk) (parent : Cell) (d : IsDemux s ms walk parent) where
   abbrev g : List ChainEntry
@@ -127,47 +139,67 @@ module _ (s : SystemSeen) (ms : List Mark) (walk : Option Walk) (parent : Cell) 
   abbrev both : List Actor
   both = threads_of s.board ++ cpus_of s.board
 
-  pub thread_is_lowest : (line : LineNo) (dev : DevNo) → IsFirst s both (actors.Thread line dev) → lowest_of (seen_of s ms parent) ≡ chain_next s.board g (actors.Thread line dev)
+  pub thread_is_lowest : (line : LineNo) (dev : DevNo) → IsFirst s both (actors.Thread line dev)
+      → lowest_of (seen_of s ms parent) ≡ chain_next s.board g (actors.Thread line dev)
   thread_is_lowest line dev f = by_place (either_at (threads_of s.board) (cpus_of s.board) f.place (actors.Thread line dev) f.at)
     where
       a : Actor
       a = actors.Thread line dev
 
-      by_place : (slice_get (threads_of s.board) f.place ≡ Some a) ⊎ ((i : ℕ) × (f.place ≡ length (threads_of s.board) + i) × (slice_get (cpus_of s.board) i ≡ Some a)) → lowest_of (seen_of s ms parent) ≡ chain_next s.board g a
+      by_place : (slice_get (threads_of s.board) f.place ≡ Some a)
+          ⊎ ((i : ℕ) × (f.place ≡ length (threads_of s.board) + i) × (slice_get (cpus_of s.board) i ≡ Some a))
+          → lowest_of (seen_of s ms parent) ≡ chain_next s.board g a
       by_place (inl at) =
           let some = some_of_move a tt f.moves in
-          let here = first_at (chain_next s.board g) (threads_of s.board) f.place a at (λ j b less there. thread_none j b there (f.before j b less (at_first (threads_of s.board) (cpus_of s.board) j b there))) some in
+          let here = first_at (chain_next s.board g) (threads_of s.board) f.place a at
+          (λ j b less there. thread_none j b there
+          (f.before j b less (at_first (threads_of s.board) (cpus_of s.board) j b there))) some in
           first_append (chain_next s.board g) (threads_of s.board) (cpus_of s.board ++ drivers_of s.board)
-          ∙ (ap (λ (o : Option ChainEntry). or_step o (first_step (chain_next s.board g) (cpus_of s.board ++ drivers_of s.board))) here ∙ or_some (chain_next s.board g) (chain_next s.board g a) _ some)
+          ∙ (ap (λ (o : Option ChainEntry). or_step o (first_step (chain_next s.board g)
+          (cpus_of s.board ++ drivers_of s.board))) here
+          ∙ or_some (chain_next s.board g) (chain_next s.board g a) _ some)
       by_place (inr there) = let c = is_a_cpu (count_up 0 s.board.cpus) there.0 a there.2 in let bad : a ≡ actors.Cpu c.0 = c.1 in cc
 
-  no_thread : (o : Option Actor) → IsFirstOf s both o → ((line : LineNo) (dev : DevNo) → o ≡ Some (actors.Thread line dev) → ⊥) → (j : ℕ) (b : Actor) → slice_get (threads_of s.board) j ≡ Some b → chain_next s.board g b ≡ None
+  no_thread : (o : Option Actor) → IsFirstOf s both o →
+      ((line : LineNo) (dev : DevNo) → o ≡ Some (actors.Thread line dev) → ⊥) → (j : ℕ) (b : Actor)
+      → slice_get (threads_of s.board) j ≡ Some b → chain_next s.board g b ≡ None
   no_thread None f not j b at = thread_none j b at (f j b (at_first (threads_of s.board) (cpus_of s.board) j b at))
   no_thread (Some a) f not j b at = by_place (either_at (threads_of s.board) (cpus_of s.board) f.place a f.at)
     where
-      by_place : (slice_get (threads_of s.board) f.place ≡ Some a) ⊎ ((i : ℕ) × (f.place ≡ length (threads_of s.board) + i) × (slice_get (cpus_of s.board) i ≡ Some a)) → chain_next s.board g b ≡ None
+      by_place : (slice_get (threads_of s.board) f.place ≡ Some a)
+          ⊎ ((i : ℕ) × (f.place ≡ length (threads_of s.board) + i) × (slice_get (cpus_of s.board) i ≡ Some a))
+          → chain_next s.board g b ≡ None
       by_place (inl there) = let t = is_thread s.board.devices f.place a there in absurd (not t.0 t.1 (ap (λ (x : Actor). Some x) t.2))
       by_place (inr there) =
           let within = slice_get_within (threads_of s.board) j b at in
           thread_none j b at (f.before j b (omega (arith, within, there.1)) (at_first (threads_of s.board) (cpus_of s.board) j b at))
 
   -- if no thread can move
-  pub after_threads : IsBoard s.board → (o : Option Actor) → IsFirstOf s both o → ((line : LineNo) (dev : DevNo) → o ≡ Some (actors.Thread line dev) → ⊥) → lowest_of (seen_of s ms parent) ≡ or_step (next_of (seen_of s ms parent) (actors.Cpu cpu_0)) (lowest_driver_of (seen_of s ms parent))
+  pub after_threads : IsBoard s.board → (o : Option Actor) → IsFirstOf s both o
+      → ((line : LineNo) (dev : DevNo) → o ≡ Some (actors.Thread line dev) → ⊥)
+      → lowest_of (seen_of s ms parent) ≡ or_step (next_of (seen_of s ms parent) (actors.Cpu cpu_0))
+      (lowest_driver_of (seen_of s ms parent))
   after_threads isb o f not =
       let can = chain_next s.board g in
       first_append can (threads_of s.board) (cpus_of s.board ++ drivers_of s.board)
-      ∙ (ap (λ (x : Option ChainEntry). or_step x (first_step can (cpus_of s.board ++ drivers_of s.board))) (first_none can (threads_of s.board) (no_thread o f not))
-      ∙ (first_append can (cpus_of s.board) (drivers_of s.board) ∙ ap (λ (x : Option ChainEntry). or_step x (first_step can (drivers_of s.board))) (first_cpu s.board g isb.some_cpu)))
+      ∙ (ap (λ (x : Option ChainEntry). or_step x (first_step can (cpus_of s.board ++ drivers_of s.board)))
+      (first_none can (threads_of s.board) (no_thread o f not))
+      ∙ (first_append can (cpus_of s.board) (drivers_of s.board)
+      ∙ ap (λ (x : Option ChainEntry). or_step x (first_step can (drivers_of s.board)))
+      (first_cpu s.board g isb.some_cpu)))
 
-  pub driver_is_lowest : (r : DriverNo) → IsFirst s (drivers_of s.board) (actors.Driver r) → lowest_driver_of (seen_of s ms parent) ≡ chain_next s.board g (actors.Driver r)
-  driver_is_lowest r f = first_at (chain_next s.board g) (drivers_of s.board) f.place (actors.Driver r) f.at (λ j b less there. driver_none j b there (f.before j b less there)) (some_of_move (actors.Driver r) tt f.moves)
+  pub driver_is_lowest : (r : DriverNo) → IsFirst s (drivers_of s.board) (actors.Driver r)
+      → lowest_driver_of (seen_of s ms parent) ≡ chain_next s.board g (actors.Driver r)
+  driver_is_lowest r f = first_at (chain_next s.board g) (drivers_of s.board) f.place (actors.Driver r) f.at
+      (λ j b less there. driver_none j b there (f.before j b less there)) (some_of_move (actors.Driver r) tt f.moves)
 
   pub no_driver : ((j : ℕ) (b : Actor) → slice_get (drivers_of s.board) j ≡ Some b → move_of s b ≡ None) → lowest_driver_of (seen_of s ms parent) ≡ None
   no_driver none = first_none (chain_next s.board g) (drivers_of s.board) (λ j b at. driver_none j b at (none j b at))
 
 -- ---- what a turn of processor 0 says of the lowest
 
-pub lowest_turn : (old new : DemuxSeen) (due rest : Option ChainEntry) (turn : ChainTurn) → TurnsBy old due turn new → (turn ≡ turns.NotYet → ⊥) → TurnsBy old (or_step due rest) turn new
+pub lowest_turn : (old new : DemuxSeen) (due rest : Option ChainEntry) (turn : ChainTurn) → TurnsBy old due turn new
+    → (turn ≡ turns.NotYet → ⊥) → TurnsBy old (or_step due rest) turn new
 lowest_turn old new due rest (turns.Moved e) t not = record { is = some due e t.is; room = t.room; board = t.board; layout = t.layout; log = t.log }
   where
     some : (o : Option ChainEntry) (e : ChainEntry) → o ≡ Some e → or_step o rest ≡ Some e

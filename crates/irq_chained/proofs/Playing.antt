@@ -1,5 +1,7 @@
 -- A play of a demultiplexer, step by step, and that it ends.
-use Rattle.std.proofs.Common.{◌≡◌, ℕ, ◌+◌, ◌*◌, ◌<◌, ◌≤◌, ◌==◌, Bool, true, false, cond, IfSome, IsSomeAnd, Option, Some, None, List, [], ◌∷◌, length, reverse, get_or, drop, refl, sym, ap, ◌∙◌, subst, arith, add-one}
+use Rattle.std.proofs.Common.{◌≡◌, ℕ, ◌+◌, ◌*◌, ◌<◌, ◌≤◌, ◌==◌, Bool, true, false, cond, IfSome, IsSomeAnd, Option}
+use Rattle.std.proofs.Common.{Some, None, List, [], ◌∷◌, length, reverse, get_or, drop, refl, sym, ap, ◌∙◌, subst}
+use Rattle.std.proofs.Common.{arith, add-one}
 use Rattle.std.proofs.Math.Seq.{drop-cons}
 use Rattle.std.proofs.lemmas.List.{reverse-append}
 use Rattle.irq_base.specs.declared.entries.Actor.{Actor}
@@ -17,7 +19,9 @@ use Rattle.board_ready.specs.Sets.{has}
 use Rattle.board_core.specs.Firsts.{is_take_due}
 use Rattle.board_core.specs.declared.turns.PlayEnd.TheVariants as ends
 use Rattle.play_orders.specs.Orders.{IsMade, moves_in}
-use Rattle.irq_chained.specs.Chain.{IsChainLegal, chain_next, chain_order, children, choice_by, cpu_0, first_left, child, in_chain, lines_in, of_cpu_0, open_status, or_choice, or_exit, status_of, stepper_of, told, with_left}
+use Rattle.irq_chained.specs.Chain.{IsChainLegal, chain_next, chain_order, children, choice_by, cpu_0, first_left}
+use Rattle.irq_chained.specs.Chain.{child, in_chain, lines_in, of_cpu_0, open_status, or_choice, or_exit, status_of}
+use Rattle.irq_chained.specs.Chain.{stepper_of, told, with_left}
 use Rattle.irq_chained.specs.Promise.{IsWalked}
 use Rattle.irq_chained.specs.Seen.{DemuxSeen}
 use Rattle.irq_chained.specs.Turned.{Goes, HasRoomFor, IsFullFor, IsPlay, IsUnderway, TurnsBy, lines_now, lowest_of, next_of}
@@ -38,15 +42,19 @@ fresh d picks none =
     record { left = picks; made = subst (λ (l : List ChainEntry). IsMade (chain_order d.board) picks l picks) (sym g) refl; next = refl }
 
 -- a line's part of the steps is its history
-part_is : (b : BoardSeen) (g : List ChainEntry) (line : LineNo) (P : List Entry → Type 0) (o : Option BoardLine) → find_line (lines_in b g) line ≡ o → IsSomeAnd o (λ x. P x.past) → P (part line (children g))
+part_is : (b : BoardSeen) (g : List ChainEntry) (line : LineNo) (P : List Entry → Type 0) (o : Option BoardLine)
+    → find_line (lines_in b g) line ≡ o → IsSomeAnd o (λ x. P x.past) → P (part line (children g))
 part_is b g line P None is h = absurd h
 part_is b g line P (Some x) is h =
     let f = found (lines_in b g) line x is in
     subst (λ (past : List Entry). P past) (past_at (defs_of b) (children g) f.place x f.at ∙ ap (λ (l : LineNo). part l (children g)) (sym f.number)) h
 
-has_room : (b : BoardSeen) (g : List ChainEntry) (o : Option Move) → IfSome o (λ m. IsSomeAnd (find_line (lines_in b g) m.0) (λ x. length x.past < b.log)) → IfSome o (λ m. length (part m.0 (moves_in (chain_order b) g)) < b.log)
+has_room : (b : BoardSeen) (g : List ChainEntry) (o : Option Move)
+    → IfSome o (λ m. IsSomeAnd (find_line (lines_in b g) m.0) (λ x. length x.past < b.log))
+    → IfSome o (λ m. length (part m.0 (moves_in (chain_order b) g)) < b.log)
 has_room b g None h = tt
-has_room b g (Some m) h = subst (λ (l : List Move). length (part m.0 l) < b.log) (same_children b g) (part_is b g m.0 (λ past. length past < b.log) (find_line (lines_in b g) m.0) refl h)
+has_room b g (Some m) h = subst (λ (l : List Move). length (part m.0 l) < b.log) (same_children b g)
+    (part_is b g m.0 (λ past. length past < b.log) (find_line (lines_in b g) m.0) refl h)
 
 abbrev choice_of : DemuxSeen → List Actor → Option (ChainEntry × List Actor)
 choice_of d left = choice_by (chain_next d.board (reverse d.log)) (actors_of d.board) left
@@ -54,13 +62,16 @@ choice_of d left = choice_by (chain_next d.board (reverse d.log)) (actors_of d.b
 turned : (old new : DemuxSeen) (due : Option ChainEntry) (e : ChainEntry) → Goes old due e new → reverse new.log ≡ e ∷ reverse old.log
 turned old new due e goes = ap (λ (l : List ChainEntry). reverse l) goes.log ∙ reverse-append old.log (e ∷ [])
 
-more : (old new : DemuxSeen) (due : Option ChainEntry) (e : ChainEntry) (picks rest after : List Actor) → IsUnderway old picks rest → Goes old due e new → choice_of old rest ≡ Some (e, after) → IsUnderway new picks after
+more : (old new : DemuxSeen) (due : Option ChainEntry) (e : ChainEntry) (picks rest after : List Actor)
+    → IsUnderway old picks rest → Goes old due e new → choice_of old rest ≡ Some (e, after) → IsUnderway new picks after
 more old new due e picks rest after u goes is =
     let g : List ChainEntry = reverse old.log in
     let made : IsMade (chain_order old.board) picks (e ∷ g) after = (u.left, u.made, u.next ∙ is, has_room old.board g (told e) goes.room) in
     record {
       left = after;
-      made = subst (λ (b : BoardSeen). IsMade (chain_order b) picks (reverse new.log) after) (sym goes.board) (subst (λ (l : List ChainEntry). IsMade (chain_order old.board) picks l after) (sym (turned old new due e goes)) made);
+      made = subst (λ (b : BoardSeen). IsMade (chain_order b) picks (reverse new.log) after) (sym goes.board)
+          (subst (λ (l : List ChainEntry). IsMade (chain_order old.board) picks l after)
+          (sym (turned old new due e goes)) made);
       next = refl;
     }
 
@@ -70,23 +81,35 @@ with_step d pick rest e due = ap (λ (o : Option ChainEntry). or_choice (with_le
 passed_over : (d : DemuxSeen) (pick : Actor) (rest : List Actor) → next_of d pick ≡ None → choice_of d (pick ∷ rest) ≡ choice_of d rest
 passed_over d pick rest due = ap (λ (o : Option ChainEntry). or_choice (with_left rest o) (choice_of d rest)) due
 
-at_pick : (d : DemuxSeen) (picks : List Actor) (i : ℕ) (x : Actor) → i < length picks → IsUnderway d picks (drop i picks) → IsUnderway d picks (get_or picks i x ∷ drop (i + 1) picks)
+at_pick : (d : DemuxSeen) (picks : List Actor) (i : ℕ) (x : Actor) → i < length picks
+    → IsUnderway d picks (drop i picks) → IsUnderway d picks (get_or picks i x ∷ drop (i + 1) picks)
 at_pick d picks i x within u =
-    let next : drop i picks ≡ get_or picks i x ∷ drop (i + 1) picks = drop-cons picks i x within ∙ ap (λ (n : ℕ). get_or picks i x ∷ drop n picks) (sym (add-one i)) in
+    let next : drop i picks ≡ get_or picks i x ∷ drop (i + 1) picks = drop-cons picks i x within
+    ∙ ap (λ (n : ℕ). get_or picks i x ∷ drop n picks) (sym (add-one i)) in
     subst (λ (rest : List Actor). IsUnderway d picks rest) next u
 
 pub pick_done : (old new : DemuxSeen) (picks : List Actor) (i : ℕ) (x : Actor) (turn : ChainTurn) → i < length picks → IsUnderway old picks (drop i picks)
-    → ((line : LineNo) (len : ℕ) → turn ≡ turns.Full line len → ⊥) → (turn ≡ turns.NoMemory → ⊥) → TurnsBy old (next_of old (get_or picks i x)) turn new → IsUnderway new picks (drop (i + 1) picks)
+    → ((line : LineNo) (len : ℕ) → turn ≡ turns.Full line len → ⊥) → (turn ≡ turns.NoMemory → ⊥)
+    → TurnsBy old (next_of old (get_or picks i x)) turn new → IsUnderway new picks (drop (i + 1) picks)
 pick_done old new picks i x (turns.Moved e) within u full refused t =
-    more old new (next_of old (get_or picks i x)) e picks (get_or picks i x ∷ drop (i + 1) picks) (drop (i + 1) picks) (at_pick old picks i x within u) t (with_step old (get_or picks i x) (drop (i + 1) picks) e t.is)
+    more old new (next_of old (get_or picks i x)) e picks (get_or picks i x ∷ drop (i + 1) picks) (drop (i + 1) picks)
+    (at_pick old picks i x within u) t (with_step old (get_or picks i x) (drop (i + 1) picks) e t.is)
 pick_done old new picks i x turns.NotYet within u full refused t =
     let v = at_pick old picks i x within u in
-    subst (λ (d : DemuxSeen). IsUnderway d picks (drop (i + 1) picks)) (sym t.1) (record { left = v.left; made = v.made; next = v.next ∙ passed_over old (get_or picks i x) (drop (i + 1) picks) t.0 })
+    subst (λ (d : DemuxSeen). IsUnderway d picks (drop (i + 1) picks)) (sym t.1)
+    (record {
+      left = v.left;
+      made = v.made;
+      next = v.next
+          ∙ passed_over old (get_or picks i x) (drop (i + 1) picks) t.0;
+    })
 pick_done old new picks i x (turns.Full line len) within u full refused t = absurd (full line len refl)
 pick_done old new picks i x turns.NoMemory within u full refused t = absurd (refused refl)
 
 -- a full line ends the play
-is_full : (d : DemuxSeen) (picks rest after : List Actor) (due : Option ChainEntry) (line : LineNo) (len : ℕ) → IsUnderway d picks rest → IsFullFor d due line len → ((e : ChainEntry) → due ≡ Some e → choice_of d rest ≡ Some (e, after)) → IsPlay d picks (ends.Full line len)
+is_full : (d : DemuxSeen) (picks rest after : List Actor) (due : Option ChainEntry) (line : LineNo) (len : ℕ)
+    → IsUnderway d picks rest → IsFullFor d due line len
+    → ((e : ChainEntry) → due ≡ Some e → choice_of d rest ≡ Some (e, after)) → IsPlay d picks (ends.Full line len)
 is_full d picks rest after due line len u full next = (
   (
     u.left,
@@ -104,14 +127,19 @@ is_full d picks rest after due line len u full next = (
   full.length,
 )
 
-pub pick_full : (old new : DemuxSeen) (picks : List Actor) (i : ℕ) (x : Actor) (line : LineNo) (len : ℕ) (turn : ChainTurn) → i < length picks → IsUnderway old picks (drop i picks) → turn ≡ turns.Full line len → TurnsBy old (next_of old (get_or picks i x)) turn new
+pub pick_full : (old new : DemuxSeen) (picks : List Actor) (i : ℕ) (x : Actor) (line : LineNo) (len : ℕ)
+    (turn : ChainTurn) → i < length picks → IsUnderway old picks (drop i picks) → turn ≡ turns.Full line len
+    → TurnsBy old (next_of old (get_or picks i x)) turn new
     → IsPlay new picks (ends.Full line len)
 pick_full old new picks i x line len turn within u same t =
     let full = subst (λ (y : ChainTurn). TurnsBy old (next_of old (get_or picks i x)) y new) same t in
     subst (λ (d : DemuxSeen). IsPlay d picks (ends.Full line len)) (sym full.1)
-    (is_full old picks (get_or picks i x ∷ drop (i + 1) picks) (drop (i + 1) picks) (next_of old (get_or picks i x)) line len (at_pick old picks i x within u) full.0 (λ e due. with_step old (get_or picks i x) (drop (i + 1) picks) e due))
+    (is_full old picks (get_or picks i x ∷ drop (i + 1) picks) (drop (i + 1) picks) (next_of old (get_or picks i x))
+    line len (at_pick old picks i x within u) full.0
+    (λ e due. with_step old (get_or picks i x) (drop (i + 1) picks) e due))
 
-pub refused : (old new : DemuxSeen) (picks rest : List Actor) (due : Option ChainEntry) (turn : ChainTurn) → IsUnderway old picks rest → turn ≡ turns.NoMemory → TurnsBy old due turn new → IsPlay new picks ends.NoMemory
+pub refused : (old new : DemuxSeen) (picks rest : List Actor) (due : Option ChainEntry) (turn : ChainTurn)
+    → IsUnderway old picks rest → turn ≡ turns.NoMemory → TurnsBy old due turn new → IsPlay new picks ends.NoMemory
 refused old new picks rest due turn u same t =
     let is : new ≡ old = subst (λ (y : ChainTurn). TurnsBy old due y new) same t in
     subst (λ (d : DemuxSeen). IsPlay d picks ends.NoMemory) (sym is) (u.left, u.made)
@@ -121,20 +149,25 @@ refused old new picks rest due turn u same t =
 lowest_next : (d : DemuxSeen) (e : ChainEntry) → lowest_of d ≡ Some e → choice_of d [] ≡ Some (e, [])
 lowest_next d e is = ap (λ (o : Option ChainEntry). with_left [] o) is
 
-pub lowest_moved : (old new : DemuxSeen) (picks : List Actor) (e : ChainEntry) (turn : ChainTurn) → IsUnderway old picks [] → turn ≡ turns.Moved e → TurnsBy old (lowest_of old) turn new → IsUnderway new picks []
+pub lowest_moved : (old new : DemuxSeen) (picks : List Actor) (e : ChainEntry) (turn : ChainTurn)
+    → IsUnderway old picks [] → turn ≡ turns.Moved e → TurnsBy old (lowest_of old) turn new → IsUnderway new picks []
 lowest_moved old new picks e turn u same t =
     let goes : Goes old (lowest_of old) e new = subst (λ (y : ChainTurn). TurnsBy old (lowest_of old) y new) same t in
     more old new (lowest_of old) e picks [] [] u goes (lowest_next old e goes.is)
 
-pub lowest_done : (old new : DemuxSeen) (picks : List Actor) (turn : ChainTurn) → IsUnderway old picks [] → turn ≡ turns.NotYet → TurnsBy old (lowest_of old) turn new → IsPlay new picks ends.Done
+pub lowest_done : (old new : DemuxSeen) (picks : List Actor) (turn : ChainTurn) → IsUnderway old picks []
+    → turn ≡ turns.NotYet → TurnsBy old (lowest_of old) turn new → IsPlay new picks ends.Done
 lowest_done old new picks turn u same t =
     let rests = subst (λ (y : ChainTurn). TurnsBy old (lowest_of old) y new) same t in
     subst (λ (d : DemuxSeen). IsPlay d picks ends.Done) (sym rests.1) (u.left, u.made, u.next ∙ ap (λ (o : Option ChainEntry). with_left [] o) rests.0)
 
-pub lowest_full : (old new : DemuxSeen) (picks : List Actor) (line : LineNo) (len : ℕ) (turn : ChainTurn) → IsUnderway old picks [] → turn ≡ turns.Full line len → TurnsBy old (lowest_of old) turn new → IsPlay new picks (ends.Full line len)
+pub lowest_full : (old new : DemuxSeen) (picks : List Actor) (line : LineNo) (len : ℕ) (turn : ChainTurn)
+    → IsUnderway old picks [] → turn ≡ turns.Full line len → TurnsBy old (lowest_of old) turn new
+    → IsPlay new picks (ends.Full line len)
 lowest_full old new picks line len turn u same t =
     let full = subst (λ (y : ChainTurn). TurnsBy old (lowest_of old) y new) same t in
-    subst (λ (d : DemuxSeen). IsPlay d picks (ends.Full line len)) (sym full.1) (is_full old picks [] [] (lowest_of old) line len u full.0 (λ e due. lowest_next old e due))
+    subst (λ (d : DemuxSeen). IsPlay d picks (ends.Full line len)) (sym full.1)
+    (is_full old picks [] [] (lowest_of old) line len u full.0 (λ e due. lowest_next old e due))
 
 pub same_board : (old new : DemuxSeen) (due : Option ChainEntry) (turn : ChainTurn) → TurnsBy old due turn new → new.board ≡ old.board
 same_board old new due (turns.Moved e) t = t.board
@@ -181,7 +214,8 @@ record Entered (b : BoardSeen) (g : List ChainEntry) (status : ℕ) : Type 0 whe
   asks : (status_of (lines_in b g) == 0) ≡ false
   is : status ≡ status_of (lines_in b g)
 
-entered : (b : BoardSeen) (g : List ChainEntry) (c cpu : CpuNo) (status : ℕ) → chain_next b g (actors.Cpu c) ≡ Some (steps.Enter cpu status) → Entered b g status
+entered : (b : BoardSeen) (g : List ChainEntry) (c cpu : CpuNo) (status : ℕ)
+    → chain_next b g (actors.Cpu c) ≡ Some (steps.Enter cpu status) → Entered b g status
 entered b g c cpu status is = by_zero (c.0 == 0) is
   where
     lines : List BoardLine
@@ -190,7 +224,8 @@ entered b g c cpu status is = by_zero (c.0 == 0) is
     same_status : (x y : CpuNo) (m n : ℕ) → Some (steps.Enter x m) ≡ Some (steps.Enter y n) → n ≡ m
     same_status x y m n h = cc
 
-    by_status : open_status g ≡ None → (t : Bool) → (status_of lines == 0) ≡ t → cond t None (Some (steps.Enter cpu_0 (status_of lines))) ≡ Some (steps.Enter cpu status) → Entered b g status
+    by_status : open_status g ≡ None → (t : Bool) → (status_of lines == 0) ≡ t
+        → cond t None (Some (steps.Enter cpu_0 (status_of lines))) ≡ Some (steps.Enter cpu status) → Entered b g status
     by_status closed true is_zero h = cc
     by_status closed false is_zero h = record { closed = closed; asks = is_zero; is = same_status cpu_0 cpu (status_of lines) status h }
 
@@ -229,11 +264,14 @@ rank_walked b (steps.Enter cpu status ∷ g) legal w =
     let bad : false ≡ true = w.each a.place a.line a.at set a.due in
     cc
 
-pub measure_falls : (old new : DemuxSeen) (due : Option ChainEntry) (e : ChainEntry) → IsChainLegal old.board (reverse old.log) → (a : Actor) → next_of old a ≡ Some e → Goes old due e new → measure new < measure old
+pub measure_falls : (old new : DemuxSeen) (due : Option ChainEntry) (e : ChainEntry)
+    → IsChainLegal old.board (reverse old.log) → (a : Actor) → next_of old a ≡ Some e → Goes old due e new
+    → measure new < measure old
 unfolding measure rank rank_of
 measure_falls old new due e legal a next goes =
     subst (λ (b : BoardSeen). 3 * room b.log (lines_in b (reverse new.log)) + rank (reverse new.log) < measure old) (sym goes.board)
-    (subst (λ (l : List ChainEntry). 3 * room old.board.log (lines_in old.board l) + rank l < measure old) (sym (turned old new due e goes)) (by_step e goes.room next))
+    (subst (λ (l : List ChainEntry). 3 * room old.board.log (lines_in old.board l) + rank l < measure old)
+    (sym (turned old new due e goes)) (by_step e goes.room next))
   where
     b : BoardSeen
     b = old.board
@@ -244,7 +282,8 @@ measure_falls old new due e legal a next goes =
     by_cpu : (e : ChainEntry) (c : CpuNo) → stepper_of e ≡ actors.Cpu c → next_of old a ≡ Some e → chain_next b g (actors.Cpu c) ≡ Some e
     by_cpu e c is next = ap (λ (x : Actor). chain_next b g x) (sym is ∙ own_step b g a e next) ∙ next
 
-    by_step : (e : ChainEntry) → HasRoomFor old e → next_of old a ≡ Some e → 3 * room b.log (lines_in b (e ∷ g)) + rank (e ∷ g) < 3 * room b.log (lines_in b g) + rank g
+    by_step : (e : ChainEntry) → HasRoomFor old e → next_of old a ≡ Some e
+        → 3 * room b.log (lines_in b (e ∷ g)) + rank (e ∷ g) < 3 * room b.log (lines_in b g) + rank g
     by_step (steps.Enter cpu status) room_for next =
         let x = entered b g cpu cpu status (by_cpu (steps.Enter cpu status) cpu refl next) in
         let r = rank_closed g x.closed in
@@ -254,11 +293,14 @@ measure_falls old new due e legal a next goes =
         omega (arith, r)
     by_step (steps.Child line x) room_for next =
         let less = room_less b.log (line, x) (lines_in b g) room_for in
-        let after : room b.log (lines_in b (steps.Child line x ∷ g)) ≡ room b.log (lines_after (line, x) (lines_in b g)) = ap (λ (ls : List BoardLine). room b.log ls) (lines_more (defs_of b) (line, x) (children g)) in
+        let after : room b.log (lines_in b (steps.Child line x ∷ g))
+        ≡ room b.log (lines_after (line, x) (lines_in b g))
+        = ap (λ (ls : List BoardLine). room b.log ls) (lines_more (defs_of b) (line, x) (children g)) in
         let most = rank_below (open_status g) in
         omega (arith, less, after, most)
 
-pub lowest_falls : (old new : DemuxSeen) (e : ChainEntry) (turn : ChainTurn) → IsChainLegal old.board (reverse old.log) → turn ≡ turns.Moved e → TurnsBy old (lowest_of old) turn new → measure new < measure old
+pub lowest_falls : (old new : DemuxSeen) (e : ChainEntry) (turn : ChainTurn) → IsChainLegal old.board (reverse old.log)
+    → turn ≡ turns.Moved e → TurnsBy old (lowest_of old) turn new → measure new < measure old
 lowest_falls old new e turn legal same t =
     let goes : Goes old (lowest_of old) e new = subst (λ (y : ChainTurn). TurnsBy old (lowest_of old) y new) same t in
     let a = first_is_some (chain_next old.board (reverse old.log)) (actors_of old.board) e goes.is in

@@ -1,6 +1,8 @@
 -- If no actor has a step of the chain, none can move: every line takes its interrupts by processor
 -- 0 alone, and has no flow unless a chain is opens_at.
-use Rattle.std.proofs.Common.{◌≡◌, ℕ, suc, zero, ◌+◌, ◌==◌, ◌≤◌, Bool, true, false, not, ◌||◌, ◌&&◌, cond, is_some, Option, Some, None, List, [], ◌∷◌, filter, map, length, slice_get, refl, sym, ap, ◌∙◌, subst, arith, eqb-true}
+use Rattle.std.proofs.Common.{◌≡◌, ℕ, suc, zero, ◌+◌, ◌==◌, ◌≤◌, Bool, true, false, not, ◌||◌, ◌&&◌, cond, is_some}
+use Rattle.std.proofs.Common.{Option, Some, None, List, [], ◌∷◌, filter, map, length, slice_get, refl, sym, ap, ◌∙◌}
+use Rattle.std.proofs.Common.{subst, arith, eqb-true}
 use Rattle.std.proofs.lemmas.Bool.{leb-true}
 use Rattle.std.proofs.lemmas.List.{length-map}
 use Rattle.std.specs.List.{list_any}
@@ -53,7 +55,8 @@ use Rattle.board_ready.specs.First.{first_of}
 use Rattle.board_ready.proofs.Lowest.{first_none}
 use Rattle.board_core.specs.Seen.{board_lines}
 use Rattle.board_core.proofs.Searches.{due_is, due_is_take, due_of_cpu, flow_is, in_flow_of, no_flow_at, none_at}
-use Rattle.irq_chained.specs.Chain.{IsChainLegal, chain_next, child, children, cpu_0, has_take_due, in_chain, lines_in, of_cpu_0, open_status, or_exit, status_of}
+use Rattle.irq_chained.specs.Chain.{IsChainLegal, chain_next, child, children, cpu_0, has_take_due, in_chain, lines_in}
+use Rattle.irq_chained.specs.Chain.{of_cpu_0, open_status, or_exit, status_of}
 use Rattle.irq_chained.specs.Fits.{is_affinity_call, is_for_chain, leaves_out, moves_a_line}
 use Rattle.irq_chained.specs.Promise.{IsWalked}
 use Rattle.irq_chained.specs.declared.chain.ChainEntry.{ChainEntry}
@@ -98,14 +101,16 @@ mapped_few [] places = omega arith
 mapped_few (row ∷ rows) [] = omega arith
 mapped_few (row ∷ rows) (p ∷ ps) = by_test (is_mapped p) (mapped_few rows ps)
   where
-    by_test : (t : Bool) → length (mapped rows ps) ≤ count_of_mapped ps → length (cond t (row ∷ mapped rows ps) (mapped rows ps)) ≤ cond t (count_of_mapped ps + 1) (count_of_mapped ps)
+    by_test : (t : Bool) → length (mapped rows ps) ≤ count_of_mapped ps
+        → length (cond t (row ∷ mapped rows ps) (mapped rows ps)) ≤ cond t (count_of_mapped ps + 1) (count_of_mapped ps)
     by_test true le = omega (arith, le)
     by_test false le = le
 
 pub few_lines : (b : BoardSeen) (lines : List BoardLine) → is_for_chain b ≡ true → AreKept b lines → length lines ≤ 32
 few_lines b lines fits kept =
     let m = mapped_few b.lines (layout_of b) in
-    let a : length (map (line_of_row b) (mapped b.lines (layout_of b))) ≡ length (mapped b.lines (layout_of b)) = length-map (mapped b.lines (layout_of b)) (line_of_row b) in
+    let a : length (map (line_of_row b) (mapped b.lines (layout_of b)))
+    ≡ length (mapped b.lines (layout_of b)) = length-map (mapped b.lines (layout_of b)) (line_of_row b) in
     let d : length (map (λ (x : BoardLine). x.def) lines) ≡ length (defs_of b) = ap (λ (ds : List LineDef). length ds) kept.defs in
     let n : length (map (λ (x : BoardLine). x.def) lines) ≡ length lines = length-map lines (λ (x : BoardLine). x.def) in
     let f = (fits_of b fits).few in
@@ -116,20 +121,25 @@ few_seen b lines fits kept = few_lines b (board_lines lines) fits kept
 
 -- ---- processor 0 is the target
 
-none_kept : (q : ScriptCall → Bool) (cs : List ScriptCall) → list_any moves_a_line cs ≡ false → (i : ℕ) (x : DriverNo × Call) → slice_get (map with_driver (filter q cs)) i ≡ Some x → is_affinity_call x.1 ≡ false
+none_kept : (q : ScriptCall → Bool) (cs : List ScriptCall) → list_any moves_a_line cs ≡ false
+    → (i : ℕ) (x : DriverNo × Call) → slice_get (map with_driver (filter q cs)) i ≡ Some x
+    → is_affinity_call x.1 ≡ false
 none_kept q [] none i x at = cc
 none_kept q (c ∷ cs) none i x at = by_test (q c) refl i at (λ i at. none_kept q cs (neither (moves_a_line c) (list_any moves_a_line cs) none).1 i x at)
   where
     n : (moves_a_line c ≡ false) × (list_any moves_a_line cs ≡ false)
     n = neither (moves_a_line c) (list_any moves_a_line cs) none
 
-    by_test : (t : Bool) → q c ≡ t → (i : ℕ) → slice_get (map with_driver (cond t (c ∷ filter q cs) (filter q cs))) i ≡ Some x → ((i : ℕ) → slice_get (map with_driver (filter q cs)) i ≡ Some x → is_affinity_call x.1 ≡ false) → is_affinity_call x.1 ≡ false
+    by_test : (t : Bool) → q c ≡ t → (i : ℕ) → slice_get (map with_driver (cond t (c ∷ filter q cs) (filter q cs))) i
+        ≡ Some x → ((i : ℕ) → slice_get (map with_driver (filter q cs)) i ≡ Some x → is_affinity_call x.1 ≡ false)
+        → is_affinity_call x.1 ≡ false
     by_test true is zero at deeper = ap (λ (y : DriverNo × Call). is_affinity_call y.1) (sym (the_same (with_driver c) x at)) ∙ n.0
     by_test true is (suc i) at deeper = deeper i at
     by_test false is i at deeper = deeper i at
 
 -- no entry of a line that no call moves is a change of its affinity
-never_moved : (d : LineDef) → ((i : ℕ) (x : DriverNo × Call) → slice_get d.calls i ≡ Some x → is_affinity_call x.1 ≡ false) → (past : List Entry) → IsLegalPast d past → list_any is_affinity past ≡ false
+never_moved : (d : LineDef) → ((i : ℕ) (x : DriverNo × Call) → slice_get d.calls i ≡ Some x
+    → is_affinity_call x.1 ≡ false) → (past : List Entry) → IsLegalPast d past → list_any is_affinity past ≡ false
 never_moved d none [] legal = refl
 never_moved d none (e ∷ past) legal = by_entry e legal.0 (never_moved d none past legal.1)
   where
@@ -169,19 +179,24 @@ module _ (b : BoardSeen) (is : IsBoard b) (fits : is_for_chain b ≡ true) where
   target_is_0 i d at past legal =
       let f = fits_of b fits in
       let row = def_of_row b i d at in
-      let none : first_of (λ c. not (is_in_mask row.row.mask c)) b.cpus ≡ None = no_last _ (none_passes (leaves_out b.cpus) b.lines f.masks row.place row.row row.at) in
-      let in_mask : is_in_mask row.row.mask 0 ≡ true = turned (is_in_mask row.row.mask 0) (first_none (λ c. not (is_in_mask row.row.mask c)) b.cpus 0 none (omega (arith, is.some_cpu))) in
+      let none : first_of (λ c. not (is_in_mask row.row.mask c)) b.cpus
+      ≡ None = no_last _ (none_passes (leaves_out b.cpus) b.lines f.masks row.place row.row row.at) in
+      let in_mask : is_in_mask row.row.mask 0 ≡ true = turned (is_in_mask row.row.mask 0)
+      (first_none (λ c. not (is_in_mask row.row.mask c)) b.cpus 0 none (omega (arith, is.some_cpu))) in
       let calls_of = has_calls b i d at in
-      let still = never_moved d (λ j x there. none_kept _ b.calls f.stays j x (ap (λ (cs : List (DriverNo × Call)). slice_get cs j) (sym calls_of) ∙ there)) past legal in
+      let still = never_moved d (λ j x there. none_kept _ b.calls f.stays j x
+      (ap (λ (cs : List (DriverNo × Call)). slice_get cs j) (sym calls_of) ∙ there)) past legal in
       let own : mask_in_force d past ≡ d.mask = own_mask d past still in
-      ap (λ (m : ℕ). lowest_in d.cpus m) own ∙ subst (λ (x : LineDef). lowest_in x.cpus x.mask ≡ Some cpu_0) row.is (lowest_is_0 b.cpus row.row.mask is.some_cpu in_mask)
+      ap (λ (m : ℕ). lowest_in d.cpus m) own ∙ subst (λ (x : LineDef). lowest_in x.cpus x.mask ≡ Some cpu_0) row.is
+      (lowest_is_0 b.cpus row.row.mask is.some_cpu in_mask)
     where
       turned : (t : Bool) → not t ≡ false → t ≡ true
       turned true h = refl
       turned false h = cc
 
   -- a flow is processor 0's
-  pub flow_of_0 : (i : ℕ) (d : LineDef) → slice_get (defs_of b) i ≡ Some d → (past : List Entry) → IsLegalPast d past → (c : CpuNo) → is_cpu c (flow d past) ≡ true → c ≡ cpu_0
+  pub flow_of_0 : (i : ℕ) (d : LineDef) → slice_get (defs_of b) i ≡ Some d → (past : List Entry) → IsLegalPast d past
+      → (c : CpuNo) → is_cpu c (flow d past) ≡ true → c ≡ cpu_0
   flow_of_0 i d at [] legal c on = cc
   flow_of_0 i d at (e ∷ past) legal c on = by_test (is_handle e || closes d e) on (λ h. flow_of_0 i d at past legal.1 c h)
     where
@@ -193,12 +208,14 @@ module _ (b : BoardSeen) (is : IsBoard b) (fits : is_for_chain b ≡ true) where
           cpu_from_same c cpu on ∙ cpu_from_same cpu cpu_0 mine
       by_entry e due on = cc
 
-      by_test : (t : Bool) → is_cpu c (cpu_of_handle (cond t (Some e) (last_of (λ e. is_handle e || closes d e) past))) ≡ true → (is_cpu c (flow d past) ≡ true → c ≡ cpu_0) → c ≡ cpu_0
+      by_test : (t : Bool) → is_cpu c (cpu_of_handle (cond t (Some e) (last_of (λ e. is_handle e || closes d e) past)))
+          ≡ true → (is_cpu c (flow d past) ≡ true → c ≡ cpu_0) → c ≡ cpu_0
       by_test true on rest = by_entry e legal.0 on
       by_test false on rest = rest on
 
   -- a take is processor 0's
-  pub take_of_0 : (i : ℕ) (d : LineDef) → slice_get (defs_of b) i ≡ Some d → (past : List Entry) → IsLegalPast d past → (c : CpuNo) → is_some_take (next_past d past (actors.Cpu c)) ≡ true → c ≡ cpu_0
+  pub take_of_0 : (i : ℕ) (d : LineDef) → slice_get (defs_of b) i ≡ Some d → (past : List Entry) → IsLegalPast d past
+      → (c : CpuNo) → is_some_take (next_past d past (actors.Cpu c)) ≡ true → c ≡ cpu_0
   take_of_0 i d at past legal c takes = by_entry (next_past d past (actors.Cpu c)) refl takes
     where
       by_kind : (e : Entry) → next_past d past (actors.Cpu c) ≡ Some e → is_some_take (Some e) ≡ true → c ≡ cpu_0
@@ -216,7 +233,8 @@ module _ (b : BoardSeen) (is : IsBoard b) (fits : is_for_chain b ≡ true) where
 
 -- ---- with no chain opens_at there is no flow
 
-no_child : (b : BoardSeen) (g : List ChainEntry) (c : CpuNo) (line : LineNo) (e : Entry) → open_status g ≡ None → chain_next b g (actors.Cpu c) ≡ Some (steps.Child line e) → ⊥
+no_child : (b : BoardSeen) (g : List ChainEntry) (c : CpuNo) (line : LineNo) (e : Entry) → open_status g ≡ None
+    → chain_next b g (actors.Cpu c) ≡ Some (steps.Child line e) → ⊥
 no_child b g c line e closed is = by_zero (c.0 == 0) is
   where
     by_status : (t : Bool) → cond t None (Some (steps.Enter cpu_0 (status_of (lines_in b g)))) ≡ Some (steps.Child line e) → ⊥
@@ -234,7 +252,8 @@ exits_walked b g a c is = by_zero (a.0 == 0) is
     by_zero true h = exit_is_walked b g c h
     by_zero false h = cc
 
-pub no_flow_closed : (b : BoardSeen) (g : List ChainEntry) → IsChainLegal b g → open_status g ≡ None → (i : ℕ) (x : BoardLine) → slice_get (lines_in b g) i ≡ Some x → is_cpu cpu_0 (flow x.def x.past) ≡ false
+pub no_flow_closed : (b : BoardSeen) (g : List ChainEntry) → IsChainLegal b g → open_status g ≡ None
+    → (i : ℕ) (x : BoardLine) → slice_get (lines_in b g) i ≡ Some x → is_cpu cpu_0 (flow x.def x.past) ≡ false
 no_flow_closed b [] legal closed i x at = ap (λ (past : List Entry). is_cpu cpu_0 (flow x.def past)) (past_at (defs_of b) [] i x at)
 no_flow_closed b (steps.Enter cpu status ∷ g) legal closed i x at = cc
 no_flow_closed b (steps.Exit cpu ∷ g) legal closed i x at = no_flow_at (lines_in b g) cpu_0 (exits_walked b g cpu cpu legal.0).at_rest i x at
@@ -278,13 +297,18 @@ not_some None h = refl
 not_some (Some x) h = cc
 
 -- none for a processor without a flow of which no take is due
-idle_cpu : (b : BoardSeen) (lines : List BoardLine) (c : CpuNo) → ((i : ℕ) (x : BoardLine) → slice_get lines i ≡ Some x → (is_cpu c (flow x.def x.past) ≡ false) × (is_some_take (next_past x.def x.past (actors.Cpu c)) ≡ false)) → due_move b lines (actors.Cpu c) ≡ None
+idle_cpu : (b : BoardSeen) (lines : List BoardLine) (c : CpuNo)
+    → ((i : ℕ) (x : BoardLine) → slice_get lines i ≡ Some x
+    → (is_cpu c (flow x.def x.past) ≡ false) × (is_some_take (next_past x.def x.past (actors.Cpu c)) ≡ false))
+    → due_move b lines (actors.Cpu c) ≡ None
 idle_cpu b lines c idle =
     let no_flow : flow_line lines c ≡ None = sym (flow_is lines c) ∙ none_at (in_flow_of c) lines (λ i x at. (idle i x at).0) in
-    let no_due : due_line lines c ≡ None = sym (due_is lines c) ∙ none_at (due_of_cpu c) lines (λ i x at. due_is_take x.def x.past c (idle i x at).0 ∙ (idle i x at).1) in
+    let no_due : due_line lines c ≡ None = sym (due_is lines c)
+    ∙ none_at (due_of_cpu c) lines (λ i x at. due_is_take x.def x.past c (idle i x at).0 ∙ (idle i x at).1) in
     ap (λ (o : Option BoardLine). due_on (or_line o (due_line lines c)) (actors.Cpu c)) no_flow ∙ ap (λ (o : Option BoardLine). due_on o (actors.Cpu c)) no_due
 
-module _ (b : BoardSeen) (is : IsBoard b) (fits : is_for_chain b ≡ true) (g : List ChainEntry) (legal : IsChainLegal b g) (kept : AreKept b (lines_in b g)) where
+module _ (b : BoardSeen) (is : IsBoard b) (fits : is_for_chain b ≡ true) (g : List ChainEntry)
+    (legal : IsChainLegal b g) (kept : AreKept b (lines_in b g)) where
   abbrev lines : List BoardLine
   lines = lines_in b g
 
@@ -298,7 +322,8 @@ module _ (b : BoardSeen) (is : IsBoard b) (fits : is_for_chain b ≡ true) (g : 
       never true says = absurd (differs (says refl))
       never false says = refl
 
-      idle : (i : ℕ) (x : BoardLine) → slice_get lines i ≡ Some x → (is_cpu c (flow x.def x.past) ≡ false) × (is_some_take (next_past x.def x.past (actors.Cpu c)) ≡ false)
+      idle : (i : ℕ) (x : BoardLine) → slice_get lines i ≡ Some x
+          → (is_cpu c (flow x.def x.past) ≡ false) × (is_some_take (next_past x.def x.past (actors.Cpu c)) ≡ false)
       idle i x at =
           let d = def_at b lines kept i x at in
           let l = kept.legal i x at in

@@ -15,11 +15,14 @@ unfolding room
 room_kept log m [] = omega arith
 room_kept log m (x ∷ xs) = by_test (same_line x.def.line m.0) (room_kept log m xs)
   where
-    by_test : (b : Bool) → room log (lines_after m xs) ≤ room log xs → (log - length (cond b (m.1 ∷ x.past) x.past)) + room log (lines_after m xs) ≤ (log - length x.past) + room log xs
+    by_test : (b : Bool) → room log (lines_after m xs) ≤ room log xs
+        → (log - length (cond b (m.1 ∷ x.past) x.past)) + room log (lines_after m xs) ≤ (log - length x.past) + room log
+        xs
     by_test true le = omega (arith, le)
     by_test false le = omega (arith, le)
 
-pub room_less : (log : ℕ) (m : Move) (lines : List BoardLine) → IsSomeAnd (find_line lines m.0) (λ x. length x.past < log) → room log (lines_after m lines) < room log lines
+pub room_less : (log : ℕ) (m : Move) (lines : List BoardLine)
+    → IsSomeAnd (find_line lines m.0) (λ x. length x.past < log) → room log (lines_after m lines) < room log lines
 unfolding room
 room_less log m [] h = absurd h
 room_less log m (x ∷ xs) h = by_test (same_line m.0 x.def.line) refl h (room_kept log m xs) (λ h. room_less log m xs h)
@@ -32,11 +35,15 @@ room_less log m (x ∷ xs) h = by_test (same_line m.0 x.def.line) refl h (room_k
     by_moved true same is less le = omega (arith, less, le)
     by_moved false same is less le = both_ways (same_line x.def.line m.0) (same_again same) is
 
-    by_less : (b : Bool) → room log (lines_after m xs) < room log xs → (log - length (cond b (m.1 ∷ x.past) x.past)) + room log (lines_after m xs) < (log - length x.past) + room log xs
+    by_less : (b : Bool) → room log (lines_after m xs) < room log xs
+        → (log - length (cond b (m.1 ∷ x.past) x.past)) + room log (lines_after m xs) < (log - length x.past) + room log
+        xs
     by_less true lt = omega (arith, lt)
     by_less false lt = omega (arith, lt)
 
-    by_test : (b : Bool) → same_line m.0 x.def.line ≡ b → IsSomeAnd (cond b (Some x) (find_line xs m.0)) (λ x. length x.past < log) → room log (lines_after m xs) ≤ room log xs
+    by_test : (b : Bool) → same_line m.0 x.def.line ≡ b
+        → IsSomeAnd (cond b (Some x) (find_line xs m.0)) (λ x. length x.past < log)
+        → room log (lines_after m xs) ≤ room log xs
         → (IsSomeAnd (find_line xs m.0) (λ x. length x.past < log) → room log (lines_after m xs) < room log xs)
         → (log - length (cond (same_line x.def.line m.0) (m.1 ∷ x.past) x.past)) + room log (lines_after m xs) < (log - length x.past) + room log xs
     by_test true same h le deeper = by_moved (same_line x.def.line m.0) same refl h le

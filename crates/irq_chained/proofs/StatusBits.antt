@@ -1,5 +1,7 @@
 -- The status is read from a word of takes, and the first child that is left from a word of bits.
-use Rattle.std.proofs.Common.{◌≡◌, ◌⊎◌, inl, inr, eqb-true, ◌-◌, ℕ, zero, suc, ◌+◌, ◌*◌, ◌/◌, ◌%◌, ◌^◌, ◌<◌, ◌≤◌, Bool, true, false, not, ◌&&◌, ◌==◌, bit_and, w64, Option, Some, List, [], ◌∷◌, length, slice_get, refl, sym, ap, ◌∙◌, subst, arith}
+use Rattle.std.proofs.Common.{◌≡◌, ◌⊎◌, inl, inr, eqb-true, ◌-◌, ℕ, zero, suc, ◌+◌, ◌*◌, ◌/◌, ◌%◌, ◌^◌, ◌<◌, ◌≤◌, Bool}
+use Rattle.std.proofs.Common.{true, false, not, ◌&&◌, ◌==◌, bit_and, w64, Option, Some, List, [], ◌∷◌, length}
+use Rattle.std.proofs.Common.{slice_get, refl, sym, ap, ◌∙◌, subst, arith}
 use Rattle.std.proofs.lemmas.Bool.Decides.{nat_tests}
 use Rattle.std.proofs.lemmas.Nat.Bits.{bit_at-zero, bit_at-lt, bit_at_lowest, bit_at-suc, bit_at_above, same_from_bits}
 use Rattle.std.proofs.lemmas.Option.{slice_get_past}
@@ -80,7 +82,8 @@ same_bit a b i same = of_two (bit_at a i) (bit_at b i) (bit_at-lt a i) (bit_at-l
     of_two x (suc (suc y)) p q h = absurd (omega (arith, q))
 
 -- a word of 64 bits that says of each line whether it has a take due is the status
-pub word_is_status : (word : ℕ) (lines : List BoardLine) → length lines ≤ 32 → word < 2 ^ 64 → ((k : ℕ) → k < 64 → has word k ≡ is_take_due cpu_0 (slice_get lines k)) → word ≡ status_of lines
+pub word_is_status : (word : ℕ) (lines : List BoardLine) → length lines ≤ 32 → word < 2 ^ 64
+    → ((k : ℕ) → k < 64 → has word k ≡ is_take_due cpu_0 (slice_get lines k)) → word ≡ status_of lines
 word_is_status word lines few small each = same_from_bits word (status_of lines) (λ i. by_place i (there_or i))
   where
     there_or : (i : ℕ) → (i < 64) ⊎ (64 ≤ i)
@@ -126,10 +129,13 @@ asked_by lines k x at due = by_test (status_of lines == 0) refl
 -- ---- the first child that is left
 
 -- the bits of the three words
-pub left_has : (status taken due k : ℕ) → taken < 2 ^ 64 → k < 64 → has (bit_and (bit_and status (bit_not w64 taken)) due) k ≡ (has status k && (has due k && not (has taken k)))
+pub left_has : (status taken due k : ℕ) → taken < 2 ^ 64 → k < 64
+    → has (bit_and (bit_and status (bit_not w64 taken)) due) k ≡ (has status k && (has due k && not (has taken k)))
 left_has status taken due k small few =
     both_have (bit_and status (bit_not w64 taken)) due k
-    ∙ (ap (λ (b : Bool). b && has due k) (both_have status (bit_not w64 taken) k ∙ ap (λ (b : Bool). has status k && b) (others_have taken k small few)) ∙ turned (has status k) (not (has taken k)) (has due k))
+    ∙ (ap (λ (b : Bool). b && has due k) (both_have status (bit_not w64 taken) k
+    ∙ ap (λ (b : Bool). has status k && b) (others_have taken k small few))
+    ∙ turned (has status k) (not (has taken k)) (has due k))
   where
     turned : (a b c : Bool) → ((a && b) && c) ≡ (a && (c && b))
     turned true true true = refl
@@ -138,12 +144,16 @@ left_has status taken due k small few =
     turned true false false = refl
     turned false b c = refl
 
-pub first_in_words : (status taken due word : ℕ) (o : Option ℕ) → taken < 2 ^ 64 → word ≡ bit_and (bit_and status (bit_not w64 taken)) due → o ≡ first_of (has word) 64 → o ≡ first_of (is_in_words status taken due) 64
+pub first_in_words : (status taken due word : ℕ) (o : Option ℕ) → taken < 2 ^ 64
+    → word ≡ bit_and (bit_and status (bit_not w64 taken)) due → o ≡ first_of (has word) 64
+    → o ≡ first_of (is_in_words status taken due) 64
 first_in_words status taken due word o small is found =
     found ∙ same_first (has word) (is_in_words status taken due) 64 (λ k few. ap (λ (w : ℕ). has w k) is ∙ left_has status taken due k small few)
 
 -- by the words, the first child that is left
-pub left_place : (w : Walk) (due : ℕ) (lines : List BoardLine) (g : List ChainEntry) → due ≡ status_of lines → length lines ≤ 32 → IsWalkOf lines g (Some w) → first_of (is_in_words w.status w.taken due) 64 ≡ first_of (is_left g lines w.status) (length lines)
+pub left_place : (w : Walk) (due : ℕ) (lines : List BoardLine) (g : List ChainEntry) → due ≡ status_of lines
+    → length lines ≤ 32 → IsWalkOf lines g (Some w) → first_of (is_in_words w.status w.taken due) 64
+    ≡ first_of (is_left g lines w.status) (length lines)
 left_place w due lines g is few walk =
     first_within (is_left g lines w.status) (is_in_words w.status w.taken due) (length lines) 64 (omega (arith, few)) same none
   where
@@ -154,11 +164,14 @@ left_place w due lines g is few walk =
     same k less =
         let x = there lines k less in
         ap (λ (b : Bool). has w.status k && (b && not (has w.taken k))) (asks k)
-        ∙ ap (λ (b : Bool). has w.status k && (is_take_due cpu_0 (slice_get lines k) && not b)) (walk.1 k x.0 x.1 ∙ ap (λ (o : Option BoardLine). is_taken_on g o) (sym x.1))
+        ∙ ap (λ (b : Bool). has w.status k && (is_take_due cpu_0 (slice_get lines k) && not b))
+        (walk.1 k x.0 x.1 ∙ ap (λ (o : Option BoardLine). is_taken_on g o) (sym x.1))
 
     none : (k : ℕ) → length lines ≤ k → k < 64 → is_in_words w.status w.taken due k ≡ false
     none k past few =
-        ap (λ (b : Bool). has w.status k && (b && not (has w.taken k))) (asks k ∙ ap (λ (o : Option BoardLine). is_take_due cpu_0 o) (slice_get_past lines k past)) ∙ nothing (has w.status k)
+        ap (λ (b : Bool). has w.status k && (b && not (has w.taken k)))
+        (asks k ∙ ap (λ (o : Option BoardLine). is_take_due cpu_0 o) (slice_get_past lines k past))
+        ∙ nothing (has w.status k)
       where
         nothing : (b : Bool) → (b && false) ≡ false
         nothing true = refl

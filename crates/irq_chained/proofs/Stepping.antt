@@ -1,5 +1,7 @@
 -- One step of a demultiplexer: a move of a child, an enter, an exit.
-use Rattle.std.proofs.Common.{◌≡◌, ℕ, zero, suc, ◌+◌, ◌<◌, ◌≤◌, ◌==◌, Bool, true, false, ◌&&◌, ◌||◌, cond, is_some, IsSomeAnd, Option, Some, None, List, [], ◌∷◌, ◌++◌, map, length, reverse, slice_get, refl, sym, ap, ◌∙◌, subst, arith, eqb-true}
+use Rattle.std.proofs.Common.{◌≡◌, ℕ, zero, suc, ◌+◌, ◌<◌, ◌≤◌, ◌==◌, Bool, true, false, ◌&&◌, ◌||◌, cond, is_some}
+use Rattle.std.proofs.Common.{IsSomeAnd, Option, Some, None, List, [], ◌∷◌, ◌++◌, map, length, reverse, slice_get, refl}
+use Rattle.std.proofs.Common.{sym, ap, ◌∙◌, subst, arith, eqb-true}
 use Rattle.std.proofs.lemmas.Bool.Decides.{nat_tests}
 use Rattle.std.proofs.lemmas.List.{reverse-append, length-append}
 use Rattle.std.proofs.lemmas.Option.{slice_get_within}
@@ -43,15 +45,20 @@ use Rattle.irq_chained.proofs.Merging.{with_mark, with_move, within_mark, within
 abbrev pub steps_of : SystemSeen → List Mark → List ChainEntry
 steps_of s ms = reverse (merged ms s.log 0)
 
-pub lines_are : (s : SystemSeen) (ms : List Mark) (walk : Option Walk) (parent : Cell) → IsDemux s ms walk parent → lines_in s.board (steps_of s ms) ≡ board_lines s.lines
+pub lines_are : (s : SystemSeen) (ms : List Mark) (walk : Option Walk) (parent : Cell) → IsDemux s ms walk parent
+    → lines_in s.board (steps_of s ms) ≡ board_lines s.lines
 lines_are s ms walk parent d = ap (λ (g : List Move). lines_of s.board g) d.moves ∙ sym d.lines
 
-pub parent_level : (s : SystemSeen) (ms : List Mark) (walk : Option Walk) (parent : Cell) → IsDemux s ms walk parent → parent ≡ level (is_some (open_status (steps_of s ms))) (is_asked (board_lines s.lines))
+pub parent_level : (s : SystemSeen) (ms : List Mark) (walk : Option Walk) (parent : Cell) → IsDemux s ms walk parent
+    → parent ≡ level (is_some (open_status (steps_of s ms))) (is_asked (board_lines s.lines))
 parent_level s ms walk parent d =
-    d.parent ∙ (parent_is s.board (steps_of s ms) ∙ ap (λ (ls : List BoardLine). level (is_some (open_status (steps_of s ms))) (is_asked ls)) (lines_are s ms walk parent d))
+    d.parent ∙ (parent_is s.board (steps_of s ms) ∙ ap
+    (λ (ls : List BoardLine). level (is_some (open_status (steps_of s ms))) (is_asked ls))
+    (lines_are s ms walk parent d))
 
 -- the input shows already what it is to show
-pub shown : (s : SystemSeen) (ms : List Mark) (walk : Option Walk) (parent : Cell) → IsDemux s ms walk parent → after_high (is_asked (board_lines s.lines)) parent ≡ parent
+pub shown : (s : SystemSeen) (ms : List Mark) (walk : Option Walk) (parent : Cell) → IsDemux s ms walk parent
+    → after_high (is_asked (board_lines s.lines)) parent ≡ parent
 shown s ms walk parent d =
     let l = parent_level s ms walk parent d in
     ap (λ (c : Cell). after_high (is_asked (board_lines s.lines)) c) l ∙ sym l
@@ -69,7 +76,10 @@ abbrev pub WalkGoes : SystemSeen → List Mark → Turn → SystemSeen → Optio
 WalkGoes s ms (moves.Moved line e) t after = IsWalkOf (board_lines t.lines) (steps.Child line e ∷ steps_of s ms) after
 WalkGoes s ms turn t after = IsWalkOf (board_lines s.lines) (steps_of s ms) after
 
-module _ (s t : SystemSeen) (ms : List Mark) (walk after : Option Walk) (parent now : Cell) (a : Actor) (o : Option BoardLine) (d : IsDemux s ms walk parent) (next : chain_next s.board (steps_of s ms) a ≡ child (due_on o a)) (shows : now ≡ after_high (is_asked (board_lines t.lines)) parent) where
+module _ (s t : SystemSeen) (ms : List Mark) (walk after : Option Walk) (parent now : Cell) (a : Actor)
+    (o : Option BoardLine) (d : IsDemux s ms walk parent)
+    (next : chain_next s.board (steps_of s ms) a ≡ child (due_on o a))
+    (shows : now ≡ after_high (is_asked (board_lines t.lines)) parent) where
   abbrev g : List ChainEntry
   g = steps_of s ms
 
@@ -102,7 +112,8 @@ module _ (s t : SystemSeen) (ms : List Mark) (walk after : Option Walk) (parent 
     parent_next =
         shows
         ∙ (ap (λ (c : Cell). after_high (is_asked (board_lines t.lines)) c) d.parent
-        ∙ ap (λ (ls : List BoardLine). after_high (is_asked ls) (parent_cell s.board g)) (lines_next ∙ sym (ap (λ (l : List Move). lines_of s.board l) children_next)))
+        ∙ ap (λ (ls : List BoardLine). after_high (is_asked ls) (parent_cell s.board g))
+        (lines_next ∙ sym (ap (λ (l : List Move). lines_of s.board l) children_next)))
 
     grown : length s.log ≤ length t.log
     grown = let l : length t.log ≡ length s.log + 1 = ap (λ (l : List Move). length l) mv.log ∙ length-append s.log ((line, e) ∷ []) in omega (arith, l)
@@ -134,7 +145,17 @@ module _ (s t : SystemSeen) (ms : List Mark) (walk after : Option Walk) (parent 
   same : t ≡ s → IsWalkOf (board_lines s.lines) (steps_of s ms) after → IsDemux t ms after now × (seen_of t ms now ≡ seen_of s ms parent)
   same is walks =
       let cell : now ≡ parent = shows ∙ (ap (λ (x : SystemSeen). after_high (is_asked (board_lines x.lines)) parent) is ∙ shown s ms walk parent d) in (
-        subst (λ (x : SystemSeen). IsDemux x ms after now) (sym is) (record { fits = d.fits; legal = d.legal; moves = d.moves; lines = d.lines; within = d.within; walks = walks; parent = cell ∙ d.parent }),
+        subst (λ (x : SystemSeen). IsDemux x ms after now) (sym is)
+            (record {
+              fits = d.fits;
+              legal = d.legal;
+              moves = d.moves;
+              lines = d.lines;
+              within = d.within;
+              walks
+                  = walks;
+              parent = cell ∙ d.parent;
+            }),
         ap (λ (x : SystemSeen). seen_of x ms now) is ∙ ap (λ (c : Cell). seen_of s ms c) cell,
       )
 
@@ -150,7 +171,9 @@ module _ (s t : SystemSeen) (ms : List Mark) (walk after : Option Walk) (parent 
   }
 
   -- a step that was asked of the system
-  pub child_turn : (turn : Turn) → StepsBy s (due_on o a) turn t → WalkGoes s ms turn t after → IsDemux t ms after now × TurnsBy (seen_of s ms parent) (chain_next s.board g a) (turn_of turn) (seen_of t ms now)
+  pub child_turn : (turn : Turn) → StepsBy s (due_on o a) turn t → WalkGoes s ms turn t after
+      → IsDemux t ms after now × TurnsBy (seen_of s ms parent) (chain_next s.board g a) (turn_of turn)
+      (seen_of t ms now)
   child_turn (moves.Moved line e) by walks = (child_kept line e by walks, child_goes line e by)
   child_turn moves.NotYet by walks = let n = same by.1 walks in (n.0, (next ∙ ap (λ (m : Option Move). child m) by.0, n.1))
   child_turn (moves.Full line len) by walks = let n = same by.1 walks in (n.0, (full line len by.0, n.1))
@@ -167,14 +190,19 @@ mark_moves (marks.Enter status) g = refl
 mark_moves marks.Exit g = refl
 
 mark_parent : (what : Marked) (b : BoardSeen) (g : List ChainEntry) → parent_cell b (mark_of what ∷ g) ≡ parent_after (mark_of what) (parent_cell b g)
-mark_parent (marks.Enter status) b g = parent_is b (steps.Enter cpu_0 status ∷ g) ∙ sym (ap (λ (c : Cell). parent_after (steps.Enter cpu_0 status) c) (parent_is b g))
+mark_parent (marks.Enter status) b g = parent_is b (steps.Enter cpu_0 status ∷ g)
+    ∙ sym (ap (λ (c : Cell). parent_after (steps.Enter cpu_0 status) c) (parent_is b g))
 mark_parent marks.Exit b g = parent_is b (steps.Exit cpu_0 ∷ g) ∙ sym (ap (λ (c : Cell). parent_after (steps.Exit cpu_0) c) (parent_is b g))
 
 mark_has_room : (d : DemuxSeen) (what : Marked) → HasRoomFor d (mark_of what)
 mark_has_room d (marks.Enter status) = tt
 mark_has_room d marks.Exit = tt
 
-module _ (s : SystemSeen) (ms : List Mark) (walk after : Option Walk) (parent now : Cell) (m : Mark) (d : IsDemux s ms walk parent) (next : chain_next s.board (steps_of s ms) (actors.Cpu cpu_0) ≡ Some (mark_of m.what)) (before : m.before ≡ length s.log) (walks : IsWalkOf (board_lines s.lines) (mark_of m.what ∷ steps_of s ms) after) (shows : now ≡ parent_after (mark_of m.what) parent) where
+module _ (s : SystemSeen) (ms : List Mark) (walk after : Option Walk) (parent now : Cell) (m : Mark)
+    (d : IsDemux s ms walk parent) (next : chain_next s.board (steps_of s ms) (actors.Cpu cpu_0)
+    ≡ Some (mark_of m.what)) (before : m.before ≡ length s.log)
+    (walks : IsWalkOf (board_lines s.lines) (mark_of m.what ∷ steps_of s ms) after)
+    (shows : now ≡ parent_after (mark_of m.what) parent) where
   mark_longer : merged (ms ++ m ∷ []) s.log 0 ≡ merged ms s.log 0 ++ mark_of m.what ∷ []
   mark_longer = with_mark ms s.log 0 m (within_0 s ms d.within) (before ∙ zero_add (length s.log))
 
@@ -186,14 +214,17 @@ module _ (s : SystemSeen) (ms : List Mark) (walk after : Option Walk) (parent no
       let turn = sym mark_turned in
       record {
         fits = d.fits;
-        legal = subst (λ (l : List ChainEntry). IsChainLegal s.board l) turn (ap (λ (b : Actor). chain_next s.board (steps_of s ms) b) (marks_cpu_0 m.what) ∙ next, d.legal);
+        legal = subst (λ (l : List ChainEntry). IsChainLegal s.board l) turn
+            (ap (λ (b : Actor). chain_next s.board (steps_of s ms) b) (marks_cpu_0 m.what) ∙ next, d.legal);
         moves = ap (λ (l : List ChainEntry). children l) mark_turned ∙ (mark_moves m.what (steps_of s ms) ∙ d.moves);
         lines = d.lines;
         within = within_mark ms (length s.log) m (omega (arith, before)) d.within;
         walks = subst (λ (l : List ChainEntry). IsWalkOf (board_lines s.lines) l after) turn walks;
         parent =
             shows
-            ∙ (ap (λ (c : Cell). parent_after (mark_of m.what) c) d.parent ∙ (sym (mark_parent m.what s.board (steps_of s ms)) ∙ ap (λ (l : List ChainEntry). parent_cell s.board l) turn));
+            ∙ (ap (λ (c : Cell). parent_after (mark_of m.what) c) d.parent
+            ∙ (sym (mark_parent m.what s.board (steps_of s ms))
+            ∙ ap (λ (l : List ChainEntry). parent_cell s.board l) turn));
       }
 
   pub mark_goes : Goes (seen_of s ms parent) (chain_next s.board (steps_of s ms) (actors.Cpu cpu_0)) (mark_of m.what) (seen_of s (ms ++ m ∷ []) now)
@@ -202,7 +233,9 @@ module _ (s : SystemSeen) (ms : List Mark) (walk after : Option Walk) (parent no
 -- ---- what is kept of the open chain
 
 -- a step that is no take
-pub walk_stays : (lines now : List BoardLine) (g : List ChainEntry) (m : Move) (walk : Option Walk) → now ≡ lines_after m lines → is_take m.1 ≡ false → IsWalkOf lines g walk → IsWalkOf now (steps.Child m.0 m.1 ∷ g) walk
+pub walk_stays : (lines now : List BoardLine) (g : List ChainEntry) (m : Move) (walk : Option Walk)
+    → now ≡ lines_after m lines → is_take m.1 ≡ false → IsWalkOf lines g walk
+    → IsWalkOf now (steps.Child m.0 m.1 ∷ g) walk
 walk_stays lines now g m None is not_one walks = walks
 walk_stays lines now g m (Some w) is not_one walks = (walks.0, λ k x at. each k x (ap (λ (ls : List BoardLine). slice_get ls k) (sym is) ∙ at))
   where
@@ -215,17 +248,21 @@ walk_stays lines now g m (Some w) is not_one walks = (walks.0, λ k x at. each k
         let before = moved_at lines m k x at in
         walks.1 k before.line before.at
         ∙ (ap (λ (y : BoardLine). is_taken g y.def.line) before.is
-        ∙ sym (ap (λ (b : Bool). (same_line x.def.line m.0 && b) || is_taken g x.def.line) not_one ∙ not_taken (same_line x.def.line m.0) (is_taken g x.def.line)))
+        ∙ sym (ap (λ (b : Bool). (same_line x.def.line m.0 && b) || is_taken g x.def.line) not_one
+        ∙ not_taken (same_line x.def.line m.0) (is_taken g x.def.line)))
 
 less : (i j : ℕ) → (suc i == suc j) ≡ false → (i == j) ≡ false
 less i j h = grind (arith, nat_tests)
 
 -- lines that stand apart have different numbers
-places_apart : (lines : List BoardLine) → AreApart (map (λ (x : BoardLine). x.def) lines) → (i j : ℕ) (x y : BoardLine) → slice_get lines i ≡ Some x → slice_get lines j ≡ Some y → (i == j) ≡ false → same_line x.def.line y.def.line ≡ false
+places_apart : (lines : List BoardLine) → AreApart (map (λ (x : BoardLine). x.def) lines) → (i j : ℕ) (x y : BoardLine)
+    → slice_get lines i ≡ Some x → slice_get lines j ≡ Some y → (i == j) ≡ false
+    → same_line x.def.line y.def.line ≡ false
 places_apart [] apart i j x y at_x at_y other = cc
 places_apart (z ∷ zs) apart zero zero x y at_x at_y other = cc
 places_apart (z ∷ zs) apart zero (suc j) x y at_x at_y other =
-    subst (λ (w : BoardLine). same_line w.def.line y.def.line ≡ false) (the_same z x at_x) (turned y.def.line z.def.line (apart.0 j y.def (def_there zs j y at_y)))
+    subst (λ (w : BoardLine). same_line w.def.line y.def.line ≡ false) (the_same z x at_x)
+    (turned y.def.line z.def.line (apart.0 j y.def (def_there zs j y at_y)))
   where
     turned : (a b : LineNo) → same_line a b ≡ false → same_line b a ≡ false
     turned a b differs = by_test (same_line b a) refl
@@ -238,7 +275,9 @@ places_apart (z ∷ zs) apart (suc i) zero x y at_x at_y other =
 places_apart (z ∷ zs) apart (suc i) (suc j) x y at_x at_y other = places_apart zs apart.1 i j x y at_x at_y (less i j other)
 
 -- a take of the line at a place
-pub walk_takes : (lines now : List BoardLine) (g : List ChainEntry) (m : Move) (w next : Walk) (place : ℕ) (y : BoardLine) → AreApart (map (λ (x : BoardLine). x.def) lines) → length lines ≤ 32 → now ≡ lines_after m lines → is_take m.1 ≡ true → slice_get lines place ≡ Some y → y.def.line ≡ m.0 → IsWithTaken w place next
+pub walk_takes : (lines now : List BoardLine) (g : List ChainEntry) (m : Move) (w next : Walk) (place : ℕ)
+    (y : BoardLine) → AreApart (map (λ (x : BoardLine). x.def) lines) → length lines ≤ 32 → now ≡ lines_after m lines
+    → is_take m.1 ≡ true → slice_get lines place ≡ Some y → y.def.line ≡ m.0 → IsWithTaken w place next
     → IsWalkOf lines g (Some w) → IsWalkOf now (steps.Child m.0 m.1 ∷ g) (Some next)
 walk_takes lines now g m w next place y apart few is takes at_place number with walks =
     (walks.0 ∙ ap (λ (n : ℕ). Some n) (sym with.status), λ k x at. each k x (ap (λ (ls : List BoardLine). slice_get ls k) (sym is) ∙ at))
@@ -266,4 +305,5 @@ walk_takes lines now g m w next place y apart few is takes at_place number with 
         ∙ (either (k == place) (has w.taken k) ∙ ap (λ (b : Bool). b || has w.taken k) (by_place k z (k == place) refl before.at)
         ∙ (ap (λ (b : Bool). same_line z.def.line m.0 || b) (walks.1 k z before.at)
         ∙ (ap (λ (v : BoardLine). same_line v.def.line m.0 || is_taken g v.def.line) before.is
-        ∙ sym (ap (λ (b : Bool). (same_line x.def.line m.0 && b) || is_taken g x.def.line) takes ∙ taken_there (same_line x.def.line m.0) (is_taken g x.def.line)))))
+        ∙ sym (ap (λ (b : Bool). (same_line x.def.line m.0 && b) || is_taken g x.def.line) takes
+        ∙ taken_there (same_line x.def.line m.0) (is_taken g x.def.line)))))

@@ -1,5 +1,7 @@
 -- What the calls of a demultiplexer answer and leave.
-use Rattle.std.proofs.Common.{◌≡◌, ℕ, ◌<◌, ◌≤◌, ◌==◌, ◌++◌, Bool, true, false, ◌&&◌, cond, IsSome, IsTrue, Option, Some, None, List, [], ◌∷◌, map, length, get_or, slice_get, refl, sym, ap, ◌∙◌, subst, arith, eqb-true}
+use Rattle.std.proofs.Common.{◌≡◌, ℕ, ◌<◌, ◌≤◌, ◌==◌, ◌++◌, Bool, true, false, ◌&&◌, cond, IsSome, IsTrue, Option, Some}
+use Rattle.std.proofs.Common.{None, List, [], ◌∷◌, map, length, get_or, slice_get, refl, sym, ap, ◌∙◌, subst, arith}
+use Rattle.std.proofs.Common.{eqb-true}
 use Rattle.std.proofs.lemmas.Nat.Bits.{bit_at-zero}
 use Rattle.std.proofs.lemmas.List.{length-map}
 use Rattle.std.proofs.lemmas.Option.{slice_get_within}
@@ -61,8 +63,10 @@ pub level_cell : (s : SystemSeen) (ms : List Mark) (walk : Option Walk) (parent 
 level_cell s ms walk parent d = ap (λ (c : Cell). is_edge_cell c) (parent_level s ms walk parent d)
 
 -- the same, said of what is seen
-pub says : (seen view new : DemuxSeen) (a : Actor) (turn answer : ChainTurn) → seen ≡ view → answer ≡ turn → TurnsBy seen (next_of seen a) turn new → TurnsBy view (next_of view a) answer new
-says seen view new a turn answer v same t = subst (λ (d : DemuxSeen). TurnsBy d (next_of d a) answer new) v (subst (λ (x : ChainTurn). TurnsBy seen (next_of seen a) x new) (sym same) t)
+pub says : (seen view new : DemuxSeen) (a : Actor) (turn answer : ChainTurn) → seen ≡ view → answer ≡ turn
+    → TurnsBy seen (next_of seen a) turn new → TurnsBy view (next_of view a) answer new
+says seen view new a turn answer v same t = subst (λ (d : DemuxSeen). TurnsBy d (next_of d a) answer new) v
+    (subst (λ (x : ChainTurn). TurnsBy seen (next_of seen a) x new) (sym same) t)
 
 -- ---- entries that are no takes
 
@@ -106,17 +110,20 @@ flow_is_no_take d c past None = by_left (first_dev d past (linked past))
     by_left None = end_is_no_take d c past
     by_left (Some dev) = refl
 
-in_flow_is_no_take : (x : BoardLine) (c : CpuNo) (m : Move) → is_cpu c (flow x.def x.past) ≡ true → due_on (Some x) (actors.Cpu c) ≡ Some m → is_take m.1 ≡ false
+in_flow_is_no_take : (x : BoardLine) (c : CpuNo) (m : Move) → is_cpu c (flow x.def x.past) ≡ true
+    → due_on (Some x) (actors.Cpu c) ≡ Some m → is_take m.1 ≡ false
 in_flow_is_no_take x c m on due =
     let made : Move = (x.def.line, next_in_flow x.def c x.past (at_work x.past)) in
-    let is : Some made ≡ Some m = sym (ap (λ (b : Bool). move_on x.def.line (cond b (Some (next_in_flow x.def c x.past (at_work x.past))) (next_take x.def c x.past))) on) ∙ due in
+    let is : Some made ≡ Some m = sym (ap (λ (b : Bool). move_on x.def.line
+    (cond b (Some (next_in_flow x.def c x.past (at_work x.past))) (next_take x.def c x.past))) on) ∙ due in
     subst (λ (n : Move). is_take n.1 ≡ false) (the_same made m is) (flow_is_no_take x.def c x.past (at_work x.past))
 
 flow_line_on : (lines : List BoardLine) (c : CpuNo) (x : BoardLine) → flow_line lines c ≡ Some x → is_cpu c (flow x.def x.past) ≡ true
 flow_line_on [] c x is = cc
 flow_line_on (y ∷ ys) c x is = by_test (is_cpu c (flow y.def y.past)) refl is (λ h. flow_line_on ys c x h)
   where
-    by_test : (b : Bool) → is_cpu c (flow y.def y.past) ≡ b → cond b (Some y) (flow_line ys c) ≡ Some x → (flow_line ys c ≡ Some x → is_cpu c (flow x.def x.past) ≡ true) → is_cpu c (flow x.def x.past) ≡ true
+    by_test : (b : Bool) → is_cpu c (flow y.def y.past) ≡ b → cond b (Some y) (flow_line ys c) ≡ Some x
+        → (flow_line ys c ≡ Some x → is_cpu c (flow x.def x.past) ≡ true) → is_cpu c (flow x.def x.past) ≡ true
     by_test true on is rest = subst (λ (z : BoardLine). is_cpu c (flow z.def z.past) ≡ true) (the_same y x is) on
     by_test false off is rest = rest is
 
@@ -124,7 +131,8 @@ some_of : {A : Type 0} (o : Option A) → IsSome o → (x : A) × (o ≡ Some x)
 some_of None h = cc
 some_of (Some x) h = (x, refl)
 
-module _ (s t : SystemSeen) (ms : List Mark) (walk : Option Walk) (parent now : Cell) (d : IsDemux s ms walk parent) (shows : now ≡ after_high (is_asked (board_lines t.lines)) parent) where
+module _ (s t : SystemSeen) (ms : List Mark) (walk : Option Walk) (parent now : Cell) (d : IsDemux s ms walk parent)
+    (shows : now ≡ after_high (is_asked (board_lines t.lines)) parent) where
   abbrev g : List ChainEntry
   g = steps_of s ms
 
@@ -133,8 +141,10 @@ module _ (s t : SystemSeen) (ms : List Mark) (walk : Option Walk) (parent now : 
 
   -- ---- a step of a thread or a driver
 
-  pub other_turn : (a : Actor) (turn : Turn) → IsOther a → Turns s a turn t → IsDemux t ms walk now × TurnsBy seen (next_of seen a) (turn_of turn) (seen_of t ms now)
-  other_turn a turn other by = child_turn s t ms walk walk parent now a (line_for s.board (board_lines s.lines) a) d (other_next s ms walk parent d a other) shows turn (steps_by turn by) (walks turn by)
+  pub other_turn : (a : Actor) (turn : Turn) → IsOther a → Turns s a turn t
+      → IsDemux t ms walk now × TurnsBy seen (next_of seen a) (turn_of turn) (seen_of t ms now)
+  other_turn a turn other by = child_turn s t ms walk walk parent now a (line_for s.board (board_lines s.lines) a) d
+      (other_next s ms walk parent d a other) shows turn (steps_by turn by) (walks turn by)
     where
       steps_by : (turn : Turn) → Turns s a turn t → StepsBy s (move_of s a) turn t
       steps_by (moves.Moved line e) by = by
@@ -152,43 +162,61 @@ module _ (s t : SystemSeen) (ms : List Mark) (walk : Option Walk) (parent now : 
 
   -- ---- a further step of a flow
 
-  pub flow_turn : IsBoard s.board → AreKept s.board (board_lines s.lines) → (line : LineNo) (turn : Turn) → IsSome (open_status g) → number_of (flow_line (board_lines s.lines) cpu_0) ≡ Some line → StepsBy s (due_on (find_line (board_lines s.lines) line) (actors.Cpu cpu_0)) turn t
+  pub flow_turn : IsBoard s.board → AreKept s.board (board_lines s.lines) → (line : LineNo) (turn : Turn)
+      → IsSome (open_status g) → number_of (flow_line (board_lines s.lines) cpu_0) ≡ Some line
+      → StepsBy s (due_on (find_line (board_lines s.lines) line) (actors.Cpu cpu_0)) turn t
       → IsDemux t ms walk now × TurnsBy seen (next_of seen (actors.Cpu cpu_0)) (turn_of turn) (seen_of t ms now)
   flow_turn isb kept line turn opens number by = by_line (flow_line (board_lines s.lines) cpu_0) refl number
     where
       lines : List BoardLine
       lines = board_lines s.lines
 
-      by_line : (o : Option BoardLine) → flow_line lines cpu_0 ≡ o → number_of o ≡ Some line → IsDemux t ms walk now × TurnsBy seen (next_of seen (actors.Cpu cpu_0)) (turn_of turn) (seen_of t ms now)
+      by_line : (o : Option BoardLine) → flow_line lines cpu_0 ≡ o → number_of o ≡ Some line
+          → IsDemux t ms walk now × TurnsBy seen (next_of seen (actors.Cpu cpu_0)) (turn_of turn) (seen_of t ms now)
       by_line None is number = cc
       by_line (Some x) is number =
           let st = some_of (open_status g) opens in
           let stands = line_stands s.board lines (actors.Cpu cpu_0) x (ap (λ (o : Option BoardLine). or_line o (due_line lines cpu_0)) is) in
-          let found : find_line lines line ≡ Some x = ap (λ (l : LineNo). find_line lines l) (sym (the_same x.def.line line number)) ∙ find_there lines (apart_kept s.board isb lines kept) stands.place x stands.at in
+          let found : find_line lines line ≡ Some x = ap (λ (l : LineNo). find_line lines l)
+          (sym (the_same x.def.line line number)) ∙ find_there lines (apart_kept s.board isb lines kept)
+          stands.place x stands.at in
           let next : chain_next s.board g (actors.Cpu cpu_0) ≡ child (due_on (find_line lines line) (actors.Cpu cpu_0)) =
           ap (λ (o : Option ℕ). of_cpu_0 g (lines_in s.board g) o) st.1
           ∙ (ap (λ (ls : List BoardLine). in_chain g ls st.0 (flow_line ls cpu_0)) (lines_are s ms walk parent d)
           ∙ (ap (λ (o : Option BoardLine). in_chain g lines st.0 o) is ∙ sym (ap (λ (o : Option BoardLine). child (due_on o (actors.Cpu cpu_0))) found))) in
-          child_turn s t ms walk walk parent now (actors.Cpu cpu_0) (find_line lines line) d next shows turn by (walks x (flow_line_on lines cpu_0 x is) found turn by)
+          child_turn s t ms walk walk parent now (actors.Cpu cpu_0) (find_line lines line) d next shows turn by
+          (walks x (flow_line_on lines cpu_0 x is) found turn by)
         where
-          walks : (x : BoardLine) → is_cpu cpu_0 (flow x.def x.past) ≡ true → find_line lines line ≡ Some x → (turn : Turn) → StepsBy s (due_on (find_line lines line) (actors.Cpu cpu_0)) turn t → WalkGoes s ms turn t walk
+          walks : (x : BoardLine) → is_cpu cpu_0 (flow x.def x.past) ≡ true → find_line lines line ≡ Some x
+              → (turn : Turn) → StepsBy s (due_on (find_line lines line) (actors.Cpu cpu_0)) turn t
+              → WalkGoes s ms turn t walk
           walks x on found (moves.Moved l e) by =
-              walk_stays lines (board_lines t.lines) g (l, e) walk by.lines (in_flow_is_no_take x cpu_0 (l, e) on (ap (λ (o : Option BoardLine). due_on o (actors.Cpu cpu_0)) (sym found) ∙ by.is)) d.walks
+              walk_stays lines (board_lines t.lines) g (l, e) walk by.lines
+              (in_flow_is_no_take x cpu_0 (l, e) on
+              (ap (λ (o : Option BoardLine). due_on o (actors.Cpu cpu_0)) (sym found) ∙ by.is)) d.walks
           walks x on found moves.NotYet by = d.walks
           walks x on found (moves.Full l len) by = d.walks
           walks x on found moves.NoMemory by = d.walks
 
   -- ---- a take
 
-  pub take_turn : IsBoard s.board → AreKept s.board (board_lines s.lines) → length (board_lines s.lines) ≤ 32 → (place : ℕ) (w after : Walk) (line : LineNo) (turn : Turn) → IsWalkOf (board_lines s.lines) g (Some w) → IsTrue (is_take_due cpu_0 (slice_get (board_lines s.lines) place))
-      → chain_next s.board g (actors.Cpu cpu_0) ≡ child (due_on (slice_get (board_lines s.lines) place) (actors.Cpu cpu_0)) → number_of (slice_get (board_lines s.lines) place) ≡ Some line → IsWalkAfter w place turn after
-      → StepsBy s (due_on (find_line (board_lines s.lines) line) (actors.Cpu cpu_0)) turn t → IsDemux t ms (Some after) now × TurnsBy seen (next_of seen (actors.Cpu cpu_0)) (turn_of turn) (seen_of t ms now)
+  pub take_turn : IsBoard s.board → AreKept s.board (board_lines s.lines) → length (board_lines s.lines) ≤ 32
+      → (place : ℕ) (w after : Walk) (line : LineNo) (turn : Turn) → IsWalkOf (board_lines s.lines) g (Some w)
+      → IsTrue (is_take_due cpu_0 (slice_get (board_lines s.lines) place))
+      → chain_next s.board g (actors.Cpu cpu_0) ≡ child
+      (due_on (slice_get (board_lines s.lines) place) (actors.Cpu cpu_0))
+      → number_of (slice_get (board_lines s.lines) place) ≡ Some line → IsWalkAfter w place turn after
+      → StepsBy s (due_on (find_line (board_lines s.lines) line) (actors.Cpu cpu_0)) turn t
+      → IsDemux t ms (Some after) now × TurnsBy seen (next_of seen (actors.Cpu cpu_0)) (turn_of turn)
+      (seen_of t ms now)
   take_turn isb kept few place w after line turn walks_w due next number taken by = by_line (slice_get (board_lines s.lines) place) refl number
     where
       lines : List BoardLine
       lines = board_lines s.lines
 
-      walks : (y : BoardLine) → slice_get lines place ≡ Some y → y.def.line ≡ line → find_line lines line ≡ slice_get lines place → (turn : Turn) → IsWalkAfter w place turn after → StepsBy s (due_on (find_line lines line) (actors.Cpu cpu_0)) turn t → WalkGoes s ms turn t (Some after)
+      walks : (y : BoardLine) → slice_get lines place ≡ Some y → y.def.line ≡ line
+          → find_line lines line ≡ slice_get lines place → (turn : Turn) → IsWalkAfter w place turn after
+          → StepsBy s (due_on (find_line lines line) (actors.Cpu cpu_0)) turn t → WalkGoes s ms turn t (Some after)
       walks y at its found (moves.Moved l e) taken by =
           let m = take_is_due (slice_get lines place) due in
           let same : m.0 ≡ (l, e) = the_same m.0 (l, e) (sym m.1 ∙ (ap (λ (o : Option BoardLine). due_on o (actors.Cpu cpu_0)) (sym found) ∙ by.is)) in
@@ -206,12 +234,17 @@ module _ (s t : SystemSeen) (ms : List Mark) (walk : Option Walk) (parent now : 
       walks y at its found (moves.Full l len) taken by = subst (λ (v : Walk). IsWalkOf lines g (Some v)) (sym taken) walks_w
       walks y at its found moves.NoMemory taken by = subst (λ (v : Walk). IsWalkOf lines g (Some v)) (sym taken) walks_w
 
-      by_line : (o : Option BoardLine) → slice_get lines place ≡ o → number_of o ≡ Some line → IsDemux t ms (Some after) now × TurnsBy seen (next_of seen (actors.Cpu cpu_0)) (turn_of turn) (seen_of t ms now)
+      by_line : (o : Option BoardLine) → slice_get lines place ≡ o → number_of o ≡ Some line
+          → IsDemux t ms (Some after) now × TurnsBy seen (next_of seen (actors.Cpu cpu_0)) (turn_of turn)
+          (seen_of t ms now)
       by_line None at number = cc
       by_line (Some y) at number =
           let its : y.def.line ≡ line = the_same y.def.line line number in
-          let found : find_line lines line ≡ slice_get lines place = ap (λ (l : LineNo). find_line lines l) (sym its) ∙ (find_there lines (apart_kept s.board isb lines kept) place y at ∙ sym at) in
-          child_turn s t ms walk (Some after) parent now (actors.Cpu cpu_0) (find_line lines line) d (next ∙ sym (ap (λ (o : Option BoardLine). child (due_on o (actors.Cpu cpu_0))) found)) shows turn by (walks y at its found turn taken by)
+          let found : find_line lines line ≡ slice_get lines place = ap (λ (l : LineNo). find_line lines l) (sym its)
+          ∙ (find_there lines (apart_kept s.board isb lines kept) place y at ∙ sym at) in
+          child_turn s t ms walk (Some after) parent now (actors.Cpu cpu_0) (find_line lines line) d
+          (next ∙ sym (ap (λ (o : Option BoardLine). child (due_on o (actors.Cpu cpu_0))) found)) shows turn by
+          (walks y at its found turn taken by)
 
 pub not_zero : (n : ℕ) → (n ≡ 0 → ⊥) → (n == 0) ≡ false
 not_zero n some = by_test (n == 0) refl
@@ -228,12 +261,16 @@ module _ (s : SystemSeen) (ms : List Mark) (walk : Option Walk) (parent : Cell) 
 
   enters : (status : ℕ) → open_status so_far ≡ None → status ≡ status_of (board_lines s.lines) → chain_next s.board so_far (actors.Cpu cpu_0) ≡ to_enter status
   enters status closed is =
-      ap (λ (o : Option ℕ). of_cpu_0 so_far (lines_in s.board so_far) o) closed ∙ (ap (λ (ls : List BoardLine). to_enter (status_of ls)) (lines_are s ms walk parent d) ∙ ap (λ (n : ℕ). to_enter n) (sym is))
+      ap (λ (o : Option ℕ). of_cpu_0 so_far (lines_in s.board so_far) o) closed
+      ∙ (ap (λ (ls : List BoardLine). to_enter (status_of ls)) (lines_are s ms walk parent d)
+      ∙ ap (λ (n : ℕ). to_enter n) (sym is))
 
-  pub not_entered : (status : ℕ) → open_status so_far ≡ None → status ≡ status_of (board_lines s.lines) → (status == 0) ≡ true → chain_next s.board so_far (actors.Cpu cpu_0) ≡ None
+  pub not_entered : (status : ℕ) → open_status so_far ≡ None → status ≡ status_of (board_lines s.lines)
+      → (status == 0) ≡ true → chain_next s.board so_far (actors.Cpu cpu_0) ≡ None
   not_entered status closed is none = enters status closed is ∙ ap (λ (b : Bool). cond b None (Some (steps.Enter cpu_0 status))) none
 
-  module _ (status before : ℕ) (closed : open_status so_far ≡ None) (is : status ≡ status_of (board_lines s.lines)) (some : (status == 0) ≡ false) (stands : before ≡ length s.log) where
+  module _ (status before : ℕ) (closed : open_status so_far ≡ None) (is : status ≡ status_of (board_lines s.lines))
+      (some : (status == 0) ≡ false) (stands : before ≡ length s.log) where
     abbrev enter_mark : Mark
     enter_mark = record { before = before; what = marks.Enter status }
 
@@ -247,12 +284,17 @@ module _ (s : SystemSeen) (ms : List Mark) (walk : Option Walk) (parent : Cell) 
     enter_walks = (refl, λ k x at. ap (λ (n : ℕ). n == 1) (bit_at-zero k))
 
     pub enter_kept : (now : Cell) → now ≡ after_ack (after_mask parent) → (all : List Mark) → all ≡ ms ++ enter_mark ∷ [] → IsDemux s all (Some enter_walk) now
-    enter_kept now shows all is = subst (λ (l : List Mark). IsDemux s l (Some enter_walk) now) (sym is) (mark_kept s ms walk (Some enter_walk) parent now enter_mark d enter_next stands enter_walks shows)
+    enter_kept now shows all is = subst (λ (l : List Mark). IsDemux s l (Some enter_walk) now) (sym is)
+        (mark_kept s ms walk (Some enter_walk) parent now enter_mark d enter_next stands enter_walks shows)
 
-    pub enter_goes : (now : Cell) → now ≡ after_ack (after_mask parent) → (all : List Mark) → all ≡ ms ++ enter_mark ∷ [] → (view : DemuxSeen) → seen_of s ms parent ≡ view → Goes view (next_of view (actors.Cpu cpu_0)) (steps.Enter cpu_0 status) (seen_of s all now)
+    pub enter_goes : (now : Cell) → now ≡ after_ack (after_mask parent) → (all : List Mark)
+        → all ≡ ms ++ enter_mark ∷ [] → (view : DemuxSeen) → seen_of s ms parent ≡ view
+        → Goes view (next_of view (actors.Cpu cpu_0)) (steps.Enter cpu_0 status) (seen_of s all now)
     enter_goes now shows all is view v =
         subst (λ (x : DemuxSeen). Goes x (next_of x (actors.Cpu cpu_0)) (steps.Enter cpu_0 status) (seen_of s all now)) v
-        (subst (λ (l : List Mark). Goes (seen_of s ms parent) (chain_next s.board so_far (actors.Cpu cpu_0)) (steps.Enter cpu_0 status) (seen_of s l now)) (sym is) (mark_goes s ms walk (Some enter_walk) parent now enter_mark d enter_next stands enter_walks shows))
+        (subst (λ (l : List Mark). Goes (seen_of s ms parent) (chain_next s.board so_far (actors.Cpu cpu_0))
+        (steps.Enter cpu_0 status) (seen_of s l now)) (sym is)
+        (mark_goes s ms walk (Some enter_walk) parent now enter_mark d enter_next stands enter_walks shows))
 
   -- ---- an exit
 
@@ -261,22 +303,31 @@ module _ (s : SystemSeen) (ms : List Mark) (walk : Option Walk) (parent : Cell) 
     exit_mark = record { before = before; what = marks.Exit }
 
     pub exit_kept : (now : Cell) → now ≡ after_unmask parent → (all : List Mark) → all ≡ ms ++ exit_mark ∷ [] → IsDemux s all None now
-    exit_kept now shows all is = subst (λ (l : List Mark). IsDemux s l None now) (sym is) (mark_kept s ms walk None parent now exit_mark d next stands refl shows)
+    exit_kept now shows all is = subst (λ (l : List Mark). IsDemux s l None now) (sym is)
+        (mark_kept s ms walk None parent now exit_mark d next stands refl shows)
 
-    pub exit_goes : (now : Cell) → now ≡ after_unmask parent → (all : List Mark) → all ≡ ms ++ exit_mark ∷ [] → (view : DemuxSeen) → seen_of s ms parent ≡ view → Goes view (next_of view (actors.Cpu cpu_0)) (steps.Exit cpu_0) (seen_of s all now)
+    pub exit_goes : (now : Cell) → now ≡ after_unmask parent → (all : List Mark) → all ≡ ms ++ exit_mark ∷ []
+        → (view : DemuxSeen) → seen_of s ms parent ≡ view
+        → Goes view (next_of view (actors.Cpu cpu_0)) (steps.Exit cpu_0) (seen_of s all now)
     exit_goes now shows all is view v =
         subst (λ (x : DemuxSeen). Goes x (next_of x (actors.Cpu cpu_0)) (steps.Exit cpu_0) (seen_of s all now)) v
-        (subst (λ (l : List Mark). Goes (seen_of s ms parent) (chain_next s.board so_far (actors.Cpu cpu_0)) (steps.Exit cpu_0) (seen_of s l now)) (sym is) (mark_goes s ms walk None parent now exit_mark d next stands refl shows))
+        (subst (λ (l : List Mark). Goes (seen_of s ms parent) (chain_next s.board so_far (actors.Cpu cpu_0))
+        (steps.Exit cpu_0) (seen_of s l now)) (sym is)
+        (mark_goes s ms walk None parent now exit_mark d next stands refl shows))
 
   -- ---- what comes next in an open chain without a flow
 
-  module _ (w : Walk) (due : ℕ) (few : length (board_lines s.lines) ≤ 32) (walks : IsWalkOf (board_lines s.lines) so_far (Some w)) (rests : flow_line (board_lines s.lines) cpu_0 ≡ None) (is : due ≡ status_of (board_lines s.lines)) where
+  module _ (w : Walk) (due : ℕ) (few : length (board_lines s.lines) ≤ 32)
+      (walks : IsWalkOf (board_lines s.lines) so_far (Some w)) (rests : flow_line (board_lines s.lines) cpu_0 ≡ None)
+      (is : due ≡ status_of (board_lines s.lines)) where
     walks_on : chain_next s.board so_far (actors.Cpu cpu_0) ≡ or_exit (child (due_on (first_left so_far (board_lines s.lines) w.status) (actors.Cpu cpu_0)))
     walks_on =
         ap (λ (o : Option ℕ). of_cpu_0 so_far (lines_in s.board so_far) o) walks.0
-        ∙ (ap (λ (ls : List BoardLine). in_chain so_far ls w.status (flow_line ls cpu_0)) (lines_are s ms walk parent d) ∙ ap (λ (o : Option BoardLine). in_chain so_far (board_lines s.lines) w.status o) rests)
+        ∙ (ap (λ (ls : List BoardLine). in_chain so_far ls w.status (flow_line ls cpu_0)) (lines_are s ms walk parent d)
+        ∙ ap (λ (o : Option BoardLine). in_chain so_far (board_lines s.lines) w.status o) rests)
 
-    place_is : (o : Option ℕ) → o ≡ first_of (is_in_words w.status w.taken due) 64 → first_of (is_left so_far (board_lines s.lines) w.status) (length (board_lines s.lines)) ≡ o
+    place_is : (o : Option ℕ) → o ≡ first_of (is_in_words w.status w.taken due) 64
+        → first_of (is_left so_far (board_lines s.lines) w.status) (length (board_lines s.lines)) ≡ o
     place_is o found = sym (found ∙ left_place w due (board_lines s.lines) so_far is few walks)
 
     pub exit_next : None ≡ first_of (is_in_words w.status w.taken due) 64 → chain_next s.board so_far (actors.Cpu cpu_0) ≡ Some (steps.Exit cpu_0)
@@ -292,7 +343,9 @@ module _ (s : SystemSeen) (ms : List Mark) (walk : Option Walk) (parent : Cell) 
         both true false c h = cc
         both false b c h = cc
 
-    pub take_next : (k : ℕ) → Some k ≡ first_of (is_in_words w.status w.taken due) 64 → chain_next s.board so_far (actors.Cpu cpu_0) ≡ child (due_on (slice_get (board_lines s.lines) k) (actors.Cpu cpu_0))
+    pub take_next : (k : ℕ) → Some k ≡ first_of (is_in_words w.status w.taken due) 64
+        → chain_next s.board so_far (actors.Cpu cpu_0)
+        ≡ child (due_on (slice_get (board_lines s.lines) k) (actors.Cpu cpu_0))
     take_next k found =
         let m = take_is_due (slice_get (board_lines s.lines) k) (left_due k found).1 in
         walks_on
@@ -301,9 +354,13 @@ module _ (s : SystemSeen) (ms : List Mark) (walk : Option Walk) (parent : Cell) 
 
 -- ---- the number of a child
 
-pub number_is : {X : Type 0} (f : X → LineSeen) (xs : List X) (lines : List LineSeen) (k : ℕ) (x : X) (d : LineDef) → map f xs ≡ lines → IsTrue (is_take_due cpu_0 (slice_get (board_lines lines) k)) → x ≡ get_or xs k x → d ≡ (f x).def → number_of (slice_get (board_lines lines) k) ≡ Some d.line
+pub number_is : {X : Type 0} (f : X → LineSeen) (xs : List X) (lines : List LineSeen) (k : ℕ) (x : X) (d : LineDef)
+    → map f xs ≡ lines → IsTrue (is_take_due cpu_0 (slice_get (board_lines lines) k)) → x ≡ get_or xs k x
+    → d ≡ (f x).def → number_of (slice_get (board_lines lines) k) ≡ Some d.line
 number_is f xs lines k x d same due is def =
-    ap (λ (ls : List LineSeen). number_of (slice_get (board_lines ls) k)) (sym same) ∙ (ap (λ (o : Option BoardLine). number_of o) (line_seen f xs k x within is) ∙ ap (λ (e : LineDef). Some e.line) (sym def))
+    ap (λ (ls : List LineSeen). number_of (slice_get (board_lines ls) k)) (sym same)
+    ∙ (ap (λ (o : Option BoardLine). number_of o) (line_seen f xs k x within is)
+    ∙ ap (λ (e : LineDef). Some e.line) (sym def))
   where
     there : (o : Option BoardLine) → slice_get (board_lines (map f xs)) k ≡ o → IsTrue (is_take_due cpu_0 o) → k < length xs
     there None at h = cc
@@ -314,4 +371,5 @@ number_is f xs lines k x d same due is def =
         omega (arith, w, a, b)
 
     within : k < length xs
-    within = there (slice_get (board_lines (map f xs)) k) refl (subst (λ (ls : List LineSeen). IsTrue (is_take_due cpu_0 (slice_get (board_lines ls) k))) (sym same) due)
+    within = there (slice_get (board_lines (map f xs)) k) refl
+        (subst (λ (ls : List LineSeen). IsTrue (is_take_due cpu_0 (slice_get (board_lines ls) k))) (sym same) due)

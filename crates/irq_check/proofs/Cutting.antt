@@ -1,5 +1,7 @@
 -- An input is cut row by row.
-use Rattle.std.proofs.Common.{◌≡◌, ℕ, ◌+◌, ◌-◌, ◌≤◌, Bool, true, false, cond, ◌&&◌, ◌||◌, nat_eq, Option, Some, None, List, [], ◌∷◌, ◌++◌, codes, length, take, drop, refl, sym, ap, subst, ◌∙◌, append_assoc, arith, length-append}
+use Rattle.std.proofs.Common.{◌≡◌, ℕ, ◌+◌, ◌-◌, ◌≤◌, Bool, true, false, cond, ◌&&◌, ◌||◌, nat_eq, Option, Some, None}
+use Rattle.std.proofs.Common.{List, [], ◌∷◌, ◌++◌, codes, length, take, drop, refl, sym, ap, subst, ◌∙◌, append_assoc}
+use Rattle.std.proofs.Common.{arith, length-append}
 use Rattle.std.specs.List.{concat}
 use Rattle.std.specs.Str.{bytes_eq}
 use Rattle.std.proofs.Math.Seq.{take-add, take-append_seam, drop-append_seam}
@@ -60,7 +62,8 @@ module _ (input rest : List ℕ) (before : ℕ) (cut : IsCutTo input rest before
   pub last_is_dashes : rows_of rest ≡ rest ∷ [] → is_dashes rest ≡ true → parts_of input ≡ Some (take before input, [])
   last_is_dashes alone holds =
       cut.parts ∙ (ap (λ (rows : List (List ℕ)). onto_board (take before input) (split_at_dashes rows)) alone
-      ∙ (ap (λ t. onto_board (take before input) (cond t (Some ([], [])) (onto_board rest None))) holds ∙ ap (λ (x : List ℕ). Some (x, [])) (append-nil (take before input))))
+      ∙ (ap (λ t. onto_board (take before input) (cond t (Some ([], [])) (onto_board rest None))) holds
+      ∙ ap (λ (x : List ℕ). Some (x, [])) (append-nil (take before input))))
 
   pub last_is_none : rows_of rest ≡ rest ∷ [] → is_dashes rest ≡ false → parts_of input ≡ None
   last_is_none alone fails =
@@ -68,14 +71,17 @@ module _ (input rest : List ℕ) (before : ℕ) (cut : IsCutTo input rest before
       ∙ ap (λ t. onto_board (take before input) (cond t (Some ([], [])) (onto_board rest None))) fails)
 
   module _ (row after : List ℕ) (is : rows_of rest ≡ row ∷ rows_of after) where
-    of_row : (t : Bool) → is_dashes row ≡ t → parts_of input ≡ onto_board (take before input) (cond t (Some ([], concat (rows_of after))) (onto_board row (split_at_dashes (rows_of after))))
+    of_row : (t : Bool) → is_dashes row ≡ t → parts_of input
+        ≡ onto_board (take before input) (cond t (Some ([], concat (rows_of after)))
+        (onto_board row (split_at_dashes (rows_of after))))
     of_row t e =
         cut.parts ∙ (ap (λ (rows : List (List ℕ)). onto_board (take before input) (split_at_dashes rows)) is
         ∙ ap (λ s. onto_board (take before input) (cond s (Some ([], concat (rows_of after))) (onto_board row (split_at_dashes (rows_of after))))) e)
 
     pub row_is_dashes : is_dashes row ≡ true → parts_of input ≡ Some (take before input, after)
     row_is_dashes holds =
-        of_row true holds ∙ (ap (λ (x : List ℕ). Some (x, concat (rows_of after))) (append-nil (take before input)) ∙ ap (λ (x : List ℕ). Some (take before input, x)) (joined after))
+        of_row true holds ∙ (ap (λ (x : List ℕ). Some (x, concat (rows_of after))) (append-nil (take before input))
+        ∙ ap (λ (x : List ℕ). Some (take before input, x)) (joined after))
 
     text : drop before input ≡ row ++ after
     text = sym cut.left ∙ first_joined rest row after is

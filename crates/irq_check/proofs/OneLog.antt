@@ -1,6 +1,7 @@
 -- The text of a log has one meaning: its rows tell one list of histories, or one row is the first
 -- malformed one.
-use Rattle.std.proofs.Common.{◌≡◌, ℕ, zero, suc, ◌-◌, ◌<◌, ◌≤◌, ◌⊎◌, inl, inr, Bool, true, false, not, cond, Some, List, [], ◌∷◌, map, take, refl, sym, ap, subst, ◌∙◌, arith}
+use Rattle.std.proofs.Common.{◌≡◌, ℕ, zero, suc, ◌-◌, ◌<◌, ◌≤◌, ◌⊎◌, inl, inr, Bool, true, false, not, cond, Some, List}
+use Rattle.std.proofs.Common.{[], ◌∷◌, map, take, refl, sym, ap, subst, ◌∙◌, arith}
 use Rattle.std.specs.List.{slice_get, AllZip, All}
 use Rattle.std.proofs.lemmas.Bool.{cases_lt}
 use Rattle.std.proofs.lemmas.List.Elements.{All-nil, All-cons, All-head, All-tail}
@@ -33,7 +34,8 @@ same_pair l m e f same_line same_entry = cc
 one_entry : (lines : List LineRow) (row : List ℕ) (s t : LineEntry) → IsRowOn lines row s → IsRowOn lines row t → s ≡ t
 one_entry lines row (l, e) (m, f) x y = let same = rows_tell row l m e f x.formed y.formed in same_pair l m e f same.0 same.1
 
-one_said : (lines : List LineRow) (rows : List (List ℕ)) (said also : List LineEntry) → AllZip (IsRowOn lines) rows said → AllZip (IsRowOn lines) rows also → said ≡ also
+one_said : (lines : List LineRow) (rows : List (List ℕ)) (said also : List LineEntry) → AllZip (IsRowOn lines) rows said
+    → AllZip (IsRowOn lines) rows also → said ≡ also
 one_said lines [] [] [] x y = refl
 one_said lines [] (s ∷ said) also x y = absurd x
 one_said lines [] [] (t ∷ also) x y = absurd y
@@ -44,7 +46,8 @@ one_said lines (row ∷ rows) (s ∷ said) (t ∷ also) x y =
 
 pub one_history : (lines : List LineRow) (rows : List (List ℕ)) (hs ks : List (List Entry)) → Tell lines rows hs → Tell lines rows ks → hs ≡ ks
 one_history lines rows hs ks x y =
-    x.are ∙ (ap (λ (said : List LineEntry). map (λ (row : LineRow). entries_on said row.line) lines) (one_said lines (saying rows) x.said y.said x.each y.each) ∙ sym y.are)
+    x.are ∙ (ap (λ (said : List LineEntry). map (λ (row : LineRow). entries_on said row.line) lines)
+    (one_said lines (saying rows) x.said y.said x.each y.each) ∙ sym y.are)
 
 -- rows that tell are in order
 
@@ -60,7 +63,8 @@ fine lines [] said all = All-nil (IsRow lines)
 fine lines (row ∷ rows) said all = fine_by lines (is_passed_over row) row rows said refl all (λ ss. fine lines rows ss)
 
 pub not_malformed : (lines : List LineRow) (rows : List (List ℕ)) (hs : List (List Entry)) (n : ℕ) → Tell lines rows hs → IsFirstMalformed lines rows n → ⊥
-not_malformed lines rows hs n told bad = bad.malformed.2 (at_place (IsRow lines) rows (n - 1) bad.malformed.0 (fine lines rows told.said told.each) bad.malformed.1)
+not_malformed lines rows hs n told bad = bad.malformed.2
+    (at_place (IsRow lines) rows (n - 1) bad.malformed.0 (fine lines rows told.said told.each) bad.malformed.1)
 
 -- one row is the first
 

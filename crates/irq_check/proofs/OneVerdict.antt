@@ -1,5 +1,6 @@
 -- One verdict holds of a board's histories, whatever room they have.
-use Rattle.std.proofs.Common.{◌≡◌, ℕ, zero, suc, ◌+◌, ◌-◌, ◌<◌, ◌≤◌, Option, Some, None, List, [], ◌∷◌, ◌++◌, length, map, take, drop, reverse, refl, sym, ap, subst, ◌∙◌, arith}
+use Rattle.std.proofs.Common.{◌≡◌, ℕ, zero, suc, ◌+◌, ◌-◌, ◌<◌, ◌≤◌, Option, Some, None, List, [], ◌∷◌, ◌++◌, length}
+use Rattle.std.proofs.Common.{map, take, drop, reverse, refl, sym, ap, subst, ◌∙◌, arith}
 use Rattle.std.specs.List.{slice_get}
 use Rattle.std.specs.Option.{option_map}
 use Rattle.std.proofs.lemmas.List.{length-map, reverse-append, take-append-drop}
@@ -96,7 +97,8 @@ each_placed : (b : BoardSeen) → length (layout_of b) ≡ length b.lines
 each_placed b = as_many (defs_of b.domains) [] (leaves_of b.lines) ∙ length-map b.lines leaf_of
 
 entries_at : (logs : List HistorySeen) (i : ℕ) (h : HistorySeen) → slice_get logs i ≡ Some h → slice_get (entries_of logs) i ≡ Some h.entries
-entries_at logs i h at = slice_get-map (λ (x : HistorySeen). x.entries) logs i ∙ ap (λ (o : Option HistorySeen). option_map (λ (x : HistorySeen). x.entries) o) at
+entries_at logs i h at = slice_get-map (λ (x : HistorySeen). x.entries) logs i
+    ∙ ap (λ (o : Option HistorySeen). option_map (λ (x : HistorySeen). x.entries) o) at
 
 -- what two say of one line
 pub record Both (b : BoardSeen) (first other : Option ℕ) : Type 0 where
@@ -109,7 +111,9 @@ pub record Both (b : BoardSeen) (first other : Option ℕ) : Type 0 where
 module _ (b : BoardSeen) (x y : List HistorySeen) (each : length x ≡ length b.lines) (same : entries_of x ≡ entries_of y) where
   each_too : length y ≡ length b.lines
   each_too =
-      sym (length-map y (λ (h : HistorySeen). h.entries)) ∙ (ap (λ (ess : List (List Entry)). length ess) (sym same) ∙ (length-map x (λ (h : HistorySeen). h.entries) ∙ each))
+      sym (length-map y (λ (h : HistorySeen). h.entries))
+      ∙ (ap (λ (ess : List (List Entry)). length ess) (sym same)
+      ∙ (length-map x (λ (h : HistorySeen). h.entries) ∙ each))
 
   both : (i : ℕ) (first other : Option ℕ) → i < length b.lines → JudgedAt b x i first → JudgedAt b y i other → Both b first other
   both i first other within of_x of_y =
@@ -119,7 +123,9 @@ module _ (b : BoardSeen) (x y : List HistorySeen) (each : length x ≡ length b.
       let place = there (layout_of b) i (omega (arith, placed, within)) in
       let h = there x i (omega (arith, each, within)) in
       let k = there y i (omega (arith, too, within)) in
-      let is : h.0.entries ≡ k.0.entries = same_Some h.0.entries k.0.entries (sym (entries_at x i h.0 h.1) ∙ (ap (λ (ess : List (List Entry)). slice_get ess i) same ∙ entries_at y i k.0 k.1)) in
+      let is : h.0.entries ≡ k.0.entries = same_Some h.0.entries k.0.entries
+      (sym (entries_at x i h.0 h.1) ∙ (ap (λ (ess : List (List Entry)). slice_get ess i) same
+      ∙ entries_at y i k.0 k.1)) in
       record {
         row = row.0;
         placement = place.0;

@@ -1,6 +1,7 @@
 -- An input isn't longer than what is read, so reading it reaches the end of the source. And if the
 -- bytes that were cut off there are too long, the whole is too.
-use Rattle.std.proofs.Common.{◌≡◌, ℕ, ◌+◌, ◌<◌, ◌≤◌, Bool, true, false, cond, nat_lt, Option, Some, None, Result, Ok, Err, List, [], take, length, refl, sym, ap, subst, ◌∙◌, inl, inr, ◌⊎◌, arith, length-take}
+use Rattle.std.proofs.Common.{◌≡◌, ℕ, ◌+◌, ◌<◌, ◌≤◌, Bool, true, false, cond, nat_lt, Option, Some, None, Result, Ok}
+use Rattle.std.proofs.Common.{Err, List, [], take, length, refl, sym, ap, subst, ◌∙◌, inl, inr, ◌⊎◌, arith, length-take}
 use Rattle.std.proofs.lemmas.List.{take_all, drop_all}
 use Rattle.std.proofs.lemmas.Bool.{ltb-true}
 use Rattle.std.proofs.lemmas.Bool.Decides.{nat_tests}
@@ -61,18 +62,28 @@ of_all bytes text r cut states = sym (cut_states bytes) ∙ (ap checked (sym cut
 
 -- the whole is judged as what was read of it
 whole_is : (bytes text : List ℕ) (answer : Answer) → text ≡ take (longest_input + 1) bytes → IsChecked text answer → IsChecked bytes answer
-whole_is bytes text answer cut is = record { board = is.board; log = is.log; states = of_all bytes text (Ok (is.board, is.log)) cut is.states; judged = is.judged }
+whole_is bytes text answer cut is = record {
+  board = is.board;
+  log = is.log;
+  states
+      = of_all bytes text (Ok (is.board, is.log)) cut is.states;
+  judged = is.judged;
+}
 
-pub content : (before now : Option (List ℕ)) (text : List ℕ) (answer : Answer) → TakesUpTo (longest_input + 1) before now text → IsChecked text answer → ReadsInput before now (Ok answer)
+pub content : (before now : Option (List ℕ)) (text : List ℕ) (answer : Answer)
+    → TakesUpTo (longest_input + 1) before now text → IsChecked text answer → ReadsInput before now (Ok answer)
 content None now text answer read is = tt
 content (Some bytes) now text answer read is =
     let all = whole_is bytes text answer read.0 is in
     (all, read.1 ∙ ap Some (drop_all (longest_input + 1) bytes (omega (arith, short bytes (all.board, all.log) all.states))))
 
-pub refused : (before now : Option (List ℕ)) (text : List ℕ) (fault : BoardFault) → TakesUpTo (longest_input + 1) before now text → checked text ≡ Err fault → ReadsInput before now (Err (refusals.Fault fault))
+pub refused : (before now : Option (List ℕ)) (text : List ℕ) (fault : BoardFault)
+    → TakesUpTo (longest_input + 1) before now text → checked text ≡ Err fault
+    → ReadsInput before now (Err (refusals.Fault fault))
 refused None now text fault read states = tt
 refused (Some bytes) now text fault read states = (of_all bytes text (Err fault) read.0 states, read.1)
 
-pub said : (before now : Option (List ℕ)) (text : List ℕ) (answer : Answer) → TakesUpTo (longest_input + 1) before now text → IsChecked text answer → IsSaid before answer
+pub said : (before now : Option (List ℕ)) (text : List ℕ) (answer : Answer)
+    → TakesUpTo (longest_input + 1) before now text → IsChecked text answer → IsSaid before answer
 said None now text answer read is = record { input = text; as_told = tt; checked = is }
 said (Some bytes) now text answer read is = record { input = bytes; as_told = refl; checked = whole_is bytes text answer read.0 is }

@@ -9,5 +9,6 @@ nothing_more : (known : Option (List ℕ)) (bytes : List ℕ) → bytes ≡ [] �
 nothing_more None bytes none = refl
 nothing_more (Some xs) bytes none = ap Some (ap (λ (ys : List ℕ). xs ++ ys) none ∙ append-nil xs)
 
-pub unbuffered : {T A : Type 0} (contents : T → Option (List ℕ)) (w : BufWriter T A) (inner : T) → writer_inner w ≡ inner → writer_buffer w ≡ [] → writer_contents contents w ≡ contents inner
+pub unbuffered : {T A : Type 0} (contents : T → Option (List ℕ)) (w : BufWriter T A) (inner : T)
+    → writer_inner w ≡ inner → writer_buffer w ≡ [] → writer_contents contents w ≡ contents inner
 unbuffered contents w inner is none = nothing_more (contents w.inner) (writer_buffer w) none ∙ ap contents is

@@ -1,5 +1,6 @@
 -- How often vectors stand in lists.
-use Rattle.std.proofs.Common.{◌≡◌, ℕ, zero, suc, ◌+◌, ◌<◌, ◌≤◌, Bool, true, false, cond, ◌||◌, nat_lt, Option, Some, None, List, [], ◌∷◌, ◌++◌, count_by, refl, ap, ◌∙◌, sym, arith, zero-add, add-zero}
+use Rattle.std.proofs.Common.{◌≡◌, ℕ, zero, suc, ◌+◌, ◌<◌, ◌≤◌, Bool, true, false, cond, ◌||◌, nat_lt, Option, Some}
+use Rattle.std.proofs.Common.{None, List, [], ◌∷◌, ◌++◌, count_by, refl, ap, ◌∙◌, sym, arith, zero-add, add-zero}
 use Rattle.std.specs.Prelude.{option_to_list}
 use Rattle.std.specs.List.{list_any}
 use Rattle.std.proofs.lemmas.List.Sums.{sum_by-cons, sum_by_push}

@@ -1,5 +1,7 @@
 -- What a fleet keeps as a processor goes offline, as all lines are placed first, and as it says something.
-use Rattle.std.proofs.Common.{◌≡◌, ℕ, ◌≤◌, nat_lt, nat_le, Bool, true, false, cond, Option, Some, None, List, [], ◌∷◌, ◌++◌, length, count_by, All, refl, ap, ◌∙◌, sym, subst, arith, append_assoc, zero-add, length-set}
+use Rattle.std.proofs.Common.{◌≡◌, ℕ, ◌≤◌, nat_lt, nat_le, Bool, true, false, cond, Option, Some, None, List, [], ◌∷◌}
+use Rattle.std.proofs.Common.{◌++◌, length, count_by, All, refl, ap, ◌∙◌, sym, subst, arith, append_assoc, zero-add}
+use Rattle.std.proofs.Common.{length-set}
 use Rattle.std.specs.Prelude.{slice_set, unwrap_or, OnErr, OnOk, Result, Ok, Err}
 use Rattle.std.specs.List.{list_any}
 use Rattle.std.proofs.lemmas.List.{set-set, set-get_or}

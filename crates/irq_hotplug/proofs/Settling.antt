@@ -1,5 +1,7 @@
 -- Lines that found vectors of online processors are placed there.
-use Rattle.std.proofs.Common.{◌≡◌, ◌≢◌, ℕ, zero, suc, ◌+◌, ◌<◌, ◌≤◌, ◌==◌, Bool, true, false, not, ◌&&◌, cond, Option, Some, None, is_some, List, [], ◌∷◌, ◌++◌, length, All, refl, ap, ◌∙◌, sym, subst, arith, add-zero, length-append, length-set, eqb-true, count_by}
+use Rattle.std.proofs.Common.{◌≡◌, ◌≢◌, ℕ, zero, suc, ◌+◌, ◌<◌, ◌≤◌, ◌==◌, Bool, true, false, not, ◌&&◌, cond, Option}
+use Rattle.std.proofs.Common.{Some, None, is_some, List, [], ◌∷◌, ◌++◌, length, All, refl, ap, ◌∙◌, sym, subst, arith}
+use Rattle.std.proofs.Common.{add-zero, length-append, length-set, eqb-true, count_by}
 use Rattle.std.specs.Prelude.{slice_set}
 use Rattle.std.specs.Option.{option_or}
 use Rattle.std.proofs.lemmas.Bool.{false≢true, and_parts}

@@ -19,8 +19,12 @@ pub ReadSoFar-more : (first mid now : Option (List ℕ)) (all buf : List ℕ) (n
 ReadSoFar-more None mid now all buf n h r = tt
 ReadSoFar-more (Some xs) None now all buf n h r = absurd (cc)
 ReadSoFar-more (Some xs) (Some m) now all buf n h r =
-    let same : m ≡ h.0 = cc in
-    (drop n m, r.0, h.2 ∙ (ap (λ ys. all ++ ys) (sym same ∙ sym (take-append-drop n m)) ∙ (sym (append_assoc all (take n m) (drop n m)) ∙ ap (λ ys. (all ++ ys) ++ drop n m) (sym r.1))))
+    let same : m ≡ h.0 = cc in (
+      drop n m,
+      r.0,
+      h.2 ∙ (ap (λ ys. all ++ ys) (sym same ∙ sym (take-append-drop n m))
+          ∙ (sym (append_assoc all (take n m) (drop n m)) ∙ ap (λ ys. (all ++ ys) ++ drop n m) (sym r.1))),
+    )
 
 pub TakesAtMost-so_far : (most : ℕ) (first now : Option (List ℕ)) (all : List ℕ)
     → ReadSoFar first now all → length all ≤ most → TakesAtMost most first now
@@ -37,7 +41,8 @@ pub WritesAll-more : (told mid now : Option (List ℕ)) (bytes : List ℕ) (done
     → WritesAll told now (take (done + n) bytes) ends.Done
 WritesAll-more None mid now bytes done n h k = tt
 WritesAll-more (Some xs) mid now bytes done n h k =
-    let then : now ≡ Some ((xs ++ take done bytes) ++ take n (drop done bytes)) = subst (λ (m : Option (List ℕ)). Writes m now (drop done bytes) (writes.Took n)) h k in
+    let then : now ≡ Some ((xs ++ take done bytes) ++ take n (drop done bytes))
+    = subst (λ (m : Option (List ℕ)). Writes m now (drop done bytes) (writes.Took n)) h k in
     then ∙ ap Some (append_assoc xs (take done bytes) (take n (drop done bytes)) ∙ ap (λ ys. xs ++ ys) (sym (take-add done n bytes)))
 
 pub WritesAll-failed : (told mid now : Option (List ℕ)) (bytes left : List ℕ) (done : ℕ)

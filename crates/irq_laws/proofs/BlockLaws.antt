@@ -1,6 +1,7 @@
 -- A driver with a due call may add its entry exactly if nothing that the call waits for stands in
 -- the way.
-use Rattle.std.proofs.Common.{◌≡◌, ℕ, zero, suc, ◌+◌, ◌≤◌, ◌==◌, Bool, true, false, not, ◌||◌, ◌&&◌, cond, Option, Some, None, is_some, List, [], ◌∷◌, refl, sym, ap, subst, ◌∙◌, arith, eqb-true}
+use Rattle.std.proofs.Common.{◌≡◌, ℕ, zero, suc, ◌+◌, ◌≤◌, ◌==◌, Bool, true, false, not, ◌||◌, ◌&&◌, cond, Option, Some}
+use Rattle.std.proofs.Common.{None, is_some, List, [], ◌∷◌, refl, sym, ap, subst, ◌∙◌, arith, eqb-true}
 use Rattle.std.specs.List.{list_any}
 use Rattle.std.proofs.lemmas.Bool.{false_from_ne_true, and_from, and_parts}
 use Rattle.irq_base.specs.declared.numbers.DevNo.{DevNo}
@@ -91,14 +92,16 @@ module _ (def : LineDef) (past : List Entry) (valid : IsValid def) (legal : IsLe
           subst (λ (y : DevNo). at_work y ≡ true) (same_free past one.0 r x d one.1 under).1 both.1
 
       meant : is_freed_at_work def past ≡ true → at_work d ≡ true
-      meant h = any_same (at_work d) def.devices (any_imply (λ (x : DeviceDef). freed_at_work x.dev) (λ x. at_work d) def.devices (λ x is. same_work x.dev is) h)
+      meant h = any_same (at_work d) def.devices (any_imply (λ (x : DeviceDef). freed_at_work x.dev) (λ x. at_work d)
+          def.devices (λ x is. same_work x.dev is) h)
 
 -- the device of a free that has begun is at work exactly if the one that is being freed is
 abbrev pub IsFreed : LineDef → List Entry → Call → ℕ → Type 0
 IsFreed def past (calls.Free d) (suc n) = (is_woken past d || is_running past d) ≡ is_freed_at_work def past
 IsFreed def past _ _ = Unit {0}
 
-pub its_free : (def : LineDef) (past : List Entry) → IsValid def → IsLegalPast def past → (r : DriverNo) (c : Call) (n : ℕ) → due_call def r past ≡ Some (c, n) → IsFreed def past c n
+pub its_free : (def : LineDef) (past : List Entry) → IsValid def → IsLegalPast def past
+    → (r : DriverNo) (c : Call) (n : ℕ) → due_call def r past ≡ Some (c, n) → IsFreed def past c n
 its_free def past valid legal r (calls.Free d) zero is = tt
 its_free def past valid legal r (calls.Free d) (suc n) is = freed_is def past valid legal r d ((kept def past valid legal).frees.within r d n is)
 its_free def past valid legal r (calls.Ask d) n is = tt
@@ -122,35 +125,47 @@ when false e = refl
 
 synced : (def : LineDef) (r : DriverNo) (past : List Entry) → is_some (synced_of def r past) ≡ not (stands_in_way def past waits.Threads)
 synced def r past =
-    when (active_count def past == 0) (entries.Synced r) ∙ none_counted (λ (x : DeviceDef). is_woken past x.dev) (λ (x : DeviceDef). is_running past x.dev) def.devices
+    when (active_count def past == 0) (entries.Synced r)
+    ∙ none_counted (λ (x : DeviceDef). is_woken past x.dev) (λ (x : DeviceDef). is_running past x.dev) def.devices
 
-either : (def : LineDef) (past : List Entry) (b : Bool) (x y : Option Entry) (v w : WaitFor) → is_some x ≡ not (stands_in_way def past v) → is_some y ≡ not (stands_in_way def past w)
+either : (def : LineDef) (past : List Entry) (b : Bool) (x y : Option Entry) (v w : WaitFor)
+    → is_some x ≡ not (stands_in_way def past v) → is_some y ≡ not (stands_in_way def past w)
     → is_some (cond b x y) ≡ not (stands_in_way def past (cond b v w))
 either def past true x y v w h i = h
 either def past false x y v w h i = i
 
-row : (def : LineDef) (r : DriverNo) (past : List Entry) (c : Call) (n : ℕ) → IsFreed def past c n → is_some (next_of_call def r past (Some (c, n))) ≡ not (stands_in_way def past (block_of c n))
+row : (def : LineDef) (r : DriverNo) (past : List Entry) (c : Call) (n : ℕ) → IsFreed def past c n
+    → is_some (next_of_call def r past (Some (c, n))) ≡ not (stands_in_way def past (block_of c n))
 row def r past (calls.Ask d) n freed = refl
 row def r past (calls.Request d flags) n freed = unless (holds_mutex past) (request_of def r d flags past)
 row def r past (calls.Free d) zero freed = unless (holds_mutex past) (entries.Unlink r d (unlink_answer d past))
 row def r past (calls.Free d) (suc n) freed =
-    either def past (suc n == 0) (cond (holds_mutex past) None (Some (entries.Unlink r d (unlink_answer d past)))) (cond (suc n == 1) (hard_clear_of def r past) (freed_of r d past)) waits.Mutex (cond (suc n == 1) waits.Flow waits.Freed)
+    either def past (suc n == 0) (cond (holds_mutex past) None (Some (entries.Unlink r d (unlink_answer d past))))
+    (cond (suc n == 1) (hard_clear_of def r past) (freed_of r d past)) waits.Mutex
+    (cond (suc n == 1) waits.Flow waits.Freed)
     (unless (holds_mutex past) (entries.Unlink r d (unlink_answer d past)))
     (either def past (suc n == 1) (hard_clear_of def r past) (freed_of r d past) waits.Flow waits.Freed (unless (has_flow def past) (entries.HardClear r))
     (unless (is_woken past d || is_running past d) (entries.Freed r d) ∙ ap not freed))
 row def r past calls.Disable n freed =
-    either def past (n == 0) (Some (entries.Disable r)) (cond (n == 1) (hard_clear_of def r past) (synced_of def r past)) waits.Nothing (cond (n == 1) waits.Flow waits.Threads) refl
-    (either def past (n == 1) (hard_clear_of def r past) (synced_of def r past) waits.Flow waits.Threads (unless (has_flow def past) (entries.HardClear r)) (synced def r past))
+    either def past (n == 0) (Some (entries.Disable r))
+    (cond (n == 1) (hard_clear_of def r past) (synced_of def r past)) waits.Nothing
+    (cond (n == 1) waits.Flow waits.Threads) refl
+    (either def past (n == 1) (hard_clear_of def r past) (synced_of def r past) waits.Flow waits.Threads
+    (unless (has_flow def past) (entries.HardClear r)) (synced def r past))
 row def r past calls.DisableNosync n freed = refl
 row def r past calls.Enable n freed = refl
 row def r past calls.Sync n freed =
-    either def past (n == 0) (hard_clear_of def r past) (synced_of def r past) waits.Flow waits.Threads (unless (has_flow def past) (entries.HardClear r)) (synced def r past)
+    either def past (n == 0) (hard_clear_of def r past) (synced_of def r past) waits.Flow waits.Threads
+    (unless (has_flow def past) (entries.HardClear r)) (synced def r past)
 row def r past (calls.Affinity mask) n freed = refl
 row def r past (calls.Moment at) n freed = refl
 
-pub freed_waits : (def : LineDef) (past : List Entry) (r : DriverNo) (c : Call) (n : ℕ) → IsFreed def past c n → due_call def r past ≡ Some (c, n) → is_some (next_past def past (actors.Driver r)) ≡ not (stands_in_way def past (block_of c n))
+pub freed_waits : (def : LineDef) (past : List Entry) (r : DriverNo) (c : Call) (n : ℕ) → IsFreed def past c n
+    → due_call def r past ≡ Some (c, n) → is_some (next_past def past (actors.Driver r))
+    ≡ not (stands_in_way def past (block_of c n))
 freed_waits def past r c n freed is = ap (λ (o : Option (Call × ℕ)). is_some (next_of_call def r past o)) is ∙ row def r past c n freed
 
-pub call_waits : (def : LineDef) (past : List Entry) → IsValid def → IsLegalPast def past → (r : DriverNo) (c : Call) (n : ℕ) → due_call def r past ≡ Some (c, n)
+pub call_waits : (def : LineDef) (past : List Entry) → IsValid def → IsLegalPast def past
+    → (r : DriverNo) (c : Call) (n : ℕ) → due_call def r past ≡ Some (c, n)
     → is_some (next_past def past (actors.Driver r)) ≡ not (stands_in_way def past (block_of c n))
 call_waits def past valid legal r c n is = freed_waits def past r c n (its_free def past valid legal r c n is) is

@@ -18,7 +18,9 @@ use Rattle.irq_base.specs.declared.entries.Resend.TheVariants as resends
 use Rattle.irq_base.specs.declared.entries.Opened.{Opened}
 use Rattle.irq_base.specs.declared.entries.Opened.TheVariants as opens
 use Rattle.irq_base.specs.Cell.{Cell, after_edge, after_high, after_mask, after_unmask, after_ack, after_eoi, after_retrigger, signals as presents}
-use Rattle.irq_model.specs.Kinds.{is_any_ask, is_take, is_handle, is_again, is_leave, is_disable, is_kill, is_last_unlink, is_start, is_reopening, is_chip_start, is_chip_opened, opened_of, is_started_opened}
+use Rattle.irq_model.specs.Kinds.{is_any_ask, is_take, is_handle, is_again, is_leave, is_disable, is_kill}
+use Rattle.irq_model.specs.Kinds.{is_last_unlink, is_start, is_reopening, is_chip_start, is_chip_opened, opened_of}
+use Rattle.irq_model.specs.Kinds.{is_started_opened}
 use Rattle.irq_model.specs.Lines.{is_edge_line, is_level_line, is_level_flow, is_eoi_flow, serves}
 use Rattle.irq_model.specs.Links.{is_oneshot, is_disabled}
 use Rattle.irq_model.specs.Asks.{unserved_asks, is_high}
@@ -33,14 +35,16 @@ use Rattle.irq_model.specs.Valid.{IsValid}
 use Rattle.irq_steps.proofs.RoundSteps.{flow_quiet}
 use Rattle.irq_steps.proofs.MaskSteps.{masked_more, no_take_masks, masked_by_opening}
 use Rattle.irq_laws.specs.Kept.{KeepsEdges, Kept}
-use Rattle.irq_laws.specs.Driven.{cell_with, cell_of, accepted, taken_on_eoi_edge, taken_on_eoi_level, taken, masked_if, unmasked_if, retriggered_if, ended, asked, served, driven, cell_after, IsDrivenCell}
+use Rattle.irq_laws.specs.Driven.{cell_with, cell_of, accepted, taken_on_eoi_edge, taken_on_eoi_level, taken, masked_if}
+use Rattle.irq_laws.specs.Driven.{unmasked_if, retriggered_if, ended, asked, served, driven, cell_after, IsDrivenCell}
 use Rattle.irq_laws.proofs.Lists.{both_ways}
 use Rattle.irq_laws.proofs.Masking.{take_masked, IsPlain, flow_same, zero_depth}
 use Rattle.irq_laws.proofs.KeptAlways.{kept}
 use Rattle.irq_laws.proofs.ImpliesFlow.{again_by, unmask_by, take_due, end_due}
 use Rattle.irq_laws.proofs.Starts.{chip_resend, soft_has_edges}
 use Rattle.irq_laws.proofs.LevelSteps.{moves_level, high_quiet, high_return, high_thread_return}
-use Rattle.irq_laws.proofs.CellSteps.{mask_is, accept_is, ack_is, eoi_is, same_rest, level_sent, marks, mask_to, unmask_to, leaves, resend_to, again_to, edge_to, take_to}
+use Rattle.irq_laws.proofs.CellSteps.{mask_is, accept_is, ack_is, eoi_is, same_rest, level_sent, marks, mask_to}
+use Rattle.irq_laws.proofs.CellSteps.{unmask_to, leaves, resend_to, again_to, edge_to, take_to}
 
 -- ---- the level
 
@@ -53,28 +57,33 @@ edge_high def past edge = ap (λ (b : Bool). not b && list_any (λ (x : DeviceDe
 in_service_same : (def : LineDef) (e : Entry) (past : List Entry) → IsPlain e → (serves def && has_flow def past) ≡ (serves def && has_flow def (e ∷ past))
 in_service_same def e past p = ap (λ (b : Bool). serves def && b) (sym (flow_same def e past p))
 
-rest_same : (def : LineDef) (e : Entry) (past : List Entry) → IsPlain e → moves_level e ≡ false → marks def (e ∷ past) (is_high def past) (serves def && has_flow def past) ≡ cell_of def (e ∷ past)
+rest_same : (def : LineDef) (e : Entry) (past : List Entry) → IsPlain e → moves_level e ≡ false
+    → marks def (e ∷ past) (is_high def past) (serves def && has_flow def past) ≡ cell_of def (e ∷ past)
 rest_same def e past p still = same_rest def _ _ _ _ _ _ _ (sym (high_quiet def e past still)) (in_service_same def e past p)
 
 no_edge : (E f : Bool) → (E && (false || (false || (f && false)))) ≡ false
 no_edge E f = grind arith
 
 -- an entry that leaves the mask
-quiet : (def : LineDef) (e : Entry) (past : List Entry) → IsPlain e → moves_level e ≡ false → is_edge def e ≡ false → is_masked def (e ∷ past) ≡ is_masked def past → cell_of def past ≡ cell_of def (e ∷ past)
+quiet : (def : LineDef) (e : Entry) (past : List Entry) → IsPlain e → moves_level e ≡ false → is_edge def e ≡ false
+    → is_masked def (e ∷ past) ≡ is_masked def past → cell_of def past ≡ cell_of def (e ∷ past)
 quiet def e past p still edgeless same =
     leaves def e past (is_high def past) (serves def && has_flow def past) p.no_take edgeless same ∙ rest_same def e past p still
 
-masking : (def : LineDef) (e : Entry) (past : List Entry) → IsPlain e → moves_level e ≡ false → is_edge def e ≡ false → is_masked def (e ∷ past) ≡ true → after_mask (cell_of def past) ≡ cell_of def (e ∷ past)
+masking : (def : LineDef) (e : Entry) (past : List Entry) → IsPlain e → moves_level e ≡ false → is_edge def e ≡ false
+    → is_masked def (e ∷ past) ≡ true → after_mask (cell_of def past) ≡ cell_of def (e ∷ past)
 masking def e past p still edgeless n =
     mask_to def e past (is_high def past) (serves def && has_flow def past) p.no_take edgeless n ∙ rest_same def e past p still
 
-opening : (def : LineDef) (e : Entry) (past : List Entry) → IsPlain e → moves_level e ≡ false → is_edge def e ≡ false → is_masked def (e ∷ past) ≡ false → after_unmask (cell_of def past) ≡ cell_of def (e ∷ past)
+opening : (def : LineDef) (e : Entry) (past : List Entry) → IsPlain e → moves_level e ≡ false → is_edge def e ≡ false
+    → is_masked def (e ∷ past) ≡ false → after_unmask (cell_of def past) ≡ cell_of def (e ∷ past)
 opening def e past p still edgeless n =
     unmask_to def e past (is_high def past) (serves def && has_flow def past) p.no_take edgeless n ∙ rest_same def e past p still
 
 -- ---- a device asks, or a run of it returned
 
-asks : (def : LineDef) (e : Entry) (past : List Entry) → IsPlain e → is_any_ask e ≡ true → is_masked def (e ∷ past) ≡ is_masked def past → asked def (e ∷ past) (cell_of def past) ≡ cell_of def (e ∷ past)
+asks : (def : LineDef) (e : Entry) (past : List Entry) → IsPlain e → is_any_ask e ≡ true
+    → is_masked def (e ∷ past) ≡ is_masked def past → asked def (e ∷ past) (cell_of def past) ≡ cell_of def (e ∷ past)
 asks def e past p ask same = by_line (is_edge_line def) refl
   where
     is_one : (E a x : Bool) → E ≡ true → a ≡ true → (E && (a || x)) ≡ true
@@ -83,7 +92,8 @@ asks def e past p ask same = by_line (is_edge_line def) refl
     is_none : (E x : Bool) → E ≡ false → (E && x) ≡ false
     is_none E x h = grind arith
 
-    by_line : (b : Bool) → is_edge_line def ≡ b → cond b (after_edge (cell_of def past)) (after_high (is_high def (e ∷ past)) (cell_of def past)) ≡ cell_of def (e ∷ past)
+    by_line : (b : Bool) → is_edge_line def ≡ b → cond b (after_edge (cell_of def past))
+        (after_high (is_high def (e ∷ past)) (cell_of def past)) ≡ cell_of def (e ∷ past)
     by_line true edge =
         edge_to def e past (is_high def past) (serves def && has_flow def past) p.no_take (is_one (is_edge_line def) (is_any_ask e) _ edge ask) same
         ∙ same_rest def _ _ _ _ _ _ _ (edge_high def past edge ∙ sym (edge_high def (e ∷ past) edge)) (in_service_same def e past p)
@@ -92,7 +102,9 @@ asks def e past p ask same = by_line (is_edge_line def) refl
         ∙ same_rest def _ _ _ _ _ _ _ refl (in_service_same def e past p)
 
 -- a run that served sets the level anew; one that served nothing leaves it
-returns : (def : LineDef) (e : Entry) (past : List Entry) (count : ℕ) → IsPlain e → is_edge def e ≡ false → is_masked def (e ∷ past) ≡ is_masked def past → (nat_lt 0 count ≡ false → is_high def (e ∷ past) ≡ is_high def past)
+returns : (def : LineDef) (e : Entry) (past : List Entry) (count : ℕ) → IsPlain e → is_edge def e ≡ false
+    → is_masked def (e ∷ past) ≡ is_masked def past → (nat_lt 0 count ≡ false
+    → is_high def (e ∷ past) ≡ is_high def past)
     → served def count (e ∷ past) (cell_of def past) ≡ cell_of def (e ∷ past)
 returns def e past count p edgeless same idle = by_test (is_level_line def) (nat_lt 0 count) refl refl
   where
@@ -104,7 +116,9 @@ returns def e past count p edgeless same idle = by_test (is_level_line def) (nat
     off : (l x : Bool) → l ≡ false → (l && x) ≡ false
     off l x h = grind arith
 
-    by_test : (l s : Bool) → is_level_line def ≡ l → nat_lt 0 count ≡ s → cond (l && s) (after_high (is_high def (e ∷ past)) (cell_of def past)) (cell_of def past) ≡ cell_of def (e ∷ past)
+    by_test : (l s : Bool) → is_level_line def ≡ l → nat_lt 0 count ≡ s
+        → cond (l && s) (after_high (is_high def (e ∷ past)) (cell_of def past)) (cell_of def past)
+        ≡ cell_of def (e ∷ past)
     by_test true true level some =
         leaves def e past (is_high def (e ∷ past)) (serves def && has_flow def past) p.no_take edgeless same
         ∙ same_rest def _ _ _ _ _ _ _ refl (in_service_same def e past p)
@@ -122,13 +136,17 @@ unlink_masks t y l m h = grind arith
 plain : (e : Entry) → is_take e ≡ false → is_handle e ≡ false → is_leave e ≡ false → is_again e ≡ false → IsPlain e
 plain e a b c d = record { no_take = a; no_handle = b; no_leave = c; no_again = d }
 
-masks_if : (def : LineDef) (e : Entry) (past : List Entry) (b : Bool) → IsPlain e → moves_level e ≡ false → is_edge def e ≡ false → is_masked def (e ∷ past) ≡ (b || is_masked def past) → masked_if b (cell_of def past) ≡ cell_of def (e ∷ past)
+masks_if : (def : LineDef) (e : Entry) (past : List Entry) (b : Bool) → IsPlain e → moves_level e ≡ false
+    → is_edge def e ≡ false → is_masked def (e ∷ past) ≡ (b || is_masked def past)
+    → masked_if b (cell_of def past) ≡ cell_of def (e ∷ past)
 masks_if def e past true p still edgeless n = masking def e past p still edgeless n
 masks_if def e past false p still edgeless n = quiet def e past p still edgeless n
 
 -- ---- starts
 
-by_start : (def : LineDef) (e : Entry) (past : List Entry) (o : Opened) → IsDue def e past → opened_of e ≡ o → IsPlain e → moves_level e ≡ false → is_any_ask e ≡ false → is_reopening e ≡ false → (is_disable e || is_kill e) ≡ false → is_last_unlink e ≡ false
+by_start : (def : LineDef) (e : Entry) (past : List Entry) (o : Opened) → IsDue def e past → opened_of e ≡ o → IsPlain e
+    → moves_level e ≡ false → is_any_ask e ≡ false → is_reopening e ≡ false → (is_disable e || is_kill e) ≡ false
+    → is_last_unlink e ≡ false
     → retriggered_if (is_chip_opened o) (unmasked_if (is_started_opened o) (cell_of def past)) ≡ cell_of def (e ∷ past)
 by_start def e past o due is p still no_ask no_reopening no_deepening no_last = by_opened o is
   where
@@ -156,7 +174,8 @@ by_start def e past o due is p still no_ask no_reopening no_deepening no_last = 
     opened : is_started_opened (opened_of e) ≡ true → is_masked def (e ∷ past) ≡ false
     opened s = masked_now ∙ started (is_start e) (is_reopening e) (is_masked def past) s
 
-    by_opened : (o : Opened) → opened_of e ≡ o → retriggered_if (is_chip_opened o) (unmasked_if (is_started_opened o) (cell_of def past)) ≡ cell_of def (e ∷ past)
+    by_opened : (o : Opened) → opened_of e ≡ o → retriggered_if (is_chip_opened o)
+        (unmasked_if (is_started_opened o) (cell_of def past)) ≡ cell_of def (e ∷ past)
     by_opened opens.No is = quiet def e past p still (edgeless (ap is_chip_opened is)) (unstarted (ap is_started_opened is))
     by_opened opens.Unbalanced is = quiet def e past p still (edgeless (ap is_chip_opened is)) (unstarted (ap is_started_opened is))
     by_opened opens.Lowered is = quiet def e past p still (edgeless (ap is_chip_opened is)) (unstarted (ap is_started_opened is))
@@ -164,15 +183,20 @@ by_start def e past o due is p still no_ask no_reopening no_deepening no_last = 
     by_opened (opens.Started resends.Soft) is = opening def e past p still (edgeless (ap is_chip_opened is)) (opened (ap is_started_opened is))
     by_opened (opens.Started resends.Chip) is =
         let c = chip_resend def e past due is in
-        resend_to def e past (is_high def past) (serves def && has_flow def past) c.0 c.1 (an_edge_by (is_edge_line def) (is_any_ask e) (is_chip_start e) _ c.0 (ap is_chip_opened is)) (opened (ap is_started_opened is))
+        resend_to def e past (is_high def past) (serves def && has_flow def past) c.0 c.1
+        (an_edge_by (is_edge_line def) (is_any_ask e) (is_chip_start e) _ c.0 (ap is_chip_opened is))
+        (opened (ap is_started_opened is))
         ∙ rest_same def e past p still
 
 -- ---- takes
 
 -- no interrupt is in service when one is taken
-none_in_service : (def : LineDef) (c : CpuNo) (way : Way) (answer : TakeAnswer) (past : List Entry) → IsDue def (entries.Take c way answer) past → (is_soft past ≡ true → is_edge_line def ≡ true) → (serves def && has_flow def past) ≡ false
+none_in_service : (def : LineDef) (c : CpuNo) (way : Way) (answer : TakeAnswer) (past : List Entry)
+    → IsDue def (entries.Take c way answer) past → (is_soft past ≡ true → is_edge_line def ≡ true)
+    → (serves def && has_flow def past) ≡ false
 none_in_service def c ways.Line answer past due soft =
-    by_signal (is_edge_line def) (is_eoi_flow def.flow) (has_flow def past) (is_sent def past) (is_high def past) (is_masked def past) ((take_due def c ways.Line answer past due).by_line refl)
+    by_signal (is_edge_line def) (is_eoi_flow def.flow) (has_flow def past) (is_sent def past) (is_high def past)
+    (is_masked def past) ((take_due def c ways.Line answer past due).by_line refl)
   where
     by_signal : (E o f s h m : Bool) → cond E s (h && (not m && not ((not E && o) && f))) ≡ true → ((not E && o) && f) ≡ false
     by_signal true o f s h m is = refl
@@ -187,23 +211,30 @@ edge_serves : (def : LineDef) → is_edge_line def ≡ true → serves def ≡ f
 edge_serves def edge = ap (λ (b : Bool). not b && is_eoi_flow def.flow) edge
 
 -- what is accepted is in service
-accepted_is : (def : LineDef) (c : CpuNo) (way : Way) (answer : TakeAnswer) (past : List Entry) → IsDue def (entries.Take c way answer) past → (is_soft past ≡ true → is_edge_line def ≡ true)
+accepted_is : (def : LineDef) (c : CpuNo) (way : Way) (answer : TakeAnswer) (past : List Entry)
+    → IsDue def (entries.Take c way answer) past → (is_soft past ≡ true → is_edge_line def ≡ true)
     → accepted way (cell_of def past) ≡ marks def past (is_high def past) (serves def)
 accepted_is def c ways.Line answer past due soft =
     accept_is def (is_masked def past) (is_stored def past) (is_sent def past) (is_high def past) (serves def && has_flow def past)
-    ∙ same_rest def _ _ _ _ _ _ _ refl (by_line (is_edge_line def) (is_eoi_flow def.flow) (has_flow def past) (none_in_service def c ways.Line answer past due soft))
+    ∙ same_rest def _ _ _ _ _ _ _ refl (by_line (is_edge_line def) (is_eoi_flow def.flow) (has_flow def past)
+    (none_in_service def c ways.Line answer past due soft))
   where
     by_line : (E o f : Bool) → ((not E && o) && f) ≡ false → cond E ((not E && o) && f) (((not E && o) && f) || (not E && o)) ≡ (not E && o)
     by_line E o f h = grind arith
 accepted_is def c ways.Resend answer past due soft =
-    same_rest def _ _ _ _ _ _ _ refl (none_in_service def c ways.Resend answer past due soft ∙ sym (edge_serves def (soft ((take_due def c ways.Resend answer past due).by_resend refl).1)))
+    same_rest def _ _ _ _ _ _ _ refl (none_in_service def c ways.Resend answer past due soft
+    ∙ sym (edge_serves def (soft ((take_due def c ways.Resend answer past due).by_resend refl).1)))
 
 -- a take leaves the cell with nothing sent, what it stored, masked if the flow says so, and in
 -- service or not
-after_take : (def : LineDef) (c : CpuNo) (way : Way) (answer : TakeAnswer) (past : List Entry) (n j : Bool) → is_masked def (entries.Take c way answer ∷ past) ≡ n → (n ≡ false → is_masked def past ≡ false)
-    → j ≡ (serves def && has_flow def (entries.Take c way answer ∷ past)) → cell_with def n (is_stored def past) false (is_high def past) j ≡ cell_of def (entries.Take c way answer ∷ past)
+after_take : (def : LineDef) (c : CpuNo) (way : Way) (answer : TakeAnswer) (past : List Entry) (n j : Bool)
+    → is_masked def (entries.Take c way answer ∷ past) ≡ n → (n ≡ false → is_masked def past ≡ false)
+    → j ≡ (serves def && has_flow def (entries.Take c way answer ∷ past))
+    → cell_with def n (is_stored def past) false (is_high def past) j
+    ≡ cell_of def (entries.Take c way answer ∷ past)
 after_take def c way answer past n j is opens flow =
-    take_to def (entries.Take c way answer) past (is_high def past) j n refl (no_edge (is_edge_line def) (is_eoi_flow def.flow)) (λ off. opens (sym is ∙ off)) (sym is)
+    take_to def (entries.Take c way answer) past (is_high def past) j n refl
+    (no_edge (is_edge_line def) (is_eoi_flow def.flow)) (λ off. opens (sym is ∙ off)) (sym is)
     ∙ same_rest def _ _ _ _ _ _ _ (sym (high_quiet def (entries.Take c way answer) past refl)) flow
 
 acked_sent : (E s : Bool) → (E ≡ false → s ≡ false) → cond E false s ≡ false
@@ -219,16 +250,21 @@ none_recalled : (E r : Bool) → (E && (r && false)) ≡ false
 none_recalled E r = grind arith
 
 mask_unsent : (def : LineDef) (m w h i : Bool) → after_mask (cell_with def m w false h i) ≡ cell_with def true w false h i
-mask_unsent def m w h i = mask_is def m w false h i ∙ ap (λ (b : Bool). cell_with def true (cond b true w) (cond b false false) h i) (none_recalled (is_edge_line def) def.recalls)
+mask_unsent def m w h i = mask_is def m w false h i ∙ ap
+    (λ (b : Bool). cell_with def true (cond b true w) (cond b false false) h i)
+    (none_recalled (is_edge_line def) def.recalls)
 
-acked_masked : (def : LineDef) (past : List Entry) (h i : Bool) → after_mask (after_ack (marks def past h i)) ≡ cell_with def true (is_stored def past) false h i
+acked_masked : (def : LineDef) (past : List Entry) (h i : Bool)
+    → after_mask (after_ack (marks def past h i)) ≡ cell_with def true (is_stored def past) false h i
 acked_masked def past h i = ap after_mask (acked def past h i) ∙ mask_unsent def (is_masked def past) (is_stored def past) h i
 
 -- on a level line nothing is sent
-unsent : (def : LineDef) (past : List Entry) (h i : Bool) → is_edge_line def ≡ false → marks def past h i ≡ cell_with def (is_masked def past) (is_stored def past) false h i
+unsent : (def : LineDef) (past : List Entry) (h i : Bool) → is_edge_line def ≡ false
+    → marks def past h i ≡ cell_with def (is_masked def past) (is_stored def past) false h i
 unsent def past h i level = ap (λ (x : Bool). cell_with def (is_masked def past) (is_stored def past) x h i) (level_sent def past level)
 
-level_masked : (def : LineDef) (past : List Entry) (h i : Bool) → is_edge_line def ≡ false → after_mask (marks def past h i) ≡ cell_with def true (is_stored def past) false h i
+level_masked : (def : LineDef) (past : List Entry) (h i : Bool) → is_edge_line def ≡ false
+    → after_mask (marks def past h i) ≡ cell_with def true (is_stored def past) false h i
 level_masked def past h i level = ap after_mask (unsent def past h i level) ∙ mask_unsent def (is_masked def past) (is_stored def past) h i
 
 ack_unsent : (def : LineDef) (m w h i : Bool) → is_edge_line def ≡ false → after_ack (cell_with def m w false h i) ≡ cell_with def m w false h i
@@ -248,7 +284,8 @@ no_service def f is other = by_flow (is_level_line def) (is_eoi_flow def.flow) (
     by_flow : (l o : Bool) → o ≡ false → (l && o) ≡ false
     by_flow l o h = grind arith
 
-handled_serves : (def : LineDef) (c : CpuNo) (way : Way) (past : List Entry) → serves def ≡ (serves def && has_flow def (entries.Take c way takes.Handle ∷ past))
+handled_serves : (def : LineDef) (c : CpuNo) (way : Way) (past : List Entry)
+    → serves def ≡ (serves def && has_flow def (entries.Take c way takes.Handle ∷ past))
 handled_serves def c way past = with_flow (serves def)
   where
     with_flow : (v : Bool) → v ≡ (v && true)
@@ -262,50 +299,74 @@ never_serves def x none = off (serves def) x none
     off v x h = grind arith
 
 -- a take that isn't handled leaves the flow as it was, and nothing in service
-unhandled_serves : (def : LineDef) (c : CpuNo) (way : Way) (answer : TakeAnswer) (past : List Entry) → is_handle (entries.Take c way answer) ≡ false → IsDue def (entries.Take c way answer) past → (is_soft past ≡ true → is_edge_line def ≡ true)
+unhandled_serves : (def : LineDef) (c : CpuNo) (way : Way) (answer : TakeAnswer) (past : List Entry)
+    → is_handle (entries.Take c way answer) ≡ false → IsDue def (entries.Take c way answer) past
+    → (is_soft past ≡ true → is_edge_line def ≡ true)
     → false ≡ (serves def && has_flow def (entries.Take c way answer ∷ past))
 unhandled_serves def c way answer past unhandled due soft =
-    sym (ap (λ (b : Bool). serves def && b) (ap is_some (flow_quiet def (entries.Take c way answer) past unhandled refl refl)) ∙ none_in_service def c way answer past due soft)
+    sym (ap (λ (b : Bool). serves def && b) (ap is_some
+    (flow_quiet def (entries.Take c way answer) past unhandled refl refl))
+    ∙ none_in_service def c way answer past due soft)
 
-take_by : (def : LineDef) (f : FlowKind) (c : CpuNo) (way : Way) (answer : TakeAnswer) (past : List Entry) → IsValid def → IsDue def (entries.Take c way answer) past → (is_soft past ≡ true → is_edge_line def ≡ true) → def.flow ≡ f
+take_by : (def : LineDef) (f : FlowKind) (c : CpuNo) (way : Way) (answer : TakeAnswer) (past : List Entry) → IsValid def
+    → IsDue def (entries.Take c way answer) past → (is_soft past ≡ true → is_edge_line def ≡ true) → def.flow ≡ f
     → taken def f (is_oneshot past) answer (marks def past (is_high def past) (serves def)) ≡ cell_of def (entries.Take c way answer ∷ past)
 take_by def flows.Level c way answer past valid due soft is =
     let level = level_edge (is_edge_line def) (valid.level_flow (ap is_level_flow is)) in
     ap after_ack (level_masked def past (is_high def past) (serves def) level) ∙ ack_unsent def true (is_stored def past) (is_high def past) (serves def) level
-    ∙ after_take def c way answer past true (serves def) (take_masked def flows.Level c way answer past is) (λ n. cc) (never_serves def _ (no_service def flows.Level is refl))
+    ∙ after_take def c way answer past true (serves def) (take_masked def flows.Level c way answer past is) (λ n. cc)
+    (never_serves def _ (no_service def flows.Level is refl))
   where
     level_edge : (E : Bool) → not E ≡ true → E ≡ false
     level_edge true h = cc
     level_edge false h = refl
 take_by def flows.Edge c way takes.Handle past valid due soft is =
     acked def past (is_high def past) (serves def)
-    ∙ after_take def c way takes.Handle past (is_masked def past) (serves def) (take_masked def flows.Edge c way takes.Handle past is) (λ n. n) (never_serves def _ (no_service def flows.Edge is refl))
+    ∙ after_take def c way takes.Handle past (is_masked def past) (serves def)
+    (take_masked def flows.Edge c way takes.Handle past is) (λ n. n)
+    (never_serves def _ (no_service def flows.Edge is refl))
 take_by def flows.Edge c way takes.Busy past valid due soft is =
     acked_masked def past (is_high def past) (serves def)
-    ∙ after_take def c way takes.Busy past true (serves def) (take_masked def flows.Edge c way takes.Busy past is) (λ n. cc) (never_serves def _ (no_service def flows.Edge is refl))
+    ∙ after_take def c way takes.Busy past true (serves def) (take_masked def flows.Edge c way takes.Busy past is)
+    (λ n. cc) (never_serves def _ (no_service def flows.Edge is refl))
 take_by def flows.Edge c way takes.Off past valid due soft is =
     acked_masked def past (is_high def past) (serves def)
-    ∙ after_take def c way takes.Off past true (serves def) (take_masked def flows.Edge c way takes.Off past is) (λ n. cc) (never_serves def _ (no_service def flows.Edge is refl))
+    ∙ after_take def c way takes.Off past true (serves def) (take_masked def flows.Edge c way takes.Off past is)
+    (λ n. cc) (never_serves def _ (no_service def flows.Edge is refl))
 take_by def flows.Eoi c way takes.Handle past valid due soft is = by_line (is_edge_line def) refl
   where
-    by_oneshot : (b : Bool) → is_oneshot past ≡ b → is_edge_line def ≡ false → cond b (after_mask (marks def past (is_high def past) (serves def))) (marks def past (is_high def past) (serves def)) ≡ cell_of def (entries.Take c way takes.Handle ∷ past)
+    by_oneshot : (b : Bool) → is_oneshot past ≡ b → is_edge_line def ≡ false
+        → cond b (after_mask (marks def past (is_high def past) (serves def)))
+        (marks def past (is_high def past) (serves def)) ≡ cell_of def (entries.Take c way takes.Handle ∷ past)
     by_oneshot true one level =
         level_masked def past (is_high def past) (serves def) level
-        ∙ after_take def c way takes.Handle past true (serves def) (take_masked def flows.Eoi c way takes.Handle past is ∙ masks_it (is_edge_line def) (is_oneshot past) (is_masked def past) level one) (λ n. cc) (handled_serves def c way past)
+        ∙ after_take def c way takes.Handle past true (serves def)
+        (take_masked def flows.Eoi c way takes.Handle past is
+        ∙ masks_it (is_edge_line def) (is_oneshot past) (is_masked def past) level one) (λ n. cc)
+        (handled_serves def c way past)
       where
         masks_it : (E o m : Bool) → E ≡ false → o ≡ true → ((false || (true && (not E && o))) || m) ≡ true
         masks_it E o m a b = grind arith
     by_oneshot false one level =
         unsent def past (is_high def past) (serves def) level
-        ∙ after_take def c way takes.Handle past (is_masked def past) (serves def) (take_masked def flows.Eoi c way takes.Handle past is ∙ masks_not (is_edge_line def) (is_oneshot past) (is_masked def past) one) (λ n. n) (handled_serves def c way past)
+        ∙ after_take def c way takes.Handle past (is_masked def past) (serves def)
+        (take_masked def flows.Eoi c way takes.Handle past is
+        ∙ masks_not (is_edge_line def) (is_oneshot past) (is_masked def past) one) (λ n. n)
+        (handled_serves def c way past)
       where
         masks_not : (E o m : Bool) → o ≡ false → ((false || (true && (not E && o))) || m) ≡ m
         masks_not E o m b = grind arith
 
-    by_line : (b : Bool) → is_edge_line def ≡ b → cond b (taken_on_eoi_edge takes.Handle (marks def past (is_high def past) (serves def))) (taken_on_eoi_level (is_oneshot past) takes.Handle (marks def past (is_high def past) (serves def))) ≡ cell_of def (entries.Take c way takes.Handle ∷ past)
+    by_line : (b : Bool) → is_edge_line def ≡ b → cond b
+        (taken_on_eoi_edge takes.Handle (marks def past (is_high def past) (serves def)))
+        (taken_on_eoi_level (is_oneshot past) takes.Handle (marks def past (is_high def past) (serves def)))
+        ≡ cell_of def (entries.Take c way takes.Handle ∷ past)
     by_line true edge =
         acked def past (is_high def past) (serves def)
-        ∙ after_take def c way takes.Handle past (is_masked def past) (serves def) (take_masked def flows.Eoi c way takes.Handle past is ∙ masks_not (is_edge_line def) (is_oneshot past) (is_masked def past) edge) (λ n. n) (handled_serves def c way past)
+        ∙ after_take def c way takes.Handle past (is_masked def past) (serves def)
+        (take_masked def flows.Eoi c way takes.Handle past is
+        ∙ masks_not (is_edge_line def) (is_oneshot past) (is_masked def past) edge) (λ n. n)
+        (handled_serves def c way past)
       where
         masks_not : (E o m : Bool) → E ≡ true → ((false || (true && (not E && o))) || m) ≡ m
         masks_not E o m b = grind arith
@@ -313,25 +374,43 @@ take_by def flows.Eoi c way takes.Handle past valid due soft is = by_line (is_ed
 take_by def flows.Eoi c way takes.Busy past valid due soft is = by_line (is_edge_line def) refl
   where
     last : cell_with def (is_masked def past) (is_stored def past) false (is_high def past) false ≡ cell_of def (entries.Take c way takes.Busy ∷ past)
-    last = after_take def c way takes.Busy past (is_masked def past) false (take_masked def flows.Eoi c way takes.Busy past is) (λ n. n) (unhandled_serves def c way takes.Busy past refl due soft)
+    last = after_take def c way takes.Busy past (is_masked def past) false
+        (take_masked def flows.Eoi c way takes.Busy past is) (λ n. n)
+        (unhandled_serves def c way takes.Busy past refl due soft)
 
-    by_line : (b : Bool) → is_edge_line def ≡ b → cond b (taken_on_eoi_edge takes.Busy (marks def past (is_high def past) (serves def))) (taken_on_eoi_level (is_oneshot past) takes.Busy (marks def past (is_high def past) (serves def))) ≡ cell_of def (entries.Take c way takes.Busy ∷ past)
-    by_line true edge = ap after_eoi (acked def past (is_high def past) (serves def)) ∙ eoi_served def (is_masked def past) (is_stored def past) false (is_high def past) ∙ last
-    by_line false level = ap after_eoi (unsent def past (is_high def past) (serves def) level) ∙ eoi_served def (is_masked def past) (is_stored def past) false (is_high def past) ∙ last
+    by_line : (b : Bool) → is_edge_line def ≡ b → cond b
+        (taken_on_eoi_edge takes.Busy (marks def past (is_high def past) (serves def)))
+        (taken_on_eoi_level (is_oneshot past) takes.Busy (marks def past (is_high def past) (serves def)))
+        ≡ cell_of def (entries.Take c way takes.Busy ∷ past)
+    by_line true edge = ap after_eoi (acked def past (is_high def past) (serves def))
+        ∙ eoi_served def (is_masked def past) (is_stored def past) false (is_high def past) ∙ last
+    by_line false level = ap after_eoi (unsent def past (is_high def past) (serves def) level)
+        ∙ eoi_served def (is_masked def past) (is_stored def past) false (is_high def past) ∙ last
 take_by def flows.Eoi c way takes.Off past valid due soft is = by_line (is_edge_line def) refl
   where
     last : cell_with def true (is_stored def past) false (is_high def past) false ≡ cell_of def (entries.Take c way takes.Off ∷ past)
-    last = after_take def c way takes.Off past true false (take_masked def flows.Eoi c way takes.Off past is) (λ n. cc) (unhandled_serves def c way takes.Off past refl due soft)
+    last = after_take def c way takes.Off past true false (take_masked def flows.Eoi c way takes.Off past is) (λ n. cc)
+        (unhandled_serves def c way takes.Off past refl due soft)
 
-    by_line : (b : Bool) → is_edge_line def ≡ b → cond b (taken_on_eoi_edge takes.Off (marks def past (is_high def past) (serves def))) (taken_on_eoi_level (is_oneshot past) takes.Off (marks def past (is_high def past) (serves def))) ≡ cell_of def (entries.Take c way takes.Off ∷ past)
-    by_line true edge = ap after_eoi (acked_masked def past (is_high def past) (serves def)) ∙ eoi_served def true (is_stored def past) false (is_high def past) ∙ last
-    by_line false level = ap after_eoi (level_masked def past (is_high def past) (serves def) level) ∙ eoi_served def true (is_stored def past) false (is_high def past) ∙ last
+    by_line : (b : Bool) → is_edge_line def ≡ b → cond b
+        (taken_on_eoi_edge takes.Off (marks def past (is_high def past) (serves def)))
+        (taken_on_eoi_level (is_oneshot past) takes.Off (marks def past (is_high def past) (serves def)))
+        ≡ cell_of def (entries.Take c way takes.Off ∷ past)
+    by_line true edge = ap after_eoi (acked_masked def past (is_high def past) (serves def))
+        ∙ eoi_served def true (is_stored def past) false (is_high def past) ∙ last
+    by_line false level = ap after_eoi (level_masked def past (is_high def past) (serves def) level)
+        ∙ eoi_served def true (is_stored def past) false (is_high def past) ∙ last
 
 -- ---- ends
 
 -- a line that is off now neither goes on nor opens
-off_stops : (def : LineDef) (f : FlowKind) (past : List Entry) (note : Note) → is_off_now past note ≡ true → (again_by def f past note ≡ false) × (unmask_by def f past note ≡ false)
-off_stops def flows.Edge past note off = (stops (is_pending def past) (is_off_now past note) off, closed (is_pending def past) (is_off_now past note) (is_masked def past) off)
+off_stops : (def : LineDef) (f : FlowKind) (past : List Entry) (note : Note) → is_off_now past note ≡ true
+    → (again_by def f past note ≡ false) × (unmask_by def f past note ≡ false)
+off_stops def flows.Edge past note off = (
+  stops (is_pending def past) (is_off_now past note) off,
+  closed
+      (is_pending def past) (is_off_now past note) (is_masked def past) off,
+)
   where
     stops : (p o : Bool) → o ≡ true → (p && not o) ≡ false
     stops p o h = grind arith
@@ -342,7 +421,10 @@ off_stops def flows.Level past note off = (refl, closed (is_off_now past note) _
   where
     closed : (o m : Bool) → o ≡ true → (not o && m) ≡ false
     closed o m h = grind arith
-off_stops def flows.Eoi past note off = (stops (is_edge_line def) (is_pending def past) (is_off_now past note) off, closed (is_edge_line def) (is_off_now past note) (is_oneshot past) _ off)
+off_stops def flows.Eoi past note off = (
+  stops (is_edge_line def) (is_pending def past) (is_off_now past note) off,
+  closed (is_edge_line def) (is_off_now past note) (is_oneshot past) _ off,
+)
   where
     stops : (E p o : Bool) → o ≡ true → (E && (p && not o)) ≡ false
     stops E p o h = grind arith
@@ -351,10 +433,13 @@ off_stops def flows.Eoi past note off = (stops (is_edge_line def) (is_pending de
     closed E o s m h = grind arith
 
 -- an end that kills neither goes on nor opens
-kill_stops : (def : LineDef) (c : CpuNo) (again unmask : Bool) (note : Note) (past : List Entry) → IsDue def (entries.End c again unmask note) past → is_kill (entries.End c again unmask note) ≡ true → (again ≡ false) × (unmask ≡ false)
+kill_stops : (def : LineDef) (c : CpuNo) (again unmask : Bool) (note : Note) (past : List Entry)
+    → IsDue def (entries.End c again unmask note) past → is_kill (entries.End c again unmask note) ≡ true
+    → (again ≡ false) × (unmask ≡ false)
 kill_stops def c again unmask note past due kill =
     let u = end_due def c again unmask note past due in
-    let off : is_off_now past (note_of def past) ≡ true = ap (λ (x : Note). is_off_now past x) (sym u.note_is) ∙ or_kill (is_disabled past) (is_kill (entries.End c again unmask note)) kill in
+    let off : is_off_now past (note_of def past) ≡ true = ap (λ (x : Note). is_off_now past x) (sym u.note_is)
+    ∙ or_kill (is_disabled past) (is_kill (entries.End c again unmask note)) kill in
     let s = off_stops def def.flow past (note_of def past) off in
     (u.again_is ∙ s.0, u.unmask_is ∙ s.1)
   where
@@ -365,29 +450,39 @@ end_masked : (def : LineDef) (c : CpuNo) (again unmask : Bool) (note : Note) (pa
     → is_masked def (entries.End c again unmask note ∷ past) ≡ ((def.unlazy && is_kill (entries.End c again unmask note)) || (not unmask && is_masked def past))
 end_masked def c again unmask note past =
     masked_more def (entries.End c again unmask note) past
-    ∙ by_take (take_masks def def.flow (entries.End c again unmask note) past) def.unlazy (is_kill (entries.End c again unmask note)) (not unmask && is_masked def past) (no_take_masks def def.flow (entries.End c again unmask note) past refl)
+    ∙ by_take (take_masks def def.flow (entries.End c again unmask note) past) def.unlazy
+    (is_kill (entries.End c again unmask note)) (not unmask && is_masked def past)
+    (no_take_masks def def.flow (entries.End c again unmask note) past refl)
   where
     by_take : (t y k r : Bool) → t ≡ false → ((t || ((y && (false || k)) || false)) || r) ≡ ((y && k) || r)
     by_take t y k r h = grind arith
 
-eoi_after_mask : (def : LineDef) (m w s h i : Bool) → after_eoi (after_mask (cell_with def m w s h i)) ≡ after_mask (cell_with def m w s h (cond (is_edge_line def) i false))
+eoi_after_mask : (def : LineDef) (m w s h i : Bool) → after_eoi (after_mask (cell_with def m w s h i))
+    ≡ after_mask (cell_with def m w s h (cond (is_edge_line def) i false))
 eoi_after_mask def m w s h i = ap after_eoi (mask_is def m w s h i) ∙ eoi_is def true _ _ h i ∙ sym (mask_is def m w s h (cond (is_edge_line def) i false))
 
-eoi_first : (def : LineDef) (k m w s h i : Bool) → after_eoi (masked_if k (cell_with def m w s h i)) ≡ masked_if k (cell_with def m w s h (cond (is_edge_line def) i false))
+eoi_first : (def : LineDef) (k m w s h i : Bool) → after_eoi (masked_if k (cell_with def m w s h i))
+    ≡ masked_if k (cell_with def m w s h (cond (is_edge_line def) i false))
 eoi_first def true m w s h i = eoi_after_mask def m w s h i
 eoi_first def false m w s h i = eoi_is def m w s h i
 
 -- the mask after an end that the chip doesn't send again
-end_marks : (def : LineDef) (c : CpuNo) (again unmask : Bool) (note : Note) (past : List Entry) (h i : Bool) → IsDue def (entries.End c again unmask note) past → is_edge def (entries.End c again unmask note) ≡ false
-    → unmasked_if unmask (masked_if (def.unlazy && is_kill (entries.End c again unmask note)) (marks def past h i)) ≡ marks def (entries.End c again unmask note ∷ past) h i
+end_marks : (def : LineDef) (c : CpuNo) (again unmask : Bool) (note : Note) (past : List Entry) (h i : Bool)
+    → IsDue def (entries.End c again unmask note) past → is_edge def (entries.End c again unmask note) ≡ false
+    → unmasked_if unmask (masked_if (def.unlazy && is_kill (entries.End c again unmask note)) (marks def past h i))
+    ≡ marks def (entries.End c again unmask note ∷ past) h i
 end_marks def c again unmask note past h i due edgeless = by_tests (def.unlazy && is_kill (entries.End c again unmask note)) unmask refl refl
   where
-    by_tests : (k u : Bool) → (def.unlazy && is_kill (entries.End c again unmask note)) ≡ k → unmask ≡ u → unmasked_if u (masked_if k (marks def past h i)) ≡ marks def (entries.End c again unmask note ∷ past) h i
-    by_tests true true k u = both_ways unmask u (kill_stops def c again unmask note past due (and_parts def.unlazy (is_kill (entries.End c again unmask note)) k).1).1
+    by_tests : (k u : Bool) → (def.unlazy && is_kill (entries.End c again unmask note)) ≡ k → unmask ≡ u
+        → unmasked_if u (masked_if k (marks def past h i)) ≡ marks def (entries.End c again unmask note ∷ past) h i
+    by_tests true true k u = both_ways unmask u (kill_stops def c again unmask note past due
+        (and_parts def.unlazy (is_kill (entries.End c again unmask note)) k).1).1
     by_tests true false k u =
-        mask_to def (entries.End c again unmask note) past h i refl edgeless (end_masked def c again unmask note past ∙ ap (λ (b : Bool). b || (not unmask && is_masked def past)) k)
+        mask_to def (entries.End c again unmask note) past h i refl edgeless
+        (end_masked def c again unmask note past ∙ ap (λ (b : Bool). b || (not unmask && is_masked def past)) k)
     by_tests false true k u =
-        unmask_to def (entries.End c again unmask note) past h i refl edgeless (end_masked def c again unmask note past ∙ opens _ unmask (is_masked def past) k u)
+        unmask_to def (entries.End c again unmask note) past h i refl edgeless
+        (end_masked def c again unmask note past ∙ opens _ unmask (is_masked def past) k u)
       where
         opens : (k u m : Bool) → k ≡ false → u ≡ true → (k || (not u && m)) ≡ false
         opens k u m a b = grind arith
@@ -398,19 +493,28 @@ end_marks def c again unmask note past h i due edgeless = by_tests (def.unlazy &
         stays k u m a b = grind arith
 
 -- on the fast-EOI flow each end closes
-closed_by : (def : LineDef) (c : CpuNo) (again unmask : Bool) (note : Note) (past : List Entry) → is_eoi_flow def.flow ≡ true → has_flow def (entries.End c again unmask note ∷ past) ≡ false
+closed_by : (def : LineDef) (c : CpuNo) (again unmask : Bool) (note : Note) (past : List Entry)
+    → is_eoi_flow def.flow ≡ true → has_flow def (entries.End c again unmask note ∷ past) ≡ false
 closed_by def c false unmask note past eoi = refl
 closed_by def c true unmask note past eoi = rw eoi refl
 
 -- an end that the chip sends again leaves the line as open as it was
-again_open : (def : LineDef) (c : CpuNo) (again unmask : Bool) (note : Note) (past : List Entry) → IsDue def (entries.End c again unmask note) past → KeepsEdges def past → is_edge_line def ≡ true → is_eoi_flow def.flow ≡ true → again ≡ true
+again_open : (def : LineDef) (c : CpuNo) (again unmask : Bool) (note : Note) (past : List Entry)
+    → IsDue def (entries.End c again unmask note) past → KeepsEdges def past → is_edge_line def ≡ true
+    → is_eoi_flow def.flow ≡ true → again ≡ true
     → (is_masked def past ≡ false) × ((def.unlazy && is_kill (entries.End c again unmask note)) ≡ false) × (unmask ≡ false)
 again_open def c again unmask note past due k edge eoi on =
     let u = end_due def c again unmask note past due in
-    let on_now : is_off_now past (note_of def past) ≡ false = false_from_ne_true (is_off_now past (note_of def past)) (λ off. both_ways again on (u.again_is ∙ (off_stops def def.flow past (note_of def past) off).0)) in
+    let on_now : is_off_now past (note_of def past) ≡ false
+    = false_from_ne_true (is_off_now past (note_of def past))
+    (λ off. both_ways again on (u.again_is ∙ (off_stops def def.flow past (note_of def past) off).0)) in
     let on_note : is_off_now past note ≡ false = ap (λ (x : Note). is_off_now past x) u.note_is ∙ on_now in
-    let parts = or_parts (is_disabled past) (is_kill (entries.End c again unmask note)) on_note in
-    (k.eoi_edge edge eoi (zero_depth past parts.0), unkilled def.unlazy (is_kill (entries.End c again unmask note)) parts.1, u.unmask_is ∙ never_opens def.flow eoi)
+    let parts = or_parts (is_disabled past) (is_kill (entries.End c again unmask note)) on_note in (
+      k.eoi_edge edge eoi (zero_depth past parts.0),
+      unkilled def.unlazy (is_kill (entries.End c again unmask note))
+          parts.1,
+      u.unmask_is ∙ never_opens def.flow eoi,
+    )
   where
     unkilled : (y k : Bool) → k ≡ false → (y && k) ≡ false
     unkilled y k h = grind arith
@@ -423,29 +527,38 @@ again_open def c again unmask note past due k edge eoi on =
     never_opens flows.Edge h = cc
     never_opens flows.Level h = cc
 
-end_by : (def : LineDef) (f : FlowKind) (c : CpuNo) (again unmask : Bool) (note : Note) (past : List Entry) → IsValid def → IsDue def (entries.End c again unmask note) past → KeepsEdges def past → def.flow ≡ f
-    → ended def f again unmask (masked_if (def.unlazy && is_kill (entries.End c again unmask note)) (cell_of def past)) ≡ cell_of def (entries.End c again unmask note ∷ past)
+end_by : (def : LineDef) (f : FlowKind) (c : CpuNo) (again unmask : Bool) (note : Note) (past : List Entry)
+    → IsValid def → IsDue def (entries.End c again unmask note) past → KeepsEdges def past → def.flow ≡ f
+    → ended def f again unmask (masked_if (def.unlazy && is_kill (entries.End c again unmask note)) (cell_of def past))
+    ≡ cell_of def (entries.End c again unmask note ∷ past)
 end_by def flows.Eoi c again unmask note past valid due k is = by_again (is_edge_line def && again) refl
   where
     eoi : is_eoi_flow def.flow ≡ true
     eoi = ap is_eoi_flow is
 
     first : after_eoi (masked_if (def.unlazy && is_kill (entries.End c again unmask note)) (cell_of def past))
-        ≡ masked_if (def.unlazy && is_kill (entries.End c again unmask note)) (marks def past (is_high def past) (cond (is_edge_line def) (serves def && has_flow def past) false))
-    first = eoi_first def (def.unlazy && is_kill (entries.End c again unmask note)) (is_masked def past) (is_stored def past) (is_sent def past) (is_high def past) (serves def && has_flow def past)
+        ≡ masked_if (def.unlazy && is_kill (entries.End c again unmask note))
+        (marks def past (is_high def past) (cond (is_edge_line def) (serves def && has_flow def past) false))
+    first = eoi_first def (def.unlazy && is_kill (entries.End c again unmask note)) (is_masked def past)
+        (is_stored def past) (is_sent def past) (is_high def past) (serves def && has_flow def past)
 
     nothing : (E o f g : Bool) → g ≡ false → cond E ((not E && o) && f) false ≡ ((not E && o) && g)
     nothing E o f g h = grind arith
 
-    last : marks def (entries.End c again unmask note ∷ past) (is_high def past) (cond (is_edge_line def) (serves def && has_flow def past) false) ≡ cell_of def (entries.End c again unmask note ∷ past)
+    last : marks def (entries.End c again unmask note ∷ past) (is_high def past)
+        (cond (is_edge_line def) (serves def && has_flow def past) false)
+        ≡ cell_of def (entries.End c again unmask note ∷ past)
     last = same_rest def _ _ _ _ _ _ _ (sym (high_quiet def (entries.End c again unmask note) past refl))
-        (nothing (is_edge_line def) (is_eoi_flow def.flow) (has_flow def past) (has_flow def (entries.End c again unmask note ∷ past)) (closed_by def c again unmask note past eoi))
+        (nothing (is_edge_line def) (is_eoi_flow def.flow) (has_flow def past)
+        (has_flow def (entries.End c again unmask note ∷ past)) (closed_by def c again unmask note past eoi))
 
     edge_when : (E o a b : Bool) → o ≡ true → (E && a) ≡ b → (E && (false || (false || (o && a)))) ≡ b
     edge_when E o a b x y = grind arith
 
     by_again : (b : Bool) → (is_edge_line def && again) ≡ b
-        → retriggered_if b (unmasked_if unmask (after_eoi (masked_if (def.unlazy && is_kill (entries.End c again unmask note)) (cell_of def past)))) ≡ cell_of def (entries.End c again unmask note ∷ past)
+        → retriggered_if b (unmasked_if unmask (after_eoi
+        (masked_if (def.unlazy && is_kill (entries.End c again unmask note)) (cell_of def past))))
+        ≡ cell_of def (entries.End c again unmask note ∷ past)
     by_again false no_more =
         ap (λ (x : Cell). unmasked_if unmask x) first
         ∙ end_marks def c again unmask note past (is_high def past) _ due (edge_when (is_edge_line def) (is_eoi_flow def.flow) again false eoi no_more)
@@ -454,9 +567,13 @@ end_by def flows.Eoi c again unmask note past valid due k is = by_again (is_edge
         let p = and_parts (is_edge_line def) again more in
         let o = again_open def c again unmask note past due k p.0 eoi p.1 in
         ap (λ (x : Cell). after_retrigger (unmasked_if unmask x)) first
-        ∙ ap (λ (b : Bool). after_retrigger (unmasked_if unmask (masked_if b (marks def past (is_high def past) (cond (is_edge_line def) (serves def && has_flow def past) false))))) o.1
-        ∙ ap (λ (b : Bool). after_retrigger (unmasked_if b (marks def past (is_high def past) (cond (is_edge_line def) (serves def && has_flow def past) false)))) o.2
-        ∙ again_to def (entries.End c again unmask note) past (is_high def past) _ p.0 (valid.eoi_retriggers p.0 eoi) (edge_when (is_edge_line def) (is_eoi_flow def.flow) again true eoi more)
+        ∙ ap (λ (b : Bool). after_retrigger (unmasked_if unmask
+        (masked_if b (marks def past (is_high def past)
+        (cond (is_edge_line def) (serves def && has_flow def past) false))))) o.1
+        ∙ ap (λ (b : Bool). after_retrigger (unmasked_if b
+        (marks def past (is_high def past) (cond (is_edge_line def) (serves def && has_flow def past) false)))) o.2
+        ∙ again_to def (entries.End c again unmask note) past (is_high def past) _ p.0 (valid.eoi_retriggers p.0 eoi)
+        (edge_when (is_edge_line def) (is_eoi_flow def.flow) again true eoi more)
         (end_masked def c again unmask note past ∙ still _ unmask (is_masked def past) o.1 o.2) o.0
         ∙ last
       where
@@ -474,32 +591,49 @@ end_by def f c again unmask note past valid due k is =
 
 -- ---- every entry
 
-asks_nothing : (def : LineDef) (e : Entry) (past : List Entry) → IsPlain e → moves_level e ≡ false → is_edge def e ≡ false → (is_disable e || is_kill e) ≡ false → is_last_unlink e ≡ false → (is_start e || is_reopening e) ≡ false → cell_of def past ≡ cell_of def (e ∷ past)
+asks_nothing : (def : LineDef) (e : Entry) (past : List Entry) → IsPlain e → moves_level e ≡ false
+    → is_edge def e ≡ false → (is_disable e || is_kill e) ≡ false → is_last_unlink e ≡ false
+    → (is_start e || is_reopening e) ≡ false → cell_of def past ≡ cell_of def (e ∷ past)
 asks_nothing def e past p still edgeless no_deepening no_last no_open =
     quiet def e past p still edgeless (masked_by_opening def e past p.no_take no_deepening no_last ∙ ap (λ (b : Bool). not b && is_masked def past) no_open)
 
-pub cell_more : (def : LineDef) (e : Entry) (past : List Entry) → IsValid def → IsDue def e past → Kept def past → (is_soft past ≡ true → is_edge_line def ≡ true) → driven def e past (cell_of def past) ≡ cell_of def (e ∷ past)
-cell_more def (entries.Ask r d) past valid due k soft = asks def (entries.Ask r d) past (plain _ refl refl refl refl) refl (masked_by_opening def (entries.Ask r d) past refl refl refl)
+pub cell_more : (def : LineDef) (e : Entry) (past : List Entry) → IsValid def → IsDue def e past → Kept def past
+    → (is_soft past ≡ true → is_edge_line def ≡ true) → driven def e past (cell_of def past) ≡ cell_of def (e ∷ past)
+cell_more def (entries.Ask r d) past valid due k soft = asks def (entries.Ask r d) past (plain _ refl refl refl refl)
+    refl (masked_by_opening def (entries.Ask r d) past refl refl refl)
 cell_more def (entries.Return c d answer count) past valid due k soft =
-    returns def (entries.Return c d answer count) past count (plain _ refl refl refl refl) (no_edge (is_edge_line def) (is_eoi_flow def.flow)) (masked_by_opening def (entries.Return c d answer count) past refl refl refl)
+    returns def (entries.Return c d answer count) past count (plain _ refl refl refl refl)
+    (no_edge (is_edge_line def) (is_eoi_flow def.flow))
+    (masked_by_opening def (entries.Return c d answer count) past refl refl refl)
     (high_return def c d answer count past due k.runs)
 cell_more def (entries.ThreadReturn d count) past valid due k soft =
-    returns def (entries.ThreadReturn d count) past count (plain _ refl refl refl refl) (no_edge (is_edge_line def) (is_eoi_flow def.flow)) (masked_by_opening def (entries.ThreadReturn d count) past refl refl refl)
+    returns def (entries.ThreadReturn d count) past count (plain _ refl refl refl refl)
+    (no_edge (is_edge_line def) (is_eoi_flow def.flow))
+    (masked_by_opening def (entries.ThreadReturn d count) past refl refl refl)
     (high_thread_return def d count past due)
 cell_more def (entries.Take c way answer) past valid due k soft =
-    ap (λ (x : Cell). taken def def.flow (is_oneshot past) answer x) (accepted_is def c way answer past due soft) ∙ take_by def def.flow c way answer past valid due soft refl
+    ap (λ (x : Cell). taken def def.flow (is_oneshot past) answer x) (accepted_is def c way answer past due soft)
+    ∙ take_by def def.flow c way answer past valid due soft refl
 cell_more def (entries.End c again unmask note) past valid due k soft = end_by def def.flow c again unmask note past valid due k.edges refl
 cell_more def (entries.Finish d kept true) past valid due k soft =
-    opening def (entries.Finish d kept true) past (plain _ refl refl refl refl) refl (no_edge (is_edge_line def) (is_eoi_flow def.flow)) (masked_by_opening def (entries.Finish d kept true) past refl refl refl)
+    opening def (entries.Finish d kept true) past (plain _ refl refl refl refl) refl
+    (no_edge (is_edge_line def) (is_eoi_flow def.flow))
+    (masked_by_opening def (entries.Finish d kept true) past refl refl refl)
 cell_more def (entries.Finish d kept false) past valid due k soft =
-    quiet def (entries.Finish d kept false) past (plain _ refl refl refl refl) refl (no_edge (is_edge_line def) (is_eoi_flow def.flow)) (masked_by_opening def (entries.Finish d kept false) past refl refl refl)
+    quiet def (entries.Finish d kept false) past (plain _ refl refl refl refl) refl
+    (no_edge (is_edge_line def) (is_eoi_flow def.flow))
+    (masked_by_opening def (entries.Finish d kept false) past refl refl refl)
 cell_more def (entries.Disable r) past valid due k soft =
     masks_if def (entries.Disable r) past def.unlazy (plain _ refl refl refl refl) refl (no_edge (is_edge_line def) (is_eoi_flow def.flow))
-    (masked_more def (entries.Disable r) past ∙ disable_masks (take_masks def def.flow (entries.Disable r) past) def.unlazy (is_masked def past) (no_take_masks def def.flow (entries.Disable r) past refl))
+    (masked_more def (entries.Disable r) past ∙ disable_masks (take_masks def def.flow (entries.Disable r) past)
+    def.unlazy (is_masked def past) (no_take_masks def def.flow (entries.Disable r) past refl))
 cell_more def (entries.Unlink r d answer) past valid due k soft =
-    masks_if def (entries.Unlink r d answer) past (is_last_unlink (entries.Unlink r d answer)) (plain _ refl refl refl refl) refl (no_edge (is_edge_line def) (is_eoi_flow def.flow))
+    masks_if def (entries.Unlink r d answer) past (is_last_unlink (entries.Unlink r d answer))
+    (plain _ refl refl refl refl) refl (no_edge (is_edge_line def) (is_eoi_flow def.flow))
     (masked_more def (entries.Unlink r d answer) past
-    ∙ unlink_masks (take_masks def def.flow (entries.Unlink r d answer) past) def.unlazy (is_last_unlink (entries.Unlink r d answer)) (is_masked def past) (no_take_masks def def.flow (entries.Unlink r d answer) past refl))
+    ∙ unlink_masks (take_masks def def.flow (entries.Unlink r d answer) past) def.unlazy
+    (is_last_unlink (entries.Unlink r d answer)) (is_masked def past)
+    (no_take_masks def def.flow (entries.Unlink r d answer) past refl))
 cell_more def (entries.Request r d flags answer opened) past valid due k soft =
     by_start def (entries.Request r d flags answer opened) past opened due refl (plain _ refl refl refl refl) refl refl refl refl refl
 cell_more def (entries.Enable r answer) past valid due k soft =

@@ -1,6 +1,7 @@
 -- Each owed edge is somewhere: presented, kept, pending, in a software resend, or its device is
 -- still ahead in the round.
-use Rattle.std.proofs.Common.{◌≡◌, ◌⊎◌, inl, inr, Bool, true, false, not, ◌||◌, ◌&&◌, ◌==◌, cond, Some, None, is_some, List, [], ◌∷◌, reverse, refl, sym, ap, ◌∙◌, subst, arith}
+use Rattle.std.proofs.Common.{◌≡◌, ◌⊎◌, inl, inr, Bool, true, false, not, ◌||◌, ◌&&◌, ◌==◌, cond, Some, None, is_some}
+use Rattle.std.proofs.Common.{List, [], ◌∷◌, reverse, refl, sym, ap, ◌∙◌, subst, arith}
 use Rattle.std.proofs.lemmas.Bool.{and_parts, and_from, or_cases, or_left, or_right}
 use Rattle.std.specs.List.{list_any}
 use Rattle.irq_base.specs.declared.numbers.CpuNo.{CpuNo}
@@ -20,7 +21,9 @@ use Rattle.irq_base.specs.declared.entries.LinkAnswer.{LinkAnswer}
 use Rattle.irq_base.specs.declared.entries.LinkAnswer.TheVariants as links
 use Rattle.irq_base.specs.declared.entries.TakeAnswer.TheVariants as takes
 use Rattle.irq_model.specs.Places.{some_place, since, last_of}
-use Rattle.irq_model.specs.Kinds.{opened_by_enable, is_any_ask, is_begin, unlinks_dev, links_dev, is_take, is_again, is_handle, is_start, is_soft_start, is_chip_start, is_resend_take, is_chip_opened, is_soft_opened, is_started_opened, opened_of}
+use Rattle.irq_model.specs.Kinds.{opened_by_enable, is_any_ask, is_begin, unlinks_dev, links_dev, is_take, is_again}
+use Rattle.irq_model.specs.Kinds.{is_handle, is_start, is_soft_start, is_chip_start, is_resend_take, is_chip_opened}
+use Rattle.irq_model.specs.Kinds.{is_soft_opened, is_started_opened, opened_of}
 use Rattle.irq_model.specs.Lines.{is_edge_line, is_eoi_flow}
 use Rattle.irq_model.specs.Links.{linked, is_linked, is_started, is_none_linked, depth, has_spurious_mark}
 use Rattle.irq_model.specs.Masks.{is_masked}
@@ -52,30 +55,42 @@ is_covered def past d = is_sent def past || (is_stored def past || (is_pending d
 marks_kept : (g k r n s w : Bool) → (s || w) ≡ true → (((g && not n) || goes_sent r n false s w) || ((g && (k && n)) || goes_stored r n false s w)) ≡ true
 marks_kept g k r n s w h = grind arith
 
-marks_new : (g k r n s w : Bool) → g ≡ true → (not n || k) ≡ true → (((g && not n) || goes_sent r n false s w) || ((g && (k && n)) || goes_stored r n false s w)) ≡ true
+marks_new : (g k r n s w : Bool) → g ≡ true → (not n || k) ≡ true
+    → (((g && not n) || goes_sent r n false s w) || ((g && (k && n)) || goes_stored r n false s w)) ≡ true
 marks_new g k r n s w h i = grind arith
 
 by_marks : (def : LineDef) (e : Entry) (past : List Entry) → is_take e ≡ false
     → (((is_edge def e && not (is_masked def (e ∷ past))) || goes_sent def.recalls (is_masked def (e ∷ past)) false (is_sent def past) (is_stored def past))
-    || ((is_edge def e && (def.keeps && is_masked def (e ∷ past))) || goes_stored def.recalls (is_masked def (e ∷ past)) false (is_sent def past) (is_stored def past))) ≡ true
+    || ((is_edge def e && (def.keeps && is_masked def (e ∷ past))) || goes_stored def.recalls (is_masked def (e ∷ past))
+    false (is_sent def past) (is_stored def past))) ≡ true
     → (is_sent def (e ∷ past) || is_stored def (e ∷ past)) ≡ true
 by_marks def e past no_take h = rw (sent_more def e past, stored_more def e past, no_take) h
 
 -- an entry that is no take leaves what was presented or kept presented or kept
-keeps_marks : (def : LineDef) (e : Entry) (past : List Entry) → is_take e ≡ false → (is_sent def past || is_stored def past) ≡ true → (is_sent def (e ∷ past) || is_stored def (e ∷ past)) ≡ true
-keeps_marks def e past no_take h = by_marks def e past no_take (marks_kept (is_edge def e) def.keeps def.recalls (is_masked def (e ∷ past)) (is_sent def past) (is_stored def past) h)
+keeps_marks : (def : LineDef) (e : Entry) (past : List Entry) → is_take e ≡ false
+    → (is_sent def past || is_stored def past) ≡ true → (is_sent def (e ∷ past) || is_stored def (e ∷ past)) ≡ true
+keeps_marks def e past no_take h = by_marks def e past no_take
+    (marks_kept (is_edge def e) def.keeps def.recalls (is_masked def (e ∷ past)) (is_sent def past) (is_stored def past)
+    h)
 
 -- an edge that comes to an open line, or to one whose chip keeps, is presented or kept
-new_mark : (def : LineDef) (e : Entry) (past : List Entry) → is_take e ≡ false → is_edge def e ≡ true → (not (is_masked def (e ∷ past)) || def.keeps) ≡ true → (is_sent def (e ∷ past) || is_stored def (e ∷ past)) ≡ true
-new_mark def e past no_take edge shown = by_marks def e past no_take (marks_new (is_edge def e) def.keeps def.recalls (is_masked def (e ∷ past)) (is_sent def past) (is_stored def past) edge shown)
+new_mark : (def : LineDef) (e : Entry) (past : List Entry) → is_take e ≡ false → is_edge def e ≡ true
+    → (not (is_masked def (e ∷ past)) || def.keeps) ≡ true → (is_sent def (e ∷ past) || is_stored def (e ∷ past)) ≡ true
+new_mark def e past no_take edge shown = by_marks def e past no_take
+    (marks_new (is_edge def e) def.keeps def.recalls (is_masked def (e ∷ past)) (is_sent def past) (is_stored def past)
+    edge shown)
 
 -- ---- the four places of an owed edge
 
 four : (s w p f a : Bool) → (s || (w || (p || (f || a)))) ≡ ((s || w) || (p || (f || a)))
 four s w p f a = grind arith
 
-pub by_place : {P : Type 0} (def : LineDef) (past : List Entry) (d : DevNo) → is_covered def past d ≡ true → ((is_sent def past || is_stored def past) ≡ true → P) → (is_pending def past ≡ true → P) → (is_soft past ≡ true → P) → (is_ahead def past d ≡ true → P) → P
-by_place {P} def past d h marks pending soft ahead = first (or_cases _ _ (sym (four (is_sent def past) (is_stored def past) (is_pending def past) (is_soft past) (is_ahead def past d)) ∙ h))
+pub by_place : {P : Type 0} (def : LineDef) (past : List Entry) (d : DevNo) → is_covered def past d ≡ true
+    → ((is_sent def past || is_stored def past) ≡ true → P) → (is_pending def past ≡ true → P)
+    → (is_soft past ≡ true → P) → (is_ahead def past d ≡ true → P) → P
+by_place {P} def past d h marks pending soft ahead = first
+    (or_cases _ _ (sym (four (is_sent def past) (is_stored def past) (is_pending def past) (is_soft past)
+    (is_ahead def past d)) ∙ h))
   where
     third : (is_soft past ≡ true) ⊎ (is_ahead def past d ≡ true) → P
     third (inl x) = soft x
@@ -103,16 +118,22 @@ by_ahead def past d h = or_right (is_sent def past) _ (or_right (is_stored def p
 
 -- ---- a start sends again what is pending
 
-started_by : (a b : Bool) (x : Resend) → is_started_opened (opened_by_enable (cond a enables.Unbalanced (cond b (enables.Started x) enables.Lowered))) ≡ true → opened_by_enable (cond a enables.Unbalanced (cond b (enables.Started x) enables.Lowered)) ≡ opens.Started x
+started_by : (a b : Bool) (x : Resend) → is_started_opened
+    (opened_by_enable (cond a enables.Unbalanced (cond b (enables.Started x) enables.Lowered))) ≡ true
+    → opened_by_enable (cond a enables.Unbalanced (cond b (enables.Started x) enables.Lowered)) ≡ opens.Started x
 started_by true b x h = cc
 started_by false true x h = refl
 started_by false false x h = cc
 
-enable_resends : (def : LineDef) (past : List Entry) → is_started_opened (opened_by_enable (enable_answer def past)) ≡ true → opened_by_enable (enable_answer def past) ≡ opens.Started (resend_of def past)
+enable_resends : (def : LineDef) (past : List Entry) → is_started_opened (opened_by_enable (enable_answer def past))
+    ≡ true → opened_by_enable (enable_answer def past) ≡ opens.Started (resend_of def past)
 enable_resends def past h = started_by (is_none_linked past || (depth past == 0)) (depth past == 1) (resend_of def past) h
 
-request_by : (def : LineDef) (past : List Entry) (n f m : Bool) → is_started_opened (cond n (cond f opens.No (opens.Started (resend_of def past))) (cond m (opened_by_enable (enable_answer def past)) opens.No)) ≡ true
-    → cond n (cond f opens.No (opens.Started (resend_of def past))) (cond m (opened_by_enable (enable_answer def past)) opens.No) ≡ opens.Started (resend_of def past)
+request_by : (def : LineDef) (past : List Entry) (n f m : Bool)
+    → is_started_opened (cond n (cond f opens.No (opens.Started (resend_of def past)))
+    (cond m (opened_by_enable (enable_answer def past)) opens.No)) ≡ true
+    → cond n (cond f opens.No (opens.Started (resend_of def past)))
+    (cond m (opened_by_enable (enable_answer def past)) opens.No) ≡ opens.Started (resend_of def past)
 request_by def past true true m h = cc
 request_by def past true false m h = refl
 request_by def past false f true h = enable_resends def past h
@@ -133,7 +154,9 @@ start_resends def (entries.Request s x flags (links.Refused error) opened) past 
 start_resends def e past due h = cc
 
 -- what is pending when a start comes is sent by the chip, or kept for the software
-resend_cases : (g p r : Bool) → g ≡ true → p ≡ true → (is_chip_opened (opens.Started (cond (g && p) (cond r resends.Chip resends.Soft) resends.No)) ≡ true) ⊎ (is_soft_opened (opens.Started (cond (g && p) (cond r resends.Chip resends.Soft) resends.No)) ≡ true)
+resend_cases : (g p r : Bool) → g ≡ true → p ≡ true → (is_chip_opened
+    (opens.Started (cond (g && p) (cond r resends.Chip resends.Soft) resends.No)) ≡ true)
+    ⊎ (is_soft_opened (opens.Started (cond (g && p) (cond r resends.Chip resends.Soft) resends.No)) ≡ true)
 resend_cases true true true a b = inl refl
 resend_cases true true false a b = inr refl
 resend_cases false p r a b = cc
@@ -142,13 +165,17 @@ resend_cases true false r a b = cc
 edges_by : (g a c x : Bool) → g ≡ true → c ≡ true → (g && (a || (c || x))) ≡ true
 edges_by g a c x h i = grind arith
 
-start_covers : (def : LineDef) (e : Entry) (past : List Entry) (d : DevNo) → IsDue def e past → is_take e ≡ false → is_edge_line def ≡ true → is_start e ≡ true → is_pending def past ≡ true → is_covered def (e ∷ past) d ≡ true
+start_covers : (def : LineDef) (e : Entry) (past : List Entry) (d : DevNo) → IsDue def e past → is_take e ≡ false
+    → is_edge_line def ≡ true → is_start e ≡ true → is_pending def past ≡ true → is_covered def (e ∷ past) d ≡ true
 start_covers def e past d due no_take edge starts p = by_case (resend_cases (is_edge_line def) (is_pending def past) def.retriggers edge p)
   where
-    by_case : (is_chip_opened (opens.Started (resend_of def past)) ≡ true) ⊎ (is_soft_opened (opens.Started (resend_of def past)) ≡ true) → is_covered def (e ∷ past) d ≡ true
+    by_case : (is_chip_opened (opens.Started (resend_of def past)) ≡ true)
+        ⊎ (is_soft_opened (opens.Started (resend_of def past)) ≡ true) → is_covered def (e ∷ past) d ≡ true
     by_case (inl chip) =
         let c : is_chip_start e ≡ true = ap is_chip_opened (start_resends def e past due starts) ∙ chip in
-        by_mark def (e ∷ past) d (new_mark def e past no_take (edges_by (is_edge_line def) (is_any_ask e) (is_chip_start e) (is_eoi_flow def.flow && is_again e) edge c) (or_left _ _ (ap not (start_opens def e past starts))))
+        by_mark def (e ∷ past) d (new_mark def e past no_take
+        (edges_by (is_edge_line def) (is_any_ask e) (is_chip_start e) (is_eoi_flow def.flow && is_again e) edge c)
+        (or_left _ _ (ap not (start_opens def e past starts))))
     by_case (inr soft) =
         let c : is_soft_start e ≡ true = ap is_soft_opened (start_resends def e past due starts) ∙ soft in
         by_soft def (e ∷ past) d (or_left (is_soft_start e) _ c)
@@ -159,7 +186,8 @@ linked_stays : (k u l : Bool) → u ≡ false → l ≡ true → (k || (not u &&
 linked_stays k u l a b = grind arith
 
 round_more : (def : LineDef) (e : Entry) (past : List Entry) (d : DevNo) → IsPlain e → has_begun def (e ∷ past) d ≡ (is_begin d e || has_begun def past d)
-round_more def e past d plain = ap (λ (b : Bool). list_any (is_begin d) (cond b [] (e ∷ since (begins_round def) past))) (no_round (is_handle e) (is_again e) (is_eoi_flow def.flow) plain.no_handle plain.no_again)
+round_more def e past d plain = ap (λ (b : Bool). list_any (is_begin d) (cond b [] (e ∷ since (begins_round def) past)))
+    (no_round (is_handle e) (is_again e) (is_eoi_flow def.flow) plain.no_handle plain.no_again)
   where
     no_round : (h a f : Bool) → h ≡ false → a ≡ false → (h || (a && not f)) ≡ false
     no_round h a f x y = grind arith
@@ -173,10 +201,13 @@ ahead_from f l b x y z = grind arith
 either_false : (a b : Bool) → a ≡ false → b ≡ false → (a || b) ≡ false
 either_false a b x y = grind arith
 
-ahead_stays : (def : LineDef) (e : Entry) (past : List Entry) (d : DevNo) → IsPlain e → is_linked past d ≡ true → unlinks_dev d e ≡ false → is_begin d e ≡ false → is_ahead def past d ≡ true → is_ahead def (e ∷ past) d ≡ true
+ahead_stays : (def : LineDef) (e : Entry) (past : List Entry) (d : DevNo) → IsPlain e → is_linked past d ≡ true
+    → unlinks_dev d e ≡ false → is_begin d e ≡ false → is_ahead def past d ≡ true → is_ahead def (e ∷ past) d ≡ true
 ahead_stays def e past d plain linked no_unlink no_begin h =
     let p = ahead_parts (has_flow def past) (is_linked past d) (has_begun def past d) h in
-    ahead_from (has_flow def (e ∷ past)) (is_linked (e ∷ past) d) (has_begun def (e ∷ past) d) (flow_same def e past plain ∙ p.0) (linked_stays (links_dev d e) (unlinks_dev d e) (is_linked past d) no_unlink linked)
+    ahead_from (has_flow def (e ∷ past)) (is_linked (e ∷ past) d) (has_begun def (e ∷ past) d)
+    (flow_same def e past plain ∙ p.0) (linked_stays (links_dev d e) (unlinks_dev d e) (is_linked past d) no_unlink
+    linked)
     (round_more def e past d plain ∙ either_false (is_begin d e) (has_begun def past d) no_begin p.1)
 
 -- if no device is left, each linked one was called
@@ -184,14 +215,19 @@ all_begun : (def : LineDef) (past : List Entry) (ds : List DevNo) → first_left
 all_begun def past [] h = refl
 all_begun def past (x ∷ xs) h = by_test (has_begun def past x) refl (all_begun def past xs)
   where
-    by_test : (b : Bool) → has_begun def past x ≡ b → (first_left def past xs ≡ None → list_any (λ x. not (has_begun def past x)) xs ≡ false) → list_any (λ x. not (has_begun def past x)) (x ∷ xs) ≡ false
-    by_test true is deeper = either_false (not (has_begun def past x)) _ (ap not is) (deeper (ap (λ (b : Bool). cond b (first_left def past xs) (Some x)) (sym is) ∙ h))
+    by_test : (b : Bool) → has_begun def past x ≡ b → (first_left def past xs ≡ None
+        → list_any (λ x. not (has_begun def past x)) xs ≡ false)
+        → list_any (λ x. not (has_begun def past x)) (x ∷ xs) ≡ false
+    by_test true is deeper = either_false (not (has_begun def past x)) _ (ap not is)
+        (deeper (ap (λ (b : Bool). cond b (first_left def past xs) (Some x)) (sym is) ∙ h))
     by_test false is deeper = let n : Some x ≡ None = ap (λ (b : Bool). cond b (first_left def past xs) (Some x)) (sym is) ∙ h in cc
 
-none_ahead : {P : Type 0} (def : LineDef) (past : List Entry) (d : DevNo) → first_left def past (linked past) ≡ None → is_linked past d ≡ true → is_ahead def past d ≡ true → P
+none_ahead : {P : Type 0} (def : LineDef) (past : List Entry) (d : DevNo) → first_left def past (linked past) ≡ None
+    → is_linked past d ≡ true → is_ahead def past d ≡ true → P
 none_ahead def past d none there h =
     let p = ahead_parts (has_flow def past) (is_linked past d) (has_begun def past d) h in
-    both_ways (list_any (λ x. not (has_begun def past x)) (linked past)) (of_linked (λ x. not (has_begun def past x)) past d there (ap not p.1)) (all_begun def past (linked past) none)
+    both_ways (list_any (λ x. not (has_begun def past x)) (linked past))
+    (of_linked (λ x. not (has_begun def past x)) past d there (ap not p.1)) (all_begun def past (linked past) none)
 
 -- ---- each entry
 
@@ -205,7 +241,9 @@ resend_not : (e : Entry) → is_take e ≡ false → is_resend_take e ≡ false
 resend_not (entries.Take c way answer) h = cc
 resend_not e h = refl
 
-covered_plain : (def : LineDef) (e : Entry) (past : List Entry) (d : DevNo) → IsDue def e past → IsPlain e → is_edge_line def ≡ true → is_linked past d ≡ true → unlinks_dev d e ≡ false → is_begin d e ≡ false → is_covered def past d ≡ true → is_covered def (e ∷ past) d ≡ true
+covered_plain : (def : LineDef) (e : Entry) (past : List Entry) (d : DevNo) → IsDue def e past → IsPlain e
+    → is_edge_line def ≡ true → is_linked past d ≡ true → unlinks_dev d e ≡ false → is_begin d e ≡ false
+    → is_covered def past d ≡ true → is_covered def (e ∷ past) d ≡ true
 covered_plain def e past d due plain edge linked no_unlink no_begin h =
     by_place def past d h
     (λ m. by_mark def (e ∷ past) d (keeps_marks def e past plain.no_take m))
@@ -215,24 +253,34 @@ covered_plain def e past d due plain edge linked no_unlink no_begin h =
   where
     by_start : (b : Bool) → is_start e ≡ b → is_pending def past ≡ true → is_covered def (e ∷ past) d ≡ true
     by_start true starts p = start_covers def e past d due plain.no_take edge starts p
-    by_start false no_start p = by_pending def (e ∷ past) d (pending_by_clearing def e past plain.no_take ∙ clears_none (is_handle e) (is_again e) (is_start e) (is_pending def past) plain.no_handle plain.no_again no_start p)
+    by_start false no_start p = by_pending def (e ∷ past) d
+        (pending_by_clearing def e past plain.no_take ∙ clears_none (is_handle e) (is_again e) (is_start e)
+        (is_pending def past) plain.no_handle plain.no_again no_start p)
 
 -- an end that goes on: on the fast-EOI flow it is an edge, on the others it begins a round
-covered_again : (def : LineDef) (c : CpuNo) (unmask : Bool) (note : Note) (past : List Entry) (d : DevNo) → IsValid def → IsDue def (entries.End c true unmask note) past → is_edge_line def ≡ true → is_linked past d ≡ true → is_covered def (entries.End c true unmask note ∷ past) d ≡ true
+covered_again : (def : LineDef) (c : CpuNo) (unmask : Bool) (note : Note) (past : List Entry) (d : DevNo) → IsValid def
+    → IsDue def (entries.End c true unmask note) past → is_edge_line def ≡ true → is_linked past d ≡ true
+    → is_covered def (entries.End c true unmask note ∷ past) d ≡ true
 covered_again def c unmask note past d valid due edge linked = by_flow (is_eoi_flow def.flow) refl
   where
     by_flow : (b : Bool) → is_eoi_flow def.flow ≡ b → is_covered def (entries.End c true unmask note ∷ past) d ≡ true
     by_flow true eoi =
         by_mark def (entries.End c true unmask note ∷ past) d
-        (new_mark def (entries.End c true unmask note) past refl (and_from _ _ edge (and_from _ _ eoi refl)) (or_right (not (is_masked def (entries.End c true unmask note ∷ past))) def.keeps (valid.eoi_keeps edge eoi)))
+        (new_mark def (entries.End c true unmask note) past refl (and_from _ _ edge (and_from _ _ eoi refl))
+        (or_right (not (is_masked def (entries.End c true unmask note ∷ past))) def.keeps
+        (valid.eoi_keeps edge eoi)))
     by_flow false other =
         by_ahead def (entries.End c true unmask note ∷ past) d
         (ahead_from (has_flow def (entries.End c true unmask note ∷ past)) (is_linked past d) (has_begun def (entries.End c true unmask note ∷ past) d)
-        (ap (λ (b : Bool). is_some (cpu_of_handle (cond (b && true) (Some (entries.End c true unmask note)) (last_of (λ e. is_handle e || closes def e) past)))) other ∙ has_a_flow c (flow def past) (end_due def c true unmask note past due).of_flow)
+        (ap (λ (b : Bool). is_some (cpu_of_handle (cond (b && true) (Some (entries.End c true unmask note))
+        (last_of (λ e. is_handle e || closes def e) past)))) other
+        ∙ has_a_flow c (flow def past) (end_due def c true unmask note past due).of_flow)
         linked
         (ap (λ (b : Bool). list_any (is_begin d) (cond (not b) [] (entries.End c true unmask note ∷ since (begins_round def) past))) other))
 
-covered_leave : (def : LineDef) (c : CpuNo) (unmask : Bool) (note : Note) (past : List Entry) (d : DevNo) → IsDue def (entries.End c false unmask note) past → is_linked past d ≡ true → is_covered def past d ≡ true → is_covered def (entries.End c false unmask note ∷ past) d ≡ true
+covered_leave : (def : LineDef) (c : CpuNo) (unmask : Bool) (note : Note) (past : List Entry) (d : DevNo)
+    → IsDue def (entries.End c false unmask note) past → is_linked past d ≡ true → is_covered def past d ≡ true
+    → is_covered def (entries.End c false unmask note ∷ past) d ≡ true
 covered_leave def c unmask note past d due linked h =
     by_place def past d h
     (λ m. by_mark def (entries.End c false unmask note ∷ past) d (keeps_marks def (entries.End c false unmask note) past refl m))
@@ -241,19 +289,23 @@ covered_leave def c unmask note past d due linked h =
     (λ a. none_ahead def past d (end_due def c false unmask note past due).none_left linked a)
 
 -- an edge that was owed before
-covered_old : (def : LineDef) (e : Entry) (past : List Entry) (d : DevNo) → IsValid def → IsDue def e past → is_edge_line def ≡ true → is_linked past d ≡ true → unlinks_dev d e ≡ false → is_begin d e ≡ false → is_covered def past d ≡ true → is_covered def (e ∷ past) d ≡ true
+covered_old : (def : LineDef) (e : Entry) (past : List Entry) (d : DevNo) → IsValid def → IsDue def e past
+    → is_edge_line def ≡ true → is_linked past d ≡ true → unlinks_dev d e ≡ false → is_begin d e ≡ false
+    → is_covered def past d ≡ true → is_covered def (e ∷ past) d ≡ true
 covered_old def (entries.Take c way takes.Handle) past d valid due edge linked no_unlink no_begin h =
     by_ahead def (entries.Take c way takes.Handle ∷ past) d (ahead_from true (is_linked past d) false refl linked refl)
 covered_old def (entries.Take c way takes.Busy) past d valid due edge linked no_unlink no_begin h =
     by_pending def (entries.Take c way takes.Busy ∷ past) d (ap (λ (b : Bool). (b && true) || is_pending def past) edge)
 covered_old def (entries.Take c way takes.Off) past d valid due edge linked no_unlink no_begin h = by_pending def (entries.Take c way takes.Off ∷ past) d refl
-covered_old def (entries.End c true unmask note) past d valid due edge linked no_unlink no_begin h = covered_again def c unmask note past d valid due edge linked
+covered_old def (entries.End c true unmask note) past d valid due edge linked no_unlink no_begin h
+    = covered_again def c unmask note past d valid due edge linked
 covered_old def (entries.End c false unmask note) past d valid due edge linked no_unlink no_begin h = covered_leave def c unmask note past d due linked h
 covered_old def e past d valid due edge linked no_unlink no_begin h =
     covered_plain def e past d due (record { no_take = refl; no_handle = refl; no_leave = refl; no_again = refl }) edge linked no_unlink no_begin h
 
 -- an edge that comes now
-covered_ask : (def : LineDef) (r : DriverNo) (x : DevNo) (past : List Entry) (d : DevNo) → Kept def past → is_edge_line def ≡ true → is_started past ≡ true → is_covered def (entries.Ask r x ∷ past) d ≡ true
+covered_ask : (def : LineDef) (r : DriverNo) (x : DevNo) (past : List Entry) (d : DevNo) → Kept def past
+    → is_edge_line def ≡ true → is_started past ≡ true → is_covered def (entries.Ask r x ∷ past) d ≡ true
 covered_ask def r x past d k edge started = by_test (is_masked def past) def.keeps refl refl
   where
     same : is_masked def (entries.Ask r x ∷ past) ≡ is_masked def past
@@ -265,17 +317,22 @@ covered_ask def r x past d k edge started = by_test (is_masked def past) def.kee
     by_test : (m k : Bool) → is_masked def past ≡ m → def.keeps ≡ k → is_covered def (entries.Ask r x ∷ past) d ≡ true
     by_test false b is it = shown (or_left _ _ (ap not (same ∙ is)))
     by_test true true is it = shown (or_right (not (is_masked def (entries.Ask r x ∷ past))) def.keeps it)
-    by_test true false is it = by_pending def (entries.Ask r x ∷ past) d (pending_by_clearing def (entries.Ask r x) past refl ∙ k.edges.dropped edge it is started)
+    by_test true false is it = by_pending def (entries.Ask r x ∷ past) d
+        (pending_by_clearing def (entries.Ask r x) past refl ∙ k.edges.dropped edge it is started)
 
-covered_now : (def : LineDef) (e : Entry) (past : List Entry) (d : DevNo) → Kept def past → is_edge_line def ≡ true → is_any_ask e ≡ true → is_started past ≡ true → is_covered def (e ∷ past) d ≡ true
+covered_now : (def : LineDef) (e : Entry) (past : List Entry) (d : DevNo) → Kept def past → is_edge_line def ≡ true
+    → is_any_ask e ≡ true → is_started past ≡ true → is_covered def (e ∷ past) d ≡ true
 covered_now def (entries.Ask r x) past d k edge asks started = covered_ask def r x past d k edge started
 covered_now def e past d k edge asks started = cc
 
-covered_at : (def : LineDef) → IsValid def → (past : List Entry) → IsLegalPast def past → is_edge_line def ≡ true → (d : DevNo) → some_place (owes d) past ≡ true → is_covered def past d ≡ true
+covered_at : (def : LineDef) → IsValid def → (past : List Entry) → IsLegalPast def past → is_edge_line def ≡ true
+    → (d : DevNo) → some_place (owes d) past ≡ true → is_covered def past d ≡ true
 covered_at def valid [] legal edge d h = cc
 covered_at def valid (e ∷ past) legal edge d h = by_case (owed_cases d e past h) (covered_at def valid past legal.1 edge d)
   where
-    by_case : (comes_to d (e ∷ past) ≡ true) ⊎ ((some_place (owes d) past ≡ true) × (unlinks_dev d e ≡ false) × (is_begin d e ≡ false)) → (some_place (owes d) past ≡ true → is_covered def past d ≡ true) → is_covered def (e ∷ past) d ≡ true
+    by_case : (comes_to d (e ∷ past) ≡ true) ⊎ ((some_place (owes d) past ≡ true) × (unlinks_dev d e ≡ false)
+        × (is_begin d e ≡ false)) → (some_place (owes d) past ≡ true → is_covered def past d ≡ true)
+        → is_covered def (e ∷ past) d ≡ true
     by_case (inl now) deeper =
         let p = and_parts (is_any_ask e) (is_started past && is_linked past d) now in
         covered_now def e past d (kept def past valid legal.1) edge p.0 (and_parts (is_started past) (is_linked past d) p.1).0

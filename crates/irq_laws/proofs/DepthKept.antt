@@ -1,5 +1,6 @@
 -- Each entry keeps: the depth is exact, and a line that isn't disabled is started.
-use Rattle.std.proofs.Common.{◌≡◌, ℕ, ◌+◌, ◌-◌, ◌≤◌, ◌==◌, ◌⊎◌, inl, inr, Bool, true, false, not, ◌||◌, ◌&&◌, cond, List, [], ◌∷◌, ◌++◌, filter, refl, sym, ap, ◌∙◌, subst, arith, eqb-true}
+use Rattle.std.proofs.Common.{◌≡◌, ℕ, ◌+◌, ◌-◌, ◌≤◌, ◌==◌, ◌⊎◌, inl, inr, Bool, true, false, not, ◌||◌, ◌&&◌, cond}
+use Rattle.std.proofs.Common.{List, [], ◌∷◌, ◌++◌, filter, refl, sym, ap, ◌∙◌, subst, arith, eqb-true}
 use Rattle.std.proofs.lemmas.Bool.{and_from, or_left, or_right, or_parts, eqb-false}
 use Rattle.irq_base.specs.declared.numbers.DevNo.{DevNo}
 use Rattle.irq_base.specs.declared.calls.Flags.{Flags}
@@ -16,7 +17,8 @@ use Rattle.irq_base.specs.declared.entries.LinkAnswer.TheVariants as links
 use Rattle.irq_base.specs.declared.entries.UnlinkAnswer.TheVariants as unlinks
 use Rattle.irq_model.specs.Places.{count_of}
 use Rattle.irq_model.specs.Kinds.{same_dev, opened_of, opened_by_enable, is_start, is_started_opened, is_lowering_opened, is_last_unlink, is_disable, is_kill}
-use Rattle.irq_model.specs.Links.{linked, requested, is_linked, is_none_linked, is_empty, is_first_request, is_reset, is_deepening, is_lowering, depth, is_started, has_spurious_mark}
+use Rattle.irq_model.specs.Links.{linked, requested, is_linked, is_none_linked, is_empty, is_first_request, is_reset}
+use Rattle.irq_model.specs.Links.{is_deepening, is_lowering, depth, is_started, has_spurious_mark}
 use Rattle.irq_model.specs.Next.{enable_answer, opened_by_request, resend_of, is_only}
 use Rattle.irq_model.specs.Legal.{IsDue}
 use Rattle.irq_steps.proofs.LinkSteps.{linked_request, linked_unlink}
@@ -54,7 +56,9 @@ no_opens past = record { lowered_from = λ h. cc; started_from = λ h. cc; some_
 request_opens : (def : LineDef) (flags : Flags) (past : List Entry) → is_none_linked past ≡ false → Opens past (opened_by_request def flags past)
 request_opens def flags past some = by_mark (is_none_linked past) (has_spurious_mark past) some
   where
-    by_mark : (n m : Bool) → n ≡ false → Opens past (cond n (cond flags.noauto opens.No (opens.Started (resend_of def past))) (cond m (opened_by_enable (enable_answer def past)) opens.No))
+    by_mark : (n m : Bool) → n ≡ false → Opens past (cond n
+        (cond flags.noauto opens.No (opens.Started (resend_of def past)))
+        (cond m (opened_by_enable (enable_answer def past)) opens.No))
     by_mark true m h = cc
     by_mark false true h = enable_opens def past
     by_mark false false h = no_opens past
@@ -62,14 +66,16 @@ request_opens def flags past some = by_mark (is_none_linked past) (has_spurious_
 first_opens : (def : LineDef) (flags : Flags) (past : List Entry) → is_none_linked past ≡ true → opened_by_request def flags past ≡ opens.Lowered → ⊥
 first_opens def flags past none is = by_flag (is_none_linked past) flags.noauto none is
   where
-    by_flag : (n f : Bool) → n ≡ true → cond n (cond f opens.No (opens.Started (resend_of def past))) (cond (has_spurious_mark past) (opened_by_enable (enable_answer def past)) opens.No) ≡ opens.Lowered → ⊥
+    by_flag : (n f : Bool) → n ≡ true → cond n (cond f opens.No (opens.Started (resend_of def past)))
+        (cond (has_spurious_mark past) (opened_by_enable (enable_answer def past)) opens.No) ≡ opens.Lowered → ⊥
     by_flag true true h i = cc
     by_flag true false h i = cc
     by_flag false f h i = cc
 
 -- the same of any due entry that isn't a first request
 pub opens_at : (def : LineDef) (e : Entry) (past : List Entry) → IsDue def e past → is_first_request (e ∷ past) ≡ false → Opens past (opened_of e)
-opens_at def (entries.Enable s answer) past due later = subst (λ (a : EnableAnswer). Opens past (opened_by_enable a)) (sym (enable_due def s answer past due).answer_is) (enable_opens def past)
+opens_at def (entries.Enable s answer) past due later = subst (λ (a : EnableAnswer). Opens past (opened_by_enable a))
+    (sym (enable_due def s answer past due).answer_is) (enable_opens def past)
 opens_at def (entries.Request s x flags links.Linked opened) past due later =
     let u = request_due def s x flags links.Linked opened past due in
     let is : opened ≡ opened_by_request def flags past = u.opened_is ∙ ap (λ (a : LinkAnswer). opened_with def flags past a) (sym u.answer_is) in
@@ -96,12 +102,15 @@ lowers_some past o k h = by_case (lowers o h)
     by_case (inl starts) = let one = k.started_from starts in omega (arith, one)
     by_case (inr lower) = let two = k.lowered_from lower in omega (arith, two)
 
-exact_by : (def : LineDef) (e : Entry) (past : List Entry) → IsDue def e past → lowered past ≤ raised past → (b : Bool) → is_reset (e ∷ past) ≡ b → lowered (e ∷ past) ≤ raised (e ∷ past)
+exact_by : (def : LineDef) (e : Entry) (past : List Entry) → IsDue def e past → lowered past ≤ raised past → (b : Bool)
+    → is_reset (e ∷ past) ≡ b → lowered (e ∷ past) ≤ raised (e ∷ past)
 exact_by def e past due k true is = let n = (raised_reset e past is).1 in omega (arith, n)
 exact_by def e past due k false is = by_lowering (is_lowering e) (is_deepening e) refl refl (raised_more e past is)
   where
     by_lowering : (l d : Bool) → is_lowering e ≡ l → is_deepening e ≡ d
-        → (raised (e ∷ past) ≡ cond (is_deepening e) (raised past + 1) (raised past)) × (lowered (e ∷ past) ≡ cond (is_lowering e) (lowered past + 1) (lowered past)) → lowered (e ∷ past) ≤ raised (e ∷ past)
+        → (raised (e ∷ past) ≡ cond (is_deepening e) (raised past + 1) (raised past))
+        × (lowered (e ∷ past) ≡ cond (is_lowering e) (lowered past + 1) (lowered past))
+        → lowered (e ∷ past) ≤ raised (e ∷ past)
     by_lowering false false il id n =
         let r : raised (e ∷ past) ≡ raised past = n.0 ∙ ap (λ (b : Bool). cond b (raised past + 1) (raised past)) id in
         let l : lowered (e ∷ past) ≡ lowered past = n.1 ∙ ap (λ (b : Bool). cond b (lowered past + 1) (lowered past)) il in
@@ -117,7 +126,8 @@ exact_by def e past due k false is = by_lowering (is_lowering e) (is_deepening e
     by_lowering true false il id n =
         let r : raised (e ∷ past) ≡ raised past = n.0 ∙ ap (λ (b : Bool). cond b (raised past + 1) (raised past)) id in
         let l : lowered (e ∷ past) ≡ lowered past + 1 = n.1 ∙ ap (λ (b : Bool). cond b (lowered past + 1) (lowered past)) il in
-        let some : 1 ≤ raised past - lowered past = lowers_some past (opened_of e) (opens_at def e past due (or_parts (is_last_unlink e) (is_first_request (e ∷ past)) is).1) il in
+        let some : 1 ≤ raised past - lowered past = lowers_some past (opened_of e)
+        (opens_at def e past due (or_parts (is_last_unlink e) (is_first_request (e ∷ past)) is).1) il in
         omega (arith, r, l, some)
 
 exact_more : (def : LineDef) (e : Entry) (past : List Entry) → IsDue def e past → lowered past ≤ raised past → lowered (e ∷ past) ≤ raised (e ∷ past)
@@ -138,7 +148,9 @@ deep_alone (entries.Enable s answer) h = cc
 deep_alone (entries.Request s x flags answer opened) h = cc
 deep_alone e h = refl
 
-zero_by : (def : LineDef) (e : Entry) (past : List Entry) → IsDue def e past → lowered past ≤ raised past → raised (e ∷ past) - lowered (e ∷ past) ≡ 0 → is_start e ≡ false → (b : Bool) → is_reset (e ∷ past) ≡ b → StaysEnabled e past
+zero_by : (def : LineDef) (e : Entry) (past : List Entry) → IsDue def e past → lowered past ≤ raised past
+    → raised (e ∷ past) - lowered (e ∷ past) ≡ 0 → is_start e ≡ false → (b : Bool) → is_reset (e ∷ past) ≡ b
+    → StaysEnabled e past
 zero_by def e past due k zero no_start true is =
     let n = raised_reset e past is in
     let r : raised (e ∷ past) ≡ 1 = n.0 ∙ ap (λ (b : Bool). cond {A = ℕ} b 0 1) no_start in
@@ -147,7 +159,8 @@ zero_by def e past due k zero no_start true is =
 zero_by def e past due k zero no_start false is = by_sides (is_deepening e) (is_lowering e) refl refl (raised_more e past is)
   where
     by_sides : (d l : Bool) → is_deepening e ≡ d → is_lowering e ≡ l
-        → (raised (e ∷ past) ≡ cond (is_deepening e) (raised past + 1) (raised past)) × (lowered (e ∷ past) ≡ cond (is_lowering e) (lowered past + 1) (lowered past)) → StaysEnabled e past
+        → (raised (e ∷ past) ≡ cond (is_deepening e) (raised past + 1) (raised past))
+        × (lowered (e ∷ past) ≡ cond (is_lowering e) (lowered past + 1) (lowered past)) → StaysEnabled e past
     by_sides true l id il n =
         let low = deep_alone e id in
         let r : raised (e ∷ past) ≡ raised past + 1 = n.0 ∙ ap (λ (b : Bool). cond b (raised past + 1) (raised past)) id in
@@ -160,7 +173,9 @@ zero_by def e past due k zero no_start false is = by_sides (is_deepening e) (is_
         by_case (inr lower) =
             let r : raised (e ∷ past) ≡ raised past = n.0 ∙ ap (λ (b : Bool). cond b (raised past + 1) (raised past)) id in
             let l : lowered (e ∷ past) ≡ lowered past + 1 = n.1 ∙ ap (λ (b : Bool). cond b (lowered past + 1) (lowered past)) il in
-            let two : 2 ≤ raised past - lowered past = (opens_at def e past due (or_parts (is_last_unlink e) (is_first_request (e ∷ past)) is).1).lowered_from lower in
+            let two : 2 ≤ raised past - lowered past =
+            (opens_at def e past due (or_parts (is_last_unlink e) (is_first_request (e ∷ past)) is).1).lowered_from
+            lower in
             absurd (omega (arith, r, l, two, zero))
     by_sides false false id il n =
         let p = or_parts (is_last_unlink e) (is_first_request (e ∷ past)) is in
@@ -170,7 +185,8 @@ zero_by def e past due k zero no_start false is = by_sides (is_deepening e) (is_
         record { was = was; no_start = no_start; no_deepening = id; no_last = p.0; not_first = p.1 }
 
 -- a line that is enabled after an entry was started by it, or was enabled before
-pub enabled_before : (def : LineDef) (e : Entry) (past : List Entry) → IsDue def e past → KeepsDepth def past → depth (e ∷ past) ≡ 0 → (is_start e ≡ true) ⊎ StaysEnabled e past
+pub enabled_before : (def : LineDef) (e : Entry) (past : List Entry) → IsDue def e past → KeepsDepth def past
+    → depth (e ∷ past) ≡ 0 → (is_start e ≡ true) ⊎ StaysEnabled e past
 enabled_before def e past due k zero = by_start (is_start e) refl
   where
     by_start : (b : Bool) → is_start e ≡ b → (is_start e ≡ true) ⊎ StaysEnabled e past
@@ -184,19 +200,24 @@ some_last [] d = refl
 some_last (x ∷ xs) d = refl
 
 some_kept : (x y : DevNo) (ys : List DevNo) → same_dev x y ≡ false → is_empty (filter (λ z. not (same_dev z x)) (y ∷ ys)) ≡ false
-some_kept x y ys other = ap (λ (b : Bool). is_empty (cond (not b) (y ∷ filter (λ z. not (same_dev z x)) ys) (filter (λ z. not (same_dev z x)) ys))) (same_both y x ∙ other)
+some_kept x y ys other = ap (λ (b : Bool). is_empty (cond (not b) (y ∷ filter (λ z. not (same_dev z x)) ys)
+    (filter (λ z. not (same_dev z x)) ys))) (same_both y x ∙ other)
 
-some_behind : (x y : DevNo) (ys : List DevNo) → same_dev x y ≡ true → is_empty ys ≡ false → count_of (same_dev x) ys ≡ 0 → is_empty (filter (λ z. not (same_dev z x)) (y ∷ ys)) ≡ false
+some_behind : (x y : DevNo) (ys : List DevNo) → same_dev x y ≡ true → is_empty ys ≡ false → count_of (same_dev x) ys ≡ 0
+    → is_empty (filter (λ z. not (same_dev z x)) (y ∷ ys)) ≡ false
 some_behind x y [] same h none = cc
 some_behind x y (z ∷ zs) same h none =
-    ap (λ (b : Bool). is_empty (cond (not b) (y ∷ filter (λ z. not (same_dev z x)) (z ∷ zs)) (filter (λ z. not (same_dev z x)) (z ∷ zs)))) (same_both y x ∙ same) ∙ some_kept x z zs (differs (same_dev x z) none)
+    ap (λ (b : Bool). is_empty (cond (not b) (y ∷ filter (λ z. not (same_dev z x)) (z ∷ zs))
+    (filter (λ z. not (same_dev z x)) (z ∷ zs)))) (same_both y x ∙ same)
+    ∙ some_kept x z zs (differs (same_dev x z) none)
   where
     differs : (b : Bool) → cond b (count_of (same_dev x) zs + 1) (count_of (same_dev x) zs) ≡ 0 → b ≡ false
     differs true h = absurd (omega (arith, h))
     differs false h = refl
 
 -- one of several is taken out
-some_left : (x : DevNo) (xs : List DevNo) → is_only x xs ≡ false → is_empty xs ≡ false → count_of (same_dev x) xs ≤ 1 → is_empty (filter (λ z. not (same_dev z x)) xs) ≡ false
+some_left : (x : DevNo) (xs : List DevNo) → is_only x xs ≡ false → is_empty xs ≡ false → count_of (same_dev x) xs ≤ 1
+    → is_empty (filter (λ z. not (same_dev z x)) xs) ≡ false
 some_left x [] only h once = h
 some_left x (y ∷ ys) only h once = by_test (same_dev x y) refl
   where
@@ -211,26 +232,32 @@ last_when : (b last v : Bool) → unlinks.Unlinked last ≡ cond b (unlinks.Unli
 last_when true last v h = cc
 last_when false last v h = cc
 
-still_some : (def : LineDef) (e : Entry) (past : List Entry) → IsDue def e past → is_last_unlink e ≡ false → is_none_linked past ≡ false → is_none_linked (e ∷ past) ≡ false
-still_some def (entries.Request s x flags links.Linked opened) past due no_last some = ap is_empty (linked_request s x flags opened past) ∙ some_last (filter (λ y. not (same_dev y x)) (linked past)) x
+still_some : (def : LineDef) (e : Entry) (past : List Entry) → IsDue def e past → is_last_unlink e ≡ false
+    → is_none_linked past ≡ false → is_none_linked (e ∷ past) ≡ false
+still_some def (entries.Request s x flags links.Linked opened) past due no_last some
+    = ap is_empty (linked_request s x flags opened past) ∙ some_last (filter (λ y. not (same_dev y x)) (linked past)) x
 still_some def (entries.Request s x flags (links.Refused error) opened) past due no_last some = ap is_empty (linked_refused s x flags error opened past) ∙ some
 still_some def (entries.Unlink s x (unlinks.Unlinked last)) past due no_last some =
     let is = last_when (is_linked past x) last (is_only x (linked past)) (unlink_due def s x (unlinks.Unlinked last) past due).answer_is in
-    let once : count_of (same_dev x) (linked past) ≤ 1 = (let n = count_filter (same_dev x) (is_linked past) (requested past) in let m = requested_once x past in omega (arith, n, m)) in
+    let once : count_of (same_dev x) (linked past) ≤ 1
+    = (let n = count_filter (same_dev x) (is_linked past) (requested past) in let m = requested_once x past in
+    omega (arith, n, m)) in
     ap is_empty (linked_unlink s x last past) ∙ some_left x (linked past) (sym is ∙ no_last) some once
 still_some def (entries.Unlink s x unlinks.NotThere) past due no_last some = ap is_empty (linked_not_there s x past) ∙ some
 still_some def e past due no_last some = some
 
 -- a line that is started has something linked
 started_some : (def : LineDef) (e : Entry) (past : List Entry) → IsDue def e past → is_start e ≡ true → is_none_linked (e ∷ past) ≡ false
-started_some def (entries.Enable s answer) past due starts = (opens_at def (entries.Enable s answer) past due refl).some_linked (lowers_by (opened_by_enable answer) starts)
+started_some def (entries.Enable s answer) past due starts
+    = (opens_at def (entries.Enable s answer) past due refl).some_linked (lowers_by (opened_by_enable answer) starts)
   where
     lowers_by : (o : Opened) → is_started_opened o ≡ true → is_lowering_opened o ≡ true
     lowers_by (opens.Started resend) h = refl
     lowers_by opens.No h = cc
     lowers_by opens.Unbalanced h = cc
     lowers_by opens.Lowered h = cc
-started_some def (entries.Request s x flags links.Linked opened) past due starts = ap is_empty (linked_request s x flags opened past) ∙ some_last (filter (λ y. not (same_dev y x)) (linked past)) x
+started_some def (entries.Request s x flags links.Linked opened) past due starts
+    = ap is_empty (linked_request s x flags opened past) ∙ some_last (filter (λ y. not (same_dev y x)) (linked past)) x
 started_some def (entries.Request s x flags (links.Refused error) opened) past due starts =
     let u = request_due def s x flags (links.Refused error) opened past due in
     let is : opened ≡ opens.No = u.opened_is ∙ ap (λ (a : LinkAnswer). opened_with def flags past a) (sym u.answer_is) in
@@ -240,7 +267,8 @@ started_some def e past due starts = cc
 
 -- ---- an enabled line is started
 
-enabled_more : (def : LineDef) (e : Entry) (past : List Entry) → IsDue def e past → KeepsDepth def past → depth (e ∷ past) ≡ 0 → (is_started (e ∷ past) ≡ true) × (is_none_linked (e ∷ past) ≡ false)
+enabled_more : (def : LineDef) (e : Entry) (past : List Entry) → IsDue def e past → KeepsDepth def past
+    → depth (e ∷ past) ≡ 0 → (is_started (e ∷ past) ≡ true) × (is_none_linked (e ∷ past) ≡ false)
 enabled_more def e past due k zero = by_case (enabled_before def e past due k zero)
   where
     by_case : (is_start e ≡ true) ⊎ StaysEnabled e past → (is_started (e ∷ past) ≡ true) × (is_none_linked (e ∷ past) ≡ false)

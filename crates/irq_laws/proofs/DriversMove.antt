@@ -1,6 +1,7 @@
 -- No standstill among drivers: if no thread and no processor may add an entry, a driver with a due
 -- call may, or the driver of the free that is under way.
-use Rattle.std.proofs.Common.{◌≡◌, ◌⊎◌, inl, inr, ℕ, zero, suc, ◌==◌, Bool, true, false, not, ◌||◌, ◌&&◌, cond, IsSome, Option, Some, None, is_some, List, reverse, refl, sym, ap, ◌∙◌, arith, eqb-true}
+use Rattle.std.proofs.Common.{◌≡◌, ◌⊎◌, inl, inr, ℕ, zero, suc, ◌==◌, Bool, true, false, not, ◌||◌, ◌&&◌, cond, IsSome}
+use Rattle.std.proofs.Common.{Option, Some, None, is_some, List, reverse, refl, sym, ap, ◌∙◌, arith, eqb-true}
 use Rattle.std.proofs.lemmas.Bool.{or_from, false_from_ne_true}
 use Rattle.irq_base.specs.declared.numbers.CpuNo.{CpuNo}
 use Rattle.irq_base.specs.declared.numbers.DevNo.{DevNo}
@@ -36,7 +37,9 @@ both_false true b h = h
 both_false false b h = refl
 
 freed_rests : (def : LineDef) (past : List Entry) → IsIdle def past → is_freed_at_work def past ≡ false
-freed_rests def past i = none_of (λ (x : DeviceDef). is_being_freed past x.dev && (is_woken past x.dev || is_running past x.dev)) def.devices (λ x. both_false (is_being_freed past x.dev) _ (at_rest def past i x.dev))
+freed_rests def past i = none_of (λ (x : DeviceDef). is_being_freed past x.dev &&
+    (is_woken past x.dev || is_running past x.dev)) def.devices
+    (λ x. both_false (is_being_freed past x.dev) _ (at_rest def past i x.dev))
 
 is_freed : (def : LineDef) (past : List Entry) → IsIdle def past → (c : Call) (n : ℕ) → IsFreed def past c n
 is_freed def past i (calls.Free d) zero = tt
@@ -50,14 +53,17 @@ is_freed def past i calls.Sync n = tt
 is_freed def past i (calls.Affinity mask) n = tt
 is_freed def past i (calls.Moment at) n = tt
 
-call_waits : (def : LineDef) (past : List Entry) → IsIdle def past → (r : DriverNo) (c : Call) (n : ℕ) → due_call def r past ≡ Some (c, n) → is_some (next_past def past (actors.Driver r)) ≡ not (stands_in_way def past (block_of c n))
+call_waits : (def : LineDef) (past : List Entry) → IsIdle def past → (r : DriverNo) (c : Call) (n : ℕ)
+    → due_call def r past ≡ Some (c, n) → is_some (next_past def past (actors.Driver r))
+    ≡ not (stands_in_way def past (block_of c n))
 call_waits def past i r c n is = freed_waits def past r c n (is_freed def past i c n) is
 
 -- on an idle line only the mutex stands in the way
 only_mutex : (def : LineDef) (past : List Entry) → IsIdle def past → (b : WaitFor) → (stands_in_way def past b ≡ false) ⊎ (b ≡ waits.Mutex)
 only_mutex def past i waits.Nothing = inl refl
 only_mutex def past i waits.Flow = inl i.no_flow
-only_mutex def past i waits.Threads = inl (none_of (λ (x : DeviceDef). is_woken past x.dev || is_running past x.dev) def.devices (λ x. at_rest def past i x.dev))
+only_mutex def past i waits.Threads = inl (none_of (λ (x : DeviceDef). is_woken past x.dev || is_running past x.dev)
+    def.devices (λ x. at_rest def past i x.dev))
 only_mutex def past i waits.Mutex = inr refl
 only_mutex def past i waits.Freed = inl (freed_rests def past i)
 
@@ -88,7 +94,8 @@ free_moves def h legal k i held =
       moves = call_waits def (reverse h) i o.driver (calls.Free o.dev) (suc w.0) w.1 ∙ ap not (within def (reverse h) i o.dev w.0);
     }
 
-pub idle_drivers_move : (def : LineDef) (h : List Entry) → IsLegal def h → Kept def (reverse h) → IsIdle def (reverse h) → (r : DriverNo) (o : Option (Call × ℕ)) → due_call def r (reverse h) ≡ o → IsSome o
+pub idle_drivers_move : (def : LineDef) (h : List Entry) → IsLegal def h → Kept def (reverse h) → IsIdle def (reverse h)
+    → (r : DriverNo) (o : Option (Call × ℕ)) → due_call def r (reverse h) ≡ o → IsSome o
     → IsSome (next def h (actors.Driver r)) ⊎ FreeMoves def h
 idle_drivers_move def h legal k i r None is some = cc
 idle_drivers_move def h legal k i r (Some (c, n)) is some = by_block (only_mutex def (reverse h) i (block_of c n))
@@ -101,7 +108,9 @@ idle_drivers_move def h legal k i r (Some (c, n)) is some = by_block (only_mutex
     by_block (inl none) = inl (call_waits def (reverse h) i r c n is ∙ ap not none)
     by_block (inr waits) = by_mutex (holds_mutex (reverse h)) refl waits
 
-pub drivers_move : (def : LineDef) (h : List Entry) → IsValid def → IsLegal def h → ((line : LineNo) (d : DevNo) → next def h (actors.Thread line d) ≡ None) → ((c : CpuNo) → next def h (actors.Cpu c) ≡ None)
+pub drivers_move : (def : LineDef) (h : List Entry) → IsValid def → IsLegal def h
+    → ((line : LineNo) (d : DevNo) → next def h (actors.Thread line d) ≡ None)
+    → ((c : CpuNo) → next def h (actors.Cpu c) ≡ None)
     → (r : DriverNo) → IsSome (due_call def r (reverse h)) → IsSome (next def h (actors.Driver r)) ⊎ FreeMoves def h
 drivers_move def h valid legal threads cpus r some =
     idle_drivers_move def h legal (kept def (reverse h) valid legal) (idle def (reverse h) threads cpus) r (due_call def r (reverse h)) refl some

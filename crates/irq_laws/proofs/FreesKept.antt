@@ -1,6 +1,7 @@
 -- Each entry keeps: at most one free is under way, and a driver that is within a free is its
 -- driver.
-use Rattle.std.proofs.Common.{◌≡◌, ℕ, suc, ◌<◌, ◌==◌, ◌⊎◌, inl, inr, Bool, true, false, not, ◌&&◌, cond, Option, Some, List, [], ◌∷◌, filter, nat_lt, refl, sym, ap, ◌∙◌, subst, arith}
+use Rattle.std.proofs.Common.{◌≡◌, ℕ, suc, ◌<◌, ◌==◌, ◌⊎◌, inl, inr, Bool, true, false, not, ◌&&◌, cond, Option, Some}
+use Rattle.std.proofs.Common.{List, [], ◌∷◌, filter, nat_lt, refl, sym, ap, ◌∙◌, subst, arith}
 use Rattle.std.proofs.lemmas.Bool.{and_parts, or_cases, and_right, or_from, ltb-true, eqb-false, false_from_ne_true}
 use Rattle.irq_base.specs.declared.numbers.CpuNo.{CpuNo}
 use Rattle.irq_base.specs.declared.numbers.DevNo.{DevNo}
@@ -25,7 +26,8 @@ use Rattle.irq_laws.proofs.Lists.{both_ways, differs_dev, differs_driver}
 use Rattle.irq_laws.proofs.Progress.{fresh, free_before, free_below}
 use Rattle.irq_laws.proofs.Mutex.{freeing_holds, clearer, cleared_before}
 use Rattle.irq_laws.proofs.ImpliesFlow.{begin_due}
-use Rattle.irq_laws.proofs.ImpliesDriver.{ask_due, request_due, unlink_due, freed_due, disable_due, hard_clear_due, synced_due, enable_due, affinity_due, moment_due}
+use Rattle.irq_laws.proofs.ImpliesDriver.{ask_due, request_due, unlink_due, freed_due, disable_due, hard_clear_due}
+use Rattle.irq_laws.proofs.ImpliesDriver.{synced_due, enable_due, affinity_due, moment_due}
 
 -- ---- helpers
 
@@ -54,11 +56,13 @@ never d c same other = let n : true ≡ is_free c = ap is_free same in let m = n
 -- ---- who is within a free, by the due calls
 
 -- an entry of another call leaves the drivers within their frees
-other_call : (def : LineDef) (r s : DriverNo) (e : Entry) (past : List Entry) (c : Call) (n : ℕ) (d : DevNo) (m : ℕ) → is_by_driver r e ≡ same_driver r s → is_free c ≡ false
+other_call : (def : LineDef) (r s : DriverNo) (e : Entry) (past : List Entry) (c : Call) (n : ℕ) (d : DevNo) (m : ℕ)
+    → is_by_driver r e ≡ same_driver r s → is_free c ≡ false
     → due_call def s past ≡ Some (c, n) → due_call def r (e ∷ past) ≡ Some (calls.Free d, suc m) → due_call def r past ≡ Some (calls.Free d, suc m)
 other_call def r s e past c n d m by other was is = by_case (free_before def r s e past c n d m by was is)
   where
-    by_case : ((same_driver r s ≡ false) × (due_call def r past ≡ Some (calls.Free d, suc m))) ⊎ ((r ≡ s) × (calls.Free d ≡ c) × (m ≡ n) × (n ≡ 0 → nat_lt (suc m) (entries_of_call c (e ∷ [])) ≡ true))
+    by_case : ((same_driver r s ≡ false) × (due_call def r past ≡ Some (calls.Free d, suc m)))
+        ⊎ ((r ≡ s) × (calls.Free d ≡ c) × (m ≡ n) × (n ≡ 0 → nat_lt (suc m) (entries_of_call c (e ∷ [])) ≡ true))
         → due_call def r past ≡ Some (calls.Free d, suc m)
     by_case (inl h) = h.1
     by_case (inr h) = never d c h.1 other
@@ -72,30 +76,40 @@ is_of_free _ = false
 
 still_within : (def : LineDef) (e : Entry) (past : List Entry) → IsDue def e past → is_of_free e ≡ false → (r : DriverNo) (d : DevNo) (m : ℕ)
     → due_call def r (e ∷ past) ≡ Some (calls.Free d, suc m) → due_call def r past ≡ Some (calls.Free d, suc m)
-still_within def (entries.Ask s x) past due quiet r d m h = let u = ask_due def s x past due in other_call def r s (entries.Ask s x) past _ u.count d m refl refl u.call h
+still_within def (entries.Ask s x) past due quiet r d m h = let u = ask_due def s x past due in
+    other_call def r s (entries.Ask s x) past _ u.count d m refl refl u.call h
 still_within def (entries.Disable s) past due quiet r d m h = by_case (disable_due def s past due).call
   where
-    by_case : (due_call def s past ≡ Some (calls.Disable, 0)) ⊎ ((n : ℕ) × (due_call def s past ≡ Some (calls.DisableNosync, n))) → due_call def r past ≡ Some (calls.Free d, suc m)
+    by_case : (due_call def s past ≡ Some (calls.Disable, 0))
+        ⊎ ((n : ℕ) × (due_call def s past ≡ Some (calls.DisableNosync, n)))
+        → due_call def r past ≡ Some (calls.Free d, suc m)
     by_case (inl u) = other_call def r s (entries.Disable s) past calls.Disable 0 d m refl refl u h
     by_case (inr u) = other_call def r s (entries.Disable s) past calls.DisableNosync u.0 d m refl refl u.1 h
 still_within def (entries.Synced s) past due quiet r d m h = by_case (synced_due def s past due).count (synced_due def s past due).call
   where
-    by_case : (n : ℕ) → ((due_call def s past ≡ Some (calls.Disable, n)) × ((n == 0) ≡ false) × ((n == 1) ≡ false)) ⊎ ((due_call def s past ≡ Some (calls.Sync, n)) × ((n == 0) ≡ false))
+    by_case : (n : ℕ) → ((due_call def s past ≡ Some (calls.Disable, n)) × ((n == 0) ≡ false) × ((n == 1) ≡ false))
+        ⊎ ((due_call def s past ≡ Some (calls.Sync, n)) × ((n == 0) ≡ false))
         → due_call def r past ≡ Some (calls.Free d, suc m)
     by_case n (inl u) = other_call def r s (entries.Synced s) past calls.Disable n d m refl refl u.0 h
     by_case n (inr u) = other_call def r s (entries.Synced s) past calls.Sync n d m refl refl u.0 h
-still_within def (entries.Enable s answer) past due quiet r d m h = let u = enable_due def s answer past due in other_call def r s (entries.Enable s answer) past _ u.count d m refl refl u.call h
+still_within def (entries.Enable s answer) past due quiet r d m h = let u = enable_due def s answer past due in
+    other_call def r s (entries.Enable s answer) past _ u.count d m refl refl u.call h
 still_within def (entries.Request s x flags answer opened) past due quiet r d m h =
-    let u = request_due def s x flags answer opened past due in other_call def r s (entries.Request s x flags answer opened) past _ u.count d m refl refl u.call h
-still_within def (entries.Affinity s mask answer) past due quiet r d m h = let u = affinity_due def s mask answer past due in other_call def r s (entries.Affinity s mask answer) past _ u.count d m refl refl u.call h
-still_within def (entries.Moment s at) past due quiet r d m h = let u = moment_due def s at past due in other_call def r s (entries.Moment s at) past _ u.count d m refl refl u.call h
+    let u = request_due def s x flags answer opened past due in
+    other_call def r s (entries.Request s x flags answer opened) past _ u.count d m refl refl u.call h
+still_within def (entries.Affinity s mask answer) past due quiet r d m h = let u
+    = affinity_due def s mask answer past due in other_call def r s (entries.Affinity s mask answer) past _ u.count d m
+    refl refl u.call h
+still_within def (entries.Moment s at) past due quiet r d m h = let u = moment_due def s at past due in
+    other_call def r s (entries.Moment s at) past _ u.count d m refl refl u.call h
 still_within def (entries.HardClear s) past due quiet r d m h = cc
 still_within def (entries.Unlink s x answer) past due quiet r d m h = cc
 still_within def (entries.Freed s x) past due quiet r d m h = cc
 still_within def e past due quiet r d m h = h
 
 -- the free that is completed is the one that its driver is within
-pub freed_is : (def : LineDef) (s : DriverNo) (x : DevNo) (past : List Entry) → IsDue def (entries.Freed s x) past → KeepsFrees def past → (due_call def s past ≡ Some (calls.Free x, 2)) × (freeing past ≡ Some (s, x))
+pub freed_is : (def : LineDef) (s : DriverNo) (x : DevNo) (past : List Entry) → IsDue def (entries.Freed s x) past
+    → KeepsFrees def past → (due_call def s past ≡ Some (calls.Free x, 2)) × (freeing past ≡ Some (s, x))
 freed_is def s x past due k =
     let u = freed_due def s x past due in
     let below = free_below def s x past u.count u.call in
@@ -110,42 +124,56 @@ freed_is def s x past due k =
 
 abbrev FreeStep : LineDef → DriverNo → DriverNo → Entry → List Entry → Call → ℕ → DevNo → ℕ → Type 0
 FreeStep def r s e past c n d m =
-    ((same_driver r s ≡ false) × (due_call def r past ≡ Some (calls.Free d, suc m))) ⊎ ((r ≡ s) × (calls.Free d ≡ c) × (m ≡ n) × (n ≡ 0 → nat_lt (suc m) (entries_of_call c (e ∷ [])) ≡ true))
+    ((same_driver r s ≡ false) × (due_call def r past ≡ Some (calls.Free d, suc m)))
+    ⊎ ((r ≡ s) × (calls.Free d ≡ c) × (m ≡ n) × (n ≡ 0 → nat_lt (suc m) (entries_of_call c (e ∷ [])) ≡ true))
 
 dev_of_free : (d x : DevNo) → calls.Free d ≡ calls.Free x → d ≡ x
 dev_of_free d x h = cc
 
-within_clear : (def : LineDef) (s : DriverNo) (past : List Entry) → IsDue def (entries.HardClear s) past → KeepsFrees def past → (r : DriverNo) (d : DevNo) (n : ℕ)
+within_clear : (def : LineDef) (s : DriverNo) (past : List Entry) → IsDue def (entries.HardClear s) past
+    → KeepsFrees def past → (r : DriverNo) (d : DevNo) (n : ℕ)
     → due_call def r (entries.HardClear s ∷ past) ≡ Some (calls.Free d, suc n) → freeing past ≡ Some (r, d)
 within_clear def s past due k r d n h = by_call (hard_clear_due def s past due).call
   where
-    of_free : (x : DevNo) → due_call def s past ≡ Some (calls.Free x, 1) → FreeStep def r s (entries.HardClear s) past (calls.Free x) 1 d n → freeing past ≡ Some (r, d)
+    of_free : (x : DevNo) → due_call def s past ≡ Some (calls.Free x, 1)
+        → FreeStep def r s (entries.HardClear s) past (calls.Free x) 1 d n → freeing past ≡ Some (r, d)
     of_free x call (inl h) = k.within r d n h.1
     of_free x call (inr h) = k.within s x 0 call ∙ this_free r s d x h.0 (dev_of_free d x h.1)
 
-    by_call : ((x : DevNo) × (due_call def s past ≡ Some (calls.Free x, 1))) ⊎ ((due_call def s past ≡ Some (calls.Disable, 1)) ⊎ (due_call def s past ≡ Some (calls.Sync, 0))) → freeing past ≡ Some (r, d)
+    by_call : ((x : DevNo) × (due_call def s past ≡ Some (calls.Free x, 1)))
+        ⊎ ((due_call def s past ≡ Some (calls.Disable, 1)) ⊎ (due_call def s past ≡ Some (calls.Sync, 0)))
+        → freeing past ≡ Some (r, d)
     by_call (inl u) = of_free u.0 u.1 (free_before def r s (entries.HardClear s) past (calls.Free u.0) 1 d n refl u.1 h)
     by_call (inr (inl u)) = k.within r d n (other_call def r s (entries.HardClear s) past calls.Disable 1 d n refl refl u h)
     by_call (inr (inr u)) = k.within r d n (other_call def r s (entries.HardClear s) past calls.Sync 0 d n refl refl u h)
 
-within_unlink : (def : LineDef) (s : DriverNo) (x : DevNo) (last : Bool) (past : List Entry) → IsDue def (entries.Unlink s x (unlinks.Unlinked last)) past → KeepsFrees def past → (r : DriverNo) (d : DevNo) (n : ℕ)
-    → due_call def r (entries.Unlink s x (unlinks.Unlinked last) ∷ past) ≡ Some (calls.Free d, suc n) → ◌≡◌ {A = Option (DriverNo × DevNo)} (Some (s, x)) (Some (r, d))
-within_unlink def s x last past due k r d n h = by_step (free_before def r s (entries.Unlink s x (unlinks.Unlinked last)) past (calls.Free x) 0 d n refl (unlink_due def s x (unlinks.Unlinked last) past due).call h)
+within_unlink : (def : LineDef) (s : DriverNo) (x : DevNo) (last : Bool) (past : List Entry)
+    → IsDue def (entries.Unlink s x (unlinks.Unlinked last)) past → KeepsFrees def past
+    → (r : DriverNo) (d : DevNo) (n : ℕ)
+    → due_call def r (entries.Unlink s x (unlinks.Unlinked last) ∷ past) ≡ Some (calls.Free d, suc n)
+    → ◌≡◌ {A = Option (DriverNo × DevNo)} (Some (s, x)) (Some (r, d))
+within_unlink def s x last past due k r d n h = by_step
+    (free_before def r s (entries.Unlink s x (unlinks.Unlinked last)) past (calls.Free x) 0 d n refl
+    (unlink_due def s x (unlinks.Unlinked last) past due).call h)
   where
-    by_step : FreeStep def r s (entries.Unlink s x (unlinks.Unlinked last)) past (calls.Free x) 0 d n → ◌≡◌ {A = Option (DriverNo × DevNo)} (Some (s, x)) (Some (r, d))
+    by_step : FreeStep def r s (entries.Unlink s x (unlinks.Unlinked last)) past (calls.Free x) 0 d n
+        → ◌≡◌ {A = Option (DriverNo × DevNo)} (Some (s, x)) (Some (r, d))
     by_step (inl h) = not_freeing past _ (unlink_due def s x (unlinks.Unlinked last) past due).no_mutex (k.within r d n h.1)
     by_step (inr h) = this_free r s d x h.0 (dev_of_free d x h.1)
 
-within_none : (def : LineDef) (s : DriverNo) (x : DevNo) (past : List Entry) → IsDue def (entries.Unlink s x unlinks.NotThere) past → (r : DriverNo) (d : DevNo) (n : ℕ)
+within_none : (def : LineDef) (s : DriverNo) (x : DevNo) (past : List Entry)
+    → IsDue def (entries.Unlink s x unlinks.NotThere) past → (r : DriverNo) (d : DevNo) (n : ℕ)
     → due_call def r (entries.Unlink s x unlinks.NotThere ∷ past) ≡ Some (calls.Free d, suc n) → due_call def r past ≡ Some (calls.Free d, suc n)
-within_none def s x past due r d n h = by_step (free_before def r s (entries.Unlink s x unlinks.NotThere) past (calls.Free x) 0 d n refl (unlink_due def s x unlinks.NotThere past due).call h)
+within_none def s x past due r d n h = by_step (free_before def r s (entries.Unlink s x unlinks.NotThere) past
+    (calls.Free x) 0 d n refl (unlink_due def s x unlinks.NotThere past due).call h)
   where
     by_step : FreeStep def r s (entries.Unlink s x unlinks.NotThere) past (calls.Free x) 0 d n → due_call def r past ≡ Some (calls.Free d, suc n)
     by_step (inl h) = h.1
     by_step (inr h) = absurd (let below = ltb-true (suc n) 1 (h.3 refl) in omega (arith, below))
 
 -- nobody is within a free once it is completed
-within_freed : {P : Type 0} (def : LineDef) (s : DriverNo) (x : DevNo) (past : List Entry) → IsDue def (entries.Freed s x) past → KeepsFrees def past → (r : DriverNo) (d : DevNo) (n : ℕ)
+within_freed : {P : Type 0} (def : LineDef) (s : DriverNo) (x : DevNo) (past : List Entry)
+    → IsDue def (entries.Freed s x) past → KeepsFrees def past → (r : DriverNo) (d : DevNo) (n : ℕ)
     → due_call def r (entries.Freed s x ∷ past) ≡ Some (calls.Free d, suc n) → P
 within_freed {P} def s x past due k r d n h = by_step (free_before def r s (entries.Freed s x) past (calls.Free x) 2 d n refl (freed_is def s x past due k).0 h)
   where
@@ -165,15 +193,20 @@ within_more def e past due k r d n h = k.within r d n (still_within def e past d
 
 -- ---- who is within a free, by the unlinks
 
-both_same : (r s : DriverNo) (d x : DevNo) → ((same_driver r s && same_dev d x) && true) ≡ true → ◌≡◌ {A = Option (DriverNo × DevNo)} (Some (s, x)) (Some (r, d))
+both_same : (r s : DriverNo) (d x : DevNo) → ((same_driver r s && same_dev d x) && true) ≡ true
+    → ◌≡◌ {A = Option (DriverNo × DevNo)} (Some (s, x)) (Some (r, d))
 both_same r s d x h =
     let p = and_parts (same_driver r s) (same_dev d x) (and_parts _ true h).0 in
     this_free r s d x (driver_from_same r s p.0) (dev_from_same d x p.1)
 
-driver_more : (def : LineDef) (e : Entry) (past : List Entry) → IsDue def e past → KeepsFrees def past → (r : DriverNo) (d : DevNo) → stands (unlinks_of r d) (is_freed_by r) (e ∷ past) ≡ true → freeing (e ∷ past) ≡ Some (r, d)
+driver_more : (def : LineDef) (e : Entry) (past : List Entry) → IsDue def e past → KeepsFrees def past
+    → (r : DriverNo) (d : DevNo) → stands (unlinks_of r d) (is_freed_by r) (e ∷ past) ≡ true
+    → freeing (e ∷ past) ≡ Some (r, d)
 driver_more def (entries.Unlink s x (unlinks.Unlinked last)) past due k r d h = by_case (or_cases _ _ h)
   where
-    by_case : (((same_driver r s && same_dev d x) && true) ≡ true) ⊎ (stands (unlinks_of r d) (is_freed_by r) past ≡ true) → ◌≡◌ {A = Option (DriverNo × DevNo)} (Some (s, x)) (Some (r, d))
+    by_case : (((same_driver r s && same_dev d x) && true) ≡ true)
+        ⊎ (stands (unlinks_of r d) (is_freed_by r) past ≡ true)
+        → ◌≡◌ {A = Option (DriverNo × DevNo)} (Some (s, x)) (Some (r, d))
     by_case (inl same) = both_same r s d x same
     by_case (inr was) = not_freeing past _ (unlink_due def s x (unlinks.Unlinked last) past due).no_mutex (k.one_driver r d was)
 driver_more def (entries.Unlink s x unlinks.NotThere) past due k r d h = by_case (or_cases _ _ h)
@@ -187,10 +220,12 @@ driver_more def (entries.Freed s x) past due k r d h =
     differs_driver r s same.0 p.0
 driver_more def e past due k r d h = k.one_driver r d h
 
-device_more : (def : LineDef) (e : Entry) (past : List Entry) → IsDue def e past → KeepsFrees def past → (d : DevNo) → is_being_freed (e ∷ past) d ≡ true → (r : DriverNo) × (freeing (e ∷ past) ≡ Some (r, d))
+device_more : (def : LineDef) (e : Entry) (past : List Entry) → IsDue def e past → KeepsFrees def past → (d : DevNo)
+    → is_being_freed (e ∷ past) d ≡ true → (r : DriverNo) × (freeing (e ∷ past) ≡ Some (r, d))
 device_more def (entries.Unlink s x (unlinks.Unlinked last)) past due k d h = by_case (or_cases _ _ h)
   where
-    by_case : ((same_dev d x && true) ≡ true) ⊎ (is_being_freed past d ≡ true) → (r : DriverNo) × (◌≡◌ {A = Option (DriverNo × DevNo)} (Some (s, x)) (Some (r, d)))
+    by_case : ((same_dev d x && true) ≡ true) ⊎ (is_being_freed past d ≡ true)
+        → (r : DriverNo) × (◌≡◌ {A = Option (DriverNo × DevNo)} (Some (s, x)) (Some (r, d)))
     by_case (inl same) = (s, this_free s s d x refl (dev_from_same d x (and_parts _ true same).0))
     by_case (inr was) = let f = k.one_device d was in not_freeing past _ (unlink_due def s x (unlinks.Unlinked last) past due).no_mutex f.1
 device_more def (entries.Unlink s x unlinks.NotThere) past due k d h = by_case (or_cases _ _ h)
@@ -211,7 +246,8 @@ unlinked_now : (s l : Bool) → s ≡ true → (not (s && true) && l) ≡ false
 unlinked_now true l h = refl
 unlinked_now false l h = cc
 
-unlinked_more : (def : LineDef) (e : Entry) (past : List Entry) → IsDue def e past → KeepsFrees def past → (r : DriverNo) (d : DevNo) → freeing (e ∷ past) ≡ Some (r, d) → is_linked (e ∷ past) d ≡ false
+unlinked_more : (def : LineDef) (e : Entry) (past : List Entry) → IsDue def e past → KeepsFrees def past
+    → (r : DriverNo) (d : DevNo) → freeing (e ∷ past) ≡ Some (r, d) → is_linked (e ∷ past) d ≡ false
 unlinked_more def (entries.Unlink s x (unlinks.Unlinked last)) past due k r d h =
     unlinked_now (same_dev d x) (is_linked past d) (let same = new_free r s d x h in subst (λ (y : DevNo). same_dev d y ≡ true) same (same_self d))
   where
@@ -231,25 +267,33 @@ pub nothing_called : (def : LineDef) (past : List Entry) → KeepsRuns def past 
 nothing_called def past runs idle d = false_from_ne_true (is_called past d) (λ h. both_ways (has_flow def past) (runs.working d (runs.called d h)).1 idle)
 
 -- what is called is linked
-first_of : (def : LineDef) (past : List Entry) (p : DevNo → Bool) (ds : List DevNo) (d : DevNo) → first_left def past (filter p ds) ≡ Some d → (p d ≡ true) × (has_begun def past d ≡ false)
+first_of : (def : LineDef) (past : List Entry) (p : DevNo → Bool) (ds : List DevNo) (d : DevNo)
+    → first_left def past (filter p ds) ≡ Some d → (p d ≡ true) × (has_begun def past d ≡ false)
 first_of def past p [] d h = cc
 first_of def past p (x ∷ xs) d h = by_test (p x) refl (λ is. first_of def past p xs d is)
   where
-    here : (b : Bool) → has_begun def past x ≡ b → p x ≡ true → cond b (first_left def past (filter p xs)) (Some x) ≡ Some d → (first_left def past (filter p xs) ≡ Some d → (p d ≡ true) × (has_begun def past d ≡ false)) → (p d ≡ true) × (has_begun def past d ≡ false)
+    here : (b : Bool) → has_begun def past x ≡ b → p x ≡ true
+        → cond b (first_left def past (filter p xs)) (Some x) ≡ Some d
+        → (first_left def past (filter p xs) ≡ Some d → (p d ≡ true) × (has_begun def past d ≡ false))
+        → (p d ≡ true) × (has_begun def past d ≡ false)
     here true begun passes is deeper = deeper is
     here false begun passes is deeper =
         let same = the_same x d is in
         (subst (λ (y : DevNo). p y ≡ true) same passes, subst (λ (y : DevNo). has_begun def past y ≡ false) same begun)
 
-    by_test : (b : Bool) → p x ≡ b → (first_left def past (filter p xs) ≡ Some d → (p d ≡ true) × (has_begun def past d ≡ false)) → (p d ≡ true) × (has_begun def past d ≡ false)
-    by_test true is deeper = here (has_begun def past x) refl is (ap (λ (b : Bool). first_left def past (cond b (x ∷ filter p xs) (filter p xs))) (sym is) ∙ h) deeper
+    by_test : (b : Bool) → p x ≡ b → (first_left def past (filter p xs) ≡ Some d
+        → (p d ≡ true) × (has_begun def past d ≡ false)) → (p d ≡ true) × (has_begun def past d ≡ false)
+    by_test true is deeper = here (has_begun def past x) refl is
+        (ap (λ (b : Bool). first_left def past (cond b (x ∷ filter p xs) (filter p xs))) (sym is) ∙ h) deeper
     by_test false is deeper = deeper (ap (λ (b : Bool). first_left def past (cond b (x ∷ filter p xs) (filter p xs))) (sym is) ∙ h)
 
-pub begun_is_linked : (def : LineDef) (past : List Entry) (d : DevNo) → first_left def past (linked past) ≡ Some d → (is_linked past d ≡ true) × (has_begun def past d ≡ false)
+pub begun_is_linked : (def : LineDef) (past : List Entry) (d : DevNo) → first_left def past (linked past) ≡ Some d
+    → (is_linked past d ≡ true) × (has_begun def past d ≡ false)
 begun_is_linked def past d h = first_of def past (is_linked past) (requested past) d h
 
 -- a handler that is called is none of a device that is being freed
-not_called : (def : LineDef) (c : CpuNo) (x : DevNo) (past : List Entry) → IsDue def (entries.Begin c x) past → KeepsFrees def past → (r : DriverNo) (d : DevNo) → freeing past ≡ Some (r, d) → is_called past d ≡ false
+not_called : (def : LineDef) (c : CpuNo) (x : DevNo) (past : List Entry) → IsDue def (entries.Begin c x) past
+    → KeepsFrees def past → (r : DriverNo) (d : DevNo) → freeing past ≡ Some (r, d) → is_called past d ≡ false
     → is_called (entries.Begin c x ∷ past) d ≡ false
 not_called def c x past due k r d within was = or_from (same_dev d x) (is_called past d) (false_from_ne_true (same_dev d x) differs) was
   where
@@ -258,11 +302,15 @@ not_called def c x past due k r d within was = or_from (same_dev d x) (is_called
         let there = (begun_is_linked def past x (begin_due def c x past due).first).0 in
         both_ways (is_linked past d) (subst (λ (y : DevNo). is_linked past y ≡ true) (sym (dev_from_same d x same)) there) (k.unlinked r d within)
 
-clear_more : (def : LineDef) (e : Entry) (past : List Entry) → IsDue def e past → KeepsRuns def past → KeepsFrees def past → (r : DriverNo) (d : DevNo) → due_call def r (e ∷ past) ≡ Some (calls.Free d, 2) → is_called (e ∷ past) d ≡ false
+clear_more : (def : LineDef) (e : Entry) (past : List Entry) → IsDue def e past → KeepsRuns def past
+    → KeepsFrees def past → (r : DriverNo) (d : DevNo) → due_call def r (e ∷ past) ≡ Some (calls.Free d, 2)
+    → is_called (e ∷ past) d ≡ false
 clear_more def (entries.Begin c x) past due runs k r d h = not_called def c x past due k r d (k.within r d 1 h) (k.past_clear r d h)
 clear_more def (entries.Return c x answer served) past due runs k r d h = and_right (not (same_dev d x)) (is_called past d) (k.past_clear r d h)
 clear_more def (entries.HardClear s) past due runs k r d h = nothing_called def past runs (hard_clear_due def s past due).no_flow d
-clear_more def (entries.Unlink s x (unlinks.Unlinked last)) past due runs k r d h = by_step (free_before def r s (entries.Unlink s x (unlinks.Unlinked last)) past (calls.Free x) 0 d 1 refl (unlink_due def s x (unlinks.Unlinked last) past due).call h)
+clear_more def (entries.Unlink s x (unlinks.Unlinked last)) past due runs k r d h
+    = by_step (free_before def r s (entries.Unlink s x (unlinks.Unlinked last)) past (calls.Free x) 0 d 1 refl
+    (unlink_due def s x (unlinks.Unlinked last) past due).call h)
   where
     by_step : FreeStep def r s (entries.Unlink s x (unlinks.Unlinked last)) past (calls.Free x) 0 d 1 → is_called past d ≡ false
     by_step (inl h) = k.past_clear r d h.1
@@ -271,14 +319,18 @@ clear_more def (entries.Unlink s x unlinks.NotThere) past due runs k r d h = k.p
 clear_more def (entries.Freed s x) past due runs k r d h = within_freed def s x past due k r d 1 h
 clear_more def e past due runs k r d h = k.past_clear r d (still_within def e past due refl r d 1 h)
 
-cleared_more : (def : LineDef) (e : Entry) (past : List Entry) → IsDue def e past → KeepsRuns def past → KeepsFrees def past → (d : DevNo) → is_cleared (e ∷ past) d ≡ true → is_called (e ∷ past) d ≡ false
+cleared_more : (def : LineDef) (e : Entry) (past : List Entry) → IsDue def e past → KeepsRuns def past
+    → KeepsFrees def past → (d : DevNo) → is_cleared (e ∷ past) d ≡ true → is_called (e ∷ past) d ≡ false
 cleared_more def (entries.HardClear s) past due runs k d h = nothing_called def past runs (hard_clear_due def s past due).no_flow d
 cleared_more def (entries.Begin c x) past due runs k d h =
     let was = cleared_before d (entries.Begin c x) past refl h in
     let o = clearer past d was in
-    let within : freeing past ≡ Some (o.driver, d) = k.one_driver o.driver o.dev o.stands_there ∙ this_free o.driver o.driver d o.dev refl (dev_from_same d o.dev o.passes) in
+    let within : freeing past ≡ Some (o.driver, d) = k.one_driver o.driver o.dev o.stands_there
+    ∙ this_free o.driver o.driver d o.dev refl (dev_from_same d o.dev o.passes) in
     not_called def c x past due k o.driver d within (k.cleared d was)
-cleared_more def (entries.Return c x answer served) past due runs k d h = and_right (not (same_dev d x)) (is_called past d) (k.cleared d (cleared_before d (entries.Return c x answer served) past refl h))
+cleared_more def (entries.Return c x answer served) past due runs k d h
+    = and_right (not (same_dev d x)) (is_called past d)
+    (k.cleared d (cleared_before d (entries.Return c x answer served) past refl h))
 cleared_more def e past due runs k d h = k.cleared d (cleared_before d e past refl h)
 
 pub frees_more : (def : LineDef) (e : Entry) (past : List Entry) → IsDue def e past → KeepsRuns def past → KeepsFrees def past → KeepsFrees def (e ∷ past)

@@ -25,7 +25,8 @@ pub record IsIdle (def : LineDef) (past : List Entry) : Type 0 where
   pub no_flow : has_flow def past ≡ false
   pub no_thread : (d : DevNo) → (is_woken past d ≡ false) × (is_running past d ≡ false)
 
-flow_moves : (def : LineDef) (past : List Entry) (c : CpuNo) → is_cpu c (flow def past) ≡ true → next_of_cpu def c past ≡ Some (next_in_flow def c past (at_work past))
+flow_moves : (def : LineDef) (past : List Entry) (c : CpuNo) → is_cpu c (flow def past) ≡ true
+    → next_of_cpu def c past ≡ Some (next_in_flow def c past (at_work past))
 flow_moves def past c is = ap (λ (b : Bool). cond b (Some (next_in_flow def c past (at_work past))) (next_take def c past)) is
 
 no_flow_still : (def : LineDef) (past : List Entry) → CpusRest def past → has_flow def past ≡ false
@@ -54,7 +55,8 @@ idle def past threads cpus = record { no_flow = no_flow_still def past cpus; no_
     at_rest d =
         let n : cond (same_line def.line def.line) (next_of_thread def d past) None ≡ None = threads def.line d in
         let m : next_of_thread def d past ≡ None = rw (same_self_line def.line) at n in
-        idle_row (is_running past d) (is_woken past d) (has_returned past d) (is_oneshot past) (has_finished past d) (has_flow def past) _ _ _ _ (no_flow_still def past cpus) m
+        idle_row (is_running past d) (is_woken past d) (has_returned past d) (is_oneshot past) (has_finished past d)
+        (has_flow def past) _ _ _ _ (no_flow_still def past cpus) m
 
 pub none_of : {A : Type 0} (p : A → Bool) (xs : List A) → ((x : A) → p x ≡ false) → list_any p xs ≡ false
 none_of p [] h = refl

@@ -20,7 +20,9 @@ use Rattle.irq_base.specs.declared.entries.AffinityAnswer.{AffinityAnswer}
 use Rattle.irq_model.specs.Rounds.{has_flow}
 use Rattle.irq_model.specs.Threads.{is_woken, is_running, active_count}
 use Rattle.irq_model.specs.Due.{due_call, holds_mutex}
-use Rattle.irq_model.specs.Next.{enable_answer, link_answer, opened_by_request, request_with, unlink_answer, affinity_answer, hard_clear_of, synced_of, freed_of, next_of_sync, next_of_disable, next_of_free, next_of_request, next_of_call}
+use Rattle.irq_model.specs.Next.{enable_answer, link_answer, opened_by_request, request_with, unlink_answer}
+use Rattle.irq_model.specs.Next.{affinity_answer, hard_clear_of, synced_of, freed_of, next_of_sync, next_of_disable}
+use Rattle.irq_model.specs.Next.{next_of_free, next_of_request, next_of_call}
 use Rattle.irq_model.specs.Legal.{IsDue}
 use Rattle.irq_laws.proofs.Chosen.{chosen, from_then, from_else, the_same}
 
@@ -29,7 +31,8 @@ abbrev pub opened_with : LineDef → Flags → List Entry → LinkAnswer → Ope
 opened_with def flags past links.Linked = opened_by_request def flags past
 opened_with def flags past (links.Refused error) = opens.No
 
-request_shape : (def : LineDef) (r : DriverNo) (d : DevNo) (flags : Flags) (past : List Entry) (a : LinkAnswer) → request_with def r d flags past a ≡ entries.Request r d flags a (opened_with def flags past a)
+request_shape : (def : LineDef) (r : DriverNo) (d : DevNo) (flags : Flags) (past : List Entry) (a : LinkAnswer)
+    → request_with def r d flags past a ≡ entries.Request r d flags a (opened_with def flags past a)
 request_shape def r d flags past links.Linked = refl
 request_shape def r d flags past (links.Refused error) = refl
 
@@ -40,10 +43,12 @@ pub data Row (def : LineDef) (r : DriverNo) (due : Option (Call × ℕ)) (past :
       → entries.Request r d flags (link_answer def d flags past) (opened_with def flags past (link_answer def d flags past)) ≡ e → Row def r due past e
   unlink : (d : DevNo) → due ≡ Some (calls.Free d, 0) → holds_mutex past ≡ false → entries.Unlink r d (unlink_answer d past) ≡ e → Row def r due past e
   free_clear : (d : DevNo) → due ≡ Some (calls.Free d, 1) → has_flow def past ≡ false → entries.HardClear r ≡ e → Row def r due past e
-  freed : (d : DevNo) (n : ℕ) → due ≡ Some (calls.Free d, n) → (n == 0) ≡ false → (n == 1) ≡ false → (is_woken past d || is_running past d) ≡ false → entries.Freed r d ≡ e → Row def r due past e
+  freed : (d : DevNo) (n : ℕ) → due ≡ Some (calls.Free d, n) → (n == 0) ≡ false → (n == 1) ≡ false
+      → (is_woken past d || is_running past d) ≡ false → entries.Freed r d ≡ e → Row def r due past e
   disable : due ≡ Some (calls.Disable, 0) → entries.Disable r ≡ e → Row def r due past e
   disable_clear : due ≡ Some (calls.Disable, 1) → has_flow def past ≡ false → entries.HardClear r ≡ e → Row def r due past e
-  disable_synced : (n : ℕ) → due ≡ Some (calls.Disable, n) → (n == 0) ≡ false → (n == 1) ≡ false → active_count def past ≡ 0 → entries.Synced r ≡ e → Row def r due past e
+  disable_synced : (n : ℕ) → due ≡ Some (calls.Disable, n) → (n == 0) ≡ false → (n == 1) ≡ false
+      → active_count def past ≡ 0 → entries.Synced r ≡ e → Row def r due past e
   nosync : (n : ℕ) → due ≡ Some (calls.DisableNosync, n) → entries.Disable r ≡ e → Row def r due past e
   enable : (n : ℕ) → due ≡ Some (calls.Enable, n) → entries.Enable r (enable_answer def past) ≡ e → Row def r due past e
   sync_clear : due ≡ Some (calls.Sync, 0) → has_flow def past ≡ false → entries.HardClear r ≡ e → Row def r due past e
@@ -57,13 +62,15 @@ at_zero c n due is zero = is ∙ ap (λ (m : ℕ). Some (c, m)) (eqb-true n 0 ze
 at_one : (c : Call) (n : ℕ) (due : Option (Call × ℕ)) → due ≡ Some (c, n) → (n == 1) ≡ true → due ≡ Some (c, 1)
 at_one c n due is one = is ∙ ap (λ (m : ℕ). Some (c, m)) (eqb-true n 1 one)
 
-clears : (def : LineDef) (r : DriverNo) (past : List Entry) (e : Entry) → hard_clear_of def r past ≡ Some e → (has_flow def past ≡ false) × (entries.HardClear r ≡ e)
+clears : (def : LineDef) (r : DriverNo) (past : List Entry) (e : Entry) → hard_clear_of def r past ≡ Some e
+    → (has_flow def past ≡ false) × (entries.HardClear r ≡ e)
 clears def r past e h = from_else (has_flow def past) (entries.HardClear r) e h
 
 syncs : (def : LineDef) (r : DriverNo) (past : List Entry) (e : Entry) → synced_of def r past ≡ Some e → (active_count def past ≡ 0) × (entries.Synced r ≡ e)
 syncs def r past e h = let n = from_then (active_count def past == 0) (entries.Synced r) e h in (eqb-true (active_count def past) 0 n.0, n.1)
 
-row_of_free : (def : LineDef) (r : DriverNo) (d : DevNo) (n : ℕ) (due : Option (Call × ℕ)) (past : List Entry) (e : Entry) → due ≡ Some (calls.Free d, n) → next_of_free def r d n past ≡ Some e → Row def r due past e
+row_of_free : (def : LineDef) (r : DriverNo) (d : DevNo) (n : ℕ) (due : Option (Call × ℕ)) (past : List Entry)
+    (e : Entry) → due ≡ Some (calls.Free d, n) → next_of_free def r d n past ≡ Some e → Row def r due past e
 row_of_free def r d n due past e is h = first (chosen (n == 0) _ _ e h)
   where
     rest : (n == 0) ≡ false → ((n == 1) ≡ true) × (hard_clear_of def r past ≡ Some e) ⊎ ((n == 1) ≡ false) × (freed_of r d past ≡ Some e) → Row def r due past e
@@ -75,10 +82,12 @@ row_of_free def r d n due past e is h = first (chosen (n == 0) _ _ e h)
     first (inl h) = let u = from_else (holds_mutex past) _ e h.1 in unlink d (at_zero (calls.Free d) n due is h.0) u.0 u.1
     first (inr h) = rest h.0 (chosen (n == 1) _ _ e h.1)
 
-row_of_disable : (def : LineDef) (r : DriverNo) (n : ℕ) (due : Option (Call × ℕ)) (past : List Entry) (e : Entry) → due ≡ Some (calls.Disable, n) → next_of_disable def r n past ≡ Some e → Row def r due past e
+row_of_disable : (def : LineDef) (r : DriverNo) (n : ℕ) (due : Option (Call × ℕ)) (past : List Entry) (e : Entry)
+    → due ≡ Some (calls.Disable, n) → next_of_disable def r n past ≡ Some e → Row def r due past e
 row_of_disable def r n due past e is h = first (chosen (n == 0) _ _ e h)
   where
-    rest : (n == 0) ≡ false → ((n == 1) ≡ true) × (hard_clear_of def r past ≡ Some e) ⊎ ((n == 1) ≡ false) × (synced_of def r past ≡ Some e) → Row def r due past e
+    rest : (n == 0) ≡ false → ((n == 1) ≡ true) × (hard_clear_of def r past ≡ Some e) ⊎ ((n == 1) ≡ false)
+        × (synced_of def r past ≡ Some e) → Row def r due past e
     rest some (inl h) = let c = clears def r past e h.1 in disable_clear (at_one calls.Disable n due is h.0) c.0 c.1
     rest some (inr h) = let s = syncs def r past e h.1 in disable_synced n is some h.0 s.0 s.1
 
@@ -87,20 +96,23 @@ row_of_disable def r n due past e is h = first (chosen (n == 0) _ _ e h)
     first (inl h) = disable (at_zero calls.Disable n due is h.0) (the_same _ _ h.1)
     first (inr h) = rest h.0 (chosen (n == 1) _ _ e h.1)
 
-row_of_sync : (def : LineDef) (r : DriverNo) (n : ℕ) (due : Option (Call × ℕ)) (past : List Entry) (e : Entry) → due ≡ Some (calls.Sync, n) → next_of_sync def r n past ≡ Some e → Row def r due past e
+row_of_sync : (def : LineDef) (r : DriverNo) (n : ℕ) (due : Option (Call × ℕ)) (past : List Entry) (e : Entry)
+    → due ≡ Some (calls.Sync, n) → next_of_sync def r n past ≡ Some e → Row def r due past e
 row_of_sync def r n due past e is h = first (chosen (n == 0) _ _ e h)
   where
     first : ((n == 0) ≡ true) × (hard_clear_of def r past ≡ Some e) ⊎ ((n == 0) ≡ false) × (synced_of def r past ≡ Some e) → Row def r due past e
     first (inl h) = let c = clears def r past e h.1 in sync_clear (at_zero calls.Sync n due is h.0) c.0 c.1
     first (inr h) = let s = syncs def r past e h.1 in synced n is h.0 s.0 s.1
 
-row_of_request : (def : LineDef) (r : DriverNo) (d : DevNo) (flags : Flags) (n : ℕ) (due : Option (Call × ℕ)) (past : List Entry) (e : Entry) → due ≡ Some (calls.Request d flags, n)
+row_of_request : (def : LineDef) (r : DriverNo) (d : DevNo) (flags : Flags) (n : ℕ) (due : Option (Call × ℕ))
+    (past : List Entry) (e : Entry) → due ≡ Some (calls.Request d flags, n)
     → next_of_request def r d flags past ≡ Some e → Row def r due past e
 row_of_request def r d flags n due past e is h =
     let f = from_else (holds_mutex past) _ e h in
     request d flags n is f.0 (sym (request_shape def r d flags past (link_answer def d flags past)) ∙ f.1)
 
-row_of : (def : LineDef) (r : DriverNo) (due o : Option (Call × ℕ)) (past : List Entry) (e : Entry) → due ≡ o → next_of_call def r past o ≡ Some e → Row def r due past e
+row_of : (def : LineDef) (r : DriverNo) (due o : Option (Call × ℕ)) (past : List Entry) (e : Entry) → due ≡ o
+    → next_of_call def r past o ≡ Some e → Row def r due past e
 row_of def r due None past e is h = cc
 row_of def r due (Some (calls.Ask d, n)) past e is h = ask d n is (the_same _ _ h)
 row_of def r due (Some (calls.Request d flags, n)) past e is h = row_of_request def r d flags n due past e is h
@@ -113,7 +125,8 @@ row_of def r due (Some (calls.Affinity mask, n)) past e is h = affinity mask n i
 row_of def r due (Some (calls.Moment at, n)) past e is h = moment at n is (the_same _ _ h)
 
 -- the row of a driver's entry
-pub driver_row : (def : LineDef) (r : DriverNo) (past : List Entry) (e : Entry) → next_of_call def r past (due_call def r past) ≡ Some e → Row def r (due_call def r past) past e
+pub driver_row : (def : LineDef) (r : DriverNo) (past : List Entry) (e : Entry)
+    → next_of_call def r past (due_call def r past) ≡ Some e → Row def r (due_call def r past) past e
 driver_row def r past e h = row_of def r (due_call def r past) (due_call def r past) past e refl h
 
 -- ---- the kinds of entries and rows, as numbers
@@ -194,13 +207,15 @@ pub record IsDisableDue (def : LineDef) (r : DriverNo) (past : List Entry) : Typ
 
 -- a hard clear is the second entry of a free or of a disable, or the first of a sync
 pub record IsHardClearDue (def : LineDef) (r : DriverNo) (past : List Entry) : Type 0 where
-  pub call : ((d : DevNo) × (due_call def r past ≡ Some (calls.Free d, 1))) ⊎ ((due_call def r past ≡ Some (calls.Disable, 1)) ⊎ (due_call def r past ≡ Some (calls.Sync, 0)))
+  pub call : ((d : DevNo) × (due_call def r past ≡ Some (calls.Free d, 1)))
+      ⊎ ((due_call def r past ≡ Some (calls.Disable, 1)) ⊎ (due_call def r past ≡ Some (calls.Sync, 0)))
   pub no_flow : has_flow def past ≡ false
 
 -- a sync's end is the third entry of a disable, or the second of a sync
 pub record IsSyncedDue (def : LineDef) (r : DriverNo) (past : List Entry) : Type 0 where
   pub count : ℕ
-  pub call : ((due_call def r past ≡ Some (calls.Disable, count)) × ((count == 0) ≡ false) × ((count == 1) ≡ false)) ⊎ ((due_call def r past ≡ Some (calls.Sync, count)) × ((count == 0) ≡ false))
+  pub call : ((due_call def r past ≡ Some (calls.Disable, count)) × ((count == 0) ≡ false) × ((count == 1) ≡ false))
+      ⊎ ((due_call def r past ≡ Some (calls.Sync, count)) × ((count == 0) ≡ false))
   pub none_active : active_count def past ≡ 0
 
 pub record IsEnableDue (def : LineDef) (r : DriverNo) (answer : EnableAnswer) (past : List Entry) : Type 0 where
@@ -244,16 +259,19 @@ request_row def r d flags answer opened past x = let n = kinds_agree x in cc
 
 pub request_due : (def : LineDef) (r : DriverNo) (d : DevNo) (flags : Flags) (answer : LinkAnswer) (opened : Opened) (past : List Entry)
     → IsDue def (entries.Request r d flags answer opened) past → IsRequestDue def r d flags answer opened past
-request_due def r d flags answer opened past due = request_row def r d flags answer opened past (driver_row def r past (entries.Request r d flags answer opened) due)
+request_due def r d flags answer opened past due = request_row def r d flags answer opened past
+    (driver_row def r past (entries.Request r d flags answer opened) due)
 
-unlink_row : (def : LineDef) (r : DriverNo) (d : DevNo) (answer : UnlinkAnswer) (past : List Entry) → Row def r (due_call def r past) past (entries.Unlink r d answer) → IsUnlinkDue def r d answer past
+unlink_row : (def : LineDef) (r : DriverNo) (d : DevNo) (answer : UnlinkAnswer) (past : List Entry)
+    → Row def r (due_call def r past) past (entries.Unlink r d answer) → IsUnlinkDue def r d answer past
 unlink_row def r d answer past (unlink x is free same) =
     let s : x ≡ d = cc in
     let a : unlink_answer x past ≡ answer = cc in
     record { call = is ∙ ap (λ (y : DevNo). Some (calls.Free y, 0)) s; no_mutex = free; answer_is = sym a ∙ ap (λ (y : DevNo). unlink_answer y past) s }
 unlink_row def r d answer past x = let n = kinds_agree x in cc
 
-pub unlink_due : (def : LineDef) (r : DriverNo) (d : DevNo) (answer : UnlinkAnswer) (past : List Entry) → IsDue def (entries.Unlink r d answer) past → IsUnlinkDue def r d answer past
+pub unlink_due : (def : LineDef) (r : DriverNo) (d : DevNo) (answer : UnlinkAnswer) (past : List Entry)
+    → IsDue def (entries.Unlink r d answer) past → IsUnlinkDue def r d answer past
 unlink_due def r d answer past due = unlink_row def r d answer past (driver_row def r past (entries.Unlink r d answer) due)
 
 freed_row : (def : LineDef) (r : DriverNo) (d : DevNo) (past : List Entry) → Row def r (due_call def r past) past (entries.Freed r d) → IsFreedDue def r d past
@@ -261,7 +279,15 @@ freed_row def r d past (freed x n is some more rest same) =
     let s : x ≡ d = cc in
     let at_rest : (is_woken past d || is_running past d) ≡ false = sym (ap (λ (y : DevNo). is_woken past y || is_running past y) s) ∙ rest in
     let parts = or_parts (is_woken past d) (is_running past d) at_rest in
-    record { count = n; call = is ∙ ap (λ (y : DevNo). Some (calls.Free y, n)) s; not_first = some; not_second = more; not_woken = parts.0; not_running = parts.1 }
+    record {
+      count = n;
+      call = is ∙ ap (λ (y : DevNo). Some (calls.Free y, n)) s;
+      not_first = some;
+      not_second
+          = more;
+      not_woken = parts.0;
+      not_running = parts.1;
+    }
 freed_row def r d past x = let n = kinds_agree x in cc
 
 pub freed_due : (def : LineDef) (r : DriverNo) (d : DevNo) (past : List Entry) → IsDue def (entries.Freed r d) past → IsFreedDue def r d past
@@ -292,24 +318,29 @@ synced_row def r past x = let n = kinds_agree x in cc
 pub synced_due : (def : LineDef) (r : DriverNo) (past : List Entry) → IsDue def (entries.Synced r) past → IsSyncedDue def r past
 synced_due def r past due = synced_row def r past (driver_row def r past (entries.Synced r) due)
 
-enable_row : (def : LineDef) (r : DriverNo) (answer : EnableAnswer) (past : List Entry) → Row def r (due_call def r past) past (entries.Enable r answer) → IsEnableDue def r answer past
+enable_row : (def : LineDef) (r : DriverNo) (answer : EnableAnswer) (past : List Entry)
+    → Row def r (due_call def r past) past (entries.Enable r answer) → IsEnableDue def r answer past
 enable_row def r answer past (enable n is same) = record { count = n; call = is; answer_is = (let a : answer ≡ enable_answer def past = cc in a) }
 enable_row def r answer past x = let n = kinds_agree x in cc
 
-pub enable_due : (def : LineDef) (r : DriverNo) (answer : EnableAnswer) (past : List Entry) → IsDue def (entries.Enable r answer) past → IsEnableDue def r answer past
+pub enable_due : (def : LineDef) (r : DriverNo) (answer : EnableAnswer) (past : List Entry)
+    → IsDue def (entries.Enable r answer) past → IsEnableDue def r answer past
 enable_due def r answer past due = enable_row def r answer past (driver_row def r past (entries.Enable r answer) due)
 
-affinity_row : (def : LineDef) (r : DriverNo) (mask : ℕ) (answer : AffinityAnswer) (past : List Entry) → Row def r (due_call def r past) past (entries.Affinity r mask answer) → IsAffinityDue def r mask answer past
+affinity_row : (def : LineDef) (r : DriverNo) (mask : ℕ) (answer : AffinityAnswer) (past : List Entry)
+    → Row def r (due_call def r past) past (entries.Affinity r mask answer) → IsAffinityDue def r mask answer past
 affinity_row def r mask answer past (affinity m n is same) =
     let s : m ≡ mask = cc in
     let a : affinity_answer def m ≡ answer = cc in
     record { count = n; call = is ∙ ap (λ (k : ℕ). Some (calls.Affinity k, n)) s; answer_is = sym a ∙ ap (λ (k : ℕ). affinity_answer def k) s }
 affinity_row def r mask answer past x = let n = kinds_agree x in cc
 
-pub affinity_due : (def : LineDef) (r : DriverNo) (mask : ℕ) (answer : AffinityAnswer) (past : List Entry) → IsDue def (entries.Affinity r mask answer) past → IsAffinityDue def r mask answer past
+pub affinity_due : (def : LineDef) (r : DriverNo) (mask : ℕ) (answer : AffinityAnswer) (past : List Entry)
+    → IsDue def (entries.Affinity r mask answer) past → IsAffinityDue def r mask answer past
 affinity_due def r mask answer past due = affinity_row def r mask answer past (driver_row def r past (entries.Affinity r mask answer) due)
 
-moment_row : (def : LineDef) (r : DriverNo) (at : ℕ) (past : List Entry) → Row def r (due_call def r past) past (entries.Moment r at) → IsMomentDue def r at past
+moment_row : (def : LineDef) (r : DriverNo) (at : ℕ) (past : List Entry)
+    → Row def r (due_call def r past) past (entries.Moment r at) → IsMomentDue def r at past
 moment_row def r at past (moment t n is same) = let s : t ≡ at = cc in record { count = n; call = is ∙ ap (λ (k : ℕ). Some (calls.Moment k, n)) s }
 moment_row def r at past x = let n = kinds_agree x in cc
 

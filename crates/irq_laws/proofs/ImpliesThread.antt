@@ -58,7 +58,9 @@ row r w t o f h begins returns finishes ends =
     cond (not r) (cond w (Some begins) None) (cond (not t) (Some returns) (cond (o && not f) (cond h None (Some finishes)) (Some ends)))
 
 row_cases : (r w t o f h : Bool) (begins returns finishes ends e : Entry) → row r w t o f h begins returns finishes ends ≡ Some e
-    → ((r ≡ false) × (w ≡ true) × (begins ≡ e)) ⊎ (((r ≡ true) × (t ≡ false) × (returns ≡ e)) ⊎ (((r ≡ true) × (t ≡ true) × (o ≡ true) × (f ≡ false) × (h ≡ false) × (finishes ≡ e)) ⊎ ((r ≡ true) × (t ≡ true) × ((o && not f) ≡ false) × (ends ≡ e))))
+    → ((r ≡ false) × (w ≡ true) × (begins ≡ e)) ⊎ (((r ≡ true) × (t ≡ false) × (returns ≡ e))
+    ⊎ (((r ≡ true) × (t ≡ true) × (o ≡ true) × (f ≡ false) × (h ≡ false) × (finishes ≡ e))
+    ⊎ ((r ≡ true) × (t ≡ true) × ((o && not f) ≡ false) × (ends ≡ e))))
 row_cases false true t o f h a b c d e is = inl (refl, refl, the_same _ _ is)
 row_cases false false t o f h a b c d e is = cc
 row_cases true w false o f h a b c d e is = inr (inl (refl, refl, the_same _ _ is))
@@ -72,10 +74,13 @@ abbrev pub ThreadCases : LineDef → DevNo → List Entry → Entry → Type 0
 ThreadCases def d past e =
     ((is_running past d ≡ false) × (is_woken past d ≡ true) × (entries.ThreadBegin d ≡ e))
     ⊎ (((is_running past d ≡ true) × (has_returned past d ≡ false) × (entries.ThreadReturn d (asks_of_thread def d past) ≡ e))
-    ⊎ (((is_running past d ≡ true) × (has_returned past d ≡ true) × (is_oneshot past ≡ true) × (has_finished past d ≡ false) × (has_flow def past ≡ false) × (entries.Finish d (is_woken past d) (finish_unmasks def d past) ≡ e))
+    ⊎ (((is_running past d ≡ true) × (has_returned past d ≡ true) × (is_oneshot past ≡ true)
+    × (has_finished past d ≡ false) × (has_flow def past ≡ false)
+    × (entries.Finish d (is_woken past d) (finish_unmasks def d past) ≡ e))
     ⊎ ((is_running past d ≡ true) × (has_returned past d ≡ true) × ((is_oneshot past && not (has_finished past d)) ≡ false) × (entries.Done d ≡ e))))
 
-thread_cases : (def : LineDef) (d : DevNo) (past : List Entry) (e : Entry) → cond (same_line def.line def.line) (next_of_thread def d past) None ≡ Some e → ThreadCases def d past e
+thread_cases : (def : LineDef) (d : DevNo) (past : List Entry) (e : Entry)
+    → cond (same_line def.line def.line) (next_of_thread def d past) None ≡ Some e → ThreadCases def d past e
 thread_cases def d past e due =
     let n : next_of_thread def d past ≡ Some e = rw (same_self_line def.line) at due in
     row_cases (is_running past d) (is_woken past d) (has_returned past d) (is_oneshot past) (has_finished past d) (has_flow def past) _ _ _ _ e n
@@ -89,7 +94,8 @@ thread_begin_due def d past due = by_case (thread_cases def d past (entries.Thre
     by_case (inr (inr (inl h))) = let n = h.5 in cc
     by_case (inr (inr (inr h))) = let n = h.3 in cc
 
-pub thread_return_due : (def : LineDef) (d : DevNo) (served : ℕ) (past : List Entry) → IsDue def (entries.ThreadReturn d served) past → IsThreadReturnDue def d served past
+pub thread_return_due : (def : LineDef) (d : DevNo) (served : ℕ) (past : List Entry)
+    → IsDue def (entries.ThreadReturn d served) past → IsThreadReturnDue def d served past
 thread_return_due def d served past due = by_case (thread_cases def d past (entries.ThreadReturn d served) due)
   where
     by_case : ThreadCases def d past (entries.ThreadReturn d served) → IsThreadReturnDue def d served past
@@ -98,7 +104,8 @@ thread_return_due def d served past due = by_case (thread_cases def d past (entr
     by_case (inr (inr (inl h))) = let n = h.5 in cc
     by_case (inr (inr (inr h))) = let n = h.3 in cc
 
-pub finish_due : (def : LineDef) (d : DevNo) (kept unmask : Bool) (past : List Entry) → IsDue def (entries.Finish d kept unmask) past → IsFinishDue def d kept unmask past
+pub finish_due : (def : LineDef) (d : DevNo) (kept unmask : Bool) (past : List Entry)
+    → IsDue def (entries.Finish d kept unmask) past → IsFinishDue def d kept unmask past
 finish_due def d kept unmask past due = by_case (thread_cases def d past (entries.Finish d kept unmask) due)
   where
     by_case : ThreadCases def d past (entries.Finish d kept unmask) → IsFinishDue def d kept unmask past

@@ -28,13 +28,24 @@ kept_more def e past valid due k =
 
 pub kept_none : (def : LineDef) → Kept def []
 kept_none def =
-    record { runs = no_runs def; frees = no_frees def; rest = no_rest def; wanted = none_wanted def; depth = no_depth def; edges = no_edges def; levels = no_levels def }
+    record {
+      runs = no_runs def;
+      frees = no_frees def;
+      rest = no_rest def;
+      wanted = none_wanted def;
+      depth
+          = no_depth def;
+      edges = no_edges def;
+      levels = no_levels def;
+    }
 
 pub kept : (def : LineDef) (past : List Entry) → IsValid def → IsLegalPast def past → Kept def past
 kept def [] valid legal = kept_none def
 kept def (e ∷ past) valid legal = kept_more def e past valid legal.0 (kept def past valid legal.1)
 
 -- a law of an entry and what stands before it
-pub each : (def : LineDef) → IsValid def → (P : Entry → List Entry → Type 0) → ((e : Entry) (past : List Entry) → IsDue def e past → Kept def past → P e past) → (past : List Entry) → IsLegalPast def past → EachEntry P past
+pub each : (def : LineDef) → IsValid def → (P : Entry → List Entry → Type 0)
+    → ((e : Entry) (past : List Entry) → IsDue def e past → Kept def past → P e past) → (past : List Entry)
+    → IsLegalPast def past → EachEntry P past
 each def valid P law [] legal = tt
 each def valid P law (e ∷ past) legal = (law e past legal.0 (kept def past valid legal.1), each def valid P law past legal.1)

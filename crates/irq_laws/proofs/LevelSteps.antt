@@ -41,10 +41,14 @@ unserved_quiet kinds.Null d e past h = refl
 unserved_quiet kinds.Stuck d e past h = refl
 
 -- the level stays if no device's unserved asks change
-high_by : (def : LineDef) (e : Entry) (past : List Entry) → ((d : DevNo) → unserved_asks def d (e ∷ past) ≡ unserved_asks def d past) → is_high def (e ∷ past) ≡ is_high def past
+high_by : (def : LineDef) (e : Entry) (past : List Entry)
+    → ((d : DevNo) → unserved_asks def d (e ∷ past) ≡ unserved_asks def d past)
+    → is_high def (e ∷ past) ≡ is_high def past
 high_by def e past h =
     ap (λ (b : Bool). is_level_line def && b)
-    (any_ext (λ (x : DeviceDef). nat_lt 0 (unserved_asks def x.dev (e ∷ past))) (λ (x : DeviceDef). nat_lt 0 (unserved_asks def x.dev past)) def.devices (λ x. ap (λ (n : ℕ). nat_lt 0 n) (h x.dev)))
+    (any_ext (λ (x : DeviceDef). nat_lt 0 (unserved_asks def x.dev (e ∷ past)))
+    (λ (x : DeviceDef). nat_lt 0 (unserved_asks def x.dev past)) def.devices
+    (λ x. ap (λ (n : ℕ). nat_lt 0 n) (h x.dev)))
 
 pub high_quiet : (def : LineDef) (e : Entry) (past : List Entry) → moves_level e ≡ false → is_high def (e ∷ past) ≡ is_high def past
 high_quiet def e past h = high_by def e past (λ d. unserved_quiet (kind_of def d) d e past h)
@@ -66,22 +70,28 @@ module _ (a p q : Entry → Bool) where
   first false n m h = omega arith
 
   -- within a run: the asks since its beginning, and the asks that it met
-  within_run : ((e : Entry) → p e ≡ true → (a e ≡ false) × (q e ≡ false)) → (past : List Entry) → stands p q past ≡ true → left past ≡ count_of a (since p past) + left (before p past)
+  within_run : ((e : Entry) → p e ≡ true → (a e ≡ false) × (q e ≡ false)) → (past : List Entry) → stands p q past ≡ true
+      → left past ≡ count_of a (since p past) + left (before p past)
   within_run alone [] h = cc
   within_run alone (e ∷ past) h = by_tests (p e) (q e) refl refl (within_run alone past)
     where
       by_tests : (b r : Bool) → p e ≡ b → q e ≡ r → (stands p q past ≡ true → left past ≡ count_of a (since p past) + left (before p past))
-          → count_of a (cond (q e) [] (e ∷ since q past)) + count_of a (since p (cond (q e) past (before q past))) ≡ count_of a (cond (p e) [] (e ∷ since p past)) + left (cond (p e) past (before p past))
+          → count_of a (cond (q e) [] (e ∷ since q past)) + count_of a (since p (cond (q e) past (before q past)))
+          ≡ count_of a (cond (p e) [] (e ∷ since p past)) + left (cond (p e) past (before p past))
       by_tests true r ip iq deeper =
           let n = alone e ip in
           rw (ip, n.1) (first (a e) _ _ n.0)
-      by_tests false true ip iq deeper = let n : true ≡ false = sym h ∙ (ap (λ (b : Bool). b || (not (q e) && stands p q past)) ip ∙ ap (λ (b : Bool). not b && stands p q past) iq) in cc
+      by_tests false true ip iq deeper = let n : true ≡ false = sym h
+          ∙ (ap (λ (b : Bool). b || (not (q e) && stands p q past)) ip ∙ ap (λ (b : Bool). not b && stands p q past) iq)
+          in cc
       by_tests false false ip iq deeper =
-          let s : stands p q past ≡ true = sym (ap (λ (b : Bool). b || (not (q e) && stands p q past)) ip ∙ ap (λ (b : Bool). not b && stands p q past) iq) ∙ h in
+          let s : stands p q past ≡ true = sym (ap (λ (b : Bool). b || (not (q e) && stands p q past)) ip
+          ∙ ap (λ (b : Bool). not b && stands p q past) iq) ∙ h in
           rw (ip, iq) (one_more (a e) _ _ _ _ (deeper s))
 
   -- its return leaves the asks since its beginning; if it met no ask, these are all there were
-  returns_none : ((e : Entry) → p e ≡ true → (a e ≡ false) × (q e ≡ false)) → (e : Entry) (past : List Entry) → stands p q past ≡ true → q e ≡ true → left (before p past) ≡ 0 → left (e ∷ past) ≡ left past
+  returns_none : ((e : Entry) → p e ≡ true → (a e ≡ false) × (q e ≡ false)) → (e : Entry) (past : List Entry)
+      → stands p q past ≡ true → q e ≡ true → left (before p past) ≡ 0 → left (e ∷ past) ≡ left past
   returns_none alone e past run is none =
       let w = within_run alone past run in
       let n : left (e ∷ past) ≡ count_of a (since p past) = rw is (omega arith) in
@@ -102,7 +112,9 @@ unreturned : (p q r : Entry → Bool) (past : List Entry) → stands p q past �
 unreturned p q r [] run none = run
 unreturned p q r (e ∷ past) run none = by_test (p e) refl (stands_cases (p e) (q e) (stands p q past) run) (unreturned p q r past)
   where
-    by_test : (b : Bool) → p e ≡ b → ((p e ≡ true) ⊎ ((q e ≡ false) × (stands p q past ≡ true))) → (stands p q past ≡ true → list_any r (since p past) ≡ false → stands p r past ≡ true) → (p e || (not (r e) && stands p r past)) ≡ true
+    by_test : (b : Bool) → p e ≡ b → ((p e ≡ true) ⊎ ((q e ≡ false) × (stands p q past ≡ true)))
+        → (stands p q past ≡ true → list_any r (since p past) ≡ false → stands p r past ≡ true)
+        → (p e || (not (r e) && stands p r past)) ≡ true
     by_test true is c deeper = or_left (p e) _ is
     by_test false is (inl now) deeper = or_left (p e) _ now
     by_test false is (inr was) deeper =
@@ -114,7 +126,9 @@ zero_by : (n : ℕ) → nat_lt 0 n ≡ false → n ≡ 0
 zero_by n h = let k = ltb-false 0 n h in omega (arith, k)
 
 -- what a return says that it served
-return_count : (def : LineDef) (c : CpuNo) (d : DevNo) (answer : Answer) (count : ℕ) (past : List Entry) → IsDue def (entries.Return c d answer count) past → count ≡ served_by_handler (kind_of def d) (asks_of_handler def d past)
+return_count : (def : LineDef) (c : CpuNo) (d : DevNo) (answer : Answer) (count : ℕ) (past : List Entry)
+    → IsDue def (entries.Return c d answer count) past
+    → count ≡ served_by_handler (kind_of def d) (asks_of_handler def d past)
 return_count def c d answer count past due =
     let f = in_flow def c past (entries.Return c d answer count) (λ way answer is. cc) due in
     let w = (return_due def c d answer count past due).is_at_work in
@@ -123,7 +137,9 @@ return_count def c d answer count past due =
     same_count : (x : Answer) (n : ℕ) → entries.Return c d x n ≡ entries.Return c d answer count → count ≡ n
     same_count x n h = let s : count ≡ n = cc in s
 
-idle_return : (def : LineDef) (c : CpuNo) (d : DevNo) (answer : Answer) (count : ℕ) (past : List Entry) (x : DevNo) (kind : Kind) → kind_of def x ≡ kind → is_called past d ≡ true → count ≡ served_by_handler (kind_of def d) (asks_of_handler def d past) → count ≡ 0
+idle_return : (def : LineDef) (c : CpuNo) (d : DevNo) (answer : Answer) (count : ℕ) (past : List Entry) (x : DevNo)
+    (kind : Kind) → kind_of def x ≡ kind → is_called past d ≡ true
+    → count ≡ served_by_handler (kind_of def d) (asks_of_handler def d past) → count ≡ 0
     → unserved_by kind x (entries.Return c d answer count ∷ past) ≡ unserved_by kind x past
 idle_return def c d answer count past x kinds.Check is run met none = refl
 idle_return def c d answer count past x kinds.Null is run met none = refl
@@ -137,17 +153,23 @@ idle_return def c d answer count past x kinds.Direct is run met none = by_test (
         let direct : kind_of def d ≡ kinds.Direct = subst (λ (y : DevNo). kind_of def y ≡ kinds.Direct) equal is in
         let zero : unserved_by kinds.Direct d (before (is_begin d) past) ≡ 0 =
         ap (λ (k : Kind). served_by_handler k (unserved_by k d (before (is_begin d) past))) (sym direct) ∙ (sym met ∙ none) in
-        subst (λ (y : DevNo). same_dev y d ≡ true → unserved_by kinds.Direct y (entries.Return c d answer count ∷ past) ≡ unserved_by kinds.Direct y past) (sym equal)
+        subst (λ (y : DevNo). same_dev y d ≡ true → unserved_by kinds.Direct y (entries.Return c d answer count ∷ past)
+        ≡ unserved_by kinds.Direct y past) (sym equal)
         (λ self. returns_none (is_ask d) (is_begin d) (is_return d) (begin_alone d) (entries.Return c d answer count) past run self zero) same
 
-pub high_return : (def : LineDef) (c : CpuNo) (d : DevNo) (answer : Answer) (count : ℕ) (past : List Entry) → IsDue def (entries.Return c d answer count) past → KeepsRuns def past → nat_lt 0 count ≡ false
+pub high_return : (def : LineDef) (c : CpuNo) (d : DevNo) (answer : Answer) (count : ℕ) (past : List Entry)
+    → IsDue def (entries.Return c d answer count) past → KeepsRuns def past → nat_lt 0 count ≡ false
     → is_high def (entries.Return c d answer count ∷ past) ≡ is_high def past
 high_return def c d answer count past due k none =
     let run = (k.working d (return_due def c d answer count past due).is_at_work).0 in
-    high_by def (entries.Return c d answer count) past (λ x. idle_return def c d answer count past x (kind_of def x) refl run (return_count def c d answer count past due) (zero_by count none))
+    high_by def (entries.Return c d answer count) past
+    (λ x. idle_return def c d answer count past x (kind_of def x) refl run
+    (return_count def c d answer count past due) (zero_by count none))
 
 -- the run of the thread, whose beginning is the last serving one
-idle_thread : (def : LineDef) (d : DevNo) (count : ℕ) (past : List Entry) (x : DevNo) (kind : Kind) → kind_of def x ≡ kind → stands (is_thread_begin d) (is_thread_return d) past ≡ true → count ≡ asks_of_thread def d past → count ≡ 0
+idle_thread : (def : LineDef) (d : DevNo) (count : ℕ) (past : List Entry) (x : DevNo) (kind : Kind)
+    → kind_of def x ≡ kind → stands (is_thread_begin d) (is_thread_return d) past ≡ true
+    → count ≡ asks_of_thread def d past → count ≡ 0
     → unserved_by kind x (entries.ThreadReturn d count ∷ past) ≡ unserved_by kind x past
 idle_thread def d count past x kinds.Direct is run met none = refl
 idle_thread def d count past x kinds.Stuck is run met none = refl
@@ -158,8 +180,10 @@ idle_thread def d count past x kinds.Check is run met none = by_test (same_dev x
     by_test true same =
         let equal = dev_from_same x d same in
         let kind : kind_of def d ≡ kinds.Check = subst (λ (y : DevNo). kind_of def y ≡ kinds.Check) equal is in
-        let zero : unserved_by kinds.Check d (before (is_thread_begin d) past) ≡ 0 = ap (λ (k : Kind). unserved_by k d (before (is_thread_begin d) past)) (sym kind) ∙ (sym met ∙ none) in
-        subst (λ (y : DevNo). same_dev y d ≡ true → unserved_by kinds.Check y (entries.ThreadReturn d count ∷ past) ≡ unserved_by kinds.Check y past) (sym equal)
+        let zero : unserved_by kinds.Check d (before (is_thread_begin d) past)
+        ≡ 0 = ap (λ (k : Kind). unserved_by k d (before (is_thread_begin d) past)) (sym kind) ∙ (sym met ∙ none) in
+        subst (λ (y : DevNo). same_dev y d ≡ true → unserved_by kinds.Check y (entries.ThreadReturn d count ∷ past)
+        ≡ unserved_by kinds.Check y past) (sym equal)
         (λ self. returns_none (is_ask d) (is_thread_begin d) (is_thread_return d) (thread_begin_alone d) (entries.ThreadReturn d count) past run self zero) same
 idle_thread def d count past x kinds.Null is run met none = by_test (same_dev x d) refl
   where
@@ -168,12 +192,17 @@ idle_thread def d count past x kinds.Null is run met none = by_test (same_dev x 
     by_test true same =
         let equal = dev_from_same x d same in
         let kind : kind_of def d ≡ kinds.Null = subst (λ (y : DevNo). kind_of def y ≡ kinds.Null) equal is in
-        let zero : unserved_by kinds.Null d (before (is_thread_begin d) past) ≡ 0 = ap (λ (k : Kind). unserved_by k d (before (is_thread_begin d) past)) (sym kind) ∙ (sym met ∙ none) in
+        let zero : unserved_by kinds.Null d (before (is_thread_begin d) past)
+        ≡ 0 = ap (λ (k : Kind). unserved_by k d (before (is_thread_begin d) past)) (sym kind) ∙ (sym met ∙ none) in
         subst (λ (y : DevNo). same_dev y d ≡ true → unserved_by kinds.Null y (entries.ThreadReturn d count ∷ past) ≡ unserved_by kinds.Null y past) (sym equal)
         (λ self. returns_none (is_ask d) (is_thread_begin d) (is_thread_return d) (thread_begin_alone d) (entries.ThreadReturn d count) past run self zero) same
 
-pub high_thread_return : (def : LineDef) (d : DevNo) (count : ℕ) (past : List Entry) → IsDue def (entries.ThreadReturn d count) past → nat_lt 0 count ≡ false → is_high def (entries.ThreadReturn d count ∷ past) ≡ is_high def past
+pub high_thread_return : (def : LineDef) (d : DevNo) (count : ℕ) (past : List Entry)
+    → IsDue def (entries.ThreadReturn d count) past → nat_lt 0 count ≡ false
+    → is_high def (entries.ThreadReturn d count ∷ past) ≡ is_high def past
 high_thread_return def d count past due none =
     let u = thread_return_due def d count past due in
     high_by def (entries.ThreadReturn d count) past
-    (λ x. idle_thread def d count past x (kind_of def x) refl (unreturned (is_thread_begin d) _ (is_thread_return d) past u.running u.not_returned) u.served_is (zero_by count none))
+    (λ x. idle_thread def d count past x (kind_of def x) refl
+    (unreturned (is_thread_begin d) _ (is_thread_return d) past u.running u.not_returned) u.served_is
+    (zero_by count none))

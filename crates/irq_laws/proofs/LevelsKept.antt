@@ -34,7 +34,8 @@ use Rattle.irq_laws.proofs.RestKept.{goes_with, none_freed, no_part, parts_of}
 use Rattle.irq_laws.proofs.WantedKept.{requested_unlinked}
 use Rattle.irq_laws.proofs.Unfinished.{others_left}
 use Rattle.irq_laws.proofs.DepthKept.{StaysEnabled, enabled_before}
-use Rattle.irq_laws.proofs.Masking.{eoi_is, level_is_not, busy_has_flow, never_off, not_disabled, take_masked, start_opens, masked_before, IsPlain, flow_same, off_now}
+use Rattle.irq_laws.proofs.Masking.{eoi_is, level_is_not, busy_has_flow, never_off, not_disabled, take_masked}
+use Rattle.irq_laws.proofs.Masking.{start_opens, masked_before, IsPlain, flow_same, off_now}
 use Rattle.irq_laws.proofs.ImpliesFlow.{unmask_by, has_a_flow, return_due, end_due}
 use Rattle.irq_laws.proofs.ImpliesThread.{finish_due}
 use Rattle.irq_laws.proofs.ImpliesDriver.{request_due}
@@ -48,13 +49,20 @@ held_by a m u x y h = grind arith
 eoi_held : (g f o m u : Bool) → not g ≡ true → f ≡ false → o ≡ true → m ≡ true → (not g && ((not f && o) && (m && not u))) ≡ false → u ≡ true
 eoi_held g f o m u x y z w h = grind arith
 
-end_held : (def : LineDef) (f : FlowKind) (past : List Entry) (note : Note) → IsValid def → is_level_line def ≡ true → def.flow ≡ f → is_off_now past note ≡ false → (is_eoi_flow f ≡ true → is_oneshot past ≡ true) → is_masked def past ≡ true
+end_held : (def : LineDef) (f : FlowKind) (past : List Entry) (note : Note) → IsValid def → is_level_line def ≡ true
+    → def.flow ≡ f → is_off_now past note ≡ false → (is_eoi_flow f ≡ true → is_oneshot past ≡ true)
+    → is_masked def past ≡ true
     → unmask_by def f past note ≡ false → is_some_unfinished def past ≡ true
 end_held def flows.Edge past note valid level is on one m h = level_is_not (is_edge_line def) (valid.edge_flow (ap is_edge_flow is)) level
-end_held def flows.Level past note valid level is on one m h = held_by (not (is_off_now past note)) (is_masked def past) (is_some_unfinished def past) (ap not on) m h
-end_held def flows.Eoi past note valid level is on one m h = eoi_held (is_edge_line def) (is_off_now past note) (is_oneshot past) (is_masked def past) (is_some_unfinished def past) level on (one refl) m h
+end_held def flows.Level past note valid level is on one m h
+    = held_by (not (is_off_now past note)) (is_masked def past) (is_some_unfinished def past) (ap not on) m h
+end_held def flows.Eoi past note valid level is on one m h
+    = eoi_held (is_edge_line def) (is_off_now past note) (is_oneshot past) (is_masked def past)
+    (is_some_unfinished def past) level on (one refl) m h
 
-level_plain : (def : LineDef) (e : Entry) (past : List Entry) → IsDue def e past → KeepsDepth def past → LevelMaskIsHeld def past → IsPlain e → (is_some_unfinished def past ≡ true → is_some_unfinished def (e ∷ past) ≡ true)
+level_plain : (def : LineDef) (e : Entry) (past : List Entry) → IsDue def e past → KeepsDepth def past
+    → LevelMaskIsHeld def past → IsPlain e → (is_some_unfinished def past ≡ true
+    → is_some_unfinished def (e ∷ past) ≡ true)
     → is_level_line def ≡ true → is_masked def (e ∷ past) ≡ true → depth (e ∷ past) ≡ 0 → (has_flow def (e ∷ past) || is_some_unfinished def (e ∷ past)) ≡ true
 level_plain def e past due kd k plain stays level m zero = by_case (enabled_before def e past due kd zero)
   where
@@ -67,17 +75,22 @@ level_plain def e past due kd k plain stays level m zero = by_case (enabled_befo
     by_case (inr q) = by_held (or_cases _ _ (k level (masked_before def e past plain.no_take q m).0 q.was))
 
 -- a request resets no bit that stands
-request_stays : (def : LineDef) (s : DriverNo) (x : DevNo) (flags : Flags) (opened : Opened) (past : List Entry) → IsValid def → IsDue def (entries.Request s x flags links.Linked opened) past → Kept def past → LinkedIsWanted def past
+request_stays : (def : LineDef) (s : DriverNo) (x : DevNo) (flags : Flags) (opened : Opened) (past : List Entry)
+    → IsValid def → IsDue def (entries.Request s x flags links.Linked opened) past → Kept def past
+    → LinkedIsWanted def past
     → is_some_unfinished def past ≡ true → is_some_unfinished def (entries.Request s x flags links.Linked opened ∷ past) ≡ true
 request_stays def s x flags opened past valid due k w h =
-    any_imply (λ (y : DeviceDef). is_unfinished past y.dev) (λ y. is_unfinished (entries.Request s x flags links.Linked opened ∷ past) y.dev) def.devices (λ y is. at_dev y.dev is) h
+    any_imply (λ (y : DeviceDef). is_unfinished past y.dev)
+    (λ y. is_unfinished (entries.Request s x flags links.Linked opened ∷ past) y.dev) def.devices
+    (λ y is. at_dev y.dev is) h
   where
     idle : is_unfinished past x ≡ false
     idle =
         let u = request_due def s x flags links.Linked opened past due in
         (parts_of past x (k.rest.at_rest x (requested_unlinked def s x flags u.count past valid w u.call) (none_freed def past k u.no_mutex x))).2
 
-    by_test : (d : DevNo) → is_unfinished past d ≡ true → (b : Bool) → same_dev d x ≡ b → is_unfinished (entries.Request s x flags links.Linked opened ∷ past) d ≡ true
+    by_test : (d : DevNo) → is_unfinished past d ≡ true → (b : Bool) → same_dev d x ≡ b
+        → is_unfinished (entries.Request s x flags links.Linked opened ∷ past) d ≡ true
     by_test d is true same = both_ways (is_unfinished past d) is (subst (λ (y : DevNo). is_unfinished past y ≡ false) (sym (dev_from_same d x same)) idle)
     by_test d is false other = rw other is
 
@@ -87,7 +100,9 @@ request_stays def s x flags opened past valid due k w h =
 refused_stays : (def : LineDef) (s : DriverNo) (x : DevNo) (flags : Flags) (error : Errno) (opened : Opened) (past : List Entry)
     → is_some_unfinished def past ≡ true → is_some_unfinished def (entries.Request s x flags (links.Refused error) opened ∷ past) ≡ true
 refused_stays def s x flags error opened past h =
-    any_imply (λ (y : DeviceDef). is_unfinished past y.dev) (λ y. is_unfinished (entries.Request s x flags (links.Refused error) opened ∷ past) y.dev) def.devices (λ y is. at_dev y.dev is) h
+    any_imply (λ (y : DeviceDef). is_unfinished past y.dev)
+    (λ y. is_unfinished (entries.Request s x flags (links.Refused error) opened ∷ past) y.dev) def.devices
+    (λ y is. at_dev y.dev is) h
   where
     at_dev : (d : DevNo) → is_unfinished past d ≡ true → is_unfinished (entries.Request s x flags (links.Refused error) opened ∷ past) d ≡ true
     at_dev d is = rw (no_part (same_dev d x)) is
@@ -96,18 +111,24 @@ other_held : (w d m o : Bool) → w ≡ false → d ≡ false → m ≡ true →
 other_held w d m o x y z h = grind arith
 
 -- a finish that leaves an enabled level line masked leaves another thread unfinished
-finish_held : (def : LineDef) (x : DevNo) (unmask : Bool) (past : List Entry) → IsDue def (entries.Finish x false unmask) past → depth past ≡ 0 → is_masked def past ≡ true → unmask ≡ false → is_some_unfinished def (entries.Finish x false unmask ∷ past) ≡ true
+finish_held : (def : LineDef) (x : DevNo) (unmask : Bool) (past : List Entry)
+    → IsDue def (entries.Finish x false unmask) past → depth past ≡ 0 → is_masked def past ≡ true → unmask ≡ false
+    → is_some_unfinished def (entries.Finish x false unmask ∷ past) ≡ true
 finish_held def x unmask past due zero m shut =
     let u = finish_due def x false unmask past due in
-    others_left def x unmask past ∙ other_held (is_woken past x) (is_disabled past) (is_masked def past) (is_other_unfinished def past x) (sym u.kept_is) (not_disabled past zero) m (sym u.unmask_is ∙ shut)
+    others_left def x unmask past ∙ other_held (is_woken past x) (is_disabled past) (is_masked def past)
+    (is_other_unfinished def past x) (sym u.kept_is) (not_disabled past zero) m (sym u.unmask_is ∙ shut)
 
-level_more : (def : LineDef) (e : Entry) (past : List Entry) → IsValid def → IsDue def e past → Kept def past → KeepsDepth def past → LinkedIsWanted def past → KeepsLevels def past → is_level_line def ≡ true → is_masked def (e ∷ past) ≡ true → depth (e ∷ past) ≡ 0
+level_more : (def : LineDef) (e : Entry) (past : List Entry) → IsValid def → IsDue def e past → Kept def past
+    → KeepsDepth def past → LinkedIsWanted def past → KeepsLevels def past → is_level_line def ≡ true
+    → is_masked def (e ∷ past) ≡ true → depth (e ∷ past) ≡ 0
     → (has_flow def (e ∷ past) || is_some_unfinished def (e ∷ past)) ≡ true
 level_more def (entries.Take c way takes.Handle) past valid due kept kd w k level m zero = refl
 level_more def (entries.Take c way takes.Busy) past valid due kept kd w k level m zero =
     or_left _ _ (ap is_some (flow_quiet def (entries.Take c way takes.Busy) past refl refl refl) ∙ busy_has_flow def c way past due)
 level_more def (entries.Take c way takes.Off) past valid due kept kd w k level m zero = never_off def c way past due kd zero
-level_more def (entries.End c again unmask note) past valid due kept kd w k level m zero = by_case (enabled_before def (entries.End c again unmask note) past due kd zero)
+level_more def (entries.End c again unmask note) past valid due kept kd w k level m zero
+    = by_case (enabled_before def (entries.End c again unmask note) past due kd zero)
   where
     by_case : (is_start (entries.End c again unmask note) ≡ true) ⊎ StaysEnabled (entries.End c again unmask note) past
         → (has_flow def (entries.End c again unmask note ∷ past) || is_some_unfinished def (entries.End c again unmask note ∷ past)) ≡ true
@@ -118,10 +139,13 @@ level_more def (entries.End c again unmask note) past valid due kept kd w k leve
         let on = ap (λ (x : Note). is_off_now past x) (sym u.note_is) ∙ off_now past c again unmask note q in
         or_right _ _ (end_held def def.flow past (note_of def past) valid level refl on (λ eoi. k.eoi_level level eoi b.0 q.was) b.0 (sym u.unmask_is ∙ b.1))
 level_more def (entries.Return c x answer served) past valid due kept kd w k level m zero =
-    or_left _ _ (ap is_some (flow_quiet def (entries.Return c x answer served) past refl refl refl) ∙ has_a_flow c (flow def past) (return_due def c x answer served past due).of_flow)
+    or_left _ _ (ap is_some (flow_quiet def (entries.Return c x answer served) past refl refl refl)
+    ∙ has_a_flow c (flow def past) (return_due def c x answer served past due).of_flow)
 level_more def (entries.Finish x true unmask) past valid due kept kd w k level m zero =
-    level_plain def (entries.Finish x true unmask) past due kd k.level (record { no_take = refl; no_handle = refl; no_leave = refl; no_again = refl }) (λ u. u) level m zero
-level_more def (entries.Finish x false unmask) past valid due kept kd w k level m zero = by_case (enabled_before def (entries.Finish x false unmask) past due kd zero)
+    level_plain def (entries.Finish x true unmask) past due kd k.level
+    (record { no_take = refl; no_handle = refl; no_leave = refl; no_again = refl }) (λ u. u) level m zero
+level_more def (entries.Finish x false unmask) past valid due kept kd w k level m zero
+    = by_case (enabled_before def (entries.Finish x false unmask) past due kd zero)
   where
     by_case : (is_start (entries.Finish x false unmask) ≡ true) ⊎ StaysEnabled (entries.Finish x false unmask) past
         → (has_flow def (entries.Finish x false unmask ∷ past) || is_some_unfinished def (entries.Finish x false unmask ∷ past)) ≡ true
@@ -130,9 +154,13 @@ level_more def (entries.Finish x false unmask) past valid due kept kd w k level 
         let b = masked_before def (entries.Finish x false unmask) past refl q m in
         or_right _ _ (finish_held def x unmask past due q.was b.0 b.1)
 level_more def (entries.Request s x flags links.Linked opened) past valid due kept kd w k level m zero =
-    level_plain def (entries.Request s x flags links.Linked opened) past due kd k.level (record { no_take = refl; no_handle = refl; no_leave = refl; no_again = refl }) (request_stays def s x flags opened past valid due kept w) level m zero
+    level_plain def (entries.Request s x flags links.Linked opened) past due kd k.level
+    (record { no_take = refl; no_handle = refl; no_leave = refl; no_again = refl })
+    (request_stays def s x flags opened past valid due kept w) level m zero
 level_more def (entries.Request s x flags (links.Refused error) opened) past valid due kept kd w k level m zero =
-    level_plain def (entries.Request s x flags (links.Refused error) opened) past due kd k.level (record { no_take = refl; no_handle = refl; no_leave = refl; no_again = refl }) (refused_stays def s x flags error opened past) level m zero
+    level_plain def (entries.Request s x flags (links.Refused error) opened) past due kd k.level
+    (record { no_take = refl; no_handle = refl; no_leave = refl; no_again = refl })
+    (refused_stays def s x flags error opened past) level m zero
 level_more def e past valid due kept kd w k level m zero =
     level_plain def e past due kd k.level (record { no_take = refl; no_handle = refl; no_leave = refl; no_again = refl }) (λ u. u) level m zero
 
@@ -146,7 +174,9 @@ some_passes p (x ∷ xs) h = by_test (p x) refl (some_passes p xs)
     by_test true is deeper = (x, is)
     by_test false is deeper = deeper (ap (λ (b : Bool). is_empty (cond b (x ∷ filter p xs) (filter p xs))) (sym is) ∙ h)
 
-oneshot_plain : (def : LineDef) (e : Entry) (past : List Entry) → IsDue def e past → KeepsDepth def past → EoiLevelMaskIsOneshot def past → is_take e ≡ false → (StaysEnabled e past → is_oneshot past ≡ true → is_oneshot (e ∷ past) ≡ true)
+oneshot_plain : (def : LineDef) (e : Entry) (past : List Entry) → IsDue def e past → KeepsDepth def past
+    → EoiLevelMaskIsOneshot def past → is_take e ≡ false
+    → (StaysEnabled e past → is_oneshot past ≡ true → is_oneshot (e ∷ past) ≡ true)
     → is_level_line def ≡ true → is_eoi_flow def.flow ≡ true → is_masked def (e ∷ past) ≡ true → depth (e ∷ past) ≡ 0 → is_oneshot (e ∷ past) ≡ true
 oneshot_plain def e past due kd k no_take stays level eoi m zero = by_case (enabled_before def e past due kd zero)
   where
@@ -155,26 +185,38 @@ oneshot_plain def e past due kd k no_take stays level eoi m zero = by_case (enab
     by_case (inr q) = stays q (k level eoi (masked_before def e past no_take q m).0 q.was)
 
 -- a further request has the flag of the requests before it
-request_oneshot : (def : LineDef) (s : DriverNo) (x : DevNo) (flags : Flags) (opened : Opened) (past : List Entry) → IsDue def (entries.Request s x flags links.Linked opened) past → Kept def past → is_none_linked past ≡ false → is_oneshot past ≡ true → flags.oneshot ≡ true
+request_oneshot : (def : LineDef) (s : DriverNo) (x : DevNo) (flags : Flags) (opened : Opened) (past : List Entry)
+    → IsDue def (entries.Request s x flags links.Linked opened) past → Kept def past → is_none_linked past ≡ false
+    → is_oneshot past ≡ true → flags.oneshot ≡ true
 request_oneshot def s x flags opened past due kept some one =
     let y = some_passes (is_linked past) (requested past) some in
     sym (goes_with def s x flags opened past due y.0 y.1) ∙ kept.rest.flags y.0 (or_left _ _ y.1) ∙ one
 
-oneshot_more : (def : LineDef) (e : Entry) (past : List Entry) → IsDue def e past → Kept def past → KeepsDepth def past → EoiLevelMaskIsOneshot def past → is_level_line def ≡ true → is_eoi_flow def.flow ≡ true → is_masked def (e ∷ past) ≡ true → depth (e ∷ past) ≡ 0
+oneshot_more : (def : LineDef) (e : Entry) (past : List Entry) → IsDue def e past → Kept def past → KeepsDepth def past
+    → EoiLevelMaskIsOneshot def past → is_level_line def ≡ true → is_eoi_flow def.flow ≡ true
+    → is_masked def (e ∷ past) ≡ true → depth (e ∷ past) ≡ 0
     → is_oneshot (e ∷ past) ≡ true
-oneshot_more def (entries.Take c way takes.Handle) past due kept kd k level eoi m zero = by_case (or_cases _ _ (sym (take_masked def flows.Eoi c way takes.Handle past (eoi_is def.flow eoi)) ∙ m))
+oneshot_more def (entries.Take c way takes.Handle) past due kept kd k level eoi m zero
+    = by_case (or_cases _ _ (sym (take_masked def flows.Eoi c way takes.Handle past (eoi_is def.flow eoi)) ∙ m))
   where
     by_case : ((is_level_line def && is_oneshot past) ≡ true) ⊎ (is_masked def past ≡ true) → is_oneshot past ≡ true
     by_case (inl h) = (and_parts (is_level_line def) (is_oneshot past) h).1
     by_case (inr h) = k level eoi h zero
-oneshot_more def (entries.Take c way takes.Busy) past due kept kd k level eoi m zero = k level eoi (sym (take_masked def flows.Eoi c way takes.Busy past (eoi_is def.flow eoi)) ∙ m) zero
+oneshot_more def (entries.Take c way takes.Busy) past due kept kd k level eoi m zero
+    = k level eoi (sym (take_masked def flows.Eoi c way takes.Busy past (eoi_is def.flow eoi)) ∙ m) zero
 oneshot_more def (entries.Take c way takes.Off) past due kept kd k level eoi m zero = never_off def c way past due kd zero
 oneshot_more def (entries.Request s x flags links.Linked opened) past due kept kd k level eoi m zero =
-    oneshot_plain def (entries.Request s x flags links.Linked opened) past due kd k refl (λ q one. request_oneshot def s x flags opened past due kept (kd.enabled q.was).1 one) level eoi m zero
+    oneshot_plain def (entries.Request s x flags links.Linked opened) past due kd k refl
+    (λ q one. request_oneshot def s x flags opened past due kept (kd.enabled q.was).1 one) level eoi m zero
 oneshot_more def e past due kept kd k level eoi m zero = oneshot_plain def e past due kd k refl (λ q one. one) level eoi m zero
 
-pub levels_more : (def : LineDef) (e : Entry) (past : List Entry) → IsValid def → IsDue def e past → Kept def past → KeepsDepth def past → LinkedIsWanted def past → KeepsLevels def past → KeepsLevels def (e ∷ past)
-levels_more def e past valid due kept kd w k = record { level = level_more def e past valid due kept kd w k; eoi_level = oneshot_more def e past due kept kd k.eoi_level }
+pub levels_more : (def : LineDef) (e : Entry) (past : List Entry) → IsValid def → IsDue def e past → Kept def past
+    → KeepsDepth def past → LinkedIsWanted def past → KeepsLevels def past → KeepsLevels def (e ∷ past)
+levels_more def e past valid due kept kd w k = record {
+  level = level_more def e past valid due kept kd w k;
+  eoi_level
+      = oneshot_more def e past due kept kd k.eoi_level;
+}
 
 pub no_levels : (def : LineDef) → KeepsLevels def []
 no_levels def = record { level = λ level m zero. absurd (omega (arith, zero)); eoi_level = λ level eoi m zero. absurd (omega (arith, zero)) }

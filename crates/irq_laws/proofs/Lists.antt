@@ -49,7 +49,8 @@ module _ {A : Type 0} where
   any_filter p q [] = refl
   any_filter p q (x ∷ xs) = at_head (q x) refl (any_filter p q xs)
     where
-      at_head : (b : Bool) → q x ≡ b → list_any p (filter q xs) ≡ list_any (λ x. q x && p x) xs → list_any p (filter q (x ∷ xs)) ≡ list_any (λ x. q x && p x) (x ∷ xs)
+      at_head : (b : Bool) → q x ≡ b → list_any p (filter q xs) ≡ list_any (λ x. q x && p x) xs
+          → list_any p (filter q (x ∷ xs)) ≡ list_any (λ x. q x && p x) (x ∷ xs)
       at_head true is h = rw (is, h) refl
       at_head false is h = rw (is, h) refl
 
@@ -57,7 +58,8 @@ module _ {A : Type 0} where
   none_counted p [] h = refl
   none_counted p (x ∷ xs) h = let n = none_here (p x) (count_of p xs) h in rw (n.0, none_counted p xs n.1) refl
 
-  pub place_imply : (P Q : List A → List A → Bool) (past : List A) → ((a u : List A) → P a u ≡ true → Q a u ≡ true) → some_place P past ≡ true → some_place Q past ≡ true
+  pub place_imply : (P Q : List A → List A → Bool) (past : List A) → ((a u : List A) → P a u ≡ true → Q a u ≡ true)
+      → some_place P past ≡ true → some_place Q past ≡ true
   place_imply P Q [] h is = is
   place_imply P Q (e ∷ past) h is =
       any_here (P [] (e ∷ past)) _ (Q [] (e ∷ past)) _ is (h [] (e ∷ past)) (place_imply (λ a u. P (e ∷ a) u) (λ a u. Q (e ∷ a) u) past (λ a u. h (e ∷ a) u))

@@ -63,7 +63,8 @@ pub zero_depth : (past : List Entry) → is_disabled past ≡ false → depth pa
 zero_depth past h = let n = ltb-false 0 (depth past) h in omega (arith, n)
 
 -- an enabled line answers no take with Off
-pub never_off : {P : Type 0} (def : LineDef) (c : CpuNo) (way : Way) (past : List Entry) → IsDue def (entries.Take c way takes.Off) past → KeepsDepth def past → depth past ≡ 0 → P
+pub never_off : {P : Type 0} (def : LineDef) (c : CpuNo) (way : Way) (past : List Entry)
+    → IsDue def (entries.Take c way takes.Off) past → KeepsDepth def past → depth past ≡ 0 → P
 never_off def c way past due k zero =
     let o = (off_by (has_flow def past) (is_disabled past || is_none_linked past) (take_due def c way takes.Off past due).answer_is).1 in
     let n = (k.enabled zero).1 in
@@ -102,7 +103,8 @@ not_opened : (s r m : Bool) → (not (s || r) && m) ≡ true → (m ≡ true) ×
 not_opened s r m h = (grind arith, grind arith)
 
 -- an entry that is no take leaves an enabled line masked only if it was masked before
-pub masked_before : (def : LineDef) (e : Entry) (past : List Entry) → is_take e ≡ false → StaysEnabled e past → is_masked def (e ∷ past) ≡ true → (is_masked def past ≡ true) × (is_reopening e ≡ false)
+pub masked_before : (def : LineDef) (e : Entry) (past : List Entry) → is_take e ≡ false → StaysEnabled e past
+    → is_masked def (e ∷ past) ≡ true → (is_masked def past ≡ true) × (is_reopening e ≡ false)
 masked_before def e past no_take q h =
     not_opened (is_start e) (is_reopening e) (is_masked def past) (sym (masked_by_opening def e past no_take q.no_deepening q.no_last) ∙ h)
 
@@ -120,7 +122,8 @@ flow_same def e past p = ap is_some (flow_quiet def e past p.no_handle p.no_leav
 
 -- ---- the end of a flow on an enabled line
 
-pub off_now : (past : List Entry) (c : CpuNo) (again unmask : Bool) (note : Note) → StaysEnabled (entries.End c again unmask note) past → is_off_now past note ≡ false
+pub off_now : (past : List Entry) (c : CpuNo) (again unmask : Bool) (note : Note)
+    → StaysEnabled (entries.End c again unmask note) past → is_off_now past note ≡ false
 off_now past c again unmask note q = both (is_disabled past) (is_kill (entries.End c again unmask note)) (not_disabled past q.was) q.no_deepening
   where
     both : (a b : Bool) → a ≡ false → (false || b) ≡ false → (a || b) ≡ false

@@ -80,13 +80,15 @@ owner t f (e ∷ past) h = by_case (or_cases _ _ h) (λ is. owner t (λ r. f r |
     later : Owner t (λ r. f r || is_freed_by r e) past → Owner t f (e ∷ past)
     later o =
         let n = or_parts (f o.driver) (is_freed_by o.driver e) o.unfreed in
-        let goes : (not (is_freed_by o.driver e) && stands (unlinks_of o.driver o.dev) (is_freed_by o.driver) past) ≡ true = and_from _ _ (ap not n.1) o.stands_there in
+        let goes : (not (is_freed_by o.driver e) && stands (unlinks_of o.driver o.dev) (is_freed_by o.driver) past)
+        ≡ true = and_from _ _ (ap not n.1) o.stands_there in
         record { driver = o.driver; dev = o.dev; passes = o.passes; unfreed = n.0; stands_there = or_right (unlinks_of o.driver o.dev e) _ goes }
 
     by_case : (owned t f [] (e ∷ past) ≡ true) ⊎ (some_place (λ a u. owned t f (e ∷ a) u) past ≡ true)
         → (some_place (owned t (λ r. f r || is_freed_by r e)) past ≡ true → Owner t (λ r. f r || is_freed_by r e) past) → Owner t f (e ∷ past)
     by_case (inl is) deeper = owner_here t f e past is
-    by_case (inr is) deeper = later (deeper (sym (some_ext (λ a u. owned t f (e ∷ a) u) (owned t (λ r. f r || is_freed_by r e)) past (λ a u same. one_later t f e a u)) ∙ is))
+    by_case (inr is) deeper = later (deeper (sym (some_ext (λ a u. owned t f (e ∷ a) u)
+        (owned t (λ r. f r || is_freed_by r e)) past (λ a u same. one_later t f e a u)) ∙ is))
 
 held_place : (a u : List Entry) → is_being_freed_at a u ≡ true → owned (λ d. true) (λ r. false) a u ≡ true
 held_place a (entries.Unlink driver dev (unlinks.Unlinked last) ∷ past) h = h
@@ -120,7 +122,9 @@ fewer s b c l f g is h = grind arith
 
 cleared_at_before : (d : DevNo) (e : Entry) (a u : List Entry) → is_hard_clear e ≡ false → is_cleared_at d (e ∷ a) u ≡ true → is_cleared_at d a u ≡ true
 cleared_at_before d e a (entries.Unlink driver dev (unlinks.Unlinked last) ∷ past) is h =
-    fewer (same_dev d dev) (is_by_driver driver e) (is_hard_clear e) (list_any (λ e. is_by_driver driver e && is_hard_clear e) a) (is_freed_by driver e) (list_any (is_freed_by driver) a) is h
+    fewer (same_dev d dev) (is_by_driver driver e) (is_hard_clear e)
+    (list_any (λ e. is_by_driver driver e && is_hard_clear e) a) (is_freed_by driver e)
+    (list_any (is_freed_by driver) a) is h
 cleared_at_before d e a u is h = cc
 
 -- an entry that is no hard clear clears nothing

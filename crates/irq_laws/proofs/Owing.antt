@@ -23,15 +23,20 @@ never_owes : (c u b x y : Bool) → (u || b) ≡ true → (c && (not (u || x) &&
 never_owes c u b x y is h = grind arith
 
 -- what an entry that unlinks d or calls its handler leaves: nothing
-owed_before : (d : DevNo) (e : Entry) (past : List Entry) → some_place (λ a u. owes d (e ∷ a) u) past ≡ true → (some_place (owes d) past ≡ true) × (unlinks_dev d e ≡ false) × (is_begin d e ≡ false)
+owed_before : (d : DevNo) (e : Entry) (past : List Entry) → some_place (λ a u. owes d (e ∷ a) u) past ≡ true
+    → (some_place (owes d) past ≡ true) × (unlinks_dev d e ≡ false) × (is_begin d e ≡ false)
 owed_before d e past h = by_test (unlinks_dev d e) (is_begin d e) refl refl
   where
     was : some_place (owes d) past ≡ true
-    was = place_imply (λ a u. owes d (e ∷ a) u) (owes d) past (λ a u. still_owes (comes_to d u) (unlinks_dev d e) (is_begin d e) (list_any (unlinks_dev d) a) (list_any (is_begin d) a)) h
+    was = place_imply (λ a u. owes d (e ∷ a) u) (owes d) past
+        (λ a u. still_owes (comes_to d u) (unlinks_dev d e) (is_begin d e) (list_any (unlinks_dev d) a)
+        (list_any (is_begin d) a)) h
 
     none : (unlinks_dev d e || is_begin d e) ≡ true → ⊥
     none is =
-        let n = place_imply (λ a u. owes d (e ∷ a) u) (λ a u. false) past (λ a u. never_owes (comes_to d u) (unlinks_dev d e) (is_begin d e) (list_any (unlinks_dev d) a) (list_any (is_begin d) a) is) h in
+        let n = place_imply (λ a u. owes d (e ∷ a) u) (λ a u. false) past
+        (λ a u. never_owes (comes_to d u) (unlinks_dev d e) (is_begin d e) (list_any (unlinks_dev d) a)
+        (list_any (is_begin d) a) is) h in
         both_ways (some_place (λ a u. false) past) n (some_none past)
 
     by_test : (p q : Bool) → unlinks_dev d e ≡ p → is_begin d e ≡ q → (some_place (owes d) past ≡ true) × (unlinks_dev d e ≡ false) × (is_begin d e ≡ false)
@@ -50,7 +55,9 @@ pub owed_cases : (d : DevNo) (e : Entry) (past : List Entry) → some_place (owe
     → (comes_to d (e ∷ past) ≡ true) ⊎ ((some_place (owes d) past ≡ true) × (unlinks_dev d e ≡ false) × (is_begin d e ≡ false))
 owed_cases d e past h = by_case (or_cases _ _ h)
   where
-    by_case : (owes d [] (e ∷ past) ≡ true) ⊎ (some_place (λ a u. owes d (e ∷ a) u) past ≡ true) → (comes_to d (e ∷ past) ≡ true) ⊎ ((some_place (owes d) past ≡ true) × (unlinks_dev d e ≡ false) × (is_begin d e ≡ false))
+    by_case : (owes d [] (e ∷ past) ≡ true) ⊎ (some_place (λ a u. owes d (e ∷ a) u) past ≡ true)
+        → (comes_to d (e ∷ past) ≡ true) ⊎ ((some_place (owes d) past ≡ true) × (unlinks_dev d e ≡ false)
+        × (is_begin d e ≡ false))
     by_case (inl now) = inl (at_once (comes_to d (e ∷ past)) now)
     by_case (inr later) = inr (owed_before d e past later)
 
@@ -66,7 +73,9 @@ pub owed_linked : (d : DevNo) (past : List Entry) → some_place (owes d) past �
 owed_linked d [] h = cc
 owed_linked d (e ∷ past) h = by_case (owed_cases d e past h) (owed_linked d past)
   where
-    by_case : (comes_to d (e ∷ past) ≡ true) ⊎ ((some_place (owes d) past ≡ true) × (unlinks_dev d e ≡ false) × (is_begin d e ≡ false)) → (some_place (owes d) past ≡ true → is_linked past d ≡ true) → is_linked (e ∷ past) d ≡ true
+    by_case : (comes_to d (e ∷ past) ≡ true) ⊎ ((some_place (owes d) past ≡ true) × (unlinks_dev d e ≡ false)
+        × (is_begin d e ≡ false)) → (some_place (owes d) past ≡ true → is_linked past d ≡ true)
+        → is_linked (e ∷ past) d ≡ true
     by_case (inl now) deeper =
         let p = and_parts (is_any_ask e) (is_started past && is_linked past d) now in
         let q = and_parts (is_started past) (is_linked past d) p.1 in

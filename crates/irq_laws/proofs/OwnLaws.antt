@@ -23,7 +23,9 @@ use Rattle.irq_model.specs.Waiting.{is_soft}
 use Rattle.irq_model.specs.Signal.{signals, target}
 use Rattle.irq_model.specs.Threads.{is_woken, is_running, active_count}
 use Rattle.irq_model.specs.Due.{due_call, holds_mutex}
-use Rattle.irq_model.specs.Next.{asks_of_thread, finish_unmasks, next_of_thread, next_in_flow, begin_or_end, take_answer, next_take, next_of_cpu, unlink_answer, hard_clear_of, synced_of, freed_of, request_with, request_of, link_answer, next_of_call, next_past, next}
+use Rattle.irq_model.specs.Next.{asks_of_thread, finish_unmasks, next_of_thread, next_in_flow, begin_or_end}
+use Rattle.irq_model.specs.Next.{take_answer, next_take, next_of_cpu, unlink_answer, hard_clear_of, synced_of, freed_of}
+use Rattle.irq_model.specs.Next.{request_with, request_of, link_answer, next_of_call, next_past, next}
 use Rattle.irq_model.specs.Legal.{IsDue}
 use Rattle.irq_steps.proofs.Same.{cpu_from_same, line_from_same, same_self_cpu}
 use Rattle.irq_laws.proofs.ImpliesFlow.{end_shape, take_due}
@@ -52,7 +54,8 @@ when P false e h = tt
 abbrev IsBy : LineDef → Actor → Entry → Type 0
 IsBy def a e = actor_of def.line e ≡ a
 
-thread_rows : (P : Entry → Type 0) (r w t o f h : Bool) (begins returns finishes ends : Entry) → P begins → P returns → P finishes → P ends → Holds P (row r w t o f h begins returns finishes ends)
+thread_rows : (P : Entry → Type 0) (r w t o f h : Bool) (begins returns finishes ends : Entry) → P begins → P returns
+    → P finishes → P ends → Holds P (row r w t o f h begins returns finishes ends)
 thread_rows P false true t o f h a b c d x y z u = x
 thread_rows P false false t o f h a b c d x y z u = tt
 thread_rows P true w false o f h a b c d x y z u = y
@@ -63,7 +66,8 @@ thread_rows P true w true false f h a b c d x y z u = u
 
 of_thread : (def : LineDef) (d : DevNo) (past : List Entry) → Holds (IsBy def (actors.Thread def.line d)) (next_of_thread def d past)
 of_thread def d past =
-    thread_rows (IsBy def (actors.Thread def.line d)) (is_running past d) (is_woken past d) (has_returned past d) (is_oneshot past) (has_finished past d) (has_flow def past) (entries.ThreadBegin d)
+    thread_rows (IsBy def (actors.Thread def.line d)) (is_running past d) (is_woken past d) (has_returned past d)
+    (is_oneshot past) (has_finished past d) (has_flow def past) (entries.ThreadBegin d)
     (entries.ThreadReturn d (asks_of_thread def d past)) (entries.Finish d (is_woken past d) (finish_unmasks def d past)) (entries.Done d) refl refl refl refl
 
 begun_or_ended : (def : LineDef) (c : CpuNo) (past : List Entry) (l : Option DevNo) → IsBy def (actors.Cpu c) (begin_or_end def c past l)
@@ -74,7 +78,8 @@ in_flow : (def : LineDef) (c : CpuNo) (past : List Entry) (w : Option DevNo) →
 in_flow def c past None = begun_or_ended def c past (first_left def past (linked past))
 in_flow def c past (Some d) = refl
 
-take_rows : (P : Entry → Type 0) (f t s o : Bool) (x l r : Entry) → P x → P l → P r → Holds P (cond f (Some x) (cond (not t) None (cond s (Some l) (cond o (Some r) None))))
+take_rows : (P : Entry → Type 0) (f t s o : Bool) (x l r : Entry) → P x → P l → P r
+    → Holds P (cond f (Some x) (cond (not t) None (cond s (Some l) (cond o (Some r) None))))
 take_rows P true t s o x l r a b c = a
 take_rows P false false s o x l r a b c = tt
 take_rows P false true true o x l r a b c = b
@@ -83,10 +88,12 @@ take_rows P false true false false x l r a b c = tt
 
 of_cpu : (def : LineDef) (c : CpuNo) (past : List Entry) → Holds (IsBy def (actors.Cpu c)) (next_of_cpu def c past)
 of_cpu def c past =
-    take_rows (IsBy def (actors.Cpu c)) (is_cpu c (flow def past)) (is_cpu c (target def past)) (signals def past) (is_soft past) (next_in_flow def c past (at_work past)) (entries.Take c ways.Line (take_answer def past))
+    take_rows (IsBy def (actors.Cpu c)) (is_cpu c (flow def past)) (is_cpu c (target def past)) (signals def past)
+    (is_soft past) (next_in_flow def c past (at_work past)) (entries.Take c ways.Line (take_answer def past))
     (entries.Take c ways.Resend (take_answer def past)) (in_flow def c past (at_work past)) refl refl
 
-of_request : (def : LineDef) (r : DriverNo) (d : DevNo) (flags : Flags) (past : List Entry) (answer : LinkAnswer) → IsBy def (actors.Driver r) (request_with def r d flags past answer)
+of_request : (def : LineDef) (r : DriverNo) (d : DevNo) (flags : Flags) (past : List Entry) (answer : LinkAnswer)
+    → IsBy def (actors.Driver r) (request_with def r d flags past answer)
 of_request def r d flags past links.Linked = refl
 of_request def r d flags past (links.Refused error) = refl
 
@@ -97,18 +104,25 @@ of_call def r past (Some (calls.Request d flags, n)) =
     unless (IsBy def (actors.Driver r)) (holds_mutex past) (request_of def r d flags past) (of_request def r d flags past (link_answer def d flags past))
 of_call def r past (Some (calls.Free d, n)) =
     let P = IsBy def (actors.Driver r) in
-    either P (n == 0) (cond (holds_mutex past) None (Some (entries.Unlink r d (unlink_answer d past)))) (cond (n == 1) (hard_clear_of def r past) (freed_of r d past))
+    either P (n == 0) (cond (holds_mutex past) None (Some (entries.Unlink r d (unlink_answer d past))))
+    (cond (n == 1) (hard_clear_of def r past) (freed_of r d past))
     (unless P (holds_mutex past) (entries.Unlink r d (unlink_answer d past)) refl)
-    (either P (n == 1) (hard_clear_of def r past) (freed_of r d past) (unless P (has_flow def past) (entries.HardClear r) refl) (unless P (is_woken past d || is_running past d) (entries.Freed r d) refl))
+    (either P (n == 1) (hard_clear_of def r past) (freed_of r d past)
+    (unless P (has_flow def past) (entries.HardClear r) refl)
+    (unless P (is_woken past d || is_running past d) (entries.Freed r d) refl))
 of_call def r past (Some (calls.Disable, n)) =
     let P = IsBy def (actors.Driver r) in
     either P (n == 0) (Some (entries.Disable r)) (cond (n == 1) (hard_clear_of def r past) (synced_of def r past)) refl
-    (either P (n == 1) (hard_clear_of def r past) (synced_of def r past) (unless P (has_flow def past) (entries.HardClear r) refl) (when P (active_count def past == 0) (entries.Synced r) refl))
+    (either P (n == 1) (hard_clear_of def r past) (synced_of def r past)
+    (unless P (has_flow def past) (entries.HardClear r) refl)
+    (when P (active_count def past == 0) (entries.Synced r) refl))
 of_call def r past (Some (calls.DisableNosync, n)) = refl
 of_call def r past (Some (calls.Enable, n)) = refl
 of_call def r past (Some (calls.Sync, n)) =
     let P = IsBy def (actors.Driver r) in
-    either P (n == 0) (hard_clear_of def r past) (synced_of def r past) (unless P (has_flow def past) (entries.HardClear r) refl) (when P (active_count def past == 0) (entries.Synced r) refl)
+    either P (n == 0) (hard_clear_of def r past) (synced_of def r past)
+    (unless P (has_flow def past) (entries.HardClear r) refl)
+    (when P (active_count def past == 0) (entries.Synced r) refl)
 of_call def r past (Some (calls.Affinity mask, n)) = refl
 of_call def r past (Some (calls.Moment at, n)) = refl
 
@@ -116,7 +130,8 @@ own : (def : LineDef) (past : List Entry) (a : Actor) → Holds (IsBy def a) (ne
 own def past (actors.Thread line d) = of_line (same_line line def.line) refl
   where
     of_line : (b : Bool) → same_line line def.line ≡ b → Holds (IsBy def (actors.Thread line d)) (cond b (next_of_thread def d past) None)
-    of_line true is = subst (λ (l : LineNo). Holds (IsBy def (actors.Thread l d)) (next_of_thread def d past)) (sym (line_from_same line def.line is)) (of_thread def d past)
+    of_line true is = subst (λ (l : LineNo). Holds (IsBy def (actors.Thread l d)) (next_of_thread def d past))
+        (sym (line_from_same line def.line is)) (of_thread def d past)
     of_line false is = tt
 own def past (actors.Cpu c) = of_cpu def c past
 own def past (actors.Driver r) = of_call def r past (due_call def r past)
@@ -129,7 +144,8 @@ due_is_own def h a e is = due_is_own_past def (reverse h) a e is
 
 -- ---- processors
 
-the_target : (def : LineDef) (past : List Entry) (c : CpuNo) (e : Entry) → is_take e ≡ true → IsDue def e past → actor_of def.line e ≡ actors.Cpu c → is_cpu c (target def past) ≡ true
+the_target : (def : LineDef) (past : List Entry) (c : CpuNo) (e : Entry) → is_take e ≡ true → IsDue def e past
+    → actor_of def.line e ≡ actors.Cpu c → is_cpu c (target def past) ≡ true
 the_target def past c (entries.Take cpu way answer) is due by =
     let same : cpu ≡ c = cc in subst (λ (x : CpuNo). is_cpu x (target def past) ≡ true) same (take_due def cpu way answer past due).of_target
 the_target def past c e is due by = cc
@@ -138,7 +154,8 @@ is_that : (c : CpuNo) (o : Option CpuNo) → is_cpu c o ≡ true → o ≡ Some 
 is_that c None h = cc
 is_that c (Some x) h = ap Some (sym (cpu_from_same c x h))
 
-pub takes_at_target : (def : LineDef) (h : List Entry) (c : CpuNo) (e : Entry) → is_take e ≡ true → next def h (actors.Cpu c) ≡ Some e → target def (reverse h) ≡ Some c
+pub takes_at_target : (def : LineDef) (h : List Entry) (c : CpuNo) (e : Entry) → is_take e ≡ true
+    → next def h (actors.Cpu c) ≡ Some e → target def (reverse h) ≡ Some c
 takes_at_target def h c e is due =
     let by = due_is_own def h (actors.Cpu c) e due in
     is_that c (target def (reverse h)) (the_target def (reverse h) c e is (ap (next_past def (reverse h)) by ∙ due) by)
@@ -146,9 +163,11 @@ takes_at_target def h c e is due =
 same_cpu_no : (b c : CpuNo) → Some b ≡ Some c → b ≡ c
 same_cpu_no b c h = cc
 
-pub one_takes : (def : LineDef) (h : List Entry) (b c : CpuNo) (e f : Entry) → is_take e ≡ true → is_take f ≡ true → next def h (actors.Cpu b) ≡ Some e → next def h (actors.Cpu c) ≡ Some f → b ≡ c
+pub one_takes : (def : LineDef) (h : List Entry) (b c : CpuNo) (e f : Entry) → is_take e ≡ true → is_take f ≡ true
+    → next def h (actors.Cpu b) ≡ Some e → next def h (actors.Cpu c) ≡ Some f → b ≡ c
 one_takes def h b c e f is_e is_f due_b due_c = same_cpu_no b c (sym (takes_at_target def h b e is_e due_b) ∙ takes_at_target def h c f is_f due_c)
 
 pub flow_moves : (def : LineDef) (h : List Entry) (c : CpuNo) → flow def (reverse h) ≡ Some c → IsSome (next def h (actors.Cpu c))
 flow_moves def h c is =
-    ap (λ (b : Bool). is_some (cond b (Some (next_in_flow def c (reverse h) (at_work (reverse h)))) (next_take def c (reverse h)))) (ap (is_cpu c) is ∙ same_self_cpu c)
+    ap (λ (b : Bool). is_some (cond b (Some (next_in_flow def c (reverse h) (at_work (reverse h))))
+    (next_take def c (reverse h)))) (ap (is_cpu c) is ∙ same_self_cpu c)

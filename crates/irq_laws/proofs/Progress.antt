@@ -1,5 +1,7 @@
 -- How far a driver is in its script, after one more entry of its own.
-use Rattle.std.proofs.Common.{◌≡◌, ℕ, suc, ◌+◌, ◌<◌, ◌≤◌, ◌⊎◌, inl, inr, Bool, true, false, cond, Option, Some, List, [], ◌∷◌, ◌++◌, length, drop, filter, reverse, nat_lt, refl, sym, ap, ◌∙◌, subst, arith, length-append, drop_of_length-le}
+use Rattle.std.proofs.Common.{◌≡◌, ℕ, suc, ◌+◌, ◌<◌, ◌≤◌, ◌⊎◌, inl, inr, Bool, true, false, cond, Option, Some, List}
+use Rattle.std.proofs.Common.{[], ◌∷◌, ◌++◌, length, drop, filter, reverse, nat_lt, refl, sym, ap, ◌∙◌, subst, arith}
+use Rattle.std.proofs.Common.{length-append, drop_of_length-le}
 use Rattle.std.proofs.lemmas.List.{drop-append-le}
 use Rattle.std.proofs.lemmas.Grind.{reverse_onto}
 use Rattle.std.proofs.lemmas.Bool.{ltb-true, ltb-false, lt-ltb, le-ltb}
@@ -65,7 +67,8 @@ passes x cs y e ys full =
     let k = entries_of_call x (y ∷ ys) in
     let le : k ≤ length (y ∷ ys) = ltb-false (length (y ∷ ys)) k full in
     let same : entries_of_call x ((y ∷ ys) ++ e ∷ []) ≡ k = same_count x y (ys ++ e ∷ []) ys in
-    let long : nat_lt (length ((y ∷ ys) ++ e ∷ [])) k ≡ false = le-ltb (length ((y ∷ ys) ++ e ∷ [])) k (let l = length-append (y ∷ ys) (e ∷ []) in omega (arith, l, le)) in
+    let long : nat_lt (length ((y ∷ ys) ++ e ∷ [])) k ≡ false
+    = le-ltb (length ((y ∷ ys) ++ e ∷ [])) k (let l = length-append (y ∷ ys) (e ∷ []) in omega (arith, l, le)) in
     ap (λ (m : ℕ). cond (nat_lt (length ((y ∷ ys) ++ e ∷ [])) m) (due_at x (length ((y ∷ ys) ++ e ∷ []))) (due_of cs (drop m ((y ∷ ys) ++ e ∷ [])))) same
     ∙ ap (λ (b : Bool). cond b (due_at x (length ((y ∷ ys) ++ e ∷ []))) (due_of cs (drop k ((y ∷ ys) ++ e ∷ [])))) long
     ∙ ap (λ (xs : List Entry). due_of cs xs) (drop-append-le k (y ∷ ys) (e ∷ []) le)
@@ -88,8 +91,12 @@ standing (x ∷ cs) es c n h = at_head (nat_lt (length es) (entries_of_call x es
     later [] full s = absurd (let le = ltb-false 0 (entries_of_call x []) full in let one = makes_one x [] in omega (arith, le, one))
     later (y ∷ ys) full s = record { rest = s.rest; own = s.own; counts = s.counts; incomplete = s.incomplete; more = λ e. passes x cs y e ys full ∙ s.more e }
 
-    at_head : (b : Bool) → nat_lt (length es) (entries_of_call x es) ≡ b → (due_of cs (drop (entries_of_call x es) es) ≡ Some (c, n) → Standing cs (drop (entries_of_call x es) es) c n) → Standing (x ∷ cs) es c n
-    at_head true is deeper = let s = same_call x c (length es) n (ap (λ (b : Bool). cond b (due_at x (length es)) (due_of cs (drop (entries_of_call x es) es))) (sym is) ∙ h) in here s.0 (sym s.1) is
+    at_head : (b : Bool) → nat_lt (length es) (entries_of_call x es) ≡ b
+        → (due_of cs (drop (entries_of_call x es) es) ≡ Some (c, n) → Standing cs (drop (entries_of_call x es) es) c n)
+        → Standing (x ∷ cs) es c n
+    at_head true is deeper = let s = same_call x c (length es) n
+        (ap (λ (b : Bool). cond b (due_at x (length es)) (due_of cs (drop (entries_of_call x es) es))) (sym is) ∙ h) in
+        here s.0 (sym s.1) is
     at_head false is deeper = later es is (deeper (ap (λ (b : Bool). cond b (due_at x (length es)) (due_of cs (drop (entries_of_call x es) es))) (sym is) ∙ h))
 
 -- the first call that is left has made no entry
@@ -115,13 +122,18 @@ goes_on c rest own e d n some h = by_test (nat_lt (length (own ++ e ∷ [])) (en
         let l = length-append (y ∷ ys) (e ∷ []) in
         omega (arith, same, below, l)
 
-    by_test : (b : Bool) → nat_lt (length (own ++ e ∷ [])) (entries_of_call c (own ++ e ∷ [])) ≡ b → ((d ≡ c) × (n ≡ length own + 1) × (nat_lt n (entries_of_call c (own ++ e ∷ [])) ≡ true)) ⊎ (n ≡ 0)
+    by_test : (b : Bool) → nat_lt (length (own ++ e ∷ [])) (entries_of_call c (own ++ e ∷ [])) ≡ b
+        → ((d ≡ c) × (n ≡ length own + 1) × (nat_lt n (entries_of_call c (own ++ e ∷ [])) ≡ true)) ⊎ (n ≡ 0)
     by_test true is =
-        let s = same_call c d (length (own ++ e ∷ [])) n (ap (λ (b : Bool). cond b (due_at c (length (own ++ e ∷ []))) (due_of rest (drop (entries_of_call c (own ++ e ∷ [])) (own ++ e ∷ [])))) (sym is) ∙ h) in
+        let s = same_call c d (length (own ++ e ∷ [])) n
+        (ap (λ (b : Bool). cond b (due_at c (length (own ++ e ∷ [])))
+        (due_of rest (drop (entries_of_call c (own ++ e ∷ [])) (own ++ e ∷ [])))) (sym is) ∙ h) in
         inl (sym s.0, sym s.1 ∙ count, subst (λ (m : ℕ). nat_lt m (entries_of_call c (own ++ e ∷ [])) ≡ true) s.1 is)
     by_test false is =
         let none : drop (entries_of_call c (own ++ e ∷ [])) (own ++ e ∷ []) ≡ [] = drop_of_length-le (own ++ e ∷ []) (enough own some) in
-        inr (fresh rest d n (ap (λ (xs : List Entry). due_of rest xs) (sym none) ∙ (ap (λ (b : Bool). cond b (due_at c (length (own ++ e ∷ []))) (due_of rest (drop (entries_of_call c (own ++ e ∷ [])) (own ++ e ∷ [])))) (sym is) ∙ h)))
+        inr (fresh rest d n (ap (λ (xs : List Entry). due_of rest xs) (sym none)
+        ∙ (ap (λ (b : Bool). cond b (due_at c (length (own ++ e ∷ [])))
+        (due_of rest (drop (entries_of_call c (own ++ e ∷ [])) (own ++ e ∷ [])))) (sym is) ∙ h)))
 
 -- ---- the same over the past
 
@@ -130,21 +142,31 @@ abbrev pub OneMore : Call → ℕ → Entry → Call → ℕ → Type 0
 OneMore c n e d m = ((d ≡ c) × (m ≡ n + 1) × (n ≡ 0 → nat_lt m (entries_of_call c (e ∷ [])) ≡ true)) ⊎ (m ≡ 0)
 
 pub entries_more : (r : DriverNo) (e : Entry) (past : List Entry) → is_by_driver r e ≡ true → entries_by r (e ∷ past) ≡ entries_by r past ++ e ∷ []
-entries_more r e past mine = ap (λ (b : Bool). reverse (cond b (e ∷ filter (is_by_driver r) past) (filter (is_by_driver r) past))) mine ∙ reverse_onto (filter (is_by_driver r) past) e []
+entries_more r e past mine = ap (λ (b : Bool). reverse
+    (cond b (e ∷ filter (is_by_driver r) past) (filter (is_by_driver r) past))) mine
+    ∙ reverse_onto (filter (is_by_driver r) past) e []
 
 none_own : (own : List Entry) → length own ≡ 0 → own ≡ []
 none_own [] h = refl
 none_own (x ∷ xs) h = absurd (omega (arith, h))
 
-after_standing : (cs : List Call) (es : List Entry) (e : Entry) (c : Call) (n : ℕ) (d : Call) (m : ℕ) → Standing cs es c n → due_of cs (es ++ e ∷ []) ≡ Some (d, m) → OneMore c n e d m
+after_standing : (cs : List Call) (es : List Entry) (e : Entry) (c : Call) (n : ℕ) (d : Call) (m : ℕ)
+    → Standing cs es c n → due_of cs (es ++ e ∷ []) ≡ Some (d, m) → OneMore c n e d m
 after_standing cs es e c n d m s is = by_case (goes_on c s.rest s.own e d m s.incomplete (sym (s.more e) ∙ is))
   where
     by_case : ((d ≡ c) × (m ≡ length s.own + 1) × (nat_lt m (entries_of_call c (s.own ++ e ∷ [])) ≡ true)) ⊎ (m ≡ 0) → OneMore c n e d m
     by_case (inl h) =
-        inl (h.0, (let l = s.counts in let k = h.1 in omega (arith, l, k)), λ zero. subst (λ (xs : List Entry). nat_lt m (entries_of_call c (xs ++ e ∷ [])) ≡ true) (none_own s.own (sym s.counts ∙ zero)) h.2)
+        inl (
+          h.0,
+          (let l = s.counts in let k = h.1 in omega (arith, l, k)),
+          λ zero. subst
+              (λ (xs : List Entry). nat_lt m (entries_of_call c (xs ++ e ∷ [])) ≡ true)
+              (none_own s.own (sym s.counts ∙ zero)) h.2,
+        )
     by_case (inr h) = inr h
 
-pub one_more : (def : LineDef) (r : DriverNo) (e : Entry) (past : List Entry) (c : Call) (n : ℕ) (d : Call) (m : ℕ) → is_by_driver r e ≡ true → due_call def r past ≡ Some (c, n)
+pub one_more : (def : LineDef) (r : DriverNo) (e : Entry) (past : List Entry) (c : Call) (n : ℕ) (d : Call) (m : ℕ)
+    → is_by_driver r e ≡ true → due_call def r past ≡ Some (c, n)
     → due_call def r (e ∷ past) ≡ Some (d, m) → OneMore c n e d m
 one_more def r e past c n d m mine was is =
     after_standing (calls_by r def.calls) (entries_by r past) e c n d m (standing (calls_by r def.calls) (entries_by r past) c n was)
@@ -152,7 +174,8 @@ one_more def r e past c n d m mine was is =
 
 -- another's entry leaves a driver where it is
 pub no_more : (def : LineDef) (r : DriverNo) (e : Entry) (past : List Entry) → is_by_driver r e ≡ false → due_call def r (e ∷ past) ≡ due_call def r past
-no_more def r e past other = ap (λ (b : Bool). due_of (calls_by r def.calls) (reverse (cond b (e ∷ filter (is_by_driver r) past) (filter (is_by_driver r) past)))) other
+no_more def r e past other = ap (λ (b : Bool). due_of (calls_by r def.calls)
+    (reverse (cond b (e ∷ filter (is_by_driver r) past) (filter (is_by_driver r) past)))) other
 
 -- a free makes at most three entries
 pub free_below : (def : LineDef) (r : DriverNo) (d : DevNo) (past : List Entry) (n : ℕ) → due_call def r past ≡ Some (calls.Free d, n) → n < 3
@@ -169,17 +192,24 @@ free_below def r d past n is =
 
 -- a driver that is within a free after the entry of s, whose call was c: it was there before, or
 -- the entry is of that free
-pub free_before : (def : LineDef) (r s : DriverNo) (e : Entry) (past : List Entry) (c : Call) (n : ℕ) (d : DevNo) (m : ℕ) → is_by_driver r e ≡ same_driver r s → due_call def s past ≡ Some (c, n)
+pub free_before : (def : LineDef) (r s : DriverNo) (e : Entry) (past : List Entry) (c : Call) (n : ℕ) (d : DevNo)
+    (m : ℕ) → is_by_driver r e ≡ same_driver r s → due_call def s past ≡ Some (c, n)
     → due_call def r (e ∷ past) ≡ Some (calls.Free d, suc m)
-    → ((same_driver r s ≡ false) × (due_call def r past ≡ Some (calls.Free d, suc m))) ⊎ ((r ≡ s) × (calls.Free d ≡ c) × (m ≡ n) × (n ≡ 0 → nat_lt (suc m) (entries_of_call c (e ∷ [])) ≡ true))
+    → ((same_driver r s ≡ false) × (due_call def r past ≡ Some (calls.Free d, suc m)))
+    ⊎ ((r ≡ s) × (calls.Free d ≡ c) × (m ≡ n) × (n ≡ 0 → nat_lt (suc m) (entries_of_call c (e ∷ [])) ≡ true))
 free_before def r s e past c n d m by was is = by_driver (same_driver r s) refl
   where
-    by_case : r ≡ s → OneMore c n e (calls.Free d) (suc m) → ((same_driver r s ≡ false) × (due_call def r past ≡ Some (calls.Free d, suc m))) ⊎ ((r ≡ s) × (calls.Free d ≡ c) × (m ≡ n) × (n ≡ 0 → nat_lt (suc m) (entries_of_call c (e ∷ [])) ≡ true))
+    by_case : r ≡ s → OneMore c n e (calls.Free d) (suc m)
+        → ((same_driver r s ≡ false) × (due_call def r past ≡ Some (calls.Free d, suc m)))
+        ⊎ ((r ≡ s) × (calls.Free d ≡ c) × (m ≡ n) × (n ≡ 0 → nat_lt (suc m) (entries_of_call c (e ∷ [])) ≡ true))
     by_case same (inl h) = inr (same, h.0, (let k = h.1 in omega (arith, k)), h.2)
     by_case same (inr h) = absurd (omega (arith, h))
 
-    by_driver : (b : Bool) → same_driver r s ≡ b → ((same_driver r s ≡ false) × (due_call def r past ≡ Some (calls.Free d, suc m))) ⊎ ((r ≡ s) × (calls.Free d ≡ c) × (m ≡ n) × (n ≡ 0 → nat_lt (suc m) (entries_of_call c (e ∷ [])) ≡ true))
+    by_driver : (b : Bool) → same_driver r s ≡ b → ((same_driver r s ≡ false)
+        × (due_call def r past ≡ Some (calls.Free d, suc m)))
+        ⊎ ((r ≡ s) × (calls.Free d ≡ c) × (m ≡ n) × (n ≡ 0 → nat_lt (suc m) (entries_of_call c (e ∷ [])) ≡ true))
     by_driver true same =
         let equal = driver_from_same r s same in
-        by_case equal (one_more def r e past c n (calls.Free d) (suc m) (by ∙ same) (subst (λ (t : DriverNo). due_call def t past ≡ Some (c, n)) (sym equal) was) is)
+        by_case equal (one_more def r e past c n (calls.Free d) (suc m) (by ∙ same)
+        (subst (λ (t : DriverNo). due_call def t past ≡ Some (c, n)) (sym equal) was) is)
     by_driver false other = inl (other, sym (no_more def r e past (by ∙ other)) ∙ is)

@@ -30,19 +30,23 @@ use Rattle.irq_laws.proofs.KeptAlways.{kept}
 -- ---- a masked line
 
 -- an enabled edge line is masked within a flow
-pub edge_reason : (def : LineDef) (f : FlowKind) (past : List Entry) → IsValid def → Kept def past → is_edge_line def ≡ true → def.flow ≡ f → is_masked def past ≡ true → depth past ≡ 0 → has_flow def past ≡ true
+pub edge_reason : (def : LineDef) (f : FlowKind) (past : List Entry) → IsValid def → Kept def past
+    → is_edge_line def ≡ true → def.flow ≡ f → is_masked def past ≡ true → depth past ≡ 0 → has_flow def past ≡ true
 edge_reason def flows.Edge past valid k edge is m zero = (k.edges.edge_flow (ap is_edge_flow is) m zero).0
 edge_reason def flows.Level past valid k edge is m zero = level_is_not (is_edge_line def) edge (valid.level_flow (ap is_level_flow is))
 edge_reason def flows.Eoi past valid k edge is m zero = both_ways (is_masked def past) m (k.edges.eoi_edge edge (ap is_eoi_flow is) zero)
 
-reason : (def : LineDef) (past : List Entry) → IsValid def → Kept def past → is_masked def past ≡ true → (is_disabled past || (has_flow def past || (is_level_line def && is_some_unfinished def past))) ≡ true
+reason : (def : LineDef) (past : List Entry) → IsValid def → Kept def past → is_masked def past ≡ true
+    → (is_disabled past || (has_flow def past || (is_level_line def && is_some_unfinished def past))) ≡ true
 reason def past valid k m = by_disabled (is_disabled past) refl
   where
-    by_held : is_edge_line def ≡ false → (has_flow def past ≡ true) ⊎ (is_some_unfinished def past ≡ true) → (is_disabled past || (has_flow def past || (is_level_line def && is_some_unfinished def past))) ≡ true
+    by_held : is_edge_line def ≡ false → (has_flow def past ≡ true) ⊎ (is_some_unfinished def past ≡ true)
+        → (is_disabled past || (has_flow def past || (is_level_line def && is_some_unfinished def past))) ≡ true
     by_held level (inl f) = or_right (is_disabled past) _ (or_left (has_flow def past) _ f)
     by_held level (inr u) = or_right (is_disabled past) _ (or_right (has_flow def past) _ (and_from _ _ (ap not level) u))
 
-    by_line : (b : Bool) → is_edge_line def ≡ b → depth past ≡ 0 → (is_disabled past || (has_flow def past || (is_level_line def && is_some_unfinished def past))) ≡ true
+    by_line : (b : Bool) → is_edge_line def ≡ b → depth past ≡ 0
+        → (is_disabled past || (has_flow def past || (is_level_line def && is_some_unfinished def past))) ≡ true
     by_line true edge zero = or_right (is_disabled past) _ (or_left (has_flow def past) _ (edge_reason def def.flow past valid k edge refl m zero))
     by_line false level zero = by_held level (or_cases _ _ (k.levels.level (ap not level) m zero))
 

@@ -1,7 +1,8 @@
 -- Each entry keeps: a device that is neither linked nor being freed is at rest, and what this
 -- needs.
 use Rattle.std.proofs.Common.{◌≡◌, ℕ, ◌⊎◌, inl, inr, Bool, true, false, not, ◌||◌, ◌&&◌, cond, Some, List, [], ◌∷◌, refl, sym, ap, ◌∙◌, subst, arith}
-use Rattle.std.proofs.lemmas.Bool.{and_parts, and_from, and_left, and_right, or_cases, or_left, or_right, or_from, or_parts, false_from_ne_true, true_from_ne_false, not-true}
+use Rattle.std.proofs.lemmas.Bool.{and_parts, and_from, and_left, and_right, or_cases, or_left, or_right, or_from}
+use Rattle.std.proofs.lemmas.Bool.{or_parts, false_from_ne_true, true_from_ne_false, not-true}
 use Rattle.std.specs.List.{list_any}
 use Rattle.irq_base.specs.declared.numbers.DevNo.{DevNo}
 use Rattle.irq_base.specs.declared.numbers.DriverNo.{DriverNo}
@@ -45,18 +46,24 @@ not_here false b = refl
 
 -- ---- a device that was ever linked is a device of the line
 
-requested_named : (def : LineDef) (r : DriverNo) (x : DevNo) (flags : Flags) (n : ℕ) (past : List Entry) → IsValid def → due_call def r past ≡ Some (calls.Request x flags, n) → list_any (is_device x) def.devices ≡ true
-requested_named def r x flags n past valid call = due_passes (names_one_of def.devices) r def.calls (entries_by r past) (calls.Request x flags) n valid.calls call
+requested_named : (def : LineDef) (r : DriverNo) (x : DevNo) (flags : Flags) (n : ℕ) (past : List Entry) → IsValid def
+    → due_call def r past ≡ Some (calls.Request x flags, n) → list_any (is_device x) def.devices ≡ true
+requested_named def r x flags n past valid call = due_passes (names_one_of def.devices) r def.calls (entries_by r past)
+    (calls.Request x flags) n valid.calls call
 
-named_more : (def : LineDef) (e : Entry) (past : List Entry) → IsValid def → IsDue def e past → Kept def past → (d : DevNo) → list_any (links_dev d) (e ∷ past) ≡ true → list_any (is_device d) def.devices ≡ true
+named_more : (def : LineDef) (e : Entry) (past : List Entry) → IsValid def → IsDue def e past → Kept def past
+    → (d : DevNo) → list_any (links_dev d) (e ∷ past) ≡ true → list_any (is_device d) def.devices ≡ true
 named_more def (entries.Request r x flags links.Linked opened) past valid due k d h = by_case (or_cases (same_dev d x && true) _ h)
   where
     by_case : ((same_dev d x && true) ≡ true) ⊎ (list_any (links_dev d) past ≡ true) → list_any (is_device d) def.devices ≡ true
     by_case (inl now) =
         let u = request_due def r x flags links.Linked opened past due in
-        subst (λ (y : DevNo). list_any (is_device y) def.devices ≡ true) (sym (dev_from_same d x (and_parts (same_dev d x) true now).0)) (requested_named def r x flags u.count past valid u.call)
+        subst (λ (y : DevNo). list_any (is_device y) def.devices ≡ true)
+        (sym (dev_from_same d x (and_parts (same_dev d x) true now).0))
+        (requested_named def r x flags u.count past valid u.call)
     by_case (inr was) = k.rest.named d was
-named_more def (entries.Request r x flags (links.Refused error) opened) past valid due k d h = k.rest.named d (sym (not_here (same_dev d x) (list_any (links_dev d) past)) ∙ h)
+named_more def (entries.Request r x flags (links.Refused error) opened) past valid due k d h
+    = k.rest.named d (sym (not_here (same_dev d x) (list_any (links_dev d) past)) ∙ h)
 named_more def e past valid due k d h = k.rest.named d h
 
 -- ---- after its free
@@ -66,15 +73,19 @@ there_when : (b last v : Bool) → unlinks.Unlinked last ≡ cond b (unlinks.Unl
 there_when true last v h = refl
 there_when false last v h = cc
 
-pub unlinked_was_linked : (def : LineDef) (r : DriverNo) (x : DevNo) (last : Bool) (past : List Entry) → IsDue def (entries.Unlink r x (unlinks.Unlinked last)) past → is_linked past x ≡ true
+pub unlinked_was_linked : (def : LineDef) (r : DriverNo) (x : DevNo) (last : Bool) (past : List Entry)
+    → IsDue def (entries.Unlink r x (unlinks.Unlinked last)) past → is_linked past x ≡ true
 unlinked_was_linked def r x last past due = there_when (is_linked past x) last _ (unlink_due def r x (unlinks.Unlinked last) past due).answer_is
 
-freed_named_more : (def : LineDef) (e : Entry) (past : List Entry) → IsDue def e past → Kept def past → (d : DevNo) → is_being_freed (e ∷ past) d ≡ true → list_any (is_device d) def.devices ≡ true
+freed_named_more : (def : LineDef) (e : Entry) (past : List Entry) → IsDue def e past → Kept def past → (d : DevNo)
+    → is_being_freed (e ∷ past) d ≡ true → list_any (is_device d) def.devices ≡ true
 freed_named_more def (entries.Unlink s x (unlinks.Unlinked last)) past due k d h = by_case (or_cases (same_dev d x && true) _ h)
   where
     by_case : ((same_dev d x && true) ≡ true) ⊎ (is_being_freed past d ≡ true) → list_any (is_device d) def.devices ≡ true
     by_case (inl now) =
-        let there = subst (λ (y : DevNo). is_linked past y ≡ true) (sym (dev_from_same d x (and_parts (same_dev d x) true now).0)) (unlinked_was_linked def s x last past due) in
+        let there = subst (λ (y : DevNo). is_linked past y ≡ true)
+        (sym (dev_from_same d x (and_parts (same_dev d x) true now).0)) (unlinked_was_linked def s x last past due)
+        in
         k.rest.named d (was_linked past d there)
     by_case (inr was) = k.rest.freed_named d was
 freed_named_more def (entries.Unlink s x unlinks.NotThere) past due k d h = k.rest.freed_named d (sym (not_here (same_dev d x) (is_being_freed past d)) ∙ h)
@@ -82,7 +93,8 @@ freed_named_more def (entries.Freed s x) past due k d h = k.rest.freed_named d (
 freed_named_more def e past due k d h = k.rest.freed_named d h
 
 -- a device that is linked or being freed is a device of the line
-pub there_named : (def : LineDef) (past : List Entry) → Kept def past → (d : DevNo) → (is_linked past d || is_being_freed past d) ≡ true → list_any (is_device d) def.devices ≡ true
+pub there_named : (def : LineDef) (past : List Entry) → Kept def past → (d : DevNo)
+    → (is_linked past d || is_being_freed past d) ≡ true → list_any (is_device d) def.devices ≡ true
 there_named def past k d h = by_case (or_cases (is_linked past d) (is_being_freed past d) h)
   where
     by_case : (is_linked past d ≡ true) ⊎ (is_being_freed past d ≡ true) → list_any (is_device d) def.devices ≡ true
@@ -91,17 +103,25 @@ there_named def past k d h = by_case (or_cases (is_linked past d) (is_being_free
 
 -- d isn't x, since something holds of x alone
 apart : (d x : DevNo) (p : DevNo → Bool) → p x ≡ true → p d ≡ false → same_dev d x ≡ false
-apart d x p there absent = false_from_ne_true (same_dev d x) (λ same. both_ways (p d) (subst (λ (y : DevNo). p y ≡ true) (sym (dev_from_same d x same)) there) absent)
+apart d x p there absent = false_from_ne_true (same_dev d x)
+    (λ same. both_ways (p d) (subst (λ (y : DevNo). p y ≡ true) (sym (dev_from_same d x same)) there) absent)
 
 freed_now : (s f : Bool) → s ≡ true → (not s && f) ≡ false
 freed_now s f h = grind arith
 
-after_more : (def : LineDef) (e : Entry) (past : List Entry) → IsDue def e past → Kept def past → (d : DevNo) → stands (is_freed d) (links_dev d) (e ∷ past) ≡ true → (is_linked (e ∷ past) d ≡ false) × (is_being_freed (e ∷ past) d ≡ false)
+after_more : (def : LineDef) (e : Entry) (past : List Entry) → IsDue def e past → Kept def past → (d : DevNo)
+    → stands (is_freed d) (links_dev d) (e ∷ past) ≡ true
+    → (is_linked (e ∷ past) d ≡ false) × (is_being_freed (e ∷ past) d ≡ false)
 after_more def (entries.Freed s x) past due k d h = by_case (or_cases (same_dev d x) _ h)
   where
-    by_case : (same_dev d x ≡ true) ⊎ (stands (is_freed d) (links_dev d) past ≡ true) → (is_linked past d ≡ false) × ((not (same_dev d x) && is_being_freed past d) ≡ false)
-    by_case (inl now) =
-        (subst (λ (y : DevNo). is_linked past y ≡ false) (sym (dev_from_same d x now)) (k.frees.unlinked s x (freed_is def s x past due k.frees).1), freed_now (same_dev d x) (is_being_freed past d) now)
+    by_case : (same_dev d x ≡ true) ⊎ (stands (is_freed d) (links_dev d) past ≡ true)
+        → (is_linked past d ≡ false) × ((not (same_dev d x) && is_being_freed past d) ≡ false)
+    by_case (inl now) = (
+      subst (λ (y : DevNo). is_linked past y ≡ false) (sym (dev_from_same d x now))
+          (k.frees.unlinked s x (freed_is def s x past due k.frees).1),
+      freed_now (same_dev d x)
+          (is_being_freed past d) now,
+    )
     by_case (inr was) = let r = k.rest.after_free d was in (r.0, and_right (not (same_dev d x)) _ r.1)
 after_more def (entries.Unlink s x (unlinks.Unlinked last)) past due k d h =
     let r = k.rest.after_free d h in
@@ -136,14 +156,18 @@ all_rest : (w r u c : Bool) → w ≡ false → r ≡ false → u ≡ false → 
 all_rest w r u c a b x y = grind arith
 
 -- a freed device is at rest
-freed_rest : (def : LineDef) (s : DriverNo) (x : DevNo) (past : List Entry) → IsDue def (entries.Freed s x) past → Kept def past → (is_woken past x || (is_running past x || (is_unfinished past x || is_called past x))) ≡ false
+freed_rest : (def : LineDef) (s : DriverNo) (x : DevNo) (past : List Entry) → IsDue def (entries.Freed s x) past
+    → Kept def past → (is_woken past x || (is_running past x || (is_unfinished past x || is_called past x))) ≡ false
 freed_rest def s x past due k =
     let u = freed_due def s x past due in
     let idle : (is_woken past x || is_finishing past x) ≡ false = or_from _ _ u.not_woken (and_left (is_running past x) _ u.not_running) in
-    let finished : is_unfinished past x ≡ false = false_from_ne_true (is_unfinished past x) (λ h. both_ways (is_woken past x || is_finishing past x) (k.rest.at_work x h) idle) in
-    all_rest (is_woken past x) (is_running past x) (is_unfinished past x) (is_called past x) u.not_woken u.not_running finished (k.frees.past_clear s x (freed_is def s x past due k.frees).0)
+    let finished : is_unfinished past x ≡ false = false_from_ne_true (is_unfinished past x)
+    (λ h. both_ways (is_woken past x || is_finishing past x) (k.rest.at_work x h) idle) in
+    all_rest (is_woken past x) (is_running past x) (is_unfinished past x) (is_called past x) u.not_woken u.not_running
+    finished (k.frees.past_clear s x (freed_is def s x past due k.frees).0)
 
-rest_more : (def : LineDef) (e : Entry) (past : List Entry) → IsDue def e past → Kept def past → (d : DevNo) → is_linked (e ∷ past) d ≡ false → is_being_freed (e ∷ past) d ≡ false
+rest_more : (def : LineDef) (e : Entry) (past : List Entry) → IsDue def e past → Kept def past → (d : DevNo)
+    → is_linked (e ∷ past) d ≡ false → is_being_freed (e ∷ past) d ≡ false
     → (is_woken (e ∷ past) d || (is_running (e ∷ past) d || (is_unfinished (e ∷ past) d || is_called (e ∷ past) d))) ≡ false
 rest_more def (entries.Begin c x) past due k d l f =
     let r = k.rest.at_rest d l f in
@@ -183,14 +207,18 @@ rest_more def (entries.Unlink s x (unlinks.Unlinked last)) past due k d l f =
   where
     still_linked : (s l : Bool) → (s && true) ≡ false → (not (s && true) && l) ≡ false → l ≡ false
     still_linked s l a b = grind arith
-rest_more def (entries.Unlink s x unlinks.NotThere) past due k d l f = k.rest.at_rest d (none_changed (same_dev d x) (is_linked past d) l) (or_parts (same_dev d x && false) (is_being_freed past d) f).1
+rest_more def (entries.Unlink s x unlinks.NotThere) past due k d l f
+    = k.rest.at_rest d (none_changed (same_dev d x) (is_linked past d) l)
+    (or_parts (same_dev d x && false) (is_being_freed past d) f).1
   where
     none_changed : (s l : Bool) → (not (s && false) && l) ≡ false → l ≡ false
     none_changed s l b = grind arith
 rest_more def (entries.Freed s x) past due k d l f = by_test (same_dev d x) refl
   where
     by_test : (b : Bool) → same_dev d x ≡ b → (is_woken past d || (is_running past d || (is_unfinished past d || is_called past d))) ≡ false
-    by_test true same = subst (λ (y : DevNo). (is_woken past y || (is_running past y || (is_unfinished past y || is_called past y))) ≡ false) (sym (dev_from_same d x same)) (freed_rest def s x past due k)
+    by_test true same = subst (λ (y : DevNo). (is_woken past y ||
+        (is_running past y || (is_unfinished past y || is_called past y))) ≡ false) (sym (dev_from_same d x same))
+        (freed_rest def s x past due k)
     by_test false other = k.rest.at_rest d l (ap (λ (b : Bool). not b && is_being_freed past d) (sym other) ∙ f)
 rest_more def e past due k d l f = k.rest.at_rest d l f
 
@@ -201,17 +229,23 @@ woken_now : (o b s w f : Bool) → (o && (b || s)) ≡ true → ((o && s) ≡ tr
 woken_now o b s w f h k = grind arith
 
 -- if the run's handler returned, a finish after the return is a finish of the run
-finish_in_run : {A : Type 0} (b r f : A → Bool) (past : List A) → list_any r (since b past) ≡ true → list_any f (since r past) ≡ true → list_any f (since b past) ≡ true
+finish_in_run : {A : Type 0} (b r f : A → Bool) (past : List A) → list_any r (since b past) ≡ true
+    → list_any f (since r past) ≡ true → list_any f (since b past) ≡ true
 finish_in_run b r f [] h g = g
 finish_in_run b r f (e ∷ past) h g = by_test (b e) (r e) refl refl (λ x y. finish_in_run b r f past x y)
   where
-    by_case : (f e ≡ true) ⊎ (list_any f (since r past) ≡ true) → list_any r (since b past) ≡ true → (list_any r (since b past) ≡ true → list_any f (since r past) ≡ true → list_any f (since b past) ≡ true) → (f e || list_any f (since b past)) ≡ true
+    by_case : (f e ≡ true) ⊎ (list_any f (since r past) ≡ true) → list_any r (since b past) ≡ true
+        → (list_any r (since b past) ≡ true → list_any f (since r past) ≡ true → list_any f (since b past) ≡ true)
+        → (f e || list_any f (since b past)) ≡ true
     by_case (inl here) returned deeper = or_left (f e) _ here
     by_case (inr later) returned deeper = or_right (f e) _ (deeper returned later)
 
-    by_test : (p q : Bool) → b e ≡ p → r e ≡ q → (list_any r (since b past) ≡ true → list_any f (since r past) ≡ true → list_any f (since b past) ≡ true) → list_any f (since b (e ∷ past)) ≡ true
-    by_test true q is iq deeper = let n : list_any r (cond true [] (e ∷ since b past)) ≡ true = ap (λ (c : Bool). list_any r (cond c [] (e ∷ since b past))) (sym is) ∙ h in cc
-    by_test false true is iq deeper = let n : list_any f (cond true [] (e ∷ since r past)) ≡ true = ap (λ (c : Bool). list_any f (cond c [] (e ∷ since r past))) (sym iq) ∙ g in cc
+    by_test : (p q : Bool) → b e ≡ p → r e ≡ q → (list_any r (since b past) ≡ true → list_any f (since r past) ≡ true
+        → list_any f (since b past) ≡ true) → list_any f (since b (e ∷ past)) ≡ true
+    by_test true q is iq deeper = let n : list_any r (cond true [] (e ∷ since b past))
+        ≡ true = ap (λ (c : Bool). list_any r (cond c [] (e ∷ since b past))) (sym is) ∙ h in cc
+    by_test false true is iq deeper = let n : list_any f (cond true [] (e ∷ since r past))
+        ≡ true = ap (λ (c : Bool). list_any f (cond c [] (e ∷ since r past))) (sym iq) ∙ g in cc
     by_test false false is iq deeper =
         let m : (r e || list_any r (since b past)) ≡ true = ap (λ (c : Bool). list_any r (cond c [] (e ∷ since b past))) (sym is) ∙ h in
         let n : (f e || list_any f (since r past)) ≡ true = ap (λ (c : Bool). list_any f (cond c [] (e ∷ since r past))) (sym iq) ∙ g in
@@ -222,24 +256,37 @@ not_oneshot : (o f : Bool) → (o && not f) ≡ false → f ≡ false → o ≡ 
 not_oneshot o f h g = grind arith
 
 -- what is at work belongs to a device that is linked or being freed
-pub running_there : (def : LineDef) (past : List Entry) → Kept def past → (x : DevNo) → is_running past x ≡ true → (is_linked past x || is_being_freed past x) ≡ true
+pub running_there : (def : LineDef) (past : List Entry) → Kept def past → (x : DevNo) → is_running past x ≡ true
+    → (is_linked past x || is_being_freed past x) ≡ true
 running_there def past k x running =
-    true_from_ne_false (is_linked past x || is_being_freed past x) (λ none. let p = or_parts _ _ none in both_ways (is_running past x) running (parts_of past x (k.rest.at_rest x p.0 p.1)).1)
+    true_from_ne_false (is_linked past x || is_being_freed past x)
+    (λ none. let p = or_parts _ _ none in both_ways (is_running past x) running
+    (parts_of past x (k.rest.at_rest x p.0 p.1)).1)
 
-pub woken_there : (def : LineDef) (past : List Entry) → Kept def past → (x : DevNo) → is_woken past x ≡ true → (is_linked past x || is_being_freed past x) ≡ true
+pub woken_there : (def : LineDef) (past : List Entry) → Kept def past → (x : DevNo) → is_woken past x ≡ true
+    → (is_linked past x || is_being_freed past x) ≡ true
 woken_there def past k x woken =
-    true_from_ne_false (is_linked past x || is_being_freed past x) (λ none. let p = or_parts _ _ none in both_ways (is_woken past x) woken (parts_of past x (k.rest.at_rest x p.0 p.1)).0)
+    true_from_ne_false (is_linked past x || is_being_freed past x)
+    (λ none. let p = or_parts _ _ none in both_ways (is_woken past x) woken
+    (parts_of past x (k.rest.at_rest x p.0 p.1)).0)
 
-pub unfinished_there : (def : LineDef) (past : List Entry) → Kept def past → (x : DevNo) → is_unfinished past x ≡ true → (is_linked past x || is_being_freed past x) ≡ true
+pub unfinished_there : (def : LineDef) (past : List Entry) → Kept def past → (x : DevNo) → is_unfinished past x ≡ true
+    → (is_linked past x || is_being_freed past x) ≡ true
 unfinished_there def past k x bit =
-    true_from_ne_false (is_linked past x || is_being_freed past x) (λ none. let p = or_parts _ _ none in both_ways (is_unfinished past x) bit (parts_of past x (k.rest.at_rest x p.0 p.1)).2)
+    true_from_ne_false (is_linked past x || is_being_freed past x)
+    (λ none. let p = or_parts _ _ none in both_ways (is_unfinished past x) bit
+    (parts_of past x (k.rest.at_rest x p.0 p.1)).2)
 
-pub called_there : (def : LineDef) (past : List Entry) → Kept def past → (x : DevNo) → is_called past x ≡ true → (is_linked past x || is_being_freed past x) ≡ true
+pub called_there : (def : LineDef) (past : List Entry) → Kept def past → (x : DevNo) → is_called past x ≡ true
+    → (is_linked past x || is_being_freed past x) ≡ true
 called_there def past k x called =
-    true_from_ne_false (is_linked past x || is_being_freed past x) (λ none. let p = or_parts _ _ none in both_ways (is_called past x) called (parts_of past x (k.rest.at_rest x p.0 p.1)).3)
+    true_from_ne_false (is_linked past x || is_being_freed past x)
+    (λ none. let p = or_parts _ _ none in both_ways (is_called past x) called
+    (parts_of past x (k.rest.at_rest x p.0 p.1)).3)
 
 -- a run ends with the thread's bit only if the thread was woken again
-done_woken : (def : LineDef) (x : DevNo) (past : List Entry) → IsDue def (entries.Done x) past → Kept def past → is_unfinished past x ≡ true → is_woken past x ≡ true
+done_woken : (def : LineDef) (x : DevNo) (past : List Entry) → IsDue def (entries.Done x) past → Kept def past
+    → is_unfinished past x ≡ true → is_woken past x ≡ true
 done_woken def x past due k h = by_case (or_cases (is_woken past x) (is_finishing past x) (k.rest.at_work x h))
   where
     by_case : (is_woken past x ≡ true) ⊎ (is_finishing past x ≡ true) → is_woken past x ≡ true
@@ -248,14 +295,19 @@ done_woken def x past due k h = by_case (or_cases (is_woken past x) (is_finishin
         let u = done_due def x past due in
         let p = and_parts (is_running past x) _ finishing in
         let none = not-true (list_any (is_finish x) (since (is_thread_begin x) past)) p.1 in
-        let unfinished = false_from_ne_true (has_finished past x) (λ g. both_ways _ (finish_in_run (is_thread_begin x) (is_thread_return x) (is_finish x) past u.returned g) none) in
+        let unfinished = false_from_ne_true (has_finished past x)
+        (λ g. both_ways _ (finish_in_run (is_thread_begin x) (is_thread_return x) (is_finish x) past u.returned g)
+        none) in
         let plain = not_oneshot (is_oneshot past) (has_finished past x) u.all_done unfinished in
         let bit = (and_parts (linking_flags past x).oneshot _ h).0 in
         both_ways (linking_flags past x).oneshot bit (k.rest.flags x (running_there def past k x u.running) ∙ plain)
 
-work_more : (def : LineDef) (e : Entry) (past : List Entry) → IsDue def e past → Kept def past → (d : DevNo) → is_unfinished (e ∷ past) d ≡ true → (is_woken (e ∷ past) d || is_finishing (e ∷ past) d) ≡ true
+work_more : (def : LineDef) (e : Entry) (past : List Entry) → IsDue def e past → Kept def past → (d : DevNo)
+    → is_unfinished (e ∷ past) d ≡ true → (is_woken (e ∷ past) d || is_finishing (e ∷ past) d) ≡ true
 work_more def (entries.Return c x answer served) past due k d h =
-    woken_now (linking_flags past d).oneshot (same_dev d x && is_wake answer) (stands (wakes d) (is_cleared_finish d) (since (links_dev d) past)) (is_woken past d) (is_finishing past d) h (k.rest.at_work d)
+    woken_now (linking_flags past d).oneshot (same_dev d x && is_wake answer)
+    (stands (wakes d) (is_cleared_finish d) (since (links_dev d) past)) (is_woken past d) (is_finishing past d) h
+    (k.rest.at_work d)
 work_more def (entries.ThreadBegin x) past due k d h = by_test (same_dev d x) refl
   where
     by_test : (b : Bool) → same_dev d x ≡ b → (is_woken (entries.ThreadBegin x ∷ past) d || is_finishing (entries.ThreadBegin x ∷ past) d) ≡ true
@@ -264,7 +316,8 @@ work_more def (entries.ThreadBegin x) past due k d h = by_test (same_dev d x) re
 work_more def (entries.Finish x true unmask) past due k d h = by_test (same_dev d x) refl
   where
     by_test : (b : Bool) → same_dev d x ≡ b → (is_woken (entries.Finish x true unmask ∷ past) d || is_finishing (entries.Finish x true unmask ∷ past) d) ≡ true
-    by_test true same = or_left _ _ (subst (λ (y : DevNo). is_woken past y ≡ true) (sym (dev_from_same d x same)) (sym (finish_due def x true unmask past due).kept_is))
+    by_test true same = or_left _ _ (subst (λ (y : DevNo). is_woken past y ≡ true) (sym (dev_from_same d x same))
+        (sym (finish_due def x true unmask past due).kept_is))
     by_test false other = rw other (k.rest.at_work d h)
 work_more def (entries.Finish x false unmask) past due k d h =
     let p = and_parts (linking_flags past d).oneshot (not (same_dev d x) && stands (wakes d) (is_cleared_finish d) (since (links_dev d) past)) h in
@@ -292,24 +345,31 @@ agree : (s n o : Bool) (new old : Bool) → (not s || (not o || not (same_flag n
 agree s n o new old h = grind arith
 
 -- a request that is linked goes with the linked actions
-not_mismatch : (b1 m b3 b4 : Bool) → links.Linked ≡ cond b1 (links.Refused errors.Inval) (cond m (links.Refused errors.Busy) (cond b3 (links.Refused errors.Busy) (cond b4 (links.Refused errors.Inval) links.Linked))) → m ≡ false
+not_mismatch : (b1 m b3 b4 : Bool) → links.Linked ≡ cond b1 (links.Refused errors.Inval)
+    (cond m (links.Refused errors.Busy) (cond b3 (links.Refused errors.Busy)
+    (cond b4 (links.Refused errors.Inval) links.Linked))) → m ≡ false
 not_mismatch true m b3 b4 h = cc
 not_mismatch false true b3 b4 h = cc
 not_mismatch false false b3 b4 h = refl
 
-pub goes_with : (def : LineDef) (s : DriverNo) (x : DevNo) (flags : Flags) (opened : Opened) (past : List Entry) → IsDue def (entries.Request s x flags links.Linked opened) past → (d : DevNo) → is_linked past d ≡ true
+pub goes_with : (def : LineDef) (s : DriverNo) (x : DevNo) (flags : Flags) (opened : Opened) (past : List Entry)
+    → IsDue def (entries.Request s x flags links.Linked opened) past → (d : DevNo) → is_linked past d ≡ true
     → (linking_flags past d).oneshot ≡ flags.oneshot
 goes_with def s x flags opened past due d there =
     let u = request_due def s x flags links.Linked opened past due in
     let fits = not_mismatch (flags.shared && flags.noauto) (is_mismatch flags past) _ _ u.answer_is in
-    let same = false_from_ne_true (flags_differ flags (linking_flags past d)) (λ differs. both_ways (is_mismatch flags past) (of_linked (λ y. flags_differ flags (linking_flags past y)) past d there differs) fits) in
+    let same = false_from_ne_true (flags_differ flags (linking_flags past d))
+    (λ differs. both_ways (is_mismatch flags past)
+    (of_linked (λ y. flags_differ flags (linking_flags past y)) past d there differs) fits) in
     agree flags.shared flags.shared (linking_flags past d).shared flags.oneshot (linking_flags past d).oneshot same
 
 -- nothing is being freed while the mutex is free
 pub none_freed : (def : LineDef) (past : List Entry) → Kept def past → holds_mutex past ≡ false → (d : DevNo) → is_being_freed past d ≡ false
 none_freed def past k free d = false_from_ne_true (is_being_freed past d) (λ h. let f = k.frees.one_device d h in not_freeing past _ free f.1)
 
-flags_more : (def : LineDef) (e : Entry) (past : List Entry) → IsDue def e past → Kept def past → (d : DevNo) → (is_linked (e ∷ past) d || is_being_freed (e ∷ past) d) ≡ true → (linking_flags (e ∷ past) d).oneshot ≡ is_oneshot (e ∷ past)
+flags_more : (def : LineDef) (e : Entry) (past : List Entry) → IsDue def e past → Kept def past → (d : DevNo)
+    → (is_linked (e ∷ past) d || is_being_freed (e ∷ past) d) ≡ true
+    → (linking_flags (e ∷ past) d).oneshot ≡ is_oneshot (e ∷ past)
 flags_more def (entries.Request s x flags links.Linked opened) past due k d h = by_test (same_dev d x) refl
   where
     was_there : (l f : Bool) → f ≡ false → (l || f) ≡ true → l ≡ true
@@ -321,11 +381,13 @@ flags_more def (entries.Request s x flags links.Linked opened) past due k d h = 
         let none = none_freed def past k (request_due def s x flags links.Linked opened past due).no_mutex d in
         let there = was_there (is_linked past d) (is_being_freed past d) none (rw other at h) in
         rw other (goes_with def s x flags opened past due d there)
-flags_more def (entries.Request s x flags (links.Refused error) opened) past due k d h = rw (no_part (same_dev d x)) (k.rest.flags d (rw (no_part (same_dev d x)) at h))
+flags_more def (entries.Request s x flags (links.Refused error) opened) past due k d h
+    = rw (no_part (same_dev d x)) (k.rest.flags d (rw (no_part (same_dev d x)) at h))
 flags_more def (entries.Unlink s x (unlinks.Unlinked last)) past due k d h = by_test (same_dev d x) refl
   where
     by_test : (b : Bool) → same_dev d x ≡ b → (linking_flags past d).oneshot ≡ is_oneshot past
-    by_test true same = k.rest.flags d (or_left _ _ (subst (λ (y : DevNo). is_linked past y ≡ true) (sym (dev_from_same d x same)) (unlinked_was_linked def s x last past due)))
+    by_test true same = k.rest.flags d (or_left _ _ (subst (λ (y : DevNo). is_linked past y ≡ true)
+        (sym (dev_from_same d x same)) (unlinked_was_linked def s x last past due)))
     by_test false other = k.rest.flags d (rw other at h)
 flags_more def (entries.Unlink s x unlinks.NotThere) past due k d h = k.rest.flags d (rw (no_part (same_dev d x)) at h)
 flags_more def (entries.Freed s x) past due k d h = k.rest.flags d (more (is_linked past d) (not (same_dev d x)) (is_being_freed past d) h)

@@ -66,10 +66,13 @@ delivered def h valid legal still i =
     served : IsServedWhenIdle def h
     served = served_when_idle def h valid legal
 
-    none_unserved : depth (reverse h) ≡ 0 → is_level_line def ≡ true → (d : DevNo) → is_linked (reverse h) d ≡ true → (b : Bool) → nat_lt 0 (unserved_asks def d (reverse h)) ≡ b → unserved_asks def d (reverse h) ≡ 0
+    none_unserved : depth (reverse h) ≡ 0 → is_level_line def ≡ true → (d : DevNo) → is_linked (reverse h) d ≡ true
+        → (b : Bool) → nat_lt 0 (unserved_asks def d (reverse h)) ≡ b → unserved_asks def d (reverse h) ≡ 0
     none_unserved on level d there false is = let n = ltb-false 0 (unserved_asks def d (reverse h)) is in omega (arith, n)
     none_unserved on level d there true is =
-        let high : is_high def (reverse h) ≡ true = and_from _ _ level (at_device def (λ x. nat_lt 0 (unserved_asks def x (reverse h))) d (there_named def (reverse h) k d (or_left _ _ there)) is) in
+        let high : is_high def (reverse h) ≡ true = and_from _ _ level
+        (at_device def (λ x. nat_lt 0 (unserved_asks def x (reverse h))) d
+        (there_named def (reverse h) k d (or_left _ _ there)) is) in
         not_next def h still (served.high on i.no_flow high (no_bit_idle def (reverse h) k i))
 
 -- ---- no standstill
@@ -108,7 +111,9 @@ pub settled_is_quiet : (def : LineDef) (h : List Entry) → IsValid def → IsLe
 settled_is_quiet def h valid legal settled =
     record {
       no_flow = i.no_flow;
-      no_handler = λ d. false_from_ne_true (is_called (reverse h) d) (λ c. both_ways (has_flow def (reverse h)) ((one_is_called def (reverse h) valid legal).in_round d c).0 i.no_flow);
+      no_handler = λ d. false_from_ne_true (is_called (reverse h) d)
+          (λ c. both_ways (has_flow def (reverse h)) ((one_is_called def (reverse h) valid legal).in_round d c).0
+          i.no_flow);
       no_thread = λ d. (let t = i.no_thread d in or_from (is_woken (reverse h) d) (is_running (reverse h) d) t.0 t.1);
       no_free = false_from_ne_true (holds_mutex (reverse h)) no_holder;
     }

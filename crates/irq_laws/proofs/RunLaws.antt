@@ -35,20 +35,27 @@ use Rattle.irq_laws.proofs.ImpliesDriver.{hard_clear_due, synced_due}
 
 -- ---- no overlap
 
-overlap : (def : LineDef) (e : Entry) (past : List Entry) → IsDue def e past → Kept def past → (d : DevNo) → (is_begin d e ≡ true → is_called past d ≡ false) × (is_thread_begin d e ≡ true → is_running past d ≡ false)
-overlap def (entries.Begin c x) past due k d =
-    (λ same. false_from_ne_true (is_called past d) (λ called. let a = k.runs.called d called in let b = (begin_due def c x past due).none_at_work in let n : ⊥ = cc in n), λ none. cc)
+overlap : (def : LineDef) (e : Entry) (past : List Entry) → IsDue def e past → Kept def past → (d : DevNo)
+    → (is_begin d e ≡ true → is_called past d ≡ false) × (is_thread_begin d e ≡ true → is_running past d ≡ false)
+overlap def (entries.Begin c x) past due k d = (
+  λ same. false_from_ne_true (is_called past d) (λ called. let a = k.runs.called d called in
+      let b = (begin_due def c x past due).none_at_work in let n : ⊥ = cc in n),
+  λ none. cc,
+)
 overlap def (entries.ThreadBegin x) past due k d =
     (λ none. cc, λ same. subst (λ (y : DevNo). is_running past y ≡ false) (sym (dev_from_same d x same)) (thread_begin_due def x past due).not_running)
 overlap def e past due k d = (λ none. cc, λ none. cc)
 
 pub no_overlap : (def : LineDef) (h : List Entry) → IsValid def → IsLegal def h → NoOverlap def h
-no_overlap def h valid legal = each def valid (λ e past. (d : DevNo) → (is_begin d e ≡ true → is_called past d ≡ false) × (is_thread_begin d e ≡ true → is_running past d ≡ false)) (overlap def) (reverse h) legal
+no_overlap def h valid legal = each def valid (λ e past. (d : DevNo)
+    → (is_begin d e ≡ true → is_called past d ≡ false) × (is_thread_begin d e ≡ true → is_running past d ≡ false))
+    (overlap def) (reverse h) legal
 
 -- ---- silence after free
 
 -- a device that is linked or being freed wasn't freed since it was linked
-not_freed : (def : LineDef) (past : List Entry) → Kept def past → (d x : DevNo) → same_dev d x ≡ true → (is_linked past x || is_being_freed past x) ≡ true → stands (is_freed d) (links_dev d) past ≡ false
+not_freed : (def : LineDef) (past : List Entry) → Kept def past → (d x : DevNo) → same_dev d x ≡ true
+    → (is_linked past x || is_being_freed past x) ≡ true → stands (is_freed d) (links_dev d) past ≡ false
 not_freed def past k d x same there = false_from_ne_true (stands (is_freed d) (links_dev d) past) (λ freed.
     let r = k.rest.after_free d freed in
     let moved = subst (λ (y : DevNo). (is_linked past y || is_being_freed past y) ≡ true) (sym (dev_from_same d x same)) there in
@@ -58,26 +65,35 @@ or_none : (s : Bool) → (s || false) ≡ true → s ≡ true
 or_none true h = refl
 or_none false h = h
 
-silent : (def : LineDef) (e : Entry) (past : List Entry) → IsDue def e past → Kept def past → (d : DevNo) → is_run_of d e ≡ true → stands (is_freed d) (links_dev d) past ≡ false
-silent def (entries.Begin c x) past due k d h = not_freed def past k d x (or_none _ h) (or_left _ _ (begun_is_linked def past x (begin_due def c x past due).first).0)
+silent : (def : LineDef) (e : Entry) (past : List Entry) → IsDue def e past → Kept def past → (d : DevNo)
+    → is_run_of d e ≡ true → stands (is_freed d) (links_dev d) past ≡ false
+silent def (entries.Begin c x) past due k d h = not_freed def past k d x (or_none _ h)
+    (or_left _ _ (begun_is_linked def past x (begin_due def c x past due).first).0)
 silent def (entries.Return c x answer served) past due k d h =
     not_freed def past k d x (or_none _ h) (called_there def past k x (k.runs.working x (return_due def c x answer served past due).is_at_work).0)
 silent def (entries.ThreadBegin x) past due k d h = not_freed def past k d x (or_none _ h) (woken_there def past k x (thread_begin_due def x past due).woken)
-silent def (entries.ThreadReturn x served) past due k d h = not_freed def past k d x (or_none _ h) (running_there def past k x (thread_return_due def x served past due).running)
-silent def (entries.Finish x kept unmask) past due k d h = not_freed def past k d x (or_none _ h) (running_there def past k x (finish_due def x kept unmask past due).running)
+silent def (entries.ThreadReturn x served) past due k d h
+    = not_freed def past k d x (or_none _ h) (running_there def past k x
+    (thread_return_due def x served past due).running)
+silent def (entries.Finish x kept unmask) past due k d h
+    = not_freed def past k d x (or_none _ h) (running_there def past k x
+    (finish_due def x kept unmask past due).running)
 silent def (entries.Done x) past due k d h = not_freed def past k d x h (running_there def past k x (done_due def x past due).running)
 silent def e past due k d h = cc
 
 pub silent_after_free : (def : LineDef) (h : List Entry) → IsValid def → IsLegal def h → IsSilentAfterFree def h
-silent_after_free def h valid legal = each def valid (λ e past. (d : DevNo) → is_run_of d e ≡ true → stands (is_freed d) (links_dev d) past ≡ false) (silent def) (reverse h) legal
+silent_after_free def h valid legal = each def valid (λ e past. (d : DevNo) → is_run_of d e ≡ true
+    → stands (is_freed d) (links_dev d) past ≡ false) (silent def) (reverse h) legal
 
 -- ---- synchronised calls
 
 none_in_sum : (a b : ℕ) → a + b ≡ 0 → (a ≡ 0) × (b ≡ 0)
 none_in_sum a b h = (omega arith, omega arith)
 
-pub at_device : (def : LineDef) (p : DevNo → Bool) (d : DevNo) → list_any (is_device d) def.devices ≡ true → p d ≡ true → list_any (λ x. p x.dev) def.devices ≡ true
-at_device def p d there passes = any_imply (is_device d) (λ x. p x.dev) def.devices (λ x same. subst (λ (y : DevNo). p y ≡ true) (dev_from_same d x.dev same) passes) there
+pub at_device : (def : LineDef) (p : DevNo → Bool) (d : DevNo) → list_any (is_device d) def.devices ≡ true → p d ≡ true
+    → list_any (λ x. p x.dev) def.devices ≡ true
+at_device def p d there passes = any_imply (is_device d) (λ x. p x.dev) def.devices
+    (λ x same. subst (λ (y : DevNo). p y ≡ true) (dev_from_same d x.dev same) passes) there
 
 all_idle : (def : LineDef) (past : List Entry) → Kept def past → active_count def past ≡ 0 → (d : DevNo) → (is_woken past d || is_running past d) ≡ false
 all_idle def past k none d =
@@ -85,17 +101,22 @@ all_idle def past k none d =
     let no_woken = none_counted (λ (x : DeviceDef). is_woken past x.dev) def.devices parts.0 in
     let no_running = none_counted (λ (x : DeviceDef). is_running past x.dev) def.devices parts.1 in
     or_from _ _
-    (false_from_ne_true (is_woken past d) (λ h. both_ways _ (at_device def (is_woken past) d (there_named def past k d (woken_there def past k d h)) h) no_woken))
-    (false_from_ne_true (is_running past d) (λ h. both_ways _ (at_device def (is_running past) d (there_named def past k d (running_there def past k d h)) h) no_running))
+    (false_from_ne_true (is_woken past d) (λ h. both_ways _
+    (at_device def (is_woken past) d (there_named def past k d (woken_there def past k d h)) h) no_woken))
+    (false_from_ne_true (is_running past d) (λ h. both_ways _
+    (at_device def (is_running past) d (there_named def past k d (running_there def past k d h)) h) no_running))
 
-synchronised_at : (def : LineDef) (e : Entry) (past : List Entry) → IsDue def e past → Kept def past → (d : DevNo) → (is_hard_clear e ≡ true → is_called past d ≡ false) × (is_synced e ≡ true → (is_woken past d || is_running past d) ≡ false)
+synchronised_at : (def : LineDef) (e : Entry) (past : List Entry) → IsDue def e past → Kept def past → (d : DevNo)
+    → (is_hard_clear e ≡ true → is_called past d ≡ false)
+    × (is_synced e ≡ true → (is_woken past d || is_running past d) ≡ false)
 synchronised_at def (entries.HardClear s) past due k d = (λ is. nothing_called def past k.runs (hard_clear_due def s past due).no_flow d, λ none. cc)
 synchronised_at def (entries.Synced s) past due k d = (λ none. cc, λ is. all_idle def past k (synced_due def s past due).none_active d)
 synchronised_at def e past due k d = (λ none. cc, λ none. cc)
 
 pub synchronised : (def : LineDef) (h : List Entry) → IsValid def → IsLegal def h → IsSynchronised def h
 synchronised def h valid legal =
-    each def valid (λ e past. (d : DevNo) → (is_hard_clear e ≡ true → is_called past d ≡ false) × (is_synced e ≡ true → (is_woken past d || is_running past d) ≡ false)) (synchronised_at def) (reverse h) legal
+    each def valid (λ e past. (d : DevNo) → (is_hard_clear e ≡ true → is_called past d ≡ false)
+    × (is_synced e ≡ true → (is_woken past d || is_running past d) ≡ false)) (synchronised_at def) (reverse h) legal
 
 -- ---- the one-shot promise
 
@@ -107,7 +128,8 @@ unheld : (a m u : Bool) → (a && (m && not u)) ≡ true → u ≡ false
 unheld a m u h = grind arith
 
 -- a flow's end opens a level line only if no thread is unfinished
-opens_unheld : (def : LineDef) (f : FlowKind) (past : List Entry) (note : Note) → IsValid def → is_level_line def ≡ true → def.flow ≡ f → unmask_by def f past note ≡ true → is_some_unfinished def past ≡ false
+opens_unheld : (def : LineDef) (f : FlowKind) (past : List Entry) (note : Note) → IsValid def → is_level_line def ≡ true
+    → def.flow ≡ f → unmask_by def f past note ≡ true → is_some_unfinished def past ≡ false
 opens_unheld def flows.Edge past note valid level is h = not_edge (is_edge_line def) (valid.edge_flow (ap is_edge_flow is)) level
 opens_unheld def flows.Level past note valid level is h = unheld (not (is_off_now past note)) (is_masked def past) (is_some_unfinished def past) h
 opens_unheld def flows.Eoi past note valid level is h =
@@ -116,7 +138,8 @@ opens_unheld def flows.Eoi past note valid level is h =
 woken_kept : (w d m o : Bool) → (not w && (not d && (m && not o))) ≡ true → (w ≡ false) × (o ≡ false)
 woken_kept w d m o h = (grind arith, grind arith)
 
-oneshot_at : (def : LineDef) (e : Entry) (past : List Entry) → IsValid def → is_level_line def ≡ true → IsDue def e past → is_reopening e ≡ true → is_some_unfinished def (e ∷ past) ≡ false
+oneshot_at : (def : LineDef) (e : Entry) (past : List Entry) → IsValid def → is_level_line def ≡ true → IsDue def e past
+    → is_reopening e ≡ true → is_some_unfinished def (e ∷ past) ≡ false
 oneshot_at def (entries.End c again unmask note) past valid level due h =
     opens_unheld def def.flow past (note_of def past) valid level refl (sym (end_due def c again unmask note past due).unmask_is ∙ h)
 oneshot_at def (entries.Finish x true unmask) past valid level due h =
@@ -131,4 +154,5 @@ oneshot_at def e past valid level due h = cc
 
 pub keeps_oneshot : (def : LineDef) (h : List Entry) → IsValid def → IsLegal def h → KeepsOneshot def h
 keeps_oneshot def h valid legal level =
-    each def valid (λ e past. is_reopening e ≡ true → is_some_unfinished def (e ∷ past) ≡ false) (λ e past due k. oneshot_at def e past valid level due) (reverse h) legal
+    each def valid (λ e past. is_reopening e ≡ true → is_some_unfinished def (e ∷ past) ≡ false)
+    (λ e past due k. oneshot_at def e past valid level due) (reverse h) legal

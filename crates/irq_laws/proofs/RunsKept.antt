@@ -26,10 +26,12 @@ not_busy true o h = cc
 not_busy false true h = cc
 not_busy false false h = (refl, refl)
 
-pub handle_idle : (def : LineDef) (past : List Entry) → takes.Handle ≡ take_answer def past → (has_flow def past ≡ false) × ((is_disabled past || is_none_linked past) ≡ false)
+pub handle_idle : (def : LineDef) (past : List Entry) → takes.Handle ≡ take_answer def past
+    → (has_flow def past ≡ false) × ((is_disabled past || is_none_linked past) ≡ false)
 handle_idle def past h = not_busy (has_flow def past) (is_disabled past || is_none_linked past) h
 
-called_more : (def : LineDef) (e : Entry) (past : List Entry) → IsDue def e past → KeepsRuns def past → (d : DevNo) → is_called (e ∷ past) d ≡ true → at_work (e ∷ past) ≡ Some d
+called_more : (def : LineDef) (e : Entry) (past : List Entry) → IsDue def e past → KeepsRuns def past → (d : DevNo)
+    → is_called (e ∷ past) d ≡ true → at_work (e ∷ past) ≡ Some d
 called_more def (entries.Begin c x) past due k d h = by_case (or_cases (same_dev d x) (is_called past d) h)
   where
     by_case : (same_dev d x ≡ true) ⊎ (is_called past d ≡ true) → Some x ≡ Some d
@@ -45,11 +47,17 @@ called_more def e past due k d h = k.called d h
 stays : (def : LineDef) (e : Entry) (past : List Entry) → flow def (e ∷ past) ≡ flow def past → has_flow def past ≡ true → has_flow def (e ∷ past) ≡ true
 stays def e past same h = ap is_some same ∙ h
 
-working_more : (def : LineDef) (e : Entry) (past : List Entry) → IsDue def e past → KeepsRuns def past → (d : DevNo) → at_work (e ∷ past) ≡ Some d → (is_called (e ∷ past) d ≡ true) × (has_flow def (e ∷ past) ≡ true) × (has_begun def (e ∷ past) d ≡ true)
+working_more : (def : LineDef) (e : Entry) (past : List Entry) → IsDue def e past → KeepsRuns def past → (d : DevNo)
+    → at_work (e ∷ past) ≡ Some d → (is_called (e ∷ past) d ≡ true) × (has_flow def (e ∷ past) ≡ true)
+    × (has_begun def (e ∷ past) d ≡ true)
 working_more def (entries.Begin c x) past due k d h =
     let same : same_dev d x ≡ true = subst (λ (y : DevNo). same_dev d y ≡ true) (sym (the_same x d h)) (same_self d) in
-    let f = has_a_flow c (flow def past) (begin_due def c x past due).of_flow in
-    (or_left (same_dev d x) (is_called past d) same, stays def (entries.Begin c x) past (flow_quiet def (entries.Begin c x) past refl refl refl) f, or_left (same_dev d x) (has_begun def past d) same)
+    let f = has_a_flow c (flow def past) (begin_due def c x past due).of_flow in (
+      or_left (same_dev d x) (is_called past d) same,
+      stays def (entries.Begin c x) past
+          (flow_quiet def (entries.Begin c x) past refl refl refl) f,
+      or_left (same_dev d x) (has_begun def past d) same,
+    )
 working_more def (entries.Return c x answer served) past due k d h = cc
 working_more def (entries.Take c way takes.Handle) past due k d h =
     both_ways (has_flow def past) (k.working d h).1 (handle_idle def past (take_due def c way takes.Handle past due).answer_is).0

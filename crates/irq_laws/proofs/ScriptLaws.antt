@@ -1,5 +1,7 @@
 -- A driver's entries are the entries of its calls, in the order of its script, each once.
-use Rattle.std.proofs.Common.{◌≡◌, ℕ, ◌<◌, ◌≤◌, ◌==◌, ◌⊎◌, inl, inr, Bool, true, false, cond, Some, List, [], ◌∷◌, ◌++◌, filter, reverse, length, drop, nat_lt, refl, sym, ap, ◌∙◌, subst, arith, length-append, drop_of_length-le, append_assoc, append-nil}
+use Rattle.std.proofs.Common.{◌≡◌, ℕ, ◌<◌, ◌≤◌, ◌==◌, ◌⊎◌, inl, inr, Bool, true, false, cond, Some, List, [], ◌∷◌, ◌++◌}
+use Rattle.std.proofs.Common.{filter, reverse, length, drop, nat_lt, refl, sym, ap, ◌∙◌, subst, arith, length-append}
+use Rattle.std.proofs.Common.{drop_of_length-le, append_assoc, append-nil}
 use Rattle.std.proofs.lemmas.List.{drop_at}
 use Rattle.std.proofs.lemmas.Bool.{ltb-true, ltb-false, eqb-false}
 use Rattle.irq_base.specs.declared.numbers.DevNo.{DevNo}
@@ -26,7 +28,8 @@ use Rattle.irq_model.specs.Scripts.{MakesAll, MakesSome, AreMadeBy, FollowsScrip
 use Rattle.irq_model.specs.Legal.{IsDue, IsLegal, IsLegalPast}
 use Rattle.irq_steps.proofs.Same.{driver_from_same}
 use Rattle.irq_laws.proofs.Progress.{makes_one, same_count, same_call, due_at, entries_more}
-use Rattle.irq_laws.proofs.ImpliesDriver.{ask_due, request_due, unlink_due, freed_due, disable_due, hard_clear_due, synced_due, enable_due, affinity_due, moment_due}
+use Rattle.irq_laws.proofs.ImpliesDriver.{ask_due, request_due, unlink_due, freed_due, disable_due, hard_clear_due}
+use Rattle.irq_laws.proofs.ImpliesDriver.{synced_due, enable_due, affinity_due, moment_due}
 
 -- ---- how many entries a call makes
 
@@ -88,7 +91,8 @@ no_more x (y ∷ ys) (z ∷ zs) full all =
 
 module _ (x : Call) (cs : List Call) (e : Entry) where
   -- within the call
-  within : (es : List Entry) (n : ℕ) → GoesOn x n e → length es ≡ n → nat_lt (length es) (entries_of_call x es) ≡ true → AreMadeBy (x ∷ cs) es → AreMadeBy (x ∷ cs) (es ++ e ∷ [])
+  within : (es : List Entry) (n : ℕ) → GoesOn x n e → length es ≡ n → nat_lt (length es) (entries_of_call x es) ≡ true
+      → AreMadeBy (x ∷ cs) es → AreMadeBy (x ∷ cs) (es ++ e ∷ [])
   within es n goes count some (inl made) = inl (goes es made count some)
   within es n goes count some (inr made) =
       absurd
@@ -100,7 +104,9 @@ module _ (x : Call) (cs : List Call) (e : Entry) where
       omega (arith, front, below, same, long, l))
 
   -- past the call
-  beyond : (es : List Entry) → nat_lt (length es) (entries_of_call x es) ≡ false → AreMadeBy (x ∷ cs) es → ((rest : List Entry) → drop (entries_of_call x es) es ≡ rest → AreMadeBy cs rest → AreMadeBy cs (rest ++ e ∷ [])) → AreMadeBy (x ∷ cs) (es ++ e ∷ [])
+  beyond : (es : List Entry) → nat_lt (length es) (entries_of_call x es) ≡ false → AreMadeBy (x ∷ cs) es
+      → ((rest : List Entry) → drop (entries_of_call x es) es ≡ rest → AreMadeBy cs rest
+      → AreMadeBy cs (rest ++ e ∷ [])) → AreMadeBy (x ∷ cs) (es ++ e ∷ [])
   beyond es full (inl made) deeper =
       let le : entries_of_call x es ≤ length es = ltb-false (length es) (entries_of_call x es) full in
       let none = no_more x es made.0 le made.1 in
@@ -109,14 +115,19 @@ module _ (x : Call) (cs : List Call) (e : Entry) where
       inr (es, e ∷ [], refl, all, deeper [] (drop_of_length-le es (omega (arith, count))) (none_made cs))
   beyond es full (inr made) deeper =
       let front : entries_of_call x es ≡ length made.0 = ap (λ (xs : List Entry). entries_of_call x xs) made.2 ∙ front_count x made.0 made.1 made.3 in
-      let left : drop (entries_of_call x es) es ≡ made.1 = ap (λ (xs : List Entry). drop (entries_of_call x es) xs) made.2 ∙ drop_at made.0 made.1 (entries_of_call x es) (sym front) in
+      let left : drop (entries_of_call x es) es ≡ made.1
+      = ap (λ (xs : List Entry). drop (entries_of_call x es) xs) made.2
+      ∙ drop_at made.0 made.1 (entries_of_call x es) (sym front) in
       inr (made.0, made.1 ++ e ∷ [], ap (λ (xs : List Entry). xs ++ e ∷ []) made.2 ∙ append_assoc made.0 made.1 (e ∷ []), made.3, deeper made.1 left made.4)
 
-extends : (cs : List Call) (es : List Entry) (e : Entry) (c : Call) (n : ℕ) → AreMadeBy cs es → due_of cs es ≡ Some (c, n) → GoesOn c n e → AreMadeBy cs (es ++ e ∷ [])
+extends : (cs : List Call) (es : List Entry) (e : Entry) (c : Call) (n : ℕ) → AreMadeBy cs es
+    → due_of cs es ≡ Some (c, n) → GoesOn c n e → AreMadeBy cs (es ++ e ∷ [])
 extends [] es e c n made due goes = cc
 extends (x ∷ cs) es e c n made due goes = by_test (nat_lt (length es) (entries_of_call x es)) refl (λ rest made due. extends cs rest e c n made due goes)
   where
-    by_test : (b : Bool) → nat_lt (length es) (entries_of_call x es) ≡ b → ((rest : List Entry) → AreMadeBy cs rest → due_of cs rest ≡ Some (c, n) → AreMadeBy cs (rest ++ e ∷ [])) → AreMadeBy (x ∷ cs) (es ++ e ∷ [])
+    by_test : (b : Bool) → nat_lt (length es) (entries_of_call x es) ≡ b
+        → ((rest : List Entry) → AreMadeBy cs rest → due_of cs rest ≡ Some (c, n) → AreMadeBy cs (rest ++ e ∷ []))
+        → AreMadeBy (x ∷ cs) (es ++ e ∷ [])
     by_test true is deeper =
         let same = same_call x c (length es) n (ap (λ (b : Bool). cond b (due_at x (length es)) (due_of cs (drop (entries_of_call x es) es))) (sym is) ∙ due) in
         within x cs e es n (subst (λ (y : Call). GoesOn y n e) (sym same.0) goes) same.1 is made
@@ -136,7 +147,8 @@ goes_ask : (s : DriverNo) (x : DevNo) (n : ℕ) → GoesOn (calls.Ask x) n (entr
 goes_ask s x n [] made l lt = ([], refl)
 goes_ask s x n (y ∷ ys) made l lt = alone y ys lt
 
-goes_request : (s : DriverNo) (x : DevNo) (flags : Flags) (answer : LinkAnswer) (opened : Opened) (n : ℕ) → GoesOn (calls.Request x flags) n (entries.Request s x flags answer opened)
+goes_request : (s : DriverNo) (x : DevNo) (flags : Flags) (answer : LinkAnswer) (opened : Opened) (n : ℕ)
+    → GoesOn (calls.Request x flags) n (entries.Request s x flags answer opened)
 goes_request s x flags answer opened n [] made l lt = ([], (refl, refl))
 goes_request s x flags answer opened n (y ∷ ys) made l lt = alone y ys lt
 
@@ -148,7 +160,8 @@ goes_unlink s x answer (y ∷ ys) made l lt = first_of_all y ys l
 goes_free_clear : (s : DriverNo) (x : DevNo) → GoesOn (calls.Free x) 1 (entries.HardClear s)
 goes_free_clear s x [] made l lt = absurd (omega (arith, l))
 goes_free_clear s x (entries.Unlink r d unlinks.NotThere ∷ []) made l lt = absurd (let below = ltb-true 1 1 lt in omega (arith, below))
-goes_free_clear s x (entries.Unlink r d (unlinks.Unlinked last) ∷ []) (entries.HardClear a ∷ entries.Freed t freed ∷ [], all) l lt = (entries.Freed t freed ∷ [], all)
+goes_free_clear s x (entries.Unlink r d (unlinks.Unlinked last) ∷ [])
+    (entries.HardClear a ∷ entries.Freed t freed ∷ [], all) l lt = (entries.Freed t freed ∷ [], all)
 goes_free_clear s x (y ∷ z ∷ ys) made l lt = absurd (omega (arith, l))
 goes_free_clear s x (y ∷ []) (more, all) l lt = absurd all
 
@@ -156,7 +169,9 @@ goes_freed : (s : DriverNo) (x : DevNo) (n : ℕ) → (n == 0) ≡ false → (n 
 goes_freed s x n some more [] made l lt = absurd (eqb-false n 0 some (sym l))
 goes_freed s x n some more (entries.Unlink r d (unlinks.Unlinked last) ∷ entries.HardClear a ∷ []) (entries.Freed t freed ∷ [], all) l lt = ([], (all.0, refl))
 goes_freed s x n some more (y ∷ []) made l lt = absurd (eqb-false n 1 more (sym l))
-goes_freed s x n some more (y ∷ z ∷ w ∷ ys) made l lt = absurd (let below = ltb-true (length (y ∷ z ∷ w ∷ ys)) (entries_of_call (calls.Free x) (y ∷ z ∷ w ∷ ys)) lt in let most = at_most (begins_not_there (y ∷ z ∷ w ∷ ys)) in omega (arith, below, most))
+goes_freed s x n some more (y ∷ z ∷ w ∷ ys) made l lt = absurd
+    (let below = ltb-true (length (y ∷ z ∷ w ∷ ys)) (entries_of_call (calls.Free x) (y ∷ z ∷ w ∷ ys)) lt in
+    let most = at_most (begins_not_there (y ∷ z ∷ w ∷ ys)) in omega (arith, below, most))
   where
     at_most : (b : Bool) → cond b 1 3 ≤ 3
     at_most true = omega arith
@@ -208,43 +223,65 @@ goes_moment s at n (y ∷ ys) made l lt = alone y ys lt
 
 -- ---- each entry
 
-follows : (def : LineDef) (s : DriverNo) (e : Entry) (past : List Entry) (c : Call) (n : ℕ) → ((r : DriverNo) → is_by_driver r e ≡ same_driver r s) → due_call def s past ≡ Some (c, n) → GoesOn c n e → FollowsScriptsPast def past → FollowsScriptsPast def (e ∷ past)
+follows : (def : LineDef) (s : DriverNo) (e : Entry) (past : List Entry) (c : Call) (n : ℕ)
+    → ((r : DriverNo) → is_by_driver r e ≡ same_driver r s) → due_call def s past ≡ Some (c, n) → GoesOn c n e
+    → FollowsScriptsPast def past → FollowsScriptsPast def (e ∷ past)
 follows def s e past c n by due goes f r = by_driver (same_driver r s) refl
   where
     by_driver : (b : Bool) → same_driver r s ≡ b → AreMadeBy (calls_by r def.calls) (entries_by r (e ∷ past))
     by_driver true same =
         subst (λ (es : List Entry). AreMadeBy (calls_by r def.calls) es) (sym (entries_more r e past (by r ∙ same)))
-        (extends (calls_by r def.calls) (entries_by r past) e c n (f r) (subst (λ (t : DriverNo). due_call def t past ≡ Some (c, n)) (sym (driver_from_same r s same)) due) goes)
+        (extends (calls_by r def.calls) (entries_by r past) e c n (f r)
+        (subst (λ (t : DriverNo). due_call def t past ≡ Some (c, n)) (sym (driver_from_same r s same)) due) goes)
     by_driver false other =
-        subst (λ (b : Bool). AreMadeBy (calls_by r def.calls) (reverse (cond b (e ∷ filter (is_by_driver r) past) (filter (is_by_driver r) past)))) (sym (by r ∙ other)) (f r)
+        subst (λ (b : Bool). AreMadeBy (calls_by r def.calls)
+        (reverse (cond b (e ∷ filter (is_by_driver r) past) (filter (is_by_driver r) past)))) (sym (by r ∙ other))
+        (f r)
 
 follows_more : (def : LineDef) (e : Entry) (past : List Entry) → IsDue def e past → FollowsScriptsPast def past → FollowsScriptsPast def (e ∷ past)
-follows_more def (entries.Ask s x) past due f = let u = ask_due def s x past due in follows def s (entries.Ask s x) past (calls.Ask x) u.count (λ r. refl) u.call (goes_ask s x u.count) f
+follows_more def (entries.Ask s x) past due f = let u = ask_due def s x past due in
+    follows def s (entries.Ask s x) past (calls.Ask x) u.count (λ r. refl) u.call (goes_ask s x u.count) f
 follows_more def (entries.Disable s) past due f = by_call (disable_due def s past due).call
   where
-    by_call : (due_call def s past ≡ Some (calls.Disable, 0)) ⊎ ((n : ℕ) × (due_call def s past ≡ Some (calls.DisableNosync, n))) → FollowsScriptsPast def (entries.Disable s ∷ past)
+    by_call : (due_call def s past ≡ Some (calls.Disable, 0))
+        ⊎ ((n : ℕ) × (due_call def s past ≡ Some (calls.DisableNosync, n)))
+        → FollowsScriptsPast def (entries.Disable s ∷ past)
     by_call (inl u) = follows def s (entries.Disable s) past calls.Disable 0 (λ r. refl) u (goes_disable s) f
     by_call (inr u) = follows def s (entries.Disable s) past calls.DisableNosync u.0 (λ r. refl) u.1 (goes_nosync s u.0) f
 follows_more def (entries.HardClear s) past due f = by_call (hard_clear_due def s past due).call
   where
-    by_call : ((x : DevNo) × (due_call def s past ≡ Some (calls.Free x, 1))) ⊎ ((due_call def s past ≡ Some (calls.Disable, 1)) ⊎ (due_call def s past ≡ Some (calls.Sync, 0))) → FollowsScriptsPast def (entries.HardClear s ∷ past)
+    by_call : ((x : DevNo) × (due_call def s past ≡ Some (calls.Free x, 1)))
+        ⊎ ((due_call def s past ≡ Some (calls.Disable, 1)) ⊎ (due_call def s past ≡ Some (calls.Sync, 0)))
+        → FollowsScriptsPast def (entries.HardClear s ∷ past)
     by_call (inl u) = follows def s (entries.HardClear s) past (calls.Free u.0) 1 (λ r. refl) u.1 (goes_free_clear s u.0) f
     by_call (inr (inl u)) = follows def s (entries.HardClear s) past calls.Disable 1 (λ r. refl) u (goes_disable_clear s) f
     by_call (inr (inr u)) = follows def s (entries.HardClear s) past calls.Sync 0 (λ r. refl) u (goes_sync_clear s) f
 follows_more def (entries.Synced s) past due f = by_call (synced_due def s past due).count (synced_due def s past due).call
   where
-    by_call : (n : ℕ) → ((due_call def s past ≡ Some (calls.Disable, n)) × ((n == 0) ≡ false) × ((n == 1) ≡ false)) ⊎ ((due_call def s past ≡ Some (calls.Sync, n)) × ((n == 0) ≡ false)) → FollowsScriptsPast def (entries.Synced s ∷ past)
+    by_call : (n : ℕ) → ((due_call def s past ≡ Some (calls.Disable, n)) × ((n == 0) ≡ false) × ((n == 1) ≡ false))
+        ⊎ ((due_call def s past ≡ Some (calls.Sync, n)) × ((n == 0) ≡ false))
+        → FollowsScriptsPast def (entries.Synced s ∷ past)
     by_call n (inl u) = follows def s (entries.Synced s) past calls.Disable n (λ r. refl) u.0 (goes_disable_synced s n u.1 u.2) f
     by_call n (inr u) = follows def s (entries.Synced s) past calls.Sync n (λ r. refl) u.0 (goes_synced s n u.1) f
-follows_more def (entries.Enable s answer) past due f = let u = enable_due def s answer past due in follows def s (entries.Enable s answer) past calls.Enable u.count (λ r. refl) u.call (goes_enable s answer u.count) f
+follows_more def (entries.Enable s answer) past due f = let u = enable_due def s answer past due in
+    follows def s (entries.Enable s answer) past calls.Enable u.count (λ r. refl) u.call (goes_enable s answer u.count)
+    f
 follows_more def (entries.Request s x flags answer opened) past due f =
-    let u = request_due def s x flags answer opened past due in follows def s (entries.Request s x flags answer opened) past (calls.Request x flags) u.count (λ r. refl) u.call (goes_request s x flags answer opened u.count) f
-follows_more def (entries.Unlink s x answer) past due f = follows def s (entries.Unlink s x answer) past (calls.Free x) 0 (λ r. refl) (unlink_due def s x answer past due).call (goes_unlink s x answer) f
+    let u = request_due def s x flags answer opened past due in
+    follows def s (entries.Request s x flags answer opened) past (calls.Request x flags) u.count (λ r. refl) u.call
+    (goes_request s x flags answer opened u.count) f
+follows_more def (entries.Unlink s x answer) past due f
+    = follows def s (entries.Unlink s x answer) past (calls.Free x) 0 (λ r. refl)
+    (unlink_due def s x answer past due).call (goes_unlink s x answer) f
 follows_more def (entries.Freed s x) past due f =
-    let u = freed_due def s x past due in follows def s (entries.Freed s x) past (calls.Free x) u.count (λ r. refl) u.call (goes_freed s x u.count u.not_first u.not_second) f
+    let u = freed_due def s x past due in follows def s (entries.Freed s x) past (calls.Free x) u.count (λ r. refl)
+    u.call (goes_freed s x u.count u.not_first u.not_second) f
 follows_more def (entries.Affinity s mask answer) past due f =
-    let u = affinity_due def s mask answer past due in follows def s (entries.Affinity s mask answer) past (calls.Affinity mask) u.count (λ r. refl) u.call (goes_affinity s mask answer u.count) f
-follows_more def (entries.Moment s at) past due f = let u = moment_due def s at past due in follows def s (entries.Moment s at) past (calls.Moment at) u.count (λ r. refl) u.call (goes_moment s at u.count) f
+    let u = affinity_due def s mask answer past due in
+    follows def s (entries.Affinity s mask answer) past (calls.Affinity mask) u.count (λ r. refl) u.call
+    (goes_affinity s mask answer u.count) f
+follows_more def (entries.Moment s at) past due f = let u = moment_due def s at past due in
+    follows def s (entries.Moment s at) past (calls.Moment at) u.count (λ r. refl) u.call (goes_moment s at u.count) f
 follows_more def e past due f = f
 
 pub follows_past : (def : LineDef) (past : List Entry) → IsLegalPast def past → FollowsScriptsPast def past

@@ -1,6 +1,7 @@
 -- The mask in force has a processor of the machine, and what waits on an enabled line without a
 -- flow is handled next.
-use Rattle.std.proofs.Common.{◌≡◌, ◌⊎◌, inl, inr, Bool, true, false, not, ◌||◌, ◌&&◌, cond, Option, Some, None, is_some, List, [], ◌∷◌, reverse, refl, sym, ap, ◌∙◌, arith}
+use Rattle.std.proofs.Common.{◌≡◌, ◌⊎◌, inl, inr, Bool, true, false, not, ◌||◌, ◌&&◌, cond, Option, Some, None, is_some}
+use Rattle.std.proofs.Common.{List, [], ◌∷◌, reverse, refl, sym, ap, ◌∙◌, arith}
 use Rattle.std.proofs.lemmas.Bool.{and_parts, or_cases, or_from, false_from_ne_true}
 use Rattle.irq_base.specs.declared.numbers.CpuNo.{CpuNo}
 use Rattle.irq_base.specs.declared.numbers.DevNo.{DevNo}
@@ -53,24 +54,37 @@ puts_change a (entries.Affinity driver mask moves.Now ∷ past) h = refl
 puts_change a (entries.Affinity driver mask moves.Later ∷ past) h = refl
 puts_change a u h = cc
 
-not_refused : (b l : Bool) (answer : AffinityAnswer) → answer ≡ cond b (cond l moves.Later moves.Now) (moves.Refused errors.Inval) → (answer ≡ moves.Refused errors.Inval → ⊥) → b ≡ true
+not_refused : (b l : Bool) (answer : AffinityAnswer) → answer
+    ≡ cond b (cond l moves.Later moves.Now) (moves.Refused errors.Inval) → (answer ≡ moves.Refused errors.Inval → ⊥)
+    → b ≡ true
 not_refused true l answer is differs = refl
 not_refused false l answer is differs = absurd (differs is)
 
-changed_mask : (def : LineDef) (e : Entry) (past : List Entry) → IsDue def e past → is_change (e ∷ past) ≡ true → is_some (lowest_in def.cpus (mask_of def.mask (e ∷ past))) ≡ true
-changed_mask def (entries.Affinity s mask moves.Now) past due h = not_refused (is_some (lowest_in def.cpus mask)) def.later moves.Now (affinity_due def s mask moves.Now past due).answer_is (λ is. cc)
-changed_mask def (entries.Affinity s mask moves.Later) past due h = not_refused (is_some (lowest_in def.cpus mask)) def.later moves.Later (affinity_due def s mask moves.Later past due).answer_is (λ is. cc)
+changed_mask : (def : LineDef) (e : Entry) (past : List Entry) → IsDue def e past → is_change (e ∷ past) ≡ true
+    → is_some (lowest_in def.cpus (mask_of def.mask (e ∷ past))) ≡ true
+changed_mask def (entries.Affinity s mask moves.Now) past due h
+    = not_refused (is_some (lowest_in def.cpus mask)) def.later moves.Now
+    (affinity_due def s mask moves.Now past due).answer_is (λ is. cc)
+changed_mask def (entries.Affinity s mask moves.Later) past due h
+    = not_refused (is_some (lowest_in def.cpus mask)) def.later moves.Later
+    (affinity_due def s mask moves.Later past due).answer_is (λ is. cc)
 changed_mask def e past due h = cc
 
-last_mask : (def : LineDef) → IsValid def → (P : List Entry → List Entry → Bool) → ((a u : List Entry) → P a u ≡ true → is_change u ≡ true) → (past : List Entry) → IsLegalPast def past → is_some (lowest_in def.cpus (mask_of def.mask (last_place P past))) ≡ true
+last_mask : (def : LineDef) → IsValid def → (P : List Entry → List Entry → Bool)
+    → ((a u : List Entry) → P a u ≡ true → is_change u ≡ true) → (past : List Entry) → IsLegalPast def past
+    → is_some (lowest_in def.cpus (mask_of def.mask (last_place P past))) ≡ true
 last_mask def valid P changes [] legal = valid.mask
-last_mask def valid P changes (e ∷ past) legal = by_test (P [] (e ∷ past)) refl (last_mask def valid (λ a u. P (e ∷ a) u) (λ a u. changes (e ∷ a) u) past legal.1)
+last_mask def valid P changes (e ∷ past) legal = by_test (P [] (e ∷ past)) refl
+    (last_mask def valid (λ a u. P (e ∷ a) u) (λ a u. changes (e ∷ a) u) past legal.1)
   where
     by_test : (b : Bool) → P [] (e ∷ past) ≡ b → is_some (lowest_in def.cpus (mask_of def.mask (last_place (λ a u. P (e ∷ a) u) past))) ≡ true
         → is_some (lowest_in def.cpus (mask_of def.mask (cond (P [] (e ∷ past)) (e ∷ past) (last_place (λ a u. P (e ∷ a) u) past)))) ≡ true
     by_test true is deeper =
-        ap (λ (b : Bool). is_some (lowest_in def.cpus (mask_of def.mask (cond b (e ∷ past) (last_place (λ a u. P (e ∷ a) u) past))))) is ∙ changed_mask def e past legal.0 (changes [] (e ∷ past) is)
-    by_test false is deeper = ap (λ (b : Bool). is_some (lowest_in def.cpus (mask_of def.mask (cond b (e ∷ past) (last_place (λ a u. P (e ∷ a) u) past))))) is ∙ deeper
+        ap (λ (b : Bool). is_some (lowest_in def.cpus (mask_of def.mask
+        (cond b (e ∷ past) (last_place (λ a u. P (e ∷ a) u) past))))) is
+        ∙ changed_mask def e past legal.0 (changes [] (e ∷ past) is)
+    by_test false is deeper = ap (λ (b : Bool). is_some
+        (lowest_in def.cpus (mask_of def.mask (cond b (e ∷ past) (last_place (λ a u. P (e ∷ a) u) past))))) is ∙ deeper
 
 -- some processor takes the line's interrupts
 pub has_target : (def : LineDef) (past : List Entry) → IsValid def → IsLegalPast def past → is_some (target def past) ≡ true
@@ -86,7 +100,8 @@ some_cpu : (o : Option CpuNo) → is_some o ≡ true → (c : CpuNo) × (o ≡ S
 some_cpu None h = cc
 some_cpu (Some c) h = (c, refl)
 
-idle_answer : (def : LineDef) (past : List Entry) → has_flow def past ≡ false → (is_disabled past || is_none_linked past) ≡ false → take_answer def past ≡ takes.Handle
+idle_answer : (def : LineDef) (past : List Entry) → has_flow def past ≡ false
+    → (is_disabled past || is_none_linked past) ≡ false → take_answer def past ≡ takes.Handle
 idle_answer def past no_flow on = by_values (has_flow def past) (is_disabled past || is_none_linked past) no_flow on
   where
     by_values : (f o : Bool) → f ≡ false → o ≡ false → cond f takes.Busy (cond o takes.Off takes.Handle) ≡ takes.Handle
@@ -94,20 +109,23 @@ idle_answer def past no_flow on = by_values (has_flow def past) (is_disabled pas
     by_values true o a b = cc
     by_values false true a b = cc
 
-by_take : (f t s o : Bool) (x l r : Entry) → f ≡ false → t ≡ true → s ≡ true → cond f (Some x) (cond (not t) None (cond s (Some l) (cond o (Some r) None))) ≡ Some l
+by_take : (f t s o : Bool) (x l r : Entry) → f ≡ false → t ≡ true → s ≡ true
+    → cond f (Some x) (cond (not t) None (cond s (Some l) (cond o (Some r) None))) ≡ Some l
 by_take false true true o x l r a b c = refl
 by_take true t s o x l r a b c = cc
 by_take false false s o x l r a b c = cc
 by_take false true false o x l r a b c = cc
 
-by_resend : (f t s o : Bool) (x l r : Entry) → f ≡ false → t ≡ true → s ≡ false → o ≡ true → cond f (Some x) (cond (not t) None (cond s (Some l) (cond o (Some r) None))) ≡ Some r
+by_resend : (f t s o : Bool) (x l r : Entry) → f ≡ false → t ≡ true → s ≡ false → o ≡ true
+    → cond f (Some x) (cond (not t) None (cond s (Some l) (cond o (Some r) None))) ≡ Some r
 by_resend false true false true x l r a b c d = refl
 by_resend true t s o x l r a b c d = cc
 by_resend false false s o x l r a b c d = cc
 by_resend false true true o x l r a b c d = cc
 by_resend false true false false x l r a b c d = cc
 
-handled : (def : LineDef) (past : List Entry) (c : CpuNo) → target def past ≡ Some c → has_flow def past ≡ false → (is_disabled past || is_none_linked past) ≡ false → (signals def past || is_soft past) ≡ true
+handled : (def : LineDef) (past : List Entry) (c : CpuNo) → target def past ≡ Some c → has_flow def past ≡ false
+    → (is_disabled past || is_none_linked past) ≡ false → (signals def past || is_soft past) ≡ true
     → (way : Way) × (next_of_cpu def c past ≡ Some (entries.Take c way takes.Handle))
 handled def past c of_target idle on waits = by_signal (signals def past) refl
   where
@@ -124,12 +142,22 @@ handled def past c of_target idle on waits = by_signal (signals def past) refl
     soft_when a b h i = grind arith
 
     by_signal : (b : Bool) → signals def past ≡ b → (way : Way) × (next_of_cpu def c past ≡ Some (entries.Take c way takes.Handle))
-    by_signal true is =
-        (ways.Line, by_take (is_cpu c (flow def past)) (is_cpu c (target def past)) (signals def past) (is_soft past) _ (entries.Take c ways.Line (take_answer def past)) _ outside aimed is ∙ ap (λ (a : TakeAnswer). Some (entries.Take c ways.Line a)) answer)
-    by_signal false is =
-        (ways.Resend, by_resend (is_cpu c (flow def past)) (is_cpu c (target def past)) (signals def past) (is_soft past) _ _ (entries.Take c ways.Resend (take_answer def past)) outside aimed is (soft_when (signals def past) (is_soft past) waits is) ∙ ap (λ (a : TakeAnswer). Some (entries.Take c ways.Resend a)) answer)
+    by_signal true is = (
+      ways.Line,
+      by_take (is_cpu c (flow def past)) (is_cpu c (target def past)) (signals def past) (is_soft past) _
+          (entries.Take c ways.Line (take_answer def past)) _ outside aimed is
+          ∙ ap (λ (a : TakeAnswer). Some (entries.Take c ways.Line a)) answer,
+    )
+    by_signal false is = (
+      ways.Resend,
+      by_resend (is_cpu c (flow def past)) (is_cpu c (target def past)) (signals def past)
+          (is_soft past) _ _ (entries.Take c ways.Resend (take_answer def past)) outside aimed is
+          (soft_when (signals def past) (is_soft past) waits is)
+          ∙ ap (λ (a : TakeAnswer). Some (entries.Take c ways.Resend a)) answer,
+    )
 
-handled_next : (def : LineDef) (h : List Entry) → IsValid def → IsLegal def h → depth (reverse h) ≡ 0 → has_flow def (reverse h) ≡ false → (signals def (reverse h) || is_soft (reverse h)) ≡ true → IsHandledNext def h
+handled_next : (def : LineDef) (h : List Entry) → IsValid def → IsLegal def h → depth (reverse h) ≡ 0
+    → has_flow def (reverse h) ≡ false → (signals def (reverse h) || is_soft (reverse h)) ≡ true → IsHandledNext def h
 handled_next def h valid legal zero idle waits =
     let k = kept def (reverse h) valid legal in
     let t = some_cpu (target def (reverse h)) (has_target def (reverse h) valid legal) in
@@ -152,15 +180,20 @@ edge_signals def past edge h = by_line (is_edge_line def) edge
     by_line true i = h
     by_line false i = cc
 
-level_signals : (def : LineDef) (past : List Entry) → is_edge_line def ≡ false → is_high def past ≡ true → is_masked def past ≡ false → has_flow def past ≡ false → signals def past ≡ true
-level_signals def past level high opened idle = by_line (is_edge_line def) (is_high def past) (is_masked def past) (serves def) (has_flow def past) level high opened idle
+level_signals : (def : LineDef) (past : List Entry) → is_edge_line def ≡ false → is_high def past ≡ true
+    → is_masked def past ≡ false → has_flow def past ≡ false → signals def past ≡ true
+level_signals def past level high opened idle = by_line (is_edge_line def) (is_high def past) (is_masked def past)
+    (serves def) (has_flow def past) level high opened idle
   where
     by_line : (b g m s f : Bool) → b ≡ false → g ≡ true → m ≡ false → f ≡ false → cond b (is_sent def past) (g && (not m && not (s && f))) ≡ true
     by_line b g m s f x y z w = grind arith
 
-owed_waits : (def : LineDef) (past : List Entry) → IsValid def → IsLegalPast def past → depth past ≡ 0 → has_flow def past ≡ false → (d : DevNo) → is_owed def d past ≡ true → (signals def past || is_soft past) ≡ true
+owed_waits : (def : LineDef) (past : List Entry) → IsValid def → IsLegalPast def past → depth past ≡ 0
+    → has_flow def past ≡ false → (d : DevNo) → is_owed def d past ≡ true → (signals def past || is_soft past) ≡ true
 owed_waits def past valid legal zero idle d owed =
-    by_place def past d (covered def past valid legal d owed) marks (λ p. both_ways (has_flow def past) (k.edges.pending edge p zero) idle) (λ s. or_other (signals def past) (is_soft past) s)
+    by_place def past d (covered def past valid legal d owed) marks
+    (λ p. both_ways (has_flow def past) (k.edges.pending edge p zero) idle)
+    (λ s. or_other (signals def past) (is_soft past) s)
     (λ a. both_ways (has_flow def past) (and_parts (has_flow def past) (is_linked past d && not (has_begun def past d)) a).0 idle)
   where
     k : Kept def past
@@ -179,10 +212,13 @@ owed_waits def past valid legal zero idle d owed =
     marks : (is_sent def past || is_stored def past) ≡ true → (signals def past || is_soft past) ≡ true
     marks m = by_mark (or_cases (is_sent def past) (is_stored def past) m)
 
-high_waits : (def : LineDef) (past : List Entry) → Kept def past → depth past ≡ 0 → has_flow def past ≡ false → is_high def past ≡ true → is_some_unfinished def past ≡ false → (signals def past || is_soft past) ≡ true
+high_waits : (def : LineDef) (past : List Entry) → Kept def past → depth past ≡ 0 → has_flow def past ≡ false
+    → is_high def past ≡ true → is_some_unfinished def past ≡ false → (signals def past || is_soft past) ≡ true
 high_waits def past k zero idle high none =
     let level = (and_parts (is_level_line def) _ high).0 in
-    let opened = false_from_ne_true (is_masked def past) (λ m. both_ways (has_flow def past || is_some_unfinished def past) (k.levels.level level m zero) (or_from _ _ idle none)) in
+    let opened = false_from_ne_true (is_masked def past)
+    (λ m. both_ways (has_flow def past || is_some_unfinished def past) (k.levels.level level m zero)
+    (or_from _ _ idle none)) in
     either (signals def past) (is_soft past) (level_signals def past (not_edge (is_edge_line def) level) high opened idle)
   where
     not_edge : (b : Bool) → not b ≡ true → b ≡ false
@@ -193,5 +229,6 @@ pub served_when_idle : (def : LineDef) (h : List Entry) → IsValid def → IsLe
 served_when_idle def h valid legal =
     record {
       owed = λ zero idle d owed. handled_next def h valid legal zero idle (owed_waits def (reverse h) valid legal zero idle d owed);
-      high = λ zero idle high none. handled_next def h valid legal zero idle (high_waits def (reverse h) (kept def (reverse h) valid legal) zero idle high none);
+      high = λ zero idle high none. handled_next def h valid legal zero idle
+          (high_waits def (reverse h) (kept def (reverse h) valid legal) zero idle high none);
     }

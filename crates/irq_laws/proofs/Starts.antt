@@ -27,7 +27,8 @@ by_enable true o is r h = cc
 by_enable false true is r h = cc
 by_enable false false is r h = cc
 
-by_request : (n f m : Bool) (is r : Resend) (o : Opened) → (o ≡ opens.Started r → r ≡ is) → cond n (cond f opens.No (opens.Started is)) (cond m o opens.No) ≡ opens.Started r → r ≡ is
+by_request : (n f m : Bool) (is r : Resend) (o : Opened) → (o ≡ opens.Started r → r ≡ is)
+    → cond n (cond f opens.No (opens.Started is)) (cond m o opens.No) ≡ opens.Started r → r ≡ is
 by_request true true m is r o k h = cc
 by_request true false m is r o k h = cc
 by_request false f true is r o k h = k h
@@ -36,12 +37,15 @@ by_request false f false is r o k h = cc
 enable_resends : (def : LineDef) (past : List Entry) (r : Resend) → opened_by_enable (enable_answer def past) ≡ opens.Started r → r ≡ resend_of def past
 enable_resends def past r h = by_enable (is_none_linked past || (depth past == 0)) (depth past == 1) (resend_of def past) r h
 
-request_resends : (def : LineDef) (flags : Flags) (past : List Entry) (a : LinkAnswer) (r : Resend) → opened_with def flags past a ≡ opens.Started r → r ≡ resend_of def past
+request_resends : (def : LineDef) (flags : Flags) (past : List Entry) (a : LinkAnswer) (r : Resend)
+    → opened_with def flags past a ≡ opens.Started r → r ≡ resend_of def past
 request_resends def flags past links.Linked r h =
-    by_request (is_none_linked past) flags.noauto (has_spurious_mark past) (resend_of def past) r (opened_by_enable (enable_answer def past)) (enable_resends def past r) h
+    by_request (is_none_linked past) flags.noauto (has_spurious_mark past) (resend_of def past) r
+    (opened_by_enable (enable_answer def past)) (enable_resends def past r) h
 request_resends def flags past (links.Refused error) r h = cc
 
-pub resends_what_is_pending : (def : LineDef) (e : Entry) (past : List Entry) (r : Resend) → IsDue def e past → opened_of e ≡ opens.Started r → r ≡ resend_of def past
+pub resends_what_is_pending : (def : LineDef) (e : Entry) (past : List Entry) (r : Resend) → IsDue def e past
+    → opened_of e ≡ opens.Started r → r ≡ resend_of def past
 resends_what_is_pending def (entries.Enable s answer) past r due h =
     enable_resends def past r (ap opened_by_enable (sym (enable_due def s answer past due).answer_is) ∙ h)
 resends_what_is_pending def (entries.Request s x flags answer opened) past r due h =
@@ -60,7 +64,8 @@ soft_by : (E p g : Bool) → resends.Soft ≡ cond (E && p) (cond g resends.Chip
 soft_by true p g h = refl
 soft_by false p g h = cc
 
-pub chip_resend : (def : LineDef) (e : Entry) (past : List Entry) → IsDue def e past → opened_of e ≡ opens.Started resends.Chip → (is_edge_line def ≡ true) × (def.retriggers ≡ true)
+pub chip_resend : (def : LineDef) (e : Entry) (past : List Entry) → IsDue def e past
+    → opened_of e ≡ opens.Started resends.Chip → (is_edge_line def ≡ true) × (def.retriggers ≡ true)
 chip_resend def e past due h = chip_by (is_edge_line def) (is_pending def past) def.retriggers (resends_what_is_pending def e past resends.Chip due h)
 
 -- ---- a software resend is on an edge line
@@ -77,7 +82,9 @@ pub soft_has_edges : (def : LineDef) (past : List Entry) → IsLegalPast def pas
 soft_has_edges def [] legal h = cc
 soft_has_edges def (e ∷ past) legal h = by_case (stands_cases (is_soft_start e) (is_resend_take e) (is_soft past) h) (soft_has_edges def past legal.1)
   where
-    by_case : (is_soft_start e ≡ true) ⊎ ((is_resend_take e ≡ false) × (is_soft past ≡ true)) → (is_soft past ≡ true → is_edge_line def ≡ true) → is_edge_line def ≡ true
+    by_case : (is_soft_start e ≡ true) ⊎ ((is_resend_take e ≡ false) × (is_soft past ≡ true))
+        → (is_soft past ≡ true → is_edge_line def ≡ true) → is_edge_line def ≡ true
     by_case (inl starts) deeper =
-        soft_by (is_edge_line def) (is_pending def past) def.retriggers (resends_what_is_pending def e past resends.Soft legal.0 (soft_opened (opened_of e) starts))
+        soft_by (is_edge_line def) (is_pending def past) def.retriggers
+        (resends_what_is_pending def e past resends.Soft legal.0 (soft_opened (opened_of e) starts))
     by_case (inr was) deeper = deeper was.1

@@ -16,7 +16,10 @@ moved : (o s t b : Bool) → s ≡ t → (o && (not s && b)) ≡ (not t && (o &&
 moved o s t b h = grind arith
 
 -- once d gives its bit up, the bits that are left are other devices'
-pub others_left : (def : LineDef) (x : DevNo) (unmask : Bool) (past : List Entry) → is_some_unfinished def (entries.Finish x false unmask ∷ past) ≡ is_other_unfinished def past x
+pub others_left : (def : LineDef) (x : DevNo) (unmask : Bool) (past : List Entry)
+    → is_some_unfinished def (entries.Finish x false unmask ∷ past) ≡ is_other_unfinished def past x
 others_left def x unmask past =
-    any_ext (λ (y : DeviceDef). is_unfinished (entries.Finish x false unmask ∷ past) y.dev) (λ y. not (same_dev x y.dev) && is_unfinished past y.dev) def.devices
-    (λ y. moved (linking_flags past y.dev).oneshot (same_dev y.dev x) (same_dev x y.dev) (stands (wakes y.dev) (is_cleared_finish y.dev) (since (links_dev y.dev) past)) (same_both y.dev x))
+    any_ext (λ (y : DeviceDef). is_unfinished (entries.Finish x false unmask ∷ past) y.dev)
+    (λ y. not (same_dev x y.dev) && is_unfinished past y.dev) def.devices
+    (λ y. moved (linking_flags past y.dev).oneshot (same_dev y.dev x) (same_dev x y.dev)
+    (stands (wakes y.dev) (is_cleared_finish y.dev) (since (links_dev y.dev) past)) (same_both y.dev x))

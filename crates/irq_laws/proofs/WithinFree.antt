@@ -1,5 +1,6 @@
 -- A driver that is within a free has a free due.
-use Rattle.std.proofs.Common.{◌≡◌, ℕ, suc, ◌+◌, ◌<◌, ◌==◌, ◌⊎◌, inl, inr, Bool, true, false, cond, Some, List, [], ◌∷◌, ◌++◌, length, drop, nat_lt, refl, sym, ap, ◌∙◌, subst, arith, length-append}
+use Rattle.std.proofs.Common.{◌≡◌, ℕ, suc, ◌+◌, ◌<◌, ◌==◌, ◌⊎◌, inl, inr, Bool, true, false, cond, Some, List, [], ◌∷◌}
+use Rattle.std.proofs.Common.{◌++◌, length, drop, nat_lt, refl, sym, ap, ◌∙◌, subst, arith, length-append}
 use Rattle.std.proofs.lemmas.Bool.{ltb-true, lt-ltb}
 use Rattle.irq_base.specs.declared.numbers.DevNo.{DevNo}
 use Rattle.irq_base.specs.declared.numbers.DriverNo.{DriverNo}
@@ -21,7 +22,9 @@ use Rattle.irq_laws.proofs.ImpliesDriver.{ask_due, request_due, unlink_due, disa
 
 -- the due call goes on with e as one entry more
 goes_on_with : (def : LineDef) (r : DriverNo) (e : Entry) (past : List Entry) (c : Call) (n : ℕ) → is_by_driver r e ≡ true → due_call def r past ≡ Some (c, n)
-    → ((own : List Entry) → length own ≡ n → nat_lt (length own) (entries_of_call c own) ≡ true → nat_lt (length (own ++ e ∷ [])) (entries_of_call c (own ++ e ∷ [])) ≡ true) → due_call def r (e ∷ past) ≡ Some (c, n + 1)
+    → ((own : List Entry) → length own ≡ n → nat_lt (length own) (entries_of_call c own) ≡ true
+    → nat_lt (length (own ++ e ∷ [])) (entries_of_call c (own ++ e ∷ [])) ≡ true)
+    → due_call def r (e ∷ past) ≡ Some (c, n + 1)
 goes_on_with def r e past c n mine was goes =
     let s = standing (calls_by r def.calls) (entries_by r past) c n was in
     let more = goes s.own (sym s.counts) s.incomplete in
@@ -31,14 +34,16 @@ goes_on_with def r e past c n mine was goes =
     ∙ ap (λ (m : ℕ). due_at c m) count
 
 unlink_goes : (x : DevNo) (s : DriverNo) (last : Bool) (own : List Entry) → length own ≡ 0 → nat_lt (length own) (entries_of_call (calls.Free x) own) ≡ true
-    → nat_lt (length (own ++ entries.Unlink s x (unlinks.Unlinked last) ∷ [])) (entries_of_call (calls.Free x) (own ++ entries.Unlink s x (unlinks.Unlinked last) ∷ [])) ≡ true
+    → nat_lt (length (own ++ entries.Unlink s x (unlinks.Unlinked last) ∷ []))
+    (entries_of_call (calls.Free x) (own ++ entries.Unlink s x (unlinks.Unlinked last) ∷ [])) ≡ true
 unlink_goes x s last [] l lt = lt-ltb 1 3 (omega arith)
 unlink_goes x s last (y ∷ ys) l lt = absurd (omega (arith, l))
 
 clear_goes : (x : DevNo) (e : Entry) (own : List Entry) → length own ≡ 1 → nat_lt (length own) (entries_of_call (calls.Free x) own) ≡ true
     → nat_lt (length (own ++ e ∷ [])) (entries_of_call (calls.Free x) (own ++ e ∷ [])) ≡ true
 clear_goes x e [] l lt = absurd (omega (arith, l))
-clear_goes x e (y ∷ []) l lt = ap (λ (m : ℕ). nat_lt 2 m) (same_count (calls.Free x) y (e ∷ []) []) ∙ three_more (begins_not_there (y ∷ [])) (ltb-true 1 (entries_of_call (calls.Free x) (y ∷ [])) lt)
+clear_goes x e (y ∷ []) l lt = ap (λ (m : ℕ). nat_lt 2 m) (same_count (calls.Free x) y (e ∷ []) [])
+    ∙ three_more (begins_not_there (y ∷ [])) (ltb-true 1 (entries_of_call (calls.Free x) (y ∷ [])) lt)
   where
     three_more : (b : Bool) → 1 < cond b 1 3 → nat_lt 2 (cond b 1 3) ≡ true
     three_more true h = absurd (omega (arith, h))
@@ -46,7 +51,8 @@ clear_goes x e (y ∷ []) l lt = ap (λ (m : ℕ). nat_lt 2 m) (same_count (call
 clear_goes x e (y ∷ z ∷ ys) l lt = absurd (omega (arith, l))
 
 -- an entry of another call leaves a free due
-other_due : (def : LineDef) (r s : DriverNo) (e : Entry) (past : List Entry) (c : Call) (m : ℕ) (d : DevNo) (n : ℕ) → is_by_driver r e ≡ same_driver r s → is_free c ≡ false → due_call def s past ≡ Some (c, m)
+other_due : (def : LineDef) (r s : DriverNo) (e : Entry) (past : List Entry) (c : Call) (m : ℕ) (d : DevNo) (n : ℕ)
+    → is_by_driver r e ≡ same_driver r s → is_free c ≡ false → due_call def s past ≡ Some (c, m)
     → due_call def r past ≡ Some (calls.Free d, suc n) → due_call def r (e ∷ past) ≡ Some (calls.Free d, suc n)
 other_due def r s e past c m d n by other was h = by_driver (same_driver r s) refl
   where
@@ -59,40 +65,55 @@ other_due def r s e past c m d n by other was h = by_driver (same_driver r s) re
 abbrev Within : LineDef → List Entry → DriverNo → DevNo → Type 0
 Within def past r d = (n : ℕ) × (due_call def r past ≡ Some (calls.Free d, suc n))
 
-clear_due : (def : LineDef) (s : DriverNo) (past : List Entry) (r : DriverNo) (d : DevNo) (n : ℕ) → IsDue def (entries.HardClear s) past → due_call def r past ≡ Some (calls.Free d, suc n) → Within def (entries.HardClear s ∷ past) r d
+clear_due : (def : LineDef) (s : DriverNo) (past : List Entry) (r : DriverNo) (d : DevNo) (n : ℕ)
+    → IsDue def (entries.HardClear s) past → due_call def r past ≡ Some (calls.Free d, suc n)
+    → Within def (entries.HardClear s ∷ past) r d
 clear_due def s past r d n due h = by_call (hard_clear_due def s past due).call
   where
     of_free : (x : DevNo) → due_call def s past ≡ Some (calls.Free x, 1) → (b : Bool) → same_driver r s ≡ b → Within def (entries.HardClear s ∷ past) r d
     of_free x call true same =
-        let mine : due_call def r past ≡ Some (calls.Free x, 1) = subst (λ (t : DriverNo). due_call def t past ≡ Some (calls.Free x, 1)) (sym (driver_from_same r s same)) call in
+        let mine : due_call def r past ≡ Some (calls.Free x, 1)
+        = subst (λ (t : DriverNo). due_call def t past ≡ Some (calls.Free x, 1)) (sym (driver_from_same r s same))
+        call in
         let here = (same_call (calls.Free d) (calls.Free x) (suc n) 1 (sym h ∙ mine)).0 in
         let is : due_call def r past ≡ Some (calls.Free d, 1) = mine ∙ ap (λ (c : Call). due_at c 1) (sym here) in
         (1, goes_on_with def r (entries.HardClear s) past (calls.Free d) 1 same is (clear_goes d (entries.HardClear s)))
     of_free x call false other = (n, no_more def r (entries.HardClear s) past other ∙ h)
 
-    by_call : ((x : DevNo) × (due_call def s past ≡ Some (calls.Free x, 1))) ⊎ ((due_call def s past ≡ Some (calls.Disable, 1)) ⊎ (due_call def s past ≡ Some (calls.Sync, 0))) → Within def (entries.HardClear s ∷ past) r d
+    by_call : ((x : DevNo) × (due_call def s past ≡ Some (calls.Free x, 1)))
+        ⊎ ((due_call def s past ≡ Some (calls.Disable, 1)) ⊎ (due_call def s past ≡ Some (calls.Sync, 0)))
+        → Within def (entries.HardClear s ∷ past) r d
     by_call (inl u) = of_free u.0 u.1 (same_driver r s) refl
     by_call (inr (inl u)) = (n, other_due def r s (entries.HardClear s) past calls.Disable 1 d n refl refl u h)
     by_call (inr (inr u)) = (n, other_due def r s (entries.HardClear s) past calls.Sync 0 d n refl refl u h)
 
-within_more : (def : LineDef) (e : Entry) (past : List Entry) (r : DriverNo) (d : DevNo) → IsDue def e past → (freeing past ≡ Some (r, d) → Within def past r d) → freeing (e ∷ past) ≡ Some (r, d) → Within def (e ∷ past) r d
+within_more : (def : LineDef) (e : Entry) (past : List Entry) (r : DriverNo) (d : DevNo) → IsDue def e past
+    → (freeing past ≡ Some (r, d) → Within def past r d) → freeing (e ∷ past) ≡ Some (r, d) → Within def (e ∷ past) r d
 within_more def (entries.Ask s x) past r d due k f =
     let h = k f in let u = ask_due def s x past due in (h.0, other_due def r s (entries.Ask s x) past (calls.Ask x) u.count d h.0 refl refl u.call h.1)
 within_more def (entries.Disable s) past r d due k f = by_call (k f) (disable_due def s past due).call
   where
-    by_call : Within def past r d → (due_call def s past ≡ Some (calls.Disable, 0)) ⊎ ((n : ℕ) × (due_call def s past ≡ Some (calls.DisableNosync, n))) → Within def (entries.Disable s ∷ past) r d
+    by_call : Within def past r d → (due_call def s past ≡ Some (calls.Disable, 0))
+        ⊎ ((n : ℕ) × (due_call def s past ≡ Some (calls.DisableNosync, n))) → Within def (entries.Disable s ∷ past) r d
     by_call h (inl u) = (h.0, other_due def r s (entries.Disable s) past calls.Disable 0 d h.0 refl refl u h.1)
     by_call h (inr u) = (h.0, other_due def r s (entries.Disable s) past calls.DisableNosync u.0 d h.0 refl refl u.1 h.1)
 within_more def (entries.HardClear s) past r d due k f = let h = k f in clear_due def s past r d h.0 due h.1
 within_more def (entries.Synced s) past r d due k f = by_call (k f) (synced_due def s past due).count (synced_due def s past due).call
   where
-    by_call : Within def past r d → (n : ℕ) → ((due_call def s past ≡ Some (calls.Disable, n)) × ((n == 0) ≡ false) × ((n == 1) ≡ false)) ⊎ ((due_call def s past ≡ Some (calls.Sync, n)) × ((n == 0) ≡ false)) → Within def (entries.Synced s ∷ past) r d
+    by_call : Within def past r d → (n : ℕ) → ((due_call def s past ≡ Some (calls.Disable, n)) × ((n == 0) ≡ false)
+        × ((n == 1) ≡ false)) ⊎ ((due_call def s past ≡ Some (calls.Sync, n)) × ((n == 0) ≡ false))
+        → Within def (entries.Synced s ∷ past) r d
     by_call h n (inl u) = (h.0, other_due def r s (entries.Synced s) past calls.Disable n d h.0 refl refl u.0 h.1)
     by_call h n (inr u) = (h.0, other_due def r s (entries.Synced s) past calls.Sync n d h.0 refl refl u.0 h.1)
 within_more def (entries.Enable s answer) past r d due k f =
-    let h = k f in let u = enable_due def s answer past due in (h.0, other_due def r s (entries.Enable s answer) past calls.Enable u.count d h.0 refl refl u.call h.1)
+    let h = k f in let u = enable_due def s answer past due in
+    (h.0, other_due def r s (entries.Enable s answer) past calls.Enable u.count d h.0 refl refl u.call h.1)
 within_more def (entries.Request s x flags answer opened) past r d due k f =
-    let h = k f in let u = request_due def s x flags answer opened past due in (h.0, other_due def r s (entries.Request s x flags answer opened) past (calls.Request x flags) u.count d h.0 refl refl u.call h.1)
+    let h = k f in let u = request_due def s x flags answer opened past due in (
+      h.0,
+      other_due def r s (entries.Request s x flags answer opened) past (calls.Request x flags) u.count d h.0
+          refl refl u.call h.1,
+    )
 within_more def (entries.Unlink s x (unlinks.Unlinked last)) past r d due k f =
     let p : DriverNo × DevNo = (s, x) in
     let q : DriverNo × DevNo = (r, d) in
@@ -104,11 +125,17 @@ within_more def (entries.Unlink s x (unlinks.Unlinked last)) past r d due k f =
 within_more def (entries.Unlink s x unlinks.NotThere) past r d due k f = not_freeing past _ (unlink_due def s x unlinks.NotThere past due).no_mutex f
 within_more def (entries.Freed s x) past r d due k f = cc
 within_more def (entries.Affinity s mask answer) past r d due k f =
-    let h = k f in let u = affinity_due def s mask answer past due in (h.0, other_due def r s (entries.Affinity s mask answer) past (calls.Affinity mask) u.count d h.0 refl refl u.call h.1)
+    let h = k f in let u = affinity_due def s mask answer past due in (
+      h.0,
+      other_due def r s (entries.Affinity s mask answer) past (calls.Affinity mask) u.count d h.0 refl refl
+          u.call h.1,
+    )
 within_more def (entries.Moment s at) past r d due k f =
-    let h = k f in let u = moment_due def s at past due in (h.0, other_due def r s (entries.Moment s at) past (calls.Moment at) u.count d h.0 refl refl u.call h.1)
+    let h = k f in let u = moment_due def s at past due in
+    (h.0, other_due def r s (entries.Moment s at) past (calls.Moment at) u.count d h.0 refl refl u.call h.1)
 within_more def e past r d due k f = k f
 
-pub within_free : (def : LineDef) (past : List Entry) → IsLegalPast def past → (r : DriverNo) (d : DevNo) → freeing past ≡ Some (r, d) → (n : ℕ) × (due_call def r past ≡ Some (calls.Free d, suc n))
+pub within_free : (def : LineDef) (past : List Entry) → IsLegalPast def past → (r : DriverNo) (d : DevNo)
+    → freeing past ≡ Some (r, d) → (n : ℕ) × (due_call def r past ≡ Some (calls.Free d, suc n))
 within_free def [] legal r d f = cc
 within_free def (e ∷ past) legal r d f = within_more def e past r d legal.0 (λ g. within_free def past legal.1 r d g) f

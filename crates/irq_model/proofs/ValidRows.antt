@@ -1,6 +1,7 @@
 -- A valid definition exists for each kind of line: the definitions of the worked histories are
 -- valid.
-use Rattle.std.proofs.Common.{◌≡◌, ℕ, zero, suc, ◌<◌, Bool, true, false, not, ◌&&◌, ◌||◌, nat_lt, IsSome, Some, List, [], ◌∷◌, length, All, refl, sym, ap, ◌∙◌, eqb-true, arith}
+use Rattle.std.proofs.Common.{◌≡◌, ℕ, zero, suc, ◌<◌, Bool, true, false, not, ◌&&◌, ◌||◌, nat_lt, IsSome, Some, List}
+use Rattle.std.proofs.Common.{[], ◌∷◌, length, All, refl, sym, ap, ◌∙◌, eqb-true, arith}
 use Rattle.std.specs.List.{slice_get, list_all, list_any}
 use Rattle.std.proofs.lemmas.Bool.{ltb-true, not-true}
 use Rattle.std.proofs.lemmas.List.Elements.{All-nil, All-cons}
@@ -37,18 +38,21 @@ requests_once (c ∷ cs) = not (list_any (requests_as c.1) cs) && requests_once 
 
 abbrev FitsNumbers : LineDef → Type 0
 FitsNumbers def =
-    (nat_lt 0 def.cpus ≡ true) × (nat_lt def.cpus 33 ≡ true) × (nat_lt 0 def.window ≡ true) × (nat_lt def.window 1000001 ≡ true) × (nat_lt def.limit def.window ≡ true)
+    (nat_lt 0 def.cpus ≡ true) × (nat_lt def.cpus 33 ≡ true) × (nat_lt 0 def.window ≡ true)
+    × (nat_lt def.window 1000001 ≡ true) × (nat_lt def.limit def.window ≡ true)
     × (nat_lt 0 def.log ≡ true) × (nat_lt def.log 100000001 ≡ true) × (nat_lt (length def.devices) 257 ≡ true) × (nat_lt (length def.calls) 16385 ≡ true)
 
 abbrev FitsFlow : LineDef → Type 0
 FitsFlow def =
     ((not (is_edge_flow def.flow) || is_edge_line def) ≡ true) × ((not (is_level_flow def.flow) || is_level_line def) ≡ true)
     × ((not (is_edge_line def) || (not def.unlazy || def.keeps)) ≡ true)
-    × ((not (is_edge_line def) || (not (is_eoi_flow def.flow) || def.keeps)) ≡ true) × ((not (is_edge_line def) || (not (is_eoi_flow def.flow) || def.retriggers)) ≡ true)
+    × ((not (is_edge_line def) || (not (is_eoi_flow def.flow) || def.keeps)) ≡ true)
+    × ((not (is_edge_line def) || (not (is_eoi_flow def.flow) || def.retriggers)) ≡ true)
 
 abbrev FitsLists : LineDef → Type 0
 FitsLists def =
-    (list_all (λ x. same_line x.line def.line) def.devices ≡ true) × (has_distinct_devices def.devices ≡ true) × (list_all (λ c. names_one_of def.devices c.1) def.calls ≡ true)
+    (list_all (λ x. same_line x.line def.line) def.devices ≡ true) × (has_distinct_devices def.devices ≡ true)
+    × (list_all (λ c. names_one_of def.devices c.1) def.calls ≡ true)
     × (list_all (λ c. same_driver c.0 (driver 1)) def.calls ≡ true) × (requests_once def.calls ≡ true)
 
 -- ---- what they say
@@ -94,7 +98,8 @@ same_request d (calls.Request dev flags) b is also =
     let same : d ≡ dev = ap named (eqb-true d.0 dev.0 is) in ap (λ x. requests_dev x b.1) (sym same) ∙ also
 same_request d _ b is also = cc
 
-no_second : (d : DevNo) (cs : List (DriverNo × Call)) (i j : ℕ) (a b : DriverNo × Call) → requests_once cs ≡ true → i < j → slice_get cs i ≡ Some a → slice_get cs j ≡ Some b
+no_second : (d : DevNo) (cs : List (DriverNo × Call)) (i j : ℕ) (a b : DriverNo × Call) → requests_once cs ≡ true
+    → i < j → slice_get cs i ≡ Some a → slice_get cs j ≡ Some b
     → requests_dev d a.1 ≡ true → requests_dev d b.1 ≡ true → ⊥
 no_second d [] i j a b h lt at also is it = cc
 no_second d (c ∷ cs) i zero a b h lt at also is it = absurd (omega arith)
@@ -136,7 +141,9 @@ fits def n f l mask =
       devices = each (λ x. same_line x.line def.line) (λ x. x.line ≡ def.line) (λ x. one_line x.line def.line) def.devices l.0;
       distinct = distinct def.devices l.1;
       calls = each (λ c. names_one_of def.devices c.1) (λ c. names_one_of def.devices c.1 ≡ true) (λ c h. h) def.calls l.2;
-      owners = λ d i j a b at also is it. one_driver a.0 b.0 (at_place (λ c. same_driver c.0 (driver 1)) def.calls i a l.3 at) (at_place (λ c. same_driver c.0 (driver 1)) def.calls j b l.3 also);
+      owners = λ d i j a b at also is it. one_driver a.0 b.0
+          (at_place (λ c. same_driver c.0 (driver 1)) def.calls i a l.3 at)
+          (at_place (λ c. same_driver c.0 (driver 1)) def.calls j b l.3 also);
       freed = λ d i j a b lt at also is it. absurd (no_second d def.calls i j a b l.4 lt at also is it);
     }
 
@@ -167,7 +174,8 @@ level_is_valid = fits storm_line (refl, refl, refl, refl, refl, refl, refl, refl
 
 -- a one-shot level line of two devices with threads
 pub oneshot_is_valid : IsValid two_threads_line
-oneshot_is_valid = fits two_threads_line (refl, refl, refl, refl, refl, refl, refl, refl, refl) (refl, refl, refl, refl, refl) (refl, refl, refl, refl, refl) refl
+oneshot_is_valid = fits two_threads_line (refl, refl, refl, refl, refl, refl, refl, refl, refl)
+    (refl, refl, refl, refl, refl) (refl, refl, refl, refl, refl) refl
 
 -- a level line with the fast-EOI flow, one-shot
 pub eoi_is_valid : IsValid eoi_thread_line

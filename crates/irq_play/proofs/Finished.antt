@@ -64,11 +64,14 @@ module _ (b : BoardSeen) (board : IsBoard b) (s : SystemSeen) (line : LineNo) (l
       let who = choice_is b lines plays_full.0 full.move full.after full.next in
       let on = moves_on b lines who.actor full.move who.moves in
       let number : on.line.def.line ≡ line = sym on.number ∙ full.of_line in
-      let found : find_line lines line ≡ Some on.line = ap (λ (l : LineNo). find_line lines l) (sym number) ∙ find_there lines (apart_kept b board lines kept) on.place on.line on.at in
+      let found : find_line lines line ≡ Some on.line = ap (λ (l : LineNo). find_line lines l) (sym number)
+      ∙ find_there lines (apart_kept b board lines kept) on.place on.line on.at in
       let long : length on.line.past ≡ len =
       ap (λ (es : List Entry). length es) (past_at (defs_of b) g on.place on.line on.at ∙ ap (λ (l : LineNo). part l g) number) ∙ p.play.1 in
       subst (λ (ls : List BoardLine). HasNoRoom b ls line len) (sym p.lines)
-      (no_room b board lines kept line len full.move full.of_line (subst (λ (o : Option BoardLine). HasLength o len) (sym found) long) (sym p.play.1 ∙ full.length) who.actor who.moves)
+      (no_room b board lines kept line len full.move full.of_line
+      (subst (λ (o : Option BoardLine). HasLength o len) (sym found) long) (sym p.play.1 ∙ full.length) who.actor
+      who.moves)
 
   pub full_done : (reports : List LineReport) → report.FullLog b (entries_in (board_lines s.lines)) reports line len → FullLog b s.log reports line len
   full_done reports h =
@@ -85,7 +88,8 @@ module _ (b : BoardSeen) (board : IsBoard b) (s : SystemSeen) (line : LineNo) (l
       }
 
 -- when a step was refused memory
-pub cut_done : (b : BoardSeen) → IsBoard b → (s : SystemSeen) → IsPlayed b s plays.NoMemory → (reports : List LineReport) → report.SoFar b (entries_in (board_lines s.lines)) reports → CutShort b s.log reports
+pub cut_done : (b : BoardSeen) → IsBoard b → (s : SystemSeen) → IsPlayed b s plays.NoMemory
+    → (reports : List LineReport) → report.SoFar b (entries_in (board_lines s.lines)) reports → CutShort b s.log reports
 cut_done b board s p reports h =
     let left = p.play.0 in
     let chosen = subst (λ (c : BoardSeen). IsChosen c b.picks (reverse s.log) left) p.board p.play.1 in

@@ -22,7 +22,8 @@ next_row : (left : List Move) (m : Move) → slice_get left 0 ≡ Some m → mov
 next_row [] m at = cc
 next_row (x ∷ xs) m at = ap (λ (y : Move). entry_text y.0 y.1 ++ moves_text xs) (the_same x m at)
 
-module _ (before now after : Option (List ℕ)) (all left : List Move) (m : Move) (at : slice_get left 0 ≡ Some m) (row : List ℕ) (is : row ≡ entry_text m.0 m.1) (p : IsPrinting before now all left) where
+module _ (before now after : Option (List ℕ)) (all left : List Move) (m : Move) (at : slice_get left 0 ≡ Some m)
+    (row : List ℕ) (is : row ≡ entry_text m.0 m.1) (p : IsPrinting before now all left) where
   with_row : (p.done ++ row) ++ moves_text (drop 1 left) ≡ moves_text all
   with_row =
       append_assoc p.done row (moves_text (drop 1 left))
@@ -41,6 +42,7 @@ module _ (before now after : Option (List ℕ)) (all left : List Move) (m : Move
       subst (λ (text : List ℕ). WritesAll before after text ends.Failed) with_row
       (failed_within before after (p.done ++ row) (moves_text (drop 1 left)) (and_then before now after p.done row ends.Failed p.written w))
 
-pub all_printed : (before now : Option (List ℕ)) (all left : List Move) → slice_get left 0 ≡ None → IsPrinting before now all left → WritesAll before now (moves_text all) ends.Done
+pub all_printed : (before now : Option (List ℕ)) (all left : List Move) → slice_get left 0 ≡ None
+    → IsPrinting before now all left → WritesAll before now (moves_text all) ends.Done
 all_printed before now all [] at p = subst (λ (text : List ℕ). WritesAll before now text ends.Done) (sym (append-nil p.done) ∙ p.rest) p.written
 all_printed before now all (m ∷ left) at p = cc

@@ -18,7 +18,8 @@ no_def : (ds : List LineDef) (g h : List Move) (line : LineNo) → find_line (li
 no_def [] g h line is = refl
 no_def (d ∷ ds) g h line is = by_test (same_line line d.line) is (no_def ds g h line)
   where
-    by_test : (b : Bool) → cond b (Some (record { def = d; past = part d.line g })) (find_line (lines_at ds g) line) ≡ None → (find_line (lines_at ds g) line ≡ None → find_line (lines_at ds h) line ≡ None)
+    by_test : (b : Bool) → cond b (Some (record { def = d; past = part d.line g })) (find_line (lines_at ds g) line)
+        ≡ None → (find_line (lines_at ds g) line ≡ None → find_line (lines_at ds h) line ≡ None)
         → cond b (Some (record { def = d; past = part d.line h })) (find_line (lines_at ds h) line) ≡ None
     by_test true is deeper = cc
     by_test false is deeper = deeper is
@@ -30,14 +31,16 @@ some_is_not_none : (x : BoardLine) → ◌≡◌ {A = Option BoardLine} (Some x)
 some_is_not_none x is = cc
 
 -- a next move is on a line of the board
-is_there : (b : BoardSeen) → IsBoard b → (g : List Move) (before after : List Actor) (m : Move) → choice b (lines_of b g) before ≡ Some (m, after) → find_line (lines_of b g) m.0 ≡ None → ⊥
+is_there : (b : BoardSeen) → IsBoard b → (g : List Move) (before after : List Actor) (m : Move)
+    → choice b (lines_of b g) before ≡ Some (m, after) → find_line (lines_of b g) m.0 ≡ None → ⊥
 is_there b board g before after m chosen none =
     let who = choice_is b (lines_of b g) before m after chosen in
     let on = moves_on b (lines_of b g) who.actor m who.moves in
     let found : find_line (lines_of b g) on.line.def.line ≡ Some on.line = find_there (lines_of b g) (apart_at b board g) on.place on.line on.at in
     some_is_not_none on.line (sym found ∙ (ap (λ (l : LineNo). find_line (lines_of b g) l) (sym on.number) ∙ none))
 
-pub others_have_none : (b : BoardSeen) → IsBoard b → (picks : List Actor) (g : List Move) (left : List Actor) → IsChosen b picks g left → (line : LineNo) → find_line (lines_of b g) line ≡ None → part line g ≡ []
+pub others_have_none : (b : BoardSeen) → IsBoard b → (picks : List Actor) (g : List Move) (left : List Actor)
+    → IsChosen b picks g left → (line : LineNo) → find_line (lines_of b g) line ≡ None → part line g ≡ []
 others_have_none b board picks [] left chosen line none = refl
 others_have_none b board picks (m ∷ g) left chosen line none =
     let was : find_line (lines_of b g) line ≡ None = no_def (defs_of b) (m ∷ g) g line none in

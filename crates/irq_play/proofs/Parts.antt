@@ -19,10 +19,12 @@ use Rattle.irq_play.proofs.Turned.{turned_back}
 same_pair : (line : LineNo) (es fs : List Entry) → es ≡ fs → ◌≡◌ {A = LineHistory} (line, es) (line, fs)
 same_pair line es fs is = cc
 
-module _ (b : BoardSeen) (board : IsBoard b) (g : List Move) (left : List Actor) (chosen : IsChosen b b.picks (reverse g) left) (lines : List BoardLine) (are : lines ≡ lines_of b (reverse g)) where
+module _ (b : BoardSeen) (board : IsBoard b) (g : List Move) (left : List Actor)
+    (chosen : IsChosen b b.picks (reverse g) left) (lines : List BoardLine) (are : lines ≡ lines_of b (reverse g)) where
   -- what is found of a line's number is its part of the moves
   found_part : (line : LineNo) (o : Option BoardLine) → find_line (lines_of b (reverse g)) line ≡ o → entries_of o ≡ part line g
-  found_part line None is = ap (λ (past : List Entry). reverse past) (sym (others_have_none b board b.picks (reverse g) left chosen line is)) ∙ turned_back line g
+  found_part line None is = ap (λ (past : List Entry). reverse past)
+      (sym (others_have_none b board b.picks (reverse g) left chosen line is)) ∙ turned_back line g
   found_part line (Some x) is =
       let f = found (lines_of b (reverse g)) line x is in
       let past : x.past ≡ part line (reverse g) = past_at (defs_of b) (reverse g) f.place x f.at ∙ ap (λ (l : LineNo). part l (reverse g)) (sym f.number) in
@@ -34,7 +36,8 @@ module _ (b : BoardSeen) (board : IsBoard b) (g : List Move) (left : List Actor)
       ∙ found_part line (find_line (lines_of b (reverse g)) line) refl
 
   -- so what holds of the one holds of the other
-  pub mapped_parts : (P : LineRow → List Entry → Type 0) → EachMapped b (λ row. P row (entries_in lines row.line)) → EachMapped b (λ row. P row (part row.line g))
+  pub mapped_parts : (P : LineRow → List Entry → Type 0) → EachMapped b (λ row. P row (entries_in lines row.line))
+      → EachMapped b (λ row. P row (part row.line g))
   mapped_parts P each i row virq path at laid = subst (λ (es : List Entry). P row es) (its_part row.line) (each i row virq path at laid)
 
   pub refused_parts : EachRefused b (λ row. entries_in lines row.line ≡ []) → EachRefused b (λ row. part row.line g ≡ [])

@@ -17,7 +17,8 @@ chosen_printable b picks [] left chosen = All-nil HasRow
 chosen_printable b picks (m ∷ g) left chosen =
     let who = choice_is b (lines_of b g) chosen.0 m left chosen.2 in
     let on = moves_on b (lines_of b g) who.actor m who.moves in
-    All-cons HasRow m g (printable on.line.def on.line.past m.1 (due_of on.line.def on.line.past who.actor m.1 on.due)) (chosen_printable b picks g chosen.0 chosen.1)
+    All-cons HasRow m g (printable on.line.def on.line.past m.1 (due_of on.line.def on.line.past who.actor m.1 on.due))
+    (chosen_printable b picks g chosen.0 chosen.1)
 
 -- each move so far has a row
 pub moves_have_rows : (b : BoardSeen) (picks : List Actor) (g : List Move) (left : List Actor) → IsChosen b picks (reverse g) left → All HasRow g

@@ -62,16 +62,22 @@ none_more d o x none was = grind arith
 pub alone_more : (e : Entry) (past : List Entry) → is_other_call last_driver e ≡ false → IsAlone past → IsAlone (e ∷ past)
 alone_more e past none alone stands = by_test (is_disable_by last_driver e) refl
   where
-    by_test : (d : Bool) → is_disable_by last_driver e ≡ d → not (list_any (is_other_call last_driver) (cond (is_disable_by last_driver e) [] (e ∷ since_disable last_driver past))) ≡ true
+    by_test : (d : Bool) → is_disable_by last_driver e ≡ d
+        → not (list_any (is_other_call last_driver) (cond (is_disable_by last_driver e) []
+        (e ∷ since_disable last_driver past))) ≡ true
     by_test true is = ap (λ (b : Bool). not (list_any (is_other_call last_driver) (cond b [] (e ∷ since_disable last_driver past)))) is
     by_test false is =
-        let was : is_suspended last_driver past ≡ true = asleep_parts (is_disable_by last_driver e) (is_enable_by last_driver e) (is_suspended last_driver past) stands is in
+        let was : is_suspended last_driver past ≡ true
+        = asleep_parts (is_disable_by last_driver e) (is_enable_by last_driver e) (is_suspended last_driver past)
+        stands is in
         ap (λ (b : Bool). not (list_any (is_other_call last_driver) (cond b [] (e ∷ since_disable last_driver past)))) is
         ∙ none_more false (is_other_call last_driver e) (list_any (is_other_call last_driver) (since_disable last_driver past)) none (alone was)
 
 -- a line that isn't suspended stays so, unless the system's driver makes the entry
-pub awake_more : (e : Entry) (past : List Entry) → is_by_driver last_driver e ≡ false → is_suspended last_driver past ≡ false → is_suspended last_driver (e ∷ past) ≡ false
-awake_more e past other awake = stays_awake (is_disable_by last_driver e) (is_enable_by last_driver e) (is_suspended last_driver past) (not_own last_driver e other) awake
+pub awake_more : (e : Entry) (past : List Entry) → is_by_driver last_driver e ≡ false
+    → is_suspended last_driver past ≡ false → is_suspended last_driver (e ∷ past) ≡ false
+awake_more e past other awake = stays_awake (is_disable_by last_driver e) (is_enable_by last_driver e)
+    (is_suspended last_driver past) (not_own last_driver e other) awake
 
 pub awake_is_alone : (past : List Entry) → is_suspended last_driver past ≡ false → IsAlone past
 awake_is_alone past awake stands = both_ways (is_suspended last_driver past) stands awake

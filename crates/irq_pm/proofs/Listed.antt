@@ -1,5 +1,6 @@
 -- The threads and processors that can move are among the board's.
-use Rattle.std.proofs.Common.{◌≡◌, ℕ, ◌==◌, ◌⊎◌, inl, inr, Bool, true, false, cond, Option, Some, None, List, [], ◌∷◌, ◌++◌, map, filter, refl, sym, ap, ◌∙◌, subst}
+use Rattle.std.proofs.Common.{◌≡◌, ℕ, ◌==◌, ◌⊎◌, inl, inr, Bool, true, false, cond, Option, Some, None, List, [], ◌∷◌}
+use Rattle.std.proofs.Common.{◌++◌, map, filter, refl, sym, ap, ◌∙◌, subst}
 use Rattle.std.specs.List.{list_any}
 use Rattle.std.proofs.lemmas.Bool.{or_cases}
 use Rattle.irq_base.specs.declared.devices.DeviceDef.{DeviceDef}
@@ -32,31 +33,44 @@ use Rattle.board_play.proofs.OfBoard.{AreValid, OfRow, def_of_row, valid_defs}
 -- ---- threads
 
 -- a device that is on the line
-device_listed : (line : LineNo) (d : DevNo) (xs : List DeviceDef) → list_any (is_device d) (filter (λ x. x.line.0 == line.0) xs) ≡ true → IsOneOf (actors.Thread line d) (map (λ (x : DeviceDef). actors.Thread x.line x.dev) xs)
+device_listed : (line : LineNo) (d : DevNo) (xs : List DeviceDef)
+    → list_any (is_device d) (filter (λ x. x.line.0 == line.0) xs) ≡ true
+    → IsOneOf (actors.Thread line d) (map (λ (x : DeviceDef). actors.Thread x.line x.dev) xs)
 device_listed line d [] h = cc
 device_listed line d (x ∷ xs) h = by_test (x.line.0 == line.0) refl h (device_listed line d xs)
   where
     here : same_line x.line line ≡ true → is_device d x ≡ true → actors.Thread line d ≡ actors.Thread x.line x.dev
-    here of_line is = ap (λ (l : LineNo). actors.Thread l d) (sym (line_from_same x.line line of_line)) ∙ ap (λ (e : DevNo). actors.Thread x.line e) (dev_from_same d x.dev is)
+    here of_line is = ap (λ (l : LineNo). actors.Thread l d) (sym (line_from_same x.line line of_line))
+        ∙ ap (λ (e : DevNo). actors.Thread x.line e) (dev_from_same d x.dev is)
 
-    by_test : (b : Bool) → (x.line.0 == line.0) ≡ b → list_any (is_device d) (cond b (x ∷ filter (λ x. x.line.0 == line.0) xs) (filter (λ x. x.line.0 == line.0) xs)) ≡ true
-        → (list_any (is_device d) (filter (λ x. x.line.0 == line.0) xs) ≡ true → IsOneOf (actors.Thread line d) (map (λ (x : DeviceDef). actors.Thread x.line x.dev) xs))
+    by_test : (b : Bool) → (x.line.0 == line.0) ≡ b → list_any (is_device d)
+        (cond b (x ∷ filter (λ x. x.line.0 == line.0) xs) (filter (λ x. x.line.0 == line.0) xs)) ≡ true
+        → (list_any (is_device d) (filter (λ x. x.line.0 == line.0) xs) ≡ true
+        → IsOneOf (actors.Thread line d) (map (λ (x : DeviceDef). actors.Thread x.line x.dev) xs))
         → (actors.Thread line d ≡ actors.Thread x.line x.dev) ⊎ IsOneOf (actors.Thread line d) (map (λ (x : DeviceDef). actors.Thread x.line x.dev) xs)
-    by_test true of_line h deeper = elim (or_cases (is_device d x) (list_any (is_device d) (filter (λ x. x.line.0 == line.0) xs)) h) [ inl is ↦ inl (here of_line is) | inr there ↦ inr (deeper there) ]
+    by_test true of_line h deeper = elim (or_cases (is_device d x)
+        (list_any (is_device d) (filter (λ x. x.line.0 == line.0) xs)) h)
+        [ inl is ↦ inl (here of_line is) | inr there ↦ inr (deeper there) ]
     by_test false other h deeper = inr (deeper h)
 
-thread_listed : (board : BoardSeen) (x : BoardLine) → OfRow board board.lines x.def → IsValid x.def → IsLegalPast x.def x.past → (line : LineNo) (d : DevNo) (e : Entry) → next_past x.def x.past (actors.Thread line d) ≡ Some e
+thread_listed : (board : BoardSeen) (x : BoardLine) → OfRow board board.lines x.def → IsValid x.def
+    → IsLegalPast x.def x.past → (line : LineNo) (d : DevNo) (e : Entry)
+    → next_past x.def x.past (actors.Thread line d) ≡ Some e
     → IsOneOf (actors.Thread line d) (threads_of board)
 thread_listed board x o valid legal line d e due = by_line (chosen (same_line line x.def.line) (next_of_thread x.def d x.past) None e due)
   where
     of_row : list_any (is_device d) x.def.devices ≡ true → IsOneOf (actors.Thread x.def.line d) (threads_of board)
     of_row named =
-        let there : list_any (is_device d) (filter (λ x. x.line.0 == o.row.line.0) board.devices) ≡ true = subst (λ (def : LineDef). list_any (is_device d) def.devices ≡ true) (sym o.is) named in
+        let there : list_any (is_device d) (filter (λ x. x.line.0 == o.row.line.0) board.devices)
+        ≡ true = subst (λ (def : LineDef). list_any (is_device d) def.devices ≡ true) (sym o.is) named in
         subst (λ (def : LineDef). IsOneOf (actors.Thread def.line d) (threads_of board)) o.is (device_listed o.row.line d board.devices there)
 
-    by_line : ((same_line line x.def.line ≡ true) × (next_of_thread x.def d x.past ≡ Some e)) ⊎ ((same_line line x.def.line ≡ false) × (None ≡ Some e)) → IsOneOf (actors.Thread line d) (threads_of board)
+    by_line : ((same_line line x.def.line ≡ true) × (next_of_thread x.def d x.past ≡ Some e))
+        ⊎ ((same_line line x.def.line ≡ false) × (None ≡ Some e)) → IsOneOf (actors.Thread line d) (threads_of board)
     by_line (inl h) =
-        subst (λ (l : LineNo). IsOneOf (actors.Thread l d) (threads_of board)) (sym (line_from_same line x.def.line h.0)) (of_row (thread_device x.def x.past d e (kept x.def x.past valid legal) h.1))
+        subst (λ (l : LineNo). IsOneOf (actors.Thread l d) (threads_of board))
+        (sym (line_from_same line x.def.line h.0))
+        (of_row (thread_device x.def x.past d e (kept x.def x.past valid legal) h.1))
     by_line (inr h) = let n = h.1 in cc
 
 -- ---- processors
@@ -71,22 +85,30 @@ no_driver c (n ∷ ns) at = elim at [ inl here ↦ cc | inr there ↦ no_driver 
 
 in_either : (a : Actor) (xs ys : List Actor) → IsOneOf a (xs ++ ys) → IsOneOf a xs ⊎ IsOneOf a ys
 in_either a [] ys at = inr at
-in_either a (x ∷ xs) ys at = elim at [ inl here ↦ inl (inl here) | inr there ↦ elim (in_either a xs ys there) [ inl first ↦ inl (inr first) | inr second ↦ inr second ] ]
+in_either a (x ∷ xs) ys at = elim at [
+  | inl here ↦ inl (inl here)
+  | inr there ↦ elim (in_either a xs ys there) [ inl first ↦ inl (inr first) | inr second ↦ inr second ]
+]
 
-cpu_listed : (board : BoardSeen) (x : BoardLine) → OfRow board board.lines x.def → IsValid x.def → IsLegalPast x.def x.past → (c : CpuNo) (e : Entry) → next_past x.def x.past (actors.Cpu c) ≡ Some e → IsOneOf (actors.Cpu c) (cpus_of board)
+cpu_listed : (board : BoardSeen) (x : BoardLine) → OfRow board board.lines x.def → IsValid x.def
+    → IsLegalPast x.def x.past → (c : CpuNo) (e : Entry) → next_past x.def x.past (actors.Cpu c) ≡ Some e
+    → IsOneOf (actors.Cpu c) (cpus_of board)
 cpu_listed board x o valid legal c e due =
-    subst (λ (def : LineDef). IsOneOf (actors.Cpu c) (cpus_of_line def) → IsOneOf (actors.Cpu c) (cpus_of board)) o.is (λ at. at) (of_cpus (mover_listed x.def x.past (actors.Cpu c) e valid legal due))
+    subst (λ (def : LineDef). IsOneOf (actors.Cpu c) (cpus_of_line def) → IsOneOf (actors.Cpu c) (cpus_of board)) o.is
+    (λ at. at) (of_cpus (mover_listed x.def x.past (actors.Cpu c) e valid legal due))
   where
     of_cpus : IsOneOf (actors.Cpu c) (actors_of_line x.def) → IsOneOf (actors.Cpu c) (cpus_of_line x.def)
     of_cpus at = elim (in_either (actors.Cpu c) (threads_of_line x.def) (cpus_of_line x.def ++ drivers_of_line x.def) at) [
       | inl thread ↦ absurd (no_thread x.def.line c _ thread)
-      | inr rest ↦ elim (in_either (actors.Cpu c) (cpus_of_line x.def) (drivers_of_line x.def) rest) [ inl cpu ↦ cpu | inr driver ↦ absurd (no_driver c _ driver) ]
+      | inr rest ↦ elim (in_either (actors.Cpu c) (cpus_of_line x.def) (drivers_of_line x.def) rest)
+          [ inl cpu ↦ cpu | inr driver ↦ absurd (no_driver c _ driver) ]
     ]
 
 -- ---- together
 
 -- if none of the board's threads and processors can move, no thread and no processor can
-module _ (board : BoardSeen) (is : IsBoard board) (lines : List BoardLine) (k : AreKept board lines) (rest : (a : Actor) → IsOneOf a (threads_of board ++ cpus_of board) → due_move board lines a ≡ None) where
+module _ (board : BoardSeen) (is : IsBoard board) (lines : List BoardLine) (k : AreKept board lines)
+    (rest : (a : Actor) → IsOneOf a (threads_of board ++ cpus_of board) → due_move board lines a ≡ None) where
   valid : AreValid board
   valid = valid_defs board is
 
@@ -94,13 +116,15 @@ module _ (board : BoardSeen) (is : IsBoard board) (lines : List BoardLine) (k : 
   thread_is line d m due =
       let moves = moves_on board lines (actors.Thread line d) m due in
       let at = def_at board lines k moves.place moves.line moves.at in
-      thread_listed board moves.line (def_of_row board moves.place moves.line.def at) (valid moves.place moves.line.def at) (k.legal moves.place moves.line moves.at) line d m.1 moves.due
+      thread_listed board moves.line (def_of_row board moves.place moves.line.def at)
+      (valid moves.place moves.line.def at) (k.legal moves.place moves.line moves.at) line d m.1 moves.due
 
   cpu_is : (c : CpuNo) (m : Move) → due_move board lines (actors.Cpu c) ≡ Some m → IsOneOf (actors.Cpu c) (cpus_of board)
   cpu_is c m due =
       let moves = moves_on board lines (actors.Cpu c) m due in
       let at = def_at board lines k moves.place moves.line moves.at in
-      cpu_listed board moves.line (def_of_row board moves.place moves.line.def at) (valid moves.place moves.line.def at) (k.legal moves.place moves.line moves.at) c m.1 moves.due
+      cpu_listed board moves.line (def_of_row board moves.place moves.line.def at) (valid moves.place moves.line.def at)
+      (k.legal moves.place moves.line moves.at) c m.1 moves.due
 
   pub no_thread_moves : (line : LineNo) (d : DevNo) → due_move board lines (actors.Thread line d) ≡ None
   no_thread_moves line d = by_move (due_move board lines (actors.Thread line d)) refl

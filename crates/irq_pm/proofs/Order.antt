@@ -50,7 +50,8 @@ no_step phase None is = refl
 no_step phase (Some m) is = cc
 
 -- a mark
-pub of_mark : (mark : SleepEntry) (phase : Phase) (e : SleepEntry) (after : Phase) → ◌≡◌ {A = Option Next} (Some (mark, phase)) (Some (e, after)) → (e ≡ mark) × (after ≡ phase)
+pub of_mark : (mark : SleepEntry) (phase : Phase) (e : SleepEntry) (after : Phase)
+    → ◌≡◌ {A = Option Next} (Some (mark, phase)) (Some (e, after)) → (e ≡ mark) × (after ≡ phase)
 of_mark mark phase e after is =
     let pair : ◌≡◌ {A = Next} (mark, phase) (e, after) = the_same (mark, phase) (e, after) is in
     (sym (ap (λ (n : Next). n.0) pair), sym (ap (λ (n : Next). n.1) pair))
@@ -79,7 +80,8 @@ pub record IsPicked (b : BoardSeen) (lines : List BoardLine) (picks : List Actor
   pub moves : due_move b lines actor ≡ Some move
   pub fewer : (a : Actor) → IsOneOf a rest → IsOneOf a picks
 
-pub pick_is : (b : BoardSeen) (lines : List BoardLine) (picks : List Actor) (e : SleepEntry) (after : Phase) → picked b lines picks ≡ Some (e, after) → IsPicked b lines picks e after
+pub pick_is : (b : BoardSeen) (lines : List BoardLine) (picks : List Actor) (e : SleepEntry) (after : Phase)
+    → picked b lines picks ≡ Some (e, after) → IsPicked b lines picks e after
 pick_is b lines [] e after is = cc
 pick_is b lines (pick ∷ picks) e after is = elim (either_next (step_in (Picking picks) (due_move b lines pick)) (picked b lines picks) (e, after) is) [
   | inl here ↦
@@ -114,10 +116,12 @@ pub record IsAsking (b : BoardSeen) (lines : List BoardLine) (m : Move) : Type 0
   pub asks : asks_next b lines driver ≡ true
   pub moves : due_move b lines (actors.Driver driver) ≡ Some m
 
-pub ask_is : (b : BoardSeen) (lines : List BoardLine) (rs : List DriverNo) (m : Move) → move_of_driver b lines (first_asking b lines rs) ≡ Some m → IsAsking b lines m
+pub ask_is : (b : BoardSeen) (lines : List BoardLine) (rs : List DriverNo) (m : Move)
+    → move_of_driver b lines (first_asking b lines rs) ≡ Some m → IsAsking b lines m
 ask_is b lines [] m is = cc
 ask_is b lines (r ∷ rs) m is = by_test (asks_next b lines r) refl is (ask_is b lines rs m)
   where
-    by_test : (t : Bool) → asks_next b lines r ≡ t → move_of_driver b lines (cond t (Some r) (first_asking b lines rs)) ≡ Some m → (move_of_driver b lines (first_asking b lines rs) ≡ Some m → IsAsking b lines m) → IsAsking b lines m
+    by_test : (t : Bool) → asks_next b lines r ≡ t → move_of_driver b lines (cond t (Some r) (first_asking b lines rs))
+        ≡ Some m → (move_of_driver b lines (first_asking b lines rs) ≡ Some m → IsAsking b lines m) → IsAsking b lines m
     by_test true test is deeper = record { driver = r; asks = test; moves = is }
     by_test false test is deeper = deeper is

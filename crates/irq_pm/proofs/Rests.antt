@@ -1,6 +1,7 @@
 -- Once no thread and no processor of a board can move, none has an entry due on any line; so a
 -- disable of the system's driver goes on.
-use Rattle.std.proofs.Common.{◌≡◌, ℕ, zero, suc, Bool, true, false, cond, is_some, Option, Some, None, List, [], ◌∷◌, reverse, slice_get, refl, sym, ap, ◌∙◌, subst}
+use Rattle.std.proofs.Common.{◌≡◌, ℕ, zero, suc, Bool, true, false, cond, is_some, Option, Some, None, List, [], ◌∷◌}
+use Rattle.std.proofs.Common.{reverse, slice_get, refl, sym, ap, ◌∙◌, subst}
 use Rattle.std.proofs.lemmas.List.{reverse-reverse}
 use Rattle.irq_base.specs.declared.calls.Call.TheVariants as calls
 use Rattle.irq_base.specs.declared.entries.Actor.{Actor}
@@ -30,7 +31,8 @@ none_due line None h = refl
 none_due line (Some e) h = cc
 
 -- an actor that can't move has nothing due on its line
-rests_on : (board : BoardSeen) (lines : List BoardLine) (a : Actor) (x : BoardLine) → line_for board lines a ≡ Some x → due_move board lines a ≡ None → next_past x.def x.past a ≡ None
+rests_on : (board : BoardSeen) (lines : List BoardLine) (a : Actor) (x : BoardLine) → line_for board lines a ≡ Some x
+    → due_move board lines a ≡ None → next_past x.def x.past a ≡ None
 rests_on board lines a x its rest = none_due x.def.line (next_past x.def x.past a) (ap (λ (o : Option BoardLine). due_on o a) (sym its) ∙ rest)
 
 not_some : (o : Option Entry) → is_some o ≡ true → o ≡ None → ⊥
@@ -43,7 +45,9 @@ none_is_due (Some e) h = cc
 
 -- a processor has an entry due on the line that a search finds, by its flow or by the entry
 module _ (c : CpuNo) (test : BoardLine → Bool) (due : (x : BoardLine) → test x ≡ true → is_some (next_past x.def x.past (actors.Cpu c)) ≡ true) where
-  found_due : (y x : BoardLine) (other : Option BoardLine) → cond (test y) (Some y) other ≡ Some x → (other ≡ Some x → is_some (next_past x.def x.past (actors.Cpu c)) ≡ true) → is_some (next_past x.def x.past (actors.Cpu c)) ≡ true
+  found_due : (y x : BoardLine) (other : Option BoardLine) → cond (test y) (Some y) other ≡ Some x
+      → (other ≡ Some x → is_some (next_past x.def x.past (actors.Cpu c)) ≡ true)
+      → is_some (next_past x.def x.past (actors.Cpu c)) ≡ true
   found_due y x other is deeper = by_test (test y) refl is
     where
       by_test : (b : Bool) → test y ≡ b → cond b (Some y) other ≡ Some x → is_some (next_past x.def x.past (actors.Cpu c)) ≡ true
@@ -61,24 +65,31 @@ line_due : (lines : List BoardLine) (c : CpuNo) (x : BoardLine) → due_line lin
 line_due [] c x is = cc
 line_due (y ∷ ys) c x is = found_due c (λ y. is_some (next_past y.def y.past (actors.Cpu c))) (λ y t. t) y x (due_line ys c) is (line_due ys c x)
 
-no_line_due : (lines : List BoardLine) (c : CpuNo) → due_line lines c ≡ None → (i : ℕ) (x : BoardLine) → slice_get lines i ≡ Some x → next_past x.def x.past (actors.Cpu c) ≡ None
+no_line_due : (lines : List BoardLine) (c : CpuNo) → due_line lines c ≡ None → (i : ℕ) (x : BoardLine)
+    → slice_get lines i ≡ Some x → next_past x.def x.past (actors.Cpu c) ≡ None
 no_line_due [] c none i x at = cc
 no_line_due (y ∷ ys) c none i x at = by_test (is_some (next_past y.def y.past (actors.Cpu c))) refl none i at (λ none i at. no_line_due ys c none i x at)
   where
-    by_test : (b : Bool) → is_some (next_past y.def y.past (actors.Cpu c)) ≡ b → cond b (Some y) (due_line ys c) ≡ None → (i : ℕ) → slice_get (y ∷ ys) i ≡ Some x
-        → (due_line ys c ≡ None → (i : ℕ) → slice_get ys i ≡ Some x → next_past x.def x.past (actors.Cpu c) ≡ None) → next_past x.def x.past (actors.Cpu c) ≡ None
+    by_test : (b : Bool) → is_some (next_past y.def y.past (actors.Cpu c)) ≡ b → cond b (Some y) (due_line ys c) ≡ None
+        → (i : ℕ) → slice_get (y ∷ ys) i ≡ Some x
+        → (due_line ys c ≡ None → (i : ℕ) → slice_get ys i ≡ Some x → next_past x.def x.past (actors.Cpu c) ≡ None)
+        → next_past x.def x.past (actors.Cpu c) ≡ None
     by_test true test none i at deeper = cc
-    by_test false test none zero at deeper = subst (λ (z : BoardLine). next_past z.def z.past (actors.Cpu c) ≡ None) (the_same y x at) (none_is_due (next_past y.def y.past (actors.Cpu c)) test)
+    by_test false test none zero at deeper = subst (λ (z : BoardLine). next_past z.def z.past (actors.Cpu c) ≡ None)
+        (the_same y x at) (none_is_due (next_past y.def y.past (actors.Cpu c)) test)
     by_test false test none (suc i) at deeper = deeper none i at
 
 module _ (board : BoardSeen) (is : IsBoard board) (lines : List BoardLine) (k : AreKept board lines)
-    (threads : (line : LineNo) (d : DevNo) → due_move board lines (actors.Thread line d) ≡ None) (cpus : (c : CpuNo) → due_move board lines (actors.Cpu c) ≡ None) where
+    (threads : (line : LineNo) (d : DevNo) → due_move board lines (actors.Thread line d) ≡ None)
+    (cpus : (c : CpuNo) → due_move board lines (actors.Cpu c) ≡ None) where
   threads_rest : (i : ℕ) (x : BoardLine) → slice_get lines i ≡ Some x → (line : LineNo) (d : DevNo) → next_past x.def x.past (actors.Thread line d) ≡ None
   threads_rest i x at line d = by_line (same_line line x.def.line) refl
     where
       here : line ≡ x.def.line → next_past x.def x.past (actors.Thread line d) ≡ None
       here same =
-          rests_on board lines (actors.Thread line d) x (ap (λ (l : LineNo). find_line lines l) same ∙ find_there lines (apart_kept board is lines k) i x at) (threads line d)
+          rests_on board lines (actors.Thread line d) x
+          (ap (λ (l : LineNo). find_line lines l) same ∙ find_there lines (apart_kept board is lines k) i x at)
+          (threads line d)
 
       by_line : (b : Bool) → same_line line x.def.line ≡ b → next_past x.def x.past (actors.Thread line d) ≡ None
       by_line true same = here (line_from_same line x.def.line same)
@@ -100,7 +111,8 @@ module _ (board : BoardSeen) (is : IsBoard board) (lines : List BoardLine) (k : 
           absurd (not_some (next_past y.def y.past (actors.Cpu c)) (flow_due lines c y its) (rests_on board lines (actors.Cpu c) y on (cpus c)))
 
   -- so a disable that isn't complete goes on
-  pub disable_moves : (i : ℕ) (x : BoardLine) → slice_get lines i ≡ Some x → (r : DriverNo) (n : ℕ) → due_call x.def r x.past ≡ Some (calls.Disable, n) → is_some (next_past x.def x.past (actors.Driver r)) ≡ true
+  pub disable_moves : (i : ℕ) (x : BoardLine) → slice_get lines i ≡ Some x → (r : DriverNo) (n : ℕ)
+      → due_call x.def r x.past ≡ Some (calls.Disable, n) → is_some (next_past x.def x.past (actors.Driver r)) ≡ true
   disable_moves i x at r n due =
       let back : (P : List Entry → Type 0) → P x.past → P (reverse (reverse x.past)) = λ P p. subst P (sym (reverse-reverse x.past)) p in
       subst (λ (p : List Entry). is_some (next_past x.def p (actors.Driver r)) ≡ true) (reverse-reverse x.past)

@@ -1,5 +1,6 @@
 -- The script of the system's driver: on each line that takes part one disable, and then one enable.
-use Rattle.std.proofs.Common.{◌≡◌, ℕ, zero, suc, ◌+◌, ◌==◌, Bool, true, false, ◌&&◌, cond, Some, List, [], ◌∷◌, ◌++◌, length, map, filter, slice_get, refl, sym, ap, ap₂, ◌∙◌, subst, arith}
+use Rattle.std.proofs.Common.{◌≡◌, ℕ, zero, suc, ◌+◌, ◌==◌, Bool, true, false, ◌&&◌, cond, Some, List, [], ◌∷◌, ◌++◌}
+use Rattle.std.proofs.Common.{length, map, filter, slice_get, refl, sym, ap, ap₂, ◌∙◌, subst, arith}
 use Rattle.std.proofs.lemmas.List.{append_assoc, map-append}
 use Rattle.irq_base.specs.declared.calls.Call.{Call}
 use Rattle.irq_base.specs.declared.calls.Call.TheVariants as calls
@@ -42,7 +43,8 @@ own_more line r (x ∷ xs) ys = by_line (x.line.0 == line.0) (same_driver r x.dr
     by_line true d deeper = by_driver (same_driver r x.driver) deeper
       where
         by_driver : (d : Bool) → own_calls line r (xs ++ ys) ≡ own_calls line r xs ++ own_calls line r ys
-            → cond d (x.call ∷ own_calls line r (xs ++ ys)) (own_calls line r (xs ++ ys)) ≡ cond d (x.call ∷ own_calls line r xs) (own_calls line r xs) ++ own_calls line r ys
+            → cond d (x.call ∷ own_calls line r (xs ++ ys)) (own_calls line r (xs ++ ys))
+            ≡ cond d (x.call ∷ own_calls line r xs) (own_calls line r xs) ++ own_calls line r ys
         by_driver true deeper = ap (λ (cs : List Call). x.call ∷ cs) deeper
         by_driver false deeper = deeper
 
@@ -51,7 +53,9 @@ pub counted : (line : LineNo) (r : DriverNo) (cs : List ScriptCall) → calls_on
 counted line r [] = refl
 counted line r (c ∷ cs) = by_line (same_line c.line line) (counted line r cs)
   where
-    by_driver : (d : Bool) → calls_on line r cs ≡ length (own_calls line r cs) → cond d (calls_on line r cs + 1) (calls_on line r cs) ≡ length (cond d (c.call ∷ own_calls line r cs) (own_calls line r cs))
+    by_driver : (d : Bool) → calls_on line r cs ≡ length (own_calls line r cs)
+        → cond d (calls_on line r cs + 1) (calls_on line r cs)
+        ≡ length (cond d (c.call ∷ own_calls line r cs) (own_calls line r cs))
     by_driver true deeper = omega (arith, deeper)
     by_driver false deeper = deeper
 
@@ -63,15 +67,18 @@ counted line r (c ∷ cs) = by_line (same_line c.line line) (counted line r cs)
 
 -- ---- the other drivers' calls
 
-none_by : (line : LineNo) (r : DriverNo) (cs : List ScriptCall) → ((i : ℕ) (c : ScriptCall) → slice_get cs i ≡ Some c → same_driver r c.driver ≡ false) → own_calls line r cs ≡ []
+none_by : (line : LineNo) (r : DriverNo) (cs : List ScriptCall)
+    → ((i : ℕ) (c : ScriptCall) → slice_get cs i ≡ Some c → same_driver r c.driver ≡ false) → own_calls line r cs ≡ []
 none_by line r [] others = refl
 none_by line r (c ∷ cs) others = by_line (c.line.0 == line.0) (none_by line r cs (λ i d at. others (suc i) d at))
   where
-    by_line : (l : Bool) → own_calls line r cs ≡ [] → calls_by r (map with_driver (cond l (c ∷ filter (λ c. c.line.0 == line.0) cs) (filter (λ c. c.line.0 == line.0) cs))) ≡ []
+    by_line : (l : Bool) → own_calls line r cs ≡ [] → calls_by r
+        (map with_driver (cond l (c ∷ filter (λ c. c.line.0 == line.0) cs) (filter (λ c. c.line.0 == line.0) cs))) ≡ []
     by_line true deeper = ap (λ (b : Bool). cond b (c.call ∷ own_calls line r cs) (own_calls line r cs)) (others 0 c refl) ∙ deeper
     by_line false deeper = deeper
 
-not_last : (b : BoardSeen) → IsBoard b → has_driver b.drivers last_driver ≡ false → (i : ℕ) (c : ScriptCall) → slice_get b.calls i ≡ Some c → same_driver last_driver c.driver ≡ false
+not_last : (b : BoardSeen) → IsBoard b → has_driver b.drivers last_driver ≡ false → (i : ℕ) (c : ScriptCall)
+    → slice_get b.calls i ≡ Some c → same_driver last_driver c.driver ≡ false
 not_last b is free i c at = by_test (same_driver last_driver c.driver) refl
   where
     by_test : (t : Bool) → same_driver last_driver c.driver ≡ t → same_driver last_driver c.driver ≡ false
@@ -86,24 +93,35 @@ not_last b is free i c at = by_test (same_driver last_driver c.driver) refl
 own_at : (f : LineRow → LineCall) (rows : List LineRow) → List ScriptCall
 own_at f rows = map by_last (map f rows)
 
-module _ (b : BoardSeen) (k : Call) (f : LineRow → LineCall) (line_is : (row : LineRow) → (f row).line ≡ row.line) (call_is : (row : LineRow) → (f row).call ≡ k) where
+module _ (b : BoardSeen) (k : Call) (f : LineRow → LineCall) (line_is : (row : LineRow) → (f row).line ≡ row.line)
+    (call_is : (row : LineRow) → (f row).call ≡ k) where
   head_is : (row : LineRow) (rows : List LineRow) (line : LineNo) (l : Bool) → (row.line.0 == line.0) ≡ l
-      → own_calls line last_driver (by_last (f row) ∷ map by_last (map f rows)) ≡ cond l (k ∷ own_calls line last_driver (map by_last (map f rows))) (own_calls line last_driver (map by_last (map f rows)))
+      → own_calls line last_driver (by_last (f row) ∷ map by_last (map f rows))
+      ≡ cond l (k ∷ own_calls line last_driver (map by_last (map f rows)))
+      (own_calls line last_driver (map by_last (map f rows)))
   head_is row rows line l is =
-      ap (λ (t : Bool). calls_by last_driver (map with_driver (cond t (by_last (f row) ∷ filter (λ c. c.line.0 == line.0) (map by_last (map f rows))) (filter (λ c. c.line.0 == line.0) (map by_last (map f rows))))))
+      ap (λ (t : Bool). calls_by last_driver (map with_driver
+      (cond t (by_last (f row) ∷ filter (λ c. c.line.0 == line.0) (map by_last (map f rows)))
+      (filter (λ c. c.line.0 == line.0) (map by_last (map f rows))))))
       (ap (λ (n : LineNo). n.0 == line.0) (line_is row) ∙ is)
       ∙ by_test l
     where
-      by_test : (l : Bool) → calls_by last_driver (map with_driver (cond l (by_last (f row) ∷ filter (λ c. c.line.0 == line.0) (map by_last (map f rows))) (filter (λ c. c.line.0 == line.0) (map by_last (map f rows)))))
+      by_test : (l : Bool) → calls_by last_driver (map with_driver
+          (cond l (by_last (f row) ∷ filter (λ c. c.line.0 == line.0) (map by_last (map f rows)))
+          (filter (λ c. c.line.0 == line.0) (map by_last (map f rows)))))
           ≡ cond l (k ∷ own_calls line last_driver (map by_last (map f rows))) (own_calls line last_driver (map by_last (map f rows)))
       by_test true = ap (λ (c : Call). c ∷ own_calls line last_driver (map by_last (map f rows))) (call_is row)
       by_test false = refl
 
-  none_here : (rows : List LineRow) (line : LineNo) → ((i : ℕ) (e : LineDef) → slice_get (map (line_of_row b) rows) i ≡ Some e → same_line e.line line ≡ false) → own_calls line last_driver (map by_last (map f rows)) ≡ []
+  none_here : (rows : List LineRow) (line : LineNo) → ((i : ℕ) (e : LineDef)
+      → slice_get (map (line_of_row b) rows) i ≡ Some e → same_line e.line line ≡ false)
+      → own_calls line last_driver (map by_last (map f rows)) ≡ []
   none_here [] line apart = refl
   none_here (row ∷ rows) line apart = head_is row rows line false (apart 0 (line_of_row b row) refl) ∙ none_here rows line (λ i e at. apart (suc i) e at)
 
-  pub once : (rows : List LineRow) → AreApart (map (line_of_row b) rows) → (i : ℕ) (def : LineDef) → slice_get (map (line_of_row b) rows) i ≡ Some def → own_calls def.line last_driver (map by_last (map f rows)) ≡ k ∷ []
+  pub once : (rows : List LineRow) → AreApart (map (line_of_row b) rows) → (i : ℕ) (def : LineDef)
+      → slice_get (map (line_of_row b) rows) i ≡ Some def
+      → own_calls def.line last_driver (map by_last (map f rows)) ≡ k ∷ []
   once [] apart i def at = cc
   once (row ∷ rows) apart zero def at =
       let same : line_of_row b row ≡ def = the_same (line_of_row b row) def at in
@@ -129,10 +147,12 @@ module _ (b : BoardSeen) (is : IsBoard b) (long : IsBoard (slept b)) (free : has
   enables = map by_last (map enable_of (live_rows b))
 
   -- the calls up to the last disable
-  pub one_disable : (i : ℕ) (def : LineDef) → slice_get (defs_of (slept b)) i ≡ Some def → own_calls def.line last_driver (b.calls ++ disables) ≡ calls.Disable ∷ []
+  pub one_disable : (i : ℕ) (def : LineDef) → slice_get (defs_of (slept b)) i ≡ Some def
+      → own_calls def.line last_driver (b.calls ++ disables) ≡ calls.Disable ∷ []
   one_disable i def at =
       own_more def.line last_driver b.calls disables
-      ∙ ap₂ (λ (x y : List Call). x ++ y) (none_by def.line last_driver b.calls (not_last b is free)) (once (slept b) calls.Disable disable_of (λ row. refl) (λ row. refl) (live_rows b) apart i def at)
+      ∙ ap₂ (λ (x y : List Call). x ++ y) (none_by def.line last_driver b.calls (not_last b is free))
+      (once (slept b) calls.Disable disable_of (λ row. refl) (λ row. refl) (live_rows b) apart i def at)
 
   pub all_calls : (slept b).calls ≡ b.calls ++ disables ++ enables
   all_calls =
@@ -144,7 +164,8 @@ module _ (b : BoardSeen) (is : IsBoard b) (long : IsBoard (slept b)) (free : has
       ap (λ (cs : List (DriverNo × Call)). calls_by last_driver cs) (has_calls (slept b) i def at)
       ∙ (ap (λ (cs : List ScriptCall). own_calls def.line last_driver cs) all_calls
       ∙ (own_more def.line last_driver (b.calls ++ disables) enables
-      ∙ ap₂ (λ (x y : List Call). x ++ y) (one_disable i def at) (once (slept b) calls.Enable enable_of (λ row. refl) (λ row. refl) (live_rows b) apart i def at)))
+      ∙ ap₂ (λ (x y : List Call). x ++ y) (one_disable i def at)
+      (once (slept b) calls.Enable enable_of (λ row. refl) (λ row. refl) (live_rows b) apart i def at)))
 
   pub disabled_once : (i : ℕ) (def : LineDef) → slice_get (defs_of (slept b)) i ≡ Some def → calls_on def.line last_driver (b.calls ++ disables) ≡ 1
   disabled_once i def at = counted def.line last_driver (b.calls ++ disables) ∙ ap (λ (cs : List Call). length cs) (one_disable i def at)

@@ -1,6 +1,7 @@
 -- From phase to phase: when the machine is asleep each line is disabled, and when the system's
 -- driver can't move any more each line is enabled again.
-use Rattle.std.proofs.Common.{◌≡◌, ℕ, ◌+◌, ◌<◌, ◌≤◌, Bool, true, false, ◌&&◌, cond, is_some, Option, Some, None, List, [], ◌∷◌, ◌++◌, length, take, slice_get, refl, sym, ap, ◌∙◌, arith}
+use Rattle.std.proofs.Common.{◌≡◌, ℕ, ◌+◌, ◌<◌, ◌≤◌, Bool, true, false, ◌&&◌, cond, is_some, Option, Some, None, List}
+use Rattle.std.proofs.Common.{[], ◌∷◌, ◌++◌, length, take, slice_get, refl, sym, ap, ◌∙◌, arith}
 use Rattle.irq_base.specs.declared.calls.Call.{Call}
 use Rattle.irq_base.specs.declared.calls.Call.TheVariants as calls
 use Rattle.irq_base.specs.declared.entries.Actor.TheVariants as actors
@@ -49,21 +50,27 @@ abbrev pub IsOpened : BoardLine → Type 0
 IsOpened x = (is_suspended last_driver x.past ≡ false) × (due_call x.def last_driver x.past ≡ None)
 
 -- a call that is found among the first ones is found among all
-found_before : (lines : List BoardLine) (r : DriverNo) (before cs ds : List ScriptCall) (x : BoardLine) → current_from lines r before cs ≡ Some x → current_from lines r before (cs ++ ds) ≡ Some x
+found_before : (lines : List BoardLine) (r : DriverNo) (before cs ds : List ScriptCall) (x : BoardLine)
+    → current_from lines r before cs ≡ Some x → current_from lines r before (cs ++ ds) ≡ Some x
 found_before lines r before [] ds x is = cc
-found_before lines r before (c ∷ cs) ds x is = by_test (same_driver r c.driver && is_open (find_line lines c.line) r (calls_on c.line r before)) is (found_before lines r (c ∷ before) cs ds x)
+found_before lines r before (c ∷ cs) ds x is = by_test
+    (same_driver r c.driver && is_open (find_line lines c.line) r (calls_on c.line r before)) is
+    (found_before lines r (c ∷ before) cs ds x)
   where
-    by_test : (t : Bool) → cond t (find_line lines c.line) (current_from lines r (c ∷ before) cs) ≡ Some x → (current_from lines r (c ∷ before) cs ≡ Some x → current_from lines r (c ∷ before) (cs ++ ds) ≡ Some x)
+    by_test : (t : Bool) → cond t (find_line lines c.line) (current_from lines r (c ∷ before) cs) ≡ Some x
+        → (current_from lines r (c ∷ before) cs ≡ Some x → current_from lines r (c ∷ before) (cs ++ ds) ≡ Some x)
         → cond t (find_line lines c.line) (current_from lines r (c ∷ before) (cs ++ ds)) ≡ Some x
     by_test true is deeper = is
     by_test false is deeper = deeper is
 
 -- the current call isn't complete
-still_open : (lines : List BoardLine) (cs : List ScriptCall) (x : BoardLine) → current_from lines last_driver [] cs ≡ Some x → done x last_driver < calls_on x.def.line last_driver cs
+still_open : (lines : List BoardLine) (cs : List ScriptCall) (x : BoardLine)
+    → current_from lines last_driver [] cs ≡ Some x → done x last_driver < calls_on x.def.line last_driver cs
 still_open lines cs x is =
     let k = current lines last_driver [] cs x is in
     let on : is_on x.def.line last_driver k.call ≡ true =
-    ap (λ (l : LineNo). same_line l x.def.line && same_driver last_driver k.call.driver) k.line ∙ (ap (λ (b : Bool). b && same_driver last_driver k.call.driver) (same_self_line x.def.line) ∙ k.mine) in
+    ap (λ (l : LineNo). same_line l x.def.line && same_driver last_driver k.call.driver) k.line
+    ∙ (ap (λ (b : Bool). b && same_driver last_driver k.call.driver) (same_self_line x.def.line) ∙ k.mine) in
     let below = in_all x.def.line last_driver cs k.place k.call k.at on in
     let waits : done x last_driver ≤ calls_on x.def.line last_driver [] + calls_on x.def.line last_driver (take k.place cs) = k.waits in
     omega (arith, below, waits)
@@ -82,32 +89,38 @@ not_none : (o : Option Entry) (line : LineNo) → is_some o ≡ true → move_on
 not_none None line some none = cc
 not_none (Some e) line some none = cc
 
-module _ (b : BoardSeen) (is : IsBoard b) (long : IsBoard (slept b)) (free : has_driver b.drivers last_driver ≡ false) (lines : List BoardLine) (k : AreKept (slept b) lines) where
+module _ (b : BoardSeen) (is : IsBoard b) (long : IsBoard (slept b)) (free : has_driver b.drivers last_driver ≡ false)
+    (lines : List BoardLine) (k : AreKept (slept b) lines) where
   its : (i : ℕ) (x : BoardLine) → slice_get lines i ≡ Some x → calls_by last_driver x.def.calls ≡ script
   its i x at = its_script b is long free i x.def (def_at (slept b) lines k i x at)
 
   -- before its disable is complete it is due
-  due_disable : (i : ℕ) (x : BoardLine) → slice_get lines i ≡ Some x → completed x.def last_driver x.past ≡ 0 → (n : ℕ) × (due_call x.def last_driver x.past ≡ Some (calls.Disable, n))
+  due_disable : (i : ℕ) (x : BoardLine) → slice_get lines i ≡ Some x → completed x.def last_driver x.past ≡ 0
+      → (n : ℕ) × (due_call x.def last_driver x.past ≡ Some (calls.Disable, n))
   due_disable i x at none =
       kth_is_due x.def last_driver x.past calls.Disable
       (ap (λ (cs : List Call). slice_get cs (completed x.def last_driver x.past)) (its i x at) ∙ ap (λ (n : ℕ). slice_get script n) none)
 
-  due_enable : (i : ℕ) (x : BoardLine) → slice_get lines i ≡ Some x → completed x.def last_driver x.past ≡ 1 → (n : ℕ) × (due_call x.def last_driver x.past ≡ Some (calls.Enable, n))
+  due_enable : (i : ℕ) (x : BoardLine) → slice_get lines i ≡ Some x → completed x.def last_driver x.past ≡ 1
+      → (n : ℕ) × (due_call x.def last_driver x.past ≡ Some (calls.Enable, n))
   due_enable i x at one =
       kth_is_due x.def last_driver x.past calls.Enable
       (ap (λ (cs : List Call). slice_get cs (completed x.def last_driver x.past)) (its i x at) ∙ ap (λ (n : ℕ). slice_get script n) one)
 
   -- ---- asleep
 
-  whole : (x : BoardLine) → current_from lines last_driver [] (b.calls ++ disables b is long free) ≡ Some x → current_line (slept b).calls lines last_driver ≡ Some x
-  whole x found = ap (λ (cs : List ScriptCall). current_from lines last_driver [] cs) (all_calls b is long free) ∙ found_before lines last_driver [] (b.calls ++ disables b is long free) (enables b is long free) x found
+  whole : (x : BoardLine) → current_from lines last_driver [] (b.calls ++ disables b is long free) ≡ Some x
+      → current_line (slept b).calls lines last_driver ≡ Some x
+  whole x found = ap (λ (cs : List ScriptCall). current_from lines last_driver [] cs) (all_calls b is long free)
+      ∙ found_before lines last_driver [] (b.calls ++ disables b is long free) (enables b is long free) x found
 
   pub all_shut : is_disable_due (due_of (slept b) lines last_driver) ≡ false → Each IsShut lines
   all_shut past_disables = by_found (current_from lines last_driver [] (b.calls ++ disables b is long free)) refl
     where
       by_found : (o : Option BoardLine) → current_from lines last_driver [] (b.calls ++ disables b is long free) ≡ o → Each IsShut lines
       by_found None none i x at =
-          let all = no_current lines last_driver [] (b.calls ++ disables b is long free) none x (find_there lines (apart_kept (slept b) long lines k) i x at) (omega arith) in
+          let all = no_current lines last_driver [] (b.calls ++ disables b is long free) none x
+          (find_there lines (apart_kept (slept b) long lines k) i x at) (omega arith) in
           let once = disabled_once b is long free i x.def (def_at (slept b) lines k i x at) in
           omega (arith, all, once)
       by_found (Some y) found i x at =
@@ -125,7 +138,8 @@ module _ (b : BoardSeen) (is : IsBoard b) (long : IsBoard (slept b)) (free : has
   awake i x at none = by_place (position x.def last_driver x.past (its i x at) (k.legal i x at))
     where
       due : (es : List Entry) → entries_by last_driver x.past ≡ es → due_among script es ≡ None
-      due es same = ap (λ (xs : List Entry). due_among script xs) (sym same) ∙ (ap (λ (cs : List Call). due_among cs (entries_by last_driver x.past)) (sym (its i x at)) ∙ none)
+      due es same = ap (λ (xs : List Entry). due_among script xs) (sym same)
+          ∙ (ap (λ (cs : List Call). due_among cs (entries_by last_driver x.past)) (sym (its i x at)) ∙ none)
 
       by_place : Position last_driver x.past → is_suspended last_driver x.past ≡ false
       by_place (at_none same awake) = awake
@@ -134,7 +148,8 @@ module _ (b : BoardSeen) (is : IsBoard b) (long : IsBoard (slept b)) (free : has
       by_place (at_synced a c d same left) = let d = due (a ∷ c ∷ d ∷ []) same in cc
       by_place (at_enable a c d e same awake) = awake
 
-  no_more_calls : current_line (slept b).calls lines last_driver ≡ None → (i : ℕ) (x : BoardLine) → slice_get lines i ≡ Some x → due_call x.def last_driver x.past ≡ None
+  no_more_calls : current_line (slept b).calls lines last_driver ≡ None → (i : ℕ) (x : BoardLine)
+      → slice_get lines i ≡ Some x → due_call x.def last_driver x.past ≡ None
   no_more_calls none i x at = by_due (due_call x.def last_driver x.past) refl
     where
       by_due : (o : Option (Call × ℕ)) → due_call x.def last_driver x.past ≡ o → due_call x.def last_driver x.past ≡ None
@@ -147,34 +162,41 @@ module _ (b : BoardSeen) (is : IsBoard b) (long : IsBoard (slept b)) (free : has
           omega (arith, all, fits, less))
 
   -- a line whose disable is complete and whose enable isn't: the driver moves
-  enable_moves : (i : ℕ) (x : BoardLine) → slice_get lines i ≡ Some x → current_line (slept b).calls lines last_driver ≡ Some x → IsShut x → last_move (slept b) lines ≡ None → ⊥
+  enable_moves : (i : ℕ) (x : BoardLine) → slice_get lines i ≡ Some x
+      → current_line (slept b).calls lines last_driver ≡ Some x → IsShut x → last_move (slept b) lines ≡ None → ⊥
   enable_moves i x at here shut none =
       let waits = still_open lines (slept b).calls x here in
       let fits = calls_fit (slept b) i x.def (def_at (slept b) lines k i x at) last_driver in
       let two : length (calls_by last_driver x.def.calls) ≡ 2 = ap (λ (cs : List Call). length cs) (its i x at) in
       let due = due_enable i x at (one_of (completed x.def last_driver x.past) (omega (arith, waits, fits, two)) shut) in
-      let next : is_some (next_past x.def x.past (actors.Driver last_driver)) ≡ true = ap (λ (o : Option (Call × ℕ)). is_some (next_of_call x.def last_driver x.past o)) due.1 in
-      not_none (next_past x.def x.past (actors.Driver last_driver)) x.def.line next (ap (λ (o : Option BoardLine). due_on o (actors.Driver last_driver)) (sym here) ∙ none)
+      let next : is_some (next_past x.def x.past (actors.Driver last_driver))
+      ≡ true = ap (λ (o : Option (Call × ℕ)). is_some (next_of_call x.def last_driver x.past o)) due.1 in
+      not_none (next_past x.def x.past (actors.Driver last_driver)) x.def.line next
+      (ap (λ (o : Option BoardLine). due_on o (actors.Driver last_driver)) (sym here) ∙ none)
 
   pub all_opened : Each IsShut lines → last_move (slept b) lines ≡ None → Each IsOpened lines
   all_opened shut none = by_line (current_line (slept b).calls lines last_driver) refl
     where
       by_line : (o : Option BoardLine) → current_line (slept b).calls lines last_driver ≡ o → Each IsOpened lines
       by_line None here i x at = let d = no_more_calls here i x at in (awake i x at d, d)
-      by_line (Some y) here i x at = let s = line_stands (slept b) lines (actors.Driver last_driver) y here in absurd (enable_moves s.place y s.at here (shut s.place y s.at) none)
+      by_line (Some y) here i x at = let s = line_stands (slept b) lines (actors.Driver last_driver) y here in
+          absurd (enable_moves s.place y s.at here (shut s.place y s.at) none)
 
   -- ---- falling asleep never gets stuck
 
-  pub never_stuck : ((line : LineNo) (d : DevNo) → due_move (slept b) lines (actors.Thread line d) ≡ None) → ((c : CpuNo) → due_move (slept b) lines (actors.Cpu c) ≡ None)
+  pub never_stuck : ((line : LineNo) (d : DevNo) → due_move (slept b) lines (actors.Thread line d) ≡ None)
+      → ((c : CpuNo) → due_move (slept b) lines (actors.Cpu c) ≡ None)
       → is_disable_due (due_of (slept b) lines last_driver) ≡ true → last_move (slept b) lines ≡ None → ⊥
   never_stuck threads cpus disabling none = by_line (current_line (slept b).calls lines last_driver) refl disabling
     where
-      by_call : (x : BoardLine) (o : Option (Call × ℕ)) → current_line (slept b).calls lines last_driver ≡ Some x → due_call x.def last_driver x.past ≡ o → is_disable_due (with_line x.def.line o) ≡ true → ⊥
+      by_call : (x : BoardLine) (o : Option (Call × ℕ)) → current_line (slept b).calls lines last_driver ≡ Some x
+          → due_call x.def last_driver x.past ≡ o → is_disable_due (with_line x.def.line o) ≡ true → ⊥
       by_call x None here due disabling = cc
       by_call x (Some c) here due disabling =
           let s = line_stands (slept b) lines (actors.Driver last_driver) x here in
           let its : due_call x.def last_driver x.past ≡ Some (calls.Disable, c.1) = due ∙ ap (λ (k : Call). due_at k c.1) (is_disable c.0 disabling) in
-          not_none (next_past x.def x.past (actors.Driver last_driver)) x.def.line (disable_moves (slept b) long lines k threads cpus s.place x s.at last_driver c.1 its)
+          not_none (next_past x.def x.past (actors.Driver last_driver)) x.def.line
+          (disable_moves (slept b) long lines k threads cpus s.place x s.at last_driver c.1 its)
           (ap (λ (o : Option BoardLine). due_on o (actors.Driver last_driver)) (sym here) ∙ none)
 
       by_line : (o : Option BoardLine) → current_line (slept b).calls lines last_driver ≡ o → is_disable_due (call_on o last_driver) ≡ true → ⊥

@@ -18,8 +18,10 @@ pub rests : (b : BoardSeen) (s : SystemSeen) → IsRun b s plays.Done → AreAtR
 rests b s p = at_rest b (board_lines s.lines) (subst (λ (c : BoardSeen). first_move c (board_lines s.lines) (actors_of c) ≡ None) p.board p.ends)
 
 -- when a log was full, it is that line's
-pub no_room_full : (b : BoardSeen) → IsBoard b → (s : SystemSeen) → AreKept s.board (board_lines s.lines) → (line : LineNo) (len : ℕ) → IsRun b s (plays.Full line len) → HasNoRoom b (board_lines s.lines) line len
+pub no_room_full : (b : BoardSeen) → IsBoard b → (s : SystemSeen) → AreKept s.board (board_lines s.lines)
+    → (line : LineNo) (len : ℕ) → IsRun b s (plays.Full line len) → HasNoRoom b (board_lines s.lines) line len
 no_room_full b board s kept line len p =
-    no_room_first b board (board_lines s.lines) (subst (λ (c : BoardSeen). AreKept c (board_lines s.lines)) p.board kept) line len p.ends.move p.ends.of_line p.ends.length
+    no_room_first b board (board_lines s.lines) (subst (λ (c : BoardSeen). AreKept c (board_lines s.lines)) p.board
+    kept) line len p.ends.move p.ends.of_line p.ends.length
     (p.ends.log ∙ ap (λ (c : BoardSeen). c.log) p.board)
     (subst (λ (c : BoardSeen). first_move c (board_lines s.lines) (actors_of c) ≡ Some p.ends.move) p.board p.ends.is)

@@ -29,6 +29,7 @@ module _ (b : BoardSeen) (s : SystemSeen) (of_board : s.board ≡ b) (f : IsFres
 
   pub new_empty : (i : ℕ) (x : LineSeen) → slice_get lines i ≡ Some x → x.entries ≡ []
   new_empty i x at =
-      let there : slice_get (lines_of b []) i ≡ Some (board_line x) = subst (λ (ls : List BoardLine). slice_get ls i ≡ Some (board_line x)) as_new (stands_so lines i x at) in
+      let there : slice_get (lines_of b []) i ≡ Some (board_line x)
+      = subst (λ (ls : List BoardLine). slice_get ls i ≡ Some (board_line x)) as_new (stands_so lines i x at) in
       let none : reverse x.entries ≡ [] = past_at (defs_of b) [] i (board_line x) there in
       sym (reverse-reverse x.entries) ∙ ap (λ (es : List Entry). reverse es) none

@@ -1,5 +1,7 @@
 -- The log, with its marks, when a move is added, when a mark is set, and when it is walked.
-use Rattle.std.proofs.Common.{◌≡◌, ℕ, zero, suc, ◌+◌, ◌<◌, ◌≤◌, ◌==◌, Bool, true, false, cond, IfSome, Option, Some, None, List, [], ◌∷◌, ◌++◌, length, reverse, drop, slice_get, refl, sym, ap, ap₂, ◌∙◌, subst, arith}
+use Rattle.std.proofs.Common.{◌≡◌, ℕ, zero, suc, ◌+◌, ◌<◌, ◌≤◌, ◌==◌, Bool, true, false, cond, IfSome, Option, Some}
+use Rattle.std.proofs.Common.{None, List, [], ◌∷◌, ◌++◌, length, reverse, drop, slice_get, refl, sym, ap, ap₂, ◌∙◌}
+use Rattle.std.proofs.Common.{subst, arith}
 use Rattle.std.proofs.lemmas.Bool.Decides.{nat_tests}
 use Rattle.std.proofs.lemmas.List.{append-nil, append_assoc, reverse-append}
 use Rattle.irq_base.specs.declared.numbers.LineNo.{LineNo}
@@ -33,16 +35,20 @@ none_asleep (Some k) n m within less = let le : k ≤ n = within in ap (λ (b : 
 
 none_awake : (wake : Option WakeMark) (n m : ℕ) → IsWakeWithin wake n → n < m → wake_at wake m ≡ []
 none_awake None n m within less = refl
-none_awake (Some w) n m within less = let le : w.at ≤ n = within in ap (λ (b : Bool). cond b (sleeps.Wake w.line ∷ []) []) (differ w.at m (omega (arith, le, less)))
+none_awake (Some w) n m within less = let le : w.at ≤ n = within in
+    ap (λ (b : Bool). cond b (sleeps.Wake w.line ∷ []) []) (differ w.at m (omega (arith, le, less)))
 
 none_at : (asleep : Option ℕ) (wake : Option WakeMark) (n m : ℕ) → IsWithin asleep n → IsWakeWithin wake n → n < m → marks_at asleep wake m ≡ []
 none_at asleep wake n m a w less = ap₂ (λ (x y : List SleepEntry). x ++ y) (none_asleep asleep n m a less) (none_awake wake n m w less)
 
 -- one more move
-pub marked_more : (asleep : Option ℕ) (wake : Option WakeMark) (n : ℕ) (g : List Move) (m : Move) → IsWithin asleep (n + length g) → IsWakeWithin wake (n + length g) → marked asleep wake n (g ++ m ∷ []) ≡ marked asleep wake n g ++ step_of m ∷ []
+pub marked_more : (asleep : Option ℕ) (wake : Option WakeMark) (n : ℕ) (g : List Move) (m : Move)
+    → IsWithin asleep (n + length g) → IsWakeWithin wake (n + length g)
+    → marked asleep wake n (g ++ m ∷ []) ≡ marked asleep wake n g ++ step_of m ∷ []
 marked_more asleep wake n [] m a w =
     ap (λ (rest : List SleepEntry). marks_at asleep wake n ++ step_of m ∷ rest)
-    (none_at asleep wake n (n + 1) (subst (λ (k : ℕ). IsWithin asleep k) (omega arith) a) (subst (λ (k : ℕ). IsWakeWithin wake k) (omega arith) w) (omega arith))
+    (none_at asleep wake n (n + 1) (subst (λ (k : ℕ). IsWithin asleep k) (omega arith) a)
+    (subst (λ (k : ℕ). IsWakeWithin wake k) (omega arith) w) (omega arith))
 marked_more asleep wake n (x ∷ g) m a w =
     let longer : n + length (x ∷ g) ≡ n + 1 + length g = omega arith in
     ap (λ (rest : List SleepEntry). marks_at asleep wake n ++ step_of x ∷ rest)
@@ -60,7 +66,8 @@ asleep_set n k (m ∷ g) is =
     below : (k n : ℕ) → n < k → (k == n) ≡ false
     below k n h = grind (arith, nat_tests)
 
-pub wake_set : (asleep : Option ℕ) (n : ℕ) (w : WakeMark) (g : List Move) → w.at ≡ n + length g → marked asleep (Some w) n g ≡ marked asleep None n g ++ sleeps.Wake w.line ∷ []
+pub wake_set : (asleep : Option ℕ) (n : ℕ) (w : WakeMark) (g : List Move) → w.at ≡ n + length g
+    → marked asleep (Some w) n g ≡ marked asleep None n g ++ sleeps.Wake w.line ∷ []
 wake_set asleep n w [] is =
     ap (λ (b : Bool). asleep_at asleep n ++ cond b (sleeps.Wake w.line ∷ []) []) (ap (λ (j : ℕ). j == n) (is ∙ omega arith) ∙ equal n)
     ∙ ap (λ (x : List SleepEntry). x ++ sleeps.Wake w.line ∷ []) (sym (append-nil (asleep_at asleep n)))
@@ -75,14 +82,16 @@ wake_set asleep n w (m ∷ g) is =
 
 -- ---- from the front
 
-after_marks : (asleep asleep_left : Option ℕ) (wake wake_left : Option WakeMark) (n : ℕ) (g : List Move) (first : List SleepEntry) → marks_at asleep wake n ≡ first ++ marks_at asleep_left wake_left n
+after_marks : (asleep asleep_left : Option ℕ) (wake wake_left : Option WakeMark) (n : ℕ) (g : List Move)
+    (first : List SleepEntry) → marks_at asleep wake n ≡ first ++ marks_at asleep_left wake_left n
     → ((k : ℕ) → n < k → marks_at asleep wake k ≡ marks_at asleep_left wake_left k) → marked asleep wake n g ≡ first ++ marked asleep_left wake_left n g
 after_marks asleep asleep_left wake wake_left n [] first here later = here
 after_marks asleep asleep_left wake wake_left n (m ∷ g) first here later =
     ap₂ (λ (x y : List SleepEntry). x ++ step_of m ∷ y) here (same_from (n + 1) g (λ k le. later k (omega (arith, le))))
     ∙ append_assoc first (marks_at asleep_left wake_left n) (step_of m ∷ marked asleep_left wake_left (n + 1) g)
   where
-    same_from : (j : ℕ) (g : List Move) → ((k : ℕ) → j ≤ k → marks_at asleep wake k ≡ marks_at asleep_left wake_left k) → marked asleep wake j g ≡ marked asleep_left wake_left j g
+    same_from : (j : ℕ) (g : List Move) → ((k : ℕ) → j ≤ k → marks_at asleep wake k ≡ marks_at asleep_left wake_left k)
+        → marked asleep wake j g ≡ marked asleep_left wake_left j g
     same_from j [] later = later j (omega arith)
     same_from j (m ∷ g) later =
         ap₂ (λ (x y : List SleepEntry). x ++ step_of m ∷ y) (later j (omega arith)) (same_from (j + 1) g (λ k le. later k (omega (arith, le))))
@@ -92,18 +101,25 @@ asleep_first k n wake g here =
     after_marks (Some k) None wake wake n g (sleeps.Asleep ∷ []) (ap (λ (b : Bool). cond b (sleeps.Asleep ∷ []) [] ++ wake_at wake n) here)
     (λ j less. ap (λ (b : Bool). cond b (sleeps.Asleep ∷ []) [] ++ wake_at wake j) (differ k j (let e = same k n here in omega (arith, e, less))))
 
-pub wake_first : (asleep : Option ℕ) (w : WakeMark) (n : ℕ) (g : List Move) → asleep_at asleep n ≡ [] → (w.at == n) ≡ true → marked asleep (Some w) n g ≡ sleeps.Wake w.line ∷ marked asleep None n g
+pub wake_first : (asleep : Option ℕ) (w : WakeMark) (n : ℕ) (g : List Move) → asleep_at asleep n ≡ []
+    → (w.at == n) ≡ true → marked asleep (Some w) n g ≡ sleeps.Wake w.line ∷ marked asleep None n g
 wake_first asleep w n g none here =
     after_marks asleep asleep (Some w) None n g (sleeps.Wake w.line ∷ [])
-    (ap₂ (λ (x : List SleepEntry) (b : Bool). x ++ cond b (sleeps.Wake w.line ∷ []) []) none here ∙ ap (λ (x : List SleepEntry). sleeps.Wake w.line ∷ (x ++ [])) (sym none))
-    (λ j less. ap (λ (b : Bool). asleep_at asleep j ++ cond b (sleeps.Wake w.line ∷ []) []) (differ w.at j (let e = same w.at n here in omega (arith, e, less))))
+    (ap₂ (λ (x : List SleepEntry) (b : Bool). x ++ cond b (sleeps.Wake w.line ∷ []) []) none here
+    ∙ ap (λ (x : List SleepEntry). sleeps.Wake w.line ∷ (x ++ [])) (sym none))
+    (λ j less. ap (λ (b : Bool). asleep_at asleep j ++ cond b (sleeps.Wake w.line ∷ []) [])
+    (differ w.at j (let e = same w.at n here in omega (arith, e, less))))
 
-pub move_first : (asleep : Option ℕ) (wake : Option WakeMark) (n : ℕ) (g : List Move) → asleep_at asleep n ≡ [] → wake_at wake n ≡ [] → (m : Move) → slice_get g 0 ≡ Some m → marked asleep wake n g ≡ step_of m ∷ marked asleep wake (n + 1) (drop 1 g)
+pub move_first : (asleep : Option ℕ) (wake : Option WakeMark) (n : ℕ) (g : List Move) → asleep_at asleep n ≡ []
+    → wake_at wake n ≡ [] → (m : Move) → slice_get g 0 ≡ Some m
+    → marked asleep wake n g ≡ step_of m ∷ marked asleep wake (n + 1) (drop 1 g)
 move_first asleep wake n [] a w m at = cc
 move_first asleep wake n (x ∷ g) a w m at =
-    ap₂ (λ (x y : List SleepEntry). x ++ y) (ap₂ (λ (x y : List SleepEntry). x ++ y) a w) (ap (λ (x : Move). step_of x ∷ marked asleep wake (n + 1) g) (the_same x m at))
+    ap₂ (λ (x y : List SleepEntry). x ++ y) (ap₂ (λ (x y : List SleepEntry). x ++ y) a w)
+    (ap (λ (x : Move). step_of x ∷ marked asleep wake (n + 1) g) (the_same x m at))
 
-pub none_first : (asleep : Option ℕ) (wake : Option WakeMark) (n : ℕ) (g : List Move) → asleep_at asleep n ≡ [] → wake_at wake n ≡ [] → slice_get g 0 ≡ None → marked asleep wake n g ≡ []
+pub none_first : (asleep : Option ℕ) (wake : Option WakeMark) (n : ℕ) (g : List Move) → asleep_at asleep n ≡ []
+    → wake_at wake n ≡ [] → slice_get g 0 ≡ None → marked asleep wake n g ≡ []
 none_first asleep wake n [] a w at = ap₂ (λ (x y : List SleepEntry). x ++ y) a w
 none_first asleep wake n (x ∷ g) a w at = cc
 
@@ -112,11 +128,15 @@ none_first asleep wake n (x ∷ g) a w at = cc
 is_equal : (k n : ℕ) → k ≡ n → (k == n) ≡ true
 is_equal k n h = ap (λ (j : ℕ). j == n) h ∙ equal n
 
-pub found_asleep : (asleep : Option ℕ) (wake : Option WakeMark) (n k : ℕ) (g : List Move) (view : List SleepEntry) → asleep ≡ Some k → k ≡ n → marked asleep wake n g ≡ view → view ≡ sleeps.Asleep ∷ marked None wake n g
+pub found_asleep : (asleep : Option ℕ) (wake : Option WakeMark) (n k : ℕ) (g : List Move) (view : List SleepEntry)
+    → asleep ≡ Some k → k ≡ n → marked asleep wake n g ≡ view → view ≡ sleeps.Asleep ∷ marked None wake n g
 found_asleep asleep wake n k g view is here seen = sym seen ∙ (ap (λ (o : Option ℕ). marked o wake n g) is ∙ asleep_first k n wake g (is_equal k n here))
 
-pub found_wake : (asleep : Option ℕ) (wake : Option WakeMark) (w : WakeMark) (n : ℕ) (g : List Move) (view : List SleepEntry) → wake ≡ Some w → asleep_at asleep n ≡ [] → w.at ≡ n → marked asleep wake n g ≡ view → view ≡ sleeps.Wake w.line ∷ marked asleep None n g
-found_wake asleep wake w n g view is none here seen = sym seen ∙ (ap (λ (o : Option WakeMark). marked asleep o n g) is ∙ wake_first asleep w n g none (is_equal w.at n here))
+pub found_wake : (asleep : Option ℕ) (wake : Option WakeMark) (w : WakeMark) (n : ℕ) (g : List Move)
+    (view : List SleepEntry) → wake ≡ Some w → asleep_at asleep n ≡ [] → w.at ≡ n → marked asleep wake n g ≡ view
+    → view ≡ sleeps.Wake w.line ∷ marked asleep None n g
+found_wake asleep wake w n g view is none here seen = sym seen
+    ∙ (ap (λ (o : Option WakeMark). marked asleep o n g) is ∙ wake_first asleep w n g none (is_equal w.at n here))
 
 pub not_here : (asleep : Option ℕ) (k n : ℕ) → asleep ≡ Some k → (k ≡ n → ⊥) → asleep_at asleep n ≡ []
 not_here asleep k n is other = ap (λ (o : Option ℕ). asleep_at o n) is ∙ ap (λ (b : Bool). cond b (sleeps.Asleep ∷ []) []) (by_test (k == n) refl)

@@ -1,5 +1,7 @@
 -- A sleep, phase by phase.
-use Rattle.std.proofs.Common.{◌≡◌, ◌⊎◌, inl, inr, ℕ, ◌+◌, ◌<◌, ◌≤◌, Bool, true, false, cond, IfSome, Option, Some, None, Result, Ok, Err, List, [], ◌∷◌, ◌++◌, length, reverse, get_or, drop, refl, sym, ap, ◌∙◌, subst, arith, add-one}
+use Rattle.std.proofs.Common.{◌≡◌, ◌⊎◌, inl, inr, ℕ, ◌+◌, ◌<◌, ◌≤◌, Bool, true, false, cond, IfSome, Option, Some, None}
+use Rattle.std.proofs.Common.{Result, Ok, Err, List, [], ◌∷◌, ◌++◌, length, reverse, get_or, drop, refl, sym, ap, ◌∙◌}
+use Rattle.std.proofs.Common.{subst, arith, add-one}
 use Rattle.std.proofs.Math.Seq.{drop-cons}
 use Rattle.std.proofs.lemmas.List.{reverse-append}
 use Rattle.irq_base.specs.declared.entries.Actor.{Actor}
@@ -16,10 +18,13 @@ use Rattle.board_core.specs.declared.turns.PlayEnd.{PlayEnd}
 use Rattle.board_core.specs.declared.turns.PlayEnd.TheVariants as ends
 use Rattle.board_core.proofs.Searches.{all_dropped}
 use Rattle.play_orders.specs.Orders.{IsMade}
-use Rattle.irq_pm.specs.Phases.{Phase, Picking, Disabling, Asleep, Enabling, Going, is_disable_due, due_of, disabling, sleeping, going, last_move, inner_move, ask_move, or_next, picked, step_in, sleep_next, sleep_order}
+use Rattle.irq_pm.specs.Phases.{Phase, Picking, Disabling, Asleep, Enabling, Going, is_disable_due, due_of, disabling}
+use Rattle.irq_pm.specs.Phases.{sleeping, going, last_move, inner_move, ask_move, or_next, picked, step_in, sleep_next}
+use Rattle.irq_pm.specs.Phases.{sleep_order}
 use Rattle.irq_sleeper.specs.Seen.{SleeperSeen, log_of, marked}
 use Rattle.irq_pm.specs.SleepLog.{moves_of}
-use Rattle.irq_sleeper.specs.Steps.{IsFresh, Watched, StepsBy, IsSleep, IsTold, AreMarked, IsUnderway, IsAsleep, IsWoken, Stays, GoesTo, EndsIn, last_of, inner_of, ask_of}
+use Rattle.irq_sleeper.specs.Steps.{IsFresh, Watched, StepsBy, IsSleep, IsTold, AreMarked, IsUnderway, IsAsleep}
+use Rattle.irq_sleeper.specs.Steps.{IsWoken, Stays, GoesTo, EndsIn, last_of, inner_of, ask_of}
 use Rattle.irq_pm.specs.Waking.{woken_by}
 use Rattle.irq_pm.specs.declared.entries.SleepEntry.{SleepEntry}
 use Rattle.irq_pm.specs.declared.entries.SleepEntry.TheVariants as sleeps
@@ -33,21 +38,28 @@ use Rattle.irq_sleeper.proofs.Underway.{next_of, fresh, more, at_other, ended, s
 abbrev pub ComesNext : SleeperSeen → Option Move → Phase → Phase → Type 0
 ComesNext s due at after = (x : Move) → due ≡ Some x → next_of s at ≡ Some (step_of x, after)
 
-pub went : (first old new : SleeperSeen) (picks : List Actor) (due : Option Move) (at after : Phase) (r : Result Bool PlayEnd) → GoesTo first old picks at → r ≡ Ok true → StepsBy old due r new → ComesNext old due at after
+pub went : (first old new : SleeperSeen) (picks : List Actor) (due : Option Move) (at after : Phase)
+    (r : Result Bool PlayEnd) → GoesTo first old picks at → r ≡ Ok true → StepsBy old due r new
+    → ComesNext old due at after
     → (AreMarked at new → AreMarked after new) → GoesTo first new picks after
 went first old new picks due at after r u is s next marks =
     let w : Watched old due new = subst (λ (x : Result Bool PlayEnd). StepsBy old due x new) is s in
     (stays_on first old new u.0 (steps_stay old new due (Ok true) w), more old new picks due at after u.1 w next marks)
 
-pub rested : (first old new : SleeperSeen) (picks : List Actor) (due : Option Move) (at : Phase) (r : Result Bool PlayEnd) → GoesTo first old picks at → r ≡ Ok false → StepsBy old due r new → (due ≡ None) × (new ≡ old)
+pub rested : (first old new : SleeperSeen) (picks : List Actor) (due : Option Move) (at : Phase)
+    (r : Result Bool PlayEnd) → GoesTo first old picks at → r ≡ Ok false → StepsBy old due r new
+    → (due ≡ None) × (new ≡ old)
 rested first old new picks due at r u is s = subst (λ (x : Result Bool PlayEnd). StepsBy old due x new) is s
 
-pub stops : (first old new : SleeperSeen) (picks : List Actor) (due : Option Move) (at after : Phase) (r : Result Bool PlayEnd) (end : PlayEnd) → GoesTo first old picks at → r ≡ Err end → StepsBy old due r new → ComesNext old due at after → EndsIn first new picks end
+pub stops : (first old new : SleeperSeen) (picks : List Actor) (due : Option Move) (at after : Phase)
+    (r : Result Bool PlayEnd) (end : PlayEnd) → GoesTo first old picks at → r ≡ Err end → StepsBy old due r new
+    → ComesNext old due at after → EndsIn first new picks end
 stops first old new picks due at after r end u is s next =
     let e : StepsBy old due (Err end) new = subst (λ (x : Result Bool PlayEnd). StepsBy old due x new) is s in
     (stays_on first old new u.0 (steps_stay old new due (Err end) e), stopped old new picks at after due end u.1 e next)
 
-pub falls : (old new : SleeperSeen) (due : Option Move) (r : Result Bool PlayEnd) → r ≡ Ok true → StepsBy old due r new → room_of new.system < room_of old.system
+pub falls : (old new : SleeperSeen) (due : Option Move) (r : Result Bool PlayEnd) → r ≡ Ok true → StepsBy old due r new
+    → room_of new.system < room_of old.system
 falls old new due r is s = let w : Watched old due new = subst (λ (x : Result Bool PlayEnd). StepsBy old due x new) is s in room_falls old new due w.made
 
 -- ---- the picks
@@ -59,13 +71,18 @@ module _ (s : SleeperSeen) (t : IsTold s) where
   abbrev now : List BoardLine
   now = board_lines s.system.lines
 
-  pick_next : (pick : Actor) (rest : List Actor) (o : Option Move) → move_of s.system pick ≡ o → next_of s (Picking (pick ∷ rest)) ≡ or_next (step_in (Picking rest) o) (next_of s (Picking rest))
-  pick_next pick rest o due = by_move o (ap (λ (ls : List BoardLine). sleep_at ls) (sym t.lines) ∙ ap (λ (x : Option Move). or_next (or_next (step_in (Picking rest) x) (picked s.system.board now rest)) (disabling s.system.board now)) due)
+  pick_next : (pick : Actor) (rest : List Actor) (o : Option Move) → move_of s.system pick ≡ o
+      → next_of s (Picking (pick ∷ rest)) ≡ or_next (step_in (Picking rest) o) (next_of s (Picking rest))
+  pick_next pick rest o due = by_move o (ap (λ (ls : List BoardLine). sleep_at ls) (sym t.lines)
+      ∙ ap (λ (x : Option Move). or_next (or_next (step_in (Picking rest) x) (picked s.system.board now rest))
+      (disabling s.system.board now)) due)
     where
       sleep_at : List BoardLine → Option (SleepEntry × Phase)
       sleep_at ls = or_next (picked s.system.board ls (pick ∷ rest)) (disabling s.system.board ls)
 
-      by_move : (o : Option Move) → next_of s (Picking (pick ∷ rest)) ≡ or_next (or_next (step_in (Picking rest) o) (picked s.system.board now rest)) (disabling s.system.board now) → next_of s (Picking (pick ∷ rest)) ≡ or_next (step_in (Picking rest) o) (next_of s (Picking rest))
+      by_move : (o : Option Move) → next_of s (Picking (pick ∷ rest))
+          ≡ or_next (or_next (step_in (Picking rest) o) (picked s.system.board now rest)) (disabling s.system.board now)
+          → next_of s (Picking (pick ∷ rest)) ≡ or_next (step_in (Picking rest) o) (next_of s (Picking rest))
       by_move None is = is ∙ ap (λ (ls : List BoardLine). or_next (picked s.system.board ls rest) (disabling s.system.board ls)) t.lines
       by_move (Some m) is = is
 
@@ -77,13 +94,19 @@ module _ (s : SleeperSeen) (t : IsTold s) where
 
   -- ---- falling asleep
 
-  disabling_is : (t : Bool) → is_disable_due (due_of s.system.board now last_driver) ≡ t → next_of s Disabling ≡ cond t (step_in Disabling (or_move (last_of s.system) (inner_of s.system))) (Some (sleeps.Asleep, Asleep))
-  disabling_is test is = ap (λ (ls : List BoardLine). disabling s.system.board ls) (sym t.lines) ∙ ap (λ (x : Bool). cond x (step_in Disabling (or_move (last_of s.system) (inner_of s.system))) (Some (sleeps.Asleep, Asleep))) is
+  disabling_is : (t : Bool) → is_disable_due (due_of s.system.board now last_driver) ≡ t
+      → next_of s Disabling ≡ cond t (step_in Disabling (or_move (last_of s.system) (inner_of s.system)))
+      (Some (sleeps.Asleep, Asleep))
+  disabling_is test is = ap (λ (ls : List BoardLine). disabling s.system.board ls) (sym t.lines)
+      ∙ ap (λ (x : Bool). cond x (step_in Disabling (or_move (last_of s.system) (inner_of s.system)))
+      (Some (sleeps.Asleep, Asleep))) is
 
-  pub disabling_next : is_disable_due (due_of s.system.board now last_driver) ≡ true → ComesNext s (or_move (last_of s.system) (inner_of s.system)) Disabling Disabling
+  pub disabling_next : is_disable_due (due_of s.system.board now last_driver) ≡ true
+      → ComesNext s (or_move (last_of s.system) (inner_of s.system)) Disabling Disabling
   disabling_next test x due = disabling_is true test ∙ ap (λ (o : Option Move). step_in Disabling o) due
 
-  pub disabling_none : is_disable_due (due_of s.system.board now last_driver) ≡ true → or_move (last_of s.system) (inner_of s.system) ≡ None → next_of s Disabling ≡ None
+  pub disabling_none : is_disable_due (due_of s.system.board now last_driver) ≡ true
+      → or_move (last_of s.system) (inner_of s.system) ≡ None → next_of s Disabling ≡ None
   disabling_none test due = disabling_is true test ∙ ap (λ (o : Option Move). step_in Disabling o) due
 
   pub asleep_comes : is_disable_due (due_of s.system.board now last_driver) ≡ false → next_of s Disabling ≡ Some (sleeps.Asleep, Asleep)
@@ -94,7 +117,8 @@ module _ (s : SleeperSeen) (t : IsTold s) where
   module _ (woken_is : s.watch.woken ≡ woken_by s.watch.armed (reverse s.system.log)) where
     sleeping_is : (woken : Option LineNo) → s.watch.woken ≡ woken → next_of s Asleep ≡ sleeping woken s.system.board now
     sleeping_is woken is =
-        ap (λ (ls : List BoardLine). sleeping (woken_by s.watch.armed (reverse s.system.log)) s.system.board ls) (sym t.lines) ∙ ap (λ (o : Option LineNo). sleeping o s.system.board now) (sym woken_is ∙ is)
+        ap (λ (ls : List BoardLine). sleeping (woken_by s.watch.armed (reverse s.system.log)) s.system.board ls)
+        (sym t.lines) ∙ ap (λ (o : Option LineNo). sleeping o s.system.board now) (sym woken_is ∙ is)
 
     pub sleeping_next : s.watch.woken ≡ None → ComesNext s (or_move (inner_of s.system) (ask_of s.system)) Asleep Asleep
     sleeping_next is x due = sleeping_is None is ∙ ap (λ (o : Option Move). or_next (step_in Asleep o) (Some (sleeps.Wake None, Enabling))) due
@@ -107,8 +131,11 @@ module _ (s : SleeperSeen) (t : IsTold s) where
 
   -- ---- enabling, and going on
 
-  enabling_is : (o : Option Move) → move_of s.system (actors.Driver last_driver) ≡ o → next_of s Enabling ≡ or_next (step_in Enabling o) (going s.system.board now)
-  enabling_is o due = ap (λ (ls : List BoardLine). or_next (step_in Enabling (last_move s.system.board ls)) (going s.system.board ls)) (sym t.lines) ∙ ap (λ (x : Option Move). or_next (step_in Enabling x) (going s.system.board now)) due
+  enabling_is : (o : Option Move) → move_of s.system (actors.Driver last_driver) ≡ o
+      → next_of s Enabling ≡ or_next (step_in Enabling o) (going s.system.board now)
+  enabling_is o due = ap (λ (ls : List BoardLine). or_next (step_in Enabling (last_move s.system.board ls))
+      (going s.system.board ls)) (sym t.lines) ∙ ap (λ (x : Option Move). or_next (step_in Enabling x)
+      (going s.system.board now)) due
 
   pub enabling_next : ComesNext s (move_of s.system (actors.Driver last_driver)) Enabling Enabling
   enabling_next x due = enabling_is (Some x) due
@@ -130,13 +157,20 @@ module _ (s : SleeperSeen) (t : IsTold s) where
 reversed : (xs ys : List SleepEntry) (e : SleepEntry) → xs ≡ ys ++ e ∷ [] → reverse xs ≡ e ∷ reverse ys
 reversed xs ys e is = ap (λ (g : List SleepEntry). reverse g) is ∙ reverse-append ys (e ∷ [])
 
-asleep_under : (old : SleeperSeen) (picks : List Actor) → IsUnderway old picks Disabling → next_of old Disabling ≡ Some (sleeps.Asleep, Asleep) → IsUnderway (record old { asleep = Some (length old.system.log) }) picks Asleep
+asleep_under : (old : SleeperSeen) (picks : List Actor) → IsUnderway old picks Disabling
+    → next_of old Disabling ≡ Some (sleeps.Asleep, Asleep)
+    → IsUnderway (record old { asleep = Some (length old.system.log) }) picks Asleep
 asleep_under old picks u next =
     let log = old.system.log in
-    let was : log_of old ≡ marked None None 0 log = ap (λ (a : Option ℕ). marked a old.wake 0 log) u.marks.0 ∙ ap (λ (w : Option WakeMark). marked None w 0 log) u.marks.1 in
+    let was : log_of old ≡ marked None None 0 log = ap (λ (a : Option ℕ). marked a old.wake 0 log) u.marks.0
+    ∙ ap (λ (w : Option WakeMark). marked None w 0 log) u.marks.1 in
     let is : marked (Some (length log)) old.wake 0 log ≡ log_of old ++ sleeps.Asleep ∷ [] =
-    ap (λ (w : Option WakeMark). marked (Some (length log)) w 0 log) u.marks.1 ∙ (asleep_set 0 (length log) log (omega arith) ∙ ap (λ (g : List SleepEntry). g ++ sleeps.Asleep ∷ []) (sym was)) in
-    let back : reverse (marked (Some (length log)) old.wake 0 log) ≡ sleeps.Asleep ∷ reverse (log_of old) = reversed (marked (Some (length log)) old.wake 0 log) (log_of old) sleeps.Asleep is in
+    ap (λ (w : Option WakeMark). marked (Some (length log)) w 0 log) u.marks.1
+    ∙ (asleep_set 0 (length log) log (omega arith)
+    ∙ ap (λ (g : List SleepEntry). g ++ sleeps.Asleep ∷ []) (sym was)) in
+    let back : reverse (marked (Some (length log)) old.wake 0 log)
+    ≡ sleeps.Asleep ∷ reverse (log_of old) = reversed (marked (Some (length log)) old.wake 0 log) (log_of old)
+    sleeps.Asleep is in
     record {
       told = record { lines = u.told.lines; told = ap (λ (g : List SleepEntry). moves_of g) back ∙ u.told.told };
       marks = (omega arith, u.marks.1);
@@ -147,14 +181,17 @@ asleep_under old picks u next =
       next = refl;
     }
 
-woken_under : (old : SleeperSeen) (picks : List Actor) (line : Option LineNo) → IsUnderway old picks Asleep → next_of old Asleep ≡ Some (sleeps.Wake line, Enabling)
+woken_under : (old : SleeperSeen) (picks : List Actor) (line : Option LineNo) → IsUnderway old picks Asleep
+    → next_of old Asleep ≡ Some (sleeps.Wake line, Enabling)
     → IsUnderway (record old { wake = Some (record { at = length old.system.log; line = line }) }) picks Enabling
 woken_under old picks line u next =
     let log = old.system.log in
     let w : WakeMark = record { at = length log; line = line } in
     let is : marked old.asleep (Some w) 0 log ≡ log_of old ++ sleeps.Wake line ∷ [] =
     wake_set old.asleep 0 w log (omega arith) ∙ ap (λ (x : Option WakeMark). marked old.asleep x 0 log ++ sleeps.Wake line ∷ []) (sym u.marks.1) in
-    let back : reverse (marked old.asleep (Some w) 0 log) ≡ sleeps.Wake line ∷ reverse (log_of old) = reversed (marked old.asleep (Some w) 0 log) (log_of old) (sleeps.Wake line) is in
+    let back : reverse (marked old.asleep (Some w) 0 log)
+    ≡ sleeps.Wake line ∷ reverse (log_of old) = reversed (marked old.asleep (Some w) 0 log) (log_of old)
+    (sleeps.Wake line) is in
     record {
       told = record { lines = u.told.lines; told = ap (λ (g : List SleepEntry). moves_of g) back ∙ u.told.told };
       marks = (u.marks.0, omega arith);
@@ -165,69 +202,98 @@ woken_under old picks line u next =
       next = refl;
     }
 
-pub falls_asleep : (first old new : SleeperSeen) (picks : List Actor) → GoesTo first old picks Disabling → is_disable_due (due_of old.system.board (board_lines old.system.lines) last_driver) ≡ false → IsAsleep old new → GoesTo first new picks Asleep
+pub falls_asleep : (first old new : SleeperSeen) (picks : List Actor) → GoesTo first old picks Disabling
+    → is_disable_due (due_of old.system.board (board_lines old.system.lines) last_driver) ≡ false → IsAsleep old new
+    → GoesTo first new picks Asleep
 falls_asleep first old new picks u test is =
     subst (λ (s : SleeperSeen). GoesTo first s picks Asleep) (sym is)
     (record { board = u.0.board; layout = u.0.layout; armed = u.0.armed }, asleep_under old picks u.1 (asleep_comes old u.1.told test))
 
-wakes_up : (first old new : SleeperSeen) (picks : List Actor) (line : Option LineNo) → GoesTo first old picks Asleep → next_of old Asleep ≡ Some (sleeps.Wake line, Enabling) → IsWoken old line new → GoesTo first new picks Enabling
+wakes_up : (first old new : SleeperSeen) (picks : List Actor) (line : Option LineNo) → GoesTo first old picks Asleep
+    → next_of old Asleep ≡ Some (sleeps.Wake line, Enabling) → IsWoken old line new → GoesTo first new picks Enabling
 wakes_up first old new picks line u next is =
     subst (λ (s : SleeperSeen). GoesTo first s picks Enabling) (sym is)
     (record { board = u.0.board; layout = u.0.layout; armed = u.0.armed }, woken_under old picks line u.1 next)
 
-pub wakes_by_line : (first old new : SleeperSeen) (picks : List Actor) (line : LineNo) → GoesTo first old picks Asleep → old.watch.woken ≡ Some line → IsWoken old (Some line) new → GoesTo first new picks Enabling
+pub wakes_by_line : (first old new : SleeperSeen) (picks : List Actor) (line : LineNo) → GoesTo first old picks Asleep
+    → old.watch.woken ≡ Some line → IsWoken old (Some line) new → GoesTo first new picks Enabling
 wakes_by_line first old new picks line u woken is = wakes_up first old new picks (Some line) u (line_wakes old u.1.told u.1.watch.woken line woken) is
 
-pub wakes_by_none : (first old mid new : SleeperSeen) (picks : List Actor) (r : Result Bool PlayEnd) → GoesTo first old picks Asleep → old.watch.woken ≡ None → r ≡ Ok false → StepsBy old (or_move (inner_of old.system) (ask_of old.system)) r mid → IsWoken mid None new → GoesTo first new picks Enabling
+pub wakes_by_none : (first old mid new : SleeperSeen) (picks : List Actor) (r : Result Bool PlayEnd)
+    → GoesTo first old picks Asleep → old.watch.woken ≡ None → r ≡ Ok false
+    → StepsBy old (or_move (inner_of old.system) (ask_of old.system)) r mid → IsWoken mid None new
+    → GoesTo first new picks Enabling
 wakes_by_none first old mid new picks r u woken is steps wakes =
     let rest = rested first old mid picks (or_move (inner_of old.system) (ask_of old.system)) Asleep r u is steps in
     wakes_up first old new picks None u (none_wakes old u.1.told u.1.watch.woken woken rest.0) (subst (λ (s : SleeperSeen). IsWoken s None new) rest.1 wakes)
 
 -- ---- the phases' ends
 
-pub opened : (first old new : SleeperSeen) (picks : List Actor) (r : Result Bool PlayEnd) → GoesTo first old picks Enabling → r ≡ Ok false → StepsBy old (move_of old.system (actors.Driver last_driver)) r new → GoesTo first new picks Going
+pub opened : (first old new : SleeperSeen) (picks : List Actor) (r : Result Bool PlayEnd)
+    → GoesTo first old picks Enabling → r ≡ Ok false → StepsBy old (move_of old.system (actors.Driver last_driver)) r
+    new → GoesTo first new picks Going
 opened first old new picks r u is steps =
     let rest = rested first old new picks (move_of old.system (actors.Driver last_driver)) Enabling r u is steps in
     subst (λ (s : SleeperSeen). GoesTo first s picks Going) (sym rest.1) (u.0, at_other old picks Enabling Going u.1 (λ m. m) (enabled_all old u.1.told rest.0))
 
-pub gone_on : (first old new : SleeperSeen) (picks : List Actor) (r : Result Bool PlayEnd) → GoesTo first old picks Going → r ≡ Ok false → StepsBy old (lowest_move old.system) r new → EndsIn first new picks ends.Done
+pub gone_on : (first old new : SleeperSeen) (picks : List Actor) (r : Result Bool PlayEnd)
+    → GoesTo first old picks Going → r ≡ Ok false → StepsBy old (lowest_move old.system) r new
+    → EndsIn first new picks ends.Done
 gone_on first old new picks r u is steps =
     let rest = rested first old new picks (lowest_move old.system) Going r u is steps in
     subst (λ (s : SleeperSeen). EndsIn first s picks ends.Done) (sym rest.1) (u.0, (u.1.told, ended old picks Going u.1 (going_none old u.1.told rest.0)))
 
-pub stuck_so : (first old new : SleeperSeen) (picks : List Actor) (r : Result Bool PlayEnd) → GoesTo first old picks Disabling → is_disable_due (due_of old.system.board (board_lines old.system.lines) last_driver) ≡ true → r ≡ Ok false
+pub stuck_so : (first old new : SleeperSeen) (picks : List Actor) (r : Result Bool PlayEnd)
+    → GoesTo first old picks Disabling → is_disable_due
+    (due_of old.system.board (board_lines old.system.lines) last_driver) ≡ true → r ≡ Ok false
     → StepsBy old (or_move (last_of old.system) (inner_of old.system)) r new → EndsIn first new picks ends.Done
 stuck_so first old new picks r u test is steps =
     let rest = rested first old new picks (or_move (last_of old.system) (inner_of old.system)) Disabling r u is steps in
-    subst (λ (s : SleeperSeen). EndsIn first s picks ends.Done) (sym rest.1) (u.0, (u.1.told, ended old picks Disabling u.1 (disabling_none old u.1.told test rest.0)))
+    subst (λ (s : SleeperSeen). EndsIn first s picks ends.Done) (sym rest.1)
+    (u.0, (u.1.told, ended old picks Disabling u.1 (disabling_none old u.1.told test rest.0)))
 
 -- ---- picks, one after another
 
 pub first_pick : (s : SleeperSeen) (picks : List Actor) → IsFresh s → GoesTo s s picks (Picking picks)
 first_pick s picks f = (stays s, fresh s picks f)
 
-at_pick : (first s : SleeperSeen) (picks : List Actor) (i : ℕ) (d : Actor) → i < length picks → GoesTo first s picks (Picking (drop i picks)) → GoesTo first s picks (Picking (get_or picks i d ∷ drop (i + 1) picks))
+at_pick : (first s : SleeperSeen) (picks : List Actor) (i : ℕ) (d : Actor) → i < length picks
+    → GoesTo first s picks (Picking (drop i picks)) → GoesTo first s picks
+    (Picking (get_or picks i d ∷ drop (i + 1) picks))
 at_pick first s picks i d within u =
-    let next : drop i picks ≡ get_or picks i d ∷ drop (i + 1) picks = drop-cons picks i d within ∙ ap (λ (n : ℕ). get_or picks i d ∷ drop n picks) (sym (add-one i)) in
+    let next : drop i picks ≡ get_or picks i d ∷ drop (i + 1) picks = drop-cons picks i d within
+    ∙ ap (λ (n : ℕ). get_or picks i d ∷ drop n picks) (sym (add-one i)) in
     subst (λ (rest : List Actor). GoesTo first s picks (Picking rest)) next u
 
-pub pick_done : (first old new : SleeperSeen) (picks : List Actor) (i : ℕ) (d : Actor) (r : Result Bool PlayEnd) (moved : Bool) → i < length picks → GoesTo first old picks (Picking (drop i picks)) → r ≡ Ok moved → StepsBy old (move_of old.system (get_or picks i d)) r new
+pub pick_done : (first old new : SleeperSeen) (picks : List Actor) (i : ℕ) (d : Actor) (r : Result Bool PlayEnd)
+    (moved : Bool) → i < length picks → GoesTo first old picks (Picking (drop i picks)) → r ≡ Ok moved
+    → StepsBy old (move_of old.system (get_or picks i d)) r new
     → GoesTo first new picks (Picking (drop (i + 1) picks))
 pick_done first old new picks i d r true within u is steps =
     let v = at_pick first old picks i d within u in
-    went first old new picks (move_of old.system (get_or picks i d)) (Picking (get_or picks i d ∷ drop (i + 1) picks)) (Picking (drop (i + 1) picks)) r v is steps (picked_next old v.1.told (get_or picks i d) (drop (i + 1) picks)) (λ m. m)
+    went first old new picks (move_of old.system (get_or picks i d)) (Picking (get_or picks i d ∷ drop (i + 1) picks))
+    (Picking (drop (i + 1) picks)) r v is steps (picked_next old v.1.told (get_or picks i d) (drop (i + 1) picks))
+    (λ m. m)
 pick_done first old new picks i d r false within u is steps =
     let v = at_pick first old picks i d within u in
     let rest = rested first old new picks (move_of old.system (get_or picks i d)) (Picking (get_or picks i d ∷ drop (i + 1) picks)) r v is steps in
-    subst (λ (s : SleeperSeen). GoesTo first s picks (Picking (drop (i + 1) picks))) (sym rest.1)
-    (v.0, at_other old picks (Picking (get_or picks i d ∷ drop (i + 1) picks)) (Picking (drop (i + 1) picks)) v.1 (λ m. m) (passed_next old v.1.told (get_or picks i d) (drop (i + 1) picks) rest.0))
+    subst (λ (s : SleeperSeen). GoesTo first s picks (Picking (drop (i + 1) picks))) (sym rest.1) (
+      v.0,
+      at_other old picks (Picking (get_or picks i d ∷ drop (i + 1) picks)) (Picking (drop (i + 1) picks)) v.1
+          (λ m. m) (passed_next old v.1.told (get_or picks i d) (drop (i + 1) picks) rest.0),
+    )
 
-pub pick_stops : (first old new : SleeperSeen) (picks : List Actor) (i : ℕ) (d : Actor) (r : Result Bool PlayEnd) (end : PlayEnd) → i < length picks → GoesTo first old picks (Picking (drop i picks)) → r ≡ Err end → StepsBy old (move_of old.system (get_or picks i d)) r new → EndsIn first new picks end
+pub pick_stops : (first old new : SleeperSeen) (picks : List Actor) (i : ℕ) (d : Actor) (r : Result Bool PlayEnd)
+    (end : PlayEnd) → i < length picks → GoesTo first old picks (Picking (drop i picks)) → r ≡ Err end
+    → StepsBy old (move_of old.system (get_or picks i d)) r new → EndsIn first new picks end
 pick_stops first old new picks i d r end within u is steps =
     let v = at_pick first old picks i d within u in
-    stops first old new picks (move_of old.system (get_or picks i d)) (Picking (get_or picks i d ∷ drop (i + 1) picks)) (Picking (drop (i + 1) picks)) r end v is steps (picked_next old v.1.told (get_or picks i d) (drop (i + 1) picks))
+    stops first old new picks (move_of old.system (get_or picks i d)) (Picking (get_or picks i d ∷ drop (i + 1) picks))
+    (Picking (drop (i + 1) picks)) r end v is steps
+    (picked_next old v.1.told (get_or picks i d) (drop (i + 1) picks))
 
-pub picks_made : (first s : SleeperSeen) (picks : List Actor) (i : ℕ) → length picks ≤ i → GoesTo first s picks (Picking (drop i picks)) → GoesTo first s picks Disabling
+pub picks_made : (first s : SleeperSeen) (picks : List Actor) (i : ℕ) → length picks ≤ i
+    → GoesTo first s picks (Picking (drop i picks)) → GoesTo first s picks Disabling
 picks_made first s picks i done u =
     let v : GoesTo first s picks (Picking []) = subst (λ (rest : List Actor). GoesTo first s picks (Picking rest)) (all_dropped picks i done) u in
     (v.0, at_other s picks (Picking []) Disabling v.1 (λ m. m) refl)

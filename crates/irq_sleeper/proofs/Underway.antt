@@ -1,5 +1,7 @@
 -- A sleep, step by step.
-use Rattle.std.proofs.Common.{◌≡◌, ◌⊎◌, inl, inr, ℕ, ◌+◌, ◌-◌, ◌<◌, ◌≤◌, Bool, true, false, ◌&&◌, cond, IfSome, IsSomeAnd, Option, Some, None, Result, Ok, Err, List, [], ◌∷◌, ◌++◌, length, reverse, get_or, drop, refl, sym, ap, ◌∙◌, subst, arith, add-one}
+use Rattle.std.proofs.Common.{◌≡◌, ◌⊎◌, inl, inr, ℕ, ◌+◌, ◌-◌, ◌<◌, ◌≤◌, Bool, true, false, ◌&&◌, cond, IfSome}
+use Rattle.std.proofs.Common.{IsSomeAnd, Option, Some, None, Result, Ok, Err, List, [], ◌∷◌, ◌++◌, length, reverse}
+use Rattle.std.proofs.Common.{get_or, drop, refl, sym, ap, ◌∙◌, subst, arith, add-one}
 use Rattle.std.proofs.Math.Seq.{drop-cons}
 use Rattle.std.proofs.lemmas.List.{reverse-append, length_push}
 use Rattle.irq_base.specs.declared.entries.Actor.{Actor}
@@ -25,7 +27,9 @@ use Rattle.board_core.specs.declared.turns.Turn.TheVariants as turns
 use Rattle.board_core.proofs.Movers.{first_there, none_there, some_of}
 use Rattle.board_core.proofs.Underway.{part_in}
 use Rattle.play_orders.specs.Orders.{IsMade, moves_in}
-use Rattle.irq_pm.specs.Phases.{Phase, Picking, Disabling, Asleep, Enabling, Going, Next, asks_next, first_asking, move_of_driver, is_disable_due, due_of, disabling, sleeping, going, last_move, inner_move, ask_move, or_next, picked, step_in, sleep_next, sleep_order}
+use Rattle.irq_pm.specs.Phases.{Phase, Picking, Disabling, Asleep, Enabling, Going, Next, asks_next, first_asking}
+use Rattle.irq_pm.specs.Phases.{move_of_driver, is_disable_due, due_of, disabling, sleeping, going, last_move}
+use Rattle.irq_pm.specs.Phases.{inner_move, ask_move, or_next, picked, step_in, sleep_next, sleep_order}
 use Rattle.irq_sleeper.specs.Seen.{SleeperSeen, log_of, marked}
 use Rattle.irq_pm.specs.SleepLog.{told, moves_of}
 use Rattle.irq_pm.specs.Slept.{Sleeps}
@@ -48,7 +52,9 @@ next_of s at = sleep_next s.system.board s.watch.armed (reverse s.system.log) at
 pub fresh : (s : SleeperSeen) (picks : List Actor) → IsFresh s → IsUnderway s picks (Picking picks)
 fresh s picks f =
     let none : s.system.log ≡ [] = f.system.log in
-    let empty : log_of s ≡ [] = ap (λ (g : List Move). marked s.asleep s.wake 0 g) none ∙ (ap (λ (a : Option ℕ). marked a s.wake 0 []) f.asleep ∙ ap (λ (w : Option WakeMark). marked None w 0 []) f.wake) in
+    let empty : log_of s ≡ [] = ap (λ (g : List Move). marked s.asleep s.wake 0 g) none
+    ∙ (ap (λ (a : Option ℕ). marked a s.wake 0 []) f.asleep
+    ∙ ap (λ (w : Option WakeMark). marked None w 0 []) f.wake) in
     let none_yet : reverse s.system.log ≡ [] = ap (λ (g : List Move). reverse g) none in
     record {
       told = record {
@@ -57,7 +63,9 @@ fresh s picks f =
       };
       marks = (f.asleep, f.wake);
       watch = record {
-        disabled = λ line. ap (λ (ls : List LineNo). is_among line ls) f.disabled ∙ (no_one (is_among line s.watch.armed) ∙ ap (λ (g : List Move). is_among line s.watch.armed && was_disabled line g) (sym none_yet));
+        disabled = λ line. ap (λ (ls : List LineNo). is_among line ls) f.disabled
+            ∙ (no_one (is_among line s.watch.armed) ∙ ap
+            (λ (g : List Move). is_among line s.watch.armed && was_disabled line g) (sym none_yet));
         woken = f.woken ∙ ap (λ (g : List Move). woken_by s.watch.armed g) (sym none_yet);
       };
       phase = Picking picks;
@@ -72,7 +80,8 @@ fresh s picks f =
 -- ---- one step
 
 -- the marks stay where they are while the log grows
-marks_stay : (at : Phase) (old new : SleeperSeen) → new.asleep ≡ old.asleep → new.wake ≡ old.wake → length old.system.log ≤ length new.system.log → AreMarked at old → AreMarked at new
+marks_stay : (at : Phase) (old new : SleeperSeen) → new.asleep ≡ old.asleep → new.wake ≡ old.wake
+    → length old.system.log ≤ length new.system.log → AreMarked at old → AreMarked at new
 marks_stay at old new a w le marks = by_phase at marks
   where
     within : (o : Option ℕ) → IfSome o (λ k. k ≤ length old.system.log) → IfSome o (λ k. k ≤ length new.system.log)
@@ -113,7 +122,8 @@ placed Enabling s h = h
 placed Going s h = h
 
 -- the log after a move
-log_more : (old new : SleeperSeen) (due : Option Move) (at : Phase) (m : Made old due new) → AreMarked at old → reverse (log_of new) ≡ step_of m.move ∷ reverse (log_of old)
+log_more : (old new : SleeperSeen) (due : Option Move) (at : Phase) (m : Made old due new) → AreMarked at old
+    → reverse (log_of new) ≡ step_of m.move ∷ reverse (log_of old)
 log_more old new due at m marks =
     let p = placed at old marks in
     let zero_more : 0 + length old.system.log ≡ length old.system.log = omega arith in
@@ -121,7 +131,9 @@ log_more old new due at m marks =
     ∙ (ap (λ (w : Option WakeMark). reverse (marked old.asleep w 0 new.system.log)) m.wake
     ∙ (ap (λ (g : List Move). reverse (marked old.asleep old.wake 0 g)) m.moves.log
     ∙ (ap (λ (g : List SleepEntry). reverse g)
-    (marked_more old.asleep old.wake 0 old.system.log m.move (subst (λ (n : ℕ). IsWithin old.asleep n) (sym zero_more) p.0) (subst (λ (n : ℕ). IsWakeWithin old.wake n) (sym zero_more) p.1))
+    (marked_more old.asleep old.wake 0 old.system.log m.move
+    (subst (λ (n : ℕ). IsWithin old.asleep n) (sym zero_more) p.0)
+    (subst (λ (n : ℕ). IsWakeWithin old.wake n) (sym zero_more) p.1))
     ∙ reverse-append (log_of old) (step_of m.move ∷ []))))
 
 -- the log of moves after a move
@@ -134,19 +146,24 @@ told_more old new due at marks t m =
       lines = m.moves.lines
           ∙ (ap (λ (ls : List BoardLine). lines_after m.move ls) t.lines
           ∙ (sym (lines_more (defs_of old.system.board) m.move (reverse old.system.log))
-          ∙ (ap (λ (g : List Move). lines_of old.system.board g) (sym (moves_more old new due m)) ∙ ap (λ (b : BoardSeen). lines_of b (reverse new.system.log)) (sym m.moves.board))));
-      told = ap (λ (g : List SleepEntry). moves_of g) (log_more old new due at m marks) ∙ (ap (λ (g : List Move). m.move ∷ g) t.told ∙ sym (moves_more old new due m));
+          ∙ (ap (λ (g : List Move). lines_of old.system.board g) (sym (moves_more old new due m))
+          ∙ ap (λ (b : BoardSeen). lines_of b (reverse new.system.log)) (sym m.moves.board))));
+      told = ap (λ (g : List SleepEntry). moves_of g) (log_more old new due at m marks)
+          ∙ (ap (λ (g : List Move). m.move ∷ g) t.told ∙ sym (moves_more old new due m));
     }
 
 -- the steps so far, and one more
-made_more : (old new : SleeperSeen) (picks : List Actor) (due : Option Move) (at after : Phase) → IsUnderway old picks at → (m : Made old due new) → ((x : Move) → due ≡ Some x → next_of old at ≡ Some (step_of x, after))
+made_more : (old new : SleeperSeen) (picks : List Actor) (due : Option Move) (at after : Phase)
+    → IsUnderway old picks at → (m : Made old due new)
+    → ((x : Move) → due ≡ Some x → next_of old at ≡ Some (step_of x, after))
     → IsMade (sleep_order new.system.board new.watch.armed) (Picking picks) (reverse (log_of new)) after
 made_more old new picks due at after u m next =
     let o = sleep_order old.system.board old.watch.armed in
     let g = reverse (log_of old) in
     let now : sleep_next old.system.board old.watch.armed (moves_of g) u.phase ≡ Some (step_of m.move, after) =
     ap (λ (h : List Move). sleep_next old.system.board old.watch.armed h u.phase) u.told.told ∙ (u.next ∙ next m.move m.moves.is) in
-    let has : length (part m.move.0 (reverse old.system.log)) < old.system.board.log = part_in old.system m.move.0 (λ past. length past < old.system.board.log) u.told.lines m.moves.room in
+    let has : length (part m.move.0 (reverse old.system.log)) < old.system.board.log
+    = part_in old.system m.move.0 (λ past. length past < old.system.board.log) u.told.lines m.moves.room in
     let room : length (part m.move.0 (moves_in o g)) < old.system.board.log =
     subst (λ (h : List Move). length (part m.move.0 h) < old.system.board.log) (sym (moves_are old.system.board old.watch.armed g ∙ u.told.told)) has in
     let made : IsMade o (Picking picks) (step_of m.move ∷ g) after = (u.phase, u.made, now, room) in
@@ -160,7 +177,8 @@ longer old new due m =
     let k = length_push old.system.log m.move in
     omega (arith, n, k)
 
-pub more : (old new : SleeperSeen) (picks : List Actor) (due : Option Move) (at after : Phase) → IsUnderway old picks at → Watched old due new → ((x : Move) → due ≡ Some x → next_of old at ≡ Some (step_of x, after))
+pub more : (old new : SleeperSeen) (picks : List Actor) (due : Option Move) (at after : Phase) → IsUnderway old picks at
+    → Watched old due new → ((x : Move) → due ≡ Some x → next_of old at ≡ Some (step_of x, after))
     → (AreMarked at new → AreMarked after new) → IsUnderway new picks after
 more old new picks due at after u w next same_marks =
     record {
@@ -173,7 +191,8 @@ more old new picks due at after u w next same_marks =
     }
 
 -- another phase with the same next step
-pub at_other : (s : SleeperSeen) (picks : List Actor) (at other : Phase) → IsUnderway s picks at → (AreMarked at s → AreMarked other s) → next_of s at ≡ next_of s other → IsUnderway s picks other
+pub at_other : (s : SleeperSeen) (picks : List Actor) (at other : Phase) → IsUnderway s picks at
+    → (AreMarked at s → AreMarked other s) → next_of s at ≡ next_of s other → IsUnderway s picks other
 at_other s picks at other u marks same = record { told = u.told; marks = marks u.marks; watch = u.watch; phase = u.phase; made = u.made; next = u.next ∙ same }
 
 -- ---- ends
@@ -182,7 +201,9 @@ at_other s picks at other u marks same = record { told = u.told; marks = marks u
 pub ended : (s : SleeperSeen) (picks : List Actor) (at : Phase) → IsUnderway s picks at → next_of s at ≡ None → IsSleep s picks ends.Done
 ended s picks at u none = (u.phase, u.made, ap (λ (h : List Move). sleep_next s.system.board s.watch.armed h u.phase) u.told.told ∙ (u.next ∙ none))
 
-pub filled : (s : SleeperSeen) (picks : List Actor) (at after : Phase) (due : Option Move) (line : LineNo) (len : ℕ) → IsUnderway s picks at → IsFullFor s.system due line len → ((x : Move) → due ≡ Some x → next_of s at ≡ Some (step_of x, after)) → IsSleep s picks (ends.Full line len)
+pub filled : (s : SleeperSeen) (picks : List Actor) (at after : Phase) (due : Option Move) (line : LineNo) (len : ℕ)
+    → IsUnderway s picks at → IsFullFor s.system due line len
+    → ((x : Move) → due ≡ Some x → next_of s at ≡ Some (step_of x, after)) → IsSleep s picks (ends.Full line len)
 filled s picks at after due line len u full next =
     let told : length (part line (reverse s.system.log)) ≡ len = part_in s.system line (λ past. length past ≡ len) u.told.lines full.length in
     let g = reverse (log_of s) in (
@@ -203,11 +224,14 @@ filled s picks at after due line len u full next =
     )
 
 -- memory was refused, perhaps after a move
-pub refused : (old new : SleeperSeen) (picks : List Actor) (at after : Phase) (due : Option Move) → IsUnderway old picks at → (new ≡ old) ⊎ Made old due new → ((x : Move) → due ≡ Some x → next_of old at ≡ Some (step_of x, after)) → IsSleep new picks ends.NoMemory
+pub refused : (old new : SleeperSeen) (picks : List Actor) (at after : Phase) (due : Option Move)
+    → IsUnderway old picks at → (new ≡ old) ⊎ Made old due new
+    → ((x : Move) → due ≡ Some x → next_of old at ≡ Some (step_of x, after)) → IsSleep new picks ends.NoMemory
 refused old new picks at after due u (inl same) next = subst (λ (s : SleeperSeen). IsSleep s picks ends.NoMemory) (sym same) (u.phase, u.made)
 refused old new picks at after due u (inr m) next = (after, made_more old new picks due at after u m next)
 
-pub refused_told : (old new : SleeperSeen) (picks : List Actor) (at : Phase) (due : Option Move) → IsUnderway old picks at → (new ≡ old) ⊎ Made old due new → IsTold new
+pub refused_told : (old new : SleeperSeen) (picks : List Actor) (at : Phase) (due : Option Move)
+    → IsUnderway old picks at → (new ≡ old) ⊎ Made old due new → IsTold new
 refused_told old new picks at due u (inl same) = subst (λ (s : SleeperSeen). IsTold s) (sym same) u.told
 refused_told old new picks at due u (inr m) = told_more old new due at u.marks u.told m
 
@@ -216,8 +240,12 @@ refused_told old new picks at due u (inr m) = told_more old new due at u.marks u
 abbrev pub EndsAs : List Actor → SleeperSeen → PlayEnd → Type 0
 EndsAs picks s end = IsTold s × IsSleep s picks end
 
-pub stopped : (old new : SleeperSeen) (picks : List Actor) (at after : Phase) (due : Option Move) (end : PlayEnd) → IsUnderway old picks at → StepsBy old due (Err end) new → ((x : Move) → due ≡ Some x → next_of old at ≡ Some (step_of x, after)) → EndsAs picks new end
-stopped old new picks at after due (ends.Full line len) u steps next = subst (λ (s : SleeperSeen). EndsAs picks s (ends.Full line len)) (sym steps.1) (u.told, filled old picks at after due line len u steps.0 next)
+pub stopped : (old new : SleeperSeen) (picks : List Actor) (at after : Phase) (due : Option Move) (end : PlayEnd)
+    → IsUnderway old picks at → StepsBy old due (Err end) new
+    → ((x : Move) → due ≡ Some x → next_of old at ≡ Some (step_of x, after)) → EndsAs picks new end
+stopped old new picks at after due (ends.Full line len) u steps next
+    = subst (λ (s : SleeperSeen). EndsAs picks s (ends.Full line len)) (sym steps.1)
+    (u.told, filled old picks at after due line len u steps.0 next)
 stopped old new picks at after due ends.NoMemory u steps next = (refused_told old new picks at due u steps, refused old new picks at after due u steps next)
 stopped old new picks at after due ends.Done u steps next = absurd steps
 
@@ -257,11 +285,14 @@ unfolding room
 room_kept log m [] = omega arith
 room_kept log m (x ∷ xs) = by_test (same_line x.def.line m.0) (room_kept log m xs)
   where
-    by_test : (b : Bool) → room log (lines_after m xs) ≤ room log xs → (log - length (cond b (m.1 ∷ x.past) x.past)) + room log (lines_after m xs) ≤ (log - length x.past) + room log xs
+    by_test : (b : Bool) → room log (lines_after m xs) ≤ room log xs
+        → (log - length (cond b (m.1 ∷ x.past) x.past)) + room log (lines_after m xs) ≤ (log - length x.past) + room log
+        xs
     by_test true le = omega (arith, le)
     by_test false le = omega (arith, le)
 
-room_less : (log : ℕ) (m : Move) (lines : List BoardLine) → IsSomeAnd (find_line lines m.0) (λ x. length x.past < log) → room log (lines_after m lines) < room log lines
+room_less : (log : ℕ) (m : Move) (lines : List BoardLine) → IsSomeAnd (find_line lines m.0) (λ x. length x.past < log)
+    → room log (lines_after m lines) < room log lines
 unfolding room
 room_less log m [] h = absurd h
 room_less log m (x ∷ xs) h = by_test (same_line m.0 x.def.line) refl h (room_kept log m xs) (λ h. room_less log m xs h)
@@ -274,11 +305,15 @@ room_less log m (x ∷ xs) h = by_test (same_line m.0 x.def.line) refl h (room_k
     by_moved true same is less le = omega (arith, less, le)
     by_moved false same is less le = both_ways (same_line x.def.line m.0) (same_again same) is
 
-    by_less : (b : Bool) → room log (lines_after m xs) < room log xs → (log - length (cond b (m.1 ∷ x.past) x.past)) + room log (lines_after m xs) < (log - length x.past) + room log xs
+    by_less : (b : Bool) → room log (lines_after m xs) < room log xs
+        → (log - length (cond b (m.1 ∷ x.past) x.past)) + room log (lines_after m xs) < (log - length x.past) + room log
+        xs
     by_less true lt = omega (arith, lt)
     by_less false lt = omega (arith, lt)
 
-    by_test : (b : Bool) → same_line m.0 x.def.line ≡ b → IsSomeAnd (cond b (Some x) (find_line xs m.0)) (λ x. length x.past < log) → room log (lines_after m xs) ≤ room log xs
+    by_test : (b : Bool) → same_line m.0 x.def.line ≡ b
+        → IsSomeAnd (cond b (Some x) (find_line xs m.0)) (λ x. length x.past < log)
+        → room log (lines_after m xs) ≤ room log xs
         → (IsSomeAnd (find_line xs m.0) (λ x. length x.past < log) → room log (lines_after m xs) < room log xs)
         → (log - length (cond (same_line x.def.line m.0) (m.1 ∷ x.past) x.past)) + room log (lines_after m xs) < (log - length x.past) + room log xs
     by_test true same h le deeper = by_moved (same_line x.def.line m.0) same refl h le
@@ -288,7 +323,8 @@ pub room_falls : (old new : SleeperSeen) (due : Option Move) → Made old due ne
 unfolding room_of
 room_falls old new due m =
     subst (λ (n : ℕ). n < room old.system.board.log (board_lines old.system.lines))
-    (ap (λ (ls : List BoardLine). room old.system.board.log ls) (sym m.moves.lines) ∙ ap (λ (b : BoardSeen). room b.log (board_lines new.system.lines)) (sym m.moves.board))
+    (ap (λ (ls : List BoardLine). room old.system.board.log ls) (sym m.moves.lines)
+    ∙ ap (λ (b : BoardSeen). room b.log (board_lines new.system.lines)) (sym m.moves.board))
     (room_less old.system.board.log m.move (board_lines old.system.lines) m.moves.room)
 
 -- ---- a turn, and what is noted of it
@@ -312,11 +348,14 @@ turned old system = record { system = system; watch = old.watch; asleep = old.as
 unturned : (old : SleeperSeen) (system : SystemSeen) (new : SleeperSeen) → system ≡ old.system → new ≡ turned old system → new ≡ old
 unturned old system new same is = is ∙ ap (λ (s : SystemSeen). turned old s) same
 
-abbrev heeded : (old : SleeperSeen) (system : SystemSeen) (new : SleeperSeen) (due : Option Move) (m : Move) → Moves old.system due m system → Heeded (turned old system) new → Made old due new
+abbrev heeded : (old : SleeperSeen) (system : SystemSeen) (new : SleeperSeen) (due : Option Move) (m : Move)
+    → Moves old.system due m system → Heeded (turned old system) new → Made old due new
 heeded old system new due m moves h =
     record { move = m; moves = subst (λ (s : SystemSeen). Moves old.system due m s) (sym h.system) moves; armed = h.armed; asleep = h.asleep; wake = h.wake }
 
-steps_by : (old : SleeperSeen) (system : SystemSeen) (new : SleeperSeen) (due : Option Move) (turn : Turn) (r : Result Bool PlayEnd) → StepsBySystem old.system due turn system → Heeds (turned old system) turn r new → StepsBy old due r new
+steps_by : (old : SleeperSeen) (system : SystemSeen) (new : SleeperSeen) (due : Option Move) (turn : Turn)
+    (r : Result Bool PlayEnd) → StepsBySystem old.system due turn system → Heeds (turned old system) turn r new
+    → StepsBy old due r new
 steps_by old system new due (turns.Moved line e) (Ok true) t h = record { made = heeded old system new due (line, e) t h.0; watch = h.1 }
 steps_by old system new due (turns.Moved line e) (Err ends.NoMemory) t h = inr (heeded old system new due (line, e) t h)
 steps_by old system new due turns.NotYet (Ok false) t h = (t.0, unturned old system new t.1 h)
@@ -339,10 +378,14 @@ steps_by old system new due turns.NoMemory (Ok false) t h = absurd h
 steps_by old system new due turns.NoMemory (Err (ends.Full other n)) t h = absurd h
 steps_by old system new due turns.NoMemory (Err ends.Done) t h = absurd h
 
-pub step_is : (old : SleeperSeen) (system : SystemSeen) (new : SleeperSeen) (a : Actor) (turn : Turn) (r : Result Bool PlayEnd) → Turns old.system a turn system → Heeds (turned old system) turn r new → StepsBy old (move_of old.system a) r new
+pub step_is : (old : SleeperSeen) (system : SystemSeen) (new : SleeperSeen) (a : Actor) (turn : Turn)
+    (r : Result Bool PlayEnd) → Turns old.system a turn system → Heeds (turned old system) turn r new
+    → StepsBy old (move_of old.system a) r new
 step_is old system new a turn r t h = steps_by old system new (move_of old.system a) turn r (by_system old.system system a turn t) h
 
-pub lowest_is : (old : SleeperSeen) (system : SystemSeen) (new : SleeperSeen) (turn : Turn) (r : Result Bool PlayEnd) → TurnsBy old.system (lowest_move old.system) turn system → Heeds (turned old system) turn r new → StepsBy old (lowest_move old.system) r new
+pub lowest_is : (old : SleeperSeen) (system : SystemSeen) (new : SleeperSeen) (turn : Turn) (r : Result Bool PlayEnd)
+    → TurnsBy old.system (lowest_move old.system) turn system → Heeds (turned old system) turn r new
+    → StepsBy old (lowest_move old.system) r new
 lowest_is old system new turn r t h = steps_by old system new (lowest_move old.system) turn r (by_lowest old.system system (lowest_move old.system) turn t) h
 
 -- ---- the lowest thread or processor

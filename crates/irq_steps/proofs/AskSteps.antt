@@ -48,7 +48,8 @@ pub fresh_thread_begin : (d : DevNo) (past : List Entry) → fresh_thread_asks d
 fresh_thread_begin d past = rw (same_self d) refl
 
 -- a serving run that returns leaves what came since it began
-pub unserved_return : (cpu : CpuNo) (d : DevNo) (a : Answer) (n : ℕ) (past : List Entry) → unserved_by kinds.Direct d (entries.Return cpu d a n ∷ past) ≡ fresh_asks d past
+pub unserved_return : (cpu : CpuNo) (d : DevNo) (a : Answer) (n : ℕ) (past : List Entry)
+    → unserved_by kinds.Direct d (entries.Return cpu d a n ∷ past) ≡ fresh_asks d past
 unserved_return cpu d a n past = rw (same_self d) (omega arith)
 
 pub unserved_thread_return : (d : DevNo) (n : ℕ) (past : List Entry) → unserved_by kinds.Check d (entries.ThreadReturn d n ∷ past) ≡ fresh_thread_asks d past

@@ -13,12 +13,16 @@ abbrev pub lowered : List Entry → ℕ
 lowered past = count_of is_lowering (since_place is_reset past)
 
 at_reset : (b : Bool) (e : Entry) (past : List Entry) → b ≡ true
-    → ((base (cond b (e ∷ past) (upto_place is_reset past)) + count_of is_deepening (cond b [] (e ∷ since_place is_reset past))) ≡ cond (is_start e) 0 1) × (count_of is_lowering (cond b [] (e ∷ since_place is_reset past)) ≡ 0)
+    → ((base (cond b (e ∷ past) (upto_place is_reset past)) + count_of is_deepening
+    (cond b [] (e ∷ since_place is_reset past))) ≡ cond (is_start e) 0 1)
+    × (count_of is_lowering (cond b [] (e ∷ since_place is_reset past)) ≡ 0)
 at_reset true e past h = (omega arith, refl)
 at_reset false e past h = cc
 
 at_place : (b : Bool) (e : Entry) (past : List Entry) → b ≡ false
-    → ((base (cond b (e ∷ past) (upto_place is_reset past)) + count_of is_deepening (cond b [] (e ∷ since_place is_reset past))) ≡ base (upto_place is_reset past) + cond (is_deepening e) (count_of is_deepening (since_place is_reset past) + 1) (count_of is_deepening (since_place is_reset past)))
+    → ((base (cond b (e ∷ past) (upto_place is_reset past)) + count_of is_deepening
+    (cond b [] (e ∷ since_place is_reset past))) ≡ base (upto_place is_reset past) + cond (is_deepening e)
+    (count_of is_deepening (since_place is_reset past) + 1) (count_of is_deepening (since_place is_reset past)))
     × (count_of is_lowering (cond b [] (e ∷ since_place is_reset past)) ≡ cond (is_lowering e) (lowered past + 1) (lowered past))
 at_place true e past h = cc
 at_place false e past h = (refl, refl)
@@ -33,7 +37,8 @@ more_by false x n = refl
 
 -- any other entry
 pub raised_more : (e : Entry) (past : List Entry) → is_reset (e ∷ past) ≡ false
-    → (raised (e ∷ past) ≡ cond (is_deepening e) (raised past + 1) (raised past)) × (lowered (e ∷ past) ≡ cond (is_lowering e) (lowered past + 1) (lowered past))
+    → (raised (e ∷ past) ≡ cond (is_deepening e) (raised past + 1) (raised past))
+    × (lowered (e ∷ past) ≡ cond (is_lowering e) (lowered past + 1) (lowered past))
 raised_more e past h =
     let n = at_place (is_reset (e ∷ past)) e past h in
     (n.0 ∙ more_by (is_deepening e) (base (upto_place is_reset past)) (count_of is_deepening (since_place is_reset past)), n.1)

@@ -1,5 +1,7 @@
 -- What one more entry makes of the due call: the call's place, and how many entries it has made.
-use Rattle.std.proofs.Common.{◌≡◌, ℕ, zero, suc, ◌+◌, ◌<◌, ◌≤◌, Bool, true, false, cond, subst, eq-eqb, option_map, Some, List, [], ◌∷◌, ◌++◌, length, drop, filter, slice_get, refl, sym, ap, ◌∙◌, arith, length-append}
+use Rattle.std.proofs.Common.{◌≡◌, ℕ, zero, suc, ◌+◌, ◌<◌, ◌≤◌, Bool, true, false, cond, subst, eq-eqb, option_map}
+use Rattle.std.proofs.Common.{Some, List, [], ◌∷◌, ◌++◌, length, drop, filter, slice_get, refl, sym, ap, ◌∙◌, arith}
+use Rattle.std.proofs.Common.{length-append}
 use Rattle.std.proofs.lemmas.Bool.Decides.{nat_tests}
 use Rattle.std.proofs.lemmas.List.{drop-append-le, drop_all, reverse-append}
 use Rattle.irq_base.specs.declared.calls.Call.{Call}
@@ -90,7 +92,8 @@ pub laid_start : (cs : List Call) → Laid cs [] zero 0
 laid_start [] = (refl, refl)
 laid_start (c ∷ cs) = (refl, each_makes_some c [])
 
-past_one : (c : Call) (es : List Entry) (e : Entry) → entries_of_call c es ≤ length es → drop (entries_of_call c (es ++ e ∷ [])) (es ++ e ∷ []) ≡ drop (entries_of_call c es) es ++ e ∷ []
+past_one : (c : Call) (es : List Entry) (e : Entry) → entries_of_call c es ≤ length es
+    → drop (entries_of_call c (es ++ e ∷ [])) (es ++ e ∷ []) ≡ drop (entries_of_call c es) es ++ e ∷ []
 past_one c es e le =
     let some : 0 < entries_of_call c es = each_makes_some c es in
     ap (λ n. drop n (es ++ e ∷ [])) (makes_as_many c es e (omega arith)) ∙ drop-append-le (entries_of_call c es) es (e ∷ []) le
@@ -104,7 +107,11 @@ still_past c es e le =
 pub laid_more : (cs : List Call) (es : List Entry) (p k : ℕ) (c : Call) (e : Entry) → Laid cs es p k → slice_get cs p ≡ Some c
     → k + 1 < entries_of_call c (part_at cs es p ++ e ∷ []) → Laid cs (es ++ e ∷ []) p (k + 1)
 laid_more [] es p k c e h at lt = cc
-laid_more (d ∷ cs) es zero k c e h at lt = (omega (arith, length-append es (e ∷ []), h.0), subst (λ (x : Call). k + 1 < entries_of_call x (es ++ e ∷ [])) (sym (ap_call d c at)) lt)
+laid_more (d ∷ cs) es zero k c e h at lt = (
+  omega (arith, length-append es (e ∷ []), h.0),
+  subst
+      (λ (x : Call). k + 1 < entries_of_call x (es ++ e ∷ [])) (sym (ap_call d c at)) lt,
+)
 laid_more (d ∷ cs) es (suc p) k c e h at lt =
     let rest : List Entry → Type 0 = λ xs. Laid cs xs p (k + 1) in
     (still_past d es e h.0, subst rest (sym (past_one d es e h.0)) (laid_more cs (drop (entries_of_call d es) es) p k c e h.1 at lt))
@@ -119,7 +126,9 @@ pub laid_done : (cs : List Call) (es : List Entry) (p k : ℕ) (c : Call) (e : E
     → k + 1 ≡ entries_of_call c (part_at cs es p ++ e ∷ []) → Laid cs (es ++ e ∷ []) (suc p) 0
 laid_done [] es p k c e h at eq = cc
 laid_done (d ∷ cs) es zero k c e h at eq =
-    let all : entries_of_call d (es ++ e ∷ []) ≡ length (es ++ e ∷ []) = ap (λ (x : Call). entries_of_call x (es ++ e ∷ [])) (ap_call d c at) ∙ (sym eq ∙ omega (arith, length-append es (e ∷ []), h.0)) in
+    let all : entries_of_call d (es ++ e ∷ []) ≡ length (es ++ e ∷ [])
+    = ap (λ (x : Call). entries_of_call x (es ++ e ∷ [])) (ap_call d c at)
+    ∙ (sym eq ∙ omega (arith, length-append es (e ∷ []), h.0)) in
     laid_next d cs (es ++ e ∷ []) all
 laid_done (d ∷ cs) es (suc p) k c e h at eq =
     let rest : List Entry → Type 0 = λ xs. Laid cs xs (suc p) 0 in
@@ -132,13 +141,16 @@ other_driver_of : (r t u : DriverNo) → u ≡ r → same_driver t r ≡ false �
 other_driver_of r t u e differs = ap (same_driver t) e ∙ differs
 
 -- if all calls are of r, they are its calls in order
-pub all_by : (r : DriverNo) (cs : List (DriverNo × Call)) (p : ℕ) → ((q : ℕ) (c : DriverNo × Call) → slice_get cs q ≡ Some c → c.0 ≡ r) → slice_get (calls_by r cs) p ≡ option_map (λ c. c.1) (slice_get cs p)
+pub all_by : (r : DriverNo) (cs : List (DriverNo × Call)) (p : ℕ)
+    → ((q : ℕ) (c : DriverNo × Call) → slice_get cs q ≡ Some c → c.0 ≡ r)
+    → slice_get (calls_by r cs) p ≡ option_map (λ c. c.1) (slice_get cs p)
 all_by r [] p h = refl
 all_by r (c ∷ cs) zero h = rw (same_driver_of r c.0 (h zero c refl)) refl
 all_by r (c ∷ cs) (suc p) h = rw (same_driver_of r c.0 (h zero c refl)) (all_by r cs p (λ q x is. h (suc q) x is))
 
 -- and another driver has none
-pub none_by : (r t : DriverNo) (cs : List (DriverNo × Call)) → same_driver t r ≡ false → ((q : ℕ) (c : DriverNo × Call) → slice_get cs q ≡ Some c → c.0 ≡ r) → calls_by t cs ≡ []
+pub none_by : (r t : DriverNo) (cs : List (DriverNo × Call)) → same_driver t r ≡ false
+    → ((q : ℕ) (c : DriverNo × Call) → slice_get cs q ≡ Some c → c.0 ≡ r) → calls_by t cs ≡ []
 none_by r t [] differs h = refl
 none_by r t (c ∷ cs) differs h = rw (other_driver_of r t c.0 (h zero c refl) differs) (none_by r t cs differs (λ q x is. h (suc q) x is))
 

@@ -18,12 +18,15 @@ alive E K T = E && (K && not T)
 
 pub still_sent : (r m n t E K T W : Bool) → (not m ≡ true → W ≡ true)
     → (alive E K ((t && shown r m W) || T) && shown r n (not n || W))
-    ≡ (cond n (cond r false (cond t false (alive E K T && shown r m W))) (cond t (alive E K T && not (shown r m W)) ((alive E K T && shown r m W) || (alive E K T && not (shown r m W)))))
+    ≡ (cond n (cond r false (cond t false (alive E K T && shown r m W)))
+    (cond t (alive E K T && not (shown r m W)) ((alive E K T && shown r m W) ||
+    (alive E K T && not (shown r m W)))))
 still_sent r m n t E K T W h = grind arith
 
 pub still_stored : (r m n t E K T W : Bool) → (not m ≡ true → W ≡ true)
     → (alive E K ((t && shown r m W) || T) && not (shown r n (not n || W)))
-    ≡ (cond n (cond r (cond t (alive E K T && not (shown r m W)) ((alive E K T && shown r m W) || (alive E K T && not (shown r m W)))) (alive E K T && not (shown r m W))) false)
+    ≡ (cond n (cond r (cond t (alive E K T && not (shown r m W))
+    ((alive E K T && shown r m W) || (alive E K T && not (shown r m W)))) (alive E K T && not (shown r m W))) false)
 still_stored r m n t E K T W h = grind arith
 
 -- if the line is open, it was open since
@@ -45,10 +48,12 @@ goes_sent r n t s w = cond n (cond r false (cond t false s)) (cond t w (s || w))
 abbrev pub goes_stored : Bool → Bool → Bool → Bool → Bool → Bool
 goes_stored r n t s w = cond n (cond r (cond t w (s || w)) w) false
 
-stays_sent : (E t n m r s w : Bool) → t ≡ false → E ≡ false → n ≡ m → (r ≡ true → m ≡ true → s ≡ false) → (m ≡ false → w ≡ false) → ((E && not n) || goes_sent r n t s w) ≡ s
+stays_sent : (E t n m r s w : Bool) → t ≡ false → E ≡ false → n ≡ m → (r ≡ true → m ≡ true → s ≡ false)
+    → (m ≡ false → w ≡ false) → ((E && not n) || goes_sent r n t s w) ≡ s
 stays_sent E t n m r s w a b c d e = grind arith
 
-stays_stored : (E t n m r k s w : Bool) → t ≡ false → E ≡ false → n ≡ m → (r ≡ true → m ≡ true → s ≡ false) → (m ≡ false → w ≡ false) → ((E && (k && n)) || goes_stored r n t s w) ≡ w
+stays_stored : (E t n m r k s w : Bool) → t ≡ false → E ≡ false → n ≡ m → (r ≡ true → m ≡ true → s ≡ false)
+    → (m ≡ false → w ≡ false) → ((E && (k && n)) || goes_stored r n t s w) ≡ w
 stays_stored E t n m r k s w a b c d e = grind arith
 
 pub new_sent : (r n E k : Bool) → ((E && ((k || not n) && true)) && (not n || (not r && not n))) ≡ (E && not n)
@@ -58,24 +63,33 @@ pub new_stored : (r n E k : Bool) → ((E && ((k || not n) && true)) && not (not
 new_stored r n E k = grind arith
 
 pub sent_more : (def : LineDef) (e : Entry) (past : List Entry)
-    → is_sent def (e ∷ past) ≡ ((is_edge def e && not (is_masked def (e ∷ past))) || goes_sent def.recalls (is_masked def (e ∷ past)) (is_take e) (is_sent def past) (is_stored def past))
+    → is_sent def (e ∷ past) ≡ ((is_edge def e && not (is_masked def (e ∷ past))) || goes_sent def.recalls
+    (is_masked def (e ∷ past)) (is_take e) (is_sent def past) (is_stored def past))
 sent_more def e past =
     let n = is_masked def (e ∷ past) in
     let t = is_take e in
     let X : List Entry → List Entry → Bool = λ a u. is_alive def a u && is_sent_edge def a u in
     let Y : List Entry → List Entry → Bool = λ a u. is_alive def a u && not (is_sent_edge def a u) in
-    let each : some_place (λ a u. X (e ∷ a) u) past ≡ some_place (λ a u. cond n (cond def.recalls false (cond t false (X a u))) (cond t (Y a u) (X a u || Y a u))) past =
+    let each : some_place (λ a u. X (e ∷ a) u) past ≡ some_place
+    (λ a u. cond n (cond def.recalls false (cond t false (X a u))) (cond t (Y a u) (X a u || Y a u))) past =
     some_ext _ _ past (λ a u is.
-    subst (λ (xs : List Entry). X (e ∷ a) u ≡ cond (is_masked def (e ∷ xs)) (cond def.recalls false (cond t false (X a u))) (cond t (Y a u) (X a u || Y a u))) is
-    (still_sent def.recalls (is_masked def (a ++ u)) (is_masked def (e ∷ a ++ u)) t (ends_in_edge def u) (def.keeps || not (is_masked def u)) (is_taken def a u) (was_open def a u) (open_since def a u))) in
+    subst (λ (xs : List Entry). X (e ∷ a) u ≡ cond (is_masked def (e ∷ xs))
+    (cond def.recalls false (cond t false (X a u))) (cond t (Y a u) (X a u || Y a u))) is
+    (still_sent def.recalls (is_masked def (a ++ u)) (is_masked def (e ∷ a ++ u)) t (ends_in_edge def u)
+    (def.keeps || not (is_masked def u)) (is_taken def a u) (was_open def a u) (open_since def a u))) in
     let all : some_place (λ a u. X (e ∷ a) u) past ≡ goes_sent def.recalls n t (some_place X past) (some_place Y past) =
     each ∙ some_cond n _ _ past
-    ∙ ap (λ b. cond n b (some_place (λ a u. cond t (Y a u) (X a u || Y a u)) past)) (some_cond def.recalls _ _ past ∙ ap (λ b. cond def.recalls b (some_place (λ a u. cond t false (X a u)) past)) (some_none past) ∙ ap (λ b. cond def.recalls false b) (some_cond t _ _ past ∙ ap (λ b. cond t b (some_place X past)) (some_none past)))
-    ∙ ap (λ b. cond n (cond def.recalls false (cond t false (some_place X past))) b) (some_cond t _ _ past ∙ ap (λ b. cond t (some_place Y past) b) (some_or X Y past)) in
+    ∙ ap (λ b. cond n b (some_place (λ a u. cond t (Y a u) (X a u || Y a u)) past))
+    (some_cond def.recalls _ _ past ∙ ap (λ b. cond def.recalls b (some_place (λ a u. cond t false (X a u)) past))
+    (some_none past) ∙ ap (λ b. cond def.recalls false b)
+    (some_cond t _ _ past ∙ ap (λ b. cond t b (some_place X past)) (some_none past)))
+    ∙ ap (λ b. cond n (cond def.recalls false (cond t false (some_place X past))) b)
+    (some_cond t _ _ past ∙ ap (λ b. cond t (some_place Y past) b) (some_or X Y past)) in
     ap (λ b. b || some_place (λ a u. X (e ∷ a) u) past) (new_sent def.recalls n (is_edge def e) def.keeps) ∙ ap (λ b. (is_edge def e && not n) || b) all
 
 pub stored_more : (def : LineDef) (e : Entry) (past : List Entry)
-    → is_stored def (e ∷ past) ≡ ((is_edge def e && (def.keeps && is_masked def (e ∷ past))) || goes_stored def.recalls (is_masked def (e ∷ past)) (is_take e) (is_sent def past) (is_stored def past))
+    → is_stored def (e ∷ past) ≡ ((is_edge def e && (def.keeps && is_masked def (e ∷ past))) || goes_stored def.recalls
+    (is_masked def (e ∷ past)) (is_take e) (is_sent def past) (is_stored def past))
 stored_more def e past =
     let n = is_masked def (e ∷ past) in
     let t = is_take e in
@@ -84,23 +98,30 @@ stored_more def e past =
     let each : some_place (λ a u. Y (e ∷ a) u) past ≡ some_place (λ a u. cond n (cond def.recalls (cond t (Y a u) (X a u || Y a u)) (Y a u)) false) past =
     some_ext _ _ past (λ a u is.
     subst (λ (xs : List Entry). Y (e ∷ a) u ≡ cond (is_masked def (e ∷ xs)) (cond def.recalls (cond t (Y a u) (X a u || Y a u)) (Y a u)) false) is
-    (still_stored def.recalls (is_masked def (a ++ u)) (is_masked def (e ∷ a ++ u)) t (ends_in_edge def u) (def.keeps || not (is_masked def u)) (is_taken def a u) (was_open def a u) (open_since def a u))) in
+    (still_stored def.recalls (is_masked def (a ++ u)) (is_masked def (e ∷ a ++ u)) t (ends_in_edge def u)
+    (def.keeps || not (is_masked def u)) (is_taken def a u) (was_open def a u) (open_since def a u))) in
     let all : some_place (λ a u. Y (e ∷ a) u) past ≡ goes_stored def.recalls n t (some_place X past) (some_place Y past) =
     each ∙ some_cond n _ _ past
-    ∙ ap (λ b. cond n b (some_place (λ a u. false) past)) (some_cond def.recalls _ _ past ∙ ap (λ b. cond def.recalls b (some_place Y past)) (some_cond t _ _ past ∙ ap (λ b. cond t (some_place Y past) b) (some_or X Y past)))
+    ∙ ap (λ b. cond n b (some_place (λ a u. false) past))
+    (some_cond def.recalls _ _ past ∙ ap (λ b. cond def.recalls b (some_place Y past))
+    (some_cond t _ _ past ∙ ap (λ b. cond t (some_place Y past) b) (some_or X Y past)))
     ∙ ap (λ b. cond n (cond def.recalls (cond t (some_place Y past) (some_place X past || some_place Y past)) (some_place Y past)) b) (some_none past) in
-    ap (λ b. b || some_place (λ a u. Y (e ∷ a) u) past) (new_stored def.recalls n (is_edge def e) def.keeps) ∙ ap (λ b. (is_edge def e && (def.keeps && n)) || b) all
+    ap (λ b. b || some_place (λ a u. Y (e ∷ a) u) past) (new_stored def.recalls n (is_edge def e) def.keeps)
+    ∙ ap (λ b. (is_edge def e && (def.keeps && n)) || b) all
 
 -- what is presented on a masked line that recalls: nothing
 pub none_sent : (def : LineDef) (past : List Entry) → def.recalls ≡ true → is_masked def past ≡ true → is_sent def past ≡ false
 none_sent def past recalls shut =
-    some_ext _ (λ a u. false) past (λ a u is. hidden (ends_in_edge def u) (def.keeps || not (is_masked def u)) (is_taken def a u) (was_open def a u) def.recalls (is_masked def (a ++ u)) recalls (ap (is_masked def) is ∙ shut))
+    some_ext _ (λ a u. false) past (λ a u is. hidden (ends_in_edge def u) (def.keeps || not (is_masked def u))
+    (is_taken def a u) (was_open def a u) def.recalls (is_masked def (a ++ u)) recalls
+    (ap (is_masked def) is ∙ shut))
     ∙ some_none past
 
 -- what is kept on an open line: nothing
 pub none_stored : (def : LineDef) (past : List Entry) → is_masked def past ≡ false → is_stored def past ≡ false
 none_stored def past is_open =
-    some_ext _ (λ a u. false) past (λ a u is. seen (ends_in_edge def u) (def.keeps || not (is_masked def u)) (is_taken def a u) (was_open def a u) def.recalls (is_masked def (a ++ u)) (ap (is_masked def) is ∙ is_open))
+    some_ext _ (λ a u. false) past (λ a u is. seen (ends_in_edge def u) (def.keeps || not (is_masked def u))
+    (is_taken def a u) (was_open def a u) def.recalls (is_masked def (a ++ u)) (ap (is_masked def) is ∙ is_open))
     ∙ some_none past
 
 -- an entry that is no take and no edge, and leaves the line masked or open as it was, leaves the
@@ -108,9 +129,13 @@ none_stored def past is_open =
 pub sent_quiet : (def : LineDef) (e : Entry) (past : List Entry) → is_take e ≡ false → is_edge def e ≡ false → is_masked def (e ∷ past) ≡ is_masked def past
     → is_sent def (e ∷ past) ≡ is_sent def past
 sent_quiet def e past no_take no_edge same =
-    sent_more def e past ∙ stays_sent (is_edge def e) (is_take e) (is_masked def (e ∷ past)) (is_masked def past) def.recalls (is_sent def past) (is_stored def past) no_take no_edge same (none_sent def past) (none_stored def past)
+    sent_more def e past ∙ stays_sent (is_edge def e) (is_take e) (is_masked def (e ∷ past)) (is_masked def past)
+    def.recalls (is_sent def past) (is_stored def past) no_take no_edge same (none_sent def past)
+    (none_stored def past)
 
 pub stored_quiet : (def : LineDef) (e : Entry) (past : List Entry) → is_take e ≡ false → is_edge def e ≡ false → is_masked def (e ∷ past) ≡ is_masked def past
     → is_stored def (e ∷ past) ≡ is_stored def past
 stored_quiet def e past no_take no_edge same =
-    stored_more def e past ∙ stays_stored (is_edge def e) (is_take e) (is_masked def (e ∷ past)) (is_masked def past) def.recalls def.keeps (is_sent def past) (is_stored def past) no_take no_edge same (none_sent def past) (none_stored def past)
+    stored_more def e past ∙ stays_stored (is_edge def e) (is_take e) (is_masked def (e ∷ past)) (is_masked def past)
+    def.recalls def.keeps (is_sent def past) (is_stored def past) no_take no_edge same (none_sent def past)
+    (none_stored def past)

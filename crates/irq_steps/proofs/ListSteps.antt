@@ -22,7 +22,8 @@ refused s l = grind arith
 not_there : (s l : Bool) → (false || (not (s && false) && l)) ≡ l
 not_there s l = grind arith
 
-pub linked_refused : (r : DriverNo) (d : DevNo) (flags : Flags) (error : Errno) (o : Opened) (past : List Entry) → linked (entries.Request r d flags (links.Refused error) o ∷ past) ≡ linked past
+pub linked_refused : (r : DriverNo) (d : DevNo) (flags : Flags) (error : Errno) (o : Opened) (past : List Entry)
+    → linked (entries.Request r d flags (links.Refused error) o ∷ past) ≡ linked past
 linked_refused r d flags error o past = filter_same _ _ (requested past) (λ x. refused (same_dev x d) (is_linked past x))
 
 pub linked_not_there : (r : DriverNo) (d : DevNo) (past : List Entry) → linked (entries.Unlink r d unlinks.NotThere ∷ past) ≡ linked past
@@ -76,13 +77,16 @@ pub requested_once : (d : DevNo) (past : List Entry) → count_of (same_dev d) (
 requested_once d [] = omega arith
 requested_once d (entries.Request r x flags links.Linked o ∷ past) = by_test (same_dev d x) refl (requested_once d past)
   where
-    last : count_of (same_dev d) (filter (λ y. not (same_dev y x)) (requested past) ++ x ∷ []) ≡ count_of (same_dev d) (filter (λ y. not (same_dev y x)) (requested past)) + cond (same_dev d x) 1 0
+    last : count_of (same_dev d) (filter (λ y. not (same_dev y x)) (requested past) ++ x ∷ [])
+        ≡ count_of (same_dev d) (filter (λ y. not (same_dev y x)) (requested past)) + cond (same_dev d x) 1 0
     last = count_last (same_dev d) (filter (λ y. not (same_dev y x)) (requested past)) x
 
-    by_test : (b : Bool) → same_dev d x ≡ b → count_of (same_dev d) (requested past) ≤ 1 → count_of (same_dev d) (filter (λ y. not (same_dev y x)) (requested past) ++ x ∷ []) ≤ 1
+    by_test : (b : Bool) → same_dev d x ≡ b → count_of (same_dev d) (requested past) ≤ 1
+        → count_of (same_dev d) (filter (λ y. not (same_dev y x)) (requested past) ++ x ∷ []) ≤ 1
     by_test true is h =
         let equal = dev_from_same d x is in
-        let none = subst (λ (z : DevNo). count_of (same_dev d) (filter (λ y. not (same_dev y z)) (requested past)) ≡ 0) equal (count_without d (requested past)) in
+        let none = subst (λ (z : DevNo). count_of (same_dev d) (filter (λ y. not (same_dev y z)) (requested past)) ≡ 0)
+        equal (count_without d (requested past)) in
         let one : ◌≡◌ {A = ℕ} (cond (same_dev d x) 1 0) 1 = ap (λ (b : Bool). cond {A = ℕ} b 1 0) is in
         omega (arith, last, none, one)
     by_test false is h =

@@ -20,8 +20,11 @@ module _ {A : Type 0} where
   pub some_or : (P Q : List A → List A → Bool) (past : List A) → some_place (λ a u. P a u || Q a u) past ≡ (some_place P past || some_place Q past)
   some_or P Q [] = refl
   some_or P Q (e ∷ past) =
-      rw (some_or (λ a u. P (e ∷ a) u) (λ a u. Q (e ∷ a) u) past) (or_mixed (P [] (e ∷ past)) (Q [] (e ∷ past)) (some_place (λ a u. P (e ∷ a) u) past) (some_place (λ a u. Q (e ∷ a) u) past))
+      rw (some_or (λ a u. P (e ∷ a) u) (λ a u. Q (e ∷ a) u) past)
+      (or_mixed (P [] (e ∷ past)) (Q [] (e ∷ past)) (some_place (λ a u. P (e ∷ a) u) past)
+      (some_place (λ a u. Q (e ∷ a) u) past))
 
-  pub some_cond : (b : Bool) (P Q : List A → List A → Bool) (past : List A) → some_place (λ a u. cond b (P a u) (Q a u)) past ≡ cond b (some_place P past) (some_place Q past)
+  pub some_cond : (b : Bool) (P Q : List A → List A → Bool) (past : List A)
+      → some_place (λ a u. cond b (P a u) (Q a u)) past ≡ cond b (some_place P past) (some_place Q past)
   some_cond true P Q past = refl
   some_cond false P Q past = refl

@@ -15,5 +15,6 @@ sets_not def (entries.Take cpu way answer) h = cc
 sets_not def e h = no_busy (is_edge_line def)
 
 -- an entry that is no take: pending is what was pending and isn't cleared
-pub pending_by_clearing : (def : LineDef) (e : Entry) (past : List Entry) → is_take e ≡ false → is_pending def (e ∷ past) ≡ (not (clears_pending e) && is_pending def past)
+pub pending_by_clearing : (def : LineDef) (e : Entry) (past : List Entry) → is_take e ≡ false
+    → is_pending def (e ∷ past) ≡ (not (clears_pending e) && is_pending def past)
 pending_by_clearing def e past no_take = ap (λ (b : Bool). b || (not (clears_pending e) && is_pending def past)) (sets_not def e no_take)

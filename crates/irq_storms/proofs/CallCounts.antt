@@ -64,7 +64,8 @@ driver_key (entries.Moment driver at) = driver.0
 driver_key _ = 0
 
 -- a test of drivers' entries, and how often a call meets it at most
-module _ (p : Entry → Bool) (w : Call → ℕ) (by_driver : (e : Entry) → p e ≡ true → is_by_any_driver e ≡ true) (most : (c : Call) (es : List Entry) → MakesAll c es → count_of p es ≤ w c) where
+module _ (p : Entry → Bool) (w : Call → ℕ) (by_driver : (e : Entry) → p e ≡ true → is_by_any_driver e ≡ true)
+    (most : (c : Call) (es : List Entry) → MakesAll c es → count_of p es ≤ w c) where
   made_count : (cs : List Call) (es : List Entry) → AreMadeBy cs es → count_of p es ≤ total w cs
   made_count [] es h = let n : count_of p es ≡ 0 = ap (λ (l : List Entry). count_of p l) h in omega (arith, n)
   made_count (c ∷ cs) es (inl made) =
@@ -82,7 +83,9 @@ module _ (p : Entry → Bool) (w : Call → ℕ) (by_driver : (e : Entry) → p 
   weights_by r [] = refl
   weights_by r (c ∷ cs) = by_test (same_driver r c.0) (weights_by r cs)
     where
-      by_test : (b : Bool) → total w (calls_by r cs) ≡ total_at (λ c. c.0.0) (λ c. w c.1) r.0 cs → total w (cond b (c.1 ∷ calls_by r cs) (calls_by r cs)) ≡ cond b (w c.1) 0 + total_at (λ c. c.0.0) (λ c. w c.1) r.0 cs
+      by_test : (b : Bool) → total w (calls_by r cs) ≡ total_at (λ c. c.0.0) (λ c. w c.1) r.0 cs
+          → total w (cond b (c.1 ∷ calls_by r cs) (calls_by r cs))
+          ≡ cond b (w c.1) 0 + total_at (λ c. c.0.0) (λ c. w c.1) r.0 cs
       by_test true h = omega (arith, h)
       by_test false h = omega (arith, h)
 
@@ -108,7 +111,8 @@ module _ (p : Entry → Bool) (w : Call → ℕ) (by_driver : (e : Entry) → p 
   at_driver k (entries.Done dev) = no_driver _ _ _ (by_driver (entries.Done dev))
   at_driver k e = one_driver (p e) (k == driver_key e)
 
-  of_driver : (def : LineDef) (past : List Entry) → FollowsScriptsPast def past → (k : ℕ) → total_at driver_key (λ e. one_if (p e)) k past ≤ total_at (λ c. c.0.0) (λ c. w c.1) k def.calls
+  of_driver : (def : LineDef) (past : List Entry) → FollowsScriptsPast def past → (k : ℕ)
+      → total_at driver_key (λ e. one_if (p e)) k past ≤ total_at (λ c. c.0.0) (λ c. w c.1) k def.calls
   of_driver def past follows k =
       let r : DriverNo = record { 0 = k } in
       let made : count_of p (entries_by r past) ≤ total w (calls_by r def.calls) = made_count (calls_by r def.calls) (entries_by r past) (follows r) in
@@ -188,7 +192,8 @@ renewal_by_driver e h = cc
 
 -- ---- the weights of all calls
 
-all_weights : (cs : List (DriverNo × Call)) → total (λ c. most_entries c.1) cs ≡ count_of (λ c. is_ask_call c.1) cs + 3 * count_of (λ c. not (is_ask_call c.1)) cs
+all_weights : (cs : List (DriverNo × Call)) → total (λ c. most_entries c.1) cs
+    ≡ count_of (λ c. is_ask_call c.1) cs + 3 * count_of (λ c. not (is_ask_call c.1)) cs
 all_weights [] = refl
 all_weights (c ∷ cs) = by_call c.1 (all_weights cs)
   where
@@ -200,7 +205,9 @@ all_weights (c ∷ cs) = by_call c.1 (all_weights cs)
 
     by_call : (x : Call) → total (λ c. most_entries c.1) cs ≡ count_of (λ c. is_ask_call c.1) cs + 3 * count_of (λ c. not (is_ask_call c.1)) cs
         → most_entries x + total (λ c. most_entries c.1) cs
-        ≡ cond (is_ask_call x) (count_of (λ c. is_ask_call c.1) cs + 1) (count_of (λ c. is_ask_call c.1) cs) + 3 * cond (not (is_ask_call x)) (count_of (λ c. not (is_ask_call c.1)) cs + 1) (count_of (λ c. not (is_ask_call c.1)) cs)
+        ≡ cond (is_ask_call x) (count_of (λ c. is_ask_call c.1) cs + 1) (count_of (λ c. is_ask_call c.1) cs) + 3 * cond
+        (not (is_ask_call x)) (count_of (λ c. not (is_ask_call c.1)) cs + 1)
+        (count_of (λ c. not (is_ask_call c.1)) cs)
     by_call (calls.Ask d) h = by_ask _ _ _ h
     by_call (calls.Request d flags) h = by_other _ _ _ h
     by_call (calls.Free d) h = by_other _ _ _ h

@@ -37,7 +37,8 @@ module _ {A : Type 0} where
   count_imply p q [] h = omega arith
   count_imply p q (x ∷ xs) h = by_test (p x) (q x) (h x) (count_imply p q xs h)
     where
-      by_test : (b c : Bool) → (b ≡ true → c ≡ true) → count_of p xs ≤ count_of q xs → cond b (count_of p xs + 1) (count_of p xs) ≤ cond c (count_of q xs + 1) (count_of q xs)
+      by_test : (b c : Bool) → (b ≡ true → c ≡ true) → count_of p xs ≤ count_of q xs
+          → cond b (count_of p xs + 1) (count_of p xs) ≤ cond c (count_of q xs + 1) (count_of q xs)
       by_test true true i k = omega (arith, k)
       by_test true false i k = let n = i refl in cc
       by_test false true i k = omega (arith, k)
@@ -115,9 +116,11 @@ module _ {A : Type 0} (key : A → ℕ) (xs : List A) where
   at_key p k = count_total _ xs ∙ total_ext _ _ xs (λ x. if_both (k == key x) (p x))
 
   -- the same of counts over one list
-  pub counts_by_key : (p q : A → Bool) → ((k : ℕ) → count_of (λ x. p x && (k == key x)) xs ≤ count_of (λ x. q x && (k == key x)) xs) → count_of p xs ≤ count_of q xs
+  pub counts_by_key : (p q : A → Bool) → ((k : ℕ) → count_of (λ x. p x && (k == key x)) xs ≤ count_of
+      (λ x. q x && (k == key x)) xs) → count_of p xs ≤ count_of q xs
   counts_by_key p q h =
-      let r = totals_by_key key (λ x. one_if (p x)) xs key (λ x. one_if (q x)) xs (λ k. let a = at_key p k in let b = at_key q k in let here = h k in omega (arith, a, b, here)) in
+      let r = totals_by_key key (λ x. one_if (p x)) xs key (λ x. one_if (q x)) xs
+      (λ k. let a = at_key p k in let b = at_key q k in let here = h k in omega (arith, a, b, here)) in
       let a = count_total p xs in
       let b = count_total q xs in
       omega (arith, a, b, r)

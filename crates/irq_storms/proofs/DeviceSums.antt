@@ -28,7 +28,8 @@ use Rattle.irq_storms.proofs.ServedCounts.{served_exactly, key_ask}
 -- ---- sums that agree at each key
 
 module _ {A B C : Type 0} (ka : A → ℕ) (va : A → ℕ) (xs : List A) (kb : B → ℕ) (vb : B → ℕ) (ys : List B) (kc : C → ℕ) (vc : C → ℕ) (zs : List C) where
-  sums_below : (m : ℕ) → ((k : ℕ) → total_at ka va k xs + total_at kb vb k ys ≡ total_at kc vc k zs) → total_below ka va m xs + total_below kb vb m ys ≡ total_below kc vc m zs
+  sums_below : (m : ℕ) → ((k : ℕ) → total_at ka va k xs + total_at kb vb k ys ≡ total_at kc vc k zs)
+      → total_below ka va m xs + total_below kb vb m ys ≡ total_below kc vc m zs
   sums_below zero h = let a = below_zero ka va xs in let b = below_zero kb vb ys in let c = below_zero kc vc zs in omega (arith, a, b, c)
   sums_below (suc m) h =
       let a = below_more ka va m xs in
@@ -68,11 +69,14 @@ absent f d (x ∷ xs) h =
     let r = absent f d xs p.1 in
     omega (arith, a, r)
 
-present : (f : DevNo → ℕ) (d : DevNo) (xs : List DeviceDef) → HasDistinctDevices xs → list_any (is_device d) xs ≡ true → total_at number (λ x. f x.dev) d.0 xs ≡ f d
+present : (f : DevNo → ℕ) (d : DevNo) (xs : List DeviceDef) → HasDistinctDevices xs → list_any (is_device d) xs ≡ true
+    → total_at number (λ x. f x.dev) d.0 xs ≡ f d
 present f d [] apart h = cc
 present f d (x ∷ xs) apart h = by_test (is_device d x) refl h (λ t. present f d xs apart.1 t)
   where
-    by_test : (b : Bool) → is_device d x ≡ b → (b || list_any (is_device d) xs) ≡ true → (list_any (is_device d) xs ≡ true → total_at number (λ x. f x.dev) d.0 xs ≡ f d) → cond b (f x.dev) 0 + total_at number (λ x. f x.dev) d.0 xs ≡ f d
+    by_test : (b : Bool) → is_device d x ≡ b → (b || list_any (is_device d) xs) ≡ true
+        → (list_any (is_device d) xs ≡ true → total_at number (λ x. f x.dev) d.0 xs ≡ f d)
+        → cond b (f x.dev) 0 + total_at number (λ x. f x.dev) d.0 xs ≡ f d
     by_test true is any deeper =
         let same = dev_from_same d x.dev is in
         let none = absent f d xs (subst (λ (y : DevNo). list_any (is_device y) xs ≡ false) (sym same) apart.0) in
@@ -82,13 +86,16 @@ present f d (x ∷ xs) apart h = by_test (is_device d x) refl h (λ t. present f
 
 -- ---- an ask names a device of the line
 
-ask_named : (def : LineDef) (d : DevNo) (e : Entry) (past : List Entry) → IsValid def → IsDue def e past → is_ask d e ≡ true → list_any (is_device d) def.devices ≡ true
+ask_named : (def : LineDef) (d : DevNo) (e : Entry) (past : List Entry) → IsValid def → IsDue def e past
+    → is_ask d e ≡ true → list_any (is_device d) def.devices ≡ true
 ask_named def d (entries.Ask r x) past valid due h =
     let u = ask_due def r x past due in
-    subst (λ (y : DevNo). list_any (is_device y) def.devices ≡ true) (sym (dev_from_same d x h)) (due_passes (names_one_of def.devices) r def.calls (entries_by r past) (calls.Ask x) u.count valid.calls u.call)
+    subst (λ (y : DevNo). list_any (is_device y) def.devices ≡ true) (sym (dev_from_same d x h))
+    (due_passes (names_one_of def.devices) r def.calls (entries_by r past) (calls.Ask x) u.count valid.calls u.call)
 ask_named def d e past valid due h = cc
 
-no_asks : (def : LineDef) (d : DevNo) (past : List Entry) → IsValid def → IsLegalPast def past → list_any (is_device d) def.devices ≡ false → count_of (is_ask d) past ≡ 0
+no_asks : (def : LineDef) (d : DevNo) (past : List Entry) → IsValid def → IsLegalPast def past
+    → list_any (is_device d) def.devices ≡ false → count_of (is_ask d) past ≡ 0
 no_asks def d [] valid legal none = refl
 no_asks def d (e ∷ past) valid legal none =
     let m = count_more (is_ask d) e past in
@@ -96,10 +103,12 @@ no_asks def d (e ∷ past) valid legal none =
     let n : one_if (is_ask d e) ≡ 0 = ap one_if (false_from_ne_true (is_ask d e) (λ h. both_ways _ (ask_named def d e past valid legal.0 h) none)) in
     omega (arith, m, r, n)
 
-unserved_at : (def : LineDef) (d : DevNo) (past : List Entry) → IsValid def → IsLegalPast def past → total_at number (λ x. unserved_asks def x.dev past) d.0 def.devices ≡ unserved_asks def d past
+unserved_at : (def : LineDef) (d : DevNo) (past : List Entry) → IsValid def → IsLegalPast def past
+    → total_at number (λ x. unserved_asks def x.dev past) d.0 def.devices ≡ unserved_asks def d past
 unserved_at def d past valid legal = by_test (list_any (is_device d) def.devices) refl
   where
-    by_test : (b : Bool) → list_any (is_device d) def.devices ≡ b → total_at number (λ x. unserved_asks def x.dev past) d.0 def.devices ≡ unserved_asks def d past
+    by_test : (b : Bool) → list_any (is_device d) def.devices ≡ b
+        → total_at number (λ x. unserved_asks def x.dev past) d.0 def.devices ≡ unserved_asks def d past
     by_test true is = present (λ y. unserved_asks def y past) d def.devices valid.distinct is
     by_test false is =
         let a = absent (λ y. unserved_asks def y past) d def.devices is in
@@ -118,13 +127,15 @@ key_served k (entries.Return cpu dev answer served) = refl
 key_served k (entries.ThreadReturn dev served) = refl
 key_served k e = no_weight (k == dev_key e)
 
-pub served_of_all : (def : LineDef) (past : List Entry) → IsValid def → IsLegalPast def past → total all_served past + total (λ x. unserved_asks def x.dev past) def.devices ≡ count_of is_any_ask past
+pub served_of_all : (def : LineDef) (past : List Entry) → IsValid def → IsLegalPast def past
+    → total all_served past + total (λ x. unserved_asks def x.dev past) def.devices ≡ count_of is_any_ask past
 served_of_all def past valid legal =
     let sums = sums_by_key dev_key all_served past number (λ x. unserved_asks def x.dev past) def.devices dev_key (λ e. one_if (is_any_ask e)) past each in
     let asks = count_total is_any_ask past in
     omega (arith, sums, asks)
   where
-    each : (k : ℕ) → total_at dev_key all_served k past + total_at number (λ x. unserved_asks def x.dev past) k def.devices ≡ total_at dev_key (λ e. one_if (is_any_ask e)) k past
+    each : (k : ℕ) → total_at dev_key all_served k past + total_at number (λ x. unserved_asks def x.dev past) k
+        def.devices ≡ total_at dev_key (λ e. one_if (is_any_ask e)) k past
     each k =
         let d : DevNo = record { 0 = k } in
         let s : total_at dev_key all_served k past ≡ total (asks_served d) past = total_ext _ _ past (key_served k) in

@@ -13,7 +13,9 @@ use Rattle.irq_base.specs.declared.entries.Resend.TheVariants as resends
 use Rattle.irq_base.specs.declared.entries.Opened.{Opened}
 use Rattle.irq_base.specs.declared.entries.Opened.TheVariants as opens
 use Rattle.irq_model.specs.Places.{count_of, last_of}
-use Rattle.irq_model.specs.Kinds.{opened_of, is_started_opened, is_chip_opened, is_soft_opened, is_take, is_line_take, is_resend_take, is_handle, is_busy, is_off, is_again, is_any_ask, is_start, is_chip_start, is_soft_start}
+use Rattle.irq_model.specs.Kinds.{opened_of, is_started_opened, is_chip_opened, is_soft_opened, is_take, is_line_take}
+use Rattle.irq_model.specs.Kinds.{is_resend_take, is_handle, is_busy, is_off, is_again, is_any_ask, is_start}
+use Rattle.irq_model.specs.Kinds.{is_chip_start, is_soft_start}
 use Rattle.irq_model.specs.Lines.{is_edge_line, is_eoi_flow}
 use Rattle.irq_model.specs.Links.{is_disabled, is_none_linked}
 use Rattle.irq_model.specs.Rounds.{closes, begins_round, cpu_of_handle, flow, has_flow}
@@ -66,7 +68,9 @@ no_end def e h = refl
 pub rounds_by_entry : (def : LineDef) (past : List Entry) → count_of (begins_round def) past ≡ count_of is_handle past + count_of (goes_on def) past
 rounds_by_entry def [] = refl
 rounds_by_entry def (e ∷ past) =
-    summed _ _ _ _ _ _ _ _ _ (count_more (begins_round def) e past) (count_more is_handle e past) (count_more (goes_on def) e past) (rounds_by_entry def past) (round_marks (is_handle e) (goes_on def e) (no_end def e))
+    summed _ _ _ _ _ _ _ _ _ (count_more (begins_round def) e past) (count_more is_handle e past)
+    (count_more (goes_on def) e past) (rounds_by_entry def past)
+    (round_marks (is_handle e) (goes_on def e) (no_end def e))
   where
     summed : (r' h' g' r h g x y z : ℕ) → r' ≡ r + x → h' ≡ h + y → g' ≡ g + z → r ≡ h + g → x ≡ y + z → r' ≡ h' + g'
     summed r' h' g' r h g x y z a b c d e = omega (arith, a, b, c, d, e)
@@ -77,7 +81,8 @@ again_marks a f = grind arith
 agains_by_flow : (def : LineDef) (past : List Entry) → count_of is_again past ≡ count_of (goes_on def) past + count_of (retriggers def) past
 agains_by_flow def [] = refl
 agains_by_flow def (e ∷ past) =
-    summed _ _ _ _ _ _ _ _ _ (count_more is_again e past) (count_more (goes_on def) e past) (count_more (retriggers def) e past) (agains_by_flow def past) (again_marks (is_again e) (is_eoi_flow def.flow))
+    summed _ _ _ _ _ _ _ _ _ (count_more is_again e past) (count_more (goes_on def) e past)
+    (count_more (retriggers def) e past) (agains_by_flow def past) (again_marks (is_again e) (is_eoi_flow def.flow))
   where
     summed : (r' h' g' r h g x y z : ℕ) → r' ≡ r + x → h' ≡ h + y → g' ≡ g + z → r ≡ h + g → x ≡ y + z → r' ≡ h' + g'
     summed r' h' g' r h g x y z a b c d e = omega (arith, a, b, c, d, e)
@@ -93,7 +98,8 @@ resend_marks (opens.Started resends.Soft) = omega arith
 resends_past : (past : List Entry) → count_of is_chip_start past + count_of is_soft_start past ≤ count_of is_start past
 resends_past [] = omega arith
 resends_past (e ∷ past) =
-    summed _ _ _ _ _ _ _ _ _ (count_more is_chip_start e past) (count_more is_soft_start e past) (count_more is_start e past) (resends_past past) (resend_marks (opened_of e))
+    summed _ _ _ _ _ _ _ _ _ (count_more is_chip_start e past) (count_more is_soft_start e past)
+    (count_more is_start e past) (resends_past past) (resend_marks (opened_of e))
   where
     summed : (r' h' g' r h g x y z : ℕ) → r' ≡ r + x → h' ≡ h + y → g' ≡ g + z → r + h ≤ g → x + y ≤ z → r' + h' ≤ g'
     summed r' h' g' r h g x y z a b c d e = omega (arith, a, b, c, d, e)
@@ -161,12 +167,16 @@ pend_more def (entries.End c true unmask note) past due =
     both a b h i = grind arith
 pend_more def (entries.End c false unmask note) past due = let m = closed (is_eoi_flow def.flow) in omega (arith, m)
   where
-    closed : (b : Bool) → one_if (is_some (cpu_of_handle (cond (false || (true || (b && false))) (Some (entries.End c false unmask note)) (last_of (λ e. is_handle e || closes def e) past))) && is_pending def (entries.End c false unmask note ∷ past)) ≡ 0
+    closed : (b : Bool) → one_if (is_some (cpu_of_handle
+        (cond (false || (true || (b && false))) (Some (entries.End c false unmask note))
+        (last_of (λ e. is_handle e || closes def e) past))) && is_pending def (entries.End c false unmask note ∷ past))
+        ≡ 0
     closed b = refl
 pend_more def e past due =
     let same : has_flow def (e ∷ past) ≡ has_flow def past = ap is_some (flow_quiet def e past refl refl refl) in
     let m = kept_mark (has_flow def past) (is_edge_line def) (clears_pending e) (is_pending def past) in
-    let s : one_if (goes_on_later def (e ∷ past)) ≡ one_if (has_flow def past && is_pending def (e ∷ past)) = ap (λ (f : Bool). one_if (f && is_pending def (e ∷ past))) same in
+    let s : one_if (goes_on_later def (e ∷ past)) ≡ one_if (has_flow def past && is_pending def (e ∷ past))
+    = ap (λ (f : Bool). one_if (f && is_pending def (e ∷ past))) same in
     omega (arith, m, s)
 
 pub agains_past : (def : LineDef) (past : List Entry) → IsLegalPast def past → count_of is_again past + one_if (goes_on_later def past) ≤ count_of is_busy past
@@ -198,7 +208,8 @@ edge_counts def past legal by_line by_resend =
     let both = plain _ _ _ _ _ _ _ _ _ _ _ _ _ _ _ _ answers ways rounds agains busy ends all_rounds resent starts asks by_line by_resend in
     record { rounds = both.0; takes = both.1 }
   where
-    plain : (t h b o l r w g x ag en f ch so st a : ℕ) → t ≡ h + b + o → t ≡ l + r → w ≡ h + g → ag ≡ g + x → ag ≤ b → ag ≤ en → w ≡ en + f → ch + so ≤ st → st ≤ other_calls def → a ≤ ask_calls def
+    plain : (t h b o l r w g x ag en f ch so st a : ℕ) → t ≡ h + b + o → t ≡ l + r → w ≡ h + g → ag ≡ g + x → ag ≤ b
+        → ag ≤ en → w ≡ en + f → ch + so ≤ st → st ≤ other_calls def → a ≤ ask_calls def
         → l ≤ a + ch + x → r ≤ so → (w ≤ ask_calls def + other_calls def) × (t ≤ 2 * (ask_calls def + other_calls def))
     plain t h b o l r w g x ag en f ch so st a p1 p2 p3 p4 p5 p6 p7 p8 p9 p10 p11 p12 =
         (omega (arith, p1, p2, p3, p4, p5, p6, p7, p8, p9, p10, p11, p12), omega (arith, p1, p2, p3, p4, p5, p6, p7, p8, p9, p10, p11, p12))

@@ -20,7 +20,10 @@ use Rattle.irq_model.specs.Valid.{IsValid}
 use Rattle.irq_laws.proofs.Lists.{both_ways}
 use Rattle.irq_laws.proofs.ImpliesFlow.{end_due, has_a_flow}
 use Rattle.irq_storms.specs.Tests.{is_end, is_any_serving, is_moment, is_renewal}
-use Rattle.irq_storms.specs.Judged.{one_if, count_where, judgement, is_handled_judgement, is_nothing_judgement, ends_handled, ends_nothing, ends_deferred, ends_clearing, handled_ends, nothing_ends, deferred_ends, clearing_ends, breaks, serving_marks, allowance, allowed}
+use Rattle.irq_storms.specs.Judged.{one_if, count_where, judgement, is_handled_judgement, is_nothing_judgement}
+use Rattle.irq_storms.specs.Judged.{ends_handled, ends_nothing, ends_deferred, ends_clearing, handled_ends}
+use Rattle.irq_storms.specs.Judged.{nothing_ends, deferred_ends, clearing_ends, breaks, serving_marks, allowance}
+use Rattle.irq_storms.specs.Judged.{allowed}
 use Rattle.irq_storms.proofs.Counting.{mark_most, count_more}
 use Rattle.irq_storms.proofs.RunCounts.{flow_stays}
 use Rattle.irq_storms.proofs.KillCounts.{no_flow_after, shut_past}
@@ -42,7 +45,8 @@ where_of p (e ∷ past) = let a = where_more (λ e past. p e) e past in let b = 
 abbrev StaysWithin : (Entry → List Entry → Bool) → (Entry → List Entry → Bool) → (List Entry → ℕ) → (List Entry → ℕ) → Entry → List Entry → Type 0
 StaysWithin p q m k e past = one_if (p e past) + m (e ∷ past) + k past ≤ m past + k (e ∷ past) + one_if (q e past)
 
-runs_within : (def : LineDef) (p q : Entry → List Entry → Bool) (m k : List Entry → ℕ) → m [] ≡ 0 → ((e : Entry) (past : List Entry) → IsLegalPast def past → IsDue def e past → StaysWithin p q m k e past)
+runs_within : (def : LineDef) (p q : Entry → List Entry → Bool) (m k : List Entry → ℕ) → m [] ≡ 0
+    → ((e : Entry) (past : List Entry) → IsLegalPast def past → IsDue def e past → StaysWithin p q m k e past)
     → (past : List Entry) → IsLegalPast def past → count_where p past + m past ≤ count_where q past + k past
 runs_within def p q m k none step [] legal = omega (arith, none)
 runs_within def p q m k none step (e ∷ past) legal =
@@ -53,7 +57,8 @@ runs_within def p q m k none step (e ∷ past) legal =
 
 -- ---- the end that is due
 
-facts_of : (def : LineDef) (past : List Entry) → EndFacts def.window def.limit (now past) (round_wakes def past) (round_handles def past) (counts_of def past) (noted_end def past (counts_of def past)) (judgement def past)
+facts_of : (def : LineDef) (past : List Entry) → EndFacts def.window def.limit (now past) (round_wakes def past)
+    (round_handles def past) (counts_of def past) (noted_end def past (counts_of def past)) (judgement def past)
 facts_of def past = end_facts def.window def.limit (now past) (round_wakes def past) (round_handles def past) (counts_of def past)
 
 -- ---- the ends judged handled
@@ -79,7 +84,9 @@ handled_more def (entries.End c again unmask note) past valid level due =
     let f = facts_of def past in
     let m = f.marks in
     let after : one_if (has_flow def (e ∷ past) && round_handles def (e ∷ past)) ≡ 0 = none _ _ (no_flow_after def c again unmask note past valid level due) in
-    let was : one_if (has_flow def past && round_handles def past) ≡ one_if (round_handles def past) = some _ _ (has_a_flow c (flow def past) (end_due def c again unmask note past due).of_flow) in
+    let was : one_if (has_flow def past && round_handles def past)
+    ≡ one_if (round_handles def past) = some _ _ (has_a_flow c (flow def past)
+    (end_due def c again unmask note past due).of_flow) in
     omega (arith, m, after, was)
   where
     none : (a b : Bool) → a ≡ false → one_if (a && b) ≡ 0
@@ -87,28 +94,40 @@ handled_more def (entries.End c again unmask note) past valid level due =
 
     some : (a b : Bool) → a ≡ true → one_if (a && b) ≡ one_if b
     some a b h = grind arith
-handled_more def (entries.ThreadReturn x served) past valid level due = by_served (nat_lt 0 served) (flow_stays def (entries.ThreadReturn x served) past refl refl refl)
+handled_more def (entries.ThreadReturn x served) past valid level due
+    = by_served (nat_lt 0 served) (flow_stays def (entries.ThreadReturn x served) past refl refl refl)
   where
     by_served : (b : Bool) → has_flow def (entries.ThreadReturn x served ∷ past) ≡ has_flow def past
-        → 0 + (one_if (has_flow def (entries.ThreadReturn x served ∷ past) && round_handles def past) + one_if (not ((cond b (record (counts_of def past) { threads_handled = (counts_of def past).threads_handled + 1 }) (counts_of def past)).threads_handled == (cond b (record (counts_of def past) { threads_handled = (counts_of def past).threads_handled + 1 }) (counts_of def past)).last))) + 0
+        → 0 + (one_if (has_flow def (entries.ThreadReturn x served ∷ past) && round_handles def past) + one_if
+        (not ((cond b (record (counts_of def past) { threads_handled = (counts_of def past).threads_handled + 1 })
+        (counts_of def past)).threads_handled == (cond b
+        (record (counts_of def past) { threads_handled = (counts_of def past).threads_handled + 1 })
+        (counts_of def past)).last))) + 0
         ≤ serving_marks def past + 0 + one_if b
     by_served true same =
         let m = mark_most (not ((counts_of def past).threads_handled + 1 == (counts_of def past).last)) in
-        let s : one_if (has_flow def (entries.ThreadReturn x served ∷ past) && round_handles def past) ≡ one_if (has_flow def past && round_handles def past) = ap (λ (f : Bool). one_if (f && round_handles def past)) same in
+        let s : one_if (has_flow def (entries.ThreadReturn x served ∷ past) && round_handles def past)
+        ≡ one_if (has_flow def past && round_handles def past)
+        = ap (λ (f : Bool). one_if (f && round_handles def past)) same in
         omega (arith, m, s)
     by_served false same = quiet_marks _ _ _ _ same
 handled_more def (entries.Return c x answer served) past valid level due =
-    return_marks (has_flow def past) (has_flow def (entries.Return c x answer served ∷ past)) (round_handles def past) (is_handled answer) _ (flow_stays def (entries.Return c x answer served) past refl refl refl)
+    return_marks (has_flow def past) (has_flow def (entries.Return c x answer served ∷ past)) (round_handles def past)
+    (is_handled answer) _ (flow_stays def (entries.Return c x answer served) past refl refl refl)
 handled_more def (entries.Take c way takes.Handle) past valid level due = omega arith
 handled_more def (entries.Take c way takes.Busy) past valid level due = quiet_marks _ _ _ _ (flow_stays def (entries.Take c way takes.Busy) past refl refl refl)
 handled_more def (entries.Take c way takes.Off) past valid level due = quiet_marks _ _ _ _ (flow_stays def (entries.Take c way takes.Off) past refl refl refl)
-handled_more def (entries.Request s x flags links.Linked opened) past valid level due = quiet_marks _ _ _ _ (flow_stays def (entries.Request s x flags links.Linked opened) past refl refl refl)
-handled_more def (entries.Request s x flags (links.Refused error) opened) past valid level due = quiet_marks _ _ _ _ (flow_stays def (entries.Request s x flags (links.Refused error) opened) past refl refl refl)
+handled_more def (entries.Request s x flags links.Linked opened) past valid level due
+    = quiet_marks _ _ _ _ (flow_stays def (entries.Request s x flags links.Linked opened) past refl refl refl)
+handled_more def (entries.Request s x flags (links.Refused error) opened) past valid level due
+    = quiet_marks _ _ _ _ (flow_stays def (entries.Request s x flags (links.Refused error) opened) past refl refl refl)
 handled_more def e past valid level due = quiet_marks _ _ _ _ (flow_stays def e past refl refl refl)
 
-pub handled_past : (def : LineDef) (past : List Entry) → IsValid def → IsLegalPast def past → is_level_line def ≡ true → handled_ends def past + serving_marks def past ≤ count_of is_any_serving past
+pub handled_past : (def : LineDef) (past : List Entry) → IsValid def → IsLegalPast def past → is_level_line def ≡ true
+    → handled_ends def past + serving_marks def past ≤ count_of is_any_serving past
 handled_past def past valid legal level =
-    let r = runs_within def (ends_handled def) (λ e past. is_any_serving e) (serving_marks def) (λ past. 0) refl (λ e past legal due. handled_more def e past valid level due) past legal in
+    let r = runs_within def (ends_handled def) (λ e past. is_any_serving e) (serving_marks def) (λ past. 0) refl
+    (λ e past legal due. handled_more def e past valid level due) past legal in
     let w = where_of is_any_serving past in
     omega (arith, r, w)
 
@@ -121,16 +140,21 @@ deferred_more : (def : LineDef) (e : Entry) (past : List Entry) → DeferredMore
 deferred_more def (entries.End c again unmask note) past = let d = (facts_of def past).deferred in omega (arith, d)
 deferred_more def (entries.ThreadReturn x served) past = by_served (nat_lt 0 served)
   where
-    by_served : (b : Bool) → 0 + 0 + one_if (counts_of def past).deferred ≤ 0 + one_if (cond b (record (counts_of def past) { threads_handled = (counts_of def past).threads_handled + 1 }) (counts_of def past)).deferred + 0
+    by_served : (b : Bool) → 0 + 0 + one_if (counts_of def past).deferred ≤ 0 + one_if
+        (cond b (record (counts_of def past) { threads_handled = (counts_of def past).threads_handled + 1 })
+        (counts_of def past)).deferred + 0
     by_served true = omega arith
     by_served false = omega arith
 deferred_more def (entries.Request s x flags links.Linked opened) past = omega arith
 deferred_more def (entries.Request s x flags (links.Refused error) opened) past = omega arith
 deferred_more def e past = omega arith
 
-pub deferred_past : (def : LineDef) (past : List Entry) → IsLegalPast def past → deferred_ends def past ≤ clearing_ends def past + one_if (counts_of def past).deferred
+pub deferred_past : (def : LineDef) (past : List Entry) → IsLegalPast def past
+    → deferred_ends def past ≤ clearing_ends def past + one_if (counts_of def past).deferred
 deferred_past def past legal =
-    let r = runs_within def (ends_deferred def) (ends_clearing def) (λ past. 0) (λ past. one_if (counts_of def past).deferred) refl (λ e past legal due. deferred_more def e past) past legal in omega (arith, r)
+    let r = runs_within def (ends_deferred def) (ends_clearing def) (λ past. 0)
+    (λ past. one_if (counts_of def past).deferred) refl (λ e past legal due. deferred_more def e past) past legal in
+    omega (arith, r)
 
 -- an end that gives the mark up is judged handled
 clears_handled : (e : Bool) (c j : Bool) → one_if c ≤ one_if j → one_if (e && c) ≤ one_if (e && j)
@@ -149,11 +173,13 @@ clearing_past def (e ∷ past) =
 -- ---- the ends judged nothing
 
 -- the count of the window is below it
-small_more : (def : LineDef) (e : Entry) (past : List Entry) → 0 < def.window → (counts_of def past).irq_count < def.window → (counts_of def (e ∷ past)).irq_count < def.window
+small_more : (def : LineDef) (e : Entry) (past : List Entry) → 0 < def.window
+    → (counts_of def past).irq_count < def.window → (counts_of def (e ∷ past)).irq_count < def.window
 small_more def (entries.End c again unmask note) past some small = (facts_of def past).small small
 small_more def (entries.ThreadReturn x served) past some small = by_served (nat_lt 0 served)
   where
-    by_served : (b : Bool) → (cond b (record (counts_of def past) { threads_handled = (counts_of def past).threads_handled + 1 }) (counts_of def past)).irq_count < def.window
+    by_served : (b : Bool) → (cond b (record (counts_of def past)
+        { threads_handled = (counts_of def past).threads_handled + 1 }) (counts_of def past)).irq_count < def.window
     by_served true = small
     by_served false = small
 small_more def (entries.Request s x flags links.Linked opened) past some small = some
@@ -169,20 +195,26 @@ no_renewal true m h = cc
 no_renewal false m h = cc
 
 -- an entry that is neither an end nor a renewal leaves the window as it was
-same_window : (def : LineDef) (e : Entry) (past : List Entry) → is_end e ≡ false → is_renewal e ≡ false → allowance def.window (now (e ∷ past)) (counts_of def (e ∷ past)) ≡ allowance def.window (now past) (counts_of def past)
+same_window : (def : LineDef) (e : Entry) (past : List Entry) → is_end e ≡ false → is_renewal e ≡ false
+    → allowance def.window (now (e ∷ past)) (counts_of def (e ∷ past))
+    ≡ allowance def.window (now past) (counts_of def past)
 same_window def (entries.End c again unmask note) past no_end old = cc
 same_window def (entries.Moment s at) past no_end old = cc
-same_window def (entries.Request s x flags links.Linked opened) past no_end old = no_renewal (is_start (entries.Request s x flags links.Linked opened)) false old
+same_window def (entries.Request s x flags links.Linked opened) past no_end old
+    = no_renewal (is_start (entries.Request s x flags links.Linked opened)) false old
 same_window def (entries.Request s x flags (links.Refused error) opened) past no_end old = refl
 same_window def (entries.ThreadReturn x served) past no_end old = by_served (nat_lt 0 served)
   where
-    by_served : (b : Bool) → allowance def.window (now past) (cond b (record (counts_of def past) { threads_handled = (counts_of def past).threads_handled + 1 }) (counts_of def past)) ≡ allowance def.window (now past) (counts_of def past)
+    by_served : (b : Bool) → allowance def.window (now past)
+        (cond b (record (counts_of def past) { threads_handled = (counts_of def past).threads_handled + 1 })
+        (counts_of def past)) ≡ allowance def.window (now past) (counts_of def past)
     by_served true = refl
     by_served false = refl
 same_window def e past no_end old = refl
 
 abbrev NothingMore : LineDef → Entry → List Entry → Type 0
-NothingMore def e past = one_if (ends_nothing def e past) + allowed def (e ∷ past) ≤ allowed def past + (cond (ends_handled def e past) (2 * def.window) 0 + cond (is_renewal e) (2 * def.window) 0)
+NothingMore def e past = one_if (ends_nothing def e past) + allowed def (e ∷ past) ≤ allowed def past +
+    (cond (ends_handled def e past) (2 * def.window) 0 + cond (is_renewal e) (2 * def.window) 0)
 
 kill_note : (c : CpuNo) (again unmask : Bool) (note : Note) → is_kill (entries.End c again unmask note) ≡ is_killed note
 kill_note c again unmask notes.Killed = refl
@@ -190,10 +222,13 @@ kill_note c again unmask notes.Quiet = refl
 kill_note c again unmask notes.Counted = refl
 
 -- the line isn't shut while a flow is in progress
-in_flow_open : (def : LineDef) (past : List Entry) → IsValid def → IsLegalPast def past → is_level_line def ≡ true → has_flow def past ≡ true → stands is_kill is_start past ≡ false
-in_flow_open def past valid legal level f = false_from_ne_true (stands is_kill is_start past) (λ shut. both_ways (has_flow def past) f (shut_past def past valid legal level shut).no_flow)
+in_flow_open : (def : LineDef) (past : List Entry) → IsValid def → IsLegalPast def past → is_level_line def ≡ true
+    → has_flow def past ≡ true → stands is_kill is_start past ≡ false
+in_flow_open def past valid legal level f = false_from_ne_true (stands is_kill is_start past)
+    (λ shut. both_ways (has_flow def past) f (shut_past def past valid legal level shut).no_flow)
 
-end_more : (def : LineDef) (c : CpuNo) (again unmask : Bool) (note : Note) (past : List Entry) → IsValid def → IsLegalPast def past → is_level_line def ≡ true → IsDue def (entries.End c again unmask note) past
+end_more : (def : LineDef) (c : CpuNo) (again unmask : Bool) (note : Note) (past : List Entry) → IsValid def
+    → IsLegalPast def past → is_level_line def ≡ true → IsDue def (entries.End c again unmask note) past
     → NothingMore def (entries.End c again unmask note) past
 end_more def c again unmask note past valid legal level due =
     let u = end_due def c again unmask note past due in
@@ -202,10 +237,12 @@ end_more def c again unmask note past valid legal level due =
     let small = small_past def past (let w = valid.some_window in omega (arith, w)) in
     let a = f.allows valid.limit small in
     let standing = in_flow_open def past valid legal level (has_a_flow c (flow def past) u.of_flow) in
-    let was : allowed def past ≡ allowance def.window (now past) (counts_of def past) = ap (λ (b : Bool). cond b 0 (allowance def.window (now past) (counts_of def past))) standing in
+    let was : allowed def past ≡ allowance def.window (now past) (counts_of def past)
+    = ap (λ (b : Bool). cond b 0 (allowance def.window (now past) (counts_of def past))) standing in
     let kills : is_kill e ≡ is_killed (noted_end def past (counts_of def past)).note = kill_note c again unmask note ∙ ap is_killed u.note_is in
     let is : allowed def (e ∷ past) ≡ allowed_after def.window (now past) (noted_end def past (counts_of def past)) =
-    ap (λ (b : Bool). cond b 0 (allowance def.window (now past) (noted_end def past (counts_of def past)).counts)) (plain (is_kill e) (stands is_kill is_start past) standing ∙ kills) in
+    ap (λ (b : Bool). cond b 0 (allowance def.window (now past) (noted_end def past (counts_of def past)).counts))
+    (plain (is_kill e) (stands is_kill is_start past) standing ∙ kills) in
     omega (arith, a, was, is)
   where
     plain : (k s : Bool) → s ≡ false → (k || (true && s)) ≡ k
@@ -218,30 +255,38 @@ other_more def e past no_end no_kill = by_renewal (is_renewal e) refl
     same_shut : (k s x : Bool) → k ≡ false → s ≡ false → (k || (not s && x)) ≡ x
     same_shut k s x h i = grind arith
 
-    by_renewal : (b : Bool) → is_renewal e ≡ b → one_if (ends_nothing def e past) + allowed def (e ∷ past) ≤ allowed def past + (cond (ends_handled def e past) (2 * def.window) 0 + cond b (2 * def.window) 0)
+    by_renewal : (b : Bool) → is_renewal e ≡ b → one_if (ends_nothing def e past) + allowed def (e ∷ past) ≤ allowed def
+        past + (cond (ends_handled def e past) (2 * def.window) 0 + cond b (2 * def.window) 0)
     by_renewal true is =
         let none : one_if (ends_nothing def e past) ≡ 0 = ap one_if (ap (λ (b : Bool). b && is_nothing_judgement (judgement def past)) no_end) in
-        let most = most_unless (stands is_kill is_start (e ∷ past)) (allowance def.window (now (e ∷ past)) (counts_of def (e ∷ past))) (2 * def.window) (allowed_most def.window (now (e ∷ past)) (counts_of def (e ∷ past))) in
+        let most = most_unless (stands is_kill is_start (e ∷ past))
+        (allowance def.window (now (e ∷ past)) (counts_of def (e ∷ past))) (2 * def.window)
+        (allowed_most def.window (now (e ∷ past)) (counts_of def (e ∷ past))) in
         omega (arith, none, most)
     by_renewal false is =
         let none : one_if (ends_nothing def e past) ≡ 0 = ap one_if (ap (λ (b : Bool). b && is_nothing_judgement (judgement def past)) no_end) in
-        let shut = same_shut (is_kill e) (is_start e) (stands is_kill is_start past) no_kill (or_parts (is_start e) (is_linked_request e || is_moment e) is).0 in
+        let shut = same_shut (is_kill e) (is_start e) (stands is_kill is_start past) no_kill
+        (or_parts (is_start e) (is_linked_request e || is_moment e) is).0 in
         let same : allowed def (e ∷ past) ≡ allowed def past =
         ap (λ (b : Bool). cond b 0 (allowance def.window (now (e ∷ past)) (counts_of def (e ∷ past)))) shut
         ∙ ap (λ (a : ℕ). cond (stands is_kill is_start past) 0 a) (same_window def e past no_end is) in
         omega (arith, none, same)
 
-nothing_more : (def : LineDef) (e : Entry) (past : List Entry) → IsValid def → IsLegalPast def past → is_level_line def ≡ true → IsDue def e past → NothingMore def e past
+nothing_more : (def : LineDef) (e : Entry) (past : List Entry) → IsValid def → IsLegalPast def past
+    → is_level_line def ≡ true → IsDue def e past → NothingMore def e past
 nothing_more def (entries.End c again unmask note) past valid legal level due = end_more def c again unmask note past valid legal level due
 nothing_more def e past valid legal level due = other_more def e past refl refl
 
 -- the ends judged nothing, plus the ends that the open window allows, are at most two windows for
 -- each break and one more
-pub nothing_past : (def : LineDef) (past : List Entry) → IsValid def → IsLegalPast def past → is_level_line def ≡ true → nothing_ends def past + allowed def past ≤ 2 * def.window * (breaks def past + 1)
+pub nothing_past : (def : LineDef) (past : List Entry) → IsValid def → IsLegalPast def past → is_level_line def ≡ true
+    → nothing_ends def past + allowed def past ≤ 2 * def.window * (breaks def past + 1)
 nothing_past def [] valid legal level = let m = allowed_most def.window 0 (counts_of def []) in let o = mul-one (2 * def.window) in omega (arith, m, o)
 nothing_past def (e ∷ past) valid legal level =
-    summed _ _ _ _ _ _ _ _ (where_more (ends_nothing def) e past) (nothing_past def past valid legal.1 level) (nothing_more def e past valid legal.1 level legal.0)
-    (windows (2 * def.window) (handled_ends def past) (count_of is_renewal past) (ends_handled def e past) (is_renewal e) _ _ (where_more (ends_handled def) e past) (count_more is_renewal e past))
+    summed _ _ _ _ _ _ _ _ (where_more (ends_nothing def) e past) (nothing_past def past valid legal.1 level)
+    (nothing_more def e past valid legal.1 level legal.0)
+    (windows (2 * def.window) (handled_ends def past) (count_of is_renewal past) (ends_handled def e past)
+    (is_renewal e) _ _ (where_more (ends_handled def) e past) (count_more is_renewal e past))
   where
     times : (w : ℕ) (b : Bool) → w * one_if b ≡ cond b w 0
     times w true = mul-one w

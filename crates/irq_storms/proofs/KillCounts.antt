@@ -45,7 +45,8 @@ use Rattle.irq_storms.proofs.RunCounts.{flow_before, flow_closed, flow_stays}
 
 -- ---- a level line's ends leave
 
-again_level : (def : LineDef) (f : FlowKind) (past : List Entry) (note : Note) → IsValid def → is_level_line def ≡ true → def.flow ≡ f → again_by def f past note ≡ false
+again_level : (def : LineDef) (f : FlowKind) (past : List Entry) (note : Note) → IsValid def → is_level_line def ≡ true
+    → def.flow ≡ f → again_by def f past note ≡ false
 again_level def flows.Edge past note valid level is = level_is_not (is_edge_line def) (valid.edge_flow (ap is_edge_flow is)) level
 again_level def flows.Level past note valid level is = refl
 again_level def flows.Eoi past note valid level is = none (is_edge_line def) _ level
@@ -53,28 +54,34 @@ again_level def flows.Eoi past note valid level is = none (is_edge_line def) _ l
     none : (a b : Bool) → not a ≡ true → (a && b) ≡ false
     none a b h = grind arith
 
-pub leaves : (def : LineDef) (c : CpuNo) (again unmask : Bool) (note : Note) (past : List Entry) → IsValid def → is_level_line def ≡ true → IsDue def (entries.End c again unmask note) past → again ≡ false
-leaves def c again unmask note past valid level due = (end_due def c again unmask note past due).again_is ∙ again_level def def.flow past (note_of def past) valid level refl
+pub leaves : (def : LineDef) (c : CpuNo) (again unmask : Bool) (note : Note) (past : List Entry) → IsValid def
+    → is_level_line def ≡ true → IsDue def (entries.End c again unmask note) past → again ≡ false
+leaves def c again unmask note past valid level due = (end_due def c again unmask note past due).again_is
+    ∙ again_level def def.flow past (note_of def past) valid level refl
 
 -- no flow after an end
-pub no_flow_after : (def : LineDef) (c : CpuNo) (again unmask : Bool) (note : Note) (past : List Entry) → IsValid def → is_level_line def ≡ true → IsDue def (entries.End c again unmask note) past
+pub no_flow_after : (def : LineDef) (c : CpuNo) (again unmask : Bool) (note : Note) (past : List Entry) → IsValid def
+    → is_level_line def ≡ true → IsDue def (entries.End c again unmask note) past
     → has_flow def (entries.End c again unmask note ∷ past) ≡ false
 no_flow_after def c again unmask note past valid level due =
-    subst (λ (a : Bool). has_flow def (entries.End c a unmask note ∷ past) ≡ false) (sym (leaves def c again unmask note past valid level due)) (flow_closed def c unmask note past)
+    subst (λ (a : Bool). has_flow def (entries.End c a unmask note ∷ past) ≡ false)
+    (sym (leaves def c again unmask note past valid level due)) (flow_closed def c unmask note past)
 
 -- ---- disabled stays disabled until a start
 
 disabled_from : (past : List Entry) → (depth past ≡ 0 → ⊥) → is_disabled past ≡ true
 disabled_from past h = true_from_ne_false (is_disabled past) (λ off. h (zero_depth past off))
 
-pub stays_disabled : (def : LineDef) (e : Entry) (past : List Entry) → IsDue def e past → KeepsDepth def past → is_start e ≡ false → is_disabled past ≡ true → is_disabled (e ∷ past) ≡ true
+pub stays_disabled : (def : LineDef) (e : Entry) (past : List Entry) → IsDue def e past → KeepsDepth def past
+    → is_start e ≡ false → is_disabled past ≡ true → is_disabled (e ∷ past) ≡ true
 stays_disabled def e past due k no_start was = disabled_from (e ∷ past) (λ zero. by_case (enabled_before def e past due k zero))
   where
     by_case : (is_start e ≡ true) ⊎ StaysEnabled e past → ⊥
     by_case (inl s) = both_ways (is_start e) s no_start
     by_case (inr s) = both_ways (is_disabled past) was (not_disabled past s.was)
 
-disabled_by_kill : (def : LineDef) (e : Entry) (past : List Entry) → IsDue def e past → KeepsDepth def past → is_start e ≡ false → is_kill e ≡ true → is_disabled (e ∷ past) ≡ true
+disabled_by_kill : (def : LineDef) (e : Entry) (past : List Entry) → IsDue def e past → KeepsDepth def past
+    → is_start e ≡ false → is_kill e ≡ true → is_disabled (e ∷ past) ≡ true
 disabled_by_kill def e past due k no_start kills = disabled_from (e ∷ past) (λ zero. by_case (enabled_before def e past due k zero))
   where
     by_case : (is_start e ≡ true) ⊎ StaysEnabled e past → ⊥
@@ -89,29 +96,41 @@ kill_alone (entries.Enable s answer) h = cc
 kill_alone (entries.Request s x flags answer opened) h = cc
 kill_alone e h = cc
 
-kill_closes : (def : LineDef) (e : Entry) (past : List Entry) → IsValid def → is_level_line def ≡ true → IsDue def e past → is_kill e ≡ true → has_flow def (e ∷ past) ≡ false
+kill_closes : (def : LineDef) (e : Entry) (past : List Entry) → IsValid def → is_level_line def ≡ true
+    → IsDue def e past → is_kill e ≡ true → has_flow def (e ∷ past) ≡ false
 kill_closes def (entries.End c again unmask note) past valid level due h = no_flow_after def c again unmask note past valid level due
 kill_closes def e past valid level due h = cc
 
 no_handle : (def : LineDef) (e : Entry) (past : List Entry) → IsDue def e past → is_disabled past ≡ true → is_handle e ≡ false
 no_handle def (entries.Take c way takes.Handle) past due off =
-    both_ways (is_disabled past) off (or_parts (is_disabled past) (is_none_linked past) (handle_idle def past (take_due def c way takes.Handle past due).answer_is).1).0
+    both_ways (is_disabled past) off (or_parts (is_disabled past) (is_none_linked past)
+    (handle_idle def past (take_due def c way takes.Handle past due).answer_is).1).0
 no_handle def (entries.Take c way takes.Busy) past due off = refl
 no_handle def (entries.Take c way takes.Off) past due off = refl
 no_handle def e past due off = refl
 
-pub shut_past : (def : LineDef) (past : List Entry) → IsValid def → IsLegalPast def past → is_level_line def ≡ true → stands is_kill is_start past ≡ true → IsShut def past
+pub shut_past : (def : LineDef) (past : List Entry) → IsValid def → IsLegalPast def past → is_level_line def ≡ true
+    → stands is_kill is_start past ≡ true → IsShut def past
 shut_past def [] valid legal level h = cc
-shut_past def (e ∷ past) valid legal level h = by_case (stands_cases (is_kill e) (is_start e) (stands is_kill is_start past) h) (λ s. shut_past def past valid legal.1 level s)
+shut_past def (e ∷ past) valid legal level h = by_case
+    (stands_cases (is_kill e) (is_start e) (stands is_kill is_start past) h)
+    (λ s. shut_past def past valid legal.1 level s)
   where
-    by_case : (is_kill e ≡ true) ⊎ ((is_start e ≡ false) × (stands is_kill is_start past ≡ true)) → (stands is_kill is_start past ≡ true → IsShut def past) → IsShut def (e ∷ past)
+    by_case : (is_kill e ≡ true) ⊎ ((is_start e ≡ false) × (stands is_kill is_start past ≡ true))
+        → (stands is_kill is_start past ≡ true → IsShut def past) → IsShut def (e ∷ past)
     by_case (inl kills) deeper =
-        record { disabled = disabled_by_kill def e past legal.0 (kept def past valid legal.1).depth (kill_alone e kills) kills; no_flow = kill_closes def e past valid level legal.0 kills }
+        record {
+          disabled = disabled_by_kill def e past legal.0 (kept def past valid legal.1).depth (kill_alone e kills)
+              kills;
+          no_flow = kill_closes def e past valid level legal.0 kills;
+        }
     by_case (inr s) deeper =
         let was = deeper s.1 in
         record {
           disabled = stays_disabled def e past legal.0 (kept def past valid legal.1).depth s.0 was.disabled;
-          no_flow = false_from_ne_true (has_flow def (e ∷ past)) (λ f. both_ways (has_flow def past) (flow_before def e past (no_handle def e past legal.0 was.disabled) f) was.no_flow);
+          no_flow = false_from_ne_true (has_flow def (e ∷ past))
+              (λ f. both_ways (has_flow def past) (flow_before def e past (no_handle def e past legal.0 was.disabled) f)
+              was.no_flow);
         }
 
 -- ---- after a take that was answered Off
@@ -150,7 +169,8 @@ off_by_flow def flows.Eoi past note off = none (is_edge_line def) (is_disabled p
     none g d k o m h = grind arith
 
 not_reopened : (def : LineDef) (e : Entry) (past : List Entry) → IsDue def e past → is_disabled past ≡ true → is_reopening e ≡ false
-not_reopened def (entries.End c again unmask note) past due off = (end_due def c again unmask note past due).unmask_is ∙ off_by_flow def def.flow past (note_of def past) off
+not_reopened def (entries.End c again unmask note) past due off = (end_due def c again unmask note past due).unmask_is
+    ∙ off_by_flow def def.flow past (note_of def past) off
 not_reopened def (entries.Finish x kept unmask) past due off =
     (finish_due def x kept unmask past due).unmask_is ∙ none (is_woken past x) (is_disabled past) (is_masked def past) (is_other_unfinished def past x) off
   where
@@ -158,8 +178,10 @@ not_reopened def (entries.Finish x kept unmask) past due off =
     none w d m o h = grind arith
 not_reopened def e past due off = refl
 
-stays_masked : (def : LineDef) (e : Entry) (past : List Entry) → is_start e ≡ false → is_reopening e ≡ false → is_masked def past ≡ true → is_masked def (e ∷ past) ≡ true
-stays_masked def e past no_start no_open was = masked_more def e past ∙ stays (masks def (e ∷ past)) (is_start e) (is_reopening e) (is_masked def past) no_start no_open was
+stays_masked : (def : LineDef) (e : Entry) (past : List Entry) → is_start e ≡ false → is_reopening e ≡ false
+    → is_masked def past ≡ true → is_masked def (e ∷ past) ≡ true
+stays_masked def e past no_start no_open was = masked_more def e past
+    ∙ stays (masks def (e ∷ past)) (is_start e) (is_reopening e) (is_masked def past) no_start no_open was
   where
     stays : (m s r k : Bool) → s ≡ false → r ≡ false → k ≡ true → (m || (not (s || r) && k)) ≡ true
     stays m s r k a b c = grind arith
@@ -175,7 +197,11 @@ closed_past def (e ∷ past) valid legal h = by_off (is_off e) refl (λ s. close
     not_since s o k h i = grind arith
 
     by_off : (b : Bool) → is_off e ≡ b → (stands is_start is_off past ≡ false → IsClosed def past) → IsClosed def (e ∷ past)
-    by_off true is deeper = record { masked = masked_at_off def e past is; disabled = disabled_at_off def e past legal.0 (kept def past valid legal.1).depth is }
+    by_off true is deeper = record {
+      masked = masked_at_off def e past is;
+      disabled
+          = disabled_at_off def e past legal.0 (kept def past valid legal.1).depth is;
+    }
     by_off false is deeper =
         let was = deeper (not_since (is_start e) (is_off e) (stands is_start is_off past) h is) in
         let s = no_start (is_start e) (is_off e) (stands is_start is_off past) h in
@@ -187,35 +213,45 @@ closed_past def (e ∷ past) valid legal h = by_off (is_off e) refl (λ s. close
 -- ---- the takes of a level line
 
 -- it takes by its signal alone, while it is open
-signals_open : (def : LineDef) (past : List Entry) → is_level_line def ≡ true → signals def past ≡ true → (is_masked def past ≡ false) × ((serves def && has_flow def past) ≡ false)
+signals_open : (def : LineDef) (past : List Entry) → is_level_line def ≡ true → signals def past ≡ true
+    → (is_masked def past ≡ false) × ((serves def && has_flow def past) ≡ false)
 signals_open def past level h = by_line (is_edge_line def) level h
   where
     open_by : (a m s : Bool) → (a && (not m && not s)) ≡ true → (m ≡ false) × (s ≡ false)
     open_by a m s h = (grind arith, grind arith)
 
-    by_line : (b : Bool) → not b ≡ true → cond b (is_sent def past) (is_high def past && (not (is_masked def past) && not (serves def && has_flow def past))) ≡ true
+    by_line : (b : Bool) → not b ≡ true → cond b (is_sent def past)
+        (is_high def past && (not (is_masked def past) && not (serves def && has_flow def past))) ≡ true
         → (is_masked def past ≡ false) × ((serves def && has_flow def past) ≡ false)
     by_line true level h = cc
     by_line false level h = open_by (is_high def past) (is_masked def past) (serves def && has_flow def past) h
 
-level_take : (def : LineDef) (c : CpuNo) (way : Way) (answer : TakeAnswer) (past : List Entry) → IsLegalPast def past → is_level_line def ≡ true → IsDue def (entries.Take c way answer) past
+level_take : (def : LineDef) (c : CpuNo) (way : Way) (answer : TakeAnswer) (past : List Entry) → IsLegalPast def past
+    → is_level_line def ≡ true → IsDue def (entries.Take c way answer) past
     → (is_masked def past ≡ false) × ((serves def && has_flow def past) ≡ false)
 level_take def c ways.Line answer past legal level due = signals_open def past level ((take_due def c ways.Line answer past due).by_line refl)
-level_take def c ways.Resend answer past legal level due = level_is_not (is_edge_line def) (soft_has_edges def past legal ((take_due def c ways.Resend answer past due).by_resend refl).1) level
+level_take def c ways.Resend answer past legal level due
+    = level_is_not (is_edge_line def) (soft_has_edges def past legal
+    ((take_due def c ways.Resend answer past due).by_resend refl).1) level
 
 -- o: answered Off, s: a start since the last such take, k: a start
 off_marks : (o s k : Bool) → (o ≡ true → s ≡ true) → one_if o + one_if (k || (not o && s)) ≤ one_if s + one_if k
 off_marks o s k h = grind arith
 
-off_started : (def : LineDef) (e : Entry) (past : List Entry) → IsValid def → IsLegalPast def past → is_level_line def ≡ true → IsDue def e past → is_off e ≡ true → stands is_start is_off past ≡ true
+off_started : (def : LineDef) (e : Entry) (past : List Entry) → IsValid def → IsLegalPast def past
+    → is_level_line def ≡ true → IsDue def e past → is_off e ≡ true → stands is_start is_off past ≡ true
 off_started def (entries.Take c way answer) past valid legal level due h =
-    true_from_ne_false (stands is_start is_off past) (λ none. both_ways (is_masked def past) (closed_past def past valid legal none).masked (level_take def c way answer past legal level due).0)
+    true_from_ne_false (stands is_start is_off past) (λ none. both_ways (is_masked def past)
+    (closed_past def past valid legal none).masked (level_take def c way answer past legal level due).0)
 off_started def e past valid legal level due h = cc
 
 -- the takes that were answered Off, plus one if there was a start since, are at most the starts
-pub offs_past : (def : LineDef) (past : List Entry) → IsValid def → IsLegalPast def past → is_level_line def ≡ true → count_of is_off past + one_if (stands is_start is_off past) ≤ count_of is_start past
+pub offs_past : (def : LineDef) (past : List Entry) → IsValid def → IsLegalPast def past → is_level_line def ≡ true
+    → count_of is_off past + one_if (stands is_start is_off past) ≤ count_of is_start past
 offs_past def past valid legal level =
-    runs_below def is_off is_start (λ past. one_if (stands is_start is_off past)) refl (λ e past legal due. off_marks (is_off e) (stands is_start is_off past) (is_start e) (off_started def e past valid legal level due)) past legal
+    runs_below def is_off is_start (λ past. one_if (stands is_start is_off past)) refl
+    (λ e past legal due. off_marks (is_off e) (stands is_start is_off past) (is_start e)
+    (off_started def e past valid legal level due)) past legal
 
 -- ---- the takes that were answered Busy
 
@@ -224,21 +260,26 @@ offs_past def past valid legal level =
 abbrev pub may_be_busy : LineDef → List Entry → Bool
 may_be_busy def past = not (is_eoi_flow def.flow) && (has_flow def past && not (is_masked def past))
 
-level_masks : (def : LineDef) (f : FlowKind) (e : Entry) (past : List Entry) → IsValid def → is_level_line def ≡ true → def.flow ≡ f → is_take e ≡ true → (is_eoi_flow f || take_masks def f e past) ≡ true
+level_masks : (def : LineDef) (f : FlowKind) (e : Entry) (past : List Entry) → IsValid def → is_level_line def ≡ true
+    → def.flow ≡ f → is_take e ≡ true → (is_eoi_flow f || take_masks def f e past) ≡ true
 level_masks def flows.Edge e past valid level is h = level_is_not (is_edge_line def) (valid.edge_flow (ap is_edge_flow is)) level
 level_masks def flows.Level e past valid level is h = h
 level_masks def flows.Eoi e past valid level is h = refl
 
-busy_at_take : (def : LineDef) (c : CpuNo) (way : Way) (answer : TakeAnswer) (past : List Entry) → IsValid def → IsLegalPast def past → is_level_line def ≡ true → IsDue def (entries.Take c way answer) past
+busy_at_take : (def : LineDef) (c : CpuNo) (way : Way) (answer : TakeAnswer) (past : List Entry) → IsValid def
+    → IsLegalPast def past → is_level_line def ≡ true → IsDue def (entries.Take c way answer) past
     → may_be_busy def (entries.Take c way answer ∷ past) ≡ false
 busy_at_take def c way answer past valid legal level due =
     let e = entries.Take c way answer in
-    none (is_eoi_flow def.flow) (take_masks def def.flow e past) (has_flow def (e ∷ past)) (is_masked def (e ∷ past)) (is_masked def past) (level_masks def def.flow e past valid level refl refl) (take_masked def def.flow c way answer past refl)
+    none (is_eoi_flow def.flow) (take_masks def def.flow e past) (has_flow def (e ∷ past)) (is_masked def (e ∷ past))
+    (is_masked def past) (level_masks def def.flow e past valid level refl refl)
+    (take_masked def def.flow c way answer past refl)
   where
     none : (g t f m k : Bool) → (g || t) ≡ true → m ≡ (t || k) → (not g && (f && not m)) ≡ false
     none g t f m k h i = grind arith
 
-busy_before : (def : LineDef) (c : CpuNo) (way : Way) (past : List Entry) → IsLegalPast def past → is_level_line def ≡ true → IsDue def (entries.Take c way takes.Busy) past → may_be_busy def past ≡ true
+busy_before : (def : LineDef) (c : CpuNo) (way : Way) (past : List Entry) → IsLegalPast def past
+    → is_level_line def ≡ true → IsDue def (entries.Take c way takes.Busy) past → may_be_busy def past ≡ true
 busy_before def c way past legal level due =
     let shown = level_take def c way takes.Busy past legal level due in
     all (is_level_line def) (is_eoi_flow def.flow) (has_flow def past) (is_masked def past) level shown.0 shown.1 (busy_has_flow def c way past due)
@@ -247,48 +288,65 @@ busy_before def c way past legal level due =
     all l g f m a b c d = grind arith
 
 -- an entry that is neither a take, nor an end, nor a finish
-kept_mark : (g f f' u m m' x : Bool) → f' ≡ f → m' ≡ (x || (not (u || false) && m)) → one_if (not g && (f' && not m')) ≤ one_if (not g && (f && not m)) + one_if u
+kept_mark : (g f f' u m m' x : Bool) → f' ≡ f → m' ≡ (x || (not (u || false) && m))
+    → one_if (not g && (f' && not m')) ≤ one_if (not g && (f && not m)) + one_if u
 kept_mark g f f' u m m' x h i = grind arith
 
-kept_quiet : (def : LineDef) (e : Entry) (past : List Entry) → is_handle e ≡ false → is_leave e ≡ false → is_again e ≡ false → is_reopening e ≡ false → one_if (may_be_busy def (e ∷ past)) ≤ one_if (may_be_busy def past) + one_if (is_start e)
+kept_quiet : (def : LineDef) (e : Entry) (past : List Entry) → is_handle e ≡ false → is_leave e ≡ false
+    → is_again e ≡ false → is_reopening e ≡ false → one_if (may_be_busy def (e ∷ past)) ≤ one_if (may_be_busy def past)
+    + one_if (is_start e)
 kept_quiet def e past a b c shut =
-    kept_mark (is_eoi_flow def.flow) (has_flow def past) (has_flow def (e ∷ past)) (is_start e) (is_masked def past) (is_masked def (e ∷ past)) (masks def (e ∷ past)) (flow_stays def e past a b c)
+    kept_mark (is_eoi_flow def.flow) (has_flow def past) (has_flow def (e ∷ past)) (is_start e) (is_masked def past)
+    (is_masked def (e ∷ past)) (masks def (e ∷ past)) (flow_stays def e past a b c)
     (masked_more def e past ∙ ap (λ (r : Bool). masks def (e ∷ past) || (not (is_start e || r) && is_masked def past)) shut)
 
 no_flow_marks : (g f m : Bool) → f ≡ false → one_if (not g && (f && not m)) ≡ 0
 no_flow_marks g f m h = grind arith
 
-busy_more : (def : LineDef) (e : Entry) (past : List Entry) → IsValid def → is_level_line def ≡ true → IsLegalPast def past → IsDue def e past → StaysBelow is_busy is_start (λ past. one_if (may_be_busy def past)) e past
+busy_more : (def : LineDef) (e : Entry) (past : List Entry) → IsValid def → is_level_line def ≡ true
+    → IsLegalPast def past → IsDue def e past → StaysBelow is_busy is_start (λ past. one_if (may_be_busy def past)) e
+    past
 busy_more def (entries.Take c way takes.Busy) past valid level legal due =
-    let after : one_if (may_be_busy def (entries.Take c way takes.Busy ∷ past)) ≡ 0 = ap one_if (busy_at_take def c way takes.Busy past valid legal level due) in
+    let after : one_if (may_be_busy def (entries.Take c way takes.Busy ∷ past))
+    ≡ 0 = ap one_if (busy_at_take def c way takes.Busy past valid legal level due) in
     let was : one_if (may_be_busy def past) ≡ 1 = ap one_if (busy_before def c way past legal level due) in
     omega (arith, after, was)
 busy_more def (entries.Take c way takes.Handle) past valid level legal due =
-    let after : one_if (may_be_busy def (entries.Take c way takes.Handle ∷ past)) ≡ 0 = ap one_if (busy_at_take def c way takes.Handle past valid legal level due) in omega (arith, after)
+    let after : one_if (may_be_busy def (entries.Take c way takes.Handle ∷ past))
+    ≡ 0 = ap one_if (busy_at_take def c way takes.Handle past valid legal level due) in omega (arith, after)
 busy_more def (entries.Take c way takes.Off) past valid level legal due =
-    let after : one_if (may_be_busy def (entries.Take c way takes.Off ∷ past)) ≡ 0 = ap one_if (busy_at_take def c way takes.Off past valid legal level due) in omega (arith, after)
+    let after : one_if (may_be_busy def (entries.Take c way takes.Off ∷ past))
+    ≡ 0 = ap one_if (busy_at_take def c way takes.Off past valid legal level due) in omega (arith, after)
 busy_more def (entries.End c again unmask note) past valid level legal due =
     let e = entries.End c again unmask note in
-    let after = no_flow_marks (is_eoi_flow def.flow) (has_flow def (e ∷ past)) (is_masked def (e ∷ past)) (no_flow_after def c again unmask note past valid level due) in
+    let after = no_flow_marks (is_eoi_flow def.flow) (has_flow def (e ∷ past)) (is_masked def (e ∷ past))
+    (no_flow_after def c again unmask note past valid level due) in
     omega (arith, after)
 busy_more def (entries.Finish x kept unmask) past valid level legal due =
     let e = entries.Finish x kept unmask in
-    let after = no_flow_marks (is_eoi_flow def.flow) (has_flow def (e ∷ past)) (is_masked def (e ∷ past)) (flow_stays def e past refl refl refl ∙ (finish_due def x kept unmask past due).no_flow) in
+    let after = no_flow_marks (is_eoi_flow def.flow) (has_flow def (e ∷ past)) (is_masked def (e ∷ past))
+    (flow_stays def e past refl refl refl ∙ (finish_due def x kept unmask past due).no_flow) in
     omega (arith, after)
 busy_more def e past valid level legal due = let k = kept_quiet def e past refl refl refl refl in omega (arith, k)
 
 -- the takes that were answered Busy, plus one if another may be, are at most the starts
-pub busy_past : (def : LineDef) (past : List Entry) → IsValid def → IsLegalPast def past → is_level_line def ≡ true → count_of is_busy past + one_if (may_be_busy def past) ≤ count_of is_start past
+pub busy_past : (def : LineDef) (past : List Entry) → IsValid def → IsLegalPast def past → is_level_line def ≡ true
+    → count_of is_busy past + one_if (may_be_busy def past) ≤ count_of is_start past
 busy_past def past valid legal level =
-    runs_below def is_busy is_start (λ past. one_if (may_be_busy def past)) (no_flow_marks (is_eoi_flow def.flow) false (is_masked def []) refl) (λ e past legal due. busy_more def e past valid level legal due) past legal
+    runs_below def is_busy is_start (λ past. one_if (may_be_busy def past))
+    (no_flow_marks (is_eoi_flow def.flow) false (is_masked def []) refl)
+    (λ e past legal due. busy_more def e past valid level legal due) past legal
 
 -- no take is answered so on the fast-EOI flow
 not_serving : (l g f : Bool) → l ≡ true → g ≡ true → ((l && g) && f) ≡ false → f ≡ false
 not_serving l g f a b c = grind arith
 
-not_busy : (def : LineDef) (e : Entry) (past : List Entry) → IsLegalPast def past → is_level_line def ≡ true → is_eoi_flow def.flow ≡ true → IsDue def e past → is_busy e ≡ false
+not_busy : (def : LineDef) (e : Entry) (past : List Entry) → IsLegalPast def past → is_level_line def ≡ true
+    → is_eoi_flow def.flow ≡ true → IsDue def e past → is_busy e ≡ false
 not_busy def (entries.Take c way takes.Busy) past legal level eoi due =
-    both_ways (has_flow def past) (busy_has_flow def c way past due) (not_serving (is_level_line def) (is_eoi_flow def.flow) (has_flow def past) level eoi (level_take def c way takes.Busy past legal level due).1)
+    both_ways (has_flow def past) (busy_has_flow def c way past due)
+    (not_serving (is_level_line def) (is_eoi_flow def.flow) (has_flow def past) level eoi
+    (level_take def c way takes.Busy past legal level due).1)
 not_busy def (entries.Take c way takes.Handle) past legal level eoi due = refl
 not_busy def (entries.Take c way takes.Off) past legal level eoi due = refl
 not_busy def e past legal level eoi due = refl

@@ -49,7 +49,12 @@ runs_are_counted def h valid legal =
     }
 
 pub calls_are_counted : (def : LineDef) (h : List Entry) → IsLegal def h → CallsAreCounted def h
-calls_are_counted def h legal = record { entries = driver_entries def (reverse h) legal; asks = asks_of_drivers def (reverse h) legal; renewals = renewals_of_drivers def (reverse h) legal }
+calls_are_counted def h legal = record {
+  entries = driver_entries def (reverse h) legal;
+  asks
+      = asks_of_drivers def (reverse h) legal;
+  renewals = renewals_of_drivers def (reverse h) legal;
+}
 
 pub edge_is_counted : (def : LineDef) (h : List Entry) → IsLegal def h → EdgeIsCounted def h
 edge_is_counted def h legal edge =
@@ -60,9 +65,11 @@ no_eoi flows.Level h = refl
 no_eoi flows.Edge h = cc
 no_eoi flows.Eoi h = cc
 
-on_level_flow : (def : LineDef) (past : List Entry) → is_level_flow def.flow ≡ true → count_of is_busy past + one_if (may_be_busy def past) ≤ count_of is_start past
+on_level_flow : (def : LineDef) (past : List Entry) → is_level_flow def.flow ≡ true
+    → count_of is_busy past + one_if (may_be_busy def past) ≤ count_of is_start past
     → count_of is_busy past + one_if (has_flow def past && not (is_masked def past)) ≤ count_of is_start past
-on_level_flow def past flow h = subst (λ (b : Bool). count_of is_busy past + one_if (not b && (has_flow def past && not (is_masked def past))) ≤ count_of is_start past) (no_eoi def.flow flow) h
+on_level_flow def past flow h = subst (λ (b : Bool). count_of is_busy past + one_if
+    (not b && (has_flow def past && not (is_masked def past))) ≤ count_of is_start past) (no_eoi def.flow flow) h
 
 pub level_is_counted : (def : LineDef) (h : List Entry) → IsValid def → IsLegal def h → LevelIsCounted def h
 level_is_counted def h valid legal level =
@@ -82,7 +89,14 @@ level_is_counted def h valid legal level =
 
 pub asks_are_counted : (def : LineDef) (h : List Entry) → IsValid def → IsLegal def h → AsksAreCounted def h
 asks_are_counted def h valid legal =
-    record { exact = λ d. served_exactly def d (reverse h) valid legal; runs = λ d. served_of def d (reverse h) valid legal; all = served_of_all def (reverse h) valid legal; all_runs = served_past def (reverse h) valid legal }
+    record {
+      exact = λ d. served_exactly def d (reverse h) valid legal;
+      runs
+          = λ d. served_of def d (reverse h) valid legal;
+      all = served_of_all def (reverse h) valid legal;
+      all_runs
+          = served_past def (reverse h) valid legal;
+    }
 
 pub within_bound : (def : LineDef) (h : List Entry) → IsValid def → IsLegal def h → length h ≤ bound def
 within_bound def h valid legal = let n = within def h valid legal in let l = length-reverse h in omega (arith, n, l)

@@ -12,7 +12,9 @@ use Rattle.irq_model.specs.Spurious.{counts_of}
 use Rattle.irq_model.specs.Legal.{IsLegal, IsLegalPast}
 use Rattle.irq_model.specs.Valid.{IsValid}
 use Rattle.irq_storms.specs.Tests.{is_end}
-use Rattle.irq_storms.specs.Judged.{one_if, Judgement, Handled, Nothing, Deferred, judgement, is_handled_judgement, is_nothing_judgement, is_deferred_judgement, ends_handled, ends_nothing, ends_deferred, handled_ends, nothing_ends, deferred_ends, breaks}
+use Rattle.irq_storms.specs.Judged.{one_if, Judgement, Handled, Nothing, Deferred, judgement, is_handled_judgement}
+use Rattle.irq_storms.specs.Judged.{is_nothing_judgement, is_deferred_judgement, ends_handled, ends_nothing}
+use Rattle.irq_storms.specs.Judged.{ends_deferred, handled_ends, nothing_ends, deferred_ends, breaks}
 use Rattle.irq_storms.proofs.Counting.{mark_most, count_more}
 use Rattle.irq_storms.proofs.RunCounts.{rounds_past}
 use Rattle.irq_storms.proofs.CallCounts.{asks_of_drivers, renewals_of_drivers}
@@ -24,7 +26,8 @@ use Rattle.irq_storms.proofs.EndCounts.{where_more, handled_past, deferred_past,
 
 -- ---- each end is judged one way
 
-judged_marks : (e : Bool) (j : Judgement) → one_if e ≡ one_if (e && is_handled_judgement j) + one_if (e && is_nothing_judgement j) + one_if (e && is_deferred_judgement j)
+judged_marks : (e : Bool) (j : Judgement) → one_if e ≡ one_if (e && is_handled_judgement j) + one_if
+    (e && is_nothing_judgement j) + one_if (e && is_deferred_judgement j)
 judged_marks true Handled = refl
 judged_marks true Nothing = refl
 judged_marks true Deferred = refl
@@ -33,7 +36,9 @@ judged_marks false j = refl
 ends_judged : (def : LineDef) (past : List Entry) → count_of is_end past ≡ handled_ends def past + nothing_ends def past + deferred_ends def past
 ends_judged def [] = refl
 ends_judged def (e ∷ past) =
-    summed _ _ _ _ _ _ _ _ _ _ _ _ (count_more is_end e past) (where_more (ends_handled def) e past) (where_more (ends_nothing def) e past) (where_more (ends_deferred def) e past) (ends_judged def past) (judged_marks (is_end e) (judgement def past))
+    summed _ _ _ _ _ _ _ _ _ _ _ _ (count_more is_end e past) (where_more (ends_handled def) e past)
+    (where_more (ends_nothing def) e past) (where_more (ends_deferred def) e past) (ends_judged def past)
+    (judged_marks (is_end e) (judgement def past))
   where
     summed : (n' h' o' d' n h o d x y z u : ℕ) → n' ≡ n + x → h' ≡ h + y → o' ≡ o + z → d' ≡ d + u → n ≡ h + o + d → x ≡ y + z + u → n' ≡ h' + o' + d'
     summed n' h' o' d' n h o d x y z u p1 p2 p3 p4 p5 p6 = omega (arith, p1, p2, p3, p4, p5, p6)
@@ -75,7 +80,9 @@ level_counts def past valid legal level =
 -- ---- the bound of a level line
 
 -- the rounds, with m one more than all calls
-level_rounds : (def : LineDef) (past : List Entry) → IsLegalPast def past → LevelCounts def past → count_of (begins_round def) past ≤ 2 * (ask_calls def + other_calls def + 1) + 2 * (def.window * (ask_calls def + other_calls def + 1))
+level_rounds : (def : LineDef) (past : List Entry) → IsLegalPast def past → LevelCounts def past
+    → count_of (begins_round def) past ≤ 2 * (ask_calls def + other_calls def + 1) + 2 *
+    (def.window * (ask_calls def + other_calls def + 1))
 level_rounds def past legal counts =
     let r = rounds_past def past legal in
     let e = ends_judged def past in
@@ -119,9 +126,12 @@ level_within def past valid legal level =
     twice : (a b : ℕ) → a * (2 * b) ≡ 2 * (a * b)
     twice a b = sym (mul_assoc a 2 b) ∙ ap (λ (x : ℕ). x * b) (mul_comm a 2) ∙ mul_assoc 2 a b
 
-    plain : (k t w y h b o g p q x z v : ℕ) → k ≤ t + w + 6 * y + (ask_calls def + 3 * other_calls def) → t ≡ h + b + o → w ≡ h + g → b ≤ other_calls def → o ≤ other_calls def
-        → w ≤ 2 * (ask_calls def + other_calls def + 1) + 2 * z → y ≤ p → p ≡ q + x → q ≡ 2 * (length def.devices * (ask_calls def + other_calls def + 1)) → x ≡ 2 * (length def.devices * z)
-        → v ≡ 12 * (length def.devices * z) + 30 * (length def.devices * (ask_calls def + other_calls def + 1)) + 16 * z + 40 * (ask_calls def + other_calls def + 1) → k ≤ v
+    plain : (k t w y h b o g p q x z v : ℕ) → k ≤ t + w + 6 * y + (ask_calls def + 3 * other_calls def) → t ≡ h + b + o
+        → w ≡ h + g → b ≤ other_calls def → o ≤ other_calls def
+        → w ≤ 2 * (ask_calls def + other_calls def + 1) + 2 * z → y ≤ p → p ≡ q + x
+        → q ≡ 2 * (length def.devices * (ask_calls def + other_calls def + 1)) → x ≡ 2 * (length def.devices * z)
+        → v ≡ 12 * (length def.devices * z) + 30 * (length def.devices * (ask_calls def + other_calls def + 1)) + 16 * z
+        + 40 * (ask_calls def + other_calls def + 1) → k ≤ v
     plain k t w y h b o g p q x z v p1 p2 p3 p4 p5 p6 p7 p8 p9 p10 p11 = omega (arith, p1, p2, p3, p4, p5, p6, p7, p8, p9, p10, p11)
 
 -- ---- every line

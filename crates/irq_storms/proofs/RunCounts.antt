@@ -1,5 +1,6 @@
 -- The runs of handlers, and the ends, by the rounds.
-use Rattle.std.proofs.Common.{◌≡◌, ℕ, suc, ◌+◌, ◌*◌, ◌≤◌, Bool, true, false, not, ◌||◌, ◌&&◌, cond, Some, is_some, List, [], ◌∷◌, length, refl, sym, ap, ◌∙◌, subst, arith}
+use Rattle.std.proofs.Common.{◌≡◌, ℕ, suc, ◌+◌, ◌*◌, ◌≤◌, Bool, true, false, not, ◌||◌, ◌&&◌, cond, Some, is_some, List}
+use Rattle.std.proofs.Common.{[], ◌∷◌, length, refl, sym, ap, ◌∙◌, subst, arith}
 use Rattle.std.proofs.Math.Nat.{mul-suc}
 use Rattle.std.specs.List.{list_any}
 use Rattle.std.proofs.lemmas.Bool.{and_parts}
@@ -32,7 +33,8 @@ use Rattle.irq_storms.proofs.Running.{StaysBelow, runs_below}
 
 -- ---- the returns are at most the begins
 
-returns_more : (def : LineDef) (e : Entry) (past : List Entry) → IsDue def e past → StaysBelow is_any_return is_any_begin (λ past. one_if (is_some (at_work past))) e past
+returns_more : (def : LineDef) (e : Entry) (past : List Entry) → IsDue def e past
+    → StaysBelow is_any_return is_any_begin (λ past. one_if (is_some (at_work past))) e past
 returns_more def (entries.Begin c x) past due = omega arith
 returns_more def (entries.Return c x answer served) past due =
     let w : one_if (is_some (at_work past)) ≡ 1 = ap (λ o. one_if (is_some o)) (return_due def c x answer served past due).is_at_work in
@@ -41,32 +43,40 @@ returns_more def e past due = omega arith
 
 pub returns_past : (def : LineDef) (past : List Entry) → IsLegalPast def past → count_of is_any_return past ≤ count_of is_any_begin past
 returns_past def past legal =
-    let r = runs_below def is_any_return is_any_begin (λ past. one_if (is_some (at_work past))) refl (λ e past legal due. returns_more def e past due) past legal in
+    let r = runs_below def is_any_return is_any_begin (λ past. one_if (is_some (at_work past))) refl
+    (λ e past legal due. returns_more def e past due) past legal in
     omega (arith, r)
 
 -- ---- the rounds are the ends, plus one while a flow is in progress
 
-flow_kept : (def : LineDef) (e : Entry) (past : List Entry) → is_handle e ≡ false → is_leave e ≡ false → is_again e ≡ false → one_if (has_flow def (e ∷ past)) ≡ one_if (has_flow def past)
+flow_kept : (def : LineDef) (e : Entry) (past : List Entry) → is_handle e ≡ false → is_leave e ≡ false
+    → is_again e ≡ false → one_if (has_flow def (e ∷ past)) ≡ one_if (has_flow def past)
 flow_kept def e past a b c = ap (λ o. one_if (is_some o)) (flow_quiet def e past a b c)
 
 round_of_end : (def : LineDef) (c : CpuNo) (again unmask : Bool) (note : Note) (past : List Entry) → one_if (has_flow def past) ≡ 1
-    → one_if (begins_round def (entries.End c again unmask note)) + one_if (has_flow def past) ≡ 1 + one_if (has_flow def (entries.End c again unmask note ∷ past))
+    → one_if (begins_round def (entries.End c again unmask note)) + one_if (has_flow def past)
+    ≡ 1 + one_if (has_flow def (entries.End c again unmask note ∷ past))
 round_of_end def c false unmask note past f = omega (arith, f)
 round_of_end def c true unmask note past f = by_flow (is_eoi_flow def.flow)
   where
     by_flow : (b : Bool) → one_if (false || (true && not b)) + one_if (has_flow def past)
-        ≡ 1 + one_if (is_some (cpu_of_handle (cond (false || (false || (b && true))) (Some (entries.End c true unmask note)) (last_of (λ e. is_handle e || closes def e) past))))
+        ≡ 1 + one_if (is_some (cpu_of_handle (cond (false || (false || (b && true)))
+        (Some (entries.End c true unmask note)) (last_of (λ e. is_handle e || closes def e) past))))
     by_flow true = omega (arith, f)
     by_flow false = omega arith
 
-rounds_more : (def : LineDef) (e : Entry) (past : List Entry) → IsDue def e past → one_if (begins_round def e) + one_if (has_flow def past) ≡ one_if (is_end e) + one_if (has_flow def (e ∷ past))
+rounds_more : (def : LineDef) (e : Entry) (past : List Entry) → IsDue def e past
+    → one_if (begins_round def e) + one_if (has_flow def past) ≡ one_if (is_end e) + one_if (has_flow def (e ∷ past))
 rounds_more def (entries.Take c way takes.Handle) past due =
     let f : one_if (has_flow def past) ≡ 0 = ap one_if (handle_idle def past (take_due def c way takes.Handle past due).answer_is).0 in
     omega (arith, f)
-rounds_more def (entries.End c again unmask note) past due = round_of_end def c again unmask note past (ap one_if (has_a_flow c (flow def past) (end_due def c again unmask note past due).of_flow))
+rounds_more def (entries.End c again unmask note) past due
+    = round_of_end def c again unmask note past (ap one_if
+    (has_a_flow c (flow def past) (end_due def c again unmask note past due).of_flow))
 rounds_more def e past due = let f = flow_kept def e past refl refl refl in omega (arith, f)
 
-pub rounds_past : (def : LineDef) (past : List Entry) → IsLegalPast def past → count_of (begins_round def) past ≡ count_of is_end past + one_if (has_flow def past)
+pub rounds_past : (def : LineDef) (past : List Entry) → IsLegalPast def past
+    → count_of (begins_round def) past ≡ count_of is_end past + one_if (has_flow def past)
 rounds_past def [] legal = refl
 rounds_past def (e ∷ past) legal =
     summed _ _ _ _ _ _ _ _ (count_more (begins_round def) e past) (count_more is_end e past) (rounds_past def past legal.1) (rounds_more def e past legal.0)
@@ -79,13 +89,15 @@ pub flow_closed : (def : LineDef) (c : CpuNo) (unmask : Bool) (note : Note) (pas
 flow_closed def c unmask note past = refl
 
 -- an entry that is neither a take that is handled nor an end leaves it
-pub flow_stays : (def : LineDef) (e : Entry) (past : List Entry) → is_handle e ≡ false → is_leave e ≡ false → is_again e ≡ false → has_flow def (e ∷ past) ≡ has_flow def past
+pub flow_stays : (def : LineDef) (e : Entry) (past : List Entry) → is_handle e ≡ false → is_leave e ≡ false
+    → is_again e ≡ false → has_flow def (e ∷ past) ≡ has_flow def past
 flow_stays def e past a b c = ap is_some (flow_quiet def e past a b c)
 
 -- ---- the begins are at most the devices times the rounds
 
 -- one device fewer
-count_drop : (p q : DevNo → Bool) (d : DevNo) (xs : List DeviceDef) → ((x : DevNo) → q x ≡ true → p x ≡ true) → p d ≡ true → q d ≡ false → list_any (is_device d) xs ≡ true
+count_drop : (p q : DevNo → Bool) (d : DevNo) (xs : List DeviceDef) → ((x : DevNo) → q x ≡ true → p x ≡ true)
+    → p d ≡ true → q d ≡ false → list_any (is_device d) xs ≡ true
     → count_of (λ x. q x.dev) xs + 1 ≤ count_of (λ x. p x.dev) xs
 count_drop p q d [] le holds fails there = cc
 count_drop p q d (x ∷ xs) le holds fails there = by_test (is_device d x) refl there (λ t. count_drop p q d xs le holds fails t)
@@ -101,11 +113,13 @@ count_drop p q d (x ∷ xs) le holds fails there = by_test (is_device d x) refl 
     later false false i m n j = j
     later false true i m n j = let k = i refl in cc
 
-    by_test : (b : Bool) → is_device d x ≡ b → (b || list_any (is_device d) xs) ≡ true → (list_any (is_device d) xs ≡ true → count_of (λ x. q x.dev) xs + 1 ≤ count_of (λ x. p x.dev) xs)
+    by_test : (b : Bool) → is_device d x ≡ b → (b || list_any (is_device d) xs) ≡ true
+        → (list_any (is_device d) xs ≡ true → count_of (λ x. q x.dev) xs + 1 ≤ count_of (λ x. p x.dev) xs)
         → count_of (λ x. q x.dev) (x ∷ xs) + 1 ≤ count_of (λ x. p x.dev) (x ∷ xs)
     by_test true is any deeper =
         let same = dev_from_same d x.dev is in
-        here (p x.dev) (q x.dev) (subst (λ y. p y ≡ true) same holds) (subst (λ y. q y ≡ false) same fails) _ _ (count_imply (λ x. q x.dev) (λ x. p x.dev) xs (λ x. le x.dev))
+        here (p x.dev) (q x.dev) (subst (λ y. p y ≡ true) same holds) (subst (λ y. q y ≡ false) same fails) _ _
+        (count_imply (λ x. q x.dev) (λ x. p x.dev) xs (λ x. le x.dev))
     by_test false is any deeper = later (p x.dev) (q x.dev) (le x.dev) _ _ (deeper any)
 
 count_all : (p : DeviceDef → Bool) (xs : List DeviceDef) → count_of p xs ≤ length xs
@@ -127,12 +141,15 @@ left def past = count_of (λ x. is_left def past x.dev) def.devices
 pub flow_before : (def : LineDef) (e : Entry) (past : List Entry) → is_handle e ≡ false → has_flow def (e ∷ past) ≡ true → has_flow def past ≡ true
 flow_before def (entries.End c again unmask note) past other h = by_test (closes def (entries.End c again unmask note)) h
   where
-    by_test : (b : Bool) → is_some (cpu_of_handle (cond (false || b) (Some (entries.End c again unmask note)) (last_of (λ e. is_handle e || closes def e) past))) ≡ true → has_flow def past ≡ true
+    by_test : (b : Bool) → is_some (cpu_of_handle (cond (false || b) (Some (entries.End c again unmask note))
+        (last_of (λ e. is_handle e || closes def e) past))) ≡ true → has_flow def past ≡ true
     by_test true h = cc
     by_test false h = h
 flow_before def e past other h = sym (ap is_some (flow_quiet def e past other refl refl)) ∙ h
 
-left_before : (def : LineDef) (e : Entry) (past : List Entry) (d : DevNo) → is_handle e ≡ false → (has_begun def (e ∷ past) d ≡ false → has_begun def past d ≡ false) → is_left def (e ∷ past) d ≡ true → is_left def past d ≡ true
+left_before : (def : LineDef) (e : Entry) (past : List Entry) (d : DevNo) → is_handle e ≡ false
+    → (has_begun def (e ∷ past) d ≡ false → has_begun def past d ≡ false) → is_left def (e ∷ past) d ≡ true
+    → is_left def past d ≡ true
 left_before def e past d other begun h =
     let parts = and_parts (has_flow def (e ∷ past)) (not (has_begun def (e ∷ past) d)) h in
     both (has_flow def past) (has_begun def past d) (flow_before def e past other parts.0) (begun (from_not _ parts.1))
@@ -151,7 +168,8 @@ LeftKept def e past = one_if (is_any_begin e) + left def (e ∷ past) ≤ left d
 later_begun : (s b : Bool) → (s || b) ≡ false → b ≡ false
 later_begun s b h = grind arith
 
-left_at_begin : (def : LineDef) (c : CpuNo) (x : DevNo) (past : List Entry) → Kept def past → IsDue def (entries.Begin c x) past → LeftKept def (entries.Begin c x) past
+left_at_begin : (def : LineDef) (c : CpuNo) (x : DevNo) (past : List Entry) → Kept def past
+    → IsDue def (entries.Begin c x) past → LeftKept def (entries.Begin c x) past
 left_at_begin def c x past k due =
     let u = begin_due def c x past due in
     let l = begun_is_linked def past x u.first in
@@ -172,18 +190,24 @@ left_at_begin def c x past k due =
     same : (d : DevNo) → same_dev d d ≡ true
     same d = same_self d
 
-left_quiet : (def : LineDef) (e : Entry) (past : List Entry) → is_any_begin e ≡ false → is_handle e ≡ false → ((d : DevNo) → has_begun def (e ∷ past) d ≡ false → has_begun def past d ≡ false) → LeftKept def e past
+left_quiet : (def : LineDef) (e : Entry) (past : List Entry) → is_any_begin e ≡ false → is_handle e ≡ false
+    → ((d : DevNo) → has_begun def (e ∷ past) d ≡ false → has_begun def past d ≡ false) → LeftKept def e past
 left_quiet def e past no_begin no_handle begun =
-    let less = count_imply (λ x. is_left def (e ∷ past) x.dev) (λ x. is_left def past x.dev) def.devices (λ x. left_before def e past x.dev no_handle (begun x.dev)) in
+    let less = count_imply (λ x. is_left def (e ∷ past) x.dev) (λ x. is_left def past x.dev) def.devices
+    (λ x. left_before def e past x.dev no_handle (begun x.dev)) in
     let none : one_if (is_any_begin e) ≡ 0 = ap one_if no_begin in
     omega (arith, less, none)
 
 left_more : (def : LineDef) (e : Entry) (past : List Entry) → Kept def past → IsDue def e past → begins_round def e ≡ false → LeftKept def e past
 left_more def (entries.Begin c x) past k due same = left_at_begin def c x past k due
 left_more def (entries.Take c way takes.Handle) past k due same = cc
-left_more def (entries.End c again unmask note) past k due same = left_quiet def (entries.End c again unmask note) past refl refl (λ d. begun (begins_round def (entries.End c again unmask note)) d same)
+left_more def (entries.End c again unmask note) past k due same
+    = left_quiet def (entries.End c again unmask note) past refl refl
+    (λ d. begun (begins_round def (entries.End c again unmask note)) d same)
   where
-    begun : (b : Bool) (d : DevNo) → b ≡ false → list_any (is_begin d) (cond b [] (entries.End c again unmask note ∷ since (begins_round def) past)) ≡ false → has_begun def past d ≡ false
+    begun : (b : Bool) (d : DevNo) → b ≡ false → list_any (is_begin d)
+        (cond b [] (entries.End c again unmask note ∷ since (begins_round def) past)) ≡ false
+        → has_begun def past d ≡ false
     begun true d h i = cc
     begun false d h i = i
 left_more def e past k due same = left_quiet def e past refl refl (λ d h. h)
@@ -198,7 +222,8 @@ no_begin_anew : (def : LineDef) (e : Entry) → begins_round def e ≡ true → 
 no_begin_anew def (entries.Begin c x) h = cc
 no_begin_anew def e h = refl
 
-pub begins_past : (def : LineDef) (past : List Entry) → IsValid def → IsLegalPast def past → count_of is_any_begin past + left def past ≤ length def.devices * count_of (begins_round def) past
+pub begins_past : (def : LineDef) (past : List Entry) → IsValid def → IsLegalPast def past
+    → count_of is_any_begin past + left def past ≤ length def.devices * count_of (begins_round def) past
 begins_past def [] valid legal = let none = no_left def.devices in omega (arith, none)
   where
     no_left : (xs : List DeviceDef) → count_of (λ (x : DeviceDef). false) xs ≡ 0
@@ -209,9 +234,14 @@ begins_past def (e ∷ past) valid legal = by_round (begins_round def e) refl (b
     by_round : (b : Bool) → begins_round def e ≡ b → count_of is_any_begin past + left def past ≤ length def.devices * count_of (begins_round def) past
         → count_of is_any_begin (e ∷ past) + left def (e ∷ past) ≤ length def.devices * count_of (begins_round def) (e ∷ past)
     by_round true is before =
-        let b : count_of is_any_begin (e ∷ past) ≡ count_of is_any_begin past = count_more is_any_begin e past ∙ (let n : one_if (is_any_begin e) ≡ 0 = ap one_if (no_begin_anew def e is) in omega (arith, n)) in
-        let r : count_of (begins_round def) (e ∷ past) ≡ suc (count_of (begins_round def) past) = count_more (begins_round def) e past ∙ (let n : one_if (begins_round def e) ≡ 1 = ap one_if is in omega (arith, n)) in
+        let b : count_of is_any_begin (e ∷ past) ≡ count_of is_any_begin past = count_more is_any_begin e past
+        ∙ (let n : one_if (is_any_begin e) ≡ 0 = ap one_if (no_begin_anew def e is) in omega (arith, n)) in
+        let r : count_of (begins_round def) (e ∷ past)
+        ≡ suc (count_of (begins_round def) past) = count_more (begins_round def) e past
+        ∙ (let n : one_if (begins_round def e) ≡ 1 = ap one_if is in omega (arith, n)) in
         begins_anew _ _ _ _ _ _ _ before b r (count_all (λ x. is_left def (e ∷ past) x.dev) def.devices)
     by_round false is before =
-        let r : count_of (begins_round def) (e ∷ past) ≡ count_of (begins_round def) past = count_more (begins_round def) e past ∙ (let n : one_if (begins_round def e) ≡ 0 = ap one_if is in omega (arith, n)) in
+        let r : count_of (begins_round def) (e ∷ past)
+        ≡ count_of (begins_round def) past = count_more (begins_round def) e past
+        ∙ (let n : one_if (begins_round def e) ≡ 0 = ap one_if is in omega (arith, n)) in
         begins_more _ _ _ _ _ _ _ _ before (count_more is_any_begin e past) r (left_more def e past (kept def past valid legal.1) legal.0 is)

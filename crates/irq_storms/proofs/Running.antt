@@ -12,7 +12,8 @@ use Rattle.irq_storms.proofs.Counting.{count_more}
 abbrev pub StaysBelow : (Entry → Bool) → (Entry → Bool) → (List Entry → ℕ) → Entry → List Entry → Type 0
 StaysBelow p q m e past = one_if (p e) + m (e ∷ past) ≤ m past + one_if (q e)
 
-pub runs_below : (def : LineDef) (p q : Entry → Bool) (m : List Entry → ℕ) → m [] ≡ 0 → ((e : Entry) (past : List Entry) → IsLegalPast def past → IsDue def e past → StaysBelow p q m e past)
+pub runs_below : (def : LineDef) (p q : Entry → Bool) (m : List Entry → ℕ) → m [] ≡ 0
+    → ((e : Entry) (past : List Entry) → IsLegalPast def past → IsDue def e past → StaysBelow p q m e past)
     → (past : List Entry) → IsLegalPast def past → count_of p past + m past ≤ count_of q past
 runs_below def p q m none step [] legal = omega (arith, none)
 runs_below def p q m none step (e ∷ past) legal =

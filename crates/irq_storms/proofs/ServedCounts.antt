@@ -1,5 +1,6 @@
 -- The runs that serve something, by the asks that they serve.
-use Rattle.std.proofs.Common.{◌≡◌, ℕ, ◌+◌, ◌≤◌, ◌==◌, ◌⊎◌, inl, inr, Bool, true, false, not, ◌||◌, ◌&&◌, cond, nat_lt, List, [], ◌∷◌, refl, sym, ap, ◌∙◌, subst, arith}
+use Rattle.std.proofs.Common.{◌≡◌, ℕ, ◌+◌, ◌≤◌, ◌==◌, ◌⊎◌, inl, inr, Bool, true, false, not, ◌||◌, ◌&&◌, cond, nat_lt}
+use Rattle.std.proofs.Common.{List, [], ◌∷◌, refl, sym, ap, ◌∙◌, subst, arith}
 use Rattle.std.proofs.lemmas.Bool.{and_parts, or_parts, ltb-true}
 use Rattle.std.specs.List.{list_any}
 use Rattle.irq_base.specs.declared.numbers.CpuNo.{CpuNo}
@@ -42,24 +43,28 @@ module _ (a b r : Entry → Bool) where
   more : (e : Entry) (past : List Entry) → r e ≡ false → unserved (e ∷ past) ≡ unserved past + one_if (a e)
   more e past other = by_return (r e) other
     where
-      by_return : (c : Bool) → c ≡ false → count_of a (cond c [] (e ∷ since r past)) + count_of a (since b (cond c past (before r past))) ≡ unserved past + one_if (a e)
+      by_return : (c : Bool) → c ≡ false → count_of a (cond c [] (e ∷ since r past)) + count_of a
+          (since b (cond c past (before r past))) ≡ unserved past + one_if (a e)
       by_return true h = cc
       by_return false h = let m = count_more a e (since r past) in omega (arith, m)
 
   over : (e : Entry) (past : List Entry) → r e ≡ true → unserved (e ∷ past) ≡ count_of a (since b past)
   over e past is = by_return (r e) is
     where
-      by_return : (c : Bool) → c ≡ true → count_of a (cond c [] (e ∷ since r past)) + count_of a (since b (cond c past (before r past))) ≡ count_of a (since b past)
+      by_return : (c : Bool) → c ≡ true → count_of a (cond c [] (e ∷ since r past)) + count_of a
+          (since b (cond c past (before r past))) ≡ count_of a (since b past)
       by_return true h = omega arith
       by_return false h = cc
 
   -- while a run is in progress, the unserved asks are those that the run met and those that came
   -- since
-  met : ((e : Entry) → b e ≡ true → (r e ≡ false) × (a e ≡ false)) → (past : List Entry) → stands b r past ≡ true → unserved past ≡ unserved (before b past) + count_of a (since b past)
+  met : ((e : Entry) → b e ≡ true → (r e ≡ false) × (a e ≡ false)) → (past : List Entry) → stands b r past ≡ true
+      → unserved past ≡ unserved (before b past) + count_of a (since b past)
   met apart [] h = cc
   met apart (e ∷ past) h = by_begin (b e) refl (stands_cases (b e) (r e) (stands b r past) h) (λ s. met apart past s)
     where
-      by_begin : (c : Bool) → b e ≡ c → (b e ≡ true) ⊎ ((r e ≡ false) × (stands b r past ≡ true)) → (stands b r past ≡ true → unserved past ≡ unserved (before b past) + count_of a (since b past))
+      by_begin : (c : Bool) → b e ≡ c → (b e ≡ true) ⊎ ((r e ≡ false) × (stands b r past ≡ true))
+          → (stands b r past ≡ true → unserved past ≡ unserved (before b past) + count_of a (since b past))
           → unserved (e ∷ past) ≡ unserved (cond c past (before b past)) + count_of a (cond c [] (e ∷ since b past))
       by_begin true is s deeper =
           let p = apart e is in
@@ -74,7 +79,8 @@ module _ (a b r : Entry → Bool) where
           omega (arith, m, d, n)
 
   -- a run returns: what it met is served
-  served : ((e : Entry) → b e ≡ true → (r e ≡ false) × (a e ≡ false)) → (e : Entry) (past : List Entry) → r e ≡ true → stands b r past ≡ true → unserved (e ∷ past) + unserved (before b past) ≡ unserved past
+  served : ((e : Entry) → b e ≡ true → (r e ≡ false) × (a e ≡ false)) → (e : Entry) (past : List Entry) → r e ≡ true
+      → stands b r past ≡ true → unserved (e ∷ past) + unserved (before b past) ≡ unserved past
   served apart e past is s = let o = over e past is in let m = met apart past s in omega (arith, o, m)
 
 -- a run that began, with no return after it
@@ -88,7 +94,9 @@ still_standing b r o (e ∷ past) s n = by_begin (b e) s n (λ s n. still_standi
     again : (c s : Bool) → c ≡ false → s ≡ true → (false || (not c && s)) ≡ true
     again c s h i = grind arith
 
-    by_begin : (c : Bool) → (c || (not (o e) && stands b o past)) ≡ true → list_any r (cond c [] (e ∷ since b past)) ≡ false → (stands b o past ≡ true → list_any r (since b past) ≡ false → stands b r past ≡ true)
+    by_begin : (c : Bool) → (c || (not (o e) && stands b o past)) ≡ true
+        → list_any r (cond c [] (e ∷ since b past)) ≡ false
+        → (stands b o past ≡ true → list_any r (since b past) ≡ false → stands b r past ≡ true)
         → (c || (not (r e) && stands b r past)) ≡ true
     by_begin true s n deeper = refl
     by_begin false s n deeper =
@@ -124,7 +132,9 @@ wake_by kinds.Stuck n h = cc
 wakes_thread : (def : LineDef) (d : DevNo) (e : Entry) (past : List Entry) → IsDue def e past → wakes d e ≡ true → has_thread (kind_of def d) ≡ true
 wakes_thread def d (entries.Return c x answers.Wake count) past due h =
     let same = dev_from_same d x (and_parts (same_dev d x) true h).0 in
-    subst (λ (y : DevNo). has_thread (kind_of def y) ≡ true) (sym same) (wake_by (kind_of def x) (asks_of_handler def x past) (return_due def c x answers.Wake count past due).answer_is)
+    subst (λ (y : DevNo). has_thread (kind_of def y) ≡ true) (sym same)
+    (wake_by (kind_of def x) (asks_of_handler def x past)
+    (return_due def c x answers.Wake count past due).answer_is)
 wakes_thread def d (entries.Return c x answers.Handled count) past due h = let p = (and_parts (same_dev d x) false h).1 in cc
 wakes_thread def d (entries.Return c x answers.Nothing count) past due h = let p = (and_parts (same_dev d x) false h).1 in cc
 wakes_thread def d e past due h = cc
@@ -133,15 +143,18 @@ woken_thread : (def : LineDef) (d : DevNo) (past : List Entry) → IsLegalPast d
 woken_thread def d [] legal h = cc
 woken_thread def d (e ∷ past) legal h = by_case (stands_cases (wakes d e) (is_thread_begin d e) (is_woken past d) h) (λ s. woken_thread def d past legal.1 s)
   where
-    by_case : (wakes d e ≡ true) ⊎ ((is_thread_begin d e ≡ false) × (is_woken past d ≡ true)) → (is_woken past d ≡ true → has_thread (kind_of def d) ≡ true) → has_thread (kind_of def d) ≡ true
+    by_case : (wakes d e ≡ true) ⊎ ((is_thread_begin d e ≡ false) × (is_woken past d ≡ true))
+        → (is_woken past d ≡ true → has_thread (kind_of def d) ≡ true) → has_thread (kind_of def d) ≡ true
     by_case (inl w) deeper = wakes_thread def d e past legal.0 w
     by_case (inr w) deeper = deeper w.1
 
 running_thread : (def : LineDef) (d : DevNo) (past : List Entry) → IsLegalPast def past → is_running past d ≡ true → has_thread (kind_of def d) ≡ true
 running_thread def d [] legal h = cc
-running_thread def d (e ∷ past) legal h = by_case (stands_cases (is_thread_begin d e) (is_done d e) (is_running past d) h) (λ s. running_thread def d past legal.1 s)
+running_thread def d (e ∷ past) legal h = by_case (stands_cases (is_thread_begin d e) (is_done d e) (is_running past d)
+    h) (λ s. running_thread def d past legal.1 s)
   where
-    by_case : (is_thread_begin d e ≡ true) ⊎ ((is_done d e ≡ false) × (is_running past d ≡ true)) → (is_running past d ≡ true → has_thread (kind_of def d) ≡ true) → has_thread (kind_of def d) ≡ true
+    by_case : (is_thread_begin d e ≡ true) ⊎ ((is_done d e ≡ false) × (is_running past d ≡ true))
+        → (is_running past d ≡ true → has_thread (kind_of def d) ≡ true) → has_thread (kind_of def d) ≡ true
     by_case (inl b) deeper = woken_thread def d past legal.1 (begin_tells def d e past legal.0 b).0
     by_case (inr s) deeper = deeper s.1
 
@@ -171,7 +184,9 @@ none_of true n h = h refl
 none_of false n h = refl
 
 -- what a handler's return says that it served
-return_count : (def : LineDef) (c : CpuNo) (d : DevNo) (answer : Answer) (count : ℕ) (past : List Entry) → IsDue def (entries.Return c d answer count) past → count ≡ served_by_handler (kind_of def d) (asks_of_handler def d past)
+return_count : (def : LineDef) (c : CpuNo) (d : DevNo) (answer : Answer) (count : ℕ) (past : List Entry)
+    → IsDue def (entries.Return c d answer count) past
+    → count ≡ served_by_handler (kind_of def d) (asks_of_handler def d past)
 return_count def c d answer count past due =
     let f = in_flow def c past (entries.Return c d answer count) (λ way answer is. cc) due in
     let w = (return_due def c d answer count past due).is_at_work in
@@ -181,9 +196,12 @@ return_count def c d answer count past due =
     same_count x n h = let s : count ≡ n = cc in s
 
 -- the same of a device that is d
-count_of_return : (def : LineDef) (c : CpuNo) (d x : DevNo) (answer : Answer) (count : ℕ) (past : List Entry) → IsDue def (entries.Return c x answer count) past → same_dev d x ≡ true → count ≡ served_by_handler (kind_of def d) (asks_of_handler def d past)
+count_of_return : (def : LineDef) (c : CpuNo) (d x : DevNo) (answer : Answer) (count : ℕ) (past : List Entry)
+    → IsDue def (entries.Return c x answer count) past → same_dev d x ≡ true
+    → count ≡ served_by_handler (kind_of def d) (asks_of_handler def d past)
 count_of_return def c d x answer count past due same =
-    subst (λ (y : DevNo). count ≡ served_by_handler (kind_of def y) (asks_of_handler def y past)) (sym (dev_from_same d x same)) (return_count def c x answer count past due)
+    subst (λ (y : DevNo). count ≡ served_by_handler (kind_of def y) (asks_of_handler def y past))
+    (sym (dev_from_same d x same)) (return_count def c x answer count past due)
 
 apart_handler : (d : DevNo) (e : Entry) → is_begin d e ≡ true → (is_return d e ≡ false) × (is_ask d e ≡ false)
 apart_handler d (entries.Begin c x) h = (refl, refl)
@@ -194,22 +212,29 @@ apart_thread d (entries.ThreadBegin x) h = (refl, refl)
 apart_thread d e h = cc
 
 -- no thread's return of a device without a thread
-no_thread_return : {P : Type 0} (def : LineDef) (d x : DevNo) (count : ℕ) (past : List Entry) → IsLegalPast def past → IsDue def (entries.ThreadReturn x count) past → same_dev d x ≡ true → has_thread (kind_of def d) ≡ false → P
+no_thread_return : {P : Type 0} (def : LineDef) (d x : DevNo) (count : ℕ) (past : List Entry) → IsLegalPast def past
+    → IsDue def (entries.ThreadReturn x count) past → same_dev d x ≡ true → has_thread (kind_of def d) ≡ false → P
 no_thread_return def d x count past legal due same none =
     both_ways (has_thread (kind_of def d)) (running_thread def d past legal (return_tells def d (entries.ThreadReturn x count) past due same).0) none
 
-direct_more : (def : LineDef) (d : DevNo) (e : Entry) (past : List Entry) → kind_of def d ≡ kinds.Direct → IsLegalPast def past → KeepsRuns def past → IsDue def e past → ServedMore def kinds.Direct d e past
+direct_more : (def : LineDef) (d : DevNo) (e : Entry) (past : List Entry) → kind_of def d ≡ kinds.Direct
+    → IsLegalPast def past → KeepsRuns def past → IsDue def e past → ServedMore def kinds.Direct d e past
 direct_more def d (entries.Return c x answer count) past is legal k due = by_same (same_dev d x) refl
   where
     by_same : (b : Bool) → same_dev d x ≡ b → ServedMore def kinds.Direct d (entries.Return c x answer count) past
     by_same true same =
-        let called : is_called past d ≡ true = subst (λ (y : DevNo). is_called past y ≡ true) (sym (dev_from_same d x same)) (k.working x (return_due def c x answer count past due).is_at_work).0 in
+        let called : is_called past d ≡ true = subst (λ (y : DevNo). is_called past y ≡ true)
+        (sym (dev_from_same d x same)) (k.working x (return_due def c x answer count past due).is_at_work).0 in
         let gone = served (is_ask d) (is_begin d) (is_return d) (apart_handler d) (entries.Return c x answer count) past same called in
-        let counts : count ≡ unserved_by kinds.Direct d (before (is_begin d) past) = count_of_return def c d x answer count past due same ∙ ap (λ (y : Kind). served_by_handler y (unserved_by y d (before (is_begin d) past))) is in
+        let counts : count ≡ unserved_by kinds.Direct d (before (is_begin d) past)
+        = count_of_return def c d x answer count past due same
+        ∙ ap (λ (y : Kind). served_by_handler y (unserved_by y d (before (is_begin d) past))) is in
         serving _ _ _ _ (of_this (same_dev d x) count same ∙ counts) gone
-    by_same false other = quiet _ _ _ _ (not_of (same_dev d x) count other) (more (is_ask d) (is_begin d) (is_return d) (entries.Return c x answer count) past other)
+    by_same false other = quiet _ _ _ _ (not_of (same_dev d x) count other)
+        (more (is_ask d) (is_begin d) (is_return d) (entries.Return c x answer count) past other)
 direct_more def d (entries.ThreadReturn x count) past is legal k due =
-    quiet _ _ _ _ (none_of (same_dev d x) count (λ same. no_thread_return def d x count past legal due same (ap has_thread is))) (more (is_ask d) (is_begin d) (is_return d) (entries.ThreadReturn x count) past refl)
+    quiet _ _ _ _ (none_of (same_dev d x) count (λ same. no_thread_return def d x count past legal due same
+    (ap has_thread is))) (more (is_ask d) (is_begin d) (is_return d) (entries.ThreadReturn x count) past refl)
 direct_more def d e past is legal k due = quiet _ _ _ _ refl (more (is_ask d) (is_begin d) (is_return d) e past refl)
 
 -- a device with a thread
@@ -219,15 +244,21 @@ serves_none kinds.Null n h = refl
 serves_none kinds.Direct n h = cc
 serves_none kinds.Stuck n h = cc
 
-thread_more : (def : LineDef) (d : DevNo) (e : Entry) (past : List Entry) (kind : Kind) → kind_of def d ≡ kind → has_thread kind ≡ true → IsLegalPast def past → IsDue def e past
-    → asks_served d e + unserved (is_ask d) (is_thread_begin d) (is_thread_return d) (e ∷ past) ≡ unserved (is_ask d) (is_thread_begin d) (is_thread_return d) past + one_if (is_ask d e)
+thread_more : (def : LineDef) (d : DevNo) (e : Entry) (past : List Entry) (kind : Kind) → kind_of def d ≡ kind
+    → has_thread kind ≡ true → IsLegalPast def past → IsDue def e past
+    → asks_served d e + unserved (is_ask d) (is_thread_begin d) (is_thread_return d) (e ∷ past)
+    ≡ unserved (is_ask d) (is_thread_begin d) (is_thread_return d) past + one_if (is_ask d e)
 thread_more def d (entries.Return c x answer count) past kind is thread legal due =
     quiet _ _ _ _
-    (none_of (same_dev d x) count (λ same. count_of_return def c d x answer count past due same ∙ ap (λ (y : Kind). served_by_handler y (asks_of_handler def d past)) is ∙ serves_none kind (asks_of_handler def d past) thread))
+    (none_of (same_dev d x) count (λ same. count_of_return def c d x answer count past due same
+    ∙ ap (λ (y : Kind). served_by_handler y (asks_of_handler def d past)) is
+    ∙ serves_none kind (asks_of_handler def d past) thread))
     (more (is_ask d) (is_thread_begin d) (is_thread_return d) (entries.Return c x answer count) past refl)
 thread_more def d (entries.ThreadReturn x count) past kind is thread legal due = by_same (same_dev d x) refl
   where
-    by_kind : (k : Kind) → kind_of def d ≡ k → has_thread k ≡ true → asks_of_thread def d past ≡ unserved (is_ask d) (is_thread_begin d) (is_thread_return d) (before (is_thread_begin d) past)
+    by_kind : (k : Kind) → kind_of def d ≡ k → has_thread k ≡ true
+        → asks_of_thread def d past ≡ unserved (is_ask d) (is_thread_begin d) (is_thread_return d)
+        (before (is_thread_begin d) past)
     by_kind kinds.Check is t = ap (λ (y : Kind). unserved_by y d (before (is_thread_begin d) past)) is
     by_kind kinds.Null is t = ap (λ (y : Kind). unserved_by y d (before (is_thread_begin d) past)) is
     by_kind kinds.Direct is t = cc
@@ -240,20 +271,26 @@ thread_more def d (entries.ThreadReturn x count) past kind is thread legal due =
         let t = return_tells def d (entries.ThreadReturn x count) past due same in
         let run = still_standing (is_thread_begin d) (is_thread_return d) (is_done d) past t.0 t.1 in
         let gone = served (is_ask d) (is_thread_begin d) (is_thread_return d) (apart_thread d) (entries.ThreadReturn x count) past same run in
-        let counts : count ≡ asks_of_thread def d past = (thread_return_due def x count past due).served_is ∙ ap (λ (y : DevNo). asks_of_thread def y past) (sym (dev_from_same d x same)) in
+        let counts : count ≡ asks_of_thread def d past = (thread_return_due def x count past due).served_is
+        ∙ ap (λ (y : DevNo). asks_of_thread def y past) (sym (dev_from_same d x same)) in
         serving _ _ _ _ (of_this (same_dev d x) count same ∙ counts ∙ by_kind kind is thread) gone
-    by_same false other = quiet _ _ _ _ (not_of (same_dev d x) count other) (more (is_ask d) (is_thread_begin d) (is_thread_return d) (entries.ThreadReturn x count) past other)
+    by_same false other = quiet _ _ _ _ (not_of (same_dev d x) count other)
+        (more (is_ask d) (is_thread_begin d) (is_thread_return d) (entries.ThreadReturn x count) past other)
 thread_more def d e past kind is thread legal due = quiet _ _ _ _ refl (more (is_ask d) (is_thread_begin d) (is_thread_return d) e past refl)
 
-stuck_more : (def : LineDef) (d : DevNo) (e : Entry) (past : List Entry) → kind_of def d ≡ kinds.Stuck → IsLegalPast def past → IsDue def e past → ServedMore def kinds.Stuck d e past
+stuck_more : (def : LineDef) (d : DevNo) (e : Entry) (past : List Entry) → kind_of def d ≡ kinds.Stuck
+    → IsLegalPast def past → IsDue def e past → ServedMore def kinds.Stuck d e past
 stuck_more def d (entries.Return c x answer count) past is legal due =
-    quiet _ _ _ _ (none_of (same_dev d x) count (λ same. count_of_return def c d x answer count past due same ∙ ap (λ (y : Kind). served_by_handler y (asks_of_handler def d past)) is))
+    quiet _ _ _ _ (none_of (same_dev d x) count (λ same. count_of_return def c d x answer count past due same
+    ∙ ap (λ (y : Kind). served_by_handler y (asks_of_handler def d past)) is))
     (more (is_ask d) (λ e. false) (λ e. false) (entries.Return c x answer count) past refl)
 stuck_more def d (entries.ThreadReturn x count) past is legal due =
-    quiet _ _ _ _ (none_of (same_dev d x) count (λ same. no_thread_return def d x count past legal due same (ap has_thread is))) (more (is_ask d) (λ e. false) (λ e. false) (entries.ThreadReturn x count) past refl)
+    quiet _ _ _ _ (none_of (same_dev d x) count (λ same. no_thread_return def d x count past legal due same
+    (ap has_thread is))) (more (is_ask d) (λ e. false) (λ e. false) (entries.ThreadReturn x count) past refl)
 stuck_more def d e past is legal due = quiet _ _ _ _ refl (more (is_ask d) (λ e. false) (λ e. false) e past refl)
 
-served_more : (def : LineDef) (d : DevNo) (e : Entry) (past : List Entry) (kind : Kind) → kind_of def d ≡ kind → IsLegalPast def past → KeepsRuns def past → IsDue def e past → ServedMore def kind d e past
+served_more : (def : LineDef) (d : DevNo) (e : Entry) (past : List Entry) (kind : Kind) → kind_of def d ≡ kind
+    → IsLegalPast def past → KeepsRuns def past → IsDue def e past → ServedMore def kind d e past
 served_more def d e past kinds.Direct is legal k due = direct_more def d e past is legal k due
 served_more def d e past kinds.Check is legal k due = thread_more def d e past kinds.Check is refl legal due
 served_more def d e past kinds.Null is legal k due = thread_more def d e past kinds.Null is refl legal due
@@ -266,10 +303,12 @@ none_unserved kinds.Null d = refl
 none_unserved kinds.Stuck d = refl
 
 -- the served asks and the unserved asks of a device together are its asks
-pub served_exactly : (def : LineDef) (d : DevNo) (past : List Entry) → IsValid def → IsLegalPast def past → total (asks_served d) past + unserved_asks def d past ≡ count_of (is_ask d) past
+pub served_exactly : (def : LineDef) (d : DevNo) (past : List Entry) → IsValid def → IsLegalPast def past
+    → total (asks_served d) past + unserved_asks def d past ≡ count_of (is_ask d) past
 served_exactly def d [] valid legal = let n = none_unserved (kind_of def d) d in omega (arith, n)
 served_exactly def d (e ∷ past) valid legal =
-    summed _ _ _ _ _ _ _ (count_more (is_ask d) e past) (served_exactly def d past valid legal.1) (served_more def d e past (kind_of def d) refl legal.1 (kept def past valid legal.1).runs legal.0)
+    summed _ _ _ _ _ _ _ (count_more (is_ask d) e past) (served_exactly def d past valid legal.1)
+    (served_more def d e past (kind_of def d) refl legal.1 (kept def past valid legal.1).runs legal.0)
   where
     summed : (t u u' x c c' y : ℕ) → c' ≡ c + y → t + u ≡ c → x + u' ≡ u + y → (x + t) + u' ≡ c'
     summed t u u' x c c' y h i j = omega (arith, h, i, j)
@@ -287,10 +326,12 @@ handled_answer answers.Wake h = cc
 handled_answer answers.Nothing h = cc
 
 -- one that answers so serves some
-handled_serves : (def : LineDef) (c : CpuNo) (x : DevNo) (answer : Answer) (count : ℕ) (past : List Entry) → IsDue def (entries.Return c x answer count) past → is_handled answer ≡ true → nat_lt 0 count ≡ true
+handled_serves : (def : LineDef) (c : CpuNo) (x : DevNo) (answer : Answer) (count : ℕ) (past : List Entry)
+    → IsDue def (entries.Return c x answer count) past → is_handled answer ≡ true → nat_lt 0 count ≡ true
 handled_serves def c x answer count past due h =
     let by = handled_by (kind_of def x) (asks_of_handler def x past) (handled_answer answer h ∙ (return_due def c x answer count past due).answer_is) in
-    let all : count ≡ asks_of_handler def x past = return_count def c x answer count past due ∙ ap (λ (y : Kind). served_by_handler y (asks_of_handler def x past)) by.0 in
+    let all : count ≡ asks_of_handler def x past = return_count def c x answer count past due
+    ∙ ap (λ (y : Kind). served_by_handler y (asks_of_handler def x past)) by.0 in
     ap (λ (n : ℕ). nat_lt 0 n) all ∙ by.1
 
 serves_some : (def : LineDef) (d : DevNo) (e : Entry) (past : List Entry) → IsDue def e past → one_if (serves_of d e) ≤ asks_served d e
@@ -300,10 +341,12 @@ serves_some def d e past due = omega arith
 
 serving_runs : (def : LineDef) (d : DevNo) (past : List Entry) → IsLegalPast def past → count_of (serves_of d) past ≤ total (asks_served d) past
 serving_runs def d [] legal = omega arith
-serving_runs def d (e ∷ past) legal = let m = count_more (serves_of d) e past in let r = serving_runs def d past legal.1 in let s = serves_some def d e past legal.0 in omega (arith, m, r, s)
+serving_runs def d (e ∷ past) legal = let m = count_more (serves_of d) e past in
+    let r = serving_runs def d past legal.1 in let s = serves_some def d e past legal.0 in omega (arith, m, r, s)
 
 -- of each device, the runs that served something and the unserved asks are at most the asks
-pub served_of : (def : LineDef) (d : DevNo) (past : List Entry) → IsValid def → IsLegalPast def past → count_of (serves_of d) past + unserved_asks def d past ≤ count_of (is_ask d) past
+pub served_of : (def : LineDef) (d : DevNo) (past : List Entry) → IsValid def → IsLegalPast def past
+    → count_of (serves_of d) past + unserved_asks def d past ≤ count_of (is_ask d) past
 served_of def d past valid legal = let a = served_exactly def d past valid legal in let b = serving_runs def d past legal in omega (arith, a, b)
 
 -- of all devices
@@ -319,4 +362,5 @@ key_serves k e = refl
 pub served_past : (def : LineDef) (past : List Entry) → IsValid def → IsLegalPast def past → count_of is_any_serving past ≤ count_of is_any_ask past
 served_past def past valid legal =
     counts_by_key dev_key past is_any_serving is_any_ask
-    (λ k. let n = served_of def (record { 0 = k }) past valid legal in let a = count_ext _ _ past (key_ask k) in let b = count_ext _ _ past (key_serves k) in omega (arith, n, a, b))
+    (λ k. let n = served_of def (record { 0 = k }) past valid legal in let a = count_ext _ _ past (key_ask k) in
+    let b = count_ext _ _ past (key_serves k) in omega (arith, n, a, b))

@@ -149,7 +149,73 @@ late_log =
     entries.End (cpu 0) false false notes.Killed ∷ []
 
 pub late_is_legal : IsLegal late_line late_log
-late_is_legal = (refl, (refl, (refl, (refl, (refl, (refl, (refl, (refl, (refl, (refl, (refl, (refl, (refl, (refl, (refl, (refl, (refl, (refl, (refl, (refl, (refl, (refl, (refl, (refl, (refl, (refl, (refl, tt)))))))))))))))))))))))))))
+late_is_legal = (
+  refl,
+  (
+    refl,
+    (
+      refl,
+      (
+        refl,
+        (
+          refl,
+          (
+            refl,
+            (
+              refl,
+              (
+                refl,
+                (
+                  refl,
+                  (
+                    refl,
+                    (
+                      refl,
+                      (
+                        refl,
+                        (
+                          refl,
+                          (
+                            refl,
+                            (
+                              refl,
+                              (
+                                refl,
+                                (
+                                  refl,
+                                  (
+                                    refl,
+                                    (
+                                      refl,
+                                      (
+                                        refl,
+                                        (
+                                          refl,
+                                          (
+                                            refl,
+                                            (refl, (refl, (refl, (refl, (refl, tt))))),
+                                          ),
+                                        ),
+                                      ),
+                                    ),
+                                  ),
+                                ),
+                              ),
+                            ),
+                          ),
+                        ),
+                      ),
+                    ),
+                  ),
+                ),
+              ),
+            ),
+          ),
+        ),
+      ),
+    ),
+  ),
+)
 
 -- no actor of the line has a due entry
 pub late_is_still :
@@ -170,7 +236,10 @@ late_window = (refl, refl, refl, refl, refl, refl)
 -- served, the third after it. Not all ends of the window are unhandled then, so the next window is
 -- allowed too.
 abbrev pub woken_line : LineDef
-woken_line = record (small kinds.Check) { calls = (driver 1, calls.Request (dev 1) no_flags) ∷ (driver 1, calls.Ask (dev 1)) ∷ (driver 1, calls.Ask (dev 1)) ∷ [] }
+woken_line = record (small kinds.Check) {
+  calls = (driver 1, calls.Request (dev 1) no_flags)
+      ∷ (driver 1, calls.Ask (dev 1)) ∷ (driver 1, calls.Ask (dev 1)) ∷ [];
+}
 
 abbrev pub woken_log : List Entry
 woken_log =
@@ -197,7 +266,49 @@ woken_log =
     entries.Done (dev 1) ∷ []
 
 pub woken_is_legal : IsLegal woken_line woken_log
-woken_is_legal = (refl, (refl, (refl, (refl, (refl, (refl, (refl, (refl, (refl, (refl, (refl, (refl, (refl, (refl, (refl, (refl, (refl, (refl, (refl, (refl, (refl, tt)))))))))))))))))))))
+woken_is_legal = (
+  refl,
+  (
+    refl,
+    (
+      refl,
+      (
+        refl,
+        (
+          refl,
+          (
+            refl,
+            (
+              refl,
+              (
+                refl,
+                (
+                  refl,
+                  (
+                    refl,
+                    (
+                      refl,
+                      (
+                        refl,
+                        (
+                          refl,
+                          (
+                            refl,
+                            (refl, (refl, (refl, (refl, (refl, (refl, (refl, tt))))))),
+                          ),
+                        ),
+                      ),
+                    ),
+                  ),
+                ),
+              ),
+            ),
+          ),
+        ),
+      ),
+    ),
+  ),
+)
 
 -- no actor of the line has a due entry
 pub woken_is_still :

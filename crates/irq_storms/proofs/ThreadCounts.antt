@@ -36,25 +36,32 @@ is_any_done _ = false
 
 -- ---- what an entry of d's thread says when it is due
 
-pub begin_tells : (def : LineDef) (d : DevNo) (e : Entry) (past : List Entry) → IsDue def e past → is_thread_begin d e ≡ true → (is_woken past d ≡ true) × (is_running past d ≡ false)
+pub begin_tells : (def : LineDef) (d : DevNo) (e : Entry) (past : List Entry) → IsDue def e past
+    → is_thread_begin d e ≡ true → (is_woken past d ≡ true) × (is_running past d ≡ false)
 begin_tells def d (entries.ThreadBegin x) past due h =
     let u = thread_begin_due def x past due in
     let same = sym (dev_from_same d x h) in
     (subst (λ (y : DevNo). is_woken past y ≡ true) same u.woken, subst (λ (y : DevNo). is_running past y ≡ false) same u.not_running)
 begin_tells def d e past due h = cc
 
-pub return_tells : (def : LineDef) (d : DevNo) (e : Entry) (past : List Entry) → IsDue def e past → is_thread_return d e ≡ true → (is_running past d ≡ true) × (has_returned past d ≡ false)
+pub return_tells : (def : LineDef) (d : DevNo) (e : Entry) (past : List Entry) → IsDue def e past
+    → is_thread_return d e ≡ true → (is_running past d ≡ true) × (has_returned past d ≡ false)
 return_tells def d (entries.ThreadReturn x served) past due h =
     let u = thread_return_due def x served past due in
     let same = sym (dev_from_same d x h) in
     (subst (λ (y : DevNo). is_running past y ≡ true) same u.running, subst (λ (y : DevNo). has_returned past y ≡ false) same u.not_returned)
 return_tells def d e past due h = cc
 
-finish_tells : (def : LineDef) (d : DevNo) (e : Entry) (past : List Entry) → IsDue def e past → is_finish d e ≡ true → (is_running past d ≡ true) × (has_returned past d ≡ true) × (has_finished past d ≡ false)
+finish_tells : (def : LineDef) (d : DevNo) (e : Entry) (past : List Entry) → IsDue def e past → is_finish d e ≡ true
+    → (is_running past d ≡ true) × (has_returned past d ≡ true) × (has_finished past d ≡ false)
 finish_tells def d (entries.Finish x kept unmask) past due h =
     let u = finish_due def x kept unmask past due in
-    let same = sym (dev_from_same d x h) in
-    (subst (λ (y : DevNo). is_running past y ≡ true) same u.running, subst (λ (y : DevNo). has_returned past y ≡ true) same u.returned, subst (λ (y : DevNo). has_finished past y ≡ false) same u.not_finished)
+    let same = sym (dev_from_same d x h) in (
+      subst (λ (y : DevNo). is_running past y ≡ true) same u.running,
+      subst (λ (y : DevNo). has_returned past y ≡ true)
+          same u.returned,
+      subst (λ (y : DevNo). has_finished past y ≡ false) same u.not_finished,
+    )
 finish_tells def d e past due h = cc
 
 done_tells : (def : LineDef) (d : DevNo) (e : Entry) (past : List Entry) → IsDue def e past → is_done d e ≡ true → is_running past d ≡ true
@@ -76,7 +83,8 @@ woken_marks false true false h = omega arith
 woken_marks false false s h = omega arith
 
 -- b: a run begins, t: its handler returns, o: a run is done, r: running, u: returned
-returned_marks : (b t o r u : Bool) → (b ≡ true → r ≡ false) → (t ≡ true → (r ≡ true) × (u ≡ false)) → one_if t + one_if ((b || (not o && r)) && not (cond b false (t || u))) ≤ one_if (r && not u) + one_if b
+returned_marks : (b t o r u : Bool) → (b ≡ true → r ≡ false) → (t ≡ true → (r ≡ true) × (u ≡ false))
+    → one_if t + one_if ((b || (not o && r)) && not (cond b false (t || u))) ≤ one_if (r && not u) + one_if b
 returned_marks b t o r u h i = grind arith
 
 -- f: a finish, g: finished
@@ -92,10 +100,12 @@ any_since : (p : Entry → Bool) (b : Bool) (e : Entry) (xs : List Entry) → li
 any_since p true e xs = refl
 any_since p false e xs = refl
 
-returned_since : (d : DevNo) (e : Entry) (past : List Entry) → has_returned (e ∷ past) d ≡ cond (is_thread_begin d e) false (is_thread_return d e || has_returned past d)
+returned_since : (d : DevNo) (e : Entry) (past : List Entry)
+    → has_returned (e ∷ past) d ≡ cond (is_thread_begin d e) false (is_thread_return d e || has_returned past d)
 returned_since d e past = any_since (is_thread_return d) (is_thread_begin d e) e (since (is_thread_begin d) past)
 
-finished_since : (d : DevNo) (e : Entry) (past : List Entry) → has_finished (e ∷ past) d ≡ cond (is_thread_return d e) false (is_finish d e || has_finished past d)
+finished_since : (d : DevNo) (e : Entry) (past : List Entry)
+    → has_finished (e ∷ past) d ≡ cond (is_thread_return d e) false (is_finish d e || has_finished past d)
 finished_since d e past = any_since (is_finish d) (is_thread_return d e) e (since (is_thread_return d) past)
 
 -- ---- the counts of one device
@@ -106,35 +116,52 @@ awaits_return d past = is_running past d && not (has_returned past d)
 abbrev awaits_finish : DevNo → List Entry → Bool
 awaits_finish d past = is_running past d && not (has_returned past d && has_finished past d)
 
-pub begins_of : (def : LineDef) (d : DevNo) (past : List Entry) → IsLegalPast def past → count_of (is_thread_begin d) past + one_if (is_woken past d) ≤ count_of (wakes d) past
+pub begins_of : (def : LineDef) (d : DevNo) (past : List Entry) → IsLegalPast def past
+    → count_of (is_thread_begin d) past + one_if (is_woken past d) ≤ count_of (wakes d) past
 begins_of def d = runs_below def (is_thread_begin d) (wakes d) (λ past. one_if (is_woken past d)) refl step
   where
-    step : (e : Entry) (past : List Entry) → IsLegalPast def past → IsDue def e past → StaysBelow (is_thread_begin d) (wakes d) (λ past. one_if (is_woken past d)) e past
+    step : (e : Entry) (past : List Entry) → IsLegalPast def past → IsDue def e past
+        → StaysBelow (is_thread_begin d) (wakes d) (λ past. one_if (is_woken past d)) e past
     step e past legal due = woken_marks (is_thread_begin d e) (wakes d e) (is_woken past d) (λ h. (begin_tells def d e past due h).0)
 
-pub returns_of : (def : LineDef) (d : DevNo) (past : List Entry) → IsLegalPast def past → count_of (is_thread_return d) past + one_if (awaits_return d past) ≤ count_of (is_thread_begin d) past
+pub returns_of : (def : LineDef) (d : DevNo) (past : List Entry) → IsLegalPast def past
+    → count_of (is_thread_return d) past + one_if (awaits_return d past) ≤ count_of (is_thread_begin d) past
 returns_of def d = runs_below def (is_thread_return d) (is_thread_begin d) (λ past. one_if (awaits_return d past)) refl step
   where
-    step : (e : Entry) (past : List Entry) → IsLegalPast def past → IsDue def e past → StaysBelow (is_thread_return d) (is_thread_begin d) (λ past. one_if (awaits_return d past)) e past
+    step : (e : Entry) (past : List Entry) → IsLegalPast def past → IsDue def e past
+        → StaysBelow (is_thread_return d) (is_thread_begin d) (λ past. one_if (awaits_return d past)) e past
     step e past legal due =
-        subst (λ (u : Bool). one_if (is_thread_return d e) + one_if (is_running (e ∷ past) d && not u) ≤ one_if (awaits_return d past) + one_if (is_thread_begin d e)) (sym (returned_since d e past))
-        (returned_marks (is_thread_begin d e) (is_thread_return d e) (is_done d e) (is_running past d) (has_returned past d) (λ h. (begin_tells def d e past due h).1) (return_tells def d e past due))
+        subst (λ (u : Bool). one_if (is_thread_return d e) + one_if (is_running (e ∷ past) d && not u) ≤ one_if
+        (awaits_return d past) + one_if (is_thread_begin d e)) (sym (returned_since d e past))
+        (returned_marks (is_thread_begin d e) (is_thread_return d e) (is_done d e) (is_running past d)
+        (has_returned past d) (λ h. (begin_tells def d e past due h).1) (return_tells def d e past due))
 
-pub finishes_of : (def : LineDef) (d : DevNo) (past : List Entry) → IsLegalPast def past → count_of (is_finish d) past + one_if (awaits_finish d past) ≤ count_of (is_thread_begin d) past
+pub finishes_of : (def : LineDef) (d : DevNo) (past : List Entry) → IsLegalPast def past
+    → count_of (is_finish d) past + one_if (awaits_finish d past) ≤ count_of (is_thread_begin d) past
 finishes_of def d = runs_below def (is_finish d) (is_thread_begin d) (λ past. one_if (awaits_finish d past)) refl step
   where
-    step : (e : Entry) (past : List Entry) → IsLegalPast def past → IsDue def e past → StaysBelow (is_finish d) (is_thread_begin d) (λ past. one_if (awaits_finish d past)) e past
+    step : (e : Entry) (past : List Entry) → IsLegalPast def past → IsDue def e past
+        → StaysBelow (is_finish d) (is_thread_begin d) (λ past. one_if (awaits_finish d past)) e past
     step e past legal due =
-        let m = finished_marks (is_thread_begin d e) (is_thread_return d e) (is_finish d e) (is_done d e) (is_running past d) (has_returned past d) (has_finished past d)
+        let m = finished_marks (is_thread_begin d e) (is_thread_return d e) (is_finish d e) (is_done d e)
+        (is_running past d) (has_returned past d) (has_finished past d)
         (λ h. (begin_tells def d e past due h).1) (return_tells def d e past due) (finish_tells def d e past due) in
-        subst (λ (u : Bool). one_if (is_finish d e) + one_if (is_running (e ∷ past) d && not (u && has_finished (e ∷ past) d)) ≤ one_if (awaits_finish d past) + one_if (is_thread_begin d e)) (sym (returned_since d e past))
-        (subst (λ (g : Bool). one_if (is_finish d e) + one_if (is_running (e ∷ past) d && not (cond (is_thread_begin d e) false (is_thread_return d e || has_returned past d) && g)) ≤ one_if (awaits_finish d past) + one_if (is_thread_begin d e)) (sym (finished_since d e past)) m)
+        subst (λ (u : Bool). one_if (is_finish d e) + one_if
+        (is_running (e ∷ past) d && not (u && has_finished (e ∷ past) d)) ≤ one_if (awaits_finish d past) + one_if
+        (is_thread_begin d e)) (sym (returned_since d e past))
+        (subst (λ (g : Bool). one_if (is_finish d e) + one_if
+        (is_running (e ∷ past) d && not (cond (is_thread_begin d e) false
+        (is_thread_return d e || has_returned past d) && g)) ≤ one_if (awaits_finish d past) + one_if
+        (is_thread_begin d e)) (sym (finished_since d e past)) m)
 
-pub dones_of : (def : LineDef) (d : DevNo) (past : List Entry) → IsLegalPast def past → count_of (is_done d) past + one_if (is_running past d) ≤ count_of (is_thread_begin d) past
+pub dones_of : (def : LineDef) (d : DevNo) (past : List Entry) → IsLegalPast def past
+    → count_of (is_done d) past + one_if (is_running past d) ≤ count_of (is_thread_begin d) past
 dones_of def d = runs_below def (is_done d) (is_thread_begin d) (λ past. one_if (is_running past d)) refl step
   where
-    step : (e : Entry) (past : List Entry) → IsLegalPast def past → IsDue def e past → StaysBelow (is_done d) (is_thread_begin d) (λ past. one_if (is_running past d)) e past
-    step e past legal due = done_marks (is_thread_begin d e) (is_done d e) (is_running past d) (λ h. (begin_tells def d e past due h).1) (done_tells def d e past due)
+    step : (e : Entry) (past : List Entry) → IsLegalPast def past → IsDue def e past
+        → StaysBelow (is_done d) (is_thread_begin d) (λ past. one_if (is_running past d)) e past
+    step e past legal due = done_marks (is_thread_begin d e) (is_done d e) (is_running past d)
+        (λ h. (begin_tells def d e past due h).1) (done_tells def d e past due)
 
 -- ---- the counts of all devices
 
@@ -177,7 +204,9 @@ plain a b m p q h i j = omega (arith, h, i, j)
 
 pub thread_begins_past : (def : LineDef) (past : List Entry) → IsLegalPast def past → count_of is_any_thread_begin past ≤ count_of is_any_return past
 thread_begins_past def past legal =
-    let all = counts_by_key dev_key past is_any_thread_begin returns_wake (λ k. plain _ _ _ _ _ (count_ext _ _ past (key_begin k)) (count_ext _ _ past (key_wakes k)) (begins_of def (record { 0 = k }) past legal)) in
+    let all = counts_by_key dev_key past is_any_thread_begin returns_wake
+    (λ k. plain _ _ _ _ _ (count_ext _ _ past (key_begin k)) (count_ext _ _ past (key_wakes k))
+    (begins_of def (record { 0 = k }) past legal)) in
     let some = count_imply returns_wake is_any_return past is_return in
     omega (arith, all, some)
   where
@@ -187,12 +216,18 @@ thread_begins_past def past legal =
 
 pub thread_returns_past : (def : LineDef) (past : List Entry) → IsLegalPast def past → count_of is_any_thread_return past ≤ count_of is_any_thread_begin past
 thread_returns_past def past legal =
-    counts_by_key dev_key past is_any_thread_return is_any_thread_begin (λ k. plain _ _ _ _ _ (count_ext _ _ past (key_return k)) (count_ext _ _ past (key_begin k)) (returns_of def (record { 0 = k }) past legal))
+    counts_by_key dev_key past is_any_thread_return is_any_thread_begin
+    (λ k. plain _ _ _ _ _ (count_ext _ _ past (key_return k)) (count_ext _ _ past (key_begin k))
+    (returns_of def (record { 0 = k }) past legal))
 
 pub finishes_past : (def : LineDef) (past : List Entry) → IsLegalPast def past → count_of is_any_finish past ≤ count_of is_any_thread_begin past
 finishes_past def past legal =
-    counts_by_key dev_key past is_any_finish is_any_thread_begin (λ k. plain _ _ _ _ _ (count_ext _ _ past (key_finish k)) (count_ext _ _ past (key_begin k)) (finishes_of def (record { 0 = k }) past legal))
+    counts_by_key dev_key past is_any_finish is_any_thread_begin
+    (λ k. plain _ _ _ _ _ (count_ext _ _ past (key_finish k)) (count_ext _ _ past (key_begin k))
+    (finishes_of def (record { 0 = k }) past legal))
 
 pub dones_past : (def : LineDef) (past : List Entry) → IsLegalPast def past → count_of is_any_done past ≤ count_of is_any_thread_begin past
 dones_past def past legal =
-    counts_by_key dev_key past is_any_done is_any_thread_begin (λ k. plain _ _ _ _ _ (count_ext _ _ past (key_done k)) (count_ext _ _ past (key_begin k)) (dones_of def (record { 0 = k }) past legal))
+    counts_by_key dev_key past is_any_done is_any_thread_begin
+    (λ k. plain _ _ _ _ _ (count_ext _ _ past (key_done k)) (count_ext _ _ past (key_begin k))
+    (dones_of def (record { 0 = k }) past legal))

@@ -1,10 +1,12 @@
 -- What one end makes of the counts of the rule on spurious interrupts, as numbers.
-use Rattle.std.proofs.Common.{◌≡◌, ℕ, ◌+◌, ◌-◌, ◌*◌, ◌<◌, ◌≤◌, ◌==◌, ◌⊎◌, inl, inr, Bool, true, false, not, ◌||◌, ◌&&◌, cond, nat_lt, refl, sym, ap, subst, arith, eqb-true, le-ltb, lt-ltb}
+use Rattle.std.proofs.Common.{◌≡◌, ℕ, ◌+◌, ◌-◌, ◌*◌, ◌<◌, ◌≤◌, ◌==◌, ◌⊎◌, inl, inr, Bool, true, false, not, ◌||◌, ◌&&◌}
+use Rattle.std.proofs.Common.{cond, nat_lt, refl, sym, ap, subst, arith, eqb-true, le-ltb, lt-ltb}
 use Rattle.std.proofs.lemmas.Bool.{ltb-true, ltb-false, eqb-false, eq-eqb}
 use Rattle.irq_base.specs.declared.entries.Note.{Note}
 use Rattle.irq_base.specs.declared.entries.Note.TheVariants as notes
 use Rattle.irq_model.specs.Spurious.{Counts, Noted, counted, unhandled, judged, noted}
-use Rattle.irq_storms.specs.Judged.{one_if, Judgement, Handled, Nothing, judged_as, is_handled_judgement, is_nothing_judgement, is_deferred_judgement, is_forgiving, allowance}
+use Rattle.irq_storms.specs.Judged.{one_if, Judgement, Handled, Nothing, judged_as, is_handled_judgement}
+use Rattle.irq_storms.specs.Judged.{is_nothing_judgement, is_deferred_judgement, is_forgiving, allowance}
 use Rattle.irq_storms.proofs.Counting.{mark_most}
 
 abbrev pub is_killed : Note → Bool
@@ -20,10 +22,12 @@ abbrev closes : ℕ → Counts → Noted
 closes limit c = record { note = cond (nat_lt limit c.irqs_unhandled) notes.Killed notes.Counted; counts = record c { irq_count = 0; irqs_unhandled = 0 } }
 
 by_count : (P : Noted → Type 0) (window limit : ℕ) (c : Counts) → (c.irqs_unhandled ≡ 0 → P (record { note = notes.Quiet; counts = c }))
-    → ((c.irqs_unhandled ≡ 0 → ⊥) → c.irq_count + 1 < window → P (goes_on c)) → ((c.irqs_unhandled ≡ 0 → ⊥) → window ≤ c.irq_count + 1 → P (closes limit c)) → P (counted window limit c)
+    → ((c.irqs_unhandled ≡ 0 → ⊥) → c.irq_count + 1 < window → P (goes_on c))
+    → ((c.irqs_unhandled ≡ 0 → ⊥) → window ≤ c.irq_count + 1 → P (closes limit c)) → P (counted window limit c)
 by_count P window limit c quiet more over = by_tests (c.irqs_unhandled == 0) (nat_lt (c.irq_count + 1) window) refl refl
   where
-    by_tests : (z m : Bool) → (c.irqs_unhandled == 0) ≡ z → nat_lt (c.irq_count + 1) window ≡ m → P (cond z (record { note = notes.Quiet; counts = c }) (cond m (goes_on c) (closes limit c)))
+    by_tests : (z m : Bool) → (c.irqs_unhandled == 0) ≡ z → nat_lt (c.irq_count + 1) window ≡ m
+        → P (cond z (record { note = notes.Quiet; counts = c }) (cond m (goes_on c) (closes limit c)))
     by_tests true m is im = quiet (eqb-true c.irqs_unhandled 0 is)
     by_tests false true is im = more (eqb-false c.irqs_unhandled 0 is) (ltb-true (c.irq_count + 1) window im)
     by_tests false false is im = over (eqb-false c.irqs_unhandled 0 is) (ltb-false (c.irq_count + 1) window im)
@@ -37,7 +41,9 @@ pub record Keeps (c : Counts) (n : Noted) : Type 0 where
 
 counted_keeps : (window limit : ℕ) (c : Counts) → Keeps c (counted window limit c)
 counted_keeps window limit c =
-    by_count (λ n. Keeps c n) window limit c (λ z. record { threads = refl; last = refl; deferred = refl }) (λ z m. record { threads = refl; last = refl; deferred = refl }) (λ z m. record { threads = refl; last = refl; deferred = refl })
+    by_count (λ n. Keeps c n) window limit c (λ z. record { threads = refl; last = refl; deferred = refl })
+    (λ z m. record { threads = refl; last = refl; deferred = refl })
+    (λ z m. record { threads = refl; last = refl; deferred = refl })
 
 judged_keeps : (window limit at : ℕ) (b : Bool) (c : Counts) → Keeps c (judged window limit at b c)
 judged_keeps window limit at true c = counted_keeps window limit c
@@ -71,7 +77,8 @@ no_time at = le-ltb 100 (at - at) (omega arith)
 abbrev Stands : ℕ → ℕ → ℕ → ℕ → Type 0
 Stands window count u a = (a ≡ 2 * window - count) ⊎ ((a ≡ window - count) × (count + 1 ≤ u))
 
-in_window : (window at count u a : ℕ) → count + 1 < window → Stands window count u a → 1 + cond (nat_lt 100 (at - at) || nat_lt u (count + 1)) (2 * window - (count + 1)) (window - (count + 1)) ≤ a
+in_window : (window at count u a : ℕ) → count + 1 < window → Stands window count u a
+    → 1 + cond (nat_lt 100 (at - at) || nat_lt u (count + 1)) (2 * window - (count + 1)) (window - (count + 1)) ≤ a
 in_window window at count u a more (inl forgives) = by_test (nat_lt 100 (at - at) || nat_lt u (count + 1))
   where
     by_test : (b : Bool) → 1 + cond b (2 * window - (count + 1)) (window - (count + 1)) ≤ a
@@ -79,7 +86,8 @@ in_window window at count u a more (inl forgives) = by_test (nat_lt 100 (at - at
     by_test false = omega (arith, more, forgives)
 in_window window at count u a more (inr strict) =
     let f = le-ltb u (count + 1) (strict.1) in
-    let same : cond (nat_lt 100 (at - at) || nat_lt u (count + 1)) (2 * window - (count + 1)) (window - (count + 1)) ≡ window - (count + 1) = rw (no_time at, f) refl in
+    let same : cond (nat_lt 100 (at - at) || nat_lt u (count + 1)) (2 * window - (count + 1)) (window - (count + 1))
+    ≡ window - (count + 1) = rw (no_time at, f) refl in
     let a_is = strict.0 in
     omega (arith, same, more, a_is)
 
@@ -87,12 +95,14 @@ at_close : (window limit at count u a : ℕ) → limit < window → count < wind
     → 1 + cond (is_killed (cond (nat_lt limit u) notes.Killed notes.Counted)) 0 (cond (nat_lt 100 (at - at) || nat_lt 0 0) (2 * window - 0) (window - 0)) ≤ a
 at_close window limit at count u a lim small over (inl forgives) =
     let same : cond (nat_lt 100 (at - at) || nat_lt 0 0) (2 * window - 0) (window - 0) ≡ window - 0 = rw (no_time at) refl in
-    let most = most_unless (is_killed (cond (nat_lt limit u) notes.Killed notes.Counted)) (cond (nat_lt 100 (at - at) || nat_lt 0 0) (2 * window - 0) (window - 0)) window (omega (arith, same)) in
+    let most = most_unless (is_killed (cond (nat_lt limit u) notes.Killed notes.Counted))
+    (cond (nat_lt 100 (at - at) || nat_lt 0 0) (2 * window - 0) (window - 0)) window (omega (arith, same)) in
     omega (arith, most, small, over, forgives)
 at_close window limit at count u a lim small over (inr strict) =
     let c = strict.1 in
     let kills : nat_lt limit u ≡ true = lt-ltb limit u (omega (arith, lim, over, c)) in
-    let none : cond (is_killed (cond (nat_lt limit u) notes.Killed notes.Counted)) 0 (cond (nat_lt 100 (at - at) || nat_lt 0 0) (2 * window - 0) (window - 0)) ≡ 0 = rw kills refl in
+    let none : cond (is_killed (cond (nat_lt limit u) notes.Killed notes.Counted)) 0
+    (cond (nat_lt 100 (at - at) || nat_lt 0 0) (2 * window - 0) (window - 0)) ≡ 0 = rw kills refl in
     let a_is = strict.0 in
     omega (arith, none, small, a_is)
 
@@ -100,24 +110,35 @@ at_close window limit at count u a lim small over (inr strict) =
 abbrev pub allowed_after : ℕ → ℕ → Noted → ℕ
 allowed_after window at n = cond (is_killed n.note) 0 (allowance window at n.counts)
 
-unhandled_window : (window limit at : ℕ) (c : Counts) (a : ℕ) → limit < window → c.irq_count < window → 1 ≤ c.irqs_unhandled → c.last_unhandled ≡ at → Stands window c.irq_count c.irqs_unhandled a
+unhandled_window : (window limit at : ℕ) (c : Counts) (a : ℕ) → limit < window → c.irq_count < window
+    → 1 ≤ c.irqs_unhandled → c.last_unhandled ≡ at → Stands window c.irq_count c.irqs_unhandled a
     → 1 + allowed_after window at (counted window limit c) ≤ a
 unhandled_window window limit at c a lim small some same stands =
     by_count (λ n. 1 + allowed_after window at n ≤ a) window limit c (λ z. absurd (omega (arith, z, some)))
-    (λ z more. subst (λ (x : ℕ). 1 + cond (nat_lt 100 (at - x) || nat_lt c.irqs_unhandled (c.irq_count + 1)) (2 * window - (c.irq_count + 1)) (window - (c.irq_count + 1)) ≤ a) (sym same) (in_window window at c.irq_count c.irqs_unhandled a more stands))
-    (λ z over. subst (λ (x : ℕ). 1 + cond (is_killed (cond (nat_lt limit c.irqs_unhandled) notes.Killed notes.Counted)) 0 (cond (nat_lt 100 (at - x) || nat_lt 0 0) (2 * window - 0) (window - 0)) ≤ a) (sym same) (at_close window limit at c.irq_count c.irqs_unhandled a lim small over stands))
+    (λ z more. subst (λ (x : ℕ). 1 + cond (nat_lt 100 (at - x) || nat_lt c.irqs_unhandled (c.irq_count + 1))
+    (2 * window - (c.irq_count + 1)) (window - (c.irq_count + 1)) ≤ a) (sym same)
+    (in_window window at c.irq_count c.irqs_unhandled a more stands))
+    (λ z over. subst (λ (x : ℕ). 1 + cond (is_killed (cond (nat_lt limit c.irqs_unhandled) notes.Killed notes.Counted))
+    0 (cond (nat_lt 100 (at - x) || nat_lt 0 0) (2 * window - 0) (window - 0)) ≤ a) (sym same)
+    (at_close window limit at c.irq_count c.irqs_unhandled a lim small over stands))
 
 -- an end that is judged nothing takes one of what was allowed
-nothing_window : (window limit at : ℕ) (c : Counts) → limit < window → c.irq_count < window → 1 + allowed_after window at (judged window limit at false c) ≤ allowance window at c
+nothing_window : (window limit at : ℕ) (c : Counts) → limit < window → c.irq_count < window
+    → 1 + allowed_after window at (judged window limit at false c) ≤ allowance window at c
 nothing_window window limit at c lim small = by_tests (nat_lt 100 (at - c.last_unhandled)) (nat_lt c.irqs_unhandled c.irq_count) refl
   where
     by_tests : (r b : Bool) → nat_lt c.irqs_unhandled c.irq_count ≡ b
-        → 1 + allowed_after window at (counted window limit (record c { irqs_unhandled = cond r 1 (c.irqs_unhandled + 1); last_unhandled = at })) ≤ cond (r || b) (2 * window - c.irq_count) (window - c.irq_count)
+        → 1 + allowed_after window at (counted window limit
+        (record c { irqs_unhandled = cond r 1 (c.irqs_unhandled + 1); last_unhandled = at })) ≤ cond (r || b)
+        (2 * window - c.irq_count) (window - c.irq_count)
     by_tests true b ib = unhandled_window window limit at (record c { irqs_unhandled = 1; last_unhandled = at }) _ lim small (omega arith) refl (inl refl)
-    by_tests false true ib = unhandled_window window limit at (record c { irqs_unhandled = c.irqs_unhandled + 1; last_unhandled = at }) _ lim small (omega arith) refl (inl refl)
+    by_tests false true ib = unhandled_window window limit at
+        (record c { irqs_unhandled = c.irqs_unhandled + 1; last_unhandled = at }) _ lim small (omega arith) refl
+        (inl refl)
     by_tests false false ib =
         let le = ltb-false c.irqs_unhandled c.irq_count ib in
-        unhandled_window window limit at (record c { irqs_unhandled = c.irqs_unhandled + 1; last_unhandled = at }) _ lim small (omega arith) refl (inr (refl, omega (arith, le)))
+        unhandled_window window limit at (record c { irqs_unhandled = c.irqs_unhandled + 1; last_unhandled = at }) _ lim
+        small (omega arith) refl (inr (refl, omega (arith, le)))
 
 -- ---- an end
 
@@ -128,9 +149,12 @@ pub record EndFacts (window limit at : ℕ) (w h : Bool) (c : Counts) (n : Noted
   pub deferred : one_if (is_deferred_judgement j) + one_if c.deferred ≤ one_if (w && h) + one_if n.counts.deferred
   pub clears : one_if (w && h) ≤ one_if (is_handled_judgement j)
   pub small : c.irq_count < window → n.counts.irq_count < window
-  pub allows : limit < window → c.irq_count < window → one_if (is_nothing_judgement j) + allowed_after window at n ≤ cond (is_handled_judgement j) (2 * window) 0 + allowance window at c
+  pub allows : limit < window → c.irq_count < window → one_if (is_nothing_judgement j) + allowed_after window at n ≤
+      cond (is_handled_judgement j) (2 * window) 0 + allowance window at c
 
-same_marks : (window limit at : ℕ) (b : Bool) (c : Counts) → one_if (not ((judged window limit at b c).counts.threads_handled == (judged window limit at b c).counts.last)) ≡ one_if (not (c.threads_handled == c.last))
+same_marks : (window limit at : ℕ) (b : Bool) (c : Counts)
+    → one_if (not ((judged window limit at b c).counts.threads_handled == (judged window limit at b c).counts.last))
+    ≡ one_if (not (c.threads_handled == c.last))
 same_marks window limit at b c = let k = judged_keeps window limit at b c in rw (k.threads, k.last) refl
 
 same_deferred : (window limit at : ℕ) (b : Bool) (c : Counts) → one_if (judged window limit at b c).counts.deferred ≡ one_if c.deferred
@@ -147,7 +171,8 @@ judged_nothing window limit at w h c no_clear =
     }
 
 -- d: the counts that are judged; its deferred mark and its `last` may differ from those of c
-judged_handled : (window limit at : ℕ) (w h : Bool) (c d : Counts) → d.irq_count ≡ c.irq_count → 1 + one_if (not (d.threads_handled == d.last)) ≤ one_if h + one_if (not (c.threads_handled == c.last))
+judged_handled : (window limit at : ℕ) (w h : Bool) (c d : Counts) → d.irq_count ≡ c.irq_count
+    → 1 + one_if (not (d.threads_handled == d.last)) ≤ one_if h + one_if (not (c.threads_handled == c.last))
     → one_if c.deferred ≤ one_if (w && h) + one_if d.deferred → EndFacts window limit at w h c (judged window limit at true d) Handled
 judged_handled window limit at w h c d same marks cleared =
     record {
@@ -155,17 +180,24 @@ judged_handled window limit at w h c d same marks cleared =
       deferred = (let s = same_deferred window limit at true d in omega (arith, s, cleared));
       clears = mark_most (w && h);
       small = λ small. judged_small window limit at true d (omega (arith, small, same));
-      allows = λ lim small. (let m = most_unless (is_killed (judged window limit at true d).note) _ _ (allowed_most window at (judged window limit at true d).counts) in omega (arith, m));
+      allows = λ lim small. (let m = most_unless (is_killed (judged window limit at true d).note) _ _
+          (allowed_most window at (judged window limit at true d).counts) in omega (arith, m));
     }
 
 same_here : (n : ℕ) → (n == n) ≡ true
 same_here n = eq-eqb n n refl
 
-pub end_facts : (window limit at : ℕ) (w h : Bool) (c : Counts) → EndFacts window limit at w h c (noted window limit at w h c) (judged_as w h c.deferred (c.threads_handled == c.last))
+pub end_facts : (window limit at : ℕ) (w h : Bool) (c : Counts)
+    → EndFacts window limit at w h c (noted window limit at w h c)
+    (judged_as w h c.deferred (c.threads_handled == c.last))
 end_facts window limit at w h c = by_tests w h c.deferred (c.threads_handled == c.last) refl refl
   where
     by_tests : (w h d s : Bool) → c.deferred ≡ d → (c.threads_handled == c.last) ≡ s
-        → EndFacts window limit at w h c (cond (w && not h) (cond d (cond s (judged window limit at false c) (judged window limit at true (record c { last = c.threads_handled }))) (record { note = notes.Quiet; counts = record c { deferred = true } })) (judged window limit at h (cond w (record c { deferred = false }) c))) (judged_as w h d s)
+        → EndFacts window limit at w h c (cond (w && not h)
+        (cond d (cond s (judged window limit at false c)
+        (judged window limit at true (record c { last = c.threads_handled })))
+        (record { note = notes.Quiet; counts = record c { deferred = true } }))
+        (judged window limit at h (cond w (record c { deferred = false }) c))) (judged_as w h d s)
     by_tests true false true true id is = judged_nothing window limit at true false c refl
     by_tests true false true false id is =
         judged_handled window limit at true false c (record c { last = c.threads_handled }) refl

@@ -10,8 +10,12 @@ use Rattle.irq_top.specs.declared.ending.Ending.TheVariants as endings
 use Rattle.irq_top.specs.Commands.{Does, ReadsNothing, reads}
 
 module _ (told left : Option (List ℕ)) (reports : List LineReport) (before now : Option (List ℕ)) where
-  pub of_asked : (ending : Ending) (words : List (List ℕ)) (done : Command) → Asks words done → Does done told left reports before now ending → (asked : Command) → Asks words asked → Does asked told left reports before now ending
-  of_asked ending words done is does asked also = subst (λ (command : Command). Does command told left reports before now ending) (one_command words done asked is also) does
+  pub of_asked : (ending : Ending) (words : List (List ℕ)) (done : Command) → Asks words done
+      → Does done told left reports before now ending → (asked : Command) → Asks words asked
+      → Does asked told left reports before now ending
+  of_asked ending words done is does asked also = subst
+      (λ (command : Command). Does command told left reports before now ending) (one_command words done asked is also)
+      does
 
   not_usage : (done : Command) → Does done told left reports before now endings.Usage → ⊥
   not_usage (commands.Run summary) does = does.done

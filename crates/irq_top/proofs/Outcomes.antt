@@ -17,20 +17,44 @@ read_to_end (Some bytes) left b read = read.1
 -- a board that was taken is never a read fault, and has no reports if it wanted memory to be made
 pub record IsSane (OnBoard : BoardSeen → List LineReport → Option (List ℕ) → Option (List ℕ) → Ending → Type 0) : Type 0 where
   pub no_read_fault : (b : BoardSeen) (reports : List LineReport) (before now : Option (List ℕ)) → OnBoard b reports before now endings.ReadFault → ⊥
-  pub unmade : (b : BoardSeen) (reports : List LineReport) (before now : Option (List ℕ)) → OnBoard b reports before now (endings.NoMemory wants.Making) → reports ≡ []
+  pub unmade : (b : BoardSeen) (reports : List LineReport) (before now : Option (List ℕ))
+      → OnBoard b reports before now (endings.NoMemory wants.Making) → reports ≡ []
 
-module _ (OnBoard : BoardSeen → List LineReport → Option (List ℕ) → Option (List ℕ) → Ending → Type 0) (sane : IsSane OnBoard) (told left before now : Option (List ℕ)) (reports : List LineReport) where
-  pub takes_board : (ending : Ending) (b : BoardSeen) → ReadsBoard told left (Ok b) → IsStated told b → IsBoard b → OnBoard b reports before now ending → TakesBoard OnBoard told left reports before now ending
+module _ (OnBoard : BoardSeen → List LineReport → Option (List ℕ) → Option (List ℕ) → Ending → Type 0)
+    (sane : IsSane OnBoard) (told left before now : Option (List ℕ)) (reports : List LineReport) where
+  pub takes_board : (ending : Ending) (b : BoardSeen) → ReadsBoard told left (Ok b) → IsStated told b → IsBoard b
+      → OnBoard b reports before now ending → TakesBoard OnBoard told left reports before now ending
   takes_board endings.ReadFault b read stated keeps done = absurd (sane.no_read_fault b reports before now done)
   takes_board (endings.NoMemory wants.Making) b read stated keeps done = sane.unmade b reports before now done
-  takes_board (endings.Board fault) b read stated keeps done = inr (record { board = b; stated = stated; read = read_to_end told left b read; keeps_rules = keeps; done = done })
-  takes_board endings.Done b read stated keeps done = record { board = b; stated = stated; read = read_to_end told left b read; keeps_rules = keeps; done = done }
-  takes_board (endings.Unlawful line entry) b read stated keeps done = record { board = b; stated = stated; read = read_to_end told left b read; keeps_rules = keeps; done = done }
-  takes_board (endings.Malformed row) b read stated keeps done = record { board = b; stated = stated; read = read_to_end told left b read; keeps_rules = keeps; done = done }
-  takes_board endings.Usage b read stated keeps done = record { board = b; stated = stated; read = read_to_end told left b read; keeps_rules = keeps; done = done }
-  takes_board endings.WriteFault b read stated keeps done = record { board = b; stated = stated; read = read_to_end told left b read; keeps_rules = keeps; done = done }
-  takes_board (endings.LogFull line len) b read stated keeps done = record { board = b; stated = stated; read = read_to_end told left b read; keeps_rules = keeps; done = done }
-  takes_board (endings.NoMemory wants.Step) b read stated keeps done = record { board = b; stated = stated; read = read_to_end told left b read; keeps_rules = keeps; done = done }
+  takes_board (endings.Board fault) b read stated keeps done
+      = inr (record {
+        board = b;
+        stated = stated;
+        read = read_to_end told left b read;
+        keeps_rules = keeps;
+        done
+            = done;
+      })
+  takes_board endings.Done b read stated keeps done = record {
+    board = b;
+    stated = stated;
+    read
+        = read_to_end told left b read;
+    keeps_rules = keeps;
+    done = done;
+  }
+  takes_board (endings.Unlawful line entry) b read stated keeps done
+      = record { board = b; stated = stated; read = read_to_end told left b read; keeps_rules = keeps; done = done }
+  takes_board (endings.Malformed row) b read stated keeps done
+      = record { board = b; stated = stated; read = read_to_end told left b read; keeps_rules = keeps; done = done }
+  takes_board endings.Usage b read stated keeps done =
+      record { board = b; stated = stated; read = read_to_end told left b read; keeps_rules = keeps; done = done }
+  takes_board endings.WriteFault b read stated keeps done
+      = record { board = b; stated = stated; read = read_to_end told left b read; keeps_rules = keeps; done = done }
+  takes_board (endings.LogFull line len) b read stated keeps done
+      = record { board = b; stated = stated; read = read_to_end told left b read; keeps_rules = keeps; done = done }
+  takes_board (endings.NoMemory wants.Step) b read stated keeps done
+      = record { board = b; stated = stated; read = read_to_end told left b read; keeps_rules = keeps; done = done }
 
   -- it came without a read fault
   pub taken_unread : (ending : Ending) (b : BoardSeen) → OnBoard b reports before now ending → is_read_fault_end ending ≡ false

@@ -20,14 +20,16 @@ module _ (line : LineSeen) (s : StateSeen) (scripts : List (DriverNo × RowSeen)
   taker_told = subst (λ (x : StateSeen). IsTaker line (taker_of x)) (sym is.state) (is_taker line.def (reverse line.entries) is.valid is.legal)
 
   lowest_at : (o : Option DevNo) → lowest_due (state_of line.def (reverse line.entries)) ≡ o → IsLowestThread line o
-  lowest_at o found = seen o (subst (λ (x : Option DevNo). IsLowest line.def (reverse line.entries) is.valid is.legal x) found (is_lowest line.def (reverse line.entries) is.valid is.legal))
+  lowest_at o found = seen o (subst (λ (x : Option DevNo). IsLowest line.def (reverse line.entries) is.valid is.legal x)
+      found (is_lowest line.def (reverse line.entries) is.valid is.legal))
     where
       seen : (x : Option DevNo) → IsLowest line.def (reverse line.entries) is.valid is.legal x → IsLowestThread line x
       seen None h = h
       seen (Some l) h = h
 
   pub lowest_told : IsLowestThread line (lowest_due s)
-  lowest_told = subst (λ (x : StateSeen). IsLowestThread line (lowest_due x)) (sym is.state) (lowest_at (lowest_due (state_of line.def (reverse line.entries))) refl)
+  lowest_told = subst (λ (x : StateSeen). IsLowestThread line (lowest_due x)) (sym is.state)
+      (lowest_at (lowest_due (state_of line.def (reverse line.entries))) refl)
 
   pub blocks_told : blocks_by s ≡ blocks_of line
   blocks_told = ap blocks_by is.state ∙ sym (blocks_are line.def (reverse line.entries) is.valid is.legal)

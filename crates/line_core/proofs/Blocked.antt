@@ -30,9 +30,12 @@ use Rattle.line_marks.specs.State.{state_of}
 use Rattle.line_marks.specs.Threads.{thread_of, threads_of, stage_by, has_returned, has_finished}
 use Rattle.line_core.specs.Blocking.{freed_in, blocks_by}
 
-at_work_is : (past : List Entry) (xs : List DeviceDef) → list_any (λ (x : DeviceDef). is_woken past x.dev || is_running past x.dev) xs ≡ ltb 0 (active_in (table_by (thread_of past) xs))
+at_work_is : (past : List Entry) (xs : List DeviceDef)
+    → list_any (λ (x : DeviceDef). is_woken past x.dev || is_running past x.dev) xs
+    ≡ ltb 0 (active_in (table_by (thread_of past) xs))
 at_work_is past [] = refl
-at_work_is past (x ∷ xs) = by_tests (is_woken past x.dev) (is_running past x.dev) (in_run (is_running past x.dev) (has_returned past x.dev) (has_finished past x.dev)) (at_work_is past xs)
+at_work_is past (x ∷ xs) = by_tests (is_woken past x.dev) (is_running past x.dev)
+    (in_run (is_running past x.dev) (has_returned past x.dev) (has_finished past x.dev)) (at_work_is past xs)
   where
     n : ℕ
     n = active_in (table_by (thread_of past) xs)
@@ -70,12 +73,25 @@ module _ (def : LineDef) (past : List Entry) (valid : IsValid def) (legal : IsLe
   freed_told : (o : Option (DriverNo × DevNo)) → freeing past ≡ o → is_freed_at_work def past ≡ freed_in (threads_of def past) o
   freed_told None none =
       let free : holds_mutex past ≡ false = mutex_is def past valid legal ∙ ap is_some none in
-      none_any (λ (x : DeviceDef). freed_at_work x.dev) def.devices (λ x. ap (λ b. b && at_work x.dev) (none_freed def past (kept def past valid legal) free x.dev))
+      none_any (λ (x : DeviceDef). freed_at_work x.dev) def.devices
+      (λ x. ap (λ b. b && at_work x.dev) (none_freed def past (kept def past valid legal) free x.dev))
   freed_told (Some f) under =
       sym (freed_is def past valid legal f.0 f.1 under) ∙ (not_both (is_woken past f.1) (is_running past f.1) ∙ ap not (sym (idle_is def past valid legal f.1)))
 
   pub blocks_are : blocks_at def past ≡ blocks_by (state_of def past)
   blocks_are =
       ap (λ b. record { flow = has_flow def past; threads = b; mutex = holds_mutex past; freed = is_freed_at_work def past }) (at_work_is past def.devices)
-      ∙ (ap (λ b. record { flow = has_flow def past; threads = ltb 0 (active_in (threads_of def past)); mutex = b; freed = is_freed_at_work def past }) (mutex_is def past valid legal)
-      ∙ ap (λ b. record { flow = has_flow def past; threads = ltb 0 (active_in (threads_of def past)); mutex = is_some (freeing past); freed = b }) (freed_told (freeing past) refl))
+      ∙ (ap (λ b. record {
+        flow = has_flow def past;
+        threads = ltb 0 (active_in (threads_of def past));
+        mutex = b;
+        freed
+            = is_freed_at_work def past;
+      }) (mutex_is def past valid legal)
+      ∙ ap (λ b. record {
+        flow = has_flow def past;
+        threads = ltb 0 (active_in (threads_of def past));
+        mutex
+            = is_some (freeing past);
+        freed = b;
+      }) (freed_told (freeing past) refl))

@@ -73,7 +73,8 @@ module _ {R : Type 0} where
       itself : p e.1 ≡ true → e.0 ≡ x → Passes p (e ∷ es) x
       itself is same = (e.1, ap (at (e ∷ es)) (sym same) ∙ ahead e es, is)
 
-      by_lower : (b : Bool) (y : DevNo) → p e.1 ≡ true → lowest_where p es ≡ Some y → Some (cond b y e.0) ≡ Some x → ((z : DevNo) → lowest_where p es ≡ Some z → Passes p es z) → Passes p (e ∷ es) x
+      by_lower : (b : Bool) (y : DevNo) → p e.1 ≡ true → lowest_where p es ≡ Some y → Some (cond b y e.0) ≡ Some x
+          → ((z : DevNo) → lowest_where p es ≡ Some z → Passes p es z) → Passes p (e ∷ es) x
       by_lower true y is o k rest = let same : y ≡ x = cc in of_rest (rest x (o ∙ ap Some same))
       by_lower false y is o k rest = let same : e.0 ≡ x = cc in itself is same
 

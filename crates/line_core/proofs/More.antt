@@ -1,5 +1,6 @@
 -- One more due entry keeps what holds of a line.
-use Rattle.std.proofs.Common.{◌≡◌, ℕ, ◌+◌, ◌<◌, ◌≤◌, Bool, true, false, cond, is_some, Option, Some, None, List, [], ◌∷◌, ◌++◌, length, slice_get, reverse, refl, sym, ap, subst, ◌∙◌, arith}
+use Rattle.std.proofs.Common.{◌≡◌, ℕ, ◌+◌, ◌<◌, ◌≤◌, Bool, true, false, cond, is_some, Option, Some, None, List, []}
+use Rattle.std.proofs.Common.{◌∷◌, ◌++◌, length, slice_get, reverse, refl, sym, ap, subst, ◌∙◌, arith}
 use Rattle.std.proofs.lemmas.List.{length-append, length-reverse, reverse-append}
 use Rattle.std.proofs.lemmas.Option.{none-some}
 use Rattle.irq_base.specs.Who.{actor_of}
@@ -77,7 +78,8 @@ module _ (def : LineDef) (h : List Entry) (s : StateSeen) (scripts after : List 
   stays : (r : DriverNo) → is_by_driver r e ≡ false → place_of after r ≡ place_of scripts r → within_of after r ≡ within_of scripts r → IsAtAfter r
   stays r other p k =
       subst (λ (n : ℕ). IsAt def (e ∷ reverse h) r (place_of after r) n) (sym k)
-      (subst (λ (n : ℕ). IsAt def (e ∷ reverse h) r n (within_of scripts r)) (sym p) (other_place def (reverse h) e r (place_of scripts r) (within_of scripts r) other (is.at r)))
+      (subst (λ (n : ℕ). IsAt def (e ∷ reverse h) r n (within_of scripts r)) (sym p)
+      (other_place def (reverse h) e r (place_of scripts r) (within_of scripts r) other (is.at r)))
 
   -- the call of the driver whose entry is due
   record HasCall (w : DriverNo) : Type 0 where
@@ -93,8 +95,15 @@ module _ (def : LineDef) (h : List Entry) (s : StateSeen) (scripts after : List 
       told = call_is def (reverse h) scripts is.calls is.at w
 
       by_call : (o : Option Call) → call_of scripts w ≡ o → HasCall w
-      by_call None none = absurd (none-some e (sym (ap (next_of_call def w (reverse h)) (told ∙ ap (λ (x : Option Call). with_count x (within_of scripts w)) none)) ∙ due))
-      by_call (Some c) there = record { call = c; count = within_of scripts w; due = told ∙ ap (λ (x : Option Call). with_count x (within_of scripts w)) there; here = there }
+      by_call None none = absurd (none-some e (sym (ap (next_of_call def w (reverse h))
+          (told ∙ ap (λ (x : Option Call). with_count x (within_of scripts w)) none)) ∙ due))
+      by_call (Some c) there = record {
+        call = c;
+        count = within_of scripts w;
+        due = told
+            ∙ ap (λ (x : Option Call). with_count x (within_of scripts w)) there;
+        here = there;
+      }
 
   few_entries : (c : Call) (es : List Entry) → entries_of_call c es ≤ 3
   few_entries (calls.Free d) es = by_found (begins_not_there es)
@@ -123,23 +132,27 @@ module _ (def : LineDef) (h : List Entry) (s : StateSeen) (scripts after : List 
       let few = few_entries k.call (part_at cs es (place_of scripts w)) in
       (ap is_some k.here, omega (arith, less, few))
 
-  moved : (w : DriverNo) → next def h (actors.Driver w) ≡ Some e → actor_of def.line e ≡ actors.Driver w → IsMoved w (ends_call (call_of scripts w) e) scripts after → (r : DriverNo) → IsAtAfter r
+  moved : (w : DriverNo) → next def h (actors.Driver w) ≡ Some e → actor_of def.line e ≡ actors.Driver w
+      → IsMoved w (ends_call (call_of scripts w) e) scripts after → (r : DriverNo) → IsAtAfter r
   moved w due who m r = by_same (same_driver r w) refl
     where
       own : IsAtAfter w
       own =
           let k = has_call w due in
           let ends : ends_call (call_of scripts w) e ≡ completes k.call e = ap (λ (o : Option Call). ends_call o e) k.here in
-          let at = own_place def (reverse h) e w (place_of scripts w) (within_of scripts w) k.call k.count due (by_whom (actors.Driver w) who w ∙ same_self_driver w) k.due (is.at w) in
+          let at = own_place def (reverse h) e w (place_of scripts w) (within_of scripts w) k.call k.count due
+          (by_whom (actors.Driver w) who w ∙ same_self_driver w) k.due (is.at w) in
           subst (λ (n : ℕ). IsAt def (e ∷ reverse h) w (place_of after w) n) (sym (m.within ∙ ap (λ b. within_after b (within_of scripts w)) ends))
-          (subst (λ (n : ℕ). IsAt def (e ∷ reverse h) w n (within_after (completes k.call e) (within_of scripts w))) (sym (m.place ∙ ap (λ b. place_after b (place_of scripts w)) ends)) at)
+          (subst (λ (n : ℕ). IsAt def (e ∷ reverse h) w n (within_after (completes k.call e) (within_of scripts w)))
+          (sym (m.place ∙ ap (λ b. place_after b (place_of scripts w)) ends)) at)
 
       by_same : (b : Bool) → same_driver r w ≡ b → IsAtAfter r
       by_same true same = subst (λ (x : DriverNo). IsAtAfter x) (sym (driver_from_same r w same)) own
       by_same false other = stays r (by_whom (actors.Driver w) who r ∙ other) (m.other_places r other) (m.other_withins r other)
 
   unmoved : ((r : DriverNo) → is_by_driver r e ≡ false) → after ≡ scripts → (r : DriverNo) → IsAtAfter r
-  unmoved none same r = stays r (none r) (ap (λ (x : List (DriverNo × RowSeen)). place_of x r) same) (ap (λ (x : List (DriverNo × RowSeen)). within_of x r) same)
+  unmoved none same r = stays r (none r) (ap (λ (x : List (DriverNo × RowSeen)). place_of x r) same)
+      (ap (λ (x : List (DriverNo × RowSeen)). within_of x r) same)
 
   at_after : (a : Actor) → next def h a ≡ Some e → actor_of def.line e ≡ a → Moves a e scripts after → (r : DriverNo) → IsAtAfter r
   at_after (actors.Thread line d) due who m = unmoved (by_whom (actors.Thread line d) who) m
@@ -164,7 +177,8 @@ module _ (def : LineDef) (h : List Entry) (s : StateSeen) (scripts after : List 
         legal = subst (λ (x : List Entry). IsLegalPast def x) (sym (newest h e)) legal;
         state = ap (state_after def e) is.state ∙ (sym (state_follows def e (reverse h) is.valid legal) ∙ ap (state_of def) (sym (newest h e)));
         calls = calls_after a m;
-        at = λ r. subst (λ (x : List Entry). IsAt def x r (place_of after r) (within_of after r)) (sym (newest h e)) (at_after a due (due_is_own def h a e due) m r);
+        at = λ r. subst (λ (x : List Entry). IsAt def x r (place_of after r) (within_of after r)) (sym (newest h e))
+            (at_after a due (due_is_own def h a e due) m r);
         room = omega (arith, long, below);
       }
 
@@ -176,7 +190,8 @@ line_is_of def h s scripts is = subst (λ (x : StateSeen). IsOf def x) (sym is.s
 pub line_aim_of : (def : LineDef) (h : List Entry) (s : StateSeen) (scripts : List (DriverNo × RowSeen)) → IsLine def h s scripts → IsAimOf def s.aim
 line_aim_of def h s scripts is = record { cpus = ap (λ (x : StateSeen). x.aim.cpus) is.state; later = ap (λ (x : StateSeen). x.aim.later) is.state }
 
-line_expects : (def : LineDef) (h : List Entry) (s : StateSeen) (scripts : List (DriverNo × RowSeen)) (a : Actor) (e : Entry) → IsLine def h s scripts → next def h a ≡ Some e → IsExpected def e s
+line_expects : (def : LineDef) (h : List Entry) (s : StateSeen) (scripts : List (DriverNo × RowSeen)) (a : Actor)
+    (e : Entry) → IsLine def h s scripts → next def h a ≡ Some e → IsExpected def e s
 line_expects def h s scripts a e is due =
     let long : length (reverse h) ≡ length h = length-reverse h in
     subst (λ (x : StateSeen). IsExpected def e x) (sym is.state)
@@ -201,6 +216,7 @@ line_starts def s scripts valid is calls places withins = record {
   legal = tt;
   state = is ∙ sym (state_first def);
   calls = calls;
-  at = λ r. subst (λ (n : ℕ). IsAt def [] r (place_of scripts r) n) (sym (withins r)) (subst (λ (n : ℕ). IsAt def [] r n 0) (sym (places r)) (laid_start (calls_by r def.calls)));
+  at = λ r. subst (λ (n : ℕ). IsAt def [] r (place_of scripts r) n) (sym (withins r))
+      (subst (λ (n : ℕ). IsAt def [] r n 0) (sym (places r)) (laid_start (calls_by r def.calls)));
   room = omega arith;
 }

@@ -47,14 +47,16 @@ flow_takes_none def s c None = by_left (first_left s.list.begun s.list.actions)
     by_left None = refl
 
 take_told : (s : StateSeen) (c : CpuNo) (target line soft : Bool)
-    → is_some_take (cond (not target) None (cond line (Some (entries.Take c ways.Line (take_by s))) (cond soft (Some (entries.Take c ways.Resend (take_by s))) None))) ≡ (target && (line || soft))
+    → is_some_take (cond (not target) None (cond line (Some (entries.Take c ways.Line (take_by s)))
+    (cond soft (Some (entries.Take c ways.Resend (take_by s))) None))) ≡ (target && (line || soft))
 take_told s c true true soft = refl
 take_told s c true false true = refl
 take_told s c true false false = refl
 take_told s c false line soft = refl
 
 due_told : (def : LineDef) (s : StateSeen) (c : CpuNo) (b : Bool) → is_cpu c s.desc.flow ≡ b
-    → is_some_take (cond b (Some (in_flow_by def s c s.round.working)) (next_take_by s c)) ≡ (not b && (is_cpu c (lowest_in s.aim.cpus s.aim.mask) && (signals s.cell || s.desc.soft)))
+    → is_some_take (cond b (Some (in_flow_by def s c s.round.working)) (next_take_by s c))
+    ≡ (not b && (is_cpu c (lowest_in s.aim.cpus s.aim.mask) && (signals s.cell || s.desc.soft)))
 due_told def s c true is = flow_takes_none def s c s.round.working
 due_told def s c false is = take_told s c (is_cpu c (lowest_in s.aim.cpus s.aim.mask)) (signals s.cell) s.desc.soft
 
@@ -69,7 +71,8 @@ no_target false g h = false≢true h
 
 -- the target takes if something waits, and it isn't in the flow
 module _ (s : StateSeen) (c : CpuNo) where
-  by_target : (t : CpuNo) (b : Bool) → is_cpu t s.desc.flow ≡ b → (e : Bool) → same_cpu c t ≡ e → (cond b None (Some t) ≡ Some c) ↔ IsTrue (not (is_cpu c s.desc.flow) && (e && true))
+  by_target : (t : CpuNo) (b : Bool) → is_cpu t s.desc.flow ≡ b → (e : Bool) → same_cpu c t ≡ e
+      → (cond b None (Some t) ≡ Some c) ↔ IsTrue (not (is_cpu c s.desc.flow) && (e && true))
   by_target t true busy true same = (
     λ h. absurd (none-some c h),
     λ h. absurd (false≢true (ap (λ x. not x && true) (sym (ap (λ (x : CpuNo). is_cpu x s.desc.flow) (cpu_from_same c t same) ∙ busy)) ∙ h)),
@@ -103,7 +106,8 @@ wakes_so : (w : Bool) (x : Entry) → is_some (cond w (Some x) None) ≡ w
 wakes_so true x = refl
 wakes_so false x = refl
 
-by_stage : (s : StateSeen) (d : DevNo) (r : ThreadRow) (st : Stage) → is_some (due_at_stage st s d r) ≡ (steps_at r.woken st || (may_go_on s.desc && is_returned_stage st))
+by_stage : (s : StateSeen) (d : DevNo) (r : ThreadRow) (st : Stage)
+    → is_some (due_at_stage st s d r) ≡ (steps_at r.woken st || (may_go_on s.desc && is_returned_stage st))
 by_stage s d r stages.Idle = wakes_so r.woken (entries.ThreadBegin d) ∙ or_none r.woken (may_go_on s.desc)
 by_stage s d r stages.Begun = refl
 by_stage s d r stages.Returned = goes_so s.desc.oneshot (is_some s.desc.flow) _ _
@@ -126,11 +130,15 @@ passing p (Some r) h = record { row = r; is = refl; so = h }
 module _ (def : LineDef) (past : List Entry) (valid : IsValid def) (legal : IsLegalPast def past) where
   pub is_taker : (c : CpuNo) → (taker_of (state_of def past) ≡ Some c) ↔ IsTrue (is_some_take (next_past def past (actors.Cpu c)))
   is_taker c =
-      let told : is_some_take (next_past def past (actors.Cpu c)) ≡ _ = ap is_some_take (cpu_due_is def past c valid legal) ∙ due_told def (state_of def past) c (is_cpu c (state_of def past).desc.flow) refl in
-      let both = taker_told (state_of def past) c (signals (state_of def past).cell || (state_of def past).desc.soft) (lowest_in (state_of def past).aim.cpus (state_of def past).aim.mask) in
+      let told : is_some_take (next_past def past (actors.Cpu c))
+      ≡ _ = ap is_some_take (cpu_due_is def past c valid legal)
+      ∙ due_told def (state_of def past) c (is_cpu c (state_of def past).desc.flow) refl in
+      let both = taker_told (state_of def past) c (signals (state_of def past).cell || (state_of def past).desc.soft)
+      (lowest_in (state_of def past).aim.cpus (state_of def past).aim.mask) in
       (λ h. told ∙ both.0 h, λ h. both.1 (sym told ∙ h))
 
-  due_so : (d : DevNo) → is_some (next_past def past (actors.Thread def.line d)) ≡ row_passes (could_step (may_go_on (state_of def past).desc)) false (at (threads_of def past) d)
+  due_so : (d : DevNo) → is_some (next_past def past (actors.Thread def.line d))
+      ≡ row_passes (could_step (may_go_on (state_of def past).desc)) false (at (threads_of def past) d)
   due_so d = ap is_some (thread_is def past d valid legal) ∙ row_due (state_of def past) d (at (threads_of def past) d)
 
   abbrev pub IsDueThread : DevNo → Type 0

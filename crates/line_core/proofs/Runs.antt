@@ -37,7 +37,8 @@ use Rattle.line_state.specs.declared.due.DueStep.TheVariants as steps
 use Rattle.line_core.specs.Running.{run_by, device_by}
 
 -- a request ends no run, whatever its answer
-request_ends_none : (def : LineDef) (past : List Entry) (s : StateSeen) (r : DriverNo) (d : DevNo) (flags : Flags) (a : LinkAnswer) → run_ended def past (request_to def r d flags s a) ≡ None
+request_ends_none : (def : LineDef) (past : List Entry) (s : StateSeen) (r : DriverNo) (d : DevNo) (flags : Flags)
+    (a : LinkAnswer) → run_ended def past (request_to def r d flags s a) ≡ None
 request_ends_none def past s r d flags links.Linked = refl
 request_ends_none def past s r d flags (links.Refused error) = refl
 
@@ -45,26 +46,43 @@ module _ (def : LineDef) (past : List Entry) (valid : IsValid def) (legal : IsLe
   row_is : (d : DevNo) → list_any (is_device d) def.devices ≡ true → at (asks_of def past) d ≡ Some (ask_row def past d)
   row_is d there = at_device (ask_row def past) def.devices d there
 
-  pub run_is : (step : DueStep) → IsDue def (entry_by def (state_of def past) step) past → run_ended def past (entry_by def (state_of def past) step) ≡ run_by def (state_of def past) step
+  pub run_is : (step : DueStep) → IsDue def (entry_by def (state_of def past) step) past
+      → run_ended def past (entry_by def (state_of def past) step) ≡ run_by def (state_of def past) step
   run_is (steps.Return c d) due =
       let k = kept def past valid legal in
       let n = met_by (at (asks_of def past) d) in
       let kind = kind_at (kinds_of def) d in
-      let there = there_named def past k d (called_there def past k d (k.runs.working d (return_due def c d (answer_of kind parts.Primary n) (served_by_handler kind n) past due).is_at_work).0) in
+      let there = there_named def past k d (called_there def past k d
+      (k.runs.working d (return_due def c d (answer_of kind parts.Primary n) (served_by_handler kind n) past
+      due).is_at_work).0) in
       told (ap met_by (sym (row_is d there)))
     where
-      told : (ask_row def past d).met_by_handler ≡ met_by (at (asks_of def past) d) → run_ended def past (entry_by def (state_of def past) (steps.Return c d)) ≡ run_by def (state_of def past) (steps.Return c d)
+      told : (ask_row def past d).met_by_handler ≡ met_by (at (asks_of def past) d)
+          → run_ended def past (entry_by def (state_of def past) (steps.Return c d))
+          ≡ run_by def (state_of def past) (steps.Return c d)
       told met =
-          ap (λ (x : Kind). Some (record { def = record { dev = d; line = def.line; kind = x }; part = parts.Primary; unserved = (ask_row def past d).met_by_handler })) (sym (kind_is def d))
+          ap (λ (x : Kind). Some (record {
+            def = record { dev = d; line = def.line; kind = x };
+            part
+                = parts.Primary;
+            unserved = (ask_row def past d).met_by_handler;
+          })) (sym (kind_is def d))
           ∙ ap (λ (n : ℕ). Some (record { def = device_by def (state_of def past) d; part = parts.Primary; unserved = n })) met
   run_is (steps.ThreadReturn d) due =
       let k = kept def past valid legal in
       let there = there_named def past k d (running_there def past k d (thread_return_due def d (met_in (at (asks_of def past) d)) past due).running) in
       told (ap met_in (sym (row_is d there)))
     where
-      told : (ask_row def past d).met_by_thread ≡ met_in (at (asks_of def past) d) → run_ended def past (entry_by def (state_of def past) (steps.ThreadReturn d)) ≡ run_by def (state_of def past) (steps.ThreadReturn d)
+      told : (ask_row def past d).met_by_thread ≡ met_in (at (asks_of def past) d)
+          → run_ended def past (entry_by def (state_of def past) (steps.ThreadReturn d))
+          ≡ run_by def (state_of def past) (steps.ThreadReturn d)
       told met =
-          ap (λ (x : Kind). Some (record { def = record { dev = d; line = def.line; kind = x }; part = parts.Thread; unserved = (ask_row def past d).met_by_thread })) (sym (kind_is def d))
+          ap (λ (x : Kind). Some (record {
+            def = record { dev = d; line = def.line; kind = x };
+            part
+                = parts.Thread;
+            unserved = (ask_row def past d).met_by_thread;
+          })) (sym (kind_is def d))
           ∙ ap (λ (n : ℕ). Some (record { def = device_by def (state_of def past) d; part = parts.Thread; unserved = n })) met
   run_is (steps.Request r d flags) due = request_ends_none def past (state_of def past) r d flags (answer_by (kind_at (kinds_of def) d) flags (actions_of past))
   run_is _ due = refl

@@ -1,5 +1,6 @@
 -- One step of a line.
-use Rattle.std.proofs.Common.{◌≡◌, ◌+◌, ◌<◌, ◌≤◌, Bool, false, Result, Ok, Err, List, [], ◌∷◌, ◌++◌, is_some, Option, Some, None, option_map, length, true, reverse, refl, sym, ap, subst, ◌∙◌}
+use Rattle.std.proofs.Common.{◌≡◌, ◌+◌, ◌<◌, ◌≤◌, Bool, false, Result, Ok, Err, List, [], ◌∷◌, ◌++◌, is_some, Option}
+use Rattle.std.proofs.Common.{Some, None, option_map, length, true, reverse, refl, sym, ap, subst, ◌∙◌}
 use Rattle.std.proofs.lemmas.Bool.{false≢true}
 use Rattle.std.specs.Prelude.{ℕ, IfSome, IsOk, is_ok}
 use Rattle.irq_base.specs.declared.devices.Run.{Run}
@@ -41,7 +42,9 @@ numbered : (o : Option CpuNo) → is_some o ≡ true → o ≡ Some (record { 0 
 numbered None h = absurd (false≢true h)
 numbered (Some c) h = refl
 
-pub aimed_at : (line : LineSeen) (s : StateSeen) (scripts : List (DriverNo × RowSeen)) (n : ℕ) → IsLine line.def line.entries s scripts → n ≡ s.aimed → target line.def (reverse line.entries) ≡ Some (record { 0 = n })
+pub aimed_at : (line : LineSeen) (s : StateSeen) (scripts : List (DriverNo × RowSeen)) (n : ℕ)
+    → IsLine line.def line.entries s scripts → n ≡ s.aimed
+    → target line.def (reverse line.entries) ≡ Some (record { 0 = n })
 aimed_at line s scripts n is same =
     let told : n ≡ number_of (target line.def (reverse line.entries)) = same ∙ ap (λ (x : StateSeen). x.aimed) is.state in
     let num : ℕ → Option CpuNo = λ k. Some (record { 0 = k }) in
@@ -55,11 +58,16 @@ due_told line s scripts a o is told =
     ap (λ (x : StateSeen). option_map (entry_by line.def x) o) (sym is.state) ∙ (told ∙ sym (due_on line.def line.entries s scripts a is))
 
 pub added : (def : LineDef) (h more : List Entry) (s after : StateSeen) (scripts moved : List (DriverNo × RowSeen)) (a : Actor) (e : Entry)
-    → IsLine def h s scripts → next def h a ≡ Some e → length h < def.log → Moves a e scripts moved → more ≡ h ++ e ∷ [] → after ≡ state_after def e s → IsLine def more after moved
+    → IsLine def h s scripts → next def h a ≡ Some e → length h < def.log → Moves a e scripts moved → more ≡ h ++ e ∷ []
+    → after ≡ state_after def e s → IsLine def more after moved
 added def h more s after scripts moved a e is due below m entries state =
-    subst (λ (x : List Entry). IsLine def x after moved) (sym entries) (subst (λ (x : StateSeen). IsLine def (h ++ e ∷ []) x moved) (sym state) (line_more def h s scripts moved e is a due below m))
+    subst (λ (x : List Entry). IsLine def x after moved) (sym entries)
+    (subst (λ (x : StateSeen). IsLine def (h ++ e ∷ []) x moved) (sym state)
+    (line_more def h s scripts moved e is a due below m))
 
-module _ (line : LineSeen) (s : StateSeen) (scripts : List (DriverNo × RowSeen)) (who : Actor) (said : Option SaidSeen) (step : DueStep) (is : IsLine line.def line.entries s scripts) (due : next line.def line.entries who ≡ Some (entry_at line step)) where
+module _ (line : LineSeen) (s : StateSeen) (scripts : List (DriverNo × RowSeen)) (who : Actor) (said : Option SaidSeen)
+    (step : DueStep) (is : IsLine line.def line.entries s scripts)
+    (due : next line.def line.entries who ≡ Some (entry_at line step)) where
   -- the run that the due step ends
   ends : run_ended line.def (reverse line.entries) (entry_at line step) ≡ run_by line.def s step
   ends =
@@ -86,12 +94,14 @@ module _ (line : LineSeen) (s : StateSeen) (scripts : List (DriverNo × RowSeen)
 
 -- ---- the step that is made, given the state once there is room
 
-module _ (line : LineSeen) (s room : StateSeen) (scripts : List (DriverNo × RowSeen)) (who : Actor) (step : DueStep) (e : Entry) (is : IsLine line.def line.entries s scripts) (same : room ≡ s) (made : e ≡ entry_by line.def room step) where
-  pub made_at : e ≡ entry_at line step
-  made_at = made ∙ ap (λ (x : StateSeen). entry_by line.def x step) (same ∙ is.state)
+module _ (line : LineSeen) (s room : StateSeen) (scripts : List (DriverNo × RowSeen)) (who : Actor) (step : DueStep)
+    (e : Entry) (is : IsLine line.def line.entries s scripts) (same : room ≡ s) (made : e ≡ entry_by line.def room step)
+  where
+    pub made_at : e ≡ entry_at line step
+    made_at = made ∙ ap (λ (x : StateSeen). entry_by line.def x step) (same ∙ is.state)
 
-  pub made_due : next line.def line.entries who ≡ Some (entry_at line step) → next line.def line.entries who ≡ Some e
-  made_due due = due ∙ ap Some (sym made_at)
+    pub made_due : next line.def line.entries who ≡ Some (entry_at line step) → next line.def line.entries who ≡ Some e
+    made_due due = due ∙ ap Some (sym made_at)
 
 -- ---- a step that was refused memory
 
@@ -100,7 +110,9 @@ pub wanted : {A E : Type 0} {e : E} (b : Bool) (r : Result A E) → r ≡ Err e 
 wanted true r refused h = refl
 wanted false r refused h = absurd (false≢true (sym (ap is_ok refused) ∙ h refl))
 
-pub wants_memory : (old : LineSeen) (who : Actor) (r : Result Stepped StepRefused) → (1 ≤ old.spare → links_next (next old.def old.entries who) ≡ true) → WantsMemory (λ due. links_next due ≡ true) old who r
+pub wants_memory : (old : LineSeen) (who : Actor) (r : Result Stepped StepRefused)
+    → (1 ≤ old.spare → links_next (next old.def old.entries who) ≡ true)
+    → WantsMemory (λ due. links_next due ≡ true) old who r
 wants_memory old who (Err refusals.NoMemory) h = h
 wants_memory old who (Err (refusals.Full len)) h = tt
 wants_memory old who (Ok stepped) h = tt

@@ -80,7 +80,8 @@ flags_less d [] = refl
 flags_less d (e ∷ es) = by_test (same_dev d e.0) (flags_less d es)
   where
     by_test : (b : Bool) → flags_of (remove_entry (same_dev d) (bare es)) ≡ flags_of (remove_entry (same_dev d) es)
-        → flags_of (cond b (bare es) ((e.0, record { flags = e.1.flags; bit = 0 }) ∷ remove_entry (same_dev d) (bare es))) ≡ flags_of (cond b es (e ∷ remove_entry (same_dev d) es))
+        → flags_of (cond b (bare es) ((e.0, record { flags = e.1.flags; bit = 0 })
+        ∷ remove_entry (same_dev d) (bare es))) ≡ flags_of (cond b es (e ∷ remove_entry (same_dev d) es))
     by_test true rest = flags_same es
     by_test false rest = ap (λ (x : List (DevNo × Flags)). (e.0, e.1.flags) ∷ x) rest
 

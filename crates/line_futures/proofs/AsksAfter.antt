@@ -25,7 +25,8 @@ module _ {R : Type 0} where
   walk h d [] = []
   walk h d (e ∷ es) = cond (same_dev d e.0) ((e.0, h e.1) ∷ es) (e ∷ walk h d es)
 
-  cons_changed : (h : R → R) (d : DevNo) (e : DevNo × R) (es : List (DevNo × R)) (o : Option R) → same_dev d e.0 ≡ false → changed h (e ∷ es) d o ≡ e ∷ changed h es d o
+  cons_changed : (h : R → R) (d : DevNo) (e : DevNo × R) (es : List (DevNo × R)) (o : Option R) → same_dev d e.0 ≡ false
+      → changed h (e ∷ es) d o ≡ e ∷ changed h es d o
   cons_changed h d e es None is = refl
   cons_changed h d e es (Some r) is = ap (λ b. cond b ((e.0, h r) ∷ es) (e ∷ put es d (h r))) is
 
@@ -34,7 +35,8 @@ module _ {R : Type 0} where
   walk_is h d [] = refl
   walk_is h d (e ∷ es) = by_test (same_dev d e.0) refl (walk_is h d es)
     where
-      by_test : (b : Bool) → same_dev d e.0 ≡ b → change h es d ≡ walk h d es → changed h (e ∷ es) d (cond b (Some e.1) (at es d)) ≡ cond b ((e.0, h e.1) ∷ es) (e ∷ walk h d es)
+      by_test : (b : Bool) → same_dev d e.0 ≡ b → change h es d ≡ walk h d es
+          → changed h (e ∷ es) d (cond b (Some e.1) (at es d)) ≡ cond b ((e.0, h e.1) ∷ es) (e ∷ walk h d es)
       by_test true is rest = ap (λ b. cond b ((e.0, h e.1) ∷ es) (e ∷ put es d (h e.1))) is
       by_test false is rest = cons_changed h d e es (at es d) is ∙ ap (λ (t : List (DevNo × R)). e ∷ t) rest
 
@@ -54,9 +56,28 @@ kept_lower true false n h = absurd (let x : ⊥ = cc (h refl) in x)
 
 pub row_lower : (v h t v' h' t' : Bool) (r : AskRow) → Lower v' v → Lower h' h → Lower t' t → canon_row v' h' t' (canon_row v h t r) ≡ canon_row v' h' t' r
 row_lower v h t v' h' t' r lv lh lt =
-    ap (λ n. record { unserved = r.unserved; fresh = n; met_by_handler = kept_if h' (kept_if h r.met_by_handler); met_by_thread = kept_if t' (kept_if t r.met_by_thread) }) (kept_lower v' v r.fresh lv)
-    ∙ (ap (λ n. record { unserved = r.unserved; fresh = kept_if v' r.fresh; met_by_handler = n; met_by_thread = kept_if t' (kept_if t r.met_by_thread) }) (kept_lower h' h r.met_by_handler lh)
-    ∙ ap (λ n. record { unserved = r.unserved; fresh = kept_if v' r.fresh; met_by_handler = kept_if h' r.met_by_handler; met_by_thread = n }) (kept_lower t' t r.met_by_thread lt))
+    ap (λ n. record {
+      unserved = r.unserved;
+      fresh = n;
+      met_by_handler
+          = kept_if h' (kept_if h r.met_by_handler);
+      met_by_thread = kept_if t' (kept_if t r.met_by_thread);
+    })
+    (kept_lower v' v r.fresh lv)
+    ∙ (ap (λ n. record {
+      unserved = r.unserved;
+      fresh = kept_if v' r.fresh;
+      met_by_handler = n;
+      met_by_thread
+          = kept_if t' (kept_if t r.met_by_thread);
+    }) (kept_lower h' h r.met_by_handler lh)
+    ∙ ap (λ n. record {
+      unserved = r.unserved;
+      fresh = kept_if v' r.fresh;
+      met_by_handler
+          = kept_if h' r.met_by_handler;
+      met_by_thread = n;
+    }) (kept_lower t' t r.met_by_thread lt))
 
 pub serving_lower : (k : Kind) (h t h' t' : Bool) → Lower h' h → Lower t' t → Lower (is_serving k h' t') (is_serving k h t)
 serving_lower kinds.Direct h t true t' lh lt i = ap (λ b. b || false) (lh refl)
@@ -74,32 +95,40 @@ module _ (v h t v' h' t' : DevNo → Bool) where
   abbrev low : DevNo → AskRow → AskRow
   low x r = canon_row (v x) (h x) (t x) r
 
-  pub all_same : (a : List (DevNo × AskRow)) → ((x : DevNo) (r : AskRow) → Same (low x r) r x) → canon_asks v' h' t' (canon_asks v h t a) ≡ canon_asks v' h' t' a
+  pub all_same : (a : List (DevNo × AskRow)) → ((x : DevNo) (r : AskRow) → Same (low x r) r x)
+      → canon_asks v' h' t' (canon_asks v h t a) ≡ canon_asks v' h' t' a
   all_same [] one = refl
   all_same (e ∷ es) one =
       ap (λ (r : AskRow). (e.0, r) ∷ canon_asks v' h' t' (canon_asks v h t es)) (one e.0 e.1)
       ∙ ap (λ (x : List (DevNo × AskRow)). (e.0, canon_row (v' e.0) (h' e.0) (t' e.0) e.1) ∷ x) (all_same es one)
 
   -- none of the rows is d's
-  none_same : (d : DevNo) (a : List (DevNo × AskRow)) → at a d ≡ None → ((x : DevNo) → same_dev d x ≡ false → (r : AskRow) → Same (low x r) r x) → canon_asks v' h' t' (canon_asks v h t a) ≡ canon_asks v' h' t' a
+  none_same : (d : DevNo) (a : List (DevNo × AskRow)) → at a d ≡ None
+      → ((x : DevNo) → same_dev d x ≡ false → (r : AskRow) → Same (low x r) r x)
+      → canon_asks v' h' t' (canon_asks v h t a) ≡ canon_asks v' h' t' a
   none_same d [] none one = refl
   none_same d (e ∷ es) none one = by_test (same_dev d e.0) refl none (λ n. none_same d es n one)
     where
-      by_test : (b : Bool) → same_dev d e.0 ≡ b → cond b (Some e.1) (at es d) ≡ None → (at es d ≡ None → canon_asks v' h' t' (canon_asks v h t es) ≡ canon_asks v' h' t' es)
+      by_test : (b : Bool) → same_dev d e.0 ≡ b → cond b (Some e.1) (at es d) ≡ None
+          → (at es d ≡ None → canon_asks v' h' t' (canon_asks v h t es) ≡ canon_asks v' h' t' es)
           → canon_asks v' h' t' (canon_asks v h t (e ∷ es)) ≡ canon_asks v' h' t' (e ∷ es)
       by_test true is n rest = cc
       by_test false is n rest =
           ap (λ (r : AskRow). (e.0, r) ∷ canon_asks v' h' t' (canon_asks v h t es)) (one e.0 is e.1)
           ∙ ap (λ (x : List (DevNo × AskRow)). (e.0, canon_row (v' e.0) (h' e.0) (t' e.0) e.1) ∷ x) (rest n)
 
-  walk_same : (f : AskRow → AskRow) (d : DevNo) (a : List (DevNo × AskRow)) → HasOwnKeys a → ((x : DevNo) → same_dev d x ≡ false → (r : AskRow) → Same (low x r) r x) → ((r : AskRow) → Same (f (low d r)) (f r) d)
+  walk_same : (f : AskRow → AskRow) (d : DevNo) (a : List (DevNo × AskRow)) → HasOwnKeys a
+      → ((x : DevNo) → same_dev d x ≡ false → (r : AskRow) → Same (low x r) r x)
+      → ((r : AskRow) → Same (f (low d r)) (f r) d)
       → canon_asks v' h' t' (walk f d (canon_asks v h t a)) ≡ canon_asks v' h' t' (walk f d a)
   unfolding walk
   walk_same f d [] own other one = refl
   walk_same f d (e ∷ es) own other one = by_test (same_dev d e.0) refl (walk_same f d es own.1 other one)
     where
       by_test : (b : Bool) → same_dev d e.0 ≡ b → canon_asks v' h' t' (walk f d (canon_asks v h t es)) ≡ canon_asks v' h' t' (walk f d es)
-          → canon_asks v' h' t' (cond b ((e.0, f (low e.0 e.1)) ∷ canon_asks v h t es) ((e.0, low e.0 e.1) ∷ walk f d (canon_asks v h t es))) ≡ canon_asks v' h' t' (cond b ((e.0, f e.1) ∷ es) (e ∷ walk f d es))
+          → canon_asks v' h' t' (cond b ((e.0, f (low e.0 e.1)) ∷ canon_asks v h t es)
+          ((e.0, low e.0 e.1) ∷ walk f d (canon_asks v h t es)))
+          ≡ canon_asks v' h' t' (cond b ((e.0, f e.1) ∷ es) (e ∷ walk f d es))
       by_test true is rest =
           let same : d ≡ e.0 = dev_from_same d e.0 is in
           let none : at es d ≡ None = ap (at es) same ∙ own.0 in
@@ -110,7 +139,9 @@ module _ (v h t v' h' t' : DevNo → Bool) where
           ap (λ (r : AskRow). (e.0, r) ∷ canon_asks v' h' t' (walk f d (canon_asks v h t es))) (other e.0 is e.1)
           ∙ ap (λ (x : List (DevNo × AskRow)). (e.0, canon_row (v' e.0) (h' e.0) (t' e.0) e.1) ∷ x) rest
 
-  pub change_same : (f : AskRow → AskRow) (d : DevNo) (a : List (DevNo × AskRow)) → HasOwnKeys a → ((x : DevNo) → same_dev d x ≡ false → (r : AskRow) → Same (low x r) r x) → ((r : AskRow) → Same (f (low d r)) (f r) d)
+  pub change_same : (f : AskRow → AskRow) (d : DevNo) (a : List (DevNo × AskRow)) → HasOwnKeys a
+      → ((x : DevNo) → same_dev d x ≡ false → (r : AskRow) → Same (low x r) r x)
+      → ((r : AskRow) → Same (f (low d r)) (f r) d)
       → canon_asks v' h' t' (change f (canon_asks v h t a) d) ≡ canon_asks v' h' t' (change f a d)
   change_same f d a own other one =
       ap (canon_asks v' h' t') (walk_is f d (canon_asks v h t a)) ∙ (walk_same f d a own other one ∙ ap (canon_asks v' h' t') (sym (walk_is f d a)))
@@ -129,7 +160,9 @@ module _ (v h t : DevNo → Bool) where
   handler_met d [] works = refl
   handler_met d (e ∷ es) works = by_test (same_dev d e.0) refl (handler_met d es works)
     where
-      by_test : (b : Bool) → same_dev d e.0 ≡ b → met_by (at (canon_asks v h t es) d) ≡ met_by (at es d) → met_by (cond b (Some (canon_row (v e.0) (h e.0) (t e.0) e.1)) (at (canon_asks v h t es) d)) ≡ met_by (cond b (Some e.1) (at es d))
+      by_test : (b : Bool) → same_dev d e.0 ≡ b → met_by (at (canon_asks v h t es) d) ≡ met_by (at es d)
+          → met_by (cond b (Some (canon_row (v e.0) (h e.0) (t e.0) e.1)) (at (canon_asks v h t es) d))
+          ≡ met_by (cond b (Some e.1) (at es d))
       by_test true is rest = ap (λ b. kept_if b e.1.met_by_handler) (ap h (sym (dev_from_same d e.0 is)) ∙ works)
       by_test false is rest = rest
 
@@ -137,26 +170,32 @@ module _ (v h t : DevNo → Bool) where
   thread_met d [] works = refl
   thread_met d (e ∷ es) works = by_test (same_dev d e.0) refl (thread_met d es works)
     where
-      by_test : (b : Bool) → same_dev d e.0 ≡ b → met_in (at (canon_asks v h t es) d) ≡ met_in (at es d) → met_in (cond b (Some (canon_row (v e.0) (h e.0) (t e.0) e.1)) (at (canon_asks v h t es) d)) ≡ met_in (cond b (Some e.1) (at es d))
+      by_test : (b : Bool) → same_dev d e.0 ≡ b → met_in (at (canon_asks v h t es) d) ≡ met_in (at es d)
+          → met_in (cond b (Some (canon_row (v e.0) (h e.0) (t e.0) e.1)) (at (canon_asks v h t es) d))
+          ≡ met_in (cond b (Some e.1) (at es d))
       by_test true is rest = ap (λ b. kept_if b e.1.met_by_thread) (ap t (sym (dev_from_same d e.0 is)) ∙ works)
       by_test false is rest = rest
 
 -- ---- whose thread is at work, after a change of one row
 
 module _ (g : ThreadRow → ThreadRow) (d : DevNo) where
-  walk_lower : (x : DevNo) (a : List (DevNo × ThreadRow)) → ((r : ThreadRow) → Lower (may_return (g r)) (may_return r)) → Lower (is_thread_working (walk g d a) x) (is_thread_working a x)
+  walk_lower : (x : DevNo) (a : List (DevNo × ThreadRow)) → ((r : ThreadRow) → Lower (may_return (g r)) (may_return r))
+      → Lower (is_thread_working (walk g d a) x) (is_thread_working a x)
   unfolding walk
   walk_lower x [] low = λ i. i
   walk_lower x (e ∷ es) low = by_tests (same_dev d e.0) (same_dev x e.0) refl (walk_lower x es low)
     where
       by_tests : (b c : Bool) → same_dev x e.0 ≡ c → Lower (is_thread_working (walk g d es) x) (is_thread_working es x)
-          → Lower (row_passes may_return false (at (cond b ((e.0, g e.1) ∷ es) (e ∷ walk g d es)) x)) (row_passes may_return false (cond c (Some e.1) (at es x)))
+          → Lower (row_passes may_return false (at (cond b ((e.0, g e.1) ∷ es) (e ∷ walk g d es)) x))
+          (row_passes may_return false (cond c (Some e.1) (at es x)))
       by_tests true true is rest = λ i. low e.1 (ap (λ y. row_passes may_return false (cond y (Some (g e.1)) (at es x))) (sym is) ∙ i)
       by_tests true false is rest = λ i. ap (λ y. row_passes may_return false (cond y (Some (g e.1)) (at es x))) (sym is) ∙ i
       by_tests false true is rest = λ i. ap (λ y. row_passes may_return false (cond y (Some e.1) (at (walk g d es) x))) (sym is) ∙ i
       by_tests false false is rest = λ i. rest (ap (λ y. row_passes may_return false (cond y (Some e.1) (at (walk g d es) x))) (sym is) ∙ i)
 
-  pub working_lower : (x : DevNo) (a : List (DevNo × ThreadRow)) → ((r : ThreadRow) → Lower (may_return (g r)) (may_return r)) → Lower (is_thread_working (change g a d) x) (is_thread_working a x)
+  pub working_lower : (x : DevNo) (a : List (DevNo × ThreadRow))
+      → ((r : ThreadRow) → Lower (may_return (g r)) (may_return r))
+      → Lower (is_thread_working (change g a d) x) (is_thread_working a x)
   working_lower x a low = λ i. walk_lower x a low (ap (λ (y : List (DevNo × ThreadRow)). is_thread_working y x) (sym (walk_is g d a)) ∙ i)
 
   both : (x y : DevNo) → same_dev d y ≡ true → same_dev x y ≡ true → same_dev d x ≡ true
@@ -168,7 +207,8 @@ module _ (g : ThreadRow → ThreadRow) (d : DevNo) where
   walk_other x (e ∷ es) ne = by_tests (same_dev d e.0) (same_dev x e.0) refl refl (walk_other x es ne)
     where
       by_tests : (b c : Bool) → same_dev d e.0 ≡ b → same_dev x e.0 ≡ c → Lower (is_thread_working (walk g d es) x) (is_thread_working es x)
-          → Lower (row_passes may_return false (at (cond b ((e.0, g e.1) ∷ es) (e ∷ walk g d es)) x)) (row_passes may_return false (cond c (Some e.1) (at es x)))
+          → Lower (row_passes may_return false (at (cond b ((e.0, g e.1) ∷ es) (e ∷ walk g d es)) x))
+          (row_passes may_return false (cond c (Some e.1) (at es x)))
       by_tests true true p q rest = absurd (let x : ⊥ = cc (sym ne ∙ both x e.0 p q) in x)
       by_tests true false p q rest = λ i. ap (λ y. row_passes may_return false (cond y (Some (g e.1)) (at es x))) (sym q) ∙ i
       by_tests false true p q rest = λ i. ap (λ y. row_passes may_return false (cond y (Some e.1) (at (walk g d es) x))) (sym q) ∙ i
@@ -188,7 +228,13 @@ module _ (k : Kind) (h t h' t' : Bool) (r : AskRow) where
 
 pub row_by : (q r : AskRow) → q.unserved ≡ r.unserved → q.fresh ≡ r.fresh → q.met_by_handler ≡ r.met_by_handler → q.met_by_thread ≡ r.met_by_thread → q ≡ r
 row_by q r a b c d =
-    (let e : ◌≡◌ {A = AskRow} (record { unserved = q.unserved; fresh = q.fresh; met_by_handler = q.met_by_handler; met_by_thread = q.met_by_thread }) r = rw (a, b, c, d) refl in e)
+    (let e : ◌≡◌ {A = AskRow} (record {
+      unserved = q.unserved;
+      fresh = q.fresh;
+      met_by_handler
+          = q.met_by_handler;
+      met_by_thread = q.met_by_thread;
+    }) r = rw (a, b, c, d) refl in e)
 
 kept_more : (b : Bool) (n : ℕ) → kept_if b (kept_if b n + 1) ≡ kept_if b (n + 1)
 kept_more true n = refl

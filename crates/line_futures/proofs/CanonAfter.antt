@@ -77,7 +77,9 @@ module _ (def : LineDef) (new old : Bool) (l : ListSeen) where
   abbrev pub SameList : (ListSeen → ListSeen) → Type 0
   SameList f = canon_list new (f (canon_list old l)) ≡ canon_list new (f l)
 
-  pub by_round : (b : Bool) → (b ≡ false → Lower new old) → canon_list new (cond b (after_begin_round (canon_list old l)) (canon_list old l)) ≡ canon_list new (cond b (after_begin_round l) l)
+  pub by_round : (b : Bool) → (b ≡ false → Lower new old)
+      → canon_list new (cond b (after_begin_round (canon_list old l)) (canon_list old l))
+      ≡ canon_list new (cond b (after_begin_round l) l)
   by_round true low = list_by _ _ _ _ (bare_again l.actions) (begun_cleared new old l.begun)
   by_round false low = list_by _ _ _ _ (bare_again l.actions) (begun_lower new old l.begun (low refl))
 
@@ -86,7 +88,9 @@ module _ (def : LineDef) (new old : Bool) (l : ListSeen) where
       list_by _ _ _ _ (more_same l.actions d (action_by flags (bare l.actions)) (action_by flags l.actions) refl) (begun_lower new old l.begun low)
   linked (links.Refused error) d flags low = list_by _ _ _ _ (bare_again l.actions) (begun_lower new old l.begun low)
 
-  pub in_flow_begins : (d : DevNo) → old ≡ true → canon_list new (record (canon_list old l) { begun = change (λ b. true) (begun_if old l.begun) d }) ≡ canon_list new (record l { begun = change (λ b. true) l.begun d })
+  pub in_flow_begins : (d : DevNo) → old ≡ true → canon_list new
+      (record (canon_list old l) { begun = change (λ b. true) (begun_if old l.begun) d })
+      ≡ canon_list new (record l { begun = change (λ b. true) l.begun d })
   in_flow_begins d flows =
       ap (λ f. made_list (bare (bare l.actions)) (begun_if new (change (λ b. true) (begun_if f l.begun) d))) flows
       ∙ ap (λ (a : Actions). made_list a (begun_if new (change (λ b. true) l.begun d))) (bare_again l.actions)
@@ -102,10 +106,13 @@ round_wakes false false true r w low = absurd (let x : ⊥ = cc (low refl refl) 
 abbrev made_round : Option DevNo → Bool → Bool → ℕ → RoundSeen
 made_round d w h m = record { working = d; wakes = w; handles = h; moment = m }
 
-pub round_same : (def : LineDef) (e : Entry) (new old : Bool) (r : RoundSeen) → (begins_round def e ≡ false → Lower new old) → canon_round new (round_after def e (canon_round old r)) ≡ canon_round new (round_after def e r)
+pub round_same : (def : LineDef) (e : Entry) (new old : Bool) (r : RoundSeen)
+    → (begins_round def e ≡ false → Lower new old) → canon_round new (round_after def e (canon_round old r))
+    ≡ canon_round new (round_after def e r)
 round_same def e new old r low =
     let a = round_after def e r in
-    ap (λ b. made_round a.working b (new && cond (begins_round def e) false (returns_handled e || (old && r.handles))) a.moment) (round_wakes (begins_round def e) old new (returns_wake e) r.wakes low)
+    ap (λ b. made_round a.working b (new && cond (begins_round def e) false (returns_handled e || (old && r.handles)))
+    a.moment) (round_wakes (begins_round def e) old new (returns_wake e) r.wakes low)
     ∙ ap (λ b. made_round a.working (new && a.wakes) b a.moment) (round_wakes (begins_round def e) old new (returns_handled e) r.handles low)
 
 -- ---- the counts
@@ -124,7 +131,13 @@ module _ (f : Bool) (r : RoundSeen) (c : CountsSeen) where
   as_before = ap with_counts (again_same c.counts)
 
   pub served_same : (b : Bool) → c.counts.last ≤ c.counts.threads_handled
-      → canon_tally (cond b (record c { counts = record (canon_counts c.counts) { threads_handled = one_if (not (c.counts.threads_handled == c.counts.last)) + 1 } }) (canon_tally c)) ≡ canon_tally (cond b (record c { counts = record c.counts { threads_handled = c.counts.threads_handled + 1 } }) c)
+      → canon_tally (cond b (record c {
+        counts = record (canon_counts c.counts)
+            { threads_handled = one_if (not (c.counts.threads_handled == c.counts.last)) + 1 };
+      }) (canon_tally c))
+      ≡ canon_tally (cond b (record c {
+        counts = record c.counts { threads_handled = c.counts.threads_handled + 1 };
+      }) c)
   served_same true le = ap with_counts (thread_same c.counts le)
   served_same false le = as_before
 
@@ -132,7 +145,11 @@ module _ (f : Bool) (r : RoundSeen) (c : CountsSeen) where
   linked_tally d dev flags links.Linked opened = ap with_counts (ap (λ (x : Counts). record x { irq_count = 0; irqs_unhandled = 0 }) (again_same c.counts))
   linked_tally d dev flags (links.Refused error) opened = as_before
 
-  pub ended_tally : f ≡ true → canon_tally (record c { counts = (noted c.window c.limit r.moment (f && r.wakes) (f && r.handles) (canon_counts c.counts)).counts }) ≡ canon_tally (record c { counts = (noted c.window c.limit r.moment r.wakes r.handles c.counts).counts })
+  pub ended_tally : f ≡ true → canon_tally (record c {
+    counts
+        = (noted c.window c.limit r.moment (f && r.wakes) (f && r.handles) (canon_counts c.counts)).counts;
+  })
+      ≡ canon_tally (record c { counts = (noted c.window c.limit r.moment r.wakes r.handles c.counts).counts })
   ended_tally flows =
       ap (λ g. with_counts (canon_counts (noted c.window c.limit r.moment (g && r.wakes) (g && r.handles) (canon_counts c.counts)).counts)) flows
       ∙ ap with_counts (noted_same c.window c.limit r.moment r.wakes r.handles c.counts).1

@@ -103,7 +103,9 @@ module _ (def : LineDef) (s : StateSeen) where
   pub cpu_same : (c : CpuNo) → cpu_due def (canon s) c ≡ cpu_due def s c
   cpu_same c = by_flow s.desc.flow refl
     where
-      by_flow : (o : Option CpuNo) → s.desc.flow ≡ o → cond (is_cpu c o) (Some (in_flow_by def (canon s) c s.round.working)) (next_take_by (canon s) c) ≡ cond (is_cpu c o) (Some (in_flow_by def s c s.round.working)) (next_take_by s c)
+      by_flow : (o : Option CpuNo) → s.desc.flow ≡ o → cond (is_cpu c o)
+          (Some (in_flow_by def (canon s) c s.round.working)) (next_take_by (canon s) c)
+          ≡ cond (is_cpu c o) (Some (in_flow_by def s c s.round.working)) (next_take_by s c)
       by_flow None is = next_take_same c
       by_flow (Some f) is =
           ap (λ (e : Entry). cond (is_cpu c (Some f)) (Some e) (next_take_by (canon s) c)) (in_flow_same (ap is_some is) c s.round.working refl)
@@ -128,7 +130,9 @@ module _ (def : LineDef) (s : StateSeen) where
       (ap (request_to def r d flags (canon s)) (answer_same (kind_at s.kinds d) flags s.list.actions)
       ∙ request_same r d flags (link_answer_by (kind_at s.kinds d) flags s.list.actions))
   driver_same r (Some (calls.Free d, n)) =
-      ap (λ (a : UnlinkAnswer). cond (n == 0) (cond (is_some s.freeing) None (Some (entries.Unlink r d a))) (cond (n == 1) (cond (is_some s.desc.flow) None (Some (entries.HardClear r))) (free_by r d 2 s))) (unlink_same d s.list.actions)
+      ap (λ (a : UnlinkAnswer). cond (n == 0) (cond (is_some s.freeing) None (Some (entries.Unlink r d a)))
+      (cond (n == 1) (cond (is_some s.desc.flow) None (Some (entries.HardClear r))) (free_by r d 2 s)))
+      (unlink_same d s.list.actions)
   driver_same r (Some (calls.Disable, n)) = refl
   driver_same r (Some (calls.DisableNosync, n)) = refl
   driver_same r (Some (calls.Enable, n)) = ap (λ b. Some (entries.Enable r (enable_by (not b) def.trigger s.desc s.cell))) (none_same s.list.actions)

@@ -33,8 +33,12 @@ use Rattle.line_marks.specs.State.{StateSeen, state_after, driven_by, high_in}
 use Rattle.line_futures.specs.Canon.{in_flow, canon_list, is_working, is_thread_working, is_serving, serves_at, canon_row, canon_asks, canon_round, canon}
 use Rattle.line_futures.specs.Made.{IsMade, MayFollow}
 use Rattle.line_futures.proofs.Actions.{none_same, less_same}
-use Rattle.line_futures.proofs.AsksAfter.{Lower, row_lower, serving_lower, all_same, change_same, high_same, working_lower, other_lower, AfterSame, row_asked, row_called, row_returned, row_begun, row_thread_returned}
-use Rattle.line_futures.proofs.CanonAfter.{flow_after, flow_stays, list_by, begun_lower, by_round, linked, in_flow_begins, round_same, canon_tally, as_before, served_same, linked_tally, ended_tally}
+use Rattle.line_futures.proofs.AsksAfter.{Lower, row_lower, serving_lower, all_same, change_same, high_same}
+use Rattle.line_futures.proofs.AsksAfter.{working_lower, other_lower, AfterSame, row_asked, row_called, row_returned}
+use Rattle.line_futures.proofs.AsksAfter.{row_begun, row_thread_returned}
+use Rattle.line_futures.proofs.CanonAfter.{flow_after, flow_stays, list_by, begun_lower, by_round, linked}
+use Rattle.line_futures.proofs.CanonAfter.{in_flow_begins, round_same, canon_tally, as_before, served_same}
+use Rattle.line_futures.proofs.CanonAfter.{linked_tally, ended_tally}
 
 -- ---- a thread's run before a change of its row
 
@@ -92,7 +96,9 @@ module _ (def : LineDef) (s : StateSeen) where
 
   abbrev SameAsks : Entry → Type 0
   SameAsks e =
-      canon_asks (serves_after e) (working_after e) (threads_work_after e) (asks_after s.kinds e (canon_asks (serves_at s) (is_working s.round.working) (is_thread_working s.threads) s.asks))
+      canon_asks (serves_after e) (working_after e) (threads_work_after e)
+      (asks_after s.kinds e (canon_asks (serves_at s) (is_working s.round.working) (is_thread_working s.threads)
+      s.asks))
       ≡ canon_asks (serves_after e) (working_after e) (threads_work_after e) (asks_after s.kinds e s.asks)
 
   -- a row whose runs are at work only if they were
@@ -102,50 +108,74 @@ module _ (def : LineDef) (s : StateSeen) where
 
   -- an entry that leaves the asks alone
   left_alone : (h' t' : DevNo → Bool) → ((x : DevNo) → Lower (h' x) (h x)) → ((x : DevNo) → Lower (t' x) (t x))
-      → canon_asks (λ x. is_serving (kind_at s.kinds x) (h' x) (t' x)) h' t' (canon_asks (serves_at s) (is_working s.round.working) (is_thread_working s.threads) s.asks)
+      → canon_asks (λ x. is_serving (kind_at s.kinds x) (h' x) (t' x)) h' t'
+      (canon_asks (serves_at s) (is_working s.round.working) (is_thread_working s.threads) s.asks)
       ≡ canon_asks (λ x. is_serving (kind_at s.kinds x) (h' x) (t' x)) h' t' s.asks
-  left_alone h' t' lh lt = all_same (serves_at s) h t (λ x. is_serving (kind_at s.kinds x) (h' x) (t' x)) h' t' s.asks (λ x r. lower x (h' x) (t' x) (lh x) (lt x) r)
+  left_alone h' t' lh lt = all_same (serves_at s) h t (λ x. is_serving (kind_at s.kinds x) (h' x) (t' x)) h' t' s.asks
+      (λ x r. lower x (h' x) (t' x) (lh x) (lt x) r)
 
   -- an entry that changes one device's
-  changed_one : (f : AskRow → AskRow) (d : DevNo) (h' t' : DevNo → Bool) → HasOwnKeys s.asks → ((x : DevNo) → same_dev d x ≡ false → Lower (h' x) (h x)) → ((x : DevNo) → same_dev d x ≡ false → Lower (t' x) (t x))
+  changed_one : (f : AskRow → AskRow) (d : DevNo) (h' t' : DevNo → Bool) → HasOwnKeys s.asks
+      → ((x : DevNo) → same_dev d x ≡ false → Lower (h' x) (h x))
+      → ((x : DevNo) → same_dev d x ≡ false → Lower (t' x) (t x))
       → ((r : AskRow) → AfterSame (kind d) (h d) (t d) (h' d) (t' d) r f)
-      → canon_asks (λ x. is_serving (kind_at s.kinds x) (h' x) (t' x)) h' t' (change f (canon_asks (serves_at s) (is_working s.round.working) (is_thread_working s.threads) s.asks) d)
+      → canon_asks (λ x. is_serving (kind_at s.kinds x) (h' x) (t' x)) h' t'
+      (change f (canon_asks (serves_at s) (is_working s.round.working) (is_thread_working s.threads) s.asks) d)
       ≡ canon_asks (λ x. is_serving (kind_at s.kinds x) (h' x) (t' x)) h' t' (change f s.asks d)
   changed_one f d h' t' own lh lt here =
-      change_same (serves_at s) h t (λ x. is_serving (kind_at s.kinds x) (h' x) (t' x)) h' t' f d s.asks own (λ x ne r. lower x (h' x) (t' x) (lh x ne) (lt x ne) r) here
+      change_same (serves_at s) h t (λ x. is_serving (kind_at s.kinds x) (h' x) (t' x)) h' t' f d s.asks own
+      (λ x ne r. lower x (h' x) (t' x) (lh x ne) (lt x ne) r) here
 
   called_other : (d x : DevNo) → same_dev d x ≡ false → Lower (same_dev x d) (h x)
   called_other d x ne = none_low (same_dev x d) (h x) (same_both x d ∙ ne)
 
   called_here : (d : DevNo) (r : AskRow) → AfterSame (kind d) (h d) (t d) (same_dev d d) (t d) r (called (is_direct (kind d)))
-  called_here d r = subst (λ b. AfterSame (kind d) (h d) (t d) b (t d) r (called (is_direct (kind d)))) (sym (same_self d)) (row_called (kind d) (h d) (t d) (t d) r (λ i. i))
+  called_here d r = subst (λ b. AfterSame (kind d) (h d) (t d) b (t d) r (called (is_direct (kind d))))
+      (sym (same_self d)) (row_called (kind d) (h d) (t d) (t d) r (λ i. i))
 
   is_at_work : (d : DevNo) → s.round.working ≡ Some d → h d ≡ true
   is_at_work d is = ap (λ (w : Option DevNo). is_working w d) is ∙ same_self d
 
-  returned_here : (d : DevNo) (t' : Bool) → Lower t' (t d) → s.round.working ≡ Some d → (r : AskRow) → AfterSame (kind d) (h d) (t d) false t' r (served (is_direct (kind d)))
-  returned_here d t' low is r = subst (λ b. AfterSame (kind d) b (t d) false t' r (served (is_direct (kind d)))) (sym (is_at_work d is)) (row_returned (kind d) (t d) t' r low)
+  returned_here : (d : DevNo) (t' : Bool) → Lower t' (t d) → s.round.working ≡ Some d → (r : AskRow)
+      → AfterSame (kind d) (h d) (t d) false t' r (served (is_direct (kind d)))
+  returned_here d t' low is r = subst (λ b. AfterSame (kind d) b (t d) false t' r (served (is_direct (kind d))))
+      (sym (is_at_work d is)) (row_returned (kind d) (t d) t' r low)
 
   thread_returned_here : (d : DevNo) (t' : Bool) → t d ≡ true → (r : AskRow) → AfterSame (kind d) (h d) (t d) (h d) t' r (served (is_threaded (kind d)))
-  thread_returned_here d t' is r = subst (λ b. AfterSame (kind d) (h d) b (h d) t' r (served (is_threaded (kind d)))) (sym is) (row_thread_returned (kind d) (h d) t' r)
+  thread_returned_here d t' is r = subst (λ b. AfterSame (kind d) (h d) b (h d) t' r (served (is_threaded (kind d))))
+      (sym is) (row_thread_returned (kind d) (h d) t' r)
 
   none_works : (x : DevNo) → Lower false (h x)
   none_works x = none_low false (h x) refl
 
   pub asks_same : (e : Entry) → IsMade e s → HasOwnKeys s.asks → SameAsks e
   asks_same (entries.Ask driver d) made own = changed_one asked d h t own (λ x ne i. i) (λ x ne i. i) (λ r. row_asked (kind d) (h d) (t d) r)
-  asks_same (entries.Begin cpu d) made own = changed_one (called (is_direct (kind d))) d (is_working (Some d)) t own (called_other d) (λ x ne i. i) (called_here d)
-  asks_same (entries.Return cpu d answers.Nothing n) made own = changed_one (served (is_direct (kind d))) d (is_working None) t own (λ x ne. none_works x) (λ x ne i. i) (returned_here d (t d) (λ i. i) made)
-  asks_same (entries.Return cpu d answers.Handled n) made own = changed_one (served (is_direct (kind d))) d (is_working None) t own (λ x ne. none_works x) (λ x ne i. i) (returned_here d (t d) (λ i. i) made)
+  asks_same (entries.Begin cpu d) made own = changed_one (called (is_direct (kind d))) d (is_working (Some d)) t own
+      (called_other d) (λ x ne i. i) (called_here d)
+  asks_same (entries.Return cpu d answers.Nothing n) made own
+      = changed_one (served (is_direct (kind d))) d (is_working None) t own (λ x ne. none_works x) (λ x ne i. i)
+      (returned_here d (t d) (λ i. i) made)
+  asks_same (entries.Return cpu d answers.Handled n) made own
+      = changed_one (served (is_direct (kind d))) d (is_working None) t own (λ x ne. none_works x) (λ x ne i. i)
+      (returned_here d (t d) (λ i. i) made)
   asks_same (entries.Return cpu d answers.Wake n) made own =
-      let low : (x : DevNo) → Lower (is_thread_working (change (woken_row s.desc.oneshot) s.threads d) x) (t x) = λ x. working_lower (woken_row s.desc.oneshot) d x s.threads (woken_low s.desc.oneshot) in
-      changed_one (served (is_direct (kind d))) d (is_working None) (is_thread_working (change (woken_row s.desc.oneshot) s.threads d)) own (λ x ne. none_works x) (λ x ne. low x) (returned_here d (is_thread_working (change (woken_row s.desc.oneshot) s.threads d) d) (low d) made)
+      let low : (x : DevNo) → Lower (is_thread_working (change (woken_row s.desc.oneshot) s.threads d) x) (t x)
+      = λ x. working_lower (woken_row s.desc.oneshot) d x s.threads (woken_low s.desc.oneshot) in
+      changed_one (served (is_direct (kind d))) d (is_working None)
+      (is_thread_working (change (woken_row s.desc.oneshot) s.threads d)) own (λ x ne. none_works x) (λ x ne. low x)
+      (returned_here d (is_thread_working (change (woken_row s.desc.oneshot) s.threads d) d) (low d) made)
   asks_same (entries.ThreadBegin d) made own =
-      changed_one (begun (is_threaded (kind d))) d h (is_thread_working (change begun_row s.threads d)) own (λ x ne i. i) (λ x ne. other_lower begun_row d x s.threads ne) (λ r. row_begun (kind d) (h d) (t d) (is_thread_working (change begun_row s.threads d) d) r)
+      changed_one (begun (is_threaded (kind d))) d h (is_thread_working (change begun_row s.threads d)) own
+      (λ x ne i. i) (λ x ne. other_lower begun_row d x s.threads ne)
+      (λ r. row_begun (kind d) (h d) (t d) (is_thread_working (change begun_row s.threads d) d) r)
   asks_same (entries.ThreadReturn d n) made own =
-      changed_one (served (is_threaded (kind d))) d h (is_thread_working (change returned_row s.threads d)) own (λ x ne i. i) (λ x ne. other_lower returned_row d x s.threads ne) (thread_returned_here d (is_thread_working (change returned_row s.threads d) d) made)
-  asks_same (entries.Finish d kept unmask) made own = left_alone h (is_thread_working (change finished_row s.threads d)) (λ x i. i) (λ x. working_lower finished_row d x s.threads finished_low)
-  asks_same (entries.Done d) made own = left_alone h (is_thread_working (change (done_row s.desc.oneshot) s.threads d)) (λ x i. i) (λ x. working_lower (done_row s.desc.oneshot) d x s.threads (done_low s.desc.oneshot))
+      changed_one (served (is_threaded (kind d))) d h (is_thread_working (change returned_row s.threads d)) own
+      (λ x ne i. i) (λ x ne. other_lower returned_row d x s.threads ne)
+      (thread_returned_here d (is_thread_working (change returned_row s.threads d) d) made)
+  asks_same (entries.Finish d kept unmask) made own = left_alone h (is_thread_working (change finished_row s.threads d))
+      (λ x i. i) (λ x. working_lower finished_row d x s.threads finished_low)
+  asks_same (entries.Done d) made own = left_alone h (is_thread_working (change (done_row s.desc.oneshot) s.threads d))
+      (λ x i. i) (λ x. working_lower (done_row s.desc.oneshot) d x s.threads (done_low s.desc.oneshot))
   asks_same e made own = left_alone h t (λ x i. i) (λ x i. i)
 
   -- ---- the other parts
@@ -156,14 +186,21 @@ module _ (def : LineDef) (s : StateSeen) where
   stays : (e : Entry) → begins_round def e ≡ false → Lower (new_flow e) (in_flow s)
   stays e = flow_stays def (is_bare s.list.actions) s.desc e
 
-  list_same : (e : Entry) → IsMade e s → canon_list (new_flow e) (list_after def e (canon_list (in_flow s) s.list)) ≡ canon_list (new_flow e) (list_after def e s.list)
-  list_same (entries.Request driver dev flags answer opened) made = linked def (new_flow (entries.Request driver dev flags answer opened)) (in_flow s) s.list answer dev flags (stays (entries.Request driver dev flags answer opened) refl)
+  list_same : (e : Entry) → IsMade e s → canon_list (new_flow e) (list_after def e (canon_list (in_flow s) s.list))
+      ≡ canon_list (new_flow e) (list_after def e s.list)
+  list_same (entries.Request driver dev flags answer opened) made
+      = linked def (new_flow (entries.Request driver dev flags answer opened)) (in_flow s) s.list answer dev flags
+      (stays (entries.Request driver dev flags answer opened) refl)
   list_same (entries.Unlink driver dev (unlinks.Unlinked last)) made =
-      list_by _ _ _ _ (less_same dev s.list.actions) (begun_lower (new_flow (entries.Unlink driver dev (unlinks.Unlinked last))) (in_flow s) s.list.begun (stays (entries.Unlink driver dev (unlinks.Unlinked last)) refl))
+      list_by _ _ _ _ (less_same dev s.list.actions) (begun_lower
+      (new_flow (entries.Unlink driver dev (unlinks.Unlinked last))) (in_flow s) s.list.begun
+      (stays (entries.Unlink driver dev (unlinks.Unlinked last)) refl))
   list_same (entries.Begin cpu dev) made = in_flow_begins def (new_flow (entries.Begin cpu dev)) (in_flow s) s.list dev made
   list_same e made = by_round def (new_flow e) (in_flow s) s.list (begins_round def e) (stays e)
 
-  tally_same : (e : Entry) → MayFollow e s → canon_tally (tally_after e (canon_round (in_flow s) s.round) (canon_tally s.counts)) ≡ canon_tally (tally_after e s.round s.counts)
+  tally_same : (e : Entry) → MayFollow e s → canon_tally
+      (tally_after e (canon_round (in_flow s) s.round) (canon_tally s.counts))
+      ≡ canon_tally (tally_after e s.round s.counts)
   tally_same (entries.ThreadReturn dev n) may = served_same (in_flow s) s.round s.counts (ltb 0 n) may.served
   tally_same (entries.Request driver dev flags answer opened) may = linked_tally (in_flow s) s.round s.counts driver dev flags answer opened
   tally_same (entries.End cpu again unmask note) may = ended_tally (in_flow s) s.round s.counts may.made
@@ -172,7 +209,21 @@ module _ (def : LineDef) (s : StateSeen) where
   -- ---- all of them
 
   abbrev made_of : StateSeen → DescSeen → Cell → ListSeen → List (DevNo × AskRow) → RoundSeen → CountsSeen → StateSeen
-  made_of y d c l a r n = record { desc = d; cell = c; active = false; aimed = 0; aim = y.aim; list = l; threads = y.threads; asks = a; kinds = y.kinds; round = r; counts = n; freeing = y.freeing }
+  made_of y d c l a r n = record {
+    desc = d;
+    cell = c;
+    active = false;
+    aimed = 0;
+    aim = y.aim;
+    list = l;
+    threads
+        = y.threads;
+    asks = a;
+    kinds = y.kinds;
+    round = r;
+    counts = n;
+    freeing = y.freeing;
+  }
 
   pub canon_after : (e : Entry) → MayFollow e s → canon (state_after def e (canon s)) ≡ canon (state_after def e s)
   canon_after e may =

@@ -6,9 +6,20 @@ use Rattle.irq_model.specs.Spurious.{Counts, Noted, counted, unhandled, judged, 
 use Rattle.device_table.specs.Sums.{one_if}
 use Rattle.line_futures.specs.Canon.{canon_counts}
 
-pub counts_by : (c d : Counts) → c.irq_count ≡ d.irq_count → c.irqs_unhandled ≡ d.irqs_unhandled → c.threads_handled ≡ d.threads_handled → c.deferred ≡ d.deferred → c.last ≡ d.last → c.last_unhandled ≡ d.last_unhandled → c ≡ d
+pub counts_by : (c d : Counts) → c.irq_count ≡ d.irq_count → c.irqs_unhandled ≡ d.irqs_unhandled
+    → c.threads_handled ≡ d.threads_handled → c.deferred ≡ d.deferred → c.last ≡ d.last
+    → c.last_unhandled ≡ d.last_unhandled → c ≡ d
 counts_by c d h i j k l m =
-    (let e : ◌≡◌ {A = Counts} (record { irq_count = c.irq_count; irqs_unhandled = c.irqs_unhandled; threads_handled = c.threads_handled; deferred = c.deferred; last = c.last; last_unhandled = c.last_unhandled }) d = rw (h, i, j, k, l, m) refl in e)
+    (let e : ◌≡◌ {A = Counts} (record {
+      irq_count = c.irq_count;
+      irqs_unhandled = c.irqs_unhandled;
+      threads_handled
+          = c.threads_handled;
+      deferred = c.deferred;
+      last = c.last;
+      last_unhandled = c.last_unhandled;
+    }) d
+    = rw (h, i, j, k, l, m) refl in e)
 
 one_zero : (x : Bool) → (one_if (not x) == 0) ≡ x
 one_zero true = refl
@@ -57,17 +68,22 @@ looked_same c n = ap (λ k. with_threads k c) (differ_none n ∙ sym (differ_non
 by_threads_same : (w l now : ℕ) (c : Counts) → NotedAlike (judged_by_threads w l now (canon_counts c)) (judged_by_threads w l now c)
 by_threads_same w l now c = rw (one_zero (c.threads_handled == c.last)) (by_test (c.threads_handled == c.last))
   where
-    by_test : (b : Bool) → NotedAlike (cond b (judged w l now false (canon_counts c)) (judged w l now true (record (canon_counts c) { last = one_if (not (c.threads_handled == c.last)) })))
+    by_test : (b : Bool) → NotedAlike (cond b (judged w l now false (canon_counts c))
+        (judged w l now true (record (canon_counts c) { last = one_if (not (c.threads_handled == c.last)) })))
         (cond b (judged w l now false c) (judged w l now true (record c { last = c.threads_handled })))
     by_test true = judged_same w l now false (canon_counts c) c (again_same c)
-    by_test false = judged_same w l now true (record (canon_counts c) { last = one_if (not (c.threads_handled == c.last)) }) (record c { last = c.threads_handled }) (looked_same c (one_if (not (c.threads_handled == c.last))))
+    by_test false = judged_same w l now true (record (canon_counts c)
+        { last = one_if (not (c.threads_handled == c.last)) }) (record c { last = c.threads_handled })
+        (looked_same c (one_if (not (c.threads_handled == c.last))))
 
 pub noted_same : (w l now : ℕ) (wake handled : Bool) (c : Counts) → NotedAlike (noted w l now wake handled (canon_counts c)) (noted w l now wake handled c)
 noted_same w l now false handled c = judged_same w l now handled (canon_counts c) c (again_same c)
-noted_same w l now true true c = judged_same w l now true (record (canon_counts c) { deferred = false }) (record c { deferred = false }) (ap (λ (x : Counts). record x { deferred = false }) (again_same c))
+noted_same w l now true true c = judged_same w l now true (record (canon_counts c) { deferred = false })
+    (record c { deferred = false }) (ap (λ (x : Counts). record x { deferred = false }) (again_same c))
 noted_same w l now true false c = by_deferred c.deferred
   where
-    by_deferred : (b : Bool) → NotedAlike (cond b (judged_by_threads w l now (canon_counts c)) (record { note = notes.Quiet; counts = record (canon_counts c) { deferred = true } }))
+    by_deferred : (b : Bool) → NotedAlike (cond b (judged_by_threads w l now (canon_counts c))
+        (record { note = notes.Quiet; counts = record (canon_counts c) { deferred = true } }))
         (cond b (judged_by_threads w l now c) (record { note = notes.Quiet; counts = record c { deferred = true } }))
     by_deferred true = by_threads_same w l now c
     by_deferred false = (refl, ap (λ (x : Counts). record x { deferred = true }) (again_same c))
@@ -76,7 +92,10 @@ noted_same w l now true false c = by_deferred c.deferred
 one_more : (h l : ℕ) → l ≤ h → (h + 1 == l) ≡ false
 one_more h l le = grind arith
 
-pub thread_same : (c : Counts) → c.last ≤ c.threads_handled → AreAlike (record (canon_counts c) { threads_handled = one_if (not (c.threads_handled == c.last)) + 1 }) (record c { threads_handled = c.threads_handled + 1 })
+pub thread_same : (c : Counts) → c.last ≤ c.threads_handled
+    → AreAlike (record (canon_counts c) { threads_handled = one_if (not (c.threads_handled == c.last)) + 1 })
+    (record c { threads_handled = c.threads_handled + 1 })
 thread_same c le =
     let n : ℕ = one_if (not (c.threads_handled == c.last)) in
-    ap (λ b. with_threads (one_if (not b)) c) (one_more (one_if (not (c.threads_handled == c.last))) 0 (omega arith) ∙ sym (one_more c.threads_handled c.last le))
+    ap (λ b. with_threads (one_if (not b)) c) (one_more (one_if (not (c.threads_handled == c.last))) 0 (omega arith)
+    ∙ sym (one_more c.threads_handled c.last le))

@@ -77,7 +77,8 @@ module _ (def : LineDef) (valid : IsValid def) where
     places_alike : (e : Entry) → IsDue def e g → SamePlaces def (e ∷ g) (e ∷ h)
     places_alike e due r = by_whom (is_by_driver r e) refl
       where
-        joined : (p k : ℕ) → IsAt def (e ∷ g) r p k → IsAt def (e ∷ h) r p k → (place_by def r (e ∷ g) ≡ place_by def r (e ∷ h)) × (within_by def r (e ∷ g) ≡ within_by def r (e ∷ h))
+        joined : (p k : ℕ) → IsAt def (e ∷ g) r p k → IsAt def (e ∷ h) r p k
+            → (place_by def r (e ∷ g) ≡ place_by def r (e ∷ h)) × (within_by def r (e ∷ g) ≡ within_by def r (e ∷ h))
         joined p k a b =
             let x = place_is def (e ∷ g) r p k a in
             let y = place_is def (e ∷ h) r p k b in
@@ -88,7 +89,8 @@ module _ (def : LineDef) (valid : IsValid def) where
             let c = has_call def g r e due by in
             joined _ _ (moved def g r e (place_by def r g) (within_by def r g) c.call c.count due by c.due (at_g r))
             (moved def h r e (place_by def r g) (within_by def r g) c.call c.count (due_alike e due) by (sym (call_same r) ∙ c.due) (at_h r))
-        by_whom false by = joined _ _ (other_place def g e r (place_by def r g) (within_by def r g) by (at_g r)) (other_place def h e r (place_by def r g) (within_by def r g) by (at_h r))
+        by_whom false by = joined _ _ (other_place def g e r (place_by def r g) (within_by def r g) by (at_g r))
+            (other_place def h e r (place_by def r g) (within_by def r g) by (at_h r))
 
     pub alike_after : (e : Entry) → IsDue def e g → AreAlike def (e ∷ g) (e ∷ h)
     alike_after e due = record { state = state_alike e due; places = places_alike e due }

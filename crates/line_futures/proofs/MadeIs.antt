@@ -32,7 +32,8 @@ AreKept c = c.last ≤ c.threads_handled
 counted_keeps : (w l : ℕ) (c : Counts) → AreKept c → AreKept (counted w l c).counts
 counted_keeps w l c h = by_tests (c.irqs_unhandled == 0) (ltb (c.irq_count + 1) w)
   where
-    by_tests : (z t : Bool) → AreKept (cond {A = Noted} z (record { note = notes.Quiet; counts = c }) (cond t (record { note = notes.Counted; counts = record c { irq_count = c.irq_count + 1 } })
+    by_tests : (z t : Bool) → AreKept (cond {A = Noted} z (record { note = notes.Quiet; counts = c })
+        (cond t (record { note = notes.Counted; counts = record c { irq_count = c.irq_count + 1 } })
         (record { note = cond (ltb l c.irqs_unhandled) notes.Killed notes.Counted; counts = record c { irq_count = 0; irqs_unhandled = 0 } }))).counts
     by_tests true t = h
     by_tests false true = h
@@ -42,7 +43,8 @@ judged_keeps : (w l n : ℕ) (handled : Bool) (c : Counts) → AreKept c → Are
 judged_keeps w l n true c h = counted_keeps w l c h
 judged_keeps w l n false c h = counted_keeps w l (unhandled n c) h
 
-by_threads_keeps : (w l n : ℕ) (c : Counts) (b : Bool) → AreKept c → AreKept (cond b (judged w l n false c) (judged w l n true (record c { last = c.threads_handled }))).counts
+by_threads_keeps : (w l n : ℕ) (c : Counts) (b : Bool) → AreKept c
+    → AreKept (cond b (judged w l n false c) (judged w l n true (record c { last = c.threads_handled }))).counts
 by_threads_keeps w l n c true h = judged_keeps w l n false c h
 by_threads_keeps w l n c false h = judged_keeps w l n true (record c { last = c.threads_handled }) (omega arith)
 
@@ -51,7 +53,8 @@ noted_keeps w l n false handled c h = judged_keeps w l n handled c h
 noted_keeps w l n true true c h = judged_keeps w l n true (record c { deferred = false }) h
 noted_keeps w l n true false c h = by_deferred c.deferred
   where
-    by_deferred : (b : Bool) → AreKept (cond {A = Noted} b (judged_by_threads w l n c) (record { note = notes.Quiet; counts = record c { deferred = true } })).counts
+    by_deferred : (b : Bool) → AreKept (cond {A = Noted} b (judged_by_threads w l n c)
+        (record { note = notes.Quiet; counts = record c { deferred = true } })).counts
     by_deferred true = by_threads_keeps w l n c (c.threads_handled == c.last) h
     by_deferred false = h
 
@@ -66,7 +69,9 @@ served_kept def (entries.ThreadReturn d served ∷ past) = by_test (ltb 0 served
     by_test true h = omega (arith, h)
     by_test false h = h
 served_kept def (entries.Request r d flags links.Linked opened ∷ past) = served_kept def past
-served_kept def (entries.End c again unmask note ∷ past) = noted_keeps def.window def.limit (now past) (round_wakes def past) (round_handles def past) (counts_of def past) (served_kept def past)
+served_kept def (entries.End c again unmask note ∷ past)
+    = noted_keeps def.window def.limit (now past) (round_wakes def past) (round_handles def past) (counts_of def past)
+    (served_kept def past)
 served_kept def (_ ∷ past) = served_kept def past
 
 -- ---- the thread whose handler returns
@@ -79,7 +84,8 @@ module _ (s : StateSeen) (d : DevNo) (n : ℕ) where
   at_idle true h = cc
   at_idle false h = cc
 
-  at_returned : (o f : Bool) (e g : Entry) → (e ≡ entries.ThreadReturn d n → ⊥) → (g ≡ entries.ThreadReturn d n → ⊥) → Returns (cond o (cond f None (Some e)) (Some g)) → ⊥
+  at_returned : (o f : Bool) (e g : Entry) → (e ≡ entries.ThreadReturn d n → ⊥) → (g ≡ entries.ThreadReturn d n → ⊥)
+      → Returns (cond o (cond f None (Some e)) (Some g)) → ⊥
   at_returned true true e g a b h = cc
   at_returned true false e g a b h = a (let i : e ≡ entries.ThreadReturn d n = cc in i)
   at_returned false f e g a b h = b (let i : g ≡ entries.ThreadReturn d n = cc in i)
@@ -88,7 +94,8 @@ module _ (s : StateSeen) (d : DevNo) (n : ℕ) where
   by_stage r stages.Idle h = absurd (at_idle r.woken h)
   by_stage r stages.Begun h = refl
   by_stage r stages.Returned h =
-      absurd (at_returned s.desc.oneshot (is_some s.desc.flow) (entries.Finish d r.woken (finish_opens s r)) (entries.Done d) (λ i. let x : ⊥ = cc i in x) (λ i. let x : ⊥ = cc i in x) h)
+      absurd (at_returned s.desc.oneshot (is_some s.desc.flow) (entries.Finish d r.woken (finish_opens s r))
+      (entries.Done d) (λ i. let x : ⊥ = cc i in x) (λ i. let x : ⊥ = cc i in x) h)
   by_stage r stages.Finished h = absurd (let x : ⊥ = cc h in x)
 
   by_row : (o : Option ThreadRow) → Returns (due_of_row s d o) → row_passes may_return false o ≡ true

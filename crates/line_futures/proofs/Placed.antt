@@ -1,5 +1,6 @@
 -- After a legal history each driver is at its place.
-use Rattle.std.proofs.Common.{◌≡◌, ℕ, zero, suc, ◌+◌, ◌<◌, ◌≤◌, Bool, true, false, ltb, Option, Some, None, List, [], ◌∷◌, length, drop, slice_get, refl, sym, ap, subst, ◌∙◌, arith}
+use Rattle.std.proofs.Common.{◌≡◌, ℕ, zero, suc, ◌+◌, ◌<◌, ◌≤◌, Bool, true, false, ltb, Option, Some, None, List, []}
+use Rattle.std.proofs.Common.{◌∷◌, length, drop, slice_get, refl, sym, ap, subst, ◌∙◌, arith}
 use Rattle.std.proofs.lemmas.Bool.Decides.{nat_tests}
 use Rattle.irq_base.specs.Who.{actor_of}
 use Rattle.irq_base.specs.declared.calls.Call.{Call}
@@ -87,11 +88,13 @@ module _ (def : LineDef) where
   has_call past r e due by = by_call (due_call def r past) refl
     where
       by_call : (o : Option (Call × ℕ)) → due_call def r past ≡ o → HasCall past r
-      by_call None none = absurd (let i : ◌≡◌ {A = Option Entry} None (Some e) = ap (next_of_call def r past) (sym none) ∙ own_due past r e due by in let x : ⊥ = cc i in x)
+      by_call None none = absurd (let i : ◌≡◌ {A = Option Entry} None (Some e) = ap (next_of_call def r past) (sym none)
+          ∙ own_due past r e due by in let x : ⊥ = cc i in x)
       by_call (Some (c, n)) some = record { call = c; count = n; due = some }
 
   -- the place after one more entry
-  pub moved : (past : List Entry) (r : DriverNo) (e : Entry) (p k : ℕ) (c : Call) (n : ℕ) → IsDue def e past → is_by_driver r e ≡ true → due_call def r past ≡ Some (c, n) → IsAt def past r p k
+  pub moved : (past : List Entry) (r : DriverNo) (e : Entry) (p k : ℕ) (c : Call) (n : ℕ) → IsDue def e past
+      → is_by_driver r e ≡ true → due_call def r past ≡ Some (c, n) → IsAt def past r p k
       → IsAt def (e ∷ past) r (place_after (completes c e) p) (within_after (completes c e) k)
   moved past r e p k c n due by call at = own_place def past e r p k c n (own_due past r e due by) by call at
 
@@ -111,7 +114,8 @@ module _ (def : LineDef) where
           let same = place_is (e ∷ past) r p k is in
           subst (λ (x : ℕ). IsAt def (e ∷ past) r x (within_by def r (e ∷ past))) (sym same.0) (subst (λ (x : ℕ). IsAt def (e ∷ past) r p x) (sym same.1) is)
 
-      by_whom : (b : Bool) → is_by_driver r e ≡ b → IsAt def past r (place_by def r past) (within_by def r past) → IsAt def (e ∷ past) r (place_by def r (e ∷ past)) (within_by def r (e ∷ past))
+      by_whom : (b : Bool) → is_by_driver r e ≡ b → IsAt def past r (place_by def r past) (within_by def r past)
+          → IsAt def (e ∷ past) r (place_by def r (e ∷ past)) (within_by def r (e ∷ past))
       by_whom true by at =
           let c = has_call past r e legal.0 by in
           itself _ _ (moved past r e (place_by def r past) (within_by def r past) c.call c.count legal.0 by c.due at)

@@ -45,7 +45,8 @@ among_snoc who a [] = by_test (same_actor who a)
     by_test false = refl
 among_snoc who a (b ∷ rest) = by_test (among_snoc who a rest) (same_actor who b)
   where
-    by_test : is_among who (rest ++ a ∷ []) ≡ cond (is_among who rest) true (same_actor who a) → (t : Bool) → cond t true (is_among who (rest ++ a ∷ [])) ≡ cond (cond t true (is_among who rest)) true (same_actor who a)
+    by_test : is_among who (rest ++ a ∷ []) ≡ cond (is_among who rest) true (same_actor who a) → (t : Bool)
+        → cond t true (is_among who (rest ++ a ∷ [])) ≡ cond (cond t true (is_among who rest)) true (same_actor who a)
     by_test then true = refl
     by_test then false = then
 
@@ -83,7 +84,8 @@ among_without who a [] = by_test (same_actor a who)
     by_test false = refl
 among_without who a (b ∷ rest) = by_tests (among_without who a rest) (same_actor a b) (same_actor who b) (same_actor a who) refl refl refl
   where
-    by_tests : is_among who (without a rest) ≡ cond (same_actor a who) false (is_among who rest) → (s t u : Bool) → same_actor a b ≡ s → same_actor who b ≡ t → same_actor a who ≡ u
+    by_tests : is_among who (without a rest) ≡ cond (same_actor a who) false (is_among who rest) → (s t u : Bool)
+        → same_actor a b ≡ s → same_actor who b ≡ t → same_actor a who ≡ u
         → is_among who (cond (not s) (b ∷ without a rest) (without a rest)) ≡ cond u false (cond t true (is_among who rest))
     by_tests then true true true x y z = then ∙ ap (λ u. cond u false (is_among who rest)) z
     by_tests then true true false x y z = absurd (apart_from a who z (actor_from_same a b x ∙ sym (actor_from_same who b y)))

@@ -12,7 +12,8 @@ use Rattle.line_lock.proofs.Actors.{among_old, among_new, among_either, among_ne
 use Rattle.line_lock.proofs.Passing.{at_first, only_one}
 
 module _ {T : Type 0} (def_of : T → LineDef) (entries_of : T → List Entry) where
-  pub opened : (def : LineDef) (value : T) → def_of value ≡ def → entries_of value ≡ [] → Holds def_of entries_of def (opening (0 ∷ 0 ∷ []) (Some value ∷ []) (first_view def))
+  pub opened : (def : LineDef) (value : T) → def_of value ≡ def → entries_of value ≡ []
+      → Holds def_of entries_of def (opening (0 ∷ 0 ∷ []) (Some value ∷ []) (first_view def))
   opened def value is none = record {
     history = [];
     turn = inl (record {
@@ -26,7 +27,8 @@ module _ {T : Type 0} (def_of : T → LineDef) (entries_of : T → List Entry) w
     passes = at_first def;
   }
 
-pub still_pass : {T : Type 0} (me : Me (Option T) View) (a : Option Actor) (seen held : ℕ) (who : Actor) → IsPass me a seen held → me.0.turn ≡ false → IsPass (left_view me.0 who, me.1) a seen held
+pub still_pass : {T : Type 0} (me : Me (Option T) View) (a : Option Actor) (seen held : ℕ) (who : Actor)
+    → IsPass me a seen held → me.0.turn ≡ false → IsPass (left_view me.0 who, me.1) a seen held
 still_pass me a seen held who p off = record {
   there = p.there;
   known = record {

@@ -1,5 +1,6 @@
 -- What the steps do to the passes.
-use Rattle.std.proofs.Common.{◌≡◌, ◌≢◌, ◌⊎◌, ℕ, zero, suc, Bool, true, false, IfSome, Option, Some, None, List, [], ◌∷◌, ◌++◌, length, set, refl, sym, ap, subst, ◌∙◌, inl, inr, arith}
+use Rattle.std.proofs.Common.{◌≡◌, ◌≢◌, ◌⊎◌, ℕ, zero, suc, Bool, true, false, IfSome, Option, Some, None, List, [], ◌∷◌}
+use Rattle.std.proofs.Common.{◌++◌, length, set, refl, sym, ap, subst, ◌∙◌, inl, inr, arith}
 use Rattle.std.proofs.lemmas.Bool.{false≢true}
 use Rattle.std.proofs.lemmas.Option.{none-some, same_Some}
 use mathlib.Core.Option.{some, some-injective, some-ne-none}
@@ -57,9 +58,13 @@ module _ (key : LineDef) (h : List Entry) (views : List View) (p : Passes key h 
 
   -- ---- a pass with an actor takes a step, after which the history is longer by entries of its own, or the same
 
-  module _ (longer_history : List Entry) (id : ℕ) (v w : View) (who : Actor) (at : get_elem? views id ≡ some v) (there : v.spent ≡ false) (is : v.knows.actor ≡ Some who) (there_after : w.spent ≡ false) (is_after : w.knows.actor ≡ Some who)
-      (fits : Fits key longer_history w) (grows : BeginsWith longer_history h) (others : (b : Actor) → (b ≡ who → ⊥) → placed key.line b longer_history ≡ placed key.line b h) where
-    same_of : (j : ℕ) (u : View) (o : Option Actor) → get_elem? views j ≡ some u → u.spent ≡ false → j ≢ id → u.knows.actor ≡ o → placed_of key.line o longer_history ≡ placed_of key.line o h
+  module _ (longer_history : List Entry) (id : ℕ) (v w : View) (who : Actor) (at : get_elem? views id ≡ some v)
+      (there : v.spent ≡ false) (is : v.knows.actor ≡ Some who) (there_after : w.spent ≡ false)
+      (is_after : w.knows.actor ≡ Some who)
+      (fits : Fits key longer_history w) (grows : BeginsWith longer_history h)
+      (others : (b : Actor) → (b ≡ who → ⊥) → placed key.line b longer_history ≡ placed key.line b h) where
+    same_of : (j : ℕ) (u : View) (o : Option Actor) → get_elem? views j ≡ some u → u.spent ≡ false → j ≢ id
+        → u.knows.actor ≡ o → placed_of key.line o longer_history ≡ placed_of key.line o h
     same_of j u None at_u there_u apart e = refl
     same_of j u (Some b) at_u there_u apart e = others b (λ same. apart (p.differ j id u v who at_u at there_u there (e ∙ ap Some same) is))
 
@@ -77,7 +82,8 @@ module _ (key : LineDef) (h : List Entry) (views : List View) (p : Passes key h 
     by_out b not_out same = false≢true (sym not_out ∙ (ap (λ x. is_among x p.first.knows.out) same ∙ out_of id v who at there is))
 
     by_given : (b : Actor) → is_among b p.first.knows.given ≡ false → b ≡ who → ⊥
-    by_given b not_given same = false≢true (sym not_given ∙ (ap (λ x. is_among x p.first.knows.given) same ∙ p.is_first.given who (out_of id v who at there is)))
+    by_given b not_given same = false≢true (sym not_given
+        ∙ (ap (λ x. is_among x p.first.knows.given) same ∙ p.is_first.given who (out_of id v who at there is)))
 
     -- a pass with an actor, as it was before
     before : (j : ℕ) (u : View) (b : Actor) → get_elem? (set views id w) j ≡ some u → u.spent ≡ false → u.knows.actor ≡ Some b
@@ -87,12 +93,23 @@ module _ (key : LineDef) (h : List Entry) (views : List View) (p : Passes key h 
       | inr t ↦ (u, t.1, there_u, e_u)
     ]
 
-    back_after : (b : Actor) → is_among b p.first.knows.out ≡ true → (j : ℕ) × (u : View) × (get_elem? (set views id w) j ≡ some u) × (u.spent ≡ false) × (u.knows.actor ≡ Some b)
+    back_after : (b : Actor) → is_among b p.first.knows.out ≡ true
+        → (j : ℕ) × (u : View) × (get_elem? (set views id w) j ≡ some u) × (u.spent ≡ false) × (u.knows.actor ≡ Some b)
     back_after b out =
         let old = p.back b out in
         elim (same_or_not b who) [
           | inl same ↦ (id, w, set_there views id w v at, there_after, is_after ∙ ap Some (sym same))
-          | inr apart ↦ (old.0, old.1, set_else views id old.0 w (λ e. apart_from b who apart (same_Some b who (sym old.4 ∙ (ap (λ (y : View). y.knows.actor) (some-injective old.1 v (sym old.2 ∙ (ap (λ k. get_elem? views k) e ∙ at))) ∙ is)))) ∙ old.2, old.3, old.4)
+          | inr apart ↦ (
+            old.0,
+            old.1,
+            set_else views id old.0 w
+                (λ e. apart_from b who apart (same_Some b who
+                (sym old.4 ∙ (ap (λ (y : View). y.knows.actor)
+                (some-injective old.1 v (sym old.2 ∙ (ap (λ k. get_elem? views k) e ∙ at))) ∙ is))))
+                ∙ old.2,
+            old.3,
+            old.4,
+          )
         ]
 
     pub changed : Passes key longer_history (set views id w)
@@ -116,7 +133,8 @@ module _ (key : LineDef) (h : List Entry) (views : List View) (p : Passes key h 
 
   -- ---- the first pass gives one
 
-  module _ (a : Actor) (v : View) (at : get_elem? views 0 ≡ some v) (there : v.spent ≡ false) (firstly : v.knows.actor ≡ None) (fresh : is_among a v.knows.given ≡ false) where
+  module _ (a : Actor) (v : View) (at : get_elem? views 0 ≡ some v) (there : v.spent ≡ false)
+      (firstly : v.knows.actor ≡ None) (fresh : is_among a v.knows.given ≡ false) where
     old : p.first ≡ v
     old = is_first_view 0 v at there firstly
 
@@ -149,13 +167,19 @@ module _ (key : LineDef) (h : List Entry) (views : List View) (p : Passes key h 
     ]
 
     -- a pass with an actor, which is the new one's or was out
-    find_actor : (j : ℕ) (u : View) (b : Actor) → get_elem? (set views 0 (left_view v a) ++ right_view v a ∷ []) j ≡ some u → u.spent ≡ false → u.knows.actor ≡ Some b
+    find_actor : (j : ℕ) (u : View) (b : Actor) → get_elem? (set views 0 (left_view v a) ++ right_view v a ∷ []) j
+        ≡ some u → u.spent ≡ false → u.knows.actor ≡ Some b
         → ((j ≡ length (set views 0 (left_view v a))) × (b ≡ a)) ⊎ ((get_elem? views j ≡ some u) × (same_actor b a ≡ false))
     find_actor j u b e there_u is = elim (find j u e) [
       | inl t ↦ inl (t.0, same_Some b a (sym is ∙ ap (λ (y : View). y.knows.actor) (sym t.1)))
       | inr t ↦ elim t [
         | inl r ↦ absurd (none-some b (sym firstly ∙ (ap (λ (y : View). y.knows.actor) r.1 ∙ is)))
-        | inr r ↦ inr (r.1, differs b a (λ same. false≢true (sym fresh ∙ (ap (λ x. is_among x v.knows.given) (sym same) ∙ was_given b (ap (λ (x : View). is_among b x.knows.out) (sym old) ∙ out_of j u b r.1 there_u is)))))
+        | inr r ↦ inr (
+          r.1,
+          differs b a (λ same. false≢true
+              (sym fresh ∙ (ap (λ x. is_among x v.knows.given) (sym same)
+              ∙ was_given b (ap (λ (x : View). is_among b x.knows.out) (sym old) ∙ out_of j u b r.1 there_u is)))),
+        )
       ]
     ]
 
@@ -172,15 +196,29 @@ module _ (key : LineDef) (h : List Entry) (views : List View) (p : Passes key h 
         | inl t ↦ (a, ap (λ (y : View). y.knows.actor) (sym t.1), among_new a v.knows.out)
         | inr t ↦ elim t [
           | inl r ↦ absurd (away r.0)
-          | inr r ↦ (let x = p.actors j u r.1 there_u away in (x.0, x.1, among_old x.0 a v.knows.out (ap (λ (y : View). is_among x.0 y.knows.out) (sym old) ∙ x.2)))
+          | inr r ↦ (let x = p.actors j u r.1 there_u away in
+              (x.0, x.1, among_old x.0 a v.knows.out (ap (λ (y : View). is_among x.0 y.knows.out) (sym old) ∙ x.2)))
         ]
       ];
       back = λ b out. elim (among_either b a v.knows.out out) [
         | inl t ↦ (
-            let x = p.back b (ap (λ (y : View). is_among b y.knows.out) old ∙ t) in
-            (x.0, x.1, at_longer (set views 0 (left_view v a)) (right_view v a ∷ []) x.0 x.1 (set_else views 0 x.0 (left_view v a) (not_first x.0 x.1 b x.2 x.4) ∙ x.2), x.3, x.4)
+            let x = p.back b (ap (λ (y : View). is_among b y.knows.out) old ∙ t) in (
+              x.0,
+              x.1,
+              at_longer (set views 0 (left_view v a)) (right_view v a ∷ []) x.0 x.1
+                  (set_else views 0 x.0 (left_view v a) (not_first x.0 x.1 b x.2 x.4) ∙ x.2),
+              x.3,
+              x.4,
             )
-        | inr t ↦ (length (set views 0 (left_view v a)), right_view v a, at_last (set views 0 (left_view v a)) (right_view v a) (length (set views 0 (left_view v a))) refl, there, ap Some (sym t))
+            )
+        | inr t ↦ (
+          length (set views 0 (left_view v a)),
+          right_view v a,
+          at_last (set views 0 (left_view v a))
+              (right_view v a) (length (set views 0 (left_view v a))) refl,
+          there,
+          ap Some (sym t),
+        )
       ];
       differ = λ i j u x b e f there_u there_x e_u e_x. elim (find_actor i u b e there_u e_u) [
         | inl t ↦ elim (find_actor j x b f there_x e_x) [ inl r ↦ t.0 ∙ sym r.0 | inr r ↦ absurd (apart_from b a r.1 t.1) ]
@@ -190,14 +228,18 @@ module _ (key : LineDef) (h : List Entry) (views : List View) (p : Passes key h 
       settled = λ b given not_out.
           let apart = among_neither b a v.knows.out not_out in
           elim (among_either b a v.knows.given given) [
-            | inl t ↦ p.settled b (ap (λ (y : View). is_among b y.knows.given) old ∙ t) (ap (λ (y : View). is_among b y.knows.out) old ∙ apart.0) ∙ ap (λ (y : View). placed key.line b y.knows.seen) old
+            | inl t ↦ p.settled b (ap (λ (y : View). is_among b y.knows.given) old ∙ t)
+                (ap (λ (y : View). is_among b y.knows.out) old ∙ apart.0)
+                ∙ ap (λ (y : View). placed key.line b y.knows.seen) old
             | inr t ↦ absurd (apart_from b a apart.1 t)
           ];
     }
 
   -- ---- the first pass meets another, which is spent
 
-  module _ (other : ℕ) (v w gone_view : View) (b : Actor) (at : get_elem? views 0 ≡ some v) (there : v.spent ≡ false) (firstly : v.knows.actor ≡ None) (away : other ≢ 0) (at_other : get_elem? views other ≡ some w) (there_other : w.spent ≡ false) (is : w.knows.actor ≡ Some b) (spent : gone_view.spent ≡ true) where
+  module _ (other : ℕ) (v w gone_view : View) (b : Actor) (at : get_elem? views 0 ≡ some v) (there : v.spent ≡ false)
+      (firstly : v.knows.actor ≡ None) (away : other ≢ 0) (at_other : get_elem? views other ≡ some w)
+      (there_other : w.spent ≡ false) (is : w.knows.actor ≡ Some b) (spent : gone_view.spent ≡ true) where
     first_old : p.first ≡ v
     first_old = is_first_view 0 v at there firstly
 
@@ -220,14 +262,20 @@ module _ (key : LineDef) (h : List Entry) (views : List View) (p : Passes key h 
     begins_second = longer_begins_second h v.knows.seen w.knows.seen fits_first.seen fits_other.seen
 
     own : placed_of key.line w.knows.actor (longer v.knows.seen w.knows.seen) ≡ w.knows.mine
-    own = between_of key.line w.knows.actor h (longer v.knows.seen w.knows.seen) w.knows.seen above begins_second (sym fits_other.mine ∙ fits_other.within) ∙ sym fits_other.within
+    own = between_of key.line w.knows.actor h (longer v.knows.seen w.knows.seen) w.knows.seen above begins_second
+        (sym fits_other.mine ∙ fits_other.within) ∙ sym fits_other.within
 
-    settled_before : (who : Actor) → is_among who v.knows.given ≡ true → is_among who v.knows.out ≡ false → placed key.line who h ≡ placed key.line who v.knows.seen
+    settled_before : (who : Actor) → is_among who v.knows.given ≡ true → is_among who v.knows.out ≡ false
+        → placed key.line who h ≡ placed key.line who v.knows.seen
     settled_before who given not_out =
-        p.settled who (ap (λ (y : View). is_among who y.knows.given) first_old ∙ given) (ap (λ (y : View). is_among who y.knows.out) first_old ∙ not_out) ∙ ap (λ (y : View). placed key.line who y.knows.seen) first_old
+        p.settled who (ap (λ (y : View). is_among who y.knows.given) first_old ∙ given)
+        (ap (λ (y : View). is_among who y.knows.out) first_old ∙ not_out)
+        ∙ ap (λ (y : View). placed key.line who y.knows.seen) first_old
 
-    settled_seen : (who : Actor) → is_among who v.knows.given ≡ true → is_among who v.knows.out ≡ false → placed key.line who (longer v.knows.seen w.knows.seen) ≡ placed key.line who v.knows.seen
-    settled_seen who given not_out = between_of key.line (Some who) h (longer v.knows.seen w.knows.seen) v.knows.seen above begins_first (settled_before who given not_out)
+    settled_seen : (who : Actor) → is_among who v.knows.given ≡ true → is_among who v.knows.out ≡ false
+        → placed key.line who (longer v.knows.seen w.knows.seen) ≡ placed key.line who v.knows.seen
+    settled_seen who given not_out = between_of key.line (Some who) h (longer v.knows.seen w.knows.seen) v.knows.seen
+        above begins_first (settled_before who given not_out)
 
     b_out : is_among b v.knows.out ≡ true
     b_out = ap (λ (y : View). is_among b y.knows.out) (sym first_old) ∙ out_of other w b at_other there_other is
@@ -266,7 +314,9 @@ module _ (key : LineDef) (h : List Entry) (views : List View) (p : Passes key h 
     ]
 
     -- a pass with an actor was there before, and is another
-    find_other : (j : ℕ) (u : View) (who : Actor) → get_elem? (set (set views 0 (met_view v w)) other gone_view) j ≡ some u → u.spent ≡ false → u.knows.actor ≡ Some who → (get_elem? views j ≡ some u) × (same_actor b who ≡ false)
+    find_other : (j : ℕ) (u : View) (who : Actor) → get_elem? (set (set views 0 (met_view v w)) other gone_view) j
+        ≡ some u → u.spent ≡ false → u.knows.actor ≡ Some who
+        → (get_elem? views j ≡ some u) × (same_actor b who ≡ false)
     find_other j u who e there_u is_u = elim (find_met j u e there_u) [
       | inl t ↦ absurd (none-some who (sym firstly ∙ (ap (λ (y : View). y.knows.actor) t.1 ∙ is_u)))
       | inr t ↦ (t.2, differs b who (λ same. t.1 (p.differ j other u w who t.2 at_other there_u there_other is_u (is ∙ ap Some same))))
@@ -277,7 +327,8 @@ module _ (key : LineDef) (h : List Entry) (views : List View) (p : Passes key h 
       def = fits_first.def;
       seen = above;
       mine = fits_first.mine;
-      within = fits_first.within ∙ subst (λ (o : Option Actor). placed_of key.line o v.knows.seen ≡ placed_of key.line o (longer v.knows.seen w.knows.seen)) (sym firstly) refl;
+      within = fits_first.within ∙ subst (λ (o : Option Actor). placed_of key.line o v.knows.seen
+          ≡ placed_of key.line o (longer v.knows.seen w.knows.seen)) (sym firstly) refl;
     }
 
     pub met_one : Passes key h (set (set views 0 (met_view v w)) other gone_view)
@@ -297,8 +348,16 @@ module _ (key : LineDef) (h : List Entry) (views : List View) (p : Passes key h 
       back = λ who out.
           let apart = out_before who out in
           let x = p.back who (ap (λ (y : View). is_among who y.knows.out) first_old ∙ apart.0) in
-          let far : x.0 ≢ other = λ e. apart_from b who apart.1 (same_Some b who (sym is ∙ (ap (λ (y : View). y.knows.actor) (some-injective w x.1 (sym at_other ∙ (ap (λ k. get_elem? views k) (sym e) ∙ x.2))) ∙ x.4))) in
-          (x.0, x.1, set_else (set views 0 (met_view v w)) other x.0 gone_view far ∙ (set_else views 0 x.0 (met_view v w) (not_first x.0 x.1 who x.2 x.4) ∙ x.2), x.3, x.4);
+          let far : x.0 ≢ other = λ e. apart_from b who apart.1
+          (same_Some b who (sym is ∙ (ap (λ (y : View). y.knows.actor)
+          (some-injective w x.1 (sym at_other ∙ (ap (λ k. get_elem? views k) (sym e) ∙ x.2))) ∙ x.4))) in (
+            x.0,
+            x.1,
+            set_else (set views 0 (met_view v w)) other x.0 gone_view far
+                ∙ (set_else views 0 x.0 (met_view v w) (not_first x.0 x.1 who x.2 x.4) ∙ x.2),
+            x.3,
+            x.4,
+          );
       differ = λ i j u x who e f there_u there_x e_u e_x.
           p.differ i j u x who (find_other i u who e there_u e_u).0 (find_other j x who f there_x e_x).0 there_u there_x e_u e_x;
       strangers = λ who not_given. p.strangers who (ap (λ (y : View). is_among who y.knows.given) first_old ∙ not_given);
@@ -323,7 +382,8 @@ module _ (key : LineDef) (h : List Entry) (views : List View) (p : Passes key h 
         let f = p.seats id v at there in
         record {
           mine = f.within;
-          strangers = λ who e not_given. none_before key.line who h v.knows.seen f.seen (p.strangers who (ap (λ (y : View). is_among who y.knows.given) same_first ∙ not_given));
+          strangers = λ who e not_given. none_before key.line who h v.knows.seen f.seen
+              (p.strangers who (ap (λ (y : View). is_among who y.knows.given) same_first ∙ not_given));
           given = subst (λ (x : View). (who : Actor) → is_among who x.knows.out ≡ true → is_among who x.knows.given ≡ true) same_first p.is_first.given;
         }
 
@@ -346,7 +406,8 @@ module _ (key : LineDef) (h : List Entry) (views : List View) (p : Passes key h 
       where
         by_actor : (o : Option Actor) → u.knows.actor ≡ o → u ≡ v
         by_actor None e = sym (is_first_view j u at_u there_u e) ∙ same_first
-        by_actor (Some who) e = absurd (false≢true (ap (is_among who) (sym nobody) ∙ (ap (λ (y : View). is_among who y.knows.out) (sym same_first) ∙ out_of j u who at_u there_u e)))
+        by_actor (Some who) e = absurd (false≢true (ap (is_among who) (sym nobody)
+            ∙ (ap (λ (y : View). is_among who y.knows.out) (sym same_first) ∙ out_of j u who at_u there_u e)))
 
 -- ---- the start
 

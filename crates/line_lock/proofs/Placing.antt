@@ -1,5 +1,7 @@
 -- The entries of an actor in a longer history.
-use Rattle.std.proofs.Common.{◌≡◌, ℕ, suc, ◌+◌, ◌≤◌, Bool, true, false, cond, nat_lt, Option, Some, None, List, [], ◌∷◌, ◌++◌, length, take, drop, take-append-drop, take_all, ltb-true, ltb-false, refl, sym, ap, subst, ◌∙◌, arith, append_assoc, append-nil}
+use Rattle.std.proofs.Common.{◌≡◌, ℕ, suc, ◌+◌, ◌≤◌, Bool, true, false, cond, nat_lt, Option, Some, None, List, [], ◌∷◌}
+use Rattle.std.proofs.Common.{◌++◌, length, take, drop, take-append-drop, take_all, ltb-true, ltb-false, refl, sym, ap}
+use Rattle.std.proofs.Common.{subst, ◌∙◌, arith, append_assoc, append-nil}
 use Rattle.std.proofs.lemmas.List.{append_cancel_left, take-append-le}
 use Rattle.irq_base.specs.Who.{actor_of}
 use Rattle.irq_base.specs.declared.numbers.LineNo.{LineNo}
@@ -29,7 +31,8 @@ longer_begins h a b x y = either_begins h a b (nat_lt (length a) (length b)) x y
 shorter_begins : (h a b : List Entry) → BeginsWith h a → BeginsWith h b → length a ≤ length b → BeginsWith b a
 shorter_begins h a b x y few =
     let same : take (length a) b ≡ a =
-    sym (take-append-le (length a) b y.0 few) ∙ (ap (take (length a)) (sym y.1 ∙ x.1) ∙ (take-append-le (length a) a x.0 (omega arith) ∙ take_all (length a) a (omega arith))) in
+    sym (take-append-le (length a) b y.0 few) ∙ (ap (take (length a)) (sym y.1 ∙ x.1)
+    ∙ (take-append-le (length a) a x.0 (omega arith) ∙ take_all (length a) a (omega arith))) in
     (drop (length a) b, sym (take-append-drop (length a) b) ∙ ap (λ xs. xs ++ drop (length a) b) same)
 
 pub longer_begins_first : (h a b : List Entry) → BeginsWith h a → BeginsWith h b → BeginsWith (longer a b) a
@@ -48,27 +51,39 @@ longer_begins_second h a b x y = by_test (nat_lt (length a) (length b)) refl
 
 -- ---- placed in two parts
 
-pub placed_parts : (line : LineNo) (who : Actor) (n : ℕ) (a b : List Entry) → placed_from line who n (a ++ b) ≡ placed_from line who n a ++ placed_from line who (n + length a) b
+pub placed_parts : (line : LineNo) (who : Actor) (n : ℕ) (a b : List Entry)
+    → placed_from line who n (a ++ b) ≡ placed_from line who n a ++ placed_from line who (n + length a) b
 placed_parts line who n [] b = ap (λ k. placed_from line who k b) (omega arith)
-placed_parts line who n (e ∷ a) b = by_test (placed_parts line who (suc n) a b ∙ ap (λ k. placed_from line who (suc n) a ++ placed_from line who k b) (omega arith)) (is_by line who e)
+placed_parts line who n (e ∷ a) b = by_test (placed_parts line who (suc n) a b
+    ∙ ap (λ k. placed_from line who (suc n) a ++ placed_from line who k b) (omega arith)) (is_by line who e)
   where
-    by_test : placed_from line who (suc n) (a ++ b) ≡ placed_from line who (suc n) a ++ placed_from line who (n + length (e ∷ a)) b → (t : Bool) → cond t (record { place = n; entry = e } ∷ placed_from line who (suc n) (a ++ b)) (placed_from line who (suc n) (a ++ b))
-        ≡ cond t (record { place = n; entry = e } ∷ placed_from line who (suc n) a) (placed_from line who (suc n) a) ++ placed_from line who (n + length (e ∷ a)) b
+    by_test : placed_from line who (suc n) (a ++ b) ≡ placed_from line who (suc n) a
+        ++ placed_from line who (n + length (e ∷ a)) b → (t : Bool)
+        → cond t (record { place = n; entry = e } ∷ placed_from line who (suc n) (a ++ b))
+        (placed_from line who (suc n) (a ++ b))
+        ≡ cond t (record { place = n; entry = e } ∷ placed_from line who (suc n) a) (placed_from line who (suc n) a)
+        ++ placed_from line who (n + length (e ∷ a)) b
     by_test then true = ap (λ (xs : List Placed). record { place = n; entry = e } ∷ xs) then
     by_test then false = then
 
-pub placed_begins : (line : LineNo) (who : Actor) (h s : List Entry) (b : BeginsWith h s) → placed line who h ≡ placed line who s ++ placed_from line who (length s) b.0
-placed_begins line who h s b = ap (placed line who) b.1 ∙ (placed_parts line who 0 s b.0 ∙ ap (λ k. placed line who s ++ placed_from line who k b.0) (omega arith))
+pub placed_begins : (line : LineNo) (who : Actor) (h s : List Entry) (b : BeginsWith h s)
+    → placed line who h ≡ placed line who s ++ placed_from line who (length s) b.0
+placed_begins line who h s b = ap (placed line who) b.1
+    ∙ (placed_parts line who 0 s b.0 ∙ ap (λ k. placed line who s ++ placed_from line who k b.0) (omega arith))
 
 -- ---- one more
 
-pub placed_own : (line : LineNo) (who : Actor) (h : List Entry) (e : Entry) → actor_of line e ≡ who → placed line who (h ++ e ∷ []) ≡ placed line who h ++ record { place = length h; entry = e } ∷ []
-placed_own line who h e by = placed_begins line who (h ++ e ∷ []) h (e ∷ [], refl) ∙ ap (λ t. placed line who h ++ cond t (record { place = length h; entry = e } ∷ []) []) (subst (λ a. same_actor who a ≡ true) (sym by) (same_self_actor who))
+pub placed_own : (line : LineNo) (who : Actor) (h : List Entry) (e : Entry) → actor_of line e ≡ who
+    → placed line who (h ++ e ∷ []) ≡ placed line who h ++ record { place = length h; entry = e } ∷ []
+placed_own line who h e by = placed_begins line who (h ++ e ∷ []) h (e ∷ [], refl)
+    ∙ ap (λ t. placed line who h ++ cond t (record { place = length h; entry = e } ∷ []) [])
+    (subst (λ a. same_actor who a ≡ true) (sym by) (same_self_actor who))
 
 pub placed_other : (line : LineNo) (who : Actor) (h : List Entry) (e : Entry) → (who ≡ actor_of line e → ⊥) → placed line who (h ++ e ∷ []) ≡ placed line who h
 placed_other line who h e apart =
     placed_begins line who (h ++ e ∷ []) h (e ∷ [], refl)
-    ∙ (ap (λ t. placed line who h ++ cond t (record { place = length h; entry = e } ∷ []) []) (differs who (actor_of line e) apart) ∙ append-nil (placed line who h))
+    ∙ (ap (λ t. placed line who h ++ cond t (record { place = length h; entry = e } ∷ []) [])
+    (differs who (actor_of line e) apart) ∙ append-nil (placed line who h))
 
 -- ---- nothing more
 
@@ -84,7 +99,8 @@ pub none_before : (line : LineNo) (who : Actor) (h s : List Entry) → BeginsWit
 none_before line who h s b none = (no_first (placed line who s) _ (sym (placed_begins line who h s b) ∙ none)).0
 
 -- what lies between two histories with the same entries of the actor has them too
-pub between : (line : LineNo) (who : Actor) (h n s : List Entry) → BeginsWith h n → BeginsWith n s → placed line who h ≡ placed line who s → placed line who n ≡ placed line who s
+pub between : (line : LineNo) (who : Actor) (h n s : List Entry) → BeginsWith h n → BeginsWith n s
+    → placed line who h ≡ placed line who s → placed line who n ≡ placed line who s
 between line who h n s above below same =
     let first = placed_begins line who h n above in
     let second = placed_begins line who n s below in
@@ -94,7 +110,8 @@ between line who h n s above below same =
     let nothing = (no_first (placed_from line who (length s) below.0) (placed_from line who (length n) above.0) (no_tail (placed line who s) _ all)).0 in
     second ∙ (ap (λ xs. placed line who s ++ xs) nothing ∙ append-nil (placed line who s))
 
-pub between_of : (line : LineNo) (o : Option Actor) (h n s : List Entry) → BeginsWith h n → BeginsWith n s → placed_of line o h ≡ placed_of line o s → placed_of line o n ≡ placed_of line o s
+pub between_of : (line : LineNo) (o : Option Actor) (h n s : List Entry) → BeginsWith h n → BeginsWith n s
+    → placed_of line o h ≡ placed_of line o s → placed_of line o n ≡ placed_of line o s
 between_of line None h n s above below same = refl
 between_of line (Some who) h n s above below same = between line who h n s above below same
 
@@ -106,8 +123,11 @@ all_seen line h s b same = by_rest b.0 b.1
     by_rest [] is = is ∙ append-nil s
     by_rest (e ∷ rest) is =
         let who = actor_of line e in
-        let none : placed_from line who (length s) (e ∷ rest) ≡ [] = no_tail (placed line who s) _ (sym (placed_begins line who h s (e ∷ rest, is)) ∙ same who) in
-        let some_first : cond (is_by line who e) (record { place = length s; entry = e } ∷ placed_from line who (suc (length s)) rest) (placed_from line who (suc (length s)) rest)
+        let none : placed_from line who (length s) (e ∷ rest)
+        ≡ [] = no_tail (placed line who s) _ (sym (placed_begins line who h s (e ∷ rest, is)) ∙ same who) in
+        let some_first : cond (is_by line who e) (record { place = length s; entry = e }
+        ∷ placed_from line who (suc (length s)) rest) (placed_from line who (suc (length s)) rest)
         ≡ record { place = length s; entry = e } ∷ placed_from line who (suc (length s)) rest =
-        ap (λ t. cond t (record { place = length s; entry = e } ∷ placed_from line who (suc (length s)) rest) (placed_from line who (suc (length s)) rest)) (same_self_actor who) in
+        ap (λ t. cond t (record { place = length s; entry = e } ∷ placed_from line who (suc (length s)) rest)
+        (placed_from line who (suc (length s)) rest)) (same_self_actor who) in
         absurd (omega (arith, ap length (sym some_first ∙ none)))

@@ -1,5 +1,7 @@
 -- Each step keeps the rule.
-use Rattle.std.proofs.Common.{◌≡◌, ◌≢◌, ◌⊎◌, ℕ, ◌+◌, ◌%◌, ◌^◌, ◌≤◌, ◌==◌, MatchBool, Bool, true, false, IfSome, Option, Some, None, List, [], ◌∷◌, ◌++◌, length, set, slice_index, refl, sym, ap, subst, ◌∙◌, inl, inr, arith, length-append}
+use Rattle.std.proofs.Common.{◌≡◌, ◌≢◌, ◌⊎◌, ℕ, ◌+◌, ◌%◌, ◌^◌, ◌≤◌, ◌==◌, MatchBool, Bool, true, false, IfSome, Option}
+use Rattle.std.proofs.Common.{Some, None, List, [], ◌∷◌, ◌++◌, length, set, slice_index, refl, sym, ap, subst, ◌∙◌, inl}
+use Rattle.std.proofs.Common.{inr, arith, length-append}
 use Rattle.std.proofs.lemmas.Bool.{false≢true}
 use Rattle.std.proofs.lemmas.Bool.Decides.{nat_tests}
 use mathlib.Core.Option.{some, none, some-injective}
@@ -38,19 +40,34 @@ module _ {T : Type 0} (def_of : T → LineDef) (entries_of : T → List Entry) w
       by_test j u e true is = absurd (false≢true (sym (f.idle j u (old j u e is)) ∙ is))
       by_test j u e false is = is
   turn_stays key h s views old new (inr t) =
-      inr (record { words = t.words; home = t.home; holder = t.holder; view = t.view; at = new t.holder t.view t.at t.turn; there = t.there; turn = t.turn; held = t.held; one = λ j u e b. t.one j u (old j u e b) b })
+      inr (record {
+        words = t.words;
+        home = t.home;
+        holder = t.holder;
+        view = t.view;
+        at
+            = new t.holder t.view t.at t.turn;
+        there = t.there;
+        turn = t.turn;
+        held = t.held;
+        one
+            = λ j u e b. t.one j u (old j u e b) b;
+      })
 
   words_of : (key : LineDef) (s : State (Option T) View) (r : Holds def_of entries_of key s) → (n : ℕ) × (s.words ≡ n ∷ length r.history ∷ [])
   words_of key s r = elim r.turn [ inl f ↦ (0, f.words) | inr t ↦ (1, t.words) ]
 
-  module _ (key : LineDef) (id : ℕ) (v : View) (s : State (Option T) View) (rule : Holds def_of entries_of key s) (at : get_elem? s.views id ≡ some v) (there : v.spent ≡ false) (who : Actor) (is : v.knows.actor ≡ Some who) where
+  module _ (key : LineDef) (id : ℕ) (v : View) (s : State (Option T) View) (rule : Holds def_of entries_of key s)
+      (at : get_elem? s.views id ≡ some v) (there : v.spent ≡ false) (who : Actor) (is : v.knows.actor ≡ Some who) where
     abbrev f : Fits key rule.history v
     f = rule.passes.seats id v at there
 
     -- ---- the turn is asked for
 
     Goal : Type 0
-    Goal = (w : View) × (a : Act (Option T)) × Valid s.homes [] a × Holds def_of entries_of key (stepped s 0 (either (slice_index s.words 0 == 0) 1 (slice_index s.words 0)) id [] w a)
+    Goal = (w : View) × (a : Act (Option T)) × Valid s.homes [] a
+        × Holds def_of entries_of key (stepped s 0 (either (slice_index s.words 0 == 0) 1 (slice_index s.words 0)) id []
+        w a)
         × Takes def_of entries_of (v, []) (slice_index s.words 0) (w, carried_after [] a)
 
     asked : (IsFree def_of entries_of key rule.history s ⊎ IsTaken def_of entries_of rule.history s) → Goal
@@ -74,14 +91,17 @@ module _ {T : Type 0} (def_of : T → LineDef) (entries_of : T → List Entry) w
               held = free.entries;
               one = λ j u e b. elim (at_set s.views id j w u e) [ inl t ↦ t.0 | inr t ↦ absurd (false≢true (sym (free.idle j u t.1) ∙ b)) ];
             });
-            passes = changed key rule.history s.views rule.passes rule.history id v w who at there is there is (record { def = f.def; seen = f.seen; mine = f.mine; within = f.within }) (begins_self rule.history) (λ b apart. refl);
+            passes = changed key rule.history s.views rule.passes rule.history id v w who at there is there is
+                (record { def = f.def; seen = f.seen; mine = f.mine; within = f.within }) (begins_self rule.history)
+                (λ b apart. refl);
           },
           got (ap (λ ns. slice_index ns 0) free.words) (record {
             value = x;
             suits = record {
               def = free.def ∙ sym f.def;
               begins = (f.seen.0, free.entries ∙ f.seen.1);
-              mine = f.mine ∙ (ap (λ (d : LineDef). placed_of d.line v.knows.actor rule.history) (sym f.def) ∙ ap (placed_of v.def.line v.knows.actor) (sym free.entries));
+              mine = f.mine ∙ (ap (λ (d : LineDef). placed_of d.line v.knows.actor rule.history) (sym f.def)
+                  ∙ ap (placed_of v.def.line v.knows.actor) (sym free.entries));
             };
             then = refl;
           }),
@@ -141,24 +161,37 @@ module _ {T : Type 0} (def_of : T → LineDef) (entries_of : T → List Entry) w
           record { def = f.def; seen = begins_self h; mine = own; within = own }
 
       raised : (x : T) (e : Entry) → entries_of x ≡ v.held ++ e ∷ [] → actor_of v.def.line e ≡ who → length (entries_of x) ≤ 100000000
-          → Holds def_of entries_of key (record { words = set s.words 1 ((slice_index s.words 1 + 1) % 2 ^ 64); homes = s.homes; views = set s.views id (counted v (entries_of x)) })
+          → Holds def_of entries_of key (record {
+            words = set s.words 1 ((slice_index s.words 1 + 1) % 2 ^ 64);
+            homes
+                = s.homes;
+            views = set s.views id (counted v (entries_of x));
+          })
       raised x e more by few =
           let grown : entries_of x ≡ rule.history ++ e ∷ [] = more ∙ ap (λ h. h ++ e ∷ []) held in
           let n : (length v.held + 1) % 2 ^ 64 ≡ length (entries_of x) = omega (arith, ap length more, length-append v.held (e ∷ []), few) in
           let by_key : actor_of key.line e ≡ who = ap (λ (d : LineDef). actor_of d.line e) (sym f.def) ∙ by in
           record {
             history = entries_of x;
-            turn = inr (still (entries_of x) _ (counted v (entries_of x)) (ap (λ ns. set ns 1 ((slice_index ns 1 + 1) % 2 ^ 64)) words ∙ ap (λ k. 1 ∷ k ∷ []) n) there mine refl);
-            passes = changed key rule.history s.views rule.passes (entries_of x) id v (counted v (entries_of x)) who at there is there is (counted_fits (entries_of x)) (e ∷ [], grown)
+            turn = inr (still (entries_of x) _ (counted v (entries_of x))
+                (ap (λ ns. set ns 1 ((slice_index ns 1 + 1) % 2 ^ 64)) words ∙ ap (λ k. 1 ∷ k ∷ []) n) there mine refl);
+            passes = changed key rule.history s.views rule.passes (entries_of x) id v (counted v (entries_of x)) who at
+                there is there is (counted_fits (entries_of x)) (e ∷ [], grown)
                 (λ b apart. ap (placed key.line b) grown ∙ placed_other key.line b rule.history e (λ same. apart (same ∙ by_key)));
           }
 
-      looked_at : Holds def_of entries_of key (record { words = set s.words 1 (slice_index s.words 1); homes = s.homes; views = set s.views id (counted v v.held) })
+      looked_at : Holds def_of entries_of key (record {
+        words = set s.words 1 (slice_index s.words 1);
+        homes
+            = s.homes;
+        views = set s.views id (counted v v.held);
+      })
       looked_at =
           record {
             history = v.held;
             turn = inr (still v.held _ (counted v v.held) (ap (λ ns. set ns 1 (slice_index ns 1)) words) there mine refl);
-            passes = changed key rule.history s.views rule.passes v.held id v (counted v v.held) who at there is there is (counted_fits v.held) (subst (λ h. BeginsWith h rule.history) (sym held) (begins_self rule.history))
+            passes = changed key rule.history s.views rule.passes v.held id v (counted v v.held) who at there is there
+                is (counted_fits v.held) (subst (λ h. BeginsWith h rule.history) (sym held) (begins_self rule.history))
                 (λ b apart. ap (placed key.line b) held);
           }
 
@@ -174,7 +207,9 @@ module _ {T : Type 0} (def_of : T → LineDef) (entries_of : T → List Entry) w
           entries = same ∙ held;
           idle = λ j u e. elim (at_set s.views id j (idle v) u e) [ inl t ↦ ap (λ (y : View). y.turn) (sym t.1) | inr t ↦ by_test j u t.1 t.0 u.turn refl ];
         });
-        passes = changed key rule.history s.views rule.passes rule.history id v (idle v) who at there is there is (record { def = f.def; seen = f.seen; mine = f.mine; within = f.within }) (begins_self rule.history) (λ b apart. refl);
+        passes = changed key rule.history s.views rule.passes rule.history id v (idle v) who at there is there is
+            (record { def = f.def; seen = f.seen; mine = f.mine; within = f.within }) (begins_self rule.history)
+            (λ b apart. refl);
       }
         where
           by_test : (j : ℕ) (u : View) → get_elem? s.views j ≡ some u → j ≢ id → (t : Bool) → u.turn ≡ t → u.turn ≡ false
@@ -187,7 +222,8 @@ module _ {T : Type 0} (def_of : T → LineDef) (entries_of : T → List Entry) w
       → Allows (Holds def_of entries_of key) slots id me 0 (λ n. either (n == 0) 1 n) (Takes def_of entries_of me)
   unfolding Goal
   take_step key slots id me who empty there is =
-      subst (λ (held : List (ℕ × Option T)). Allows (Holds def_of entries_of key) slots id (me.0, held) 0 (λ n. either (n == 0) 1 n) (Takes def_of entries_of (me.0, held))) (sym empty)
+      subst (λ (held : List (ℕ × Option T)). Allows (Holds def_of entries_of key) slots id (me.0, held) 0
+      (λ n. either (n == 0) 1 n) (Takes def_of entries_of (me.0, held))) (sym empty)
       (λ s rule size at small. asked key id me.0 s rule at there who is rule.turn)
 
   pub took : (me : Me (Option T) View) (found : ℕ) (after : Me (Option T) View) → Takes def_of entries_of me found after → (b : Bool) → (found == 0) ≡ b
@@ -197,21 +233,31 @@ module _ {T : Type 0} (def_of : T → LineDef) (entries_of : T → List Entry) w
   took me found after (busy not_zero then) true is = absurd (grind (arith, nat_tests))
   took me found after (busy not_zero then) false is = then
 
-  pub raise_step : (key : LineDef) (slots id : ℕ) (me : Me (Option T) View) (who : Actor) → me.0.turn ≡ true → me.0.spent ≡ false → me.0.knows.actor ≡ Some who → Added def_of entries_of who me
+  pub raise_step : (key : LineDef) (slots id : ℕ) (me : Me (Option T) View) (who : Actor) → me.0.turn ≡ true
+      → me.0.spent ≡ false → me.0.knows.actor ≡ Some who → Added def_of entries_of who me
       → Allows (Holds def_of entries_of key) slots id me 1 (λ n. (n + 1) % 2 ^ 64) (λ found after. Raises def_of entries_of me after)
-  raise_step key slots id me who mine there is a s rule size at small =
-      (counted me.0 (entries_of a.value), keeps, tt, raised key id me.0 s rule at there who is mine a.value a.entry a.more a.by a.few, record { value = a.value; carried = a.carried; then = refl })
+  raise_step key slots id me who mine there is a s rule size at small = (
+    counted me.0 (entries_of a.value),
+    keeps,
+    tt,
+    raised key id me.0 s rule at there who is mine a.value a.entry
+        a.more a.by a.few,
+    record { value = a.value; carried = a.carried; then = refl },
+  )
 
   pub look_step : (key : LineDef) (slots id : ℕ) (me : Me (Option T) View) (who : Actor) → me.0.turn ≡ true → me.0.spent ≡ false → me.0.knows.actor ≡ Some who
       → Allows (Holds def_of entries_of key) slots id me 1 (λ n. n) (λ found after. Looks def_of entries_of me after)
   look_step key slots id me who mine there is s rule size at small =
       (counted me.0 me.0.held, keeps, tt, looked_at key id me.0 s rule at there who is mine, refl)
 
-  pub give_step : (key : LineDef) (slots id : ℕ) (me : Me (Option T) View) (who : Actor) → me.0.turn ≡ true → me.0.spent ≡ false → me.0.knows.actor ≡ Some who → Ready def_of entries_of me
+  pub give_step : (key : LineDef) (slots id : ℕ) (me : Me (Option T) View) (who : Actor) → me.0.turn ≡ true
+      → me.0.spent ≡ false → me.0.knows.actor ≡ Some who → Ready def_of entries_of me
       → Allows (Holds def_of entries_of key) slots id me 0 (λ n. 0) (λ found after. Gives def_of entries_of me after)
   give_step key slots id me who mine there is a s rule size at small =
       let B : List (ℕ × Option T) → Type 0 = λ held.
-      (w : View) × (act : Act (Option T)) × Valid s.homes held act × Holds def_of entries_of key (stepped s 0 0 id held w act) × Gives def_of entries_of (me.0, held) (w, carried_after held act) in
+      (w : View) × (act : Act (Option T)) × Valid s.homes held act
+      × Holds def_of entries_of key (stepped s 0 0 id held w act)
+      × Gives def_of entries_of (me.0, held) (w, carried_after held act) in
       subst B (sym a.carried)
       (idle me.0, gives, tt, given key id me.0 s rule at there who is mine a.value a.def a.same, refl)
 
@@ -229,31 +275,43 @@ module _ {T : Type 0} (def_of : T → LineDef) (entries_of : T → List Entry) w
         subst P (sym same) (subst Q (sym (set_again s.views id me.0 at)) rule),
         record {
           then = refl;
-          last = subst (λ (d : LineDef). IfSome me.0.last (λ p. Meets d.line p.0 p.1 me.0.knows)) def (told_last key rule.history s.views rule.passes id me.0 at there firstly);
+          last = subst (λ (d : LineDef). IfSome me.0.last (λ p. Meets d.line p.0 p.1 me.0.knows)) def
+              (told_last key rule.history s.views rule.passes id me.0 at there firstly);
           known = subst (λ (d : LineDef). IsKnown d.line me.0.knows) def (told_known key rule.history s.views rule.passes id me.0 at there firstly);
         },
       )
 
-  pub split_step : (key : LineDef) (id : ℕ) (v : View) (who : Actor) → v.spent ≡ false → v.knows.actor ≡ None → v.turn ≡ false → is_among who v.knows.given ≡ false
+  pub split_step : (key : LineDef) (id : ℕ) (v : View) (who : Actor) → v.spent ≡ false → v.knows.actor ≡ None
+      → v.turn ≡ false → is_among who v.knows.given ≡ false
       → Splits (Holds def_of entries_of key) id v (left_view v who) (right_view v who)
   split_step key id v who there firstly off fresh s rule at =
       let here = is_zero key rule.history s.views rule.passes id v at there firstly in
       let at_zero : get_elem? s.views 0 ≡ some v = ap (λ k. get_elem? s.views k) (sym here) ∙ at in
-      subst (λ k. Holds def_of entries_of key (record { words = s.words; homes = s.homes; views = set s.views k (left_view v who) ++ right_view v who ∷ [] })) (sym here)
+      subst (λ k. Holds def_of entries_of key (record {
+        words = s.words;
+        homes = s.homes;
+        views
+            = set s.views k (left_view v who) ++ right_view v who ∷ [];
+      })) (sym here)
       record {
         history = rule.history;
         turn = turn_stays key rule.history s (set s.views 0 (left_view v who) ++ right_view v who ∷ [])
             (λ j u e b. elim (at_end (set s.views 0 (left_view v who)) (right_view v who) u j e) [
-              | inl t ↦ elim (at_set s.views 0 j (left_view v who) u t) [ inl r ↦ absurd (false≢true (sym off ∙ (ap (λ (y : View). y.turn) r.1 ∙ b))) | inr r ↦ r.1 ]
+              | inl t ↦ elim (at_set s.views 0 j (left_view v who) u t)
+                  [ inl r ↦ absurd (false≢true (sym off ∙ (ap (λ (y : View). y.turn) r.1 ∙ b))) | inr r ↦ r.1 ]
               | inr t ↦ absurd (false≢true (ap (λ (y : View). y.turn) t.1 ∙ b))
             ])
             (λ j u e b. at_longer (set s.views 0 (left_view v who)) (right_view v who ∷ []) j u
-            (set_else s.views 0 j (left_view v who) (λ z. false≢true (sym off ∙ (ap (λ (y : View). y.turn) (some-injective v u (sym at_zero ∙ (ap (λ k. get_elem? s.views k) (sym z) ∙ e))) ∙ b))) ∙ e))
+            (set_else s.views 0 j (left_view v who) (λ z. false≢true
+            (sym off ∙ (ap (λ (y : View). y.turn) (some-injective v u
+            (sym at_zero ∙ (ap (λ k. get_elem? s.views k) (sym z) ∙ e))) ∙ b))) ∙ e))
             rule.turn;
         passes = given_out key rule.history s.views rule.passes who v at_zero there firstly fresh;
       }
 
-  pub join_step : (key : LineDef) (id other : ℕ) (v w gone : View) (who : Actor) → v.spent ≡ false → v.knows.actor ≡ None → v.turn ≡ false → w.spent ≡ false → w.knows.actor ≡ Some who → w.turn ≡ false → gone.spent ≡ true → gone.turn ≡ false
+  pub join_step : (key : LineDef) (id other : ℕ) (v w gone : View) (who : Actor) → v.spent ≡ false
+      → v.knows.actor ≡ None → v.turn ≡ false → w.spent ≡ false → w.knows.actor ≡ Some who → w.turn ≡ false
+      → gone.spent ≡ true → gone.turn ≡ false
       → Joins (Holds def_of entries_of key) id v other w (met_view v w) gone
   join_step key id other v w gone who there firstly off there_w is off_w spent off_gone s rule at apart at_other =
       let here = is_zero key rule.history s.views rule.passes id v at there firstly in
@@ -270,7 +328,8 @@ module _ {T : Type 0} (def_of : T → LineDef) (entries_of : T → List Entry) w
         turn = turn_stays key rule.history s (set (set s.views 0 (met_view v w)) other gone)
             (λ j u e b. elim (at_set (set s.views 0 (met_view v w)) other j gone u e) [
               | inl t ↦ absurd (false≢true (sym off_gone ∙ (ap (λ (y : View). y.turn) t.1 ∙ b)))
-              | inr t ↦ elim (at_set s.views 0 j (met_view v w) u t.1) [ inl r ↦ absurd (false≢true (sym off ∙ (ap (λ (y : View). y.turn) r.1 ∙ b))) | inr r ↦ r.1 ]
+              | inr t ↦ elim (at_set s.views 0 j (met_view v w) u t.1)
+                  [ inl r ↦ absurd (false≢true (sym off ∙ (ap (λ (y : View). y.turn) r.1 ∙ b))) | inr r ↦ r.1 ]
             ])
             (λ j u e b. set_else (set s.views 0 (met_view v w)) other j gone (not_w j u e b) ∙ (set_else s.views 0 j (met_view v w) (not_v j u e b) ∙ e))
             rule.turn;

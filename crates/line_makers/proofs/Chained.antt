@@ -45,7 +45,8 @@ cell_of_row b row =
     ap (fresh_cell (trigger_of_root (root_kind kinds)) (keeps kinds) (recalls kinds) (retriggers kinds)) (served_by (root_kind kinds))
 
 -- the kinds on a line's path in the layout are the kinds on the way from its domain
-kinds_of_row : (b : BoardSeen) (i virq : ℕ) (path : List (ℕ × ℕ)) (row : LineRow) → slice_get b.lines i ≡ Some row → slice_get (layout_of b) i ≡ Some (placements.Mapped virq path)
+kinds_of_row : (b : BoardSeen) (i virq : ℕ) (path : List (ℕ × ℕ)) (row : LineRow) → slice_get b.lines i ≡ Some row
+    → slice_get (layout_of b) i ≡ Some (placements.Mapped virq path)
     → kinds_on (defs_of b.domains) path ≡ kinds_from (defs_of b.domains) (Some row.domain)
 kinds_of_row b i virq path row at is =
     let defs = defs_of b.domains in

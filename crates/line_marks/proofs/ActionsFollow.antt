@@ -42,16 +42,19 @@ filter_within : (p q : DevNo → Bool) (xs : List DevNo) → ((x : DevNo) → q 
 filter_within p q [] h = refl
 filter_within p q (x ∷ xs) h = by_test (q x) refl (filter_within p q xs h)
   where
-    by_test : (b : Bool) → q x ≡ b → filter p (filter q xs) ≡ filter q xs → filter p (cond b (x ∷ filter q xs) (filter q xs)) ≡ cond b (x ∷ filter q xs) (filter q xs)
+    by_test : (b : Bool) → q x ≡ b → filter p (filter q xs) ≡ filter q xs
+        → filter p (cond b (x ∷ filter q xs) (filter q xs)) ≡ cond b (x ∷ filter q xs) (filter q xs)
     by_test true is rest = rw (h x is) (ap (λ (t : List DevNo). x ∷ t) rest)
     by_test false is rest = rest
 
 -- two functions that agree on the devices that pass give these the same flags
-same_flags : (f g : DevNo → Flags) (q : DevNo → Bool) (xs : List DevNo) → ((x : DevNo) → q x ≡ true → g x ≡ f x) → flags_by g (filter q xs) ≡ flags_by f (filter q xs)
+same_flags : (f g : DevNo → Flags) (q : DevNo → Bool) (xs : List DevNo) → ((x : DevNo) → q x ≡ true → g x ≡ f x)
+    → flags_by g (filter q xs) ≡ flags_by f (filter q xs)
 same_flags f g q [] h = refl
 same_flags f g q (x ∷ xs) h = by_test (q x) refl (same_flags f g q xs h)
   where
-    by_test : (b : Bool) → q x ≡ b → flags_by g (filter q xs) ≡ flags_by f (filter q xs) → flags_by g (cond b (x ∷ filter q xs) (filter q xs)) ≡ flags_by f (cond b (x ∷ filter q xs) (filter q xs))
+    by_test : (b : Bool) → q x ≡ b → flags_by g (filter q xs) ≡ flags_by f (filter q xs)
+        → flags_by g (cond b (x ∷ filter q xs) (filter q xs)) ≡ flags_by f (cond b (x ∷ filter q xs) (filter q xs))
     by_test true is rest = ap (λ (a : Flags). (x, a) ∷ flags_by g (filter q xs)) (h x is) ∙ ap (λ (t : List (DevNo × Flags)). (x, f x) ∷ t) rest
     by_test false is rest = rest
 
@@ -64,12 +67,14 @@ without : (d : DevNo) (ds : List DevNo) → count_of (same_dev d) ds ≤ 0 → f
 without d [] h = refl
 without d (x ∷ xs) h = by_test (same_dev d x) (same_both x d) h (without d xs)
   where
-    by_test : (b : Bool) → same_dev x d ≡ b → cond b (count_of (same_dev d) xs + 1) (count_of (same_dev d) xs) ≤ 0 → (count_of (same_dev d) xs ≤ 0 → filter (λ y. not (same_dev y d)) xs ≡ xs)
+    by_test : (b : Bool) → same_dev x d ≡ b → cond b (count_of (same_dev d) xs + 1) (count_of (same_dev d) xs) ≤ 0
+        → (count_of (same_dev d) xs ≤ 0 → filter (λ y. not (same_dev y d)) xs ≡ xs)
         → filter (λ y. not (same_dev y d)) (x ∷ xs) ≡ x ∷ xs
     by_test true is n rest = absurd (omega (arith, n))
     by_test false is n rest = rw is (ap (λ (t : List DevNo). x ∷ t) (rest n))
 
-removed : (f : DevNo → Flags) (d : DevNo) (ds : List DevNo) → count_of (same_dev d) ds ≤ 1 → flags_by f (filter (λ x. not (same_dev x d)) ds) ≡ remove_entry (same_dev d) (flags_by f ds)
+removed : (f : DevNo → Flags) (d : DevNo) (ds : List DevNo) → count_of (same_dev d) ds ≤ 1
+    → flags_by f (filter (λ x. not (same_dev x d)) ds) ≡ remove_entry (same_dev d) (flags_by f ds)
 removed f d [] h = refl
 removed f d (x ∷ xs) h = by_test (same_dev d x) (same_both x d) h (removed f d xs)
   where
@@ -95,14 +100,19 @@ linked_more : (r : DriverNo) (x : DevNo) (flags : Flags) (opened : Opened) (past
 linked_more r x flags opened past off =
     let e = entries.Request r x flags links.Linked opened in
     let passes : (y : DevNo) → is_linked past y ≡ true → not (same_dev y x) ≡ true = λ y on. ap not (apart past x y off on) in
-    let all : linked (e ∷ past) ≡ linked past ++ x ∷ [] = linked_request r x flags opened past ∙ ap (λ (t : List DevNo). t ++ x ∷ []) (filter_within (λ y. not (same_dev y x)) (is_linked past) (requested past) passes) in
-    let old : flags_by (linking_flags (e ∷ past)) (linked past) ≡ linked_flags past = same_flags (linking_flags past) (linking_flags (e ∷ past)) (is_linked past) (requested past) (λ y on. rw (apart past x y off on) refl) in
+    let all : linked (e ∷ past) ≡ linked past ++ x ∷ [] = linked_request r x flags opened past
+    ∙ ap (λ (t : List DevNo). t ++ x ∷ []) (filter_within (λ y. not (same_dev y x)) (is_linked past)
+    (requested past) passes) in
+    let old : flags_by (linking_flags (e ∷ past)) (linked past)
+    ≡ linked_flags past = same_flags (linking_flags past) (linking_flags (e ∷ past)) (is_linked past)
+    (requested past) (λ y on. rw (apart past x y off on) refl) in
     let new : linking_flags (e ∷ past) x ≡ flags = rw (same_self x) refl in
     ap (flags_by (linking_flags (e ∷ past))) all
     ∙ (one_more (linking_flags (e ∷ past)) (linked past) x
     ∙ (ap (λ (t : List (DevNo × Flags)). t ++ (x, linking_flags (e ∷ past) x) ∷ []) old ∙ ap (λ (a : Flags). linked_flags past ++ (x, a) ∷ []) new))
 
-pub flags_more : (def : LineDef) (e : Entry) (past : List Entry) → IsValid def → IsDue def e past → Kept def past → linked_flags (e ∷ past) ≡ flags_after e (linked_flags past)
+pub flags_more : (def : LineDef) (e : Entry) (past : List Entry) → IsValid def → IsDue def e past → Kept def past
+    → linked_flags (e ∷ past) ≡ flags_after e (linked_flags past)
 flags_more def (entries.Request r x flags links.Linked opened) past valid due k =
     let u = request_due def r x flags links.Linked opened past due in
     linked_more r x flags opened past (requested_unlinked def r x flags _ past valid k.wanted u.call)
@@ -171,7 +181,8 @@ flags_step (entries.Moment r at) t = refl
 pub actions_are : (def : LineDef) (past : List Entry) → IsValid def → IsLegalPast def past → flags_of (actions_of past) ≡ linked_flags past
 actions_are def [] valid legal = refl
 actions_are def (e ∷ past) valid legal =
-    flags_step e (actions_of past) ∙ (ap (flags_after e) (actions_are def past valid legal.1) ∙ sym (flags_more def e past valid legal.0 (kept def past valid legal.1)))
+    flags_step e (actions_of past) ∙ (ap (flags_after e) (actions_are def past valid legal.1)
+    ∙ sym (flags_more def e past valid legal.0 (kept def past valid legal.1)))
 
 bare_flags : (t : List (DevNo × Action)) (f : DevNo → Flags) (ds : List DevNo) → flags_of t ≡ flags_by f ds → is_bare t ≡ is_empty ds
 bare_flags [] f [] h = refl

@@ -35,11 +35,16 @@ count_since p q e past = by_test (q e)
     by_test true = refl
     by_test false = refl
 
-pub fresh_more : (k : Kind) (d : DevNo) (e : Entry) (past : List Entry) → fresh_by k d (e ∷ past) ≡ counted (begins_serving k d e) (is_ask d e) (fresh_by k d past)
+pub fresh_more : (k : Kind) (d : DevNo) (e : Entry) (past : List Entry)
+    → fresh_by k d (e ∷ past) ≡ counted (begins_serving k d e) (is_ask d e) (fresh_by k d past)
 fresh_more k d e past = count_since (is_ask d) (begins_serving k d) e past
 
-pub unserved_more : (k : Kind) (d : DevNo) (e : Entry) (past : List Entry) → unserved_by k d (e ∷ past) ≡ cond (ends_serving k d e) (fresh_by k d past) (cond (is_ask d e) (unserved_by k d past + 1) (unserved_by k d past))
-unserved_more k d e past = ap (λ n. n + count_of (is_ask d) (since (begins_serving k d) (before (ends_serving k d) (e ∷ past)))) (count_since (is_ask d) (ends_serving k d) e past) ∙ by_test (ends_serving k d e) (is_ask d e)
+pub unserved_more : (k : Kind) (d : DevNo) (e : Entry) (past : List Entry)
+    → unserved_by k d (e ∷ past) ≡ cond (ends_serving k d e) (fresh_by k d past)
+    (cond (is_ask d e) (unserved_by k d past + 1) (unserved_by k d past))
+unserved_more k d e past = ap (λ n. n + count_of (is_ask d)
+    (since (begins_serving k d) (before (ends_serving k d) (e ∷ past))))
+    (count_since (is_ask d) (ends_serving k d) e past) ∙ by_test (ends_serving k d e) (is_ask d e)
   where
     E : Entry → Bool
     E = ends_serving k d
@@ -53,7 +58,8 @@ unserved_more k d e past = ap (λ n. n + count_of (is_ask d) (since (begins_serv
     by_test false true = omega arith
     by_test false false = refl
 
-met_more : (k : Kind) (d : DevNo) (p : Entry → Bool) (e : Entry) (past : List Entry) → unserved_by k d (before p (e ∷ past)) ≡ cond (p e) (unserved_by k d past) (unserved_by k d (before p past))
+met_more : (k : Kind) (d : DevNo) (p : Entry → Bool) (e : Entry) (past : List Entry)
+    → unserved_by k d (before p (e ∷ past)) ≡ cond (p e) (unserved_by k d past) (unserved_by k d (before p past))
 met_more k d p e past = by_test (p e)
   where
     by_test : (b : Bool) → unserved_by k d (cond b past (before p past)) ≡ cond b (unserved_by k d past) (unserved_by k d (before p past))
@@ -72,16 +78,26 @@ by_tests asks begins ends calls runs r = record {
 
 same_row : (a b : AskRow) → a.unserved ≡ b.unserved → a.fresh ≡ b.fresh → a.met_by_handler ≡ b.met_by_handler → a.met_by_thread ≡ b.met_by_thread → a ≡ b
 same_row a b h i j k =
-    (let e : ◌≡◌ {A = AskRow} (record { unserved = a.unserved; fresh = a.fresh; met_by_handler = a.met_by_handler; met_by_thread = a.met_by_thread }) b = rw (h, i, j, k) refl in e)
+    (let e : ◌≡◌ {A = AskRow} (record {
+      unserved = a.unserved;
+      fresh = a.fresh;
+      met_by_handler
+          = a.met_by_handler;
+      met_by_thread = a.met_by_thread;
+    }) b = rw (h, i, j, k) refl in e)
 
-row_more : (def : LineDef) (e : Entry) (past : List Entry) (d : DevNo) → ask_row def (e ∷ past) d ≡ by_tests (is_ask d e) (begins_serving (kind_of def d) d e) (ends_serving (kind_of def d) d e) (is_begin d e) (is_thread_begin d e) (ask_row def past d)
+row_more : (def : LineDef) (e : Entry) (past : List Entry) (d : DevNo)
+    → ask_row def (e ∷ past) d ≡ by_tests (is_ask d e) (begins_serving (kind_of def d) d e)
+    (ends_serving (kind_of def d) d e) (is_begin d e) (is_thread_begin d e) (ask_row def past d)
 row_more def e past d =
     let k = kind_of def d in
-    same_row (ask_row def (e ∷ past) d) (by_tests (is_ask d e) (begins_serving k d e) (ends_serving k d e) (is_begin d e) (is_thread_begin d e) (ask_row def past d))
+    same_row (ask_row def (e ∷ past) d) (by_tests (is_ask d e) (begins_serving k d e) (ends_serving k d e)
+    (is_begin d e) (is_thread_begin d e) (ask_row def past d))
     (unserved_more k d e past) (fresh_more k d e past) (met_more k d (is_begin d) e past) (met_more k d (is_thread_begin d) e past)
 
 -- when no test passes
-no_test : (k : Kind) (d : DevNo) (e : Entry) → is_ask d e ≡ false → begins_serving k d e ≡ false → ends_serving k d e ≡ false → is_begin d e ≡ false → is_thread_begin d e ≡ false → (r : AskRow)
+no_test : (k : Kind) (d : DevNo) (e : Entry) → is_ask d e ≡ false → begins_serving k d e ≡ false
+    → ends_serving k d e ≡ false → is_begin d e ≡ false → is_thread_begin d e ≡ false → (r : AskRow)
     → by_tests (is_ask d e) (begins_serving k d e) (ends_serving k d e) (is_begin d e) (is_thread_begin d e) r ≡ r
 no_test k d e a b c f g r = rw (a, b, c, f, g) refl
 
@@ -108,7 +124,8 @@ row_same def e past d h =
 
 -- the entry of x, by its tests
 own : (def : LineDef) (e : Entry) (past : List Entry) (x : DevNo) (h : AskRow → AskRow)
-    → by_tests (is_ask x e) (begins_serving (kind_of def x) x e) (ends_serving (kind_of def x) x e) (is_begin x e) (is_thread_begin x e) (ask_row def past x) ≡ h (ask_row def past x)
+    → by_tests (is_ask x e) (begins_serving (kind_of def x) x e) (ends_serving (kind_of def x) x e) (is_begin x e)
+    (is_thread_begin x e) (ask_row def past x) ≡ h (ask_row def past x)
     → ((d : DevNo) → same_dev d x ≡ false → IsOther d e) → IsValid def → asks_of def (e ∷ past) ≡ change h (asks_of def past) x
 own def e past x h here apart valid =
     change_any (ask_row def past) (ask_row def (e ∷ past)) h def.devices x valid.distinct (row_more def e past x ∙ here)
@@ -127,31 +144,40 @@ is_ask_or_run _ = false
 
 -- ---- by kinds
 
-called_by : (k : Kind) (x : DevNo) (c : CpuNo) (r : AskRow) → by_tests false (begins_serving k x (entries.Begin c x)) (ends_serving k x (entries.Begin c x)) (is_begin x (entries.Begin c x)) false r ≡ called (is_direct k) r
+called_by : (k : Kind) (x : DevNo) (c : CpuNo) (r : AskRow)
+    → by_tests false (begins_serving k x (entries.Begin c x)) (ends_serving k x (entries.Begin c x))
+    (is_begin x (entries.Begin c x)) false r ≡ called (is_direct k) r
 called_by kinds.Direct x c r = rw (same_self x) refl
 called_by kinds.Check x c r = rw (same_self x) refl
 called_by kinds.Null x c r = rw (same_self x) refl
 called_by kinds.Stuck x c r = rw (same_self x) refl
 
-returned_by : (k : Kind) (x : DevNo) (c : CpuNo) (a : Answer) (n : ℕ) (r : AskRow) → by_tests false (begins_serving k x (entries.Return c x a n)) (ends_serving k x (entries.Return c x a n)) false false r ≡ served (is_direct k) r
+returned_by : (k : Kind) (x : DevNo) (c : CpuNo) (a : Answer) (n : ℕ) (r : AskRow)
+    → by_tests false (begins_serving k x (entries.Return c x a n)) (ends_serving k x (entries.Return c x a n)) false
+    false r ≡ served (is_direct k) r
 returned_by kinds.Direct x c a n r = rw (same_self x) refl
 returned_by kinds.Check x c a n r = refl
 returned_by kinds.Null x c a n r = refl
 returned_by kinds.Stuck x c a n r = refl
 
-begun_by : (k : Kind) (x : DevNo) (r : AskRow) → by_tests false (begins_serving k x (entries.ThreadBegin x)) (ends_serving k x (entries.ThreadBegin x)) false (is_thread_begin x (entries.ThreadBegin x)) r ≡ begun (is_threaded k) r
+begun_by : (k : Kind) (x : DevNo) (r : AskRow) → by_tests false (begins_serving k x (entries.ThreadBegin x))
+    (ends_serving k x (entries.ThreadBegin x)) false (is_thread_begin x (entries.ThreadBegin x)) r
+    ≡ begun (is_threaded k) r
 begun_by kinds.Direct x r = rw (same_self x) refl
 begun_by kinds.Check x r = rw (same_self x) refl
 begun_by kinds.Null x r = rw (same_self x) refl
 begun_by kinds.Stuck x r = rw (same_self x) refl
 
-run_by : (k : Kind) (x : DevNo) (n : ℕ) (r : AskRow) → by_tests false (begins_serving k x (entries.ThreadReturn x n)) (ends_serving k x (entries.ThreadReturn x n)) false false r ≡ served (is_threaded k) r
+run_by : (k : Kind) (x : DevNo) (n : ℕ) (r : AskRow) → by_tests false (begins_serving k x (entries.ThreadReturn x n))
+    (ends_serving k x (entries.ThreadReturn x n)) false false r ≡ served (is_threaded k) r
 run_by kinds.Direct x n r = refl
 run_by kinds.Check x n r = rw (same_self x) refl
 run_by kinds.Null x n r = rw (same_self x) refl
 run_by kinds.Stuck x n r = refl
 
-asked_by : (k : Kind) (x : DevNo) (w : DriverNo) (r : AskRow) → by_tests (is_ask x (entries.Ask w x)) (begins_serving k x (entries.Ask w x)) (ends_serving k x (entries.Ask w x)) false false r ≡ asked r
+asked_by : (k : Kind) (x : DevNo) (w : DriverNo) (r : AskRow)
+    → by_tests (is_ask x (entries.Ask w x)) (begins_serving k x (entries.Ask w x)) (ends_serving k x (entries.Ask w x))
+    false false r ≡ asked r
 asked_by kinds.Direct x w r = rw (same_self x) refl
 asked_by kinds.Check x w r = rw (same_self x) refl
 asked_by kinds.Null x w r = rw (same_self x) refl
@@ -166,14 +192,22 @@ none (entries.ThreadReturn x n) h d = cc
 none _ h d = (refl, refl, refl, refl, refl)
 
 pub asks_more : (def : LineDef) (e : Entry) (past : List Entry) → IsValid def → asks_of def (e ∷ past) ≡ asks_after (kinds_of def) e (asks_of def past)
-asks_more def (entries.Ask w x) past valid = own def (entries.Ask w x) past x asked (asked_by (kind_of def x) x w (ask_row def past x)) (λ d other. (other, refl, refl, refl, refl)) valid
-asks_more def (entries.Begin c x) past valid = own def (entries.Begin c x) past x (called (is_direct (kind_of def x))) (called_by (kind_of def x) x c (ask_row def past x)) (λ d other. (refl, other, refl, refl, refl)) valid
+asks_more def (entries.Ask w x) past valid = own def (entries.Ask w x) past x asked
+    (asked_by (kind_of def x) x w (ask_row def past x)) (λ d other. (other, refl, refl, refl, refl)) valid
+asks_more def (entries.Begin c x) past valid = own def (entries.Begin c x) past x (called (is_direct (kind_of def x)))
+    (called_by (kind_of def x) x c (ask_row def past x)) (λ d other. (refl, other, refl, refl, refl)) valid
     ∙ ap (λ (k : Kind). change (called (is_direct k)) (asks_of def past) x) (sym (kind_is def x))
-asks_more def (entries.Return c x a n) past valid = own def (entries.Return c x a n) past x (served (is_direct (kind_of def x))) (returned_by (kind_of def x) x c a n (ask_row def past x)) (λ d other. (refl, refl, refl, other, refl)) valid
+asks_more def (entries.Return c x a n) past valid = own def (entries.Return c x a n) past x
+    (served (is_direct (kind_of def x))) (returned_by (kind_of def x) x c a n (ask_row def past x))
+    (λ d other. (refl, refl, refl, other, refl)) valid
     ∙ ap (λ (k : Kind). change (served (is_direct k)) (asks_of def past) x) (sym (kind_is def x))
-asks_more def (entries.ThreadBegin x) past valid = own def (entries.ThreadBegin x) past x (begun (is_threaded (kind_of def x))) (begun_by (kind_of def x) x (ask_row def past x)) (λ d other. (refl, refl, other, refl, refl)) valid
+asks_more def (entries.ThreadBegin x) past valid = own def (entries.ThreadBegin x) past x
+    (begun (is_threaded (kind_of def x))) (begun_by (kind_of def x) x (ask_row def past x))
+    (λ d other. (refl, refl, other, refl, refl)) valid
     ∙ ap (λ (k : Kind). change (begun (is_threaded k)) (asks_of def past) x) (sym (kind_is def x))
-asks_more def (entries.ThreadReturn x n) past valid = own def (entries.ThreadReturn x n) past x (served (is_threaded (kind_of def x))) (run_by (kind_of def x) x n (ask_row def past x)) (λ d other. (refl, refl, refl, refl, other)) valid
+asks_more def (entries.ThreadReturn x n) past valid = own def (entries.ThreadReturn x n) past x
+    (served (is_threaded (kind_of def x))) (run_by (kind_of def x) x n (ask_row def past x))
+    (λ d other. (refl, refl, refl, refl, other)) valid
     ∙ ap (λ (k : Kind). change (served (is_threaded k)) (asks_of def past) x) (sym (kind_is def x))
 asks_more def (entries.Take c way answer) past valid = quiet def (entries.Take c way answer) past (none (entries.Take c way answer) refl)
 asks_more def (entries.End c again unmask note) past valid = quiet def (entries.End c again unmask note) past (none (entries.End c again unmask note) refl)
@@ -183,7 +217,8 @@ asks_more def (entries.Disable r) past valid = quiet def (entries.Disable r) pas
 asks_more def (entries.HardClear r) past valid = quiet def (entries.HardClear r) past (none (entries.HardClear r) refl)
 asks_more def (entries.Synced r) past valid = quiet def (entries.Synced r) past (none (entries.Synced r) refl)
 asks_more def (entries.Enable r answer) past valid = quiet def (entries.Enable r answer) past (none (entries.Enable r answer) refl)
-asks_more def (entries.Request r x flags answer opened) past valid = quiet def (entries.Request r x flags answer opened) past (none (entries.Request r x flags answer opened) refl)
+asks_more def (entries.Request r x flags answer opened) past valid
+    = quiet def (entries.Request r x flags answer opened) past (none (entries.Request r x flags answer opened) refl)
 asks_more def (entries.Unlink r x answer) past valid = quiet def (entries.Unlink r x answer) past (none (entries.Unlink r x answer) refl)
 asks_more def (entries.Freed r x) past valid = quiet def (entries.Freed r x) past (none (entries.Freed r x) refl)
 asks_more def (entries.Affinity r mask answer) past valid = quiet def (entries.Affinity r mask answer) past (none (entries.Affinity r mask answer) refl)

@@ -1,5 +1,6 @@
 -- No count is above the number of entries, and the rule's counts stay within the window.
-use Rattle.std.proofs.Common.{◌≡◌, ℕ, ◌+◌, ◌-◌, ◌^◌, ◌<◌, ◌≤◌, ◌==◌, Bool, true, false, cond, ltb, eqb-true, Option, Some, None, List, [], ◌∷◌, length, refl, sym, ◌∙◌, subst, arith}
+use Rattle.std.proofs.Common.{◌≡◌, ℕ, ◌+◌, ◌-◌, ◌^◌, ◌<◌, ◌≤◌, ◌==◌, Bool, true, false, cond, ltb, eqb-true, Option}
+use Rattle.std.proofs.Common.{Some, None, List, [], ◌∷◌, length, refl, sym, ◌∙◌, subst, arith}
 use Rattle.std.proofs.lemmas.Bool.Decides.{nat_tests}
 use Rattle.irq_base.specs.declared.devices.Kind.{Kind}
 use Rattle.irq_base.specs.declared.entries.Entry.{Entry}
@@ -57,11 +58,17 @@ by_more false false u f n h i = omega (arith, h)
 
 pub unserved_few : (k : Kind) (d : DevNo) (past : List Entry) → unserved_by k d past ≤ length past
 unserved_few k d [] = omega arith
-unserved_few k d (e ∷ past) = omega (arith, unserved_more k d e past, by_more (ends_serving k d e) (is_ask d e) (unserved_by k d past) (fresh_by k d past) (length past) (unserved_few k d past) (fresh_few k d past))
+unserved_few k d (e ∷ past) = omega (
+  arith,
+  unserved_more k d e past,
+  by_more (ends_serving k d e) (is_ask d e)
+      (unserved_by k d past) (fresh_by k d past) (length past) (unserved_few k d past) (fresh_few k d past),
+)
 
 -- the counts of the rule
 
-below_if : (w l : ℕ) (c : Counts) (z t : Bool) → (c.irqs_unhandled == 0) ≡ z → ltb (c.irq_count + 1) w ≡ t → 1 ≤ w → c.irq_count < w → c.irqs_unhandled ≤ c.irq_count + 1 → IsBelow w (counted w l c).counts
+below_if : (w l : ℕ) (c : Counts) (z t : Bool) → (c.irqs_unhandled == 0) ≡ z → ltb (c.irq_count + 1) w ≡ t → 1 ≤ w
+    → c.irq_count < w → c.irqs_unhandled ≤ c.irq_count + 1 → IsBelow w (counted w l c).counts
 below_if w l c true t a b some h i = rw a (record { counted = h; unhandled = (let e = eqb-true c.irqs_unhandled 0 a in omega (arith, e)) })
 below_if w l c false true a b some h i = rw (a, b) (record { counted = (let e : c.irq_count + 1 < w = grind (arith, nat_tests, b) in e); unhandled = i })
 below_if w l c false false a b some h i = rw (a, b) (record { counted = some; unhandled = omega arith })
@@ -75,11 +82,14 @@ begun_anew false u n h = omega (arith, h)
 
 judged_below : (w l n : ℕ) (handled : Bool) (c : Counts) → 1 ≤ w → IsBelow w c → IsBelow w (judged w l n handled c).counts
 judged_below w l n true c some h = counted_below w l c some h.counted (omega (arith, h.unhandled))
-judged_below w l n false c some h = counted_below w l (unhandled n c) some h.counted (begun_anew (ltb 100 (n - c.last_unhandled)) c.irqs_unhandled c.irq_count h.unhandled)
+judged_below w l n false c some h = counted_below w l (unhandled n c) some h.counted
+    (begun_anew (ltb 100 (n - c.last_unhandled)) c.irqs_unhandled c.irq_count h.unhandled)
 
-by_threads_below : (w l n : ℕ) (c : Counts) (b : Bool) → 1 ≤ w → IsBelow w c → IsBelow w (cond b (judged w l n false c) (judged w l n true (record c { last = c.threads_handled }))).counts
+by_threads_below : (w l n : ℕ) (c : Counts) (b : Bool) → 1 ≤ w → IsBelow w c
+    → IsBelow w (cond b (judged w l n false c) (judged w l n true (record c { last = c.threads_handled }))).counts
 by_threads_below w l n c true some h = judged_below w l n false c some h
-by_threads_below w l n c false some h = judged_below w l n true (record c { last = c.threads_handled }) some (record { counted = h.counted; unhandled = h.unhandled })
+by_threads_below w l n c false some h = judged_below w l n true (record c { last = c.threads_handled }) some
+    (record { counted = h.counted; unhandled = h.unhandled })
 
 noted_below : (w l n : ℕ) (wake handled : Bool) (c : Counts) → 1 ≤ w → IsBelow w c → IsBelow w (noted w l n wake handled c).counts
 noted_below w l n false handled c some h = judged_below w l n handled c some h
@@ -102,7 +112,9 @@ counts_below def (entries.ThreadReturn d served ∷ past) valid = by_test (ltb 0
     by_test false h = h
 counts_below def (entries.Request r d flags links.Linked opened ∷ past) valid = record { counted = valid.some_window; unhandled = omega arith }
 counts_below def (entries.Request r d flags (links.Refused error) opened ∷ past) valid = counts_below def past valid
-counts_below def (entries.End c again unmask note ∷ past) valid = noted_below def.window def.limit (now past) (round_wakes def past) (round_handles def past) (counts_of def past) valid.some_window (counts_below def past valid)
+counts_below def (entries.End c again unmask note ∷ past) valid
+    = noted_below def.window def.limit (now past) (round_wakes def past) (round_handles def past) (counts_of def past)
+    valid.some_window (counts_below def past valid)
 counts_below def (_ ∷ past) valid = counts_below def past valid
 
 -- ---- all of them
@@ -111,7 +123,8 @@ place_few : (p : Entry → Bool) (q : List Entry → Bool) (past : List Entry) �
 place_few p q [] = omega arith
 place_few p q (e ∷ past) = by_test (q (e ∷ past)) (place_few p q past)
   where
-    more : (b : Bool) → count_of p (since_place q past) ≤ length past → cond b (count_of p (since_place q past) + 1) (count_of p (since_place q past)) ≤ length (e ∷ past)
+    more : (b : Bool) → count_of p (since_place q past) ≤ length past
+        → cond b (count_of p (since_place q past) + 1) (count_of p (since_place q past)) ≤ length (e ∷ past)
     more true h = omega (arith, h)
     more false h = omega (arith, h)
 
@@ -130,7 +143,8 @@ base_few (e ∷ past) = by_test (is_start e)
 pub depth_few : (past : List Entry) → depth past ≤ length past + 1
 depth_few past = let a = base_few (upto_place is_reset past) in let b = place_few is_deepening is_reset past in omega (arith, a, b)
 
-counted_handled : (w l : ℕ) (c : Counts) (z t : Bool) → (c.irqs_unhandled == 0) ≡ z → ltb (c.irq_count + 1) w ≡ t → (counted w l c).counts.threads_handled ≡ c.threads_handled
+counted_handled : (w l : ℕ) (c : Counts) (z t : Bool) → (c.irqs_unhandled == 0) ≡ z → ltb (c.irq_count + 1) w ≡ t
+    → (counted w l c).counts.threads_handled ≡ c.threads_handled
 counted_handled w l c true t a b = rw a refl
 counted_handled w l c false true a b = rw (a, b) refl
 counted_handled w l c false false a b = rw (a, b) refl
@@ -139,7 +153,9 @@ judged_handled : (w l n : ℕ) (handled : Bool) (c : Counts) → (judged w l n h
 judged_handled w l n true c = counted_handled w l c _ _ refl refl
 judged_handled w l n false c = counted_handled w l (unhandled n c) _ _ refl refl
 
-by_threads_handled : (w l n : ℕ) (c : Counts) (b : Bool) → (cond b (judged w l n false c) (judged w l n true (record c { last = c.threads_handled }))).counts.threads_handled ≡ c.threads_handled
+by_threads_handled : (w l n : ℕ) (c : Counts) (b : Bool)
+    → (cond b (judged w l n false c) (judged w l n true (record c { last = c.threads_handled }))).counts.threads_handled
+    ≡ c.threads_handled
 by_threads_handled w l n c true = judged_handled w l n false c
 by_threads_handled w l n c false = judged_handled w l n true (record c { last = c.threads_handled })
 
@@ -148,7 +164,9 @@ noted_handled w l n false handled c = judged_handled w l n handled c
 noted_handled w l n true true c = judged_handled w l n true (record c { deferred = false })
 noted_handled w l n true false c = by_deferred c.deferred
   where
-    by_deferred : (b : Bool) → (cond b (judged_by_threads w l n c) (record { note = notes.Quiet; counts = record c { deferred = true } })).counts.threads_handled ≡ c.threads_handled
+    by_deferred : (b : Bool) → (cond b (judged_by_threads w l n c)
+        (record { note = notes.Quiet; counts = record c { deferred = true } })).counts.threads_handled
+        ≡ c.threads_handled
     by_deferred true = by_threads_handled w l n c (c.threads_handled == c.last)
     by_deferred false = refl
 
@@ -162,23 +180,28 @@ handled_few def (entries.ThreadReturn d served ∷ past) = by_test (ltb 0 served
     c : Counts
     c = counts_of def past
 
-    by_test : (b : Bool) → c.threads_handled ≤ length past → (cond b (record c { threads_handled = c.threads_handled + 1 }) c).threads_handled ≤ length (entries.ThreadReturn d served ∷ past)
+    by_test : (b : Bool) → c.threads_handled ≤ length past
+        → (cond b (record c { threads_handled = c.threads_handled + 1 }) c).threads_handled ≤ length
+        (entries.ThreadReturn d served ∷ past)
     by_test true h = omega (arith, h)
     by_test false h = omega (arith, h)
 handled_few def (entries.Request r d flags links.Linked opened ∷ past) = later _ (entries.Request r d flags links.Linked opened) past (handled_few def past)
-handled_few def (entries.Request r d flags (links.Refused error) opened ∷ past) = later _ (entries.Request r d flags (links.Refused error) opened) past (handled_few def past)
+handled_few def (entries.Request r d flags (links.Refused error) opened ∷ past)
+    = later _ (entries.Request r d flags (links.Refused error) opened) past (handled_few def past)
 handled_few def (entries.End c again unmask note ∷ past) =
     let same = noted_handled def.window def.limit (now past) (round_wakes def past) (round_handles def past) (counts_of def past) in
     omega (arith, same, handled_few def past)
 handled_few def (e ∷ past) = later _ e past (handled_few def past)
 
 row_few : (def : LineDef) (past : List Entry) (d : DevNo) (r : AskRow) → ask_row def past d ≡ r → (r.unserved ≤ length past) × (r.fresh ≤ length past)
-row_few def past d r same = subst (λ (x : AskRow). (x.unserved ≤ length past) × (x.fresh ≤ length past)) same (unserved_few (kind_of def d) d past, fresh_few (kind_of def d) d past)
+row_few def past d r same = subst (λ (x : AskRow). (x.unserved ≤ length past) × (x.fresh ≤ length past)) same
+    (unserved_few (kind_of def d) d past, fresh_few (kind_of def d) d past)
 
 found : (x y : AskRow) (o : Option AskRow) → o ≡ Some x → o ≡ Some y → x ≡ y
 found x y o h i = cc
 
-asks_few : (def : LineDef) (past : List Entry) (d : DevNo) (r : AskRow) → at (asks_of def past) d ≡ Some r → (r.unserved ≤ length past) × (r.fresh ≤ length past)
+asks_few : (def : LineDef) (past : List Entry) (d : DevNo) (r : AskRow) → at (asks_of def past) d ≡ Some r
+    → (r.unserved ≤ length past) × (r.fresh ≤ length past)
 asks_few def past d r h = by_test (list_any (is_device d) def.devices) refl
   where
     by_test : (b : Bool) → list_any (is_device d) def.devices ≡ b → (r.unserved ≤ length past) × (r.fresh ≤ length past)

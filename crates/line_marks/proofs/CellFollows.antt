@@ -30,7 +30,9 @@ use Rattle.line_marks.specs.State.{IsOf, state_of, high_in, driven_by}
 
 -- ---- what an entry does to it
 
-any_row : (def : LineDef) (past : List Entry) (xs : List DeviceDef) → list_any (λ (x : DeviceDef). ltb 0 (unserved_asks def x.dev past)) xs ≡ list_any (λ (e : DevNo × AskRow). is_waiting e.1) (table_by (ask_row def past) xs)
+any_row : (def : LineDef) (past : List Entry) (xs : List DeviceDef)
+    → list_any (λ (x : DeviceDef). ltb 0 (unserved_asks def x.dev past)) xs
+    ≡ list_any (λ (e : DevNo × AskRow). is_waiting e.1) (table_by (ask_row def past) xs)
 any_row def past [] = refl
 any_row def past (x ∷ xs) = ap (λ b. ltb 0 (unserved_asks def x.dev past) || b) (any_row def past xs)
 
@@ -46,7 +48,8 @@ by_level true n h g k f e = refl
 by_level false true h g k f e = ap f e
 by_level false false h g k f e = refl
 
-high_after : (def : LineDef) (e : Entry) (past : List Entry) → IsValid def → is_high def (e ∷ past) ≡ (is_level_line def && high_in (asks_after (kinds_of def) e (asks_of def past)))
+high_after : (def : LineDef) (e : Entry) (past : List Entry) → IsValid def
+    → is_high def (e ∷ past) ≡ (is_level_line def && high_in (asks_after (kinds_of def) e (asks_of def past)))
 high_after def e past valid = high_is def (e ∷ past) ∙ ap (λ (t : List (DevNo × AskRow)). is_level_line def && high_in t) (asks_more def e past valid)
 
 turned : (a b : Bool) → (a && b) ≡ (b && a)
@@ -55,17 +58,24 @@ turned true false = refl
 turned false true = refl
 turned false false = refl
 
-pub cell_more : (def : LineDef) (e : Entry) (past : List Entry) (c : Cell) → IsValid def → driven def e past c ≡ driven_by def e (desc_of def past) (high_in (asks_after (kinds_of def) e (asks_of def past))) c
+pub cell_more : (def : LineDef) (e : Entry) (past : List Entry) (c : Cell) → IsValid def
+    → driven def e past c ≡ driven_by def e (desc_of def past)
+    (high_in (asks_after (kinds_of def) e (asks_of def past))) c
 cell_more def (entries.Ask r d) past c valid =
     let e = entries.Ask r d in
-    by_edge (is_edge_line def) (is_high def (e ∷ past)) (high_in (asks_after (kinds_of def) e (asks_of def past))) (after_edge c) (λ b. after_high b c) (high_after def e past valid)
+    by_edge (is_edge_line def) (is_high def (e ∷ past)) (high_in (asks_after (kinds_of def) e (asks_of def past)))
+    (after_edge c) (λ b. after_high b c) (high_after def e past valid)
 cell_more def (entries.Return cpu d answer n) past c valid =
     let e = entries.Return cpu d answer n in
-    by_level (is_edge_line def) (ltb 0 n) (is_high def (e ∷ past)) (high_in (asks_after (kinds_of def) e (asks_of def past))) c (λ b. after_high b c) (high_after def e past valid)
+    by_level (is_edge_line def) (ltb 0 n) (is_high def (e ∷ past))
+    (high_in (asks_after (kinds_of def) e (asks_of def past))) c (λ b. after_high b c) (high_after def e past valid)
 cell_more def (entries.ThreadReturn d n) past c valid =
     let e = entries.ThreadReturn d n in
-    by_level (is_edge_line def) (ltb 0 n) (is_high def (e ∷ past)) (high_in (asks_after (kinds_of def) e (asks_of def past))) c (λ b. after_high b c) (high_after def e past valid)
-cell_more def (entries.End cpu again unmask note) past c valid = ap (λ b. ended def def.flow again unmask (masked_if b c)) (turned def.unlazy (is_kill (entries.End cpu again unmask note)))
+    by_level (is_edge_line def) (ltb 0 n) (is_high def (e ∷ past))
+    (high_in (asks_after (kinds_of def) e (asks_of def past))) c (λ b. after_high b c) (high_after def e past valid)
+cell_more def (entries.End cpu again unmask note) past c valid
+    = ap (λ b. ended def def.flow again unmask (masked_if b c))
+    (turned def.unlazy (is_kill (entries.End cpu again unmask note)))
 cell_more def _ past c valid = refl
 
 -- ---- what it is
@@ -83,8 +93,10 @@ presents_is def past valid legal = ap presents (cell_is def past valid legal)
 
 -- it is one of the definition's
 pub is_of : (def : LineDef) (past : List Entry) → IsValid def → IsLegalPast def past → IsOf def (state_of def past)
-is_of def past valid legal = let c = cell_is def past valid legal in record { trigger = ap (λ (k : Cell). k.trigger) c; retriggers = ap (λ (k : Cell). k.retriggers) c }
+is_of def past valid legal = let c = cell_is def past valid legal in
+    record { trigger = ap (λ (k : Cell). k.trigger) c; retriggers = ap (λ (k : Cell). k.retriggers) c }
 
 -- on the fast-EOI flow an enabled edge line's is open
 pub is_open : (def : LineDef) (past : List Entry) → IsValid def → IsLegalPast def past → IsOpen def (state_of def past)
-is_open def past valid legal edge eoi zero = ap (λ (k : Cell). k.masked) (cell_is def past valid legal) ∙ (kept def past valid legal).edges.eoi_edge edge eoi zero
+is_open def past valid legal edge eoi zero = ap (λ (k : Cell). k.masked) (cell_is def past valid legal)
+    ∙ (kept def past valid legal).edges.eoi_edge edge eoi zero

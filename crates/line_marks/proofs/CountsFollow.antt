@@ -10,7 +10,9 @@ use Rattle.spurious.specs.Seen.{CountsSeen, after_thread}
 use Rattle.line_marks.specs.Counts.{tally_of, tally_after}
 use Rattle.line_marks.specs.Rounds.{round_of}
 
-thread_more : (def : LineDef) (d : DevNo) (n : ℕ) (past : List Entry) → tally_of def (entries.ThreadReturn d n ∷ past) ≡ cond (ltb 0 n) (after_thread (tally_of def past)) (tally_of def past)
+thread_more : (def : LineDef) (d : DevNo) (n : ℕ) (past : List Entry)
+    → tally_of def (entries.ThreadReturn d n ∷ past) ≡ cond (ltb 0 n) (after_thread (tally_of def past))
+    (tally_of def past)
 thread_more def d n past = by_test (ltb 0 n)
   where
     c : Counts

@@ -1,5 +1,6 @@
 -- What is due of a processor by the table of steps is due by the state.
-use Rattle.std.proofs.Common.{◌≡◌, ℕ, ◌+◌, Bool, true, false, not, ◌||◌, ◌&&◌, cond, ltb, Option, Some, None, unwrap_or, List, [], ◌∷◌, refl, sym, ap, ◌∙◌, arith}
+use Rattle.std.proofs.Common.{◌≡◌, ℕ, ◌+◌, Bool, true, false, not, ◌||◌, ◌&&◌, cond, ltb, Option, Some, None, unwrap_or}
+use Rattle.std.proofs.Common.{List, [], ◌∷◌, refl, sym, ap, ◌∙◌, arith}
 use Rattle.std.proofs.lemmas.Bool.Decides.{nat_tests}
 use Rattle.irq_base.specs.Cell.{signals as presents}
 use Rattle.irq_base.specs.Handlers.{answer_of}
@@ -53,10 +54,12 @@ first_is : (def : LineDef) (past : List Entry) (ds : List DevNo) → first_left 
 first_is def past [] = refl
 first_is def past (d ∷ ds) = ap (λ (o : Option DevNo). cond (has_begun def past d) o (Some d)) (first_is def past ds)
 
-left_known : (def : LineDef) (past : List Entry) → IsValid def → IsLegalPast def past → first_left def past (linked past) ≡ left_in (table_by (has_begun def past) def.devices) (actions_of past)
+left_known : (def : LineDef) (past : List Entry) → IsValid def → IsLegalPast def past
+    → first_left def past (linked past) ≡ left_in (table_by (has_begun def past) def.devices) (actions_of past)
 left_known def past valid legal =
     first_is def past (linked past)
-    ∙ sym (left_of (linking_flags past) (has_begun def past) (table_by (has_begun def past) def.devices) (actions_of past) (linked past) (actions_are def past valid legal)
+    ∙ sym (left_of (linking_flags past) (has_begun def past) (table_by (has_begun def past) def.devices)
+    (actions_of past) (linked past) (actions_are def past valid legal)
     (λ d i. ap (λ (o : Option Bool). unwrap_or o false) (at_device (has_begun def past) def.devices d (linked_named def past d (kept def past valid legal) i))))
 
 -- ---- the end
@@ -94,7 +97,9 @@ module _ (def : LineDef) (c : CpuNo) (past : List Entry) where
   abbrev IsEnd : FlowKind → Note → Type 0
   IsEnd f note = end_by_flow def f c past note ≡ end_with c note (left_by def f (is_held (state_of def past)) (killed_if note (desc_of def past)))
 
-  level_open : (note : Note) (off : Bool) → is_off_now past note ≡ off → (not (is_off_now past note) && (is_masked def past && not (is_some_unfinished def past))) ≡ (not off && (is_masked def past && not (is_held (state_of def past))))
+  level_open : (note : Note) (off : Bool) → is_off_now past note ≡ off
+      → (not (is_off_now past note) && (is_masked def past && not (is_some_unfinished def past)))
+      ≡ (not off && (is_masked def past && not (is_held (state_of def past))))
   level_open note off is = rw (is, held_known past def.devices) refl
 
   level_end : (note : Note) → IsEnd flows.Level note
@@ -103,22 +108,29 @@ module _ (def : LineDef) (c : CpuNo) (past : List Entry) where
   level_end notes.Counted = rw (or_false (is_disabled past), held_known past def.devices) refl
 
   edge_end : (note : Note) → IsEnd flows.Edge note
-  edge_end notes.Killed = rw (or_true (is_disabled past), above (depth past)) (ap (λ b. entries.End c (is_pending def past && false) b notes.Killed) (never (is_pending def past) (is_masked def past) (def.unlazy || is_masked def past)))
+  edge_end notes.Killed = rw (or_true (is_disabled past), above (depth past))
+      (ap (λ b. entries.End c (is_pending def past && false) b notes.Killed)
+      (never (is_pending def past) (is_masked def past) (def.unlazy || is_masked def past)))
   edge_end notes.Quiet = rw (or_false (is_disabled past)) refl
   edge_end notes.Counted = rw (or_false (is_disabled past)) refl
 
   abbrev eoi_at : Bool → Note → Type 0
   eoi_at e note =
-      cond e (entries.End c (is_pending def past && not (is_off_now past note)) false note) (entries.End c false ((not (is_off_now past note) && is_oneshot past) && (is_masked def past && not (is_some_unfinished def past))) note)
+      cond e (entries.End c (is_pending def past && not (is_off_now past note)) false note)
+      (entries.End c false ((not (is_off_now past note) && is_oneshot past) &&
+      (is_masked def past && not (is_some_unfinished def past))) note)
       ≡ end_with c note (left_by def flows.Eoi (is_held (state_of def past)) (killed_if note (desc_of def past)))
 
   eoi_end : (note : Note) (e : Bool) → is_edge_line def ≡ e → eoi_at e note
   eoi_end notes.Killed true is = rw (is, or_true (is_disabled past), above (depth past)) refl
-  eoi_end notes.Killed false is = rw (is, or_true (is_disabled past), above (depth past)) (ap (λ b. entries.End c false b notes.Killed) (and_false (is_oneshot past)))
+  eoi_end notes.Killed false is = rw (is, or_true (is_disabled past), above (depth past))
+      (ap (λ b. entries.End c false b notes.Killed) (and_false (is_oneshot past)))
   eoi_end notes.Quiet true is = rw (is, or_false (is_disabled past)) refl
-  eoi_end notes.Quiet false is = rw (is, or_false (is_disabled past), held_known past def.devices) (ap (λ b. entries.End c false b notes.Quiet) (oneshot_first (is_disabled past) (is_oneshot past) _))
+  eoi_end notes.Quiet false is = rw (is, or_false (is_disabled past), held_known past def.devices)
+      (ap (λ b. entries.End c false b notes.Quiet) (oneshot_first (is_disabled past) (is_oneshot past) _))
   eoi_end notes.Counted true is = rw (is, or_false (is_disabled past)) refl
-  eoi_end notes.Counted false is = rw (is, or_false (is_disabled past), held_known past def.devices) (ap (λ b. entries.End c false b notes.Counted) (oneshot_first (is_disabled past) (is_oneshot past) _))
+  eoi_end notes.Counted false is = rw (is, or_false (is_disabled past), held_known past def.devices)
+      (ap (λ b. entries.End c false b notes.Counted) (oneshot_first (is_disabled past) (is_oneshot past) _))
 
   pub end_is : (f : FlowKind) (note : Note) → IsEnd f note
   end_is flows.Level note = level_end note
@@ -135,13 +147,16 @@ module _ (def : LineDef) (c : CpuNo) (past : List Entry) where
         let k = kept def past valid legal in
         let on = called_there def past k d (k.runs.working d is).0 in
         let row : at (state_of def past).asks d ≡ Some (ask_row def past d) = at_device (ask_row def past) def.devices d (there_named def past k d on) in
-        ap (λ (x : Kind). entries.Return c d (answer_of x parts.Primary (ask_row def past d).met_by_handler) (served_by_handler x (ask_row def past d).met_by_handler)) (sym (kind_is def d))
+        ap (λ (x : Kind). entries.Return c d (answer_of x parts.Primary (ask_row def past d).met_by_handler)
+        (served_by_handler x (ask_row def past d).met_by_handler)) (sym (kind_is def d))
         ∙ ap (λ (o : Option AskRow). return_by (state_of def past) c d (met_by o)) (sym row)
     in_flow_is None is =
         ap (begin_or_end def c past) (left_known def past valid legal) ∙ walk_is (left_in (table_by (has_begun def past) def.devices) (actions_of past))
 
     pub take_answer_is : take_answer def past ≡ take_by (state_of def past)
-    take_answer_is = rw (bare_is def past valid legal) (ap (λ b. cond (has_flow def past) takes.Busy (cond (is_disabled past || b) takes.Off takes.Handle)) (twice (is_none_linked past)))
+    take_answer_is = rw (bare_is def past valid legal)
+        (ap (λ b. cond (has_flow def past) takes.Busy (cond (is_disabled past || b) takes.Off takes.Handle))
+        (twice (is_none_linked past)))
       where
         twice : (b : Bool) → b ≡ not (not b)
         twice true = refl
@@ -149,10 +164,16 @@ module _ (def : LineDef) (c : CpuNo) (past : List Entry) where
 
     take_is : next_take def c past ≡ next_take_by (state_of def past) c
     take_is =
-        ap (λ b. cond (not (is_cpu c (target def past))) None (cond b (Some (entries.Take c ways.Line (take_answer def past))) (cond (is_soft past) (Some (entries.Take c ways.Resend (take_answer def past))) None))) (sym (presents_is def past valid legal))
-        ∙ ap (λ (a : TakeAnswer). cond (not (is_cpu c (target def past))) None (cond (presents (cell_after def past)) (Some (entries.Take c ways.Line a)) (cond (is_soft past) (Some (entries.Take c ways.Resend a)) None))) take_answer_is
+        ap (λ b. cond (not (is_cpu c (target def past))) None
+        (cond b (Some (entries.Take c ways.Line (take_answer def past)))
+        (cond (is_soft past) (Some (entries.Take c ways.Resend (take_answer def past))) None)))
+        (sym (presents_is def past valid legal))
+        ∙ ap (λ (a : TakeAnswer). cond (not (is_cpu c (target def past))) None
+        (cond (presents (cell_after def past)) (Some (entries.Take c ways.Line a))
+        (cond (is_soft past) (Some (entries.Take c ways.Resend a)) None))) take_answer_is
 
-pub cpu_due_is : (def : LineDef) (past : List Entry) (c : CpuNo) → IsValid def → IsLegalPast def past → next_of_cpu def c past ≡ cpu_due def (state_of def past) c
+pub cpu_due_is : (def : LineDef) (past : List Entry) (c : CpuNo) → IsValid def → IsLegalPast def past
+    → next_of_cpu def c past ≡ cpu_due def (state_of def past) c
 cpu_due_is def past c valid legal =
     ap (λ (e : Entry). cond (is_cpu c (flow def past)) (Some e) (next_take def c past)) (in_flow_is def c past valid legal (at_work past) refl)
     ∙ ap (λ (o : Option Entry). cond (is_cpu c (flow def past)) (Some (in_flow_by def (state_of def past) c (at_work past))) o) (take_is def c past valid legal)

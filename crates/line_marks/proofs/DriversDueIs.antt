@@ -1,5 +1,6 @@
 -- What is due of a driver by the table of steps is due by the state.
-use Rattle.std.proofs.Common.{◌≡◌, ℕ, ◌+◌, ◌==◌, Bool, true, false, not, ◌||◌, ◌&&◌, cond, is_some, Option, Some, None, List, [], ◌∷◌, refl, sym, ap, ◌∙◌, arith}
+use Rattle.std.proofs.Common.{◌≡◌, ℕ, ◌+◌, ◌==◌, Bool, true, false, not, ◌||◌, ◌&&◌, cond, is_some, Option, Some, None}
+use Rattle.std.proofs.Common.{List, [], ◌∷◌, refl, sym, ap, ◌∙◌, arith}
 use Rattle.std.specs.List.{list_any}
 use Rattle.irq_base.specs.declared.calls.Call.{Call}
 use Rattle.irq_base.specs.declared.calls.Call.TheVariants as calls
@@ -27,7 +28,9 @@ use Rattle.irq_model.specs.Kinds.{opened_by_enable}
 use Rattle.irq_model.specs.Legal.{IsLegalPast}
 use Rattle.irq_model.specs.Lines.{is_device, is_edge_line}
 use Rattle.irq_model.specs.Links.{linked, is_none_linked, depth, linking_flags, has_spurious_mark}
-use Rattle.irq_model.specs.Next.{next_past, next_of_call, next_of_request, next_of_free, request_with, link_answer, opened_by_request, unlink_answer, is_only, resend_of, enable_answer, freed_of, synced_of, hard_clear_of}
+use Rattle.irq_model.specs.Next.{next_past, next_of_call, next_of_request, next_of_free, request_with, link_answer}
+use Rattle.irq_model.specs.Next.{opened_by_request, unlink_answer, is_only, resend_of, enable_answer, freed_of}
+use Rattle.irq_model.specs.Next.{synced_of, hard_clear_of}
 use Rattle.irq_model.specs.Places.{count_of}
 use Rattle.irq_model.specs.Threads.{is_woken, is_running}
 use Rattle.irq_model.specs.Valid.{IsValid}
@@ -68,9 +71,12 @@ neither true r x y = refl
 neither false true x y = refl
 neither false false x y = refl
 
-active_sum : (past : List Entry) (xs : List DeviceDef) → count_of (λ (x : DeviceDef). is_woken past x.dev) xs + count_of (λ (x : DeviceDef). is_running past x.dev) xs ≡ active_in (table_by (thread_of past) xs)
+active_sum : (past : List Entry) (xs : List DeviceDef)
+    → count_of (λ (x : DeviceDef). is_woken past x.dev) xs + count_of (λ (x : DeviceDef). is_running past x.dev) xs
+    ≡ active_in (table_by (thread_of past) xs)
 active_sum past [] = omega arith
-active_sum past (x ∷ xs) = by_tests (is_woken past x.dev) (is_running past x.dev) (in_run (is_running past x.dev) (has_returned past x.dev) (has_finished past x.dev)) (active_sum past xs)
+active_sum past (x ∷ xs) = by_tests (is_woken past x.dev) (is_running past x.dev)
+    (in_run (is_running past x.dev) (has_returned past x.dev) (has_finished past x.dev)) (active_sum past xs)
   where
     a : ℕ
     a = count_of (λ (y : DeviceDef). is_woken past y.dev) xs
@@ -103,28 +109,46 @@ module _ (def : LineDef) (past : List Entry) (valid : IsValid def) (legal : IsLe
   pub enable_is : enable_by (not (is_bare (actions_of past))) def.trigger (desc_of def past) (cell_after def past) ≡ enable_answer def past
   enable_is =
       ap (λ b. enable_by (not b) def.trigger (desc_of def past) (cell_after def past)) (bare_is def past valid legal)
-      ∙ (turned (is_none_linked past) (depth past == 0) enables.Unbalanced (cond (depth past == 1) (enables.Started (resend_by def.trigger (desc_of def past) (cell_after def past))) enables.Lowered)
-      ∙ ap (λ (x : Resend). cond (is_none_linked past || (depth past == 0)) enables.Unbalanced (cond (depth past == 1) (enables.Started x) enables.Lowered)) resend_is)
+      ∙ (turned (is_none_linked past) (depth past == 0) enables.Unbalanced
+      (cond (depth past == 1) (enables.Started (resend_by def.trigger (desc_of def past) (cell_after def past)))
+      enables.Lowered)
+      ∙ ap (λ (x : Resend). cond (is_none_linked past || (depth past == 0)) enables.Unbalanced
+      (cond (depth past == 1) (enables.Started x) enables.Lowered)) resend_is)
 
   -- ---- a request
 
   pub answer_is : (d : DevNo) (flags : Flags) → link_answer def d flags past ≡ answer_by (kind_at (kinds_of def) d) flags (actions_of past)
   answer_is d flags =
-      rw (kind_is def d, mismatch_of (linking_flags past) flags (actions_of past) (linked past) (actions_are def past valid legal), many_of (linking_flags past) (actions_of past) (linked past) (actions_are def past valid legal)) refl
+      rw (
+        kind_is def d,
+        mismatch_of (linking_flags past) flags (actions_of past) (linked past)
+            (actions_are def past valid legal),
+        many_of (linking_flags past) (actions_of past) (linked past)
+            (actions_are def past valid legal),
+      ) refl
 
   pub opened_is : (flags : Flags) → opened_by_request def flags past ≡ opened_by def flags (state_of def past)
   opened_is flags =
       let s = state_of def past in
-      ap (λ (x : Resend). cond (is_none_linked past) (cond flags.noauto opens.No (opens.Started x)) (cond (has_spurious_mark past) (opened_by_enable (enable_answer def past)) opens.No)) (sym resend_is)
-      ∙ (ap (λ (x : EnableAnswer). cond (is_none_linked past) (cond flags.noauto opens.No (opens.Started (resend_by def.trigger s.desc s.cell))) (cond (has_spurious_mark past) (opened_by_enable x) opens.No)) (sym enable_is)
-      ∙ ap (λ b. cond b (cond flags.noauto opens.No (opens.Started (resend_by def.trigger s.desc s.cell))) (cond (has_spurious_mark past) (opened_by_enable (enable_by (not (is_bare s.list.actions)) def.trigger s.desc s.cell)) opens.No)) (sym (bare_is def past valid legal)))
+      ap (λ (x : Resend). cond (is_none_linked past) (cond flags.noauto opens.No (opens.Started x))
+      (cond (has_spurious_mark past) (opened_by_enable (enable_answer def past)) opens.No)) (sym resend_is)
+      ∙ (ap (λ (x : EnableAnswer). cond (is_none_linked past)
+      (cond flags.noauto opens.No (opens.Started (resend_by def.trigger s.desc s.cell)))
+      (cond (has_spurious_mark past) (opened_by_enable x) opens.No)) (sym enable_is)
+      ∙ ap (λ b. cond b (cond flags.noauto opens.No (opens.Started (resend_by def.trigger s.desc s.cell)))
+      (cond (has_spurious_mark past) (opened_by_enable
+      (enable_by (not (is_bare s.list.actions)) def.trigger s.desc s.cell)) opens.No))
+      (sym (bare_is def past valid legal)))
 
-  request_to_is : (r : DriverNo) (d : DevNo) (flags : Flags) (a : LinkAnswer) → request_with def r d flags past a ≡ request_to def r d flags (state_of def past) a
+  request_to_is : (r : DriverNo) (d : DevNo) (flags : Flags) (a : LinkAnswer)
+      → request_with def r d flags past a ≡ request_to def r d flags (state_of def past) a
   request_to_is r d flags links.Linked = ap (entries.Request r d flags links.Linked) (opened_is flags)
   request_to_is r d flags (links.Refused error) = refl
 
   request_is : (r : DriverNo) (d : DevNo) (flags : Flags)
-      → next_of_request def r d flags past ≡ cond (is_some (freeing past)) None (Some (request_to def r d flags (state_of def past) (answer_by (kind_at (kinds_of def) d) flags (actions_of past))))
+      → next_of_request def r d flags past ≡ cond (is_some (freeing past)) None
+      (Some (request_to def r d flags (state_of def past)
+      (answer_by (kind_at (kinds_of def) d) flags (actions_of past))))
   request_is r d flags =
       ap (λ b. cond b None (Some (request_with def r d flags past (link_answer def d flags past)))) (mutex_is def past valid legal)
       ∙ (ap (λ (e : Entry). cond (is_some (freeing past)) None (Some e)) (request_to_is r d flags (link_answer def d flags past))
@@ -135,7 +159,8 @@ module _ (def : LineDef) (past : List Entry) (valid : IsValid def) (legal : IsLe
   pub unlink_is : (d : DevNo) → unlink_answer d past ≡ unlink_by d (actions_of past)
   unlink_is d =
       ap (λ b. cond b (unlinks.Unlinked (is_only d (linked past))) unlinks.NotThere) (linked_known def past d valid legal)
-      ∙ ap (λ b. cond (has d (actions_of past)) (unlinks.Unlinked b) unlinks.NotThere) (sym (only_of (linking_flags past) d (actions_of past) (linked past) (actions_are def past valid legal)))
+      ∙ ap (λ b. cond (has d (actions_of past)) (unlinks.Unlinked b) unlinks.NotThere)
+      (sym (only_of (linking_flags past) d (actions_of past) (linked past) (actions_are def past valid legal)))
 
   pub idle_is : (d : DevNo) → is_idle_at (threads_of def past) d ≡ (not (is_woken past d) && not (is_running past d))
   idle_is d = by_test (list_any (is_device d) def.devices) refl
@@ -149,16 +174,21 @@ module _ (def : LineDef) (past : List Entry) (valid : IsValid def) (legal : IsLe
           ap (row_passes is_idle_row true) (at_none (thread_of past) def.devices d gone) ∙ rw (rest.0, rest.1) refl
 
   freed_is : (r : DriverNo) (d : DevNo) → freed_of r d past ≡ freed_by r d (state_of def past)
-  freed_is r d = neither (is_woken past d) (is_running past d) None (Some (entries.Freed r d)) ∙ ap (λ b. cond b (Some (entries.Freed r d)) None) (sym (idle_is d))
+  freed_is r d = neither (is_woken past d) (is_running past d) None (Some (entries.Freed r d))
+      ∙ ap (λ b. cond b (Some (entries.Freed r d)) None) (sym (idle_is d))
 
   synced_is : (r : DriverNo) → synced_of def r past ≡ synced_by r (state_of def past)
   synced_is r = ap (λ n. cond (n == 0) (Some (entries.Synced r)) None) (active_sum past def.devices)
 
   free_is : (r : DriverNo) (d : DevNo) (n : ℕ) → next_of_free def r d n past ≡ free_by r d n (state_of def past)
   free_is r d n =
-      ap (λ b. cond (n == 0) (cond b None (Some (entries.Unlink r d (unlink_answer d past)))) (cond (n == 1) (hard_clear_of def r past) (freed_of r d past))) (mutex_is def past valid legal)
-      ∙ (ap (λ (a : UnlinkAnswer). cond (n == 0) (cond (is_some (freeing past)) None (Some (entries.Unlink r d a))) (cond (n == 1) (hard_clear_of def r past) (freed_of r d past))) (unlink_is d)
-      ∙ ap (λ (o : Option Entry). cond (n == 0) (cond (is_some (freeing past)) None (Some (entries.Unlink r d (unlink_by d (actions_of past))))) (cond (n == 1) (hard_clear_of def r past) o)) (freed_is r d))
+      ap (λ b. cond (n == 0) (cond b None (Some (entries.Unlink r d (unlink_answer d past))))
+      (cond (n == 1) (hard_clear_of def r past) (freed_of r d past))) (mutex_is def past valid legal)
+      ∙ (ap (λ (a : UnlinkAnswer). cond (n == 0) (cond (is_some (freeing past)) None (Some (entries.Unlink r d a)))
+      (cond (n == 1) (hard_clear_of def r past) (freed_of r d past))) (unlink_is d)
+      ∙ ap (λ (o : Option Entry). cond (n == 0) (cond (is_some (freeing past)) None
+      (Some (entries.Unlink r d (unlink_by d (actions_of past))))) (cond (n == 1) (hard_clear_of def r past) o))
+      (freed_is r d))
 
   -- ---- the nine calls
 
@@ -167,15 +197,18 @@ module _ (def : LineDef) (past : List Entry) (valid : IsValid def) (legal : IsLe
   call_due_is r (Some (calls.Ask d, n)) = refl
   call_due_is r (Some (calls.Request d flags, n)) = request_is r d flags
   call_due_is r (Some (calls.Free d, n)) = free_is r d n
-  call_due_is r (Some (calls.Disable, n)) = ap (λ (o : Option Entry). cond (n == 0) (Some (entries.Disable r)) (cond (n == 1) (hard_clear_of def r past) o)) (synced_is r)
+  call_due_is r (Some (calls.Disable, n)) = ap (λ (o : Option Entry). cond (n == 0) (Some (entries.Disable r))
+      (cond (n == 1) (hard_clear_of def r past) o)) (synced_is r)
   call_due_is r (Some (calls.DisableNosync, n)) = refl
   call_due_is r (Some (calls.Enable, n)) = ap (λ (a : EnableAnswer). Some (entries.Enable r a)) (sym enable_is)
   call_due_is r (Some (calls.Sync, n)) = ap (λ (o : Option Entry). cond (n == 0) (hard_clear_of def r past) o) (synced_is r)
   call_due_is r (Some (calls.Affinity mask, n)) = refl
   call_due_is r (Some (calls.Moment m, n)) = refl
 
-pub driver_due_is : (def : LineDef) (past : List Entry) (r : DriverNo) (o : Option (Call × ℕ)) → IsValid def → IsLegalPast def past → next_of_call def r past o ≡ driver_due def (state_of def past) r o
+pub driver_due_is : (def : LineDef) (past : List Entry) (r : DriverNo) (o : Option (Call × ℕ)) → IsValid def
+    → IsLegalPast def past → next_of_call def r past o ≡ driver_due def (state_of def past) r o
 driver_due_is def past r o valid legal = call_due_is def past valid legal r o
 
-pub driver_is : (def : LineDef) (past : List Entry) (r : DriverNo) → IsValid def → IsLegalPast def past → next_past def past (actors.Driver r) ≡ driver_due def (state_of def past) r (due_call def r past)
+pub driver_is : (def : LineDef) (past : List Entry) (r : DriverNo) → IsValid def → IsLegalPast def past
+    → next_past def past (actors.Driver r) ≡ driver_due def (state_of def past) r (due_call def r past)
 driver_is def past r valid legal = driver_due_is def past r (due_call def r past) valid legal

@@ -27,10 +27,13 @@ use Rattle.line_marks.specs.Scripts.{IsAt}
 use Rattle.line_marks.specs.State.{StateSeen, state_of}
 
 -- of a thread of the line itself
-pub thread_is : (def : LineDef) (past : List Entry) (d : DevNo) → IsValid def → IsLegalPast def past → next_past def past (actors.Thread def.line d) ≡ thread_due (state_of def past) d
+pub thread_is : (def : LineDef) (past : List Entry) (d : DevNo) → IsValid def → IsLegalPast def past
+    → next_past def past (actors.Thread def.line d) ≡ thread_due (state_of def past) d
 thread_is def past d valid legal = cond-true _ _ _ (same_self_line def.line) ∙ thread_due_is def past d valid legal
 
-module _ (def : LineDef) (past : List Entry) (scripts : List (DriverNo × RowSeen)) (calls : (r : DriverNo) → calls_of scripts r ≡ calls_by r def.calls) (laid : (r : DriverNo) → IsAt def past r (place_of scripts r) (within_of scripts r)) where
+module _ (def : LineDef) (past : List Entry) (scripts : List (DriverNo × RowSeen))
+    (calls : (r : DriverNo) → calls_of scripts r ≡ calls_by r def.calls)
+    (laid : (r : DriverNo) → IsAt def past r (place_of scripts r) (within_of scripts r)) where
   -- the due call by the driver's place
   pub call_is : (r : DriverNo) → due_call def r past ≡ due_call_in scripts r
   call_is r =
@@ -43,7 +46,8 @@ module _ (def : LineDef) (past : List Entry) (scripts : List (DriverNo × RowSee
   due_is (actors.Driver r) valid legal = ap (next_of_call def r past) (call_is r) ∙ driver_due_is def past r (due_call_in scripts r) valid legal
 
 -- the same of a line
-pub due_on : (def : LineDef) (h : List Entry) (s : StateSeen) (scripts : List (DriverNo × RowSeen)) (a : Actor) → IsLine def h s scripts → next def h a ≡ due_by def s scripts a
+pub due_on : (def : LineDef) (h : List Entry) (s : StateSeen) (scripts : List (DriverNo × RowSeen)) (a : Actor)
+    → IsLine def h s scripts → next def h a ≡ due_by def s scripts a
 due_on def h s scripts a line =
     due_is def (reverse h) scripts line.calls line.at a line.valid line.legal
     ∙ ap (λ (x : StateSeen). due_by def x scripts a) (sym line.state)

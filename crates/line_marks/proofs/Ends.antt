@@ -143,13 +143,19 @@ module _ (def : LineDef) (c : CpuNo) (s : StateSeen) where
   to again d k = gone_on def again (record (noted_at s) { desc = d; cell = k })
 
   rest_is : (again unmask : Bool) (note : Note) (b : Bool) → (again && not (is_eoi_flow def.flow)) ≡ b
-      → state_after def (entries.End c again unmask note) s ≡ to again (desc_after def (is_bare s.list.actions) (entries.End c again unmask note) s.desc) (driven_by def (entries.End c again unmask note) s.desc false s.cell)
+      → state_after def (entries.End c again unmask note) s
+      ≡ to again (desc_after def (is_bare s.list.actions) (entries.End c again unmask note) s.desc)
+      (driven_by def (entries.End c again unmask note) s.desc false s.cell)
   rest_is true unmask note true h = rw h refl
   rest_is true unmask note false h = rw h refl
   rest_is false unmask note b h = refl
 
   parts_are : (f : FlowKind) (note : Note) → left_at def f (is_held s) (killed_by note (noted_at s))
-      ≡ record (noted_at s) { desc = ended def c (is_bare s.list.actions) (is_held s) s.desc f (killed_if note s.desc); cell = cell_to def c (is_bare s.list.actions) (is_held s) s.desc (killed_if note s.desc) (killed_cell def c (is_bare s.list.actions) (is_held s) s.desc note s.cell) f }
+      ≡ record (noted_at s) {
+        desc = ended def c (is_bare s.list.actions) (is_held s) s.desc f (killed_if note s.desc);
+        cell = cell_to def c (is_bare s.list.actions) (is_held s) s.desc (killed_if note s.desc)
+            (killed_cell def c (is_bare s.list.actions) (is_held s) s.desc note s.cell) f;
+      }
   parts_are flows.Level notes.Quiet = refl
   parts_are flows.Level notes.Counted = refl
   parts_are flows.Level notes.Killed = refl
@@ -160,13 +166,15 @@ module _ (def : LineDef) (c : CpuNo) (s : StateSeen) where
   parts_are flows.Eoi notes.Counted = refl
   parts_are flows.Eoi notes.Killed = refl
 
-  end_with_is : (note : Note) → state_after def (end_with c note (left def.flow note)) s ≡ gone_on def (left def.flow note).again (left_at def def.flow (is_held s) (killed_by note (noted_at s)))
+  end_with_is : (note : Note) → state_after def (end_with c note (left def.flow note)) s
+      ≡ gone_on def (left def.flow note).again (left_at def def.flow (is_held s) (killed_by note (noted_at s)))
   end_with_is note =
       let l = left_by def def.flow (is_held s) (killed_if note s.desc) in
       let bare = is_bare s.list.actions in
       rest_is l.again l.unmask note (l.again && not (is_eoi_flow def.flow)) refl
       ∙ (ap (λ (d : DescSeen). to l.again d (driven_by def (end_with c note l) s.desc false s.cell)) (on_flow def c bare (is_held s) s.desc def.flow note refl)
-      ∙ (ap (λ (k : Cell). to l.again (ended def c bare (is_held s) s.desc def.flow (killed_if note s.desc)) k) (cell_is def c bare (is_held s) s.desc def.flow note s.cell refl)
+      ∙ (ap (λ (k : Cell). to l.again (ended def c bare (is_held s) s.desc def.flow (killed_if note s.desc)) k)
+      (cell_is def c bare (is_held s) s.desc def.flow note s.cell refl)
       ∙ ap (gone_on def l.again) (sym (parts_are def.flow note))))
 
 -- an end that is as the state says
@@ -175,7 +183,10 @@ pub end_is : (def : LineDef) (c : CpuNo) (again unmask : Bool) (note : Note) (s 
     → state_after def (entries.End c again unmask note) s ≡ gone_on def again (left_at def def.flow (is_held s) (killed_by note (noted_at s)))
 end_is def c again unmask note s is =
     ap (λ (e : Entry). state_after def e s) is
-    ∙ (end_with_is def c s (note_by s) ∙ (ap (λ a. gone_on def a (left_at def def.flow (is_held s) (killed_by (note_by s) (noted_at s)))) (sym (ap again_of is)) ∙ ap (λ (n : Note). gone_on def again (left_at def def.flow (is_held s) (killed_by n (noted_at s)))) (sym (ap note_of is))))
+    ∙ (end_with_is def c s (note_by s) ∙ (ap (λ a. gone_on def a
+    (left_at def def.flow (is_held s) (killed_by (note_by s) (noted_at s)))) (sym (ap again_of is))
+    ∙ ap (λ (n : Note). gone_on def again (left_at def def.flow (is_held s) (killed_by n (noted_at s))))
+    (sym (ap note_of is))))
   where
     again_of : Entry → Bool
     again_of (entries.End cpu a u n) = a

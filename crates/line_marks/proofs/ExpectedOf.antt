@@ -32,7 +32,8 @@ module _ (def : LineDef) (past : List Entry) (valid : IsValid def) (legal : IsLe
   space = has_space def past valid few
 
   ended : (c : CpuNo) (again unmask : Bool) (note : Note) → IsDue def (entries.End c again unmask note) past
-      → entries.End c again unmask note ≡ end_with c (note_of def past) (left_by def def.flow (is_held (state_of def past)) (killed_if (note_of def past) (state_of def past).desc))
+      → entries.End c again unmask note ≡ end_with c (note_of def past)
+      (left_by def def.flow (is_held (state_of def past)) (killed_if (note_of def past) (state_of def past).desc))
   ended c again unmask note due =
       let e = end_due def c again unmask note past due in
       rw (e.again_is, e.unmask_is, e.note_is) (sym (end_shape def c past) ∙ end_is def c past def.flow (note_of def past))

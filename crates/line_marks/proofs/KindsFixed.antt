@@ -15,7 +15,8 @@ stuck : (xs : List DeviceDef) (d : DevNo) → list_any (is_device d) xs ≡ fals
 stuck [] d h = refl
 stuck (x ∷ xs) d h = by_test (is_device d x) h (stuck xs d)
   where
-    by_test : (b : Bool) → (b || list_any (is_device d) xs) ≡ false → (list_any (is_device d) xs ≡ false → kind_in xs d ≡ kinds.Stuck) → cond b x.kind (kind_in xs d) ≡ kinds.Stuck
+    by_test : (b : Bool) → (b || list_any (is_device d) xs) ≡ false
+        → (list_any (is_device d) xs ≡ false → kind_in xs d ≡ kinds.Stuck) → cond b x.kind (kind_in xs d) ≡ kinds.Stuck
     by_test true i rest = cc
     by_test false i rest = rest i
 

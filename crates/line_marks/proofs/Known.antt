@@ -34,15 +34,18 @@ pub passes : (p : DevNo → Bool) (d : DevNo) (xs : List DevNo) → list_any (sa
 passes p d [] h = cc
 passes p d (x ∷ xs) h = by_test (p x) refl h (passes p d xs)
   where
-    by_head : (b : Bool) → same_dev d x ≡ b → p x ≡ true → (b || list_any (same_dev d) (filter p xs)) ≡ true → (list_any (same_dev d) (filter p xs) ≡ true → p d ≡ true) → p d ≡ true
+    by_head : (b : Bool) → same_dev d x ≡ b → p x ≡ true → (b || list_any (same_dev d) (filter p xs)) ≡ true
+        → (list_any (same_dev d) (filter p xs) ≡ true → p d ≡ true) → p d ≡ true
     by_head true is on i rest = ap p (dev_from_same d x is) ∙ on
     by_head false is on i rest = rest i
 
-    by_test : (b : Bool) → p x ≡ b → list_any (same_dev d) (cond b (x ∷ filter p xs) (filter p xs)) ≡ true → (list_any (same_dev d) (filter p xs) ≡ true → p d ≡ true) → p d ≡ true
+    by_test : (b : Bool) → p x ≡ b → list_any (same_dev d) (cond b (x ∷ filter p xs) (filter p xs)) ≡ true
+        → (list_any (same_dev d) (filter p xs) ≡ true → p d ≡ true) → p d ≡ true
     by_test true is i rest = by_head (same_dev d x) refl is i rest
     by_test false is i rest = rest i
 
-pub linked_named : (def : LineDef) (past : List Entry) (d : DevNo) → Kept def past → list_any (same_dev d) (linked past) ≡ true → list_any (is_device d) def.devices ≡ true
+pub linked_named : (def : LineDef) (past : List Entry) (d : DevNo) → Kept def past
+    → list_any (same_dev d) (linked past) ≡ true → list_any (is_device d) def.devices ≡ true
 linked_named def past d k i = there_named def past k d (ap (λ b. b || is_being_freed past d) (passes (is_linked past) d (requested past) i))
 
 pub same_test : (a b : Bool) → (a ≡ true → b ≡ true) → (b ≡ true → a ≡ true) → a ≡ b
@@ -53,7 +56,8 @@ same_test false true f g = let x = g refl in cc
 
 pub linked_known : (def : LineDef) (past : List Entry) (d : DevNo) → IsValid def → IsLegalPast def past → is_linked past d ≡ has d (actions_of past)
 linked_known def past d valid legal =
-    same_test (is_linked past d) (list_any (same_dev d) (linked past)) (λ on. of_linked (same_dev d) past d on (same_self d)) (λ on. passes (is_linked past) d (requested past) on)
+    same_test (is_linked past d) (list_any (same_dev d) (linked past))
+    (λ on. of_linked (same_dev d) past d on (same_self d)) (λ on. passes (is_linked past) d (requested past) on)
     ∙ sym (has_of (linking_flags past) d (actions_of past) (linked past) (actions_are def past valid legal))
 
 -- ---- the threads
@@ -66,7 +70,8 @@ contrary : {P : Type 0} (b : Bool) → b ≡ true → b ≡ false → P
 contrary b h i = cc
 
 -- a device that the line lacks has no thread at work
-pub no_thread : (def : LineDef) (past : List Entry) (d : DevNo) → Kept def past → list_any (is_device d) def.devices ≡ false → (is_running past d ≡ false) × (is_woken past d ≡ false)
+pub no_thread : (def : LineDef) (past : List Entry) (d : DevNo) → Kept def past
+    → list_any (is_device d) def.devices ≡ false → (is_running past d ≡ false) × (is_woken past d ≡ false)
 no_thread def past d k gone = (
   is_off (is_running past d) (λ on. contrary (list_any (is_device d) def.devices) (there_named def past k d (running_there def past k d on)) gone),
   is_off (is_woken past d) (λ on. contrary (list_any (is_device d) def.devices) (there_named def past k d (woken_there def past k d on)) gone),
@@ -78,7 +83,8 @@ in_run true false f = refl
 in_run true true false = refl
 in_run true true true = refl
 
-pub held_known : (past : List Entry) (xs : List DeviceDef) → list_any (λ (x : DeviceDef). is_unfinished past x.dev) xs ≡ ltb 0 (held_in (table_by (thread_of past) xs))
+pub held_known : (past : List Entry) (xs : List DeviceDef)
+    → list_any (λ (x : DeviceDef). is_unfinished past x.dev) xs ≡ ltb 0 (held_in (table_by (thread_of past) xs))
 held_known past [] = refl
 held_known past (x ∷ xs) = by_test (is_unfinished past x.dev) (held_known past xs)
   where

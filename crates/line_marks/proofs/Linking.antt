@@ -46,10 +46,29 @@ module _ (def : LineDef) (flags : Flags) (s : StateSeen) where
   fits_start = record { one = λ h i. absurd (false≢true (sym h)); which = λ h. inr refl; resends = λ h. refl; lowers = λ h. cc }
 
   at_depth : (a b : Bool) → s.desc.depth == 0 ≡ a → s.desc.depth == 1 ≡ b
-      → Fits def false (opened_by_enable (cond (a || false) enables.Unbalanced (cond b (enables.Started (resend_by def.trigger s.desc s.cell)) enables.Lowered))) s
-  at_depth true b zero one = record { one = λ h i. absurd (false≢true i); which = λ h. absurd (false≢true h); resends = λ h. absurd (false≢true h); lowers = λ h. cc }
-  at_depth false true zero one = record { one = λ h i. eqb-true s.desc.depth 1 one; which = λ h. absurd (false≢true h); resends = λ h. refl; lowers = λ h. not_zero s.desc.depth zero }
-  at_depth false false zero one = record { one = λ h i. absurd (false≢true i); which = λ h. absurd (false≢true h); resends = λ h. absurd (false≢true h); lowers = λ h. not_zero s.desc.depth zero }
+      → Fits def false (opened_by_enable (cond (a || false) enables.Unbalanced
+      (cond b (enables.Started (resend_by def.trigger s.desc s.cell)) enables.Lowered))) s
+  at_depth true b zero one = record {
+    one = λ h i. absurd (false≢true i);
+    which = λ h. absurd (false≢true h);
+    resends
+        = λ h. absurd (false≢true h);
+    lowers = λ h. cc;
+  }
+  at_depth false true zero one = record {
+    one = λ h i. eqb-true s.desc.depth 1 one;
+    which
+        = λ h. absurd (false≢true h);
+    resends = λ h. refl;
+    lowers = λ h. not_zero s.desc.depth zero;
+  }
+  at_depth false false zero one = record {
+    one = λ h i. absurd (false≢true i);
+    which
+        = λ h. absurd (false≢true h);
+    resends = λ h. absurd (false≢true h);
+    lowers = λ h. not_zero s.desc.depth zero;
+  }
 
   by_mark : (m : Bool) → Fits def false (cond m (opened_by_enable (enable_by true def.trigger s.desc s.cell)) opens.No) s
   by_mark true = at_depth (s.desc.depth == 0) (s.desc.depth == 1) refl refl
@@ -59,7 +78,9 @@ module _ (def : LineDef) (flags : Flags) (s : StateSeen) where
   by_noauto true = fits_no true
   by_noauto false = fits_start
 
-  by_bare : (b : Bool) → Fits def b (cond b (cond flags.noauto opens.No (opens.Started (resend_by def.trigger s.desc s.cell))) (cond s.desc.spurious (opened_by_enable (enable_by (not b) def.trigger s.desc s.cell)) opens.No)) s
+  by_bare : (b : Bool) → Fits def b (cond b (cond flags.noauto opens.No
+      (opens.Started (resend_by def.trigger s.desc s.cell)))
+      (cond s.desc.spurious (opened_by_enable (enable_by (not b) def.trigger s.desc s.cell)) opens.No)) s
   by_bare true = by_noauto flags.noauto
   by_bare false = by_mark s.desc.spurious
 
@@ -81,7 +102,8 @@ module _ (def : LineDef) (r : DriverNo) (d : DevNo) (flags : Flags) where
   masks_not flows.Eoi o opened = refl
 
   abbrev IsOpened : Opened → Bool → StateSeen → Type 0
-  IsOpened opened first s = state_after def (entries.Request r d flags links.Linked opened) s ≡ opened_to first opened (activated_if first (linked_at d flags s))
+  IsOpened opened first s = state_after def (entries.Request r d flags links.Linked opened) s
+      ≡ opened_to first opened (activated_if first (linked_at d flags s))
 
   by_first : (opened : Opened) (first : Bool) (s : StateSeen) → is_bare s.list.actions ≡ first → Fits def first opened s → IsOpened opened first s
   by_first opens.No true s is fit = rw (masks_not def.flow s.desc.oneshot opens.No, is) refl
@@ -101,12 +123,26 @@ module _ (def : LineDef) (r : DriverNo) (d : DevNo) (flags : Flags) where
   by_first (opens.Started resends.No) true s is fit = rw (masks_not def.flow s.desc.oneshot (opens.Started resends.No), is) refl
   by_first (opens.Started resends.Chip) true s is fit = rw (masks_not def.flow s.desc.oneshot (opens.Started resends.Chip), is) refl
   by_first (opens.Started resends.Soft) true s is fit = rw (masks_not def.flow s.desc.oneshot (opens.Started resends.Soft), is) refl
-  by_first (opens.Started resends.No) false s is fit = rw (masks_not def.flow s.desc.oneshot (opens.Started resends.No), is, less_one s.desc.depth (fit.one refl refl)) refl
-  by_first (opens.Started resends.Chip) false s is fit = rw (masks_not def.flow s.desc.oneshot (opens.Started resends.Chip), is, less_one s.desc.depth (fit.one refl refl)) refl
-  by_first (opens.Started resends.Soft) false s is fit = rw (masks_not def.flow s.desc.oneshot (opens.Started resends.Soft), is, less_one s.desc.depth (fit.one refl refl)) refl
+  by_first (opens.Started resends.No) false s is fit = rw
+      (masks_not def.flow s.desc.oneshot (opens.Started resends.No), is, less_one s.desc.depth (fit.one refl refl)) refl
+  by_first (opens.Started resends.Chip) false s is fit
+      = rw (
+        masks_not def.flow s.desc.oneshot (opens.Started resends.Chip),
+        is,
+        less_one s.desc.depth
+            (fit.one refl refl),
+      ) refl
+  by_first (opens.Started resends.Soft) false s is fit
+      = rw (
+        masks_not def.flow s.desc.oneshot (opens.Started resends.Soft),
+        is,
+        less_one s.desc.depth
+            (fit.one refl refl),
+      ) refl
 
   pub request_is : (opened : Opened) (s : StateSeen) → opened ≡ opened_by def flags s
-      → state_after def (entries.Request r d flags links.Linked opened) s ≡ opened_to (is_bare s.list.actions) opened (activated_if (is_bare s.list.actions) (linked_at d flags s))
+      → state_after def (entries.Request r d flags links.Linked opened) s
+      ≡ opened_to (is_bare s.list.actions) opened (activated_if (is_bare s.list.actions) (linked_at d flags s))
   request_is opened s is =
       by_first opened (is_bare s.list.actions) s refl (subst (λ (o : Opened). Fits def (is_bare s.list.actions) o s) (sym is) (fits def flags s))
 

@@ -17,7 +17,8 @@ use Rattle.act_list.specs.Lists.{ListSeen, cleared, after_begin_round}
 use Rattle.line_marks.proofs.RoundsFollow.{in_round}
 use Rattle.line_marks.specs.Actions.{actions_of, list_of, list_after}
 
-begun_more : (def : LineDef) (e : Entry) (past : List Entry) (d : DevNo) → has_begun def (e ∷ past) d ≡ cond (begins_round def e) false (is_begin d e || has_begun def past d)
+begun_more : (def : LineDef) (e : Entry) (past : List Entry) (d : DevNo)
+    → has_begun def (e ∷ past) d ≡ cond (begins_round def e) false (is_begin d e || has_begun def past d)
 begun_more def e past d = in_round def (is_begin d) e past
 
 cleared_is : (f : DevNo → Bool) (xs : List DeviceDef) → table_by (λ d. false) xs ≡ cleared (table_by f xs)
@@ -28,13 +29,17 @@ same_list : (a b : ListSeen) → a.actions ≡ b.actions → a.begun ≡ b.begun
 same_list a b h i j = (let e : ◌≡◌ {A = ListSeen} (record { actions = a.actions; begun = a.begun; rounds = a.rounds }) b = rw (h, i, j) refl in e)
 
 -- an entry that begins a round or none, and calls no handler
-quiet : (def : LineDef) (e : Entry) (past : List Entry) → actions_of (e ∷ past) ≡ actions_of past → ((d : DevNo) → is_begin d e ≡ false) → list_of def (e ∷ past) ≡ cond (begins_round def e) (after_begin_round (list_of def past)) (list_of def past)
+quiet : (def : LineDef) (e : Entry) (past : List Entry) → actions_of (e ∷ past) ≡ actions_of past
+    → ((d : DevNo) → is_begin d e ≡ false) → list_of def (e ∷ past)
+    ≡ cond (begins_round def e) (after_begin_round (list_of def past)) (list_of def past)
 quiet def e past same h = by_test (begins_round def e) refl (λ d. begun_more def e past d)
   where
     l : ListSeen
     l = list_of def past
 
-    by_test : (b : Bool) → begins_round def e ≡ b → ((d : DevNo) → has_begun def (e ∷ past) d ≡ cond b false (is_begin d e || has_begun def past d)) → list_of def (e ∷ past) ≡ cond b (after_begin_round l) l
+    by_test : (b : Bool) → begins_round def e ≡ b → ((d : DevNo)
+        → has_begun def (e ∷ past) d ≡ cond b false (is_begin d e || has_begun def past d))
+        → list_of def (e ∷ past) ≡ cond b (after_begin_round l) l
     by_test true is n =
         same_list (list_of def (e ∷ past)) (after_begin_round l) same
         (same_table (λ d. false) (has_begun def (e ∷ past)) def.devices n ∙ cleared_is (has_begun def past) def.devices) (rw is refl)
@@ -45,7 +50,8 @@ quiet def e past same h = by_test (begins_round def e) refl (λ d. begun_more de
 pub list_more : (def : LineDef) (e : Entry) (past : List Entry) → IsValid def → list_of def (e ∷ past) ≡ list_after def e (list_of def past)
 list_more def (entries.Begin c x) past valid =
     same_list (list_of def (entries.Begin c x ∷ past)) (list_after def (entries.Begin c x) (list_of def past)) refl
-    (change_any (has_begun def past) (has_begun def (entries.Begin c x ∷ past)) (λ b. true) def.devices x valid.distinct (rw (same_self x) refl) (λ d apart. rw (same_both d x ∙ apart) refl)) refl
+    (change_any (has_begun def past) (has_begun def (entries.Begin c x ∷ past)) (λ b. true) def.devices x valid.distinct
+    (rw (same_self x) refl) (λ d apart. rw (same_both d x ∙ apart) refl)) refl
 list_more def (entries.Request r x flags links.Linked opened) past valid = refl
 list_more def (entries.Request r x flags (links.Refused error) opened) past valid = refl
 list_more def (entries.Unlink r x (unlinks.Unlinked last)) past valid = refl

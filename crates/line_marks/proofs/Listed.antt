@@ -78,7 +78,8 @@ module _ (f : DevNo → Flags) where
       ∙ ap (λ b. flags_differ new (f d) || b) (mismatch_of new es ds (rest_is e es d ds h))
 
   -- the first that the code finds is the first whose handler wasn't called
-  pub left_of : (p : DevNo → Bool) (begun : List (DevNo × Bool)) (t : List (DevNo × Action)) (ds : List DevNo) → Lists t ds → ((d : DevNo) → list_any (same_dev d) ds ≡ true → begun_at begun d ≡ p d)
+  pub left_of : (p : DevNo → Bool) (begun : List (DevNo × Bool)) (t : List (DevNo × Action)) (ds : List DevNo)
+      → Lists t ds → ((d : DevNo) → list_any (same_dev d) ds ≡ true → begun_at begun d ≡ p d)
       → first_left begun t ≡ first_by p ds
   left_of p begun [] [] h told = refl
   left_of p begun [] (d ∷ ds) h told = cc
@@ -86,4 +87,6 @@ module _ (f : DevNo → Flags) where
   left_of p begun (e ∷ es) (d ∷ ds) h told =
       ap (λ (y : DevNo). cond (begun_at begun y) (first_left begun es) (Some y)) (dev_is e es d ds h)
       ∙ (ap (λ b. cond b (first_left begun es) (Some d)) (told d (ap (λ b. b || list_any (same_dev d) ds) (same_self d)))
-      ∙ ap (λ (o : Option DevNo). cond (p d) o (Some d)) (left_of p begun es ds (rest_is e es d ds h) (λ x i. told x (ap (λ b. same_dev x d || b) i ∙ or_true (same_dev x d)))))
+      ∙ ap (λ (o : Option DevNo). cond (p d) o (Some d))
+      (left_of p begun es ds (rest_is e es d ds h)
+      (λ x i. told x (ap (λ b. same_dev x d || b) i ∙ or_true (same_dev x d)))))

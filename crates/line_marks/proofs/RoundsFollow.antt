@@ -17,7 +17,8 @@ chosen f false x y = refl
 working_more : (e : Entry) (past : List Entry) → at_work (e ∷ past) ≡ cond (is_begin_or_return e) (dev_of_begin (Some e)) (at_work past)
 working_more e past = chosen dev_of_begin (is_begin_or_return e) (Some e) (last_of is_begin_or_return past)
 
-pub in_round : (def : LineDef) (p : Entry → Bool) (e : Entry) (past : List Entry) → list_any p (round def (e ∷ past)) ≡ cond (begins_round def e) false (p e || list_any p (round def past))
+pub in_round : (def : LineDef) (p : Entry → Bool) (e : Entry) (past : List Entry)
+    → list_any p (round def (e ∷ past)) ≡ cond (begins_round def e) false (p e || list_any p (round def past))
 in_round def p e past = by_test (begins_round def e)
   where
     by_test : (b : Bool) → list_any p (cond b [] (e ∷ round def past)) ≡ cond b false (p e || list_any p (round def past))
@@ -29,7 +30,8 @@ now_more (entries.Moment r at) past = refl
 now_more _ past = refl
 
 same_round : (a b : RoundSeen) → a.working ≡ b.working → a.wakes ≡ b.wakes → a.handles ≡ b.handles → a.moment ≡ b.moment → a ≡ b
-same_round a b h i j k = (let e : ◌≡◌ {A = RoundSeen} (record { working = a.working; wakes = a.wakes; handles = a.handles; moment = a.moment }) b = rw (h, i, j, k) refl in e)
+same_round a b h i j k = (let e : ◌≡◌ {A = RoundSeen} (record
+    { working = a.working; wakes = a.wakes; handles = a.handles; moment = a.moment }) b = rw (h, i, j, k) refl in e)
 
 pub round_more : (def : LineDef) (e : Entry) (past : List Entry) → round_of def (e ∷ past) ≡ round_after def e (round_of def past)
 round_more def e past =

@@ -1,5 +1,6 @@
 -- The drivers' places follow the history, for every kind of call.
-use Rattle.std.proofs.Common.{◌≡◌, ℕ, ◌+◌, ◌<◌, ◌≤◌, ◌==◌, Bool, true, false, cond, Option, Some, None, List, [], ◌∷◌, ◌++◌, length, slice_get, refl, sym, ap, subst, ◌∙◌, arith, option_map}
+use Rattle.std.proofs.Common.{◌≡◌, ℕ, ◌+◌, ◌<◌, ◌≤◌, ◌==◌, Bool, true, false, cond, Option, Some, None, List, [], ◌∷◌}
+use Rattle.std.proofs.Common.{◌++◌, length, slice_get, refl, sym, ap, subst, ◌∙◌, arith, option_map}
 use Rattle.std.proofs.lemmas.Bool.{eqb-false}
 use Rattle.irq_base.specs.declared.calls.Call.{Call}
 use Rattle.irq_base.specs.declared.calls.Call.TheVariants as calls
@@ -16,7 +17,9 @@ use Rattle.irq_model.specs.Kinds.{is_by_driver}
 use Rattle.irq_model.specs.Next.{next_past}
 use Rattle.irq_steps.proofs.DueSteps.{due_laid, laid_more, laid_done, laid_within, part_at, part_length, makes_as_many, entries_more, entries_same}
 use Rattle.irq_steps.specs.Laid.{Laid, with_count}
-use Rattle.irq_laws.proofs.ImpliesDriver.{Row, ask, request, unlink, free_clear, freed, disable, disable_clear, disable_synced, nosync, enable, sync_clear, synced, affinity, moment, driver_row}
+use Rattle.irq_laws.proofs.ImpliesDriver.{Row, ask, request, unlink, free_clear, freed, disable, disable_clear}
+use Rattle.irq_laws.proofs.ImpliesDriver.{disable_synced, nosync, enable, sync_clear, synced, affinity, moment}
+use Rattle.irq_laws.proofs.ImpliesDriver.{driver_row}
 use Rattle.line_scripts.specs.Endings.{completes}
 use Rattle.line_marks.specs.Scripts.{IsAt, place_after, within_after}
 
@@ -39,10 +42,12 @@ three : (b : Bool) (n : ℕ) → 1 ≤ n → n < cond b 1 3 → ◌≡◌ {A = �
 three true n a h = absurd (omega arith)
 three false n a h = refl
 
-free_three : (d : DevNo) (es : List Entry) (e : Entry) (n : ℕ) → length es ≡ n → 1 ≤ n → n < entries_of_call (calls.Free d) es → entries_of_call (calls.Free d) (es ++ e ∷ []) ≡ 3
+free_three : (d : DevNo) (es : List Entry) (e : Entry) (n : ℕ) → length es ≡ n → 1 ≤ n
+    → n < entries_of_call (calls.Free d) es → entries_of_call (calls.Free d) (es ++ e ∷ []) ≡ 3
 free_three d es e n len some h = makes_as_many (calls.Free d) es e (omega (arith, len, some)) ∙ three (begins_not_there es) n some h
 
-unlink_goes : (d : DevNo) (r : DriverNo) (answer : UnlinkAnswer) (es : List Entry) → length es ≡ 0 → Goes (completes (calls.Free d) (entries.Unlink r d answer)) (calls.Free d) es (entries.Unlink r d answer) 0
+unlink_goes : (d : DevNo) (r : DriverNo) (answer : UnlinkAnswer) (es : List Entry) → length es ≡ 0
+    → Goes (completes (calls.Free d) (entries.Unlink r d answer)) (calls.Free d) es (entries.Unlink r d answer) 0
 unlink_goes d r unlinks.NotThere [] h = omega arith
 unlink_goes d r (unlinks.Unlinked last) [] h = omega arith
 unlink_goes d r answer (x ∷ es) h = absurd (omega (arith, h))
@@ -62,9 +67,22 @@ GoesBy c n e = (es : List Entry) → length es ≡ n → n < entries_of_call c e
 step_of : (def : LineDef) (r : DriverNo) (due : Option (Call × ℕ)) (past : List Entry) (e : Entry) → Row def r due past e → Step due e
 step_of def r due past e (ask d n is same) = record { call = calls.Ask d; count = n; is = is; goes = λ es len h. one_of n 0 h }
 step_of def r due past e (request d flags n is m same) = record { call = calls.Request d flags; count = n; is = is; goes = λ es len h. one_of n 0 h }
-step_of def r due past e (unlink d is m same) = record { call = calls.Free d; count = 0; is = is; goes = subst (GoesBy (calls.Free d) 0) same (λ es len h. unlink_goes d r _ es len) }
+step_of def r due past e (unlink d is m same) = record {
+  call = calls.Free d;
+  count = 0;
+  is = is;
+  goes
+      = subst (GoesBy (calls.Free d) 0) same (λ es len h. unlink_goes d r _ es len);
+}
 step_of def r due past e (free_clear d is f same) =
-    record { call = calls.Free d; count = 1; is = is; goes = subst (GoesBy (calls.Free d) 1) same (λ es len h. omega (arith, free_three d es (entries.HardClear r) 1 len (omega arith) h)) }
+    record {
+      call = calls.Free d;
+      count = 1;
+      is = is;
+      goes
+          = subst (GoesBy (calls.Free d) 1) same (λ es len h. omega
+          (arith, free_three d es (entries.HardClear r) 1 len (omega arith) h));
+    }
 step_of def r due past e (freed d n is a b w same) =
     record {
       call = calls.Free d;
@@ -75,13 +93,44 @@ step_of def r due past e (freed d n is a b w same) =
           let u : n < 3 = omega (arith, makes_as_many (calls.Free d) es (entries.Freed r d) (omega (arith, len, some_there n a)), t, h) in
           two_left n a b u ∙ sym t);
     }
-step_of def r due past e (disable is same) = record { call = calls.Disable; count = 0; is = is; goes = subst (GoesBy calls.Disable 0) same (λ es len h. omega arith) }
-step_of def r due past e (disable_clear is f same) = record { call = calls.Disable; count = 1; is = is; goes = subst (GoesBy calls.Disable 1) same (λ es len h. omega arith) }
-step_of def r due past e (disable_synced n is a b w same) = record { call = calls.Disable; count = n; is = is; goes = subst (GoesBy calls.Disable n) same (λ es len h. two_left n a b h) }
+step_of def r due past e (disable is same) = record {
+  call = calls.Disable;
+  count = 0;
+  is = is;
+  goes
+      = subst (GoesBy calls.Disable 0) same (λ es len h. omega arith);
+}
+step_of def r due past e (disable_clear is f same) = record {
+  call = calls.Disable;
+  count = 1;
+  is = is;
+  goes
+      = subst (GoesBy calls.Disable 1) same (λ es len h. omega arith);
+}
+step_of def r due past e (disable_synced n is a b w same)
+    = record {
+      call = calls.Disable;
+      count = n;
+      is = is;
+      goes
+          = subst (GoesBy calls.Disable n) same (λ es len h. two_left n a b h);
+    }
 step_of def r due past e (nosync n is same) = record { call = calls.DisableNosync; count = n; is = is; goes = λ es len h. one_of n 0 h }
 step_of def r due past e (enable n is same) = record { call = calls.Enable; count = n; is = is; goes = λ es len h. one_of n 0 h }
-step_of def r due past e (sync_clear is f same) = record { call = calls.Sync; count = 0; is = is; goes = subst (GoesBy calls.Sync 0) same (λ es len h. omega arith) }
-step_of def r due past e (synced n is a w same) = record { call = calls.Sync; count = n; is = is; goes = subst (GoesBy calls.Sync n) same (λ es len h. one_left n a h) }
+step_of def r due past e (sync_clear is f same) = record {
+  call = calls.Sync;
+  count = 0;
+  is = is;
+  goes
+      = subst (GoesBy calls.Sync 0) same (λ es len h. omega arith);
+}
+step_of def r due past e (synced n is a w same) = record {
+  call = calls.Sync;
+  count = n;
+  is = is;
+  goes
+      = subst (GoesBy calls.Sync n) same (λ es len h. one_left n a h);
+}
 step_of def r due past e (affinity mask n is same) = record { call = calls.Affinity mask; count = n; is = is; goes = λ es len h. one_of n 0 h }
 step_of def r due past e (moment at n is same) = record { call = calls.Moment at; count = n; is = is; goes = λ es len h. one_of n 0 h }
 
@@ -95,12 +144,16 @@ found (Some x) k c n h =
     let some : Some k ≡ Some n = ap second h in
     (ap first h, (let e : k ≡ n = cc in e))
 
-goes_to : (b : Bool) (cs : List Call) (es : List Entry) (p k : ℕ) (c : Call) (e : Entry) → Laid cs es p k → slice_get cs p ≡ Some c → Goes b c (part_at cs es p) e k → Laid cs (es ++ e ∷ []) (place_after b p) (within_after b k)
+goes_to : (b : Bool) (cs : List Call) (es : List Entry) (p k : ℕ) (c : Call) (e : Entry) → Laid cs es p k
+    → slice_get cs p ≡ Some c → Goes b c (part_at cs es p) e k
+    → Laid cs (es ++ e ∷ []) (place_after b p) (within_after b k)
 goes_to true cs es p k c e h at g = laid_done cs es p k c e h at g
 goes_to false cs es p k c e h at g = laid_more cs es p k c e h at g
 
 -- the driver whose entry it is
-pub own_place : (def : LineDef) (past : List Entry) (e : Entry) (w : DriverNo) (p k : ℕ) (c : Call) (n : ℕ) → next_past def past (actors.Driver w) ≡ Some e → is_by_driver w e ≡ true → due_call def w past ≡ Some (c, n) → IsAt def past w p k
+pub own_place : (def : LineDef) (past : List Entry) (e : Entry) (w : DriverNo) (p k : ℕ) (c : Call) (n : ℕ)
+    → next_past def past (actors.Driver w) ≡ Some e → is_by_driver w e ≡ true → due_call def w past ≡ Some (c, n)
+    → IsAt def past w p k
     → IsAt def (e ∷ past) w (place_after (completes c e) p) (within_after (completes c e) k)
 own_place def past e w p k c n due by call at =
     let cs = calls_by w def.calls in
@@ -119,5 +172,6 @@ own_place def past e w p k c n due by call at =
     (goes_to (completes c e) cs es p k c e at here.0 (goes (part_at cs es p) len within))
 
 -- any other
-pub other_place : (def : LineDef) (past : List Entry) (e : Entry) (r : DriverNo) (p k : ℕ) → is_by_driver r e ≡ false → IsAt def past r p k → IsAt def (e ∷ past) r p k
+pub other_place : (def : LineDef) (past : List Entry) (e : Entry) (r : DriverNo) (p k : ℕ) → is_by_driver r e ≡ false
+    → IsAt def past r p k → IsAt def (e ∷ past) r p k
 other_place def past e r p k by at = subst (λ (xs : List Entry). Laid (calls_by r def.calls) xs p k) (sym (entries_same r e past by)) at

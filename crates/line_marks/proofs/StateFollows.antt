@@ -20,7 +20,8 @@ use Rattle.line_marks.proofs.UpFollow.{active_follows}
 use Rattle.line_marks.specs.Desc.{desc_of, desc_after}
 use Rattle.line_marks.specs.State.{StateSeen, first_state, state_of, state_after}
 
-same_state : (a b : StateSeen) → a.desc ≡ b.desc → a.cell ≡ b.cell → a.active ≡ b.active → a.aimed ≡ b.aimed → a.aim ≡ b.aim → a.list ≡ b.list → a.threads ≡ b.threads → a.asks ≡ b.asks → a.kinds ≡ b.kinds → a.round ≡ b.round
+same_state : (a b : StateSeen) → a.desc ≡ b.desc → a.cell ≡ b.cell → a.active ≡ b.active → a.aimed ≡ b.aimed
+    → a.aim ≡ b.aim → a.list ≡ b.list → a.threads ≡ b.threads → a.asks ≡ b.asks → a.kinds ≡ b.kinds → a.round ≡ b.round
     → a.counts ≡ b.counts → a.freeing ≡ b.freeing → a ≡ b
 same_state a b h i j k l m n o p q r s =
     (let e : ◌≡◌ {A = StateSeen} (record {
@@ -38,7 +39,8 @@ same_state a b h i j k l m n o p q r s =
       freeing = a.freeing;
     }) b = rw (h, i, j, k, l, m, n, o, p, q, r, s) refl in e)
 
-pub state_follows : (def : LineDef) (e : Entry) (past : List Entry) → IsValid def → IsLegalPast def (e ∷ past) → state_of def (e ∷ past) ≡ state_after def e (state_of def past)
+pub state_follows : (def : LineDef) (e : Entry) (past : List Entry) → IsValid def → IsLegalPast def (e ∷ past)
+    → state_of def (e ∷ past) ≡ state_after def e (state_of def past)
 state_follows def e past valid legal =
     same_state (state_of def (e ∷ past)) (state_after def e (state_of def past))
     (desc_follows def e past valid legal ∙ ap (λ b. desc_after def b e (desc_of def past)) (sym (bare_is def past valid legal.1)))

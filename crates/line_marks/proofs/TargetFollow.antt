@@ -33,7 +33,8 @@ below_from : (mask c n : ℕ) (k : CpuNo) → lowest_from mask c n ≡ Some k �
 below_from mask c zero k h = cc
 below_from mask c (suc n) k h = by_test (is_in_mask mask c) h (below_from mask (c + 1) n k)
   where
-    by_test : (b : Bool) → cond b (Some (record { 0 = c })) (lowest_from mask (c + 1) n) ≡ Some k → (lowest_from mask (c + 1) n ≡ Some k → k.0 < (c + 1) + n) → k.0 < c + suc n
+    by_test : (b : Bool) → cond b (Some (record { 0 = c })) (lowest_from mask (c + 1) n) ≡ Some k
+        → (lowest_from mask (c + 1) n ≡ Some k → k.0 < (c + 1) + n) → k.0 < c + suc n
     by_test true is deeper = (let e : k.0 ≡ c = sym (ap number is) in omega (arith, e))
       where
         number : Option CpuNo → ℕ

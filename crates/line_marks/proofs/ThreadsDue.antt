@@ -1,5 +1,6 @@
 -- What is due of a thread by the table of steps is due by the state.
-use Rattle.std.proofs.Common.{◌≡◌, ℕ, ◌+◌, ◌-◌, ◌≤◌, Bool, true, false, not, ◌||◌, ◌&&◌, cond, ltb, Option, Some, None, List, [], ◌∷◌, refl, sym, ap, subst, ◌∙◌, arith}
+use Rattle.std.proofs.Common.{◌≡◌, ℕ, ◌+◌, ◌-◌, ◌≤◌, Bool, true, false, not, ◌||◌, ◌&&◌, cond, ltb, Option, Some, None}
+use Rattle.std.proofs.Common.{List, [], ◌∷◌, refl, sym, ap, subst, ◌∙◌, arith}
 use Rattle.std.proofs.lemmas.Bool.Decides.{nat_tests}
 use Rattle.std.specs.List.{list_any}
 use Rattle.irq_base.specs.declared.devices.DeviceDef.{DeviceDef}
@@ -34,11 +35,14 @@ use Rattle.line_marks.specs.State.{state_of}
 
 -- ---- the bits of the others
 
-none_of : (f : DevNo → ThreadRow) (d : DevNo) (xs : List DeviceDef) → list_any (is_device d) xs ≡ false → list_any (λ (x : DeviceDef). not (same_dev d x.dev) && (f x.dev).held) xs ≡ ltb 0 (held_in (table_by f xs))
+none_of : (f : DevNo → ThreadRow) (d : DevNo) (xs : List DeviceDef) → list_any (is_device d) xs ≡ false
+    → list_any (λ (x : DeviceDef). not (same_dev d x.dev) && (f x.dev).held) xs ≡ ltb 0 (held_in (table_by f xs))
 none_of f d [] h = refl
 none_of f d (x ∷ xs) h = by_test (same_dev d x.dev) (f x.dev).held h (none_of f d xs)
   where
-    by_test : (b u : Bool) → (b || list_any (is_device d) xs) ≡ false → (list_any (is_device d) xs ≡ false → list_any (λ (y : DeviceDef). not (same_dev d y.dev) && (f y.dev).held) xs ≡ ltb 0 (held_in (table_by f xs)))
+    by_test : (b u : Bool) → (b || list_any (is_device d) xs) ≡ false
+        → (list_any (is_device d) xs ≡ false → list_any (λ (y : DeviceDef). not (same_dev d y.dev) && (f y.dev).held) xs
+        ≡ ltb 0 (held_in (table_by f xs)))
         → ((not b && u) || list_any (λ (y : DeviceDef). not (same_dev d y.dev) && (f y.dev).held) xs) ≡ ltb 0 (one_if u + held_in (table_by f xs))
     by_test true u i rest = cc
     by_test false true i rest = grind (arith, nat_tests)
@@ -65,13 +69,15 @@ others f d (x ∷ xs) own h = by_test (same_dev d x.dev) refl h (others f d xs o
     among : (ys : List DeviceDef) → list_any (is_device d) ys ≡ true → one_if (f d).held ≤ held_in (table_by f ys)
     among ys i = weight_has (λ (r : ThreadRow). one_if r.held) (table_by f ys) d (f d) (at_device f ys d i)
 
-    by_test : (b : Bool) → same_dev d x.dev ≡ b → (b || list_any (is_device d) xs) ≡ true → (list_any (is_device d) xs ≡ true → others_of xs ≡ ltb 0 (held_in (table_by f xs) - one_if (f d).held))
+    by_test : (b : Bool) → same_dev d x.dev ≡ b → (b || list_any (is_device d) xs) ≡ true
+        → (list_any (is_device d) xs ≡ true → others_of xs ≡ ltb 0 (held_in (table_by f xs) - one_if (f d).held))
         → ((not b && (f x.dev).held) || others_of xs) ≡ ltb 0 ((one_if (f x.dev).held + held_in (table_by f xs)) - one_if (f d).held)
     by_test true is i rest =
         let e : d ≡ x.dev = dev_from_same d x.dev is in
         let none : list_any (is_device d) xs ≡ false = subst (λ (y : DevNo). list_any (is_device y) xs ≡ false) (sym e) own.0 in
         none_of f d xs none
-        ∙ (ap (ltb 0) (one_more (f d).held (held_in (table_by f xs))) ∙ ap (λ (y : DevNo). ltb 0 ((one_if (f y).held + held_in (table_by f xs)) - one_if (f d).held)) e)
+        ∙ (ap (ltb 0) (one_more (f d).held (held_in (table_by f xs)))
+        ∙ ap (λ (y : DevNo). ltb 0 ((one_if (f y).held + held_in (table_by f xs)) - one_if (f d).held)) e)
     by_test false is i rest = joined (f d).held (f x.dev).held (held_in (table_by f xs)) (others_of xs) (among xs i) (rest i)
 
 -- ---- the rows of the table
@@ -92,29 +98,40 @@ is_off true h = absurd (h refl)
 is_off false h = refl
 
 -- a device that the line lacks has no thread at work
-pub no_thread : (def : LineDef) (past : List Entry) (d : DevNo) → Kept def past → list_any (is_device d) def.devices ≡ false → (is_running past d ≡ false) × (is_woken past d ≡ false)
+pub no_thread : (def : LineDef) (past : List Entry) (d : DevNo) → Kept def past
+    → list_any (is_device d) def.devices ≡ false → (is_running past d ≡ false) × (is_woken past d ≡ false)
 no_thread def past d k gone = (
   is_off (is_running past d) (λ on. contrary (list_any (is_device d) def.devices) (there_named def past k d (running_there def past k d on)) gone),
   is_off (is_woken past d) (λ on. contrary (list_any (is_device d) def.devices) (there_named def past k d (woken_there def past k d on)) gone),
 )
 
-other_held : (def : LineDef) (past : List Entry) (d : DevNo) → IsValid def → list_any (is_device d) def.devices ≡ true → is_other_unfinished def past d ≡ others_held (state_of def past) (thread_of past d)
+other_held : (def : LineDef) (past : List Entry) (d : DevNo) → IsValid def → list_any (is_device d) def.devices ≡ true
+    → is_other_unfinished def past d ≡ others_held (state_of def past) (thread_of past d)
 other_held def past d valid there = others (thread_of past) d def.devices valid.distinct there
 
-opens_is : (def : LineDef) (past : List Entry) (d : DevNo) → IsValid def → list_any (is_device d) def.devices ≡ true → finish_unmasks def d past ≡ finish_opens (state_of def past) (thread_of past d)
-opens_is def past d valid there = ap (λ b. not (is_woken past d) && (not (is_disabled past) && (is_masked def past && not b))) (other_held def past d valid there)
+opens_is : (def : LineDef) (past : List Entry) (d : DevNo) → IsValid def → list_any (is_device d) def.devices ≡ true
+    → finish_unmasks def d past ≡ finish_opens (state_of def past) (thread_of past d)
+opens_is def past d valid there = ap (λ b. not (is_woken past d) &&
+    (not (is_disabled past) && (is_masked def past && not b))) (other_held def past d valid there)
 
-by_stage : (def : LineDef) (past : List Entry) (d : DevNo) (r t f : Bool) → IsValid def → list_any (is_device d) def.devices ≡ true → is_running past d ≡ r → has_returned past d ≡ t → has_finished past d ≡ f
+by_stage : (def : LineDef) (past : List Entry) (d : DevNo) (r t f : Bool) → IsValid def
+    → list_any (is_device d) def.devices ≡ true → is_running past d ≡ r → has_returned past d ≡ t
+    → has_finished past d ≡ f
     → next_of_thread def d past ≡ due_at_stage (stage_by r t f) (state_of def past) d (thread_of past d)
 by_stage def past d false t f valid there a b c = rw a refl
-by_stage def past d true false f valid there a b c = rw (a, b) (ap (λ (o : Option AskRow). Some (entries.ThreadReturn d (met_in o))) (sym (at_device (ask_row def past) def.devices d there)))
+by_stage def past d true false f valid there a b c = rw (a, b)
+    (ap (λ (o : Option AskRow). Some (entries.ThreadReturn d (met_in o)))
+    (sym (at_device (ask_row def past) def.devices d there)))
 by_stage def past d true true true valid there a b c = rw (a, b, c) (oneshot_done (is_oneshot past) _ _)
 by_stage def past d true true false valid there a b c =
     rw (a, b, c)
-    (oneshot_on (is_oneshot past) (cond (has_flow def past) None (Some (entries.Finish d (is_woken past d) (finish_unmasks def d past)))) (Some (entries.Done d))
-    ∙ ap (λ u. cond (is_oneshot past) (cond (has_flow def past) None (Some (entries.Finish d (is_woken past d) u))) (Some (entries.Done d))) (opens_is def past d valid there))
+    (oneshot_on (is_oneshot past) (cond (has_flow def past) None
+    (Some (entries.Finish d (is_woken past d) (finish_unmasks def d past)))) (Some (entries.Done d))
+    ∙ ap (λ u. cond (is_oneshot past) (cond (has_flow def past) None (Some (entries.Finish d (is_woken past d) u)))
+    (Some (entries.Done d))) (opens_is def past d valid there))
 
-pub thread_due_is : (def : LineDef) (past : List Entry) (d : DevNo) → IsValid def → IsLegalPast def past → next_of_thread def d past ≡ thread_due (state_of def past) d
+pub thread_due_is : (def : LineDef) (past : List Entry) (d : DevNo) → IsValid def → IsLegalPast def past
+    → next_of_thread def d past ≡ thread_due (state_of def past) d
 thread_due_is def past d valid legal = by_test (list_any (is_device d) def.devices) refl
   where
     by_test : (b : Bool) → list_any (is_device d) def.devices ≡ b → next_of_thread def d past ≡ thread_due (state_of def past) d

@@ -1,6 +1,7 @@
 -- The line's domains are active while something is linked or the last unlinked device is being
 -- freed.
-use Rattle.std.proofs.Common.{◌≡◌, ℕ, suc, zero, ◌+◌, ◌≤◌, ◌==◌, Bool, true, false, not, ◌||◌, ◌&&◌, cond, Option, Some, None, List, [], ◌∷◌, ◌++◌, filter, refl, sym, ap, ◌∙◌, arith}
+use Rattle.std.proofs.Common.{◌≡◌, ℕ, suc, zero, ◌+◌, ◌≤◌, ◌==◌, Bool, true, false, not, ◌||◌, ◌&&◌, cond, Option, Some}
+use Rattle.std.proofs.Common.{None, List, [], ◌∷◌, ◌++◌, filter, refl, sym, ap, ◌∙◌, arith}
 use Rattle.std.specs.List.{list_any}
 use Rattle.std.proofs.lemmas.Bool.{or_left, or_right, or_parts}
 use Rattle.irq_base.specs.declared.calls.Call.TheVariants as calls
@@ -39,7 +40,9 @@ both_ways b h i = cc
 abbrev since_first : List Entry → List Entry
 since_first past = since_place is_first_request past
 
-any_since : (p : Entry → Bool) (e : Entry) (past : List Entry) → list_any p (since_first (e ∷ past)) ≡ cond (is_first_request (e ∷ past)) false (p e || list_any p (since_first past))
+any_since : (p : Entry → Bool) (e : Entry) (past : List Entry)
+    → list_any p (since_first (e ∷ past)) ≡ cond (is_first_request (e ∷ past)) false
+    (p e || list_any p (since_first past))
 any_since p e past = by_test (is_first_request (e ∷ past))
   where
     by_test : (b : Bool) → list_any p (cond b [] (e ∷ since_first past)) ≡ cond b false (p e || list_any p (since_first past))
@@ -77,15 +80,19 @@ kept_all : (d : DevNo) (ds : List DevNo) → count_of (same_dev d) ds ≤ 0 → 
 kept_all d [] n h = refl
 kept_all d (x ∷ ds) n h = by_test (same_dev d x) (same_both x d) n h
   where
-    by_test : (b : Bool) → same_dev x d ≡ b → cond b (count_of (same_dev d) ds + 1) (count_of (same_dev d) ds) ≤ 0 → is_empty (others d (x ∷ ds)) ≡ true → is_empty (x ∷ ds) ≡ true
+    by_test : (b : Bool) → same_dev x d ≡ b → cond b (count_of (same_dev d) ds + 1) (count_of (same_dev d) ds) ≤ 0
+        → is_empty (others d (x ∷ ds)) ≡ true → is_empty (x ∷ ds) ≡ true
     by_test true is m i = absurd (omega (arith, m))
     by_test false is m i = (let j : is_empty (x ∷ others d ds) ≡ true = rw is at i in cc)
 
-leaves_only : (d : DevNo) (ds : List DevNo) → list_any (same_dev d) ds ≡ true → count_of (same_dev d) ds ≤ 1 → is_empty (others d ds) ≡ true → is_only d ds ≡ true
+leaves_only : (d : DevNo) (ds : List DevNo) → list_any (same_dev d) ds ≡ true → count_of (same_dev d) ds ≤ 1
+    → is_empty (others d ds) ≡ true → is_only d ds ≡ true
 leaves_only d [] any n h = cc
 leaves_only d (x ∷ ds) any n h = by_test (same_dev d x) refl (same_both x d) n h
   where
-    by_test : (b : Bool) → same_dev d x ≡ b → same_dev x d ≡ b → cond b (count_of (same_dev d) ds + 1) (count_of (same_dev d) ds) ≤ 1 → is_empty (others d (x ∷ ds)) ≡ true → (b && is_empty ds) ≡ true
+    by_test : (b : Bool) → same_dev d x ≡ b → same_dev x d ≡ b
+        → cond b (count_of (same_dev d) ds + 1) (count_of (same_dev d) ds) ≤ 1 → is_empty (others d (x ∷ ds)) ≡ true
+        → (b && is_empty ds) ≡ true
     by_test true at is m i = (let j : is_empty (others d ds) ≡ true = rw is at i in kept_all d ds (omega (arith, m)) j)
     by_test false at is m i = (let j : is_empty (x ∷ others d ds) ≡ true = rw is at i in cc)
 
@@ -93,7 +100,8 @@ some_last : (xs : List DevNo) (d : DevNo) → is_empty (xs ++ d ∷ []) ≡ fals
 some_last [] d = refl
 some_last (x ∷ xs) d = refl
 
-pub some_after : (r : DriverNo) (x : DevNo) (flags : Flags) (opened : Opened) (past : List Entry) → is_none_linked (entries.Request r x flags links.Linked opened ∷ past) ≡ false
+pub some_after : (r : DriverNo) (x : DevNo) (flags : Flags) (opened : Opened) (past : List Entry)
+    → is_none_linked (entries.Request r x flags links.Linked opened ∷ past) ≡ false
 some_after r x flags opened past = ap is_empty (linked_request r x flags opened past) ∙ some_last (others x (linked past)) x
 
 -- a device that is taken off was there
@@ -108,18 +116,23 @@ some_before x past on = by_list (linked past) (of_linked (same_dev x) past x on 
 
 no_last : (def : LineDef) (past : List Entry) → IsLegalPast def past → is_none_linked past ≡ false → list_any is_last_unlink (since_first past) ≡ false
 no_last def [] legal some = refl
-no_last def (entries.Request r x flags links.Linked opened ∷ past) legal some = any_since is_last_unlink (entries.Request r x flags links.Linked opened) past ∙ by_test (is_none_linked past) (no_last def past legal.1)
+no_last def (entries.Request r x flags links.Linked opened ∷ past) legal some
+    = any_since is_last_unlink (entries.Request r x flags links.Linked opened) past
+    ∙ by_test (is_none_linked past) (no_last def past legal.1)
   where
     by_test : (b : Bool) → (b ≡ false → list_any is_last_unlink (since_first past) ≡ false) → cond b false (list_any is_last_unlink (since_first past)) ≡ false
     by_test true rest = refl
     by_test false rest = rest refl
-no_last def (entries.Request r x flags (links.Refused error) opened ∷ past) legal some = no_last def past legal.1 (sym (ap is_empty (linked_refused r x flags error opened past)) ∙ some)
+no_last def (entries.Request r x flags (links.Refused error) opened ∷ past) legal some
+    = no_last def past legal.1 (sym (ap is_empty (linked_refused r x flags error opened past)) ∙ some)
 no_last def (entries.Unlink r x (unlinks.Unlinked last) ∷ past) legal some = by_test last refl (is_none_linked past) refl (no_last def past legal.1)
   where
     left : is_empty (others x (linked past)) ≡ false
     left = sym (ap is_empty (linked_unlink r x last past)) ∙ some
 
-    by_test : (b : Bool) → last ≡ b → (n : Bool) → is_none_linked past ≡ n → (is_none_linked past ≡ false → list_any is_last_unlink (since_first past) ≡ false) → (b || list_any is_last_unlink (since_first past)) ≡ false
+    by_test : (b : Bool) → last ≡ b → (n : Bool) → is_none_linked past ≡ n
+        → (is_none_linked past ≡ false → list_any is_last_unlink (since_first past) ≡ false)
+        → (b || list_any is_last_unlink (since_first past)) ≡ false
     by_test b is true none rest = both_ways (is_empty (others x (linked past))) (none_leaves x (linked past) none) left
     by_test true is false was rest =
         let w = last_when (is_linked past x) last (is_only x (linked past)) (unlink_due def r x (unlinks.Unlinked last) past legal.0).answer_is in
@@ -137,10 +150,14 @@ last_by r _ = false
 abbrev Frees : List Entry → DriverNo → DevNo → Type 0
 Frees past r d = freeing past ≡ Some (r, d)
 
-freed_last : (def : LineDef) (past : List Entry) (r : DriverNo) (d : DevNo) → IsLegalPast def past → is_none_linked past ≡ true → freeing past ≡ Some (r, d) → list_any (last_by r) (since_first past) ≡ true
+freed_last : (def : LineDef) (past : List Entry) (r : DriverNo) (d : DevNo) → IsLegalPast def past
+    → is_none_linked past ≡ true → freeing past ≡ Some (r, d) → list_any (last_by r) (since_first past) ≡ true
 freed_last def [] r d legal none f = cc
-freed_last def (entries.Request s x flags links.Linked opened ∷ past) r d legal none f = both_ways (is_none_linked (entries.Request s x flags links.Linked opened ∷ past)) none (some_after s x flags opened past)
-freed_last def (entries.Request s x flags (links.Refused error) opened ∷ past) r d legal none f = freed_last def past r d legal.1 (sym (ap is_empty (linked_refused s x flags error opened past)) ∙ none) f
+freed_last def (entries.Request s x flags links.Linked opened ∷ past) r d legal none f
+    = both_ways (is_none_linked (entries.Request s x flags links.Linked opened ∷ past)) none
+    (some_after s x flags opened past)
+freed_last def (entries.Request s x flags (links.Refused error) opened ∷ past) r d legal none f
+    = freed_last def past r d legal.1 (sym (ap is_empty (linked_refused s x flags error opened past)) ∙ none) f
 freed_last def (entries.Unlink s x (unlinks.Unlinked last) ∷ past) r d legal none f =
     let w = last_when (is_linked past x) last (is_only x (linked past)) (unlink_due def s x (unlinks.Unlinked last) past legal.0).answer_is in
     let left : is_empty (others x (linked past)) ≡ true = sym (ap is_empty (linked_unlink s x last past)) ∙ none in
@@ -151,7 +168,8 @@ freed_last def (entries.Unlink s x (unlinks.Unlinked last) ∷ past) r d legal n
     driver_in : DriverNo → Option (DriverNo × DevNo) → DriverNo
     driver_in z None = z
     driver_in z (Some p) = p.0
-freed_last def (entries.Unlink s x unlinks.NotThere ∷ past) r d legal none f = freed_last def past r d legal.1 (sym (ap is_empty (linked_not_there s x past)) ∙ none) f
+freed_last def (entries.Unlink s x unlinks.NotThere ∷ past) r d legal none f
+    = freed_last def past r d legal.1 (sym (ap is_empty (linked_not_there s x past)) ∙ none) f
 freed_last def (entries.Freed s x ∷ past) r d legal none f = cc
 freed_last def (e ∷ past) r d legal none f = freed_last def past r d legal.1 none f
 
@@ -170,7 +188,8 @@ none_freed pre (x ∷ xs) h =
     rw (head_is (pre []) xs x n.0) (none_freed (λ a. pre (x ∷ a)) xs n.1)
 
 found : (r : DriverNo) (a u : List Entry) (e : Entry) → list_any (is_freed_by r) a ≡ true → last_by r e ≡ true → is_freed_last a (e ∷ u) ≡ true
-found r a u (entries.Unlink s x (unlinks.Unlinked true)) all h = ap (λ y. list_any (is_freed_by y) a) (sym (driver_from_same r s (and_true (same_driver r s) h))) ∙ all
+found r a u (entries.Unlink s x (unlinks.Unlinked true)) all h
+    = ap (λ y. list_any (is_freed_by y) a) (sym (driver_from_same r s (and_true (same_driver r s) h))) ∙ all
   where
     and_true : (b : Bool) → (b && true) ≡ true → b ≡ true
     and_true true i = refl
@@ -183,11 +202,15 @@ found r a u (entries.Unlink s x (unlinks.Unlinked false)) all h = both_ways (sam
 found r a u (entries.Unlink s x unlinks.NotThere) all h = cc
 found r a u e all h = cc
 
-some_freed : (r : DriverNo) (pre : List Entry → List Entry) (xs : List Entry) → ((a : List Entry) → list_any (is_freed_by r) (pre a) ≡ true) → list_any (last_by r) xs ≡ true → some_place (λ a u. is_freed_last (pre a) u) xs ≡ true
+some_freed : (r : DriverNo) (pre : List Entry → List Entry) (xs : List Entry)
+    → ((a : List Entry) → list_any (is_freed_by r) (pre a) ≡ true) → list_any (last_by r) xs ≡ true
+    → some_place (λ a u. is_freed_last (pre a) u) xs ≡ true
 some_freed r pre [] all h = cc
 some_freed r pre (x ∷ xs) all h = by_test (last_by r x) refl h (some_freed r (λ a. pre (x ∷ a)) xs (λ a. all (x ∷ a)))
   where
-    by_test : (b : Bool) → last_by r x ≡ b → (b || list_any (last_by r) xs) ≡ true → (list_any (last_by r) xs ≡ true → some_place (λ a u. is_freed_last (pre (x ∷ a)) u) xs ≡ true) → some_place (λ a u. is_freed_last (pre a) u) (x ∷ xs) ≡ true
+    by_test : (b : Bool) → last_by r x ≡ b → (b || list_any (last_by r) xs) ≡ true
+        → (list_any (last_by r) xs ≡ true → some_place (λ a u. is_freed_last (pre (x ∷ a)) u) xs ≡ true)
+        → some_place (λ a u. is_freed_last (pre a) u) (x ∷ xs) ≡ true
     by_test true is i rest = or_left (is_freed_last (pre []) (x ∷ xs)) _ (found r (pre []) xs x (all []) is)
     by_test false is i rest = or_right (is_freed_last (pre []) (x ∷ xs)) _ (rest i)
 
@@ -207,13 +230,16 @@ same_place e a (entries.Unlink driver dev (unlinks.Unlinked false) ∷ u) h = re
 same_place e a (entries.Unlink driver dev unlinks.NotThere ∷ u) h = refl
 same_place e a (_ ∷ u) h = refl
 
-up_later : (e : Entry) (past : List Entry) → is_first_request (e ∷ past) ≡ false → is_up (e ∷ past) ≡ (is_some_entry (upto_place is_first_request past) && not (some_place (λ a u. is_freed_last (e ∷ a) u) (since_first past)))
+up_later : (e : Entry) (past : List Entry) → is_first_request (e ∷ past) ≡ false
+    → is_up (e ∷ past) ≡ (is_some_entry (upto_place is_first_request past) && not
+    (some_place (λ a u. is_freed_last (e ∷ a) u) (since_first past)))
 up_later e past is = rw (is, not_yet e (since_first past)) refl
 
 up_quiet : (e : Entry) (past : List Entry) → is_first_request (e ∷ past) ≡ false → ((r : DriverNo) → is_freed_by r e ≡ false) → is_up (e ∷ past) ≡ is_up past
 up_quiet e past is h =
     up_later e past is
-    ∙ ap (λ b. is_some_entry (upto_place is_first_request past) && not b) (some_ext (λ a u. is_freed_last (e ∷ a) u) is_freed_last (since_first past) (λ a u same. same_place e a u h))
+    ∙ ap (λ b. is_some_entry (upto_place is_first_request past) && not b)
+    (some_ext (λ a u. is_freed_last (e ∷ a) u) is_freed_last (since_first past) (λ a u same. same_place e a u h))
 
 -- ---- read off the actions and who frees what
 
@@ -221,7 +247,8 @@ some_count : (n : ℕ) → (n == 0) ≡ false → (m : ℕ) × (n ≡ suc m)
 some_count zero h = cc
 some_count (suc m) h = (m, refl)
 
-is_freeing : (def : LineDef) (r : DriverNo) (d : DevNo) (past : List Entry) → IsValid def → IsLegalPast def (entries.Freed r d ∷ past) → freeing past ≡ Some (r, d)
+is_freeing : (def : LineDef) (r : DriverNo) (d : DevNo) (past : List Entry) → IsValid def
+    → IsLegalPast def (entries.Freed r d ∷ past) → freeing past ≡ Some (r, d)
 is_freeing def r d past valid legal =
     let is = freed_due def r d past legal.0 in
     let n = some_count is.count is.not_first in
@@ -239,7 +266,9 @@ first_part : (a b : Bool) → (a && b) ≡ true → a ≡ true
 first_part true b h = refl
 first_part false b h = cc
 
-freed_ends : (def : LineDef) (r : DriverNo) (d : DevNo) (past : List Entry) → IsValid def → IsLegalPast def (entries.Freed r d ∷ past) → is_up past ≡ true → is_up (entries.Freed r d ∷ past) ≡ not (is_none_linked past)
+freed_ends : (def : LineDef) (r : DriverNo) (d : DevNo) (past : List Entry) → IsValid def
+    → IsLegalPast def (entries.Freed r d ∷ past) → is_up past ≡ true
+    → is_up (entries.Freed r d ∷ past) ≡ not (is_none_linked past)
 freed_ends def r d past valid legal up = by_test (is_none_linked past) refl
   where
     e : Entry
@@ -251,14 +280,20 @@ freed_ends def r d past valid legal up = by_test (is_none_linked past) refl
     by_test : (b : Bool) → is_none_linked past ≡ b → is_up (e ∷ past) ≡ not b
     by_test true none =
         let last = freed_last def past r d legal.1 none (is_freeing def r d past valid legal) in
-        let ended : some_place (λ a u. is_freed_last (e ∷ a) u) (since_first past) ≡ true = some_freed r (λ a. e ∷ a) (since_first past) (λ a. or_left (is_freed_by r e) _ (same_self_driver r)) last in
+        let ended : some_place (λ a u. is_freed_last (e ∷ a) u) (since_first past)
+        ≡ true = some_freed r (λ a. e ∷ a) (since_first past)
+        (λ a. or_left (is_freed_by r e) _ (same_self_driver r)) last in
         up_later e past refl ∙ rw (started, ended) refl
     by_test false some =
-        let stays : some_place (λ a u. is_freed_last (e ∷ a) u) (since_first past) ≡ false = none_freed (λ a. e ∷ a) (since_first past) (no_last def past legal.1 some) in
+        let stays : some_place (λ a u. is_freed_last (e ∷ a) u) (since_first past)
+        ≡ false = none_freed (λ a. e ∷ a) (since_first past) (no_last def past legal.1 some) in
         up_later e past refl ∙ rw (started, stays) refl
 
-was_up : (def : LineDef) (r : DriverNo) (d : DevNo) (past : List Entry) → IsValid def → IsLegalPast def (entries.Freed r d ∷ past) → is_up past ≡ up_by (is_none_linked past) (freeing past) → is_up past ≡ true
-was_up def r d past valid legal was = was ∙ (ap (λ o. up_by (is_none_linked past) o) (is_freeing def r d past valid legal) ∙ or_some (not (is_none_linked past)))
+was_up : (def : LineDef) (r : DriverNo) (d : DevNo) (past : List Entry) → IsValid def
+    → IsLegalPast def (entries.Freed r d ∷ past) → is_up past ≡ up_by (is_none_linked past) (freeing past)
+    → is_up past ≡ true
+was_up def r d past valid legal was = was ∙ (ap (λ o. up_by (is_none_linked past) o)
+    (is_freeing def r d past valid legal) ∙ or_some (not (is_none_linked past)))
 
 pub up_is : (def : LineDef) (past : List Entry) → IsValid def → IsLegalPast def past → is_up past ≡ up_by (is_none_linked past) (freeing past)
 up_is def [] valid legal = refl
@@ -277,21 +312,27 @@ up_is def (entries.Request r x flags (links.Refused error) opened ∷ past) vali
 up_is def (entries.Unlink r x (unlinks.Unlinked last) ∷ past) valid legal =
     let w = last_when (is_linked past x) last (is_only x (linked past)) (unlink_due def r x (unlinks.Unlinked last) past legal.0).answer_is in
     up_quiet (entries.Unlink r x (unlinks.Unlinked last)) past refl (λ s. refl)
-    ∙ (up_is def past valid legal.1 ∙ (ap (λ b. up_by b (freeing past)) (some_before x past w.1) ∙ sym (or_some (not (is_none_linked (entries.Unlink r x (unlinks.Unlinked last) ∷ past))))))
+    ∙ (up_is def past valid legal.1 ∙ (ap (λ b. up_by b (freeing past)) (some_before x past w.1)
+    ∙ sym (or_some (not (is_none_linked (entries.Unlink r x (unlinks.Unlinked last) ∷ past))))))
 up_is def (entries.Unlink r x unlinks.NotThere ∷ past) valid legal =
-    up_quiet (entries.Unlink r x unlinks.NotThere) past refl (λ s. refl) ∙ (up_is def past valid legal.1 ∙ sym (ap (λ b. up_by b (freeing past)) (ap is_empty (linked_not_there r x past))))
-up_is def (entries.Freed r d ∷ past) valid legal = freed_ends def r d past valid legal (was_up def r d past valid legal (up_is def past valid legal.1)) ∙ sym (or_none (not (is_none_linked past)))
+    up_quiet (entries.Unlink r x unlinks.NotThere) past refl (λ s. refl)
+    ∙ (up_is def past valid legal.1 ∙ sym (ap (λ b. up_by b (freeing past))
+    (ap is_empty (linked_not_there r x past))))
+up_is def (entries.Freed r d ∷ past) valid legal = freed_ends def r d past valid legal
+    (was_up def r d past valid legal (up_is def past valid legal.1)) ∙ sym (or_none (not (is_none_linked past)))
 up_is def (e ∷ past) valid legal = up_quiet e past refl (λ s. refl) ∙ up_is def past valid legal.1
 
 -- ---- what an entry makes of it
 
-active_by : (def : LineDef) (e : Entry) (past : List Entry) → IsValid def → IsLegalPast def (e ∷ past) → is_up (e ∷ past) ≡ active_after (is_none_linked past) e (is_up past)
+active_by : (def : LineDef) (e : Entry) (past : List Entry) → IsValid def → IsLegalPast def (e ∷ past)
+    → is_up (e ∷ past) ≡ active_after (is_none_linked past) e (is_up past)
 active_by def (entries.Request r x flags links.Linked opened) past valid legal = by_test (is_none_linked past) refl
   where
     by_test : (b : Bool) → is_none_linked past ≡ b → is_up (entries.Request r x flags links.Linked opened ∷ past) ≡ (b || is_up past)
     by_test true none = up_first (entries.Request r x flags links.Linked opened) past none
     by_test false some = up_quiet (entries.Request r x flags links.Linked opened) past some (λ s. refl)
-active_by def (entries.Request r x flags (links.Refused error) opened) past valid legal = up_quiet (entries.Request r x flags (links.Refused error) opened) past refl (λ s. refl)
+active_by def (entries.Request r x flags (links.Refused error) opened) past valid legal
+    = up_quiet (entries.Request r x flags (links.Refused error) opened) past refl (λ s. refl)
 active_by def (entries.Freed r d) past valid legal =
     let up = was_up def r d past valid legal (up_is def past valid legal.1) in
     freed_ends def r d past valid legal up ∙ (sym (and_some (not (is_none_linked past))) ∙ sym (ap (λ b. not (is_none_linked past) && b) up))
@@ -301,5 +342,6 @@ active_by def (entries.Freed r d) past valid legal =
     and_some false = refl
 active_by def e past valid legal = up_quiet e past refl (λ s. refl)
 
-pub active_follows : (def : LineDef) (e : Entry) (past : List Entry) → IsValid def → IsLegalPast def (e ∷ past) → is_up (e ∷ past) ≡ active_after (is_bare (actions_of past)) e (is_up past)
+pub active_follows : (def : LineDef) (e : Entry) (past : List Entry) → IsValid def → IsLegalPast def (e ∷ past)
+    → is_up (e ∷ past) ≡ active_after (is_bare (actions_of past)) e (is_up past)
 active_follows def e past valid legal = active_by def e past valid legal ∙ ap (λ b. active_after b e (is_up past)) (sym (bare_is def past valid legal.1))

@@ -1,5 +1,7 @@
 -- Whether an entry is the last of its call.
-use Rattle.std.proofs.Common.{◌≡◌, ◌⊎◌, inl, inr, ℕ, zero, suc, ◌+◌, ◌==◌, Bool, true, false, not, cond, if◌then◌else◌, Some, None, List, [], ◌∷◌, ◌++◌, length, drop, min, nat_lt, nat_le, refl, sym, ap, subst, ◌∙◌, arith, length-append}
+use Rattle.std.proofs.Common.{◌≡◌, ◌⊎◌, inl, inr, ℕ, zero, suc, ◌+◌, ◌==◌, Bool, true, false, not, cond, if◌then◌else◌}
+use Rattle.std.proofs.Common.{Some, None, List, [], ◌∷◌, ◌++◌, length, drop, min, nat_lt, nat_le, refl, sym, ap, subst}
+use Rattle.std.proofs.Common.{◌∙◌, arith, length-append}
 use Rattle.std.proofs.lemmas.Bool.{ltb-true, le-ltb}
 use Rattle.std.proofs.lemmas.Bool.Decides.{nat_tests}
 use Rattle.irq_base.specs.declared.calls.Call.{Call}
@@ -43,18 +45,23 @@ synced : (def : LineDef) (r : DriverNo) (past : List Entry) (e : Entry) → sync
 synced def r past e is = (from_then _ (entries.Synced r) e is).1
 
 -- of the entries that a free makes after the first, the second isn't the last and the third is
-free_next : (def : LineDef) (r : DriverNo) (dev : DevNo) (n : ℕ) (past : List Entry) (e : Entry) → next_of_free def r dev n past ≡ Some e → completes (calls.Free dev) e ≡ completes_at (calls.Free dev) n e
+free_next : (def : LineDef) (r : DriverNo) (dev : DevNo) (n : ℕ) (past : List Entry) (e : Entry)
+    → next_of_free def r dev n past ≡ Some e → completes (calls.Free dev) e ≡ completes_at (calls.Free dev) n e
 free_next def r dev zero past e is =
     let u : entries.Unlink r dev (unlink_answer dev past) ≡ e = (from_else (holds_mutex past) (entries.Unlink r dev (unlink_answer dev past)) e is).1 in
     subst (λ (f : Entry). completes (calls.Free dev) f ≡ is_not_there f) u (of_unlink r dev dev (unlink_answer dev past))
 free_next def r dev (suc zero) past e is = subst (λ (f : Entry). completes (calls.Free dev) f ≡ false) (hard def r past e is) refl
 free_next def r dev (suc (suc n)) past e is = later (suc (suc n) == 0) (suc (suc n) == 1) (grind (arith, nat_tests)) (grind (arith, nat_tests)) is
   where
-    later : (a b : Bool) → a ≡ false → b ≡ false → cond a (cond (holds_mutex past) None (Some (entries.Unlink r dev (unlink_answer dev past)))) (cond b (hard_clear_of def r past) (freed_of r dev past)) ≡ Some e
+    later : (a b : Bool) → a ≡ false → b ≡ false → cond a
+        (cond (holds_mutex past) None (Some (entries.Unlink r dev (unlink_answer dev past))))
+        (cond b (hard_clear_of def r past) (freed_of r dev past)) ≡ Some e
         → completes (calls.Free dev) e ≡ completes_at (calls.Free dev) (suc (suc n)) e
     later false false x y is =
         let f : entries.Freed r dev ≡ e = (from_else _ (entries.Freed r dev) e is).1 in
-        subst (λ (f : Entry). completes (calls.Free dev) f ≡ true) f refl ∙ sym (third (suc (suc n) == 0) (grind (arith, nat_tests)) (nat_le 2 (suc (suc n))) (grind (arith, nat_tests)))
+        subst (λ (f : Entry). completes (calls.Free dev) f ≡ true) f refl
+        ∙ sym (third (suc (suc n) == 0) (grind (arith, nat_tests)) (nat_le 2 (suc (suc n)))
+        (grind (arith, nat_tests)))
       where
         third : (a : Bool) → a ≡ false → (b : Bool) → b ≡ true → cond a (is_not_there e) b ≡ true
         third true x b y = cc
@@ -62,27 +69,34 @@ free_next def r dev (suc (suc n)) past e is = later (suc (suc n) == 0) (suc (suc
     later true b x y is = cc
     later false true x y is = cc
 
-disable_next : (def : LineDef) (r : DriverNo) (n : ℕ) (past : List Entry) (e : Entry) → next_of_disable def r n past ≡ Some e → completes calls.Disable e ≡ completes_at calls.Disable n e
+disable_next : (def : LineDef) (r : DriverNo) (n : ℕ) (past : List Entry) (e : Entry)
+    → next_of_disable def r n past ≡ Some e → completes calls.Disable e ≡ completes_at calls.Disable n e
 disable_next def r zero past e is = subst (λ (f : Entry). completes calls.Disable f ≡ false) (the_same (entries.Disable r) e is) refl
 disable_next def r (suc zero) past e is = subst (λ (f : Entry). completes calls.Disable f ≡ false) (hard def r past e is) refl
 disable_next def r (suc (suc n)) past e is = later (suc (suc n) == 0) (suc (suc n) == 1) (grind (arith, nat_tests)) (grind (arith, nat_tests)) is
   where
-    later : (a b : Bool) → a ≡ false → b ≡ false → cond a (Some (entries.Disable r)) (cond b (hard_clear_of def r past) (synced_of def r past)) ≡ Some e → completes calls.Disable e ≡ nat_le 2 (suc (suc n))
+    later : (a b : Bool) → a ≡ false → b ≡ false → cond a (Some (entries.Disable r))
+        (cond b (hard_clear_of def r past) (synced_of def r past)) ≡ Some e
+        → completes calls.Disable e ≡ nat_le 2 (suc (suc n))
     later false false x y is =
-        subst (λ (f : Entry). completes calls.Disable f ≡ true) (synced def r past e is) refl ∙ sym (let t : nat_le 2 (suc (suc n)) ≡ true = grind (arith, nat_tests) in t)
+        subst (λ (f : Entry). completes calls.Disable f ≡ true) (synced def r past e is) refl
+        ∙ sym (let t : nat_le 2 (suc (suc n)) ≡ true = grind (arith, nat_tests) in t)
     later true b x y is = cc
     later false true x y is = cc
 
-sync_next : (def : LineDef) (r : DriverNo) (n : ℕ) (past : List Entry) (e : Entry) → next_of_sync def r n past ≡ Some e → completes calls.Sync e ≡ completes_at calls.Sync n e
+sync_next : (def : LineDef) (r : DriverNo) (n : ℕ) (past : List Entry) (e : Entry) → next_of_sync def r n past ≡ Some e
+    → completes calls.Sync e ≡ completes_at calls.Sync n e
 sync_next def r zero past e is = subst (λ (f : Entry). completes calls.Sync f ≡ false) (hard def r past e is) refl
 sync_next def r (suc n) past e is = later (suc n == 0) (grind (arith, nat_tests)) is
   where
     later : (a : Bool) → a ≡ false → cond a (hard_clear_of def r past) (synced_of def r past) ≡ Some e → completes calls.Sync e ≡ nat_le 1 (suc n)
-    later false x is = subst (λ (f : Entry). completes calls.Sync f ≡ true) (synced def r past e is) refl ∙ sym (let t : nat_le 1 (suc n) ≡ true = grind (arith, nat_tests) in t)
+    later false x is = subst (λ (f : Entry). completes calls.Sync f ≡ true) (synced def r past e is) refl
+        ∙ sym (let t : nat_le 1 (suc n) ≡ true = grind (arith, nat_tests) in t)
     later true x is = cc
 
 -- whether the entry that is due is the last one
-pub last_is : (def : LineDef) (r : DriverNo) (past : List Entry) (c : Call) (n : ℕ) (e : Entry) → next_of_call def r past (Some (c, n)) ≡ Some e → completes c e ≡ completes_at c n e
+pub last_is : (def : LineDef) (r : DriverNo) (past : List Entry) (c : Call) (n : ℕ) (e : Entry)
+    → next_of_call def r past (Some (c, n)) ≡ Some e → completes c e ≡ completes_at c n e
 last_is def r past (calls.Ask dev) n e is = refl
 last_is def r past (calls.Request dev flags) n e is = refl
 last_is def r past (calls.Free dev) n e is = free_next def r dev n past e is
@@ -117,17 +131,20 @@ free_first false = refl
 not_first : (n : ℕ) → (suc n == 0) ≡ false
 not_first n = grind (arith, nat_tests)
 
-free_later : (b : Bool) (n : ℕ) (last : Bool) → nat_lt (suc n) (cond b 1 3) ≡ true → nat_lt (suc n + 1) (cond b 1 3) ≡ not (cond (suc n == 0) last (nat_le 2 (suc n)))
+free_later : (b : Bool) (n : ℕ) (last : Bool) → nat_lt (suc n) (cond b 1 3) ≡ true
+    → nat_lt (suc n + 1) (cond b 1 3) ≡ not (cond (suc n == 0) last (nat_le 2 (suc n)))
 free_later true n last some = absurd (let below = ltb-true (suc n) 1 some in omega (arith, below))
 free_later false n last some = of_three (suc n) ∙ ap (λ (b : Bool). not (cond b last (nat_le 2 (suc n)))) (sym (not_first n))
 
 -- with the entry the call isn't complete, unless it is its last
-last_test : (c : Call) (own : List Entry) (e : Entry) → nat_lt (length own) (entries_of_call c own) ≡ true → nat_lt (length own + 1) (entries_of_call c (own ++ e ∷ [])) ≡ not (completes_at c (length own) e)
+last_test : (c : Call) (own : List Entry) (e : Entry) → nat_lt (length own) (entries_of_call c own) ≡ true
+    → nat_lt (length own + 1) (entries_of_call c (own ++ e ∷ [])) ≡ not (completes_at c (length own) e)
 last_test (calls.Ask dev) own e some = of_one (length own)
 last_test (calls.Request dev flags) own e some = of_one (length own)
 last_test (calls.Free dev) [] e some = ap (λ (b : Bool). nat_lt 1 (cond b 1 3)) (begins_is e) ∙ free_first (is_not_there e)
 last_test (calls.Free dev) (y ∷ ys) e some =
-    ap (λ (m : ℕ). nat_lt (length (y ∷ ys) + 1) m) (same_count (calls.Free dev) y (ys ++ e ∷ []) ys) ∙ free_later (begins_not_there (y ∷ ys)) (length ys) (is_not_there e) some
+    ap (λ (m : ℕ). nat_lt (length (y ∷ ys) + 1) m) (same_count (calls.Free dev) y (ys ++ e ∷ []) ys)
+    ∙ free_later (begins_not_there (y ∷ ys)) (length ys) (is_not_there e) some
 last_test calls.Disable own e some = of_three (length own)
 last_test calls.DisableNosync own e some = of_one (length own)
 last_test calls.Enable own e some = of_one (length own)
@@ -135,12 +152,14 @@ last_test calls.Sync own e some = of_two (length own)
 last_test (calls.Affinity mask) own e some = of_one (length own)
 last_test (calls.Moment at) own e some = of_one (length own)
 
-module _ (def : LineDef) (r : DriverNo) (e : Entry) (past : List Entry) (c : Call) (n : ℕ) (mine : is_by_driver r e ≡ true) (was : due_call def r past ≡ Some (c, n)) where
+module _ (def : LineDef) (r : DriverNo) (e : Entry) (past : List Entry) (c : Call) (n : ℕ)
+    (mine : is_by_driver r e ≡ true) (was : due_call def r past ≡ Some (c, n)) where
   -- what is due behind it
   after : (s : Standing (calls_by r def.calls) (entries_by r past) c n) → due_call def r (e ∷ past) ≡ due_of (c ∷ s.rest) (s.own ++ e ∷ [])
   after s = ap (λ (es : List Entry). due_of (calls_by r def.calls) es) (entries_more r e past mine) ∙ s.more e
 
-  tested : (s : Standing (calls_by r def.calls) (entries_by r past) c n) → nat_lt (length (s.own ++ e ∷ [])) (entries_of_call c (s.own ++ e ∷ [])) ≡ not (completes_at c n e)
+  tested : (s : Standing (calls_by r def.calls) (entries_by r past) c n)
+      → nat_lt (length (s.own ++ e ∷ [])) (entries_of_call c (s.own ++ e ∷ [])) ≡ not (completes_at c n e)
   tested s =
       ap (λ (m : ℕ). nat_lt m (entries_of_call c (s.own ++ e ∷ []))) (length-append s.own (e ∷ []))
       ∙ (last_test c s.own e s.incomplete ∙ ap (λ (m : ℕ). not (completes_at c m e)) (sym s.counts))
@@ -150,7 +169,8 @@ module _ (def : LineDef) (r : DriverNo) (e : Entry) (past : List Entry) (c : Cal
       let s = standing (calls_by r def.calls) (entries_by r past) c n was in
       let more : length (s.own ++ e ∷ []) ≡ suc n = (let l = length-append s.own (e ∷ []) in let k = s.counts in omega (arith, l, k)) in
       after s
-      ∙ (ap (λ (b : Bool). cond b (due_at c (length (s.own ++ e ∷ []))) (due_of s.rest (drop (entries_of_call c (s.own ++ e ∷ [])) (s.own ++ e ∷ [])))) (tested s ∙ ap not last)
+      ∙ (ap (λ (b : Bool). cond b (due_at c (length (s.own ++ e ∷ [])))
+      (due_of s.rest (drop (entries_of_call c (s.own ++ e ∷ [])) (s.own ++ e ∷ [])))) (tested s ∙ ap not last)
       ∙ ap (λ (m : ℕ). due_at c m) more)
 
   pub ends : completes_at c n e ≡ true → (d : Call) (m : ℕ) → due_call def r (e ∷ past) ≡ Some (d, suc m) → ⊥

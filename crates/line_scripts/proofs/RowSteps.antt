@@ -1,5 +1,7 @@
 -- What a new row, a row that changes, and one more call make of the scripts.
-use Rattle.std.proofs.Common.{◌≡◌, ℕ, zero, suc, ◌+◌, Bool, true, false, cond, Option, Some, None, unwrap_or, List, [], ◌∷◌, ◌++◌, length, ◌<◌, take, drop, slice_get, refl, sym, ap, ◌∙◌, subst, eq-eqb, eqb-true, add-one, IsSome, ◌&&◌, arith}
+use Rattle.std.proofs.Common.{◌≡◌, ℕ, zero, suc, ◌+◌, Bool, true, false, cond, Option, Some, None, unwrap_or, List, []}
+use Rattle.std.proofs.Common.{◌∷◌, ◌++◌, length, ◌<◌, take, drop, slice_get, refl, sym, ap, ◌∙◌, subst, eq-eqb}
+use Rattle.std.proofs.Common.{eqb-true, add-one, IsSome, ◌&&◌, arith}
 use Rattle.std.specs.Map.{lookup, set_value}
 use Rattle.irq_base.specs.declared.calls.Call.{Call}
 use Rattle.irq_base.specs.declared.numbers.DriverNo.{DriverNo}
@@ -22,11 +24,13 @@ some_same : (v w : RowSeen) → Some v ≡ Some w → v ≡ w
 some_same v w h = cc
 
 -- a row that changes
-pub asks_set : (test : DriverNo → Bool) (es : List (DriverNo × RowSeen)) (v w : RowSeen) → lookup test es ≡ Some v → asks_left (set_value test es w) + asks_in v ≡ asks_left es + asks_in w
+pub asks_set : (test : DriverNo → Bool) (es : List (DriverNo × RowSeen)) (v w : RowSeen) → lookup test es ≡ Some v
+    → asks_left (set_value test es w) + asks_in v ≡ asks_left es + asks_in w
 asks_set test [] v w h = cc
 asks_set test (e ∷ es) v w h = by_test (test e.0) h (asks_set test es v w)
   where
-    by_test : (b : Bool) → cond b (Some e.1) (lookup test es) ≡ Some v → (lookup test es ≡ Some v → asks_left (set_value test es w) + asks_in v ≡ asks_left es + asks_in w)
+    by_test : (b : Bool) → cond b (Some e.1) (lookup test es) ≡ Some v
+        → (lookup test es ≡ Some v → asks_left (set_value test es w) + asks_in v ≡ asks_left es + asks_in w)
         → asks_left (cond b ((e.0, w) ∷ es) (e ∷ set_value test es w)) + asks_in v ≡ asks_in e.1 + asks_left es + asks_in w
     by_test true at rest = omega (arith, ap asks_in (some_same e.1 v at))
     by_test false at rest = omega (arith, rest at)
@@ -45,7 +49,9 @@ count_last p [] x = by_test (p x)
     by_test false = refl
 count_last p (y ∷ ys) x = by_test (p y) (count_last p ys x)
   where
-    by_test : (b : Bool) → count_of p (ys ++ x ∷ []) ≡ count_of p ys + cond (p x) 1 0 → cond b (count_of p (ys ++ x ∷ []) + 1) (count_of p (ys ++ x ∷ [])) ≡ cond b (count_of p ys + 1) (count_of p ys) + cond (p x) 1 0
+    by_test : (b : Bool) → count_of p (ys ++ x ∷ []) ≡ count_of p ys + cond (p x) 1 0
+        → cond b (count_of p (ys ++ x ∷ []) + 1) (count_of p (ys ++ x ∷ []))
+        ≡ cond b (count_of p ys + 1) (count_of p ys) + cond (p x) 1 0
     by_test true h = omega (arith, h)
     by_test false h = h
 
@@ -58,15 +64,19 @@ take_item (y ∷ ys) (suc i) x h =
     ap (λ n. take n (y ∷ ys)) (add-one (suc i)) ∙ ap (λ zs. y ∷ zs) (ap (λ n. take n ys) (sym (add-one i)) ∙ more)
 
 -- one more call, of its driver and of another
-pub calls_last : (r : DriverNo) (cs : List (DriverNo × Call)) (who : DriverNo) (call : Call) → same_driver r who ≡ true → calls_by r (cs ++ (who, call) ∷ []) ≡ calls_by r cs ++ call ∷ []
+pub calls_last : (r : DriverNo) (cs : List (DriverNo × Call)) (who : DriverNo) (call : Call) → same_driver r who ≡ true
+    → calls_by r (cs ++ (who, call) ∷ []) ≡ calls_by r cs ++ call ∷ []
 calls_last r [] who call mine = ap (λ b. cond b (call ∷ []) []) mine
 calls_last r (c ∷ cs) who call mine = by_test (same_driver r c.0) (calls_last r cs who call mine)
   where
-    by_test : (b : Bool) → calls_by r (cs ++ (who, call) ∷ []) ≡ calls_by r cs ++ call ∷ [] → cond b (c.1 ∷ calls_by r (cs ++ (who, call) ∷ [])) (calls_by r (cs ++ (who, call) ∷ [])) ≡ cond b (c.1 ∷ calls_by r cs) (calls_by r cs) ++ call ∷ []
+    by_test : (b : Bool) → calls_by r (cs ++ (who, call) ∷ []) ≡ calls_by r cs ++ call ∷ []
+        → cond b (c.1 ∷ calls_by r (cs ++ (who, call) ∷ [])) (calls_by r (cs ++ (who, call) ∷ []))
+        ≡ cond b (c.1 ∷ calls_by r cs) (calls_by r cs) ++ call ∷ []
     by_test true h = ap (λ xs. c.1 ∷ xs) h
     by_test false h = h
 
-pub calls_other : (r : DriverNo) (cs : List (DriverNo × Call)) (who : DriverNo) (call : Call) → same_driver r who ≡ false → calls_by r (cs ++ (who, call) ∷ []) ≡ calls_by r cs
+pub calls_other : (r : DriverNo) (cs : List (DriverNo × Call)) (who : DriverNo) (call : Call)
+    → same_driver r who ≡ false → calls_by r (cs ++ (who, call) ∷ []) ≡ calls_by r cs
 calls_other r [] who call other = ap (λ b. cond b (call ∷ []) []) other
 calls_other r (c ∷ cs) who call other = ap (λ xs. cond (same_driver r c.0) (c.1 ∷ xs) xs) (calls_other r cs who call other)
 
@@ -81,11 +91,13 @@ rows_more s n cs who call all own others r = by_test (same_driver r who) refl
     by_test : (b : Bool) → same_driver r who ≡ b → row_of n r ≡ unbegun (calls_by r (cs ++ (who, call) ∷ []))
     by_test true mine =
         let e : r ≡ who = driver_from_same r who mine in
-        ap (λ (x : DriverNo). row_of n x) e ∙ (own ∙ (ap (λ (x : RowSeen). record x { calls = x.calls ++ call ∷ [] }) (ap (λ (x : DriverNo). row_of s x) (sym e) ∙ all r) ∙ ap unbegun (sym (calls_last r cs who call mine))))
+        ap (λ (x : DriverNo). row_of n x) e ∙ (own ∙ (ap (λ (x : RowSeen). record x { calls = x.calls ++ call ∷ [] })
+        (ap (λ (x : DriverNo). row_of s x) (sym e) ∙ all r) ∙ ap unbegun (sym (calls_last r cs who call mine))))
     by_test false other = others r other ∙ (all r ∙ ap unbegun (sym (calls_other r cs who call other)))
 
 -- one call of the row is complete
-pub asks_from : (cs : List Call) (p : ℕ) (c : Call) → slice_get cs p ≡ Some c → count_of is_ask_call (drop p cs) ≡ count_of is_ask_call (drop (p + 1) cs) + cond (is_ask_call c) 1 0
+pub asks_from : (cs : List Call) (p : ℕ) (c : Call) → slice_get cs p ≡ Some c
+    → count_of is_ask_call (drop p cs) ≡ count_of is_ask_call (drop (p + 1) cs) + cond (is_ask_call c) 1 0
 asks_from [] p c h = cc
 asks_from (x ∷ cs) zero c h = let e : x ≡ c = cc in by_test (is_ask_call x) ∙ ap (λ (y : Call). count_of is_ask_call cs + cond (is_ask_call y) 1 0) e
   where
@@ -119,35 +131,44 @@ asks_stepped : (v w : RowSeen) (completes : Bool) → IsSome (call_in v) → w.c
 asks_stepped v w completes some same moved = by_call (call_in v) refl some
   where
     rest : asks_in w ≡ count_of is_ask_call (drop (cond completes (v.place + 1) v.place) v.calls)
-    rest = ap (λ n. count_of is_ask_call (drop n w.calls)) moved ∙ ap (λ (cs : List Call). count_of is_ask_call (drop (cond completes (v.place + 1) v.place) cs)) same
+    rest = ap (λ n. count_of is_ask_call (drop n w.calls)) moved
+        ∙ ap (λ (cs : List Call). count_of is_ask_call (drop (cond completes (v.place + 1) v.place) cs)) same
 
-    by_end : (b : Bool) (c : Call) → slice_get v.calls v.place ≡ Some c → count_of is_ask_call (drop v.place v.calls) ≡ count_of is_ask_call (drop (cond b (v.place + 1) v.place) v.calls) + cond (b && is_ask_call c) 1 0
+    by_end : (b : Bool) (c : Call) → slice_get v.calls v.place ≡ Some c
+        → count_of is_ask_call (drop v.place v.calls) ≡ count_of is_ask_call
+        (drop (cond b (v.place + 1) v.place) v.calls) + cond (b && is_ask_call c) 1 0
     by_end true c at = asks_from v.calls v.place c at
     by_end false c at = omega arith
 
     by_call : (o : Option Call) → call_in v ≡ o → IsSome o → asks_in v ≡ asks_in w + cond (completes && is_some_ask (call_in v)) 1 0
     by_call None at none = cc
     by_call (Some c) at _ =
-        by_end completes c at ∙ (ap (λ n. n + cond (completes && is_ask_call c) 1 0) (sym rest) ∙ ap (λ (o : Option Call). asks_in w + cond (completes && is_some_ask o) 1 0) (sym at))
+        by_end completes c at ∙ (ap (λ n. n + cond (completes && is_ask_call c) 1 0) (sym rest)
+        ∙ ap (λ (o : Option Call). asks_in w + cond (completes && is_some_ask o) 1 0) (sym at))
 
-pub asks_advanced : (es : List (DriverNo × RowSeen)) (who : DriverNo) (v w : RowSeen) (completes : Bool) → lookup (same_driver who) es ≡ Some v → IsSome (call_in v)
+pub asks_advanced : (es : List (DriverNo × RowSeen)) (who : DriverNo) (v w : RowSeen) (completes : Bool)
+    → lookup (same_driver who) es ≡ Some v → IsSome (call_in v)
     → w.calls ≡ v.calls → w.place ≡ cond completes (v.place + 1) v.place
     → asks_left (set_value (same_driver who) es w) + cond (completes && is_some_ask (call_in v)) 1 0 ≡ asks_left es
 asks_advanced es who v w completes at some same moved = omega (arith, asks_set (same_driver who) es v w at, asks_stepped v w completes some same moved)
 
 -- a row changes, and keeps its calls
-pub same_calls : (es ns : List (DriverNo × RowSeen)) (who : DriverNo) (v w : RowSeen) → lookup (same_driver who) es ≡ Some v → lookup (same_driver who) ns ≡ Some w → w.calls ≡ v.calls
+pub same_calls : (es ns : List (DriverNo × RowSeen)) (who : DriverNo) (v w : RowSeen)
+    → lookup (same_driver who) es ≡ Some v → lookup (same_driver who) ns ≡ Some w → w.calls ≡ v.calls
     → ((r : DriverNo) → same_driver who r ≡ false → lookup (same_driver r) ns ≡ lookup (same_driver r) es) → (r : DriverNo) → calls_of ns r ≡ calls_of es r
 same_calls es ns who v w old new same others r = by_test (same_driver who r) refl
   where
     by_test : (b : Bool) → same_driver who r ≡ b → calls_of ns r ≡ calls_of es r
     by_test true mine =
         let e : who ≡ r = driver_from_same who r mine in
-        subst (λ (x : DriverNo). calls_of ns x ≡ calls_of es x) e (ap (λ o. (unwrap_or o (unbegun [])).calls) new ∙ (same ∙ ap (λ o. (unwrap_or o (unbegun [])).calls) (sym old)))
+        subst (λ (x : DriverNo). calls_of ns x ≡ calls_of es x) e
+        (ap (λ o. (unwrap_or o (unbegun [])).calls) new
+        ∙ (same ∙ ap (λ o. (unwrap_or o (unbegun [])).calls) (sym old)))
     by_test false other = ap (λ o. (unwrap_or o (unbegun [])).calls) (others r other)
 
 -- a new row of one call
-pub asks_added : (es : List (DriverNo × RowSeen)) (who : DriverNo) (v : RowSeen) (call : Call) → v ≡ unbegun (call ∷ []) → asks_left (es ++ (who, v) ∷ []) ≡ asks_left es + cond (is_ask_call call) 1 0
+pub asks_added : (es : List (DriverNo × RowSeen)) (who : DriverNo) (v : RowSeen) (call : Call) → v ≡ unbegun (call ∷ [])
+    → asks_left (es ++ (who, v) ∷ []) ≡ asks_left es + cond (is_ask_call call) 1 0
 asks_added es who v call is = asks_new es who v ∙ ap (λ n. asks_left es + n) (ap asks_in is ∙ by_test (is_ask_call call))
   where
     by_test : (b : Bool) → cond b (0 + 1) 0 ≡ cond b 1 0

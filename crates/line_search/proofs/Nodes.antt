@@ -36,7 +36,8 @@ use Rattle.line_futures.specs.Futures.{AreAlike}
 use Rattle.line_futures.specs.Places.{place_by, within_by, count_in, SamePlaces}
 use Rattle.line_search.proofs.Told.{one_told, cpu_told, dev_told, mask_told, freeing_told, begun_told, thread_told, ask_told, keys_of, table_told, linked_told}
 use Rattle.line_search.specs.Node.{drivers_in, places_words, node}
-use Rattle.line_search.specs.Words.{cpu_word, dev_word, mask_word, begun_words, thread_words, ask_words, table_words, linked_words, freeing_words, desc_words, round_words}
+use Rattle.line_search.specs.Words.{cpu_word, dev_word, mask_word, begun_words, thread_words, ask_words, table_words}
+use Rattle.line_search.specs.Words.{linked_words, freeing_words, desc_words, round_words}
 
 -- ---- the descriptor's words, and the round's
 
@@ -132,7 +133,8 @@ module _ (def : LineDef) (g h : List Entry) where
   abbrev SamePlace : DriverNo → Type 0
   SamePlace r = (place_by def r g ≡ place_by def r h) × (within_by def r g ≡ within_by def r h)
 
-  places_told : (rs : List DriverNo) (a b : List ℕ) → places_words def g rs a ≡ places_words def h rs b → ((r : DriverNo) → list_any (same_driver r) rs ≡ true → SamePlace r) × (a ≡ b)
+  places_told : (rs : List DriverNo) (a b : List ℕ) → places_words def g rs a ≡ places_words def h rs b
+      → ((r : DriverNo) → list_any (same_driver r) rs ≡ true → SamePlace r) × (a ≡ b)
   places_told [] a b e = ((λ r there. absurd (let x : ⊥ = cc there in x)), e)
   places_told (w ∷ rs) a b e =
       let p : place_by def w g ≡ place_by def w h = cc in
@@ -141,10 +143,15 @@ module _ (def : LineDef) (g h : List Entry) where
       let rest = places_told rs a b i in
       ((λ r there. by_test r (same_driver r w) refl there (rest.0 r) p k), rest.1)
     where
-      by_test : (r : DriverNo) (c : Bool) → same_driver r w ≡ c → (c || list_any (same_driver r) rs) ≡ true → (list_any (same_driver r) rs ≡ true → SamePlace r) → place_by def w g ≡ place_by def w h → within_by def w g ≡ within_by def w h → SamePlace r
+      by_test : (r : DriverNo) (c : Bool) → same_driver r w ≡ c → (c || list_any (same_driver r) rs) ≡ true
+          → (list_any (same_driver r) rs ≡ true → SamePlace r) → place_by def w g ≡ place_by def w h
+          → within_by def w g ≡ within_by def w h → SamePlace r
       by_test r true is there more p k =
-          let e = driver_from_same r w is in
-          (ap (λ (x : DriverNo). place_by def x g) e ∙ (p ∙ ap (λ (x : DriverNo). place_by def x h) (sym e)), ap (λ (x : DriverNo). within_by def x g) e ∙ (k ∙ ap (λ (x : DriverNo). within_by def x h) (sym e)))
+          let e = driver_from_same r w is in (
+            ap (λ (x : DriverNo). place_by def x g) e ∙ (p ∙ ap (λ (x : DriverNo). place_by def x h) (sym e)),
+            ap
+                (λ (x : DriverNo). within_by def x g) e ∙ (k ∙ ap (λ (x : DriverNo). within_by def x h) (sym e)),
+          )
       by_test r false is there more p k = more there
 
   places_same : SamePlaces def g h → (rs : List DriverNo) (a : List ℕ) → places_words def g rs a ≡ places_words def h rs a
@@ -167,18 +174,36 @@ none_called r (c ∷ cs) none = by_there (list_any (same_driver c.0) (drivers_in
     split true y h = cc
     split false y h = (refl, h)
 
-    by_there : (b : Bool) → list_any (same_driver c.0) (drivers_in cs) ≡ b → list_any (same_driver r) (cond b (drivers_in cs) (c.0 ∷ drivers_in cs)) ≡ false → (list_any (same_driver r) (drivers_in cs) ≡ false → calls_by r cs ≡ []) → calls_by r (c ∷ cs) ≡ []
+    by_there : (b : Bool) → list_any (same_driver c.0) (drivers_in cs) ≡ b
+        → list_any (same_driver r) (cond b (drivers_in cs) (c.0 ∷ drivers_in cs)) ≡ false
+        → (list_any (same_driver r) (drivers_in cs) ≡ false → calls_by r cs ≡ []) → calls_by r (c ∷ cs) ≡ []
     by_there true there n rest =
-        by_same (same_driver r c.0) refl (λ is. let k : list_any (same_driver r) (drivers_in cs) ≡ true = ap (λ (x : DriverNo). list_any (same_driver x) (drivers_in cs)) (driver_from_same r c.0 is) ∙ there in let x : ⊥ = cc (sym n ∙ k) in x) (rest n)
+        by_same (same_driver r c.0) refl (λ is. let k : list_any (same_driver r) (drivers_in cs)
+        ≡ true = ap (λ (x : DriverNo). list_any (same_driver x) (drivers_in cs)) (driver_from_same r c.0 is)
+        ∙ there in let x : ⊥ = cc (sym n ∙ k) in x) (rest n)
     by_there false there n rest =
         let s = split (same_driver r c.0) (list_any (same_driver r) (drivers_in cs)) n in
         by_same (same_driver r c.0) refl (λ is. let x : ⊥ = cc (sym s.0 ∙ is) in x) (rest s.1)
 
 -- ---- pasts
 
-desc_by : (d e : DescSeen) → d.unlazy ≡ e.unlazy → d.depth ≡ e.depth → d.started ≡ e.started → d.masked ≡ e.masked → d.pending ≡ e.pending → d.oneshot ≡ e.oneshot → d.spurious ≡ e.spurious → d.soft ≡ e.soft → d.flow ≡ e.flow → d ≡ e
+desc_by : (d e : DescSeen) → d.unlazy ≡ e.unlazy → d.depth ≡ e.depth → d.started ≡ e.started → d.masked ≡ e.masked
+    → d.pending ≡ e.pending → d.oneshot ≡ e.oneshot → d.spurious ≡ e.spurious → d.soft ≡ e.soft → d.flow ≡ e.flow
+    → d ≡ e
 desc_by d e a b c f g h i j k =
-    (let x : ◌≡◌ {A = DescSeen} (record { unlazy = d.unlazy; depth = d.depth; started = d.started; masked = d.masked; pending = d.pending; oneshot = d.oneshot; spurious = d.spurious; soft = d.soft; flow = d.flow }) e = rw (a, b, c, f, g, h, i, j, k) refl in x)
+    (let x : ◌≡◌ {A = DescSeen} (record {
+      unlazy = d.unlazy;
+      depth = d.depth;
+      started = d.started;
+      masked
+          = d.masked;
+      pending = d.pending;
+      oneshot = d.oneshot;
+      spurious = d.spurious;
+      soft = d.soft;
+      flow = d.flow;
+    }) e
+    = rw (a, b, c, f, g, h, i, j, k) refl in x)
 
 module _ (def : LineDef) (valid : IsValid def) (g h : List Entry) (legal : IsLegalPast def g) (other : IsLegalPast def h) where
   abbrev s : StateSeen
@@ -214,16 +239,46 @@ module _ (def : LineDef) (valid : IsValid def) (g h : List Entry) (legal : IsLeg
   ask_keys =
       keys_canon (serves_at (state_of def g)) (is_working (state_of def g).round.working) (is_thread_working (state_of def g).threads) (asks_of def g)
       ∙ (keys_table (ask_row def g) def.devices
-      ∙ sym (keys_canon (serves_at (state_of def h)) (is_working (state_of def h).round.working) (is_thread_working (state_of def h).threads) (asks_of def h) ∙ keys_table (ask_row def h) def.devices))
+      ∙ sym (keys_canon (serves_at (state_of def h)) (is_working (state_of def h).round.working)
+      (is_thread_working (state_of def h).threads) (asks_of def h) ∙ keys_table (ask_row def h) def.devices))
 
-  abbrev made_of : DescSeen → Cell → ℕ → Option ℕ → ListSeen → List (DevNo × ThreadRow) → List (DevNo × AskRow) → RoundSeen → Counts → Option (DriverNo × DevNo) → StateSeen
-  made_of d c m w l r a n k f = record { desc = d; cell = c; active = false; aimed = 0; aim = record { cpus = def.cpus; later = def.later; mask = m; waiting = w }; list = l; threads = r; asks = a; kinds = s.kinds; round = n; counts = record { window = def.window; limit = def.limit; counts = k }; freeing = f }
+  abbrev made_of : DescSeen → Cell → ℕ → Option ℕ → ListSeen → List (DevNo × ThreadRow) → List (DevNo × AskRow)
+      → RoundSeen → Counts → Option (DriverNo × DevNo) → StateSeen
+  made_of d c m w l r a n k f = record {
+    desc = d;
+    cell = c;
+    active = false;
+    aimed = 0;
+    aim
+        = record { cpus = def.cpus; later = def.later; mask = m; waiting = w };
+    list = l;
+    threads = r;
+    asks = a;
+    kinds
+        = s.kinds;
+    round = n;
+    counts = record { window = def.window; limit = def.limit; counts = k };
+    freeing = f;
+  }
 
   round_by : (a b : RoundSeen) → a.working ≡ b.working → a.wakes ≡ b.wakes → a.handles ≡ b.handles → a.moment ≡ b.moment → a ≡ b
-  round_by a b i j k l = (let x : ◌≡◌ {A = RoundSeen} (record { working = a.working; wakes = a.wakes; handles = a.handles; moment = a.moment }) b = rw (i, j, k, l) refl in x)
+  round_by a b i j k l = (let x : ◌≡◌ {A = RoundSeen} (record
+      { working = a.working; wakes = a.wakes; handles = a.handles; moment = a.moment }) b = rw (i, j, k, l) refl in x)
 
-  counts_by : (a b : Counts) → a.irq_count ≡ b.irq_count → a.irqs_unhandled ≡ b.irqs_unhandled → a.threads_handled ≡ b.threads_handled → a.deferred ≡ b.deferred → a.last ≡ b.last → a.last_unhandled ≡ b.last_unhandled → a ≡ b
-  counts_by a b i j k l m n = (let x : ◌≡◌ {A = Counts} (record { irq_count = a.irq_count; irqs_unhandled = a.irqs_unhandled; threads_handled = a.threads_handled; deferred = a.deferred; last = a.last; last_unhandled = a.last_unhandled }) b = rw (i, j, k, l, m, n) refl in x)
+  counts_by : (a b : Counts) → a.irq_count ≡ b.irq_count → a.irqs_unhandled ≡ b.irqs_unhandled
+      → a.threads_handled ≡ b.threads_handled → a.deferred ≡ b.deferred → a.last ≡ b.last
+      → a.last_unhandled ≡ b.last_unhandled → a ≡ b
+  counts_by a b i j k l m n = (let x : ◌≡◌ {A = Counts}
+      (record {
+        irq_count = a.irq_count;
+        irqs_unhandled = a.irqs_unhandled;
+        threads_handled
+            = a.threads_handled;
+        deferred = a.deferred;
+        last = a.last;
+        last_unhandled = a.last_unhandled;
+      }) b
+      = rw (i, j, k, l, m, n) refl in x)
 
   list_by : (a b : ListSeen) → a.actions ≡ b.actions → a.begun ≡ b.begun → a.rounds ≡ b.rounds → a ≡ b
   list_by a b i j k = (let x : ◌≡◌ {A = ListSeen} (record { actions = a.actions; begun = a.begun; rounds = a.rounds }) b = rw (i, j, k) refl in x)
@@ -242,7 +297,8 @@ module _ (def : LineDef) (valid : IsValid def) (g h : List Entry) (legal : IsLeg
       let desc : s.desc ≡ t.desc = desc_by s.desc t.desc refl d.0.depth d.0.started d.0.masked d.0.pending d.0.oneshot d.0.spurious d.0.soft d.0.flow in
       let list : s.list ≡ t.list = list_by s.list t.list (ap without_bits flags) b.0 refl in
       let round : s.round ≡ t.round = round_by s.round t.round r.0.working r.0.wakes r.0.handles r.0.moment in
-      let counts : s.counts.counts ≡ t.counts.counts = counts_by s.counts.counts t.counts.counts r.0.counted r.0.unhandled r.0.handled r.0.deferred refl r.0.last in
+      let counts : s.counts.counts ≡ t.counts.counts = counts_by s.counts.counts t.counts.counts r.0.counted
+      r.0.unhandled r.0.handled r.0.deferred refl r.0.last in
       record {
         state =
             ap (λ (x : DescSeen). made_of x s.cell s.aim.mask s.aim.waiting s.list s.threads s.asks s.round s.counts.counts s.freeing) desc
@@ -258,7 +314,9 @@ module _ (def : LineDef) (valid : IsValid def) (g h : List Entry) (legal : IsLeg
         places = λ r. by_called r (list_any (same_driver r) (drivers_in def.calls)) refl p.0;
       }
     where
-      by_called : (r : DriverNo) (c : Bool) → list_any (same_driver r) (drivers_in def.calls) ≡ c → ((x : DriverNo) → list_any (same_driver x) (drivers_in def.calls) ≡ true → SamePlace def g h x) → SamePlace def g h r
+      by_called : (r : DriverNo) (c : Bool) → list_any (same_driver r) (drivers_in def.calls) ≡ c
+          → ((x : DriverNo) → list_any (same_driver x) (drivers_in def.calls) ≡ true → SamePlace def g h x)
+          → SamePlace def g h r
       by_called r true there told = told r there
       by_called r false none told =
           let no = none_called r def.calls none in (
@@ -268,6 +326,11 @@ module _ (def : LineDef) (valid : IsValid def) (g h : List Entry) (legal : IsLeg
 
   pub node_same : AreAlike def g h → node def g ≡ node def h
   node_same like =
-      ap (λ (x : StateSeen). desc_words x (round_words x (freeing_words x.freeing (table_words begun_words x.list.begun (table_words thread_words x.threads (table_words ask_words x.asks (places_words def g (drivers_in def.calls) (linked_words (flags_of x.list.actions))))))))) like.state
-      ∙ ap (λ (x : List ℕ). desc_words t (round_words t (freeing_words t.freeing (table_words begun_words t.list.begun (table_words thread_words t.threads (table_words ask_words t.asks x))))))
+      ap (λ (x : StateSeen). desc_words x (round_words x
+      (freeing_words x.freeing (table_words begun_words x.list.begun
+      (table_words thread_words x.threads (table_words ask_words x.asks
+      (places_words def g (drivers_in def.calls) (linked_words (flags_of x.list.actions))))))))) like.state
+      ∙ ap (λ (x : List ℕ). desc_words t (round_words t
+      (freeing_words t.freeing (table_words begun_words t.list.begun
+      (table_words thread_words t.threads (table_words ask_words t.asks x))))))
       (places_same def g h like.places (drivers_in def.calls) (linked_words (flags_of t.list.actions)))

@@ -1,5 +1,6 @@
 -- Each legal history goes on until the line is settled.
-use Rattle.std.proofs.Common.{◌≡◌, ◌≤◌, ℕ, zero, suc, ◌+◌, Option, None, Some, List, [], ◌∷◌, ◌++◌, length, reverse, refl, sym, ap, subst, ◌∙◌, ◌⊎◌, inl, inr, arith}
+use Rattle.std.proofs.Common.{◌≡◌, ◌≤◌, ℕ, zero, suc, ◌+◌, Option, None, Some, List, [], ◌∷◌, ◌++◌, length, reverse}
+use Rattle.std.proofs.Common.{refl, sym, ap, subst, ◌∙◌, ◌⊎◌, inl, inr, arith}
 use Rattle.std.proofs.lemmas.List.{append_assoc, length-reverse, reverse-reverse}
 use Rattle.irq_base.specs.declared.entries.Actor.{Actor}
 use Rattle.irq_base.specs.declared.entries.Entry.{Entry}
@@ -54,8 +55,12 @@ module _ (def : LineDef) (valid : IsValid def) where
 
   one_more : (g : List Entry) (e : Entry) → ComesToRest def (e ∷ g) → ComesToRest def g
   one_more g e later =
-      let same : (later.0 ++ e ∷ []) ++ g ≡ later.0 ++ (e ∷ g) = append_assoc later.0 (e ∷ []) g in
-      (later.0 ++ e ∷ [], subst (λ (x : List Entry). IsLegalPast def x) (sym same) later.1, subst (λ (x : List Entry). IsSettled def (reverse x)) (sym same) later.2)
+      let same : (later.0 ++ e ∷ []) ++ g ≡ later.0 ++ (e ∷ g) = append_assoc later.0 (e ∷ []) g in (
+        later.0 ++ e ∷ [],
+        subst (λ (x : List Entry). IsLegalPast def x) (sym same) later.1,
+        subst
+            (λ (x : List Entry). IsSettled def (reverse x)) (sym same) later.2,
+      )
 
   step : (g : List Entry) → IsLegalPast def g → ((e : Entry) → IsLegalPast def (e ∷ g) → ComesToRest def (e ∷ g)) → ComesToRest def g
   step g legal on = by_mover (movers g (actors_of def))

@@ -1,5 +1,6 @@
 -- What a search through the states of a line says of its histories.
-use Rattle.std.proofs.Common.{Contains, map, take, ◌≡◌, ◌≤◌, ◌<◌, ℕ, Bool, true, false, ltb, Option, None, Some, List, [], ◌∷◌, length, slice_get, refl, sym, subst, ◌∙◌, arith, get_or}
+use Rattle.std.proofs.Common.{Contains, map, take, ◌≡◌, ◌≤◌, ◌<◌, ℕ, Bool, true, false, ltb, Option, None, Some, List}
+use Rattle.std.proofs.Common.{[], ◌∷◌, length, slice_get, refl, sym, subst, ◌∙◌, arith, get_or}
 use Rattle.std.proofs.lemmas.Bool.Decides.{nat_tests}
 use Rattle.irq_base.specs.declared.entries.Entry.{Entry}
 use Rattle.irq_base.specs.declared.lines.LineDef.{LineDef}
@@ -38,8 +39,13 @@ module _ (def : LineDef) where
         record {
           each = λ k d lt.
               let f = steps.each k d lt in
-              let e = (get_or found k d).0 in
-              (due_alike def valid g h legal other like e f.0, sym (node_same def valid (e ∷ g) (e ∷ h) (f.0, legal) (due_alike def valid g h legal other like e f.0, other) (alike_after def valid g h legal other like e f.0)) ∙ f.1);
+              let e = (get_or found k d).0 in (
+                due_alike def valid g h legal other like e f.0,
+                sym
+                    (node_same def valid (e ∷ g) (e ∷ h) (f.0, legal)
+                    (due_alike def valid g h legal other like e f.0, other)
+                    (alike_after def valid g h legal other like e f.0)) ∙ f.1,
+              );
           all = λ e due. steps.all e (due_alike def valid h g other legal back e due);
         }
 
@@ -49,19 +55,23 @@ module _ (def : LineDef) where
     reached h legal below = searches.all h (legal_is_path h legal) below
 
     -- and its own past is legal, and a shortest one
-    pub shortest : (k : ℕ) (p : List Entry) → slice_get paths k ≡ Some p → IsLegalPast def p × ((h : List Entry) → IsLegalPast def h → node def h ≡ node def p → length p ≤ length h)
+    pub shortest : (k : ℕ) (p : List Entry) → slice_get paths k ≡ Some p
+        → IsLegalPast def p × ((h : List Entry) → IsLegalPast def h → node def h ≡ node def p → length p ≤ length h)
     shortest k p is =
         let L : List Entry → Type 0 = λ p. (h : List Entry) → IsPath (IsDue def) h → node def h ≡ node def p → length p ≤ length h in
         let least : L p = all_at L paths k p searches.least is in
         (path_is_legal p (all_at (IsPath (IsDue def)) paths k p searches.paths_are is), λ h legal same. least h (legal_is_path h legal) same)
 
-  module _ (eq : Entry → Entry → Bool) (paths : List (List Entry)) (looked : ℕ) (cut : Option ℕ) (firsts : List (First Entry)) (searches : Searches (IsDue def) (node def) paths looked cut) (are : AreFirsts eq (IsDue def) paths cut firsts) where
+  module _ (eq : Entry → Entry → Bool) (paths : List (List Entry)) (looked : ℕ) (cut : Option ℕ)
+      (firsts : List (First Entry)) (searches : Searches (IsDue def) (node def) paths looked cut)
+      (are : AreFirsts eq (IsDue def) paths cut firsts) where
     -- the path that was met is legal
     path_at : (j : ℕ) (p : List Entry) → slice_get paths j ≡ Some p → IsPath (IsDue def) p
     path_at j p is = all_at (IsPath (IsDue def)) paths j p searches.paths_are is
 
     -- an entry that was met, with its shortest past
-    pub met : (k : ℕ) (f : First Entry) → slice_get firsts k ≡ Some f → eq f.label f.label ≡ true → (p : List Entry) × (slice_get paths f.place ≡ Some p) × IsShortest def f.label p
+    pub met : (k : ℕ) (f : First Entry) → slice_get firsts k ≡ Some f → eq f.label f.label ≡ true
+        → (p : List Entry) × (slice_get paths f.place ≡ Some p) × IsShortest def f.label p
     met k f there itself =
         let F : First Entry → Type 0 = λ f. (p : List Entry) × (slice_get paths f.place ≡ Some p) × IsDue def f.label p
         × ((h : List Entry) (l : Entry) → IsPath (IsDue def) h → IsDue def l h → eq f.label l ≡ true → length p ≤ length h) in

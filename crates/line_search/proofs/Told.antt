@@ -84,7 +84,9 @@ thread_told r q a b h =
     (thread_by r q (one_told r.woken q.woken w) (stage_told r.stage q.stage s) (one_told r.held q.held d), (let e : a ≡ b = cc in e))
 
 ask_by : (r q : AskRow) → r.unserved ≡ q.unserved → r.fresh ≡ q.fresh → r.met_by_handler ≡ q.met_by_handler → r.met_by_thread ≡ q.met_by_thread → r ≡ q
-ask_by r q a b c d = (let e : ◌≡◌ {A = AskRow} (record { unserved = r.unserved; fresh = r.fresh; met_by_handler = r.met_by_handler; met_by_thread = r.met_by_thread }) q = rw (a, b, c, d) refl in e)
+ask_by r q a b c d = (let e : ◌≡◌ {A = AskRow} (record
+    { unserved = r.unserved; fresh = r.fresh; met_by_handler = r.met_by_handler; met_by_thread = r.met_by_thread }) q
+    = rw (a, b, c, d) refl in e)
 
 pub ask_told : Tells ask_words
 ask_told r q a b h =
@@ -104,7 +106,8 @@ module _ {R : Type 0} where
   row_by : (e f : DevNo × R) → e.0 ≡ f.0 → e.1 ≡ f.1 → e ≡ f
   row_by e f p q = ap (λ (x : DevNo). (x, e.1)) p ∙ ap (λ (x : R). (f.0, x)) q
 
-  pub table_told : (words : R → List ℕ → List ℕ) → Tells words → (t u : List (DevNo × R)) (a b : List ℕ) → keys_of t ≡ keys_of u → table_words words t a ≡ table_words words u b → (t ≡ u) × (a ≡ b)
+  pub table_told : (words : R → List ℕ → List ℕ) → Tells words → (t u : List (DevNo × R)) (a b : List ℕ)
+      → keys_of t ≡ keys_of u → table_words words t a ≡ table_words words u b → (t ≡ u) × (a ≡ b)
   table_told words tells [] [] a b k h = (refl, h)
   table_told words tells [] (f ∷ fs) a b k h = absurd (let x : ⊥ = cc k in x)
   table_told words tells (e ∷ es) [] a b k h = absurd (let x : ⊥ = cc k in x)
@@ -132,5 +135,6 @@ linked_told (e ∷ es) (f ∷ fs) h =
     let r : linked_words es ≡ linked_words fs = cc in
     let dev : ℕ → DevNo = λ n. record { 0 = n } in
     ap (λ n. (dev n, e.1) ∷ es) d
-    ∙ (ap (λ (x : Flags). (f.0, x) ∷ es) (flags_by e.1 f.1 (one_told e.1.shared f.1.shared s) (one_told e.1.oneshot f.1.oneshot o) (one_told e.1.noauto f.1.noauto n))
+    ∙ (ap (λ (x : Flags). (f.0, x) ∷ es) (flags_by e.1 f.1 (one_told e.1.shared f.1.shared s)
+    (one_told e.1.oneshot f.1.oneshot o) (one_told e.1.noauto f.1.noauto n))
     ∙ ap (λ (x : List (DevNo × Flags)). f ∷ x) (linked_told es fs r))

@@ -51,9 +51,13 @@ free_seen def seen more rest e d valid legal freed run = by_test (list_any (link
         ∙ (append_assoc (reverse rest ++ e ∷ []) (reverse more) (reverse seen) ∙ append_assoc (reverse rest) (e ∷ []) (reverse more ++ reverse seen)))
 
     silent : stands (is_freed d) (links_dev d) (reverse more ++ reverse seen) ≡ false
-    silent = each_at (λ x past. (y : DevNo) → is_run_of y x ≡ true → stands (is_freed y) (links_dev y) past ≡ false) (reverse rest) e (reverse more ++ reverse seen)
-        (subst (λ (xs : List Entry). EachEntry (λ x past. (y : DevNo) → is_run_of y x ≡ true → stands (is_freed y) (links_dev y) past ≡ false) xs) newest (silent_after_free def (seen ++ (more ++ e ∷ rest)) valid legal)) d run
+    silent = each_at (λ x past. (y : DevNo) → is_run_of y x ≡ true → stands (is_freed y) (links_dev y) past ≡ false)
+        (reverse rest) e (reverse more ++ reverse seen)
+        (subst (λ (xs : List Entry). EachEntry (λ x past. (y : DevNo) → is_run_of y x ≡ true
+        → stands (is_freed y) (links_dev y) past ≡ false) xs) newest
+        (silent_after_free def (seen ++ (more ++ e ∷ rest)) valid legal)) d run
 
     by_test : (t : Bool) → list_any (links_dev d) more ≡ t → list_any (links_dev d) more ≡ true
     by_test true is = is
-    by_test false is = absurd (false≢true (sym silent ∙ stands_longer (is_freed d) (links_dev d) (reverse more) (reverse seen) (none_reverse (links_dev d) more is) freed))
+    by_test false is = absurd (false≢true (sym silent ∙ stands_longer (is_freed d) (links_dev d) (reverse more)
+        (reverse seen) (none_reverse (links_dev d) more is) freed))

@@ -1,5 +1,6 @@
 -- What a first pass knows of the actors that it met.
-use Rattle.std.proofs.Common.{◌≡◌, ℕ, suc, ◌+◌, Bool, true, false, cond, IfSome, Option, Some, List, [], ◌∷◌, All, Contains, slice_get, refl, sym, ap, subst, ◌∙◌, inl, inr, arith}
+use Rattle.std.proofs.Common.{◌≡◌, ℕ, suc, ◌+◌, Bool, true, false, cond, IfSome, Option, Some, List, [], ◌∷◌, All}
+use Rattle.std.proofs.Common.{Contains, slice_get, refl, sym, ap, subst, ◌∙◌, inl, inr, arith}
 use Rattle.std.proofs.lemmas.Bool.{false≢true}
 use Rattle.std.proofs.lemmas.List.Elements.{All-nil, All-cons, All-weaker, All-contains}
 use Rattle.std.proofs.lemmas.Option.{same_Some}
@@ -77,11 +78,21 @@ one_on line who start e h p f = record { k = suc f.k; place = f.place ∙ omega 
 
 all_from : (line : LineNo) (who : Actor) (start : ℕ) (h : List Entry) → All (From line who start h) (placed_from line who start h)
 all_from line who start [] = All-nil (From line who start [])
-all_from line who start (e ∷ h) = by_test (All-weaker (From line who (suc start) h) (From line who start (e ∷ h)) (one_on line who start e h) (placed_from line who (suc start) h) (all_from line who (suc start) h)) (is_by line who e) refl
+all_from line who start (e ∷ h) = by_test (All-weaker (From line who (suc start) h) (From line who start (e ∷ h))
+    (one_on line who start e h) (placed_from line who (suc start) h) (all_from line who (suc start) h))
+    (is_by line who e) refl
   where
     by_test : All (From line who start (e ∷ h)) (placed_from line who (suc start) h) → (t : Bool) → is_by line who e ≡ t
-        → All (From line who start (e ∷ h)) (cond t (record { place = start; entry = e } ∷ placed_from line who (suc start) h) (placed_from line who (suc start) h))
-    by_test rest true is = All-cons (From line who start (e ∷ h)) (record { place = start; entry = e }) (placed_from line who (suc start) h) (record { k = 0; place = omega arith; there = refl; by = sym (actor_from_same who (actor_of line e) is) }) rest
+        → All (From line who start (e ∷ h)) (cond t (record { place = start; entry = e }
+        ∷ placed_from line who (suc start) h) (placed_from line who (suc start) h))
+    by_test rest true is = All-cons (From line who start (e ∷ h)) (record { place = start; entry = e })
+        (placed_from line who (suc start) h) (record {
+          k = 0;
+          place = omega arith;
+          there = refl;
+          by
+              = sym (actor_from_same who (actor_of line e) is);
+        }) rest
     by_test rest false is = rest
 
 stands_from : (line : LineNo) (who : Actor) (h : List Entry) (p : Placed) → From line who 0 h p → StandsIn line who h p
@@ -97,7 +108,9 @@ all_stand line who h = All-weaker (From line who 0 h) (StandsIn line who h) (sta
 pub places_apart : (line : LineNo) (k first second : Known) (a b : Actor) (x y : Placed) → HasMet line k a first → HasMet line k b second → (a ≡ b → ⊥)
     → Contains first.mine x → Contains second.mine y → x.place ≡ y.place → ⊥
 places_apart line k first second a b x y m n apart in_first in_second same =
-    let p = All-contains (StandsIn line a k.seen) (placed line a k.seen) x (all_stand line a k.seen) (subst (λ (ps : List Placed). Contains ps x) (sym m.own) in_first) in
-    let q = All-contains (StandsIn line b k.seen) (placed line b k.seen) y (all_stand line b k.seen) (subst (λ (ps : List Placed). Contains ps y) (sym n.own) in_second) in
+    let p = All-contains (StandsIn line a k.seen) (placed line a k.seen) x (all_stand line a k.seen)
+    (subst (λ (ps : List Placed). Contains ps x) (sym m.own) in_first) in
+    let q = All-contains (StandsIn line b k.seen) (placed line b k.seen) y (all_stand line b k.seen)
+    (subst (λ (ps : List Placed). Contains ps y) (sym n.own) in_second) in
     let entries : x.entry ≡ y.entry = same_Some x.entry y.entry (sym p.there ∙ (ap (slice_get k.seen) same ∙ q.there)) in
     apart (sym p.by ∙ (ap (actor_of line) entries ∙ q.by))

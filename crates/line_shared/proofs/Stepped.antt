@@ -18,7 +18,9 @@ use Rattle.line_lock.specs.declared.view.Placed.{Placed}
 use Rattle.line_lock.proofs.Placing.{placed_own}
 use Rattle.line_shared.specs.Stepping.{Gains, Steps}
 
-module _ (key : LineDef) (who : Actor) (old new : Known) (line after : LineSeen) (def : line.def ≡ key) (actor : old.actor ≡ Some who) (mine : old.mine ≡ placed_of key.line (Some who) line.entries) (seen : new ≡ looked key.line old after.entries) where
+module _ (key : LineDef) (who : Actor) (old new : Known) (line after : LineSeen) (def : line.def ≡ key)
+    (actor : old.actor ≡ Some who) (mine : old.mine ≡ placed_of key.line (Some who) line.entries)
+    (seen : new ≡ looked key.line old after.entries) where
   mine_is : (h : List Entry) → after.entries ≡ h → new.mine ≡ placed key.line who h
   mine_is h same = ap (λ (k : Known). k.mine) seen ∙ (ap (λ (o : Option Actor). placed_of key.line o after.entries) actor ∙ ap (placed key.line who) same)
 
@@ -31,7 +33,8 @@ module _ (key : LineDef) (who : Actor) (old new : Known) (line after : LineSeen)
   gains said (Ok (stepped.Added e)) a =
       let by : actor_of key.line e ≡ who = ap (λ (d : LineDef). actor_of d.line e) (sym def) ∙ a.actor in (
         ap (λ (k : Known). k.seen) seen ∙ a.entries,
-        mine_is (line.entries ++ e ∷ []) a.entries ∙ (placed_own key.line who line.entries e by ∙ ap (λ (xs : List Placed). xs ++ record { place = length line.entries; entry = e } ∷ []) (sym mine)),
+        mine_is (line.entries ++ e ∷ []) a.entries ∙ (placed_own key.line who line.entries e by
+            ∙ ap (λ (xs : List Placed). xs ++ record { place = length line.entries; entry = e } ∷ []) (sym mine)),
       )
   gains said (Ok (stepped.Run run)) a = unchanged a.1
   gains said (Ok stepped.NotYet) a = unchanged a.1

@@ -12,7 +12,9 @@ use Rattle.line_marks.specs.CpuDue.{is_held, note_by, end_by, end_with}
 use Rattle.line_marks.specs.State.{StateSeen, state_after}
 use Rattle.line_marks.proofs.Ends.{end_is}
 
-killed_left : (def : LineDef) (note : Note) (s : StateSeen) → left_by def def.flow (is_held (killed_by note s)) (killed_by note s).desc ≡ left_by def def.flow (is_held s) (killed_if note s.desc)
+killed_left : (def : LineDef) (note : Note) (s : StateSeen)
+    → left_by def def.flow (is_held (killed_by note s)) (killed_by note s).desc
+    ≡ left_by def def.flow (is_held s) (killed_if note s.desc)
 killed_left def notes.Killed s = refl
 killed_left def notes.Quiet s = refl
 killed_left def notes.Counted s = refl
@@ -25,7 +27,8 @@ killed_held notes.Counted s = refl
 -- the note, the kill and the flow handler's end, each of the state before it
 module _ (def : LineDef) (s noted killed last : StateSeen) (note : Note) (left : LeaveAnswer) (c : CpuNo)
     (by_note : note ≡ note_by s) (by_noted : noted ≡ noted_at s) (by_killed : killed ≡ killed_by note noted)
-    (by_left : left ≡ left_by def def.flow (is_held killed) killed.desc) (by_last : last ≡ gone_on def left.again (left_at def def.flow (is_held killed) killed)) where
+    (by_left : left ≡ left_by def def.flow (is_held killed) killed.desc)
+    (by_last : last ≡ gone_on def left.again (left_at def def.flow (is_held killed) killed)) where
   kills : killed ≡ killed_by (note_by s) (noted_at s)
   kills = by_killed ∙ rw (by_note, by_noted) refl
 
@@ -41,9 +44,12 @@ module _ (def : LineDef) (s noted killed last : StateSeen) (note : Note) (left :
       by_last
       ∙ (ap (λ (t : StateSeen). gone_on def left.again (left_at def def.flow (is_held t) t)) kills
       ∙ (ap (λ held. gone_on def left.again (left_at def def.flow held (killed_by (note_by s) (noted_at s)))) (killed_held (note_by s) (noted_at s))
-      ∙ (ap (λ (n : Note). gone_on def left.again (left_at def def.flow (is_held s) (killed_by n (noted_at s)))) (sym by_note) ∙ sym (end_is def c left.again left.unmask note s entry_joined))))
+      ∙ (ap (λ (n : Note). gone_on def left.again (left_at def def.flow (is_held s) (killed_by n (noted_at s))))
+      (sym by_note) ∙ sym (end_is def c left.again left.unmask note s entry_joined))))
 
 -- on the edge flow a flow that goes on begins a new round
-pub edge_goes_on : (def : LineDef) (again held : Bool) (s last : StateSeen) → def.flow ≡ flows.Edge → last ≡ cond again (round_begun (left_at def flows.Edge held s)) (left_at def flows.Edge held s) → last ≡ gone_on def again (left_at def def.flow held s)
+pub edge_goes_on : (def : LineDef) (again held : Bool) (s last : StateSeen) → def.flow ≡ flows.Edge
+    → last ≡ cond again (round_begun (left_at def flows.Edge held s)) (left_at def flows.Edge held s)
+    → last ≡ gone_on def again (left_at def def.flow held s)
 edge_goes_on def true held s last is h = rw is h
 edge_goes_on def false held s last is h = rw is h

@@ -24,13 +24,15 @@ abbrev held_row : ThreadRow → ℕ
 held_row r = one_if r.held
 
 -- the bits that stand once this one is given up
-less : (s : StateSeen) (d : DevNo) (row : ThreadRow) → at s.threads d ≡ Some row → row.stage ≡ stages.Returned → row.woken ≡ false → held_in (put s.threads d (finished_row row)) ≡ held_in s.threads - one_if row.held
+less : (s : StateSeen) (d : DevNo) (row : ThreadRow) → at s.threads d ≡ Some row → row.stage ≡ stages.Returned
+    → row.woken ≡ false → held_in (put s.threads d (finished_row row)) ≡ held_in s.threads - one_if row.held
 less s d row there returned idle =
     let gone : one_if (finished_row row).held ≡ 0 = rw (returned, idle, none_held row.held) refl in
     let both = weight_put held_row s.threads d row (finished_row row) there in
     omega (arith, both, gone)
 
-pub finish_is : (s : StateSeen) (d : DevNo) (row : ThreadRow) → at s.threads d ≡ Some row → row.stage ≡ stages.Returned → finish_by s d ≡ entries.Finish d row.woken (finish_opens s row)
+pub finish_is : (s : StateSeen) (d : DevNo) (row : ThreadRow) → at s.threads d ≡ Some row → row.stage ≡ stages.Returned
+    → finish_by s d ≡ entries.Finish d row.woken (finish_opens s row)
 finish_is s d row there returned = by_woken row.woken refl
   where
     by_woken : (w : Bool) → row.woken ≡ w → finish_by s d ≡ entries.Finish d row.woken (finish_opens s row)

@@ -12,7 +12,8 @@ removes_none : (d : DevNo) (t : List (DevNo × Action)) → has d t ≡ false �
 removes_none d [] h = refl
 removes_none d (e ∷ es) h = by_test (same_dev d e.0) h (removes_none d es)
   where
-    by_test : (b : Bool) → cond b true (has d es) ≡ false → (has d es ≡ false → remove_entry (same_dev d) es ≡ es) → cond b es (e ∷ remove_entry (same_dev d) es) ≡ e ∷ es
+    by_test : (b : Bool) → cond b true (has d es) ≡ false → (has d es ≡ false → remove_entry (same_dev d) es ≡ es)
+        → cond b es (e ∷ remove_entry (same_dev d) es) ≡ e ∷ es
     by_test true is rest = cc
     by_test false is rest = ap (λ t. e ∷ t) (rest is)
 

@@ -1,5 +1,6 @@
 -- What the tests ask for makes a valid definition.
-use Rattle.std.proofs.Common.{◌≡◌, ℕ, zero, suc, ◌+◌, ◌<◌, Bool, true, false, not, ◌&&◌, ◌||◌, Some, List, [], ◌∷◌, length, All, refl, sym, ap, subst, ◌∙◌, eqb-true, arith}
+use Rattle.std.proofs.Common.{◌≡◌, ℕ, zero, suc, ◌+◌, ◌<◌, Bool, true, false, not, ◌&&◌, ◌||◌, Some, List, [], ◌∷◌}
+use Rattle.std.proofs.Common.{length, All, refl, sym, ap, subst, ◌∙◌, eqb-true, arith}
 use Rattle.std.specs.List.{slice_get, list_all, list_any}
 use Rattle.std.proofs.lemmas.Bool.{ltb-true, not-true}
 use Rattle.std.proofs.lemmas.List.Elements.{All-nil, All-cons}
@@ -14,7 +15,8 @@ use Rattle.irq_model.specs.Kinds.{same_dev, same_driver, same_line}
 use Rattle.irq_model.specs.Lines.{is_edge_line, is_level_line, is_edge_flow, is_level_flow, is_eoi_flow, is_device}
 use Rattle.irq_model.specs.Valid.{IsValid, HasDistinctDevices, HasOneOwner, IsFreedBetween, requests_dev, frees_dev, names_one_of}
 use Rattle.irq_steps.proofs.Same.{dev_from_same, driver_from_same}
-use Rattle.line_valid.specs.Deciding.{has_distinct, links_dev, shares, agrees, has_one_owner, is_freed_first, is_freed_after, is_freed_between, fits_numbers, fits_flow, fits_lists, fits}
+use Rattle.line_valid.specs.Deciding.{has_distinct, links_dev, shares, agrees, has_one_owner, is_freed_first}
+use Rattle.line_valid.specs.Deciding.{is_freed_after, is_freed_between, fits_numbers, fits_flow, fits_lists, fits}
 
 both : (a b : Bool) → (a && b) ≡ true → (a ≡ true) × (b ≡ true)
 both true b h = (refl, h)
@@ -72,19 +74,24 @@ rest_of : (b t : Bool) → (not b && t) ≡ true → t ≡ true
 rest_of true t h = cc
 rest_of false t h = h
 
-free_before : (d : DevNo) (cs : List (DriverNo × Call)) (j : ℕ) (b : DriverNo × Call) → is_freed_first d cs ≡ true → slice_get cs j ≡ Some b → requests_dev d b.1 ≡ true → IsFreedBefore d cs j
+free_before : (d : DevNo) (cs : List (DriverNo × Call)) (j : ℕ) (b : DriverNo × Call) → is_freed_first d cs ≡ true
+    → slice_get cs j ≡ Some b → requests_dev d b.1 ≡ true → IsFreedBefore d cs j
 free_before d [] j b h at is = cc
 free_before d (c ∷ cs) j b h at is = by_free (frees_dev d c.1) refl j at (free_before d cs)
   where
     by_free : (f : Bool) → frees_dev d c.1 ≡ f → (i : ℕ) → slice_get (c ∷ cs) i ≡ Some b
-        → ((k : ℕ) (x : DriverNo × Call) → is_freed_first d cs ≡ true → slice_get cs k ≡ Some x → requests_dev d x.1 ≡ true → IsFreedBefore d cs k) → IsFreedBefore d (c ∷ cs) i
+        → ((k : ℕ) (x : DriverNo × Call) → is_freed_first d cs ≡ true → slice_get cs k ≡ Some x
+        → requests_dev d x.1 ≡ true → IsFreedBefore d cs k) → IsFreedBefore d (c ∷ cs) i
     by_free true free zero here deeper = let same : c ≡ b = cc in not_both d c.1 (ap (λ (x : DriverNo × Call). requests_dev d x.1) same ∙ is) free
     by_free true free (suc i) there deeper = (zero, c, omega arith, refl, free)
     by_free false free zero here deeper =
         let same : c ≡ b = cc in
-        not_requested (requests_dev d c.1) (is_freed_first d cs) (subst (λ (f : Bool). (f || (not (requests_dev d c.1) && is_freed_first d cs)) ≡ true) free h) (ap (λ (x : DriverNo × Call). requests_dev d x.1) same ∙ is)
+        not_requested (requests_dev d c.1) (is_freed_first d cs)
+        (subst (λ (f : Bool). (f || (not (requests_dev d c.1) && is_freed_first d cs)) ≡ true) free h)
+        (ap (λ (x : DriverNo × Call). requests_dev d x.1) same ∙ is)
     by_free false free (suc i) there deeper =
-        let later = deeper i b (rest_of (requests_dev d c.1) (is_freed_first d cs) (subst (λ (f : Bool). (f || (not (requests_dev d c.1) && is_freed_first d cs)) ≡ true) free h)) there is in
+        let later = deeper i b (rest_of (requests_dev d c.1) (is_freed_first d cs)
+        (subst (λ (f : Bool). (f || (not (requests_dev d c.1) && is_freed_first d cs)) ≡ true) free h)) there is in
         (suc later.0, later.1, omega (arith, later.2), later.3, later.4)
 
 after_request : (d : DevNo) (c : Call) (cs : List (DriverNo × Call)) → is_freed_after c cs ≡ true → requests_dev d c ≡ true → is_freed_first d cs ≡ true

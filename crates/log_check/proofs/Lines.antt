@@ -67,12 +67,14 @@ get_take (x ∷ xs) (suc i) (suc j) less = get_take xs i j (omega (arith, less))
 equals : (n : ℕ) → eqb n n ≡ true
 equals n = grind (arith, nat_tests)
 
-found_at : (lines : List LineRow) (i : ℕ) (row : LineRow) → slice_get lines i ≡ Some row → ((j : ℕ) (x : LineRow) → j < i → slice_get lines j ≡ Some x → x.line.0 < row.line.0)
+found_at : (lines : List LineRow) (i : ℕ) (row : LineRow) → slice_get lines i ≡ Some row
+    → ((j : ℕ) (x : LineRow) → j < i → slice_get lines j ≡ Some x → x.line.0 < row.line.0)
     → find_line lines row.line ≡ Some row
 found_at [] i row at below = cc
 found_at (x ∷ xs) zero row at below =
     let same = same_Some x row at in
-    ap (λ (r : LineRow). cond (eqb r.line.0 row.line.0) (Some r) (find_line xs row.line)) same ∙ ap (λ t. cond t (Some row) (find_line xs row.line)) (equals row.line.0)
+    ap (λ (r : LineRow). cond (eqb r.line.0 row.line.0) (Some r) (find_line xs row.line)) same
+    ∙ ap (λ t. cond t (Some row) (find_line xs row.line)) (equals row.line.0)
 found_at (x ∷ xs) (suc i) row at below =
     let less = below 0 x (omega arith) refl in
     ap (λ t. cond t (Some x) (find_line xs row.line)) (ne_eqb x.line.0 row.line.0 (λ same. omega (arith, less, same)))

@@ -1,5 +1,6 @@
 -- A history is tried entry by entry.
-use Rattle.std.proofs.Common.{◌≡◌, ℕ, zero, suc, ◌+◌, ◌-◌, ◌≤◌, Bool, true, false, Option, Some, None, Ok, List, [], ◌∷◌, ◌++◌, length, take, reverse, refl, sym, ap, subst, ◌∙◌, arith}
+use Rattle.std.proofs.Common.{◌≡◌, ℕ, zero, suc, ◌+◌, ◌-◌, ◌≤◌, Bool, true, false, Option, Some, None, Ok, List, []}
+use Rattle.std.proofs.Common.{◌∷◌, ◌++◌, length, take, reverse, refl, sym, ap, subst, ◌∙◌, arith}
 use Rattle.std.specs.List.{slice_get}
 use Rattle.std.specs.Option.{option_eq}
 use Rattle.std.proofs.lemmas.Bool.{false≢true}
@@ -24,7 +25,8 @@ heard_due old new a (Some e) heard = sym heard.due
 pub tried : (old new : LineSeen) (e : Entry) (due : Option Entry) (t : Bool) → Heard old (actor_of old.def.line e) (Ok due) new
     → t ≡ option_eq (entry_eq.eq-value).it due (Some e) → Tried old e t new
 tried old new e due true heard h =
-    let added = subst (λ (o : Option Entry). Heard old (actor_of old.def.line e) (Ok o) new) ((found_same due e true h).0 refl) heard in (added.due, added.entries)
+    let added = subst (λ (o : Option Entry). Heard old (actor_of old.def.line e) (Ok o) new)
+    ((found_same due e true h).0 refl) heard in (added.due, added.entries)
 tried old new e due false heard h = λ owed. false≢true ((found_same due e false h).1 (heard_due old new (actor_of old.def.line e) due heard ∙ owed))
 
 take_suc : {X : Type 0} (xs : List X) (n : ℕ) (x : X) → slice_get xs n ≡ Some x → take (suc n) xs ≡ take n xs ++ x ∷ []
@@ -36,12 +38,14 @@ pub take_next : {X : Type 0} (xs : List X) (n : ℕ) (x : X) → slice_get xs n 
 take_next xs n x at = let e : n + 1 ≡ suc n = omega arith in ap (λ m. take m xs) e ∙ take_suc xs n x at
 
 -- one more entry that is due
-pub legal_next : (def : LineDef) (h : List Entry) (n : ℕ) (e : Entry) → slice_get h n ≡ Some e → IsLegal def (take n h) → IsDue def e (reverse (take n h)) → IsLegal def (take (n + 1) h)
+pub legal_next : (def : LineDef) (h : List Entry) (n : ℕ) (e : Entry) → slice_get h n ≡ Some e → IsLegal def (take n h)
+    → IsDue def e (reverse (take n h)) → IsLegal def (take (n + 1) h)
 legal_next def h n e at legal due =
     let newest : reverse (take (n + 1) h) ≡ e ∷ reverse (take n h) = ap reverse (take_next h n e at) ∙ reverse-append (take n h) (e ∷ []) in
     subst (IsLegalPast def) (sym newest) (due, legal)
 
-pub first_undue : (def : LineDef) (h : List Entry) (n : ℕ) (e : Entry) → slice_get h n ≡ Some e → IsLegal def (take n h) → (IsDue def e (reverse (take n h)) → ⊥) → IsFirstUndue def h (n + 1)
+pub first_undue : (def : LineDef) (h : List Entry) (n : ℕ) (e : Entry) → slice_get h n ≡ Some e → IsLegal def (take n h)
+    → (IsDue def e (reverse (take n h)) → ⊥) → IsFirstUndue def h (n + 1)
 first_undue def h n e at legal undue =
     let back : n + 1 - 1 ≡ n = omega arith in
     record {

@@ -1,5 +1,7 @@
 -- The lines of a board, and the entries that they have.
-use Rattle.std.proofs.Common.{◌≡◌, ◌⊎◌, inl, inr, ℕ, zero, suc, ◌+◌, ◌<◌, ◌≤◌, Bool, true, false, not, ◌&&◌, ◌||◌, cond, eqb, IfSome, Option, Some, None, Result, Ok, Err, List, [], ◌∷◌, ◌++◌, get_or, length, map, reverse, take, refl, sym, ap, subst, ◌∙◌, arith, append_assoc, length-append}
+use Rattle.std.proofs.Common.{◌≡◌, ◌⊎◌, inl, inr, ℕ, zero, suc, ◌+◌, ◌<◌, ◌≤◌, Bool, true, false, not, ◌&&◌, ◌||◌, cond}
+use Rattle.std.proofs.Common.{eqb, IfSome, Option, Some, None, Result, Ok, Err, List, [], ◌∷◌, ◌++◌, get_or, length}
+use Rattle.std.proofs.Common.{map, reverse, take, refl, sym, ap, subst, ◌∙◌, arith, append_assoc, length-append}
 use Rattle.std.specs.List.{All, AllZip, filter, slice_get}
 use Rattle.std.specs.Option.{option_map}
 use Rattle.std.specs.Prelude.{IfOk, slice_set}
@@ -85,7 +87,8 @@ rising b i j x y board atx aty less =
     at_place (λ (e : LineRow). e.line.0 < y.line.0) (take j b.lines) i x (board.lines j y aty).rises (get_take b.lines i j less ∙ atx)
 
 -- no other line has its number
-other_line : (b : BoardSeen) (i place : ℕ) (x row : LineRow) → IsBoard b → slice_get b.lines i ≡ Some x → slice_get b.lines place ≡ Some row → (i ≡ place → ⊥) → eqb row.line.0 x.line.0 ≡ false
+other_line : (b : BoardSeen) (i place : ℕ) (x row : LineRow) → IsBoard b → slice_get b.lines i ≡ Some x
+    → slice_get b.lines place ≡ Some row → (i ≡ place → ⊥) → eqb row.line.0 x.line.0 ≡ false
 other_line b i place x row board atx at differ = by (cases_lt i place)
   where
     by : (i < place) ⊎ (place ≤ i) → eqb row.line.0 x.line.0 ≡ false
@@ -138,10 +141,14 @@ module _ (old new : LineSeen) (a : Actor) (due : Option Entry) (e : Entry) (hear
 
 -- a line has one entry more
 
-adds_to : (b : BoardSeen) (row : LineRow) (placement : Option Placement) (text : List ℕ) (number : LineNo) (old new : Option LineSeen) (es : List Entry) → HasEntries b row placement old es → TakesRow text number true old new
+adds_to : (b : BoardSeen) (row : LineRow) (placement : Option Placement) (text : List ℕ) (number : LineNo)
+    (old new : Option LineSeen) (es : List Entry) → HasEntries b row placement old es
+    → TakesRow text number true old new
     → (e : Entry) × IsRowOf (ended text) number e × HasEntries b row placement new (es ++ e ∷ [])
 adds_to b row (Some (placements.Mapped virq path)) text number (Some old) (Some new) es (legal, is, has) (e, of_row, due, kept, more) =
-    let here : IsDue (line_of_row b row) e (reverse es) = subst (λ (hs : List Entry). IsDue (line_of_row b row) e (reverse hs)) has (subst (λ (d : LineDef). IsDue d e (reverse old.entries)) is due) in
+    let here : IsDue (line_of_row b row) e (reverse es)
+    = subst (λ (hs : List Entry). IsDue (line_of_row b row) e (reverse hs)) has
+    (subst (λ (d : LineDef). IsDue d e (reverse old.entries)) is due) in
     (e, of_row, (legal_more (line_of_row b row) es e legal here, kept ∙ is, more ∙ ap (λ (hs : List Entry). hs ++ e ∷ []) has))
 adds_to b row (Some (placements.Mapped virq path)) text number (Some old) None es has takes = absurd takes
 adds_to b row (Some (placements.Mapped virq path)) text number None new es has takes = absurd has
@@ -150,12 +157,14 @@ adds_to b row (Some (placements.Refused why)) text number None new es has takes 
 adds_to b row None text number (Some old) new es has takes = absurd has
 adds_to b row None text number None new es has takes = absurd takes
 
-module _ (b : BoardSeen) (board : IsBoard b) (said : List LineEntry) (number : LineNo) (e : Entry) (place : ℕ) (row : LineRow) (at : slice_get b.lines place ≡ Some row) (of : row.line ≡ number) where
+module _ (b : BoardSeen) (board : IsBoard b) (said : List LineEntry) (number : LineNo) (e : Entry) (place : ℕ)
+    (row : LineRow) (at : slice_get b.lines place ≡ Some row) (of : row.line ≡ number) where
   abbrev s : LineEntry
   s = (number, e)
 
   here : entries_on (said ++ s ∷ []) row.line ≡ entries_on said row.line ++ e ∷ []
-  here = more_on said s row.line ∙ ap (λ (es : List Entry). entries_on said row.line ++ es) (on_own s row.line (ap (λ (l : LineNo). eqb number.0 l.0) of ∙ equals number.0))
+  here = more_on said s row.line ∙ ap (λ (es : List Entry). entries_on said row.line ++ es)
+      (on_own s row.line (ap (λ (l : LineNo). eqb number.0 l.0) of ∙ equals number.0))
 
   elsewhere : (i : ℕ) (x : LineRow) → slice_get b.lines i ≡ Some x → (i ≡ place → ⊥) → entries_on (said ++ s ∷ []) x.line ≡ entries_on said x.line
   elsewhere i x atl differ =
@@ -174,17 +183,22 @@ module _ (b : BoardSeen) (board : IsBoard b) (said : List LineEntry) (number : L
         let own : Has place row after = subst (λ (es : List Entry). HasEntries b row (slice_get (layout_of b) place) after es) (sym here) has in
         subst (λ (r : LineRow). Has place r j) same_row (subst (λ (y : Option LineSeen). Has place row y) same_line own)
 
-    by : (i : ℕ) (x : LineRow) (j : Option LineSeen) → slice_get b.lines i ≡ Some x → slice_get (slice_set old place after) i ≡ Some j → (i ≡ place) ⊎ (i ≡ place → ⊥) → Has i x j
+    by : (i : ℕ) (x : LineRow) (j : Option LineSeen) → slice_get b.lines i ≡ Some x
+        → slice_get (slice_set old place after) i ≡ Some j → (i ≡ place) ⊎ (i ≡ place → ⊥) → Has i x j
     by i x j atl atn (inl same) =
-        subst (λ (k : ℕ). Has k x j) (sym same) (at_it x j (subst (λ (k : ℕ). slice_get b.lines k ≡ Some x) same atl) (subst (λ (k : ℕ). slice_get (slice_set old place after) k ≡ Some j) same atn))
+        subst (λ (k : ℕ). Has k x j) (sym same) (at_it x j (subst (λ (k : ℕ). slice_get b.lines k ≡ Some x) same atl)
+        (subst (λ (k : ℕ). slice_get (slice_set old place after) k ≡ Some j) same atn))
     by i x j atl atn (inr differ) =
-        subst (λ (es : List Entry). HasEntries b x (slice_get (layout_of b) i) j es) (sym (elsewhere i x atl differ)) (have.each i x j atl (sym (get_set_other old place i after differ) ∙ atn))
+        subst (λ (es : List Entry). HasEntries b x (slice_get (layout_of b) i) j es) (sym (elsewhere i x atl differ))
+        (have.each i x j atl (sym (get_set_other old place i after differ) ∙ atn))
 
     one_more : HaveAll b (said ++ s ∷ []) (slice_set old place after)
     one_more = record { many = set_length old place after ∙ have.many; each = λ i x j atl atn. by i x j atl atn (cases_eq i place) }
 
 -- a row that is that of the due entry
-row_passes : (b : BoardSeen) → IsBoard b → (text : List ℕ) (number : LineNo) (place : ℕ) → IsPlaceOf b.lines number place → is_passed_over (ended text) ≡ false → (old : List (Option LineSeen)) (line after : Option LineSeen)
+row_passes : (b : BoardSeen) → IsBoard b → (text : List ℕ) (number : LineNo) (place : ℕ)
+    → IsPlaceOf b.lines number place → is_passed_over (ended text) ≡ false
+    → (old : List (Option LineSeen)) (line after : Option LineSeen)
     → slice_get old place ≡ Some line → (same : Bool) → TakesRow text number same line after → PassesRow b (ended text) same old (slice_set old place after)
 row_passes b board text number place at unpassed old line after atj false takes = tt
 row_passes b board text number place (row, at, of) unpassed old line after atj true takes = λ said have.
@@ -197,11 +211,17 @@ row_passes b board text number place (row, at, of) unpassed old line after atj t
       one_more b board said number more.0 place row at of old line after have atj more.2,
     )
 
-pub passes_if : (b : BoardSeen) → IsBoard b → (text : List ℕ) (number : LineNo) (place : ℕ) → IsPlaceOf b.lines number place → is_passed_over (ended text) ≡ false → (old : List (Option LineSeen)) (line after : Option LineSeen)
-    → length old ≡ length b.lines → line ≡ get_or old place line → (r : Result Bool NoMemory) → IfOk r (λ same. TakesRow text number same line after) → IfOk r (λ same. PassesRow b (ended text) same old (slice_set old place after))
+pub passes_if : (b : BoardSeen) → IsBoard b → (text : List ℕ) (number : LineNo) (place : ℕ)
+    → IsPlaceOf b.lines number place → is_passed_over (ended text) ≡ false
+    → (old : List (Option LineSeen)) (line after : Option LineSeen)
+    → length old ≡ length b.lines → line ≡ get_or old place line → (r : Result Bool NoMemory)
+    → IfOk r (λ same. TakesRow text number same line after)
+    → IfOk r (λ same. PassesRow b (ended text) same old (slice_set old place after))
 passes_if b board text number place at unpassed old line after many value (Ok same) takes =
     let within = slice_get_within b.lines place at.0 at.1 in
-    row_passes b board text number place at unpassed old line after (there old place line (omega (arith, many, within)) ∙ ap (λ (x : Option LineSeen). Some x) (sym value)) same takes
+    row_passes b board text number place at unpassed old line after
+    (there old place line (omega (arith, many, within)) ∙ ap (λ (x : Option LineSeen). Some x) (sym value)) same
+    takes
 passes_if b board text number place at unpassed old line after many value (Err e) takes = takes
 
 -- rows that are passed over
@@ -246,25 +266,39 @@ zip_push R (w ∷ xs) (z ∷ ys) x y all r = (all.0, zip_push R xs ys x y all.1 
 abbrev says : List ℕ → Bool
 says row = not (is_passed_over row)
 
-module _ (b : BoardSeen) (log rest after row : List ℕ) (old new : List (Option LineSeen)) (now : IsAt b log rest old) (is : rows_of rest ≡ row ∷ rows_of after) (shorter : length after + 1 ≤ length rest) where
+module _ (b : BoardSeen) (log rest after row : List ℕ) (old new : List (Option LineSeen)) (now : IsAt b log rest old)
+    (is : rows_of rest ≡ row ∷ rows_of after) (shorter : length after + 1 ≤ length rest) where
   are_next : rows_of log ≡ (now.rows ++ row ∷ []) ++ rows_of after
   are_next = now.are ∙ (ap (λ (rs : List (List ℕ)). now.rows ++ rs) is ∙ sym (append_assoc now.rows (row ∷ []) (rows_of after)))
 
   few_next : length (now.rows ++ row ∷ []) + length after ≤ length log
   few_next = let few = now.few in omega (arith, few, shorter, length-append now.rows (row ∷ []))
 
-  by_kind : ((is_passed_over row ≡ true) × HaveAll b now.said new) ⊎ ((s : LineEntry) × IsRowOn b.lines row s × (is_passed_over row ≡ false) × HaveAll b (now.said ++ s ∷ []) new) → IsAt b log after new
+  by_kind : ((is_passed_over row ≡ true) × HaveAll b now.said new)
+      ⊎ ((s : LineEntry) × IsRowOn b.lines row s × (is_passed_over row ≡ false) × HaveAll b (now.said ++ s ∷ []) new)
+      → IsAt b log after new
   by_kind (inl (passed, have)) =
-      let same : saying (now.rows ++ row ∷ []) ≡ saying now.rows = filter-append says now.rows (row ∷ []) ∙ (ap (λ t. saying now.rows ++ cond (not t) (row ∷ []) []) passed ∙ append-nil (saying now.rows)) in
-      record { rows = now.rows ++ row ∷ []; are = are_next; few = few_next; said = now.said; each = subst (λ rs. AllZip (IsRowOn b.lines) rs now.said) (sym same) now.each; have = have }
+      let same : saying (now.rows ++ row ∷ []) ≡ saying now.rows = filter-append says now.rows (row ∷ [])
+      ∙ (ap (λ t. saying now.rows ++ cond (not t) (row ∷ []) []) passed ∙ append-nil (saying now.rows)) in
+      record {
+        rows = now.rows ++ row ∷ [];
+        are = are_next;
+        few = few_next;
+        said = now.said;
+        each
+            = subst (λ rs. AllZip (IsRowOn b.lines) rs now.said) (sym same) now.each;
+        have = have;
+      }
   by_kind (inr (s, on, unpassed, have)) =
-      let same : saying (now.rows ++ row ∷ []) ≡ saying now.rows ++ row ∷ [] = filter-append says now.rows (row ∷ []) ∙ ap (λ t. saying now.rows ++ cond (not t) (row ∷ []) []) unpassed in
+      let same : saying (now.rows ++ row ∷ []) ≡ saying now.rows ++ row ∷ [] = filter-append says now.rows (row ∷ [])
+      ∙ ap (λ t. saying now.rows ++ cond (not t) (row ∷ []) []) unpassed in
       record {
         rows = now.rows ++ row ∷ [];
         are = are_next;
         few = few_next;
         said = now.said ++ s ∷ [];
-        each = subst (λ rs. AllZip (IsRowOn b.lines) rs (now.said ++ s ∷ [])) (sym same) (zip_push (IsRowOn b.lines) (saying now.rows) now.said row s now.each on);
+        each = subst (λ rs. AllZip (IsRowOn b.lines) rs (now.said ++ s ∷ [])) (sym same)
+            (zip_push (IsRowOn b.lines) (saying now.rows) now.said row s now.each on);
         have = have;
       }
 
@@ -274,7 +308,8 @@ module _ (b : BoardSeen) (log rest after row : List ℕ) (old new : List (Option
 
 -- there is room
 
-short_if : (t : Bool) (s : LineEntry) (rest : List LineEntry) (n : ℕ) → length (map (λ (x : LineEntry). x.1) rest) ≤ n → length (map (λ (x : LineEntry). x.1) (cond t (s ∷ rest) rest)) ≤ suc n
+short_if : (t : Bool) (s : LineEntry) (rest : List LineEntry) (n : ℕ) → length (map (λ (x : LineEntry). x.1) rest) ≤ n
+    → length (map (λ (x : LineEntry). x.1) (cond t (s ∷ rest) rest)) ≤ suc n
 short_if true s rest n h = omega (arith, h)
 short_if false s rest n h = omega (arith, h)
 
@@ -296,7 +331,8 @@ few_saying : (rows : List (List ℕ)) → length (saying rows) ≤ length rows
 few_saying [] = omega arith
 few_saying (row ∷ rows) = few_if (not (is_passed_over row)) row (saying rows) (length rows) (few_saying rows)
 
-has_room : (b : BoardSeen) (row : LineRow) (placement : Option Placement) (line : Option LineSeen) (es : List Entry) → HasEntries b row placement line es → length es < most → IfSome line HasRoom
+has_room : (b : BoardSeen) (row : LineRow) (placement : Option Placement) (line : Option LineSeen) (es : List Entry)
+    → HasEntries b row placement line es → length es < most → IfSome line HasRoom
 has_room b row (Some (placements.Mapped virq path)) (Some line) es (legal, is, has) few =
     let log : line.def.log ≡ most = ap (λ (d : LineDef). d.log) is in
     let same : length line.entries ≡ length es = ap length has in
@@ -318,7 +354,8 @@ have_room b log rest lines now few i line atj =
 
 -- the verdict
 
-is_judged : (b : BoardSeen) (row : LineRow) (placement : Placement) (line : Option LineSeen) (es : List Entry) → HasEntries b row (Some placement) line es → JudgedLine b row placement es None
+is_judged : (b : BoardSeen) (row : LineRow) (placement : Placement) (line : Option LineSeen) (es : List Entry)
+    → HasEntries b row (Some placement) line es → JudgedLine b row placement es None
 is_judged b row (placements.Mapped virq path) (Some line) es has = has.0
 is_judged b row (placements.Mapped virq path) None es has = absurd has
 is_judged b row (placements.Refused why) (Some line) es has = absurd has
@@ -331,12 +368,16 @@ same_entries : (lines : List LineRow) (said : List LineEntry) → entries_of (ma
 same_entries [] said = refl
 same_entries (row ∷ lines) said = ap (λ (ess : List (List Entry)). entries_on said row.line ∷ ess) (same_entries lines said)
 
-judged : (b : BoardSeen) (said : List LineEntry) (lines : List (Option LineSeen)) → HaveAll b said lines → (i : ℕ) → i < length b.lines → JudgedAt b (map (log_of said) b.lines) i None
+judged : (b : BoardSeen) (said : List LineEntry) (lines : List (Option LineSeen)) → HaveAll b said lines → (i : ℕ)
+    → i < length b.lines → JudgedAt b (map (log_of said) b.lines) i None
 judged b said lines have i within row placement history atl atp ath =
     let many = have.many in
     let line = get_there lines i (omega (arith, many, within)) in
-    let same : log_of said row ≡ history = same_Some (log_of said row) history (sym (slice_get-map (log_of said) b.lines i ∙ ap (option_map (log_of said)) atl) ∙ ath) in
-    let has : HasEntries b row (Some placement) line.0 (entries_on said row.line) = subst (λ (p : Option Placement). HasEntries b row p line.0 (entries_on said row.line)) atp (have.each i row line.0 atl line.1) in
+    let same : log_of said row ≡ history = same_Some (log_of said row) history
+    (sym (slice_get-map (log_of said) b.lines i ∙ ap (option_map (log_of said)) atl) ∙ ath) in
+    let has : HasEntries b row (Some placement) line.0 (entries_on said row.line)
+    = subst (λ (p : Option Placement). HasEntries b row p line.0 (entries_on said row.line)) atp
+    (have.each i row line.0 atl line.1) in
     subst (λ (h : HistorySeen). JudgedLine b row placement h.entries None) same (is_judged b row placement line.0 (entries_on said row.line) has)
 
 nothing_left : (rest : List ℕ) → length rest ≡ 0 → rows_of rest ≡ []
@@ -352,7 +393,8 @@ is_lawful b log rest lines now none =
 
 -- new lines
 
-new_has : (b : BoardSeen) (row : LineRow) (placement : Option Placement) (line : Option LineSeen) → IsMade (line_of_row b row) placement line → HasEntries b row placement line []
+new_has : (b : BoardSeen) (row : LineRow) (placement : Option Placement) (line : Option LineSeen)
+    → IsMade (line_of_row b row) placement line → HasEntries b row placement line []
 new_has b row (Some (placements.Mapped virq path)) (Some line) made = (tt, made.0, made.1)
 new_has b row (Some (placements.Mapped virq path)) None made = absurd made
 new_has b row (Some (placements.Refused why)) (Some line) made = cc
@@ -363,7 +405,8 @@ new_has b row None None made = refl
 -- the first n lines are made
 pub record AreMade (b : BoardSeen) (n : ℕ) (lines : List (Option LineSeen)) : Type 0 where
   pub many : length lines ≡ n
-  pub each : (i : ℕ) (row : LineRow) (line : Option LineSeen) → slice_get b.lines i ≡ Some row → slice_get lines i ≡ Some line → HasEntries b row (slice_get (layout_of b) i) line []
+  pub each : (i : ℕ) (row : LineRow) (line : Option LineSeen) → slice_get b.lines i ≡ Some row
+      → slice_get lines i ≡ Some line → HasEntries b row (slice_get (layout_of b) i) line []
 
 pub none_made : (b : BoardSeen) → AreMade b 0 []
 none_made b = record { many = refl; each = λ i row line at atj. cc }
@@ -378,21 +421,31 @@ get_push (x ∷ xs) y z (suc i) at = by (get_push xs y z i at)
     by (inl h) = inl h
     by (inr (h, k)) = inr (ap suc h, k)
 
-one_made_more : (b : BoardSeen) (n : ℕ) (old : List (Option LineSeen)) (line : Option LineSeen) (row : LineRow) → AreMade b n old → slice_get b.lines n ≡ Some row
+one_made_more : (b : BoardSeen) (n : ℕ) (old : List (Option LineSeen)) (line : Option LineSeen) (row : LineRow)
+    → AreMade b n old → slice_get b.lines n ≡ Some row
     → IsMade (line_of_row b row) (slice_get (layout_of b) n) line → AreMade b (n + 1) (old ++ line ∷ [])
-one_made_more b n old line row made atl own = record { many = length-append old (line ∷ []) ∙ ap (λ m. m + 1) made.many; each = λ i r j at atj. by i r j at (get_push old line j i atj) }
+one_made_more b n old line row made atl own = record {
+  many = length-append old (line ∷ [])
+      ∙ ap (λ m. m + 1) made.many;
+  each = λ i r j at atj. by i r j at (get_push old line j i atj);
+}
   where
-    by : (i : ℕ) (r : LineRow) (j : Option LineSeen) → slice_get b.lines i ≡ Some r → (slice_get old i ≡ Some j) ⊎ ((i ≡ length old) × (line ≡ j)) → HasEntries b r (slice_get (layout_of b) i) j []
+    by : (i : ℕ) (r : LineRow) (j : Option LineSeen) → slice_get b.lines i ≡ Some r
+        → (slice_get old i ≡ Some j) ⊎ ((i ≡ length old) × (line ≡ j)) → HasEntries b r (slice_get (layout_of b) i) j []
     by i r j at (inl before) = made.each i r j at before
     by i r j at (inr (last, same)) =
         let here : i ≡ n = last ∙ made.many in
         let same_row : row ≡ r = same_Some row r (sym atl ∙ (ap (λ (k : ℕ). slice_get b.lines k) (sym here) ∙ at)) in
         subst (λ (k : ℕ). HasEntries b r (slice_get (layout_of b) k) j []) (sym here)
-        (subst (λ (x : LineRow). HasEntries b x (slice_get (layout_of b) n) j []) same_row (subst (λ (x : Option LineSeen). HasEntries b row (slice_get (layout_of b) n) x []) same (new_has b row (slice_get (layout_of b) n) line own)))
+        (subst (λ (x : LineRow). HasEntries b x (slice_get (layout_of b) n) j []) same_row
+        (subst (λ (x : Option LineSeen). HasEntries b row (slice_get (layout_of b) n) x []) same
+        (new_has b row (slice_get (layout_of b) n) line own)))
 
 -- the definition that a line is made of
 
-module _ (b : BoardSeen) (defs : List LineDef) (i : ℕ) (d : LineDef) (within : i < length defs) (many : length defs ≡ length (line_defs_of b)) (left : slice_get defs i ≡ slice_get (line_defs_of b) i) (value : d ≡ get_or defs i d) where
+module _ (b : BoardSeen) (defs : List LineDef) (i : ℕ) (d : LineDef) (within : i < length defs)
+    (many : length defs ≡ length (line_defs_of b)) (left : slice_get defs i ≡ slice_get (line_defs_of b) i)
+    (value : d ≡ get_or defs i d) where
   row_of : (row : LineRow) × (slice_get b.lines i ≡ Some row) × (d ≡ line_of_row b row)
   row_of =
       let as_many : length (line_defs_of b) ≡ length b.lines = length-map b.lines (line_of_row b) in
@@ -401,24 +454,32 @@ module _ (b : BoardSeen) (defs : List LineDef) (i : ℕ) (d : LineDef) (within :
       let other : slice_get (line_defs_of b) i ≡ Some (line_of_row b row.0) = slice_get-map (line_of_row b) b.lines i ∙ ap (option_map (line_of_row b)) row.1 in
       (row.0, row.1, same_Some d (line_of_row b row.0) (sym own ∙ (left ∙ other)))
 
-  makes_by : (makes : ℕ → LineDef → Type 0) (placement : Option Placement) → MakesEach makes b → placement ≡ slice_get (layout_of b) i → MakesFor makes d placement
-  makes_by makes (Some (placements.Mapped virq path)) each placed = subst (λ (x : LineDef). makes virq (with_log x most)) (sym row_of.2) (each i virq path row_of.0 row_of.1 (sym placed))
+  makes_by : (makes : ℕ → LineDef → Type 0) (placement : Option Placement) → MakesEach makes b
+      → placement ≡ slice_get (layout_of b) i → MakesFor makes d placement
+  makes_by makes (Some (placements.Mapped virq path)) each placed
+      = subst (λ (x : LineDef). makes virq (with_log x most)) (sym row_of.2)
+      (each i virq path row_of.0 row_of.1 (sym placed))
   makes_by makes (Some (placements.Refused why)) each placed = tt
   makes_by makes None each placed = tt
 
-  pub makes_for : (makes : ℕ → LineDef → Type 0) (placement : Option Placement) (layout : List Placement) → MakesEach makes b → layout ≡ layout_of b → placement ≡ slice_get layout i → MakesFor makes d placement
+  pub makes_for : (makes : ℕ → LineDef → Type 0) (placement : Option Placement) (layout : List Placement)
+      → MakesEach makes b → layout ≡ layout_of b → placement ≡ slice_get layout i → MakesFor makes d placement
   makes_for makes placement layout each laid placed = makes_by makes placement each (placed ∙ ap (λ (ps : List Placement). slice_get ps i) laid)
 
-  pub one_made : (old new : List (Option LineSeen)) (line made_line : Option LineSeen) (placement : Option Placement) (layout : List Placement) → AreMade b i old → new ≡ old ++ line ∷ [] → IsMade d placement made_line
+  pub one_made : (old new : List (Option LineSeen)) (line made_line : Option LineSeen) (placement : Option Placement)
+      (layout : List Placement) → AreMade b i old → new ≡ old ++ line ∷ [] → IsMade d placement made_line
       → line ≡ made_line → layout ≡ layout_of b → placement ≡ slice_get layout i → AreMade b (i + 1) new
   one_made old new line made_line placement layout made is own same laid placed =
       let here : placement ≡ slice_get (layout_of b) i = placed ∙ ap (λ (ps : List Placement). slice_get ps i) laid in
       let now : IsMade (line_of_row b row_of.0) (slice_get (layout_of b) i) line =
       subst (λ (x : Option LineSeen). IsMade (line_of_row b row_of.0) (slice_get (layout_of b) i) x) (sym same)
-      (subst (λ (p : Option Placement). IsMade (line_of_row b row_of.0) p made_line) here (subst (λ (x : LineDef). IsMade x placement made_line) row_of.2 own)) in
+      (subst (λ (p : Option Placement). IsMade (line_of_row b row_of.0) p made_line) here
+      (subst (λ (x : LineDef). IsMade x placement made_line) row_of.2 own)) in
       subst (λ (ls : List (Option LineSeen)). AreMade b (i + 1) ls) (sym is) (one_made_more b i old line row_of.0 made row_of.1 now)
 
-pub left_after : (b : BoardSeen) (defs : List LineDef) (i : ℕ) (d : LineDef) → ((j : ℕ) → i ≤ j → slice_get defs j ≡ slice_get (line_defs_of b) j) → (j : ℕ) → i + 1 ≤ j → slice_get (slice_set defs i d) j ≡ slice_get (line_defs_of b) j
+pub left_after : (b : BoardSeen) (defs : List LineDef) (i : ℕ) (d : LineDef)
+    → ((j : ℕ) → i ≤ j → slice_get defs j ≡ slice_get (line_defs_of b) j) → (j : ℕ) → i + 1 ≤ j
+    → slice_get (slice_set defs i d) j ≡ slice_get (line_defs_of b) j
 left_after b defs i d left j above = get_set_other defs i j d (λ same. omega (arith, same, above)) ∙ left j (omega (arith, above))
 
 pub all_made : (b : BoardSeen) (n : ℕ) (lines : List (Option LineSeen)) → AreMade b n lines → n ≡ length (line_defs_of b) → HaveAll b [] lines

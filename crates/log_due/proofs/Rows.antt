@@ -12,7 +12,8 @@ use Rattle.log_text.specs.Rows.{entry_text}
 use Rattle.log_due.specs.Due.{ended}
 
 cut_end : (xs : List ℕ) → take (length (xs ++ 10 ∷ []) - 1) (xs ++ 10 ∷ []) ≡ xs
-cut_end xs = let e : length (xs ++ 10 ∷ []) - 1 ≡ length xs = omega (arith, length-append xs (10 ∷ [])) in ap (λ n. take n (xs ++ 10 ∷ [])) e ∙ take-append_seam xs (10 ∷ [])
+cut_end xs = let e : length (xs ++ 10 ∷ []) - 1 ≡ length xs = omega (arith, length-append xs (10 ∷ [])) in
+    ap (λ n. take n (xs ++ 10 ∷ [])) e ∙ take-append_seam xs (10 ∷ [])
 
 module _ (number : LineNo) (e : Entry) (row text : List ℕ) (is : text ≡ entry_text number e) where
   cut : take (length text - 1) text ≡ join_with_byte 32 (decimal number.0 ∷ entry_words e)
@@ -21,7 +22,8 @@ module _ (number : LineNo) (e : Entry) (row text : List ℕ) (is : text ≡ entr
   pub some_text : 1 ≤ length text
   some_text = omega (arith, ap length is, length-append (join_with_byte 32 (decimal number.0 ∷ entry_words e)) (10 ∷ []))
 
-  pub compared : (same : Bool) → same ≡ bytes_eq (take (length text - 1) text) row → IsSmall number.0 → IsWritable e → same ≡ true → IsRowOf (ended row) number e
+  pub compared : (same : Bool) → same ≡ bytes_eq (take (length text - 1) text) row → IsSmall number.0 → IsWritable e
+      → same ≡ true → IsRowOf (ended row) number e
   compared same h small writable t =
       let same_bytes : take (length text - 1) text ≡ row = (bytes_eq-Decides (take (length text - 1) text) row).0 (sym h ∙ t) in
       record { text = ap ended (sym same_bytes ∙ cut); number = small; writable = writable }

@@ -1,5 +1,6 @@
 -- A row is cut at its first space.
-use Rattle.std.proofs.Common.{◌≡◌, ℕ, suc, ◌+◌, ◌<◌, ◌≤◌, Bool, true, false, not, cond, ltb, List, [], ◌∷◌, length, take, drop, Bor, ◌⊎◌, inl, inr, Option, Some, None, refl, sym, ap, ◌∙◌, arith}
+use Rattle.std.proofs.Common.{◌≡◌, ℕ, suc, ◌+◌, ◌<◌, ◌≤◌, Bool, true, false, not, cond, ltb, List, [], ◌∷◌, length}
+use Rattle.std.proofs.Common.{take, drop, Bor, ◌⊎◌, inl, inr, Option, Some, None, refl, sym, ap, ◌∙◌, arith}
 use Rattle.std.specs.List.{position, position_or_len, slice_split, onto_first}
 use Rattle.std.proofs.lemmas.Bool.{lt-ltb, le-ltb, ltb-false}
 use Rattle.std.proofs.lemmas.Bool.Decides.{nat_tests}
@@ -26,7 +27,8 @@ some_word (b ∷ bs) h = by (is_space b) h
 abbrev cut_at : ℕ → List ℕ → List (List ℕ)
 cut_at n row = cond (ltb n (length row)) (take n row ∷ words_of (drop (n + 1) row)) (row ∷ [])
 
-onto_cut : (t : Bool) (b : ℕ) (bs front : List ℕ) (parts : List (List ℕ)) → onto_first b (cond t (front ∷ parts) (bs ∷ [])) ≡ cond t ((b ∷ front) ∷ parts) ((b ∷ bs) ∷ [])
+onto_cut : (t : Bool) (b : ℕ) (bs front : List ℕ) (parts : List (List ℕ))
+    → onto_first b (cond t (front ∷ parts) (bs ∷ [])) ≡ cond t ((b ∷ front) ∷ parts) ((b ∷ bs) ∷ [])
 onto_cut true b bs front parts = refl
 onto_cut false b bs front parts = refl
 
@@ -64,7 +66,9 @@ at_space row i h =
 
 pub no_space : (row : List ℕ) → None ≡ position is_space row → words_of row ≡ row ∷ []
 no_space row h =
-    cut_is row ∙ ap (λ t. cond t (take (position_or_len is_space row) row ∷ words_of (drop (position_or_len is_space row + 1) row)) (row ∷ [])) (missed _ (position_or_len is_space row) h)
+    cut_is row ∙ ap (λ t. cond t (take (position_or_len is_space row) row
+    ∷ words_of (drop (position_or_len is_space row + 1) row)) (row ∷ []))
+    (missed _ (position_or_len is_space row) h)
 
 -- whether no word is left
 

@@ -14,7 +14,8 @@ use Rattle.irq_base.specs.declared.numbers.DevNo.{DevNo}
 use Rattle.irq_base.specs.declared.numbers.DriverNo.{DriverNo}
 use Rattle.log_text.specs.EntryWords.{entry_words, IsPrintable}
 use Rattle.log_text.specs.Formed.{IsSmall, IsWritable}
-use Rattle.log_text.specs.Words.{way_word, take_word, answer_word, loop_word, mask_word, note_word, bit_word, flags_word, unlink_word, enable_words, link_words, affinity_words}
+use Rattle.log_text.specs.Words.{way_word, take_word, answer_word, loop_word, mask_word, note_word, bit_word}
+use Rattle.log_text.specs.Words.{flags_word, unlink_word, enable_words, link_words, affinity_words}
 use Rattle.log_read.proofs.Taking.{under}
 use Rattle.log_read.specs.Forms.{dev_no, TakesCpu, TakesThread, TakesDriver, IsLink, IsMoved, IsBy, behind}
 use Rattle.log_read.specs.Kinds.{cpu_verb_word, thread_verb_word, driver_verb_word}
@@ -65,11 +66,13 @@ same_driver {a = a} {b = b} h = ap (λ w. driver_no (number_of w)) (sym h)
 
 -- requests and changes of affinity that have a row
 
-link_from : (driver : DriverNo) (dev : DevNo) (flags : Flags) (answer : LinkAnswer) (opened : Opened) → IsLink (answer, opened) → IsPrintable (entries.Request driver dev flags answer opened)
+link_from : (driver : DriverNo) (dev : DevNo) (flags : Flags) (answer : LinkAnswer) (opened : Opened)
+    → IsLink (answer, opened) → IsPrintable (entries.Request driver dev flags answer opened)
 link_from driver dev flags links.Linked opened h = tt
 link_from driver dev flags (links.Refused errno) opened h = h
 
-link_to : (driver : DriverNo) (dev : DevNo) (flags : Flags) (answer : LinkAnswer) (opened : Opened) → IsPrintable (entries.Request driver dev flags answer opened) → IsLink (answer, opened)
+link_to : (driver : DriverNo) (dev : DevNo) (flags : Flags) (answer : LinkAnswer) (opened : Opened)
+    → IsPrintable (entries.Request driver dev flags answer opened) → IsLink (answer, opened)
 link_to driver dev flags links.Linked opened h = tt
 link_to driver dev flags (links.Refused errno) opened h = h
 
@@ -132,7 +135,12 @@ module _ (old mid new : Words) where
   cpu_sound cpu small cpu_verbs.Begin e took t rest h =
       let s = (under took t).sound rest h in (entries.Begin cpu (dev_no s.0), (record { printable = tt; small = (small, s.1) }, refl), s.2, s.3)
   cpu_sound cpu small cpu_verbs.Return e took t rest h =
-      let s = (under took t).sound rest h in (entries.Return cpu (dev_no s.0.0) s.0.1.0 s.0.1.1, (record { printable = tt; small = (small, s.1.0, s.1.1.1) }, refl), s.2, s.3)
+      let s = (under took t).sound rest h in (
+        entries.Return cpu (dev_no s.0.0) s.0.1.0 s.0.1.1,
+        (record { printable = tt; small = (small, s.1.0, s.1.1.1) }, refl),
+        s.2,
+        s.3,
+      )
   cpu_sound cpu small cpu_verbs.End e took t rest h =
       let s = (under took t).sound rest h in (entries.End cpu s.0.0 s.0.1.0 s.0.1.1, (record { printable = tt; small = small }, refl), s.2, s.3)
 
@@ -156,7 +164,8 @@ module _ (old mid new : Words) where
       (s.0 ∙ ap (λ z. entries.End z again unmask note) (same_cpu fits.1), s.1)
   cpu_complete cpu verb e took t f rest fits h = absurd (false≢true (ap is_cpu fits.1))
 
-  pub cpu_takes : (cpu : CpuNo) → IsSmall cpu.0 → (verb : CpuVerb) (e : Entry) → Takes (one cpu_verb_word) old mid verb → TakesCpu cpu verb mid new e → TakesAs (IsBy (whos.Cpu cpu)) behind (λ f. f) old new e
+  pub cpu_takes : (cpu : CpuNo) → IsSmall cpu.0 → (verb : CpuVerb) (e : Entry) → Takes (one cpu_verb_word) old mid verb
+      → TakesCpu cpu verb mid new e → TakesAs (IsBy (whos.Cpu cpu)) behind (λ f. f) old new e
   cpu_takes cpu small verb e took t = record { sound = cpu_sound cpu small verb e took t; complete = cpu_complete cpu verb e took t }
 
   thread_sound : (dev : DevNo) → IsSmall dev.0 → (verb : ThreadVerb) (e : Entry) → Takes (one thread_verb_word) old mid verb → TakesThread dev verb mid new e
@@ -190,10 +199,13 @@ module _ (old mid new : Words) where
       (s.0 ∙ ap (λ z. entries.Done z) (same_dev fits.1), s.1)
   thread_complete dev verb e took t f rest fits h = absurd (false≢true (ap is_thread fits.1))
 
-  pub thread_takes : (dev : DevNo) → IsSmall dev.0 → (verb : ThreadVerb) (e : Entry) → Takes (one thread_verb_word) old mid verb → TakesThread dev verb mid new e → TakesAs (IsBy (whos.Thread dev)) behind (λ f. f) old new e
+  pub thread_takes : (dev : DevNo) → IsSmall dev.0 → (verb : ThreadVerb) (e : Entry)
+      → Takes (one thread_verb_word) old mid verb → TakesThread dev verb mid new e
+      → TakesAs (IsBy (whos.Thread dev)) behind (λ f. f) old new e
   thread_takes dev small verb e took t = record { sound = thread_sound dev small verb e took t; complete = thread_complete dev verb e took t }
 
-  driver_sound : (driver : DriverNo) → IsSmall driver.0 → (verb : DriverVerb) (e : Entry) → Takes (one driver_verb_word) old mid verb → TakesDriver driver verb mid new e
+  driver_sound : (driver : DriverNo) → IsSmall driver.0 → (verb : DriverVerb) (e : Entry)
+      → Takes (one driver_verb_word) old mid verb → TakesDriver driver verb mid new e
       → (rest : List (List ℕ)) → left_of new ≡ Some rest → (f : Entry) × IsBy (whos.Driver driver) f × (e ≡ f) × (left_of old ≡ Some (behind f ++ rest))
   driver_sound driver small driver_verbs.Ask e took t rest h =
       let s = (under took t).sound rest h in (entries.Ask driver (dev_no s.0), (record { printable = tt; small = (small, s.1) }, refl), s.2, s.3)
@@ -206,13 +218,30 @@ module _ (old mid new : Words) where
   driver_sound driver small driver_verbs.Enable e took t rest h =
       let s = (under took t).sound rest h in (entries.Enable driver s.0, (record { printable = tt; small = small }, refl), s.2, s.3)
   driver_sound driver small driver_verbs.Request e took t rest h =
-      let s = (under took t).sound rest h in (entries.Request driver (dev_no s.0.0) s.0.1.0 s.0.1.1.0 s.0.1.1.1, (record { printable = link_from driver (dev_no s.0.0) s.0.1.0 s.0.1.1.0 s.0.1.1.1 s.1.1.1; small = (small, s.1.0) }, refl), s.2, s.3)
+      let s = (under took t).sound rest h in (
+        entries.Request driver (dev_no s.0.0) s.0.1.0 s.0.1.1.0 s.0.1.1.1,
+        (
+          record {
+            printable = link_from driver (dev_no s.0.0) s.0.1.0 s.0.1.1.0 s.0.1.1.1 s.1.1.1;
+            small
+                = (small, s.1.0);
+          },
+          refl,
+        ),
+        s.2,
+        s.3,
+      )
   driver_sound driver small driver_verbs.Unlink e took t rest h =
       let s = (under took t).sound rest h in (entries.Unlink driver (dev_no s.0.0) s.0.1, (record { printable = tt; small = (small, s.1.0) }, refl), s.2, s.3)
   driver_sound driver small driver_verbs.Freed e took t rest h =
       let s = (under took t).sound rest h in (entries.Freed driver (dev_no s.0), (record { printable = tt; small = (small, s.1) }, refl), s.2, s.3)
   driver_sound driver small driver_verbs.Affinity e took t rest h =
-      let s = (under took t).sound rest h in (entries.Affinity driver s.0.0 s.0.1, (record { printable = moved_from driver s.0.0 s.0.1 s.1.1; small = (small, s.1.0) }, refl), s.2, s.3)
+      let s = (under took t).sound rest h in (
+        entries.Affinity driver s.0.0 s.0.1,
+        (record { printable = moved_from driver s.0.0 s.0.1 s.1.1; small = (small, s.1.0) }, refl),
+        s.2,
+        s.3,
+      )
   driver_sound driver small driver_verbs.Moment e took t rest h =
       let s = (under took t).sound rest h in (entries.Moment driver s.0, (record { printable = tt; small = (small, s.1) }, refl), s.2, s.3)
 
@@ -240,7 +269,8 @@ module _ (old mid new : Words) where
       (s.0 ∙ ap (λ z. entries.Enable z answer) (same_driver fits.1), s.1)
   driver_complete driver verb e took t (entries.Request c dev flags answer opened) rest fits h =
       let v = took.complete driver_verbs.Request (decimal dev.0 ∷ flags_word flags ∷ (link_words answer opened ++ rest)) tt h in
-      let s = (subst (λ v. TakesDriver driver v mid new e) v.0 t).complete (dev.0, (flags, (answer, opened))) rest (fits.0.small.1, (tt, link_to c dev flags answer opened fits.0.printable)) v.1 in
+      let s = (subst (λ v. TakesDriver driver v mid new e) v.0 t).complete (dev.0, (flags, (answer, opened))) rest
+      (fits.0.small.1, (tt, link_to c dev flags answer opened fits.0.printable)) v.1 in
       (s.0 ∙ ap (λ z. entries.Request z dev flags answer opened) (same_driver fits.1), s.1)
   driver_complete driver verb e took t (entries.Unlink c dev answer) rest fits h =
       let v = took.complete driver_verbs.Unlink (decimal dev.0 ∷ unlink_word answer ∷ rest) tt h in
@@ -260,7 +290,9 @@ module _ (old mid new : Words) where
       (s.0 ∙ ap (λ z. entries.Moment z moment) (same_driver fits.1), s.1)
   driver_complete driver verb e took t f rest fits h = absurd (false≢true (ap is_driver fits.1))
 
-  pub driver_takes : (driver : DriverNo) → IsSmall driver.0 → (verb : DriverVerb) (e : Entry) → Takes (one driver_verb_word) old mid verb → TakesDriver driver verb mid new e → TakesAs (IsBy (whos.Driver driver)) behind (λ f. f) old new e
+  pub driver_takes : (driver : DriverNo) → IsSmall driver.0 → (verb : DriverVerb) (e : Entry)
+      → Takes (one driver_verb_word) old mid verb → TakesDriver driver verb mid new e
+      → TakesAs (IsBy (whos.Driver driver)) behind (λ f. f) old new e
   driver_takes driver small verb e took t = record { sound = driver_sound driver small verb e took t; complete = driver_complete driver verb e took t }
 
   entry_sound : (who : Who) (e : Entry) → TakesAs IsWho (one who_word) (λ w. w) old mid who → TakesAs (IsBy who) behind (λ f. f) mid new e
@@ -276,5 +308,6 @@ module _ (old mid new : Words) where
       let w = took.complete (who_of f) (behind f ++ rest) (small_who f writable) (h ∙ ap (λ ws. Some (ws ++ rest)) (sym (parts f))) in
       t.complete f rest (writable, sym w.0) w.1
 
-  pub entry_takes : (who : Who) (e : Entry) → TakesAs IsWho (one who_word) (λ w. w) old mid who → TakesAs (IsBy who) behind (λ f. f) mid new e → TakesAs IsWritable entry_words (λ f. f) old new e
+  pub entry_takes : (who : Who) (e : Entry) → TakesAs IsWho (one who_word) (λ w. w) old mid who
+      → TakesAs (IsBy who) behind (λ f. f) mid new e → TakesAs IsWritable entry_words (λ f. f) old new e
   entry_takes who e took t = record { sound = entry_sound who e took t; complete = entry_complete who e took t }

@@ -1,5 +1,7 @@
 -- A text is cut at its line feeds, and a row is read between them.
-use Rattle.std.proofs.Common.{◌≡◌, ℕ, zero, suc, ◌+◌, ◌<◌, ◌≤◌, Bool, true, false, not, ◌&&◌, cond, eqb, ltb, List, [], ◌∷◌, ◌++◌, length, take, drop, codes, decimal, Option, Some, None, refl, sym, ap, subst, ◌∙◌, arith}
+use Rattle.std.proofs.Common.{◌≡◌, ℕ, zero, suc, ◌+◌, ◌<◌, ◌≤◌, Bool, true, false, not, ◌&&◌, cond, eqb, ltb, List, []}
+use Rattle.std.proofs.Common.{◌∷◌, ◌++◌, length, take, drop, codes, decimal, Option, Some, None, refl, sym, ap, subst}
+use Rattle.std.proofs.Common.{◌∙◌, arith}
 use Rattle.std.specs.List.{position, position_or_len, slice_get, join_with_byte}
 use Rattle.std.proofs.lemmas.Bool.{lt-ltb, le-ltb, ltb-false, ltb-true, false≢true, eqb-true}
 use Rattle.std.proofs.lemmas.Bool.Decides.{nat_tests}
@@ -30,7 +32,8 @@ onto_alone : (b : ℕ) (bs : List ℕ) → onto_first b (alone bs) ≡ (b ∷ bs
 onto_alone b [] = refl
 onto_alone b (c ∷ bs) = refl
 
-onto_cut : (t : Bool) (b : ℕ) (bs front : List ℕ) (rows : List (List ℕ)) → onto_first b (cond t (front ∷ rows) (alone bs)) ≡ cond t ((b ∷ front) ∷ rows) ((b ∷ bs) ∷ [])
+onto_cut : (t : Bool) (b : ℕ) (bs front : List ℕ) (rows : List (List ℕ))
+    → onto_first b (cond t (front ∷ rows) (alone bs)) ≡ cond t ((b ∷ front) ∷ rows) ((b ∷ bs) ∷ [])
 onto_cut true b bs front rows = refl
 onto_cut false b bs front rows = onto_alone b bs
 
@@ -85,7 +88,8 @@ unended (b ∷ c ∷ bs) h =
 pub no_feed : (text : List ℕ) → 1 ≤ length text → None ≡ position is_feed text → (rows_of text ≡ text ∷ []) × (is_whole text ≡ false)
 no_feed text some h =
     let none = missed _ (position_or_len is_feed text) h in (
-      cut_is text ∙ (ap (λ t. cond t ((take (position_or_len is_feed text) text ++ 10 ∷ []) ∷ rows_of (drop (position_or_len is_feed text + 1) text)) (alone text)) none ∙ alone_some text some),
+      cut_is text ∙ (ap (λ t. cond t ((take (position_or_len is_feed text) text ++ 10 ∷ [])
+          ∷ rows_of (drop (position_or_len is_feed text + 1) text)) (alone text)) none ∙ alone_some text some),
       unended text (ltb-false (position_or_len is_feed text) (length text) none),
     )
 
@@ -111,7 +115,8 @@ line_no n = record { 0 = n }
 
 module _ (row : List ℕ) (start mid end : Words) (n : ℕ) (e : Entry) (all : left_of start ≡ Some (words_of row))
     (number : TakesAs IsSmall number_words (λ m. m) start mid n) (entry : TakesAs IsWritable entry_words (λ f. f) mid end e) where
-  written : (m : ℕ) (f : Entry) → words_of row ≡ (decimal m ∷ entry_words f) ++ [] → row ++ codes "\n" ≡ join_with_byte 32 (decimal m ∷ entry_words f) ++ codes "\n"
+  written : (m : ℕ) (f : Entry) → words_of row ≡ (decimal m ∷ entry_words f) ++ []
+      → row ++ codes "\n" ≡ join_with_byte 32 (decimal m ∷ entry_words f) ++ codes "\n"
   written m f h =
       ap (λ r. r ++ codes "\n") (sym (join_with_byte-slice_split 32 row) ∙ ap (join_with_byte 32) (h ∙ append-nil (decimal m ∷ entry_words f)))
 

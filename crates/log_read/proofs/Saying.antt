@@ -38,7 +38,8 @@ module _ (old mid new : Words) where
   opened_sound openings.Lowered y took t rest h = let s = (under took t).sound rest h in (opens.Lowered, tt, s.2, s.3)
   opened_sound openings.Started y took t rest h = let s = (under took t).sound rest h in (opens.Started s.0, tt, s.2, s.3)
 
-  opened_complete : (opening : Opening) (y : Opened) → Takes (one opening_word) old mid opening → TakesOpening opening mid new y → Complete Any opened_words old new y
+  opened_complete : (opening : Opening) (y : Opened) → Takes (one opening_word) old mid opening
+      → TakesOpening opening mid new y → Complete Any opened_words old new y
   opened_complete opening y took t opens.No rest fits h =
       let v = took.complete openings.No rest tt h in (subst (λ v. TakesOpening v mid new y) v.0 t).complete tt rest tt v.1
   opened_complete opening y took t opens.Unbalanced rest fits h =
@@ -51,13 +52,15 @@ module _ (old mid new : Words) where
   pub opened_takes : (opening : Opening) (y : Opened) → Takes (one opening_word) old mid opening → TakesOpening opening mid new y → Takes opened_words old new y
   opened_takes opening y took t = record { sound = opened_sound opening y took t; complete = opened_complete opening y took t }
 
-  enabled_sound : (opening : Opening) (y : EnableAnswer) → Takes (one opening_word) old mid opening → TakesEnabling opening mid new y → Sound Any enable_words old new y
+  enabled_sound : (opening : Opening) (y : EnableAnswer) → Takes (one opening_word) old mid opening
+      → TakesEnabling opening mid new y → Sound Any enable_words old new y
   enabled_sound openings.No y took t rest h = absurd (none-some rest (sym t ∙ h))
   enabled_sound openings.Unbalanced y took t rest h = let s = (under took t).sound rest h in (enables.Unbalanced, tt, s.2, s.3)
   enabled_sound openings.Lowered y took t rest h = let s = (under took t).sound rest h in (enables.Lowered, tt, s.2, s.3)
   enabled_sound openings.Started y took t rest h = let s = (under took t).sound rest h in (enables.Started s.0, tt, s.2, s.3)
 
-  enabled_complete : (opening : Opening) (y : EnableAnswer) → Takes (one opening_word) old mid opening → TakesEnabling opening mid new y → Complete Any enable_words old new y
+  enabled_complete : (opening : Opening) (y : EnableAnswer) → Takes (one opening_word) old mid opening
+      → TakesEnabling opening mid new y → Complete Any enable_words old new y
   enabled_complete opening y took t enables.Unbalanced rest fits h =
       let v = took.complete openings.Unbalanced rest tt h in (subst (λ v. TakesEnabling v mid new y) v.0 t).complete tt rest tt v.1
   enabled_complete opening y took t enables.Lowered rest fits h =
@@ -65,14 +68,17 @@ module _ (old mid new : Words) where
   enabled_complete opening y took t (enables.Started resend) rest fits h =
       let v = took.complete openings.Started (resend_word resend ∷ rest) tt h in (subst (λ v. TakesEnabling v mid new y) v.0 t).complete resend rest tt v.1
 
-  pub enabled_takes : (opening : Opening) (y : EnableAnswer) → Takes (one opening_word) old mid opening → TakesEnabling opening mid new y → Takes enable_words old new y
+  pub enabled_takes : (opening : Opening) (y : EnableAnswer) → Takes (one opening_word) old mid opening
+      → TakesEnabling opening mid new y → Takes enable_words old new y
   enabled_takes opening y took t = record { sound = enabled_sound opening y took t; complete = enabled_complete opening y took t }
 
-  linked_sound : (linking : Linking) (y : LinkAnswer × Opened) → Takes (one linking_word) old mid linking → TakesLinking linking mid new y → Sound IsLink link_said old new y
+  linked_sound : (linking : Linking) (y : LinkAnswer × Opened) → Takes (one linking_word) old mid linking
+      → TakesLinking linking mid new y → Sound IsLink link_said old new y
   linked_sound linkings.Linked y took t rest h = let s = (under took t).sound rest h in ((links.Linked, s.0), tt, s.2, s.3)
   linked_sound linkings.Refused y took t rest h = let s = (under took t).sound rest h in ((links.Refused s.0, opens.No), refl, s.2, s.3)
 
-  linked_complete : (linking : Linking) (y : LinkAnswer × Opened) → Takes (one linking_word) old mid linking → TakesLinking linking mid new y → Complete IsLink link_said old new y
+  linked_complete : (linking : Linking) (y : LinkAnswer × Opened) → Takes (one linking_word) old mid linking
+      → TakesLinking linking mid new y → Complete IsLink link_said old new y
   linked_complete linking y took t (links.Linked, opened) rest fits h =
       let v = took.complete linkings.Linked (opened_words opened ++ rest) tt h in (subst (λ v. TakesLinking v mid new y) v.0 t).complete opened rest tt v.1
   linked_complete linking y took t (links.Refused errno, opened) rest fits h =
@@ -80,15 +86,18 @@ module _ (old mid new : Words) where
       let s = (subst (λ v. TakesLinking v mid new y) v.0 t).complete errno rest tt v.1 in
       (s.0 ∙ ap (λ (o : Opened). (links.Refused errno, o)) (sym fits), s.1)
 
-  pub linked_takes : (linking : Linking) (y : LinkAnswer × Opened) → Takes (one linking_word) old mid linking → TakesLinking linking mid new y → TakesAs IsLink link_said (λ link. link) old new y
+  pub linked_takes : (linking : Linking) (y : LinkAnswer × Opened) → Takes (one linking_word) old mid linking
+      → TakesLinking linking mid new y → TakesAs IsLink link_said (λ link. link) old new y
   linked_takes linking y took t = record { sound = linked_sound linking y took t; complete = linked_complete linking y took t }
 
-  moved_sound : (moving : Moving) (y : AffinityAnswer) → Takes (one moving_word) old mid moving → TakesMoving moving mid new y → Sound IsMoved affinity_words old new y
+  moved_sound : (moving : Moving) (y : AffinityAnswer) → Takes (one moving_word) old mid moving
+      → TakesMoving moving mid new y → Sound IsMoved affinity_words old new y
   moved_sound movings.Now y took t rest h = let s = (under took t).sound rest h in (affinities.Now, tt, s.2, s.3)
   moved_sound movings.Later y took t rest h = let s = (under took t).sound rest h in (affinities.Later, tt, s.2, s.3)
   moved_sound movings.Refused y took t rest h = let s = (under took t).sound rest h in (affinities.Refused errnos.Inval, refl, s.2, s.3)
 
-  moved_complete : (moving : Moving) (y : AffinityAnswer) → Takes (one moving_word) old mid moving → TakesMoving moving mid new y → Complete IsMoved affinity_words old new y
+  moved_complete : (moving : Moving) (y : AffinityAnswer) → Takes (one moving_word) old mid moving
+      → TakesMoving moving mid new y → Complete IsMoved affinity_words old new y
   moved_complete moving y took t affinities.Now rest fits h =
       let v = took.complete movings.Now rest tt h in (subst (λ v. TakesMoving v mid new y) v.0 t).complete tt rest tt v.1
   moved_complete moving y took t affinities.Later rest fits h =
@@ -98,5 +107,6 @@ module _ (old mid new : Words) where
       let s = (subst (λ v. TakesMoving v mid new y) v.0 t).complete tt rest tt v.1 in
       (s.0 ∙ ap (λ e. affinities.Refused e) (sym fits), s.1)
 
-  pub moved_takes : (moving : Moving) (y : AffinityAnswer) → Takes (one moving_word) old mid moving → TakesMoving moving mid new y → TakesAs IsMoved affinity_words (λ answer. answer) old new y
+  pub moved_takes : (moving : Moving) (y : AffinityAnswer) → Takes (one moving_word) old mid moving
+      → TakesMoving moving mid new y → TakesAs IsMoved affinity_words (λ answer. answer) old new y
   moved_takes moving y took t = record { sound = moved_sound moving y took t; complete = moved_complete moving y took t }

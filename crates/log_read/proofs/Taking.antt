@@ -8,14 +8,16 @@ use Rattle.log_read.specs.Takes.{TakesAs, Takes, Any, one, Both, then, Reads}
 use Rattle.log_read.specs.declared.words.Words.{Words}
 
 -- a value, made into another
-pub made : {X Y Z : Type 0} {F : X → Type 0} {f : X → List (List ℕ)} {m : X → Y} {old new : Words} {y : Y} (k : Y → Z) → TakesAs F f m old new y → TakesAs F f (λ x. k (m x)) old new (k y)
+pub made : {X Y Z : Type 0} {F : X → Type 0} {f : X → List (List ℕ)} {m : X → Y} {old new : Words} {y : Y} (k : Y → Z)
+    → TakesAs F f m old new y → TakesAs F f (λ x. k (m x)) old new (k y)
 made k t = record {
   sound = λ rest h. let s = t.sound rest h in (s.0, s.1, ap k s.2, s.3);
   complete = λ x rest fits h. let s = t.complete x rest fits h in (ap k s.0, s.1);
 }
 
 -- two values, one behind the other
-pub both : {X Y A B : Type 0} {F : X → Type 0} {G : Y → Type 0} {f : X → List (List ℕ)} {g : Y → List (List ℕ)} {m : X → A} {n : Y → B} {old mid new : Words} {a : A} {b : B}
+pub both : {X Y A B : Type 0} {F : X → Type 0} {G : Y → Type 0} {f : X → List (List ℕ)} {g : Y → List (List ℕ)}
+    {m : X → A} {n : Y → B} {old mid new : Words} {a : A} {b : B}
     → TakesAs F f m old mid a → TakesAs G g n mid new b → TakesAs {Y = A × B} (Both F G) (then f g) (λ p. (m p.0, n p.1)) old new (a, b)
 both {f = f} {g = g} {m = m} {n = n} {a = a} {b = b} s t = record {
   sound = λ rest h.

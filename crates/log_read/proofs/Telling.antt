@@ -1,5 +1,7 @@
 -- The rows so far, and the histories that they say.
-use Rattle.std.proofs.Common.{◌≡◌, ℕ, zero, suc, ◌+◌, ◌-◌, ◌<◌, ◌≤◌, ◌⊎◌, inl, inr, Bool, true, false, not, ◌&&◌, ◌||◌, cond, eqb, List, [], ◌∷◌, ◌++◌, length, map, take, drop, get_or, codes, Option, Some, None, refl, sym, ap, subst, ◌∙◌, arith}
+use Rattle.std.proofs.Common.{◌≡◌, ℕ, zero, suc, ◌+◌, ◌-◌, ◌<◌, ◌≤◌, ◌⊎◌, inl, inr, Bool, true, false, not, ◌&&◌, ◌||◌}
+use Rattle.std.proofs.Common.{cond, eqb, List, [], ◌∷◌, ◌++◌, length, map, take, drop, get_or, codes, Option, Some}
+use Rattle.std.proofs.Common.{None, refl, sym, ap, subst, ◌∙◌, arith}
 use Rattle.std.specs.List.{join_with_byte, slice_get, filter, AllZip, All, list_any}
 use Rattle.std.specs.Prelude.{slice_set}
 use Rattle.std.proofs.lemmas.Bool.{false≢true, and_parts, ne_eqb, cases_lt}
@@ -18,7 +20,8 @@ use Rattle.log_text.proofs.Splitting.{row_words}
 use Rattle.log_text.specs.Formed.{IsRowOf}
 use Rattle.log_read.proofs.RowCutting.{whole_row}
 use Rattle.log_read.specs.Adding.{Adds, AddsSaid, IsPlaceOf, Judges}
-use Rattle.log_read.specs.LogOf.{rows_of, onto_first, is_feed, is_whole, begins_with_hash, is_passed_over, LineEntry, IsRowOn, IsRow, saying, entries_on, Tell, IsFirstMalformed, entries_of}
+use Rattle.log_read.specs.LogOf.{rows_of, onto_first, is_feed, is_whole, begins_with_hash, is_passed_over, LineEntry}
+use Rattle.log_read.specs.LogOf.{IsRowOn, IsRow, saying, entries_on, Tell, IsFirstMalformed, entries_of}
 
 -- lists
 
@@ -65,7 +68,8 @@ rising b i j x y board atx aty less =
     at_place (λ (e : LineRow). e.line.0 < y.line.0) (take j b.lines) i x (board.lines j y aty).rises (get_take b.lines i j less ∙ atx)
 
 -- no other line has its number
-other_line : (b : BoardSeen) (i place : ℕ) (x row : LineRow) → IsBoard b → slice_get b.lines i ≡ Some x → slice_get b.lines place ≡ Some row → (i ≡ place → ⊥) → eqb row.line.0 x.line.0 ≡ false
+other_line : (b : BoardSeen) (i place : ℕ) (x row : LineRow) → IsBoard b → slice_get b.lines i ≡ Some x
+    → slice_get b.lines place ≡ Some row → (i ≡ place → ⊥) → eqb row.line.0 x.line.0 ≡ false
 other_line b i place x row board atx at differ = by (order i place)
   where
     order : (m n : ℕ) → (m < n) ⊎ (n ≤ m)
@@ -80,7 +84,8 @@ other_line b i place x row board atx at differ = by (order i place)
 abbrev line_no : ℕ → LineNo
 line_no n = record { 0 = n }
 
-pub absent : (lines : List LineRow) (line : LineNo) → ((j : ℕ) (row : LineRow) → slice_get lines j ≡ Some row → row.line ≡ line → ⊥) → has_line lines line ≡ false
+pub absent : (lines : List LineRow) (line : LineNo) → ((j : ℕ) (row : LineRow) → slice_get lines j ≡ Some row
+    → row.line ≡ line → ⊥) → has_line lines line ≡ false
 absent [] line none = refl
 absent (row ∷ rows) line none =
     ap (λ t. t || has_line rows line) (ne_eqb row.line.0 line.0 (λ same. none 0 row refl (ap (λ n. line_no n) same)))
@@ -113,12 +118,16 @@ module _ {X : Type 0} (f g : X → List Entry) (e : Entry) where
       → slice_set (map f xs) place (get_or (map f xs) place [] ++ e ∷ []) ≡ map g xs
   one_changed [] place within there elsewhere = absurd (omega (arith, within))
   one_changed (x ∷ xs) zero within there elsewhere =
-      ap (λ es. es ∷ map f xs) (sym (there 0 x refl refl)) ∙ ap (λ ess. g x ∷ ess) (same_all xs (λ i y at. elsewhere (suc i) y at (λ same. omega (arith, same))))
+      ap (λ es. es ∷ map f xs) (sym (there 0 x refl refl))
+      ∙ ap (λ ess. g x ∷ ess) (same_all xs (λ i y at. elsewhere (suc i) y at (λ same. omega (arith, same))))
   one_changed (x ∷ xs) (suc place) within there elsewhere =
       ap (λ es. es ∷ slice_set (map f xs) place (get_or (map f xs) place [] ++ e ∷ [])) (sym (elsewhere 0 x refl (λ same. omega (arith, same))))
-      ∙ ap (λ ess. g x ∷ ess) (one_changed xs place (omega (arith, within)) (λ i y at same. there (suc i) y at (ap suc same)) (λ i y at differ. elsewhere (suc i) y at (λ same. differ (omega (arith, same)))))
+      ∙ ap (λ ess. g x ∷ ess) (one_changed xs place (omega (arith, within))
+      (λ i y at same. there (suc i) y at (ap suc same))
+      (λ i y at differ. elsewhere (suc i) y at (λ same. differ (omega (arith, same)))))
 
-pub adds : (logs : List HistorySeen) (place : ℕ) (e : Entry) (h new : HistorySeen) → slice_get logs place ≡ Some h → new.entries ≡ h.entries ++ e ∷ [] → Adds place e (entries_of logs) (entries_of (slice_set logs place new))
+pub adds : (logs : List HistorySeen) (place : ℕ) (e : Entry) (h new : HistorySeen) → slice_get logs place ≡ Some h
+    → new.entries ≡ h.entries ++ e ∷ [] → Adds place e (entries_of logs) (entries_of (slice_set logs place new))
 adds [] place e h new at is = cc
 adds (x ∷ xs) zero e h new at is = ap (λ es. es ∷ entries_of xs) (is ∙ ap (λ (y : HistorySeen). y.entries ++ e ∷ []) (sym (same_Some x h at)))
 adds (x ∷ xs) (suc place) e h new at is = ap (λ ess. x.entries ∷ ess) (adds xs place e h new at is)
@@ -148,7 +157,8 @@ tell_none lines histories h = record { said = []; each = tt; are = h }
 abbrev says : List ℕ → Bool
 says row = not (is_passed_over row)
 
-tell_passed : (lines : List LineRow) (rows : List (List ℕ)) (row : List ℕ) (histories : List (List Entry)) → Tell lines rows histories → is_passed_over row ≡ true → Tell lines (rows ++ row ∷ []) histories
+tell_passed : (lines : List LineRow) (rows : List (List ℕ)) (row : List ℕ) (histories : List (List Entry))
+    → Tell lines rows histories → is_passed_over row ≡ true → Tell lines (rows ++ row ∷ []) histories
 tell_passed lines rows row histories told passed =
     let same : saying (rows ++ row ∷ []) ≡ saying rows =
     filter-append says rows (row ∷ []) ∙ (ap (λ t. saying rows ++ cond (not t) (row ∷ []) []) passed ∙ append-nil (saying rows)) in
@@ -156,12 +166,16 @@ tell_passed lines rows row histories told passed =
 
 module _ (b : BoardSeen) (board : IsBoard b) where
   changed : (said : List LineEntry) (s : LineEntry) (place : ℕ) → IsPlaceOf b.lines s.0 place
-      → slice_set (map (λ (row : LineRow). entries_on said row.line) b.lines) place (get_or (map (λ (row : LineRow). entries_on said row.line) b.lines) place [] ++ s.1 ∷ [])
+      → slice_set (map (λ (row : LineRow). entries_on said row.line) b.lines) place
+      (get_or (map (λ (row : LineRow). entries_on said row.line) b.lines) place [] ++ s.1 ∷ [])
       ≡ map (λ (row : LineRow). entries_on (said ++ s ∷ []) row.line) b.lines
   changed said s place at =
-      one_changed (λ (row : LineRow). entries_on said row.line) (λ (row : LineRow). entries_on (said ++ s ∷ []) row.line) s.1 b.lines place (slice_get_within b.lines place at.0 at.1)
+      one_changed (λ (row : LineRow). entries_on said row.line)
+      (λ (row : LineRow). entries_on (said ++ s ∷ []) row.line) s.1 b.lines place
+      (slice_get_within b.lines place at.0 at.1)
       (λ i x atx same. more_on said s x.line ∙ ap (λ es. entries_on said x.line ++ es) (on_own s x.line (own i x atx same)))
-      (λ i x atx differ. more_on said s x.line ∙ (ap (λ es. entries_on said x.line ++ es) (on_other s x.line (other i x atx differ)) ∙ append-nil (entries_on said x.line)))
+      (λ i x atx differ. more_on said s x.line ∙ (ap (λ es. entries_on said x.line ++ es)
+      (on_other s x.line (other i x atx differ)) ∙ append-nil (entries_on said x.line)))
     where
       equals : (n : ℕ) → eqb n n ≡ true
       equals n = grind (arith, nat_tests)
@@ -174,13 +188,15 @@ module _ (b : BoardSeen) (board : IsBoard b) where
       other : (i : ℕ) (x : LineRow) → slice_get b.lines i ≡ Some x → (i ≡ place → ⊥) → eqb s.0.0 x.line.0 ≡ false
       other i x atx differ = ap (λ (l : LineNo). eqb l.0 x.line.0) (sym at.2) ∙ other_line b i place x at.0 board atx at.1 differ
 
-  tell_more : (rows : List (List ℕ)) (row : List ℕ) (old new : List (List Entry)) → Tell b.lines rows old → AddsSaid b.lines row old new → Tell b.lines (rows ++ row ∷ []) new
+  tell_more : (rows : List (List ℕ)) (row : List ℕ) (old new : List (List Entry)) → Tell b.lines rows old
+      → AddsSaid b.lines row old new → Tell b.lines (rows ++ row ∷ []) new
   tell_more rows row old new told (s, place, on, unpassed, at, added) =
       let same : saying (rows ++ row ∷ []) ≡ saying rows ++ row ∷ [] =
       filter-append says rows (row ∷ []) ∙ ap (λ t. saying rows ++ cond (not t) (row ∷ []) []) unpassed in
       record {
         said = told.said ++ s ∷ [];
-        each = subst (λ rs. AllZip (IsRowOn b.lines) rs (told.said ++ s ∷ [])) (sym same) (zip_push (IsRowOn b.lines) (saying rows) told.said row s told.each on);
+        each = subst (λ rs. AllZip (IsRowOn b.lines) rs (told.said ++ s ∷ [])) (sym same)
+            (zip_push (IsRowOn b.lines) (saying rows) told.said row s told.each on);
         are = added ∙ (ap (λ (o : List (List Entry)). slice_set o place (get_or o place [] ++ s.1 ∷ [])) told.are ∙ changed told.said s place at);
       }
 
@@ -207,9 +223,11 @@ fine lines (row ∷ rows) said all = fine_by lines (is_passed_over row) row rows
 
 pub unended_row : (lines : List LineRow) (row : List ℕ) → is_whole row ≡ false → IsRow lines row → ⊥
 unended_row lines row unended (inl passed) = false≢true (sym unended ∙ (and_parts (begins_with_hash row) (is_whole row) passed).1)
-unended_row lines row unended (inr (said, on)) = false≢true (sym unended ∙ (ap is_whole on.formed.text ∙ whole_row (join_with_byte 32 (row_words said.0 said.1))))
+unended_row lines row unended (inr (said, on)) = false≢true
+    (sym unended ∙ (ap is_whole on.formed.text ∙ whole_row (join_with_byte 32 (row_words said.0 said.1))))
 
-pub first_malformed : (lines : List LineRow) (rows : List (List ℕ)) (n : ℕ) (row : List ℕ) (tail : List (List ℕ)) (histories : List (List Entry)) → drop n rows ≡ row ∷ tail
+pub first_malformed : (lines : List LineRow) (rows : List (List ℕ)) (n : ℕ) (row : List ℕ) (tail : List (List ℕ))
+    (histories : List (List Entry)) → drop n rows ≡ row ∷ tail
     → Tell lines (take n rows) histories → (IsRow lines row → ⊥) → IsFirstMalformed lines rows (n + 1)
 first_malformed lines rows n row tail histories at told wrong =
     let e : n + 1 - 1 ≡ n = omega arith in
@@ -221,7 +239,8 @@ first_malformed lines rows n row tail histories at told wrong =
 
 -- histories are no longer than the text
 
-short_if : (t : Bool) (s : LineEntry) (rest : List LineEntry) (n : ℕ) → length (map (λ (x : LineEntry). x.1) rest) ≤ n → length (map (λ (x : LineEntry). x.1) (cond t (s ∷ rest) rest)) ≤ suc n
+short_if : (t : Bool) (s : LineEntry) (rest : List LineEntry) (n : ℕ) → length (map (λ (x : LineEntry). x.1) rest) ≤ n
+    → length (map (λ (x : LineEntry). x.1) (cond t (s ∷ rest) rest)) ≤ suc n
 short_if true s rest n h = omega (arith, h)
 short_if false s rest n h = omega (arith, h)
 
@@ -265,13 +284,15 @@ unmapped (h ∷ logs) n all =
     All-cons (λ (h : HistorySeen). length h.entries ≤ n) h logs (All-head (λ (es : List Entry). length es ≤ n) h.entries (entries_of logs) all)
     (unmapped logs n (All-tail (λ (es : List Entry). length es ≤ n) h.entries (entries_of logs) all))
 
-pub short_logs : (lines : List LineRow) (text : List ℕ) (logs : List HistorySeen) → Tell lines (rows_of text) (entries_of logs) → All (λ (h : HistorySeen). length h.entries ≤ length text) logs
+pub short_logs : (lines : List LineRow) (text : List ℕ) (logs : List HistorySeen)
+    → Tell lines (rows_of text) (entries_of logs) → All (λ (h : HistorySeen). length h.entries ≤ length text) logs
 short_logs lines text logs told =
     let a = zip_short (IsRowOn lines) (saying (rows_of text)) told.said told.each in
     let b = few_saying (rows_of text) in
     let c = few_rows text in
     unmapped logs (length text) (All-same (λ (es : List Entry). length es ≤ length text) (entries_of logs) _ told.are
-    (all_short (λ (row : LineRow). entries_on told.said row.line) lines (length text) (λ row. let d = short_on told.said row.line in omega (arith, a, b, c, d))))
+    (all_short (λ (row : LineRow). entries_on told.said row.line) lines (length text)
+    (λ row. let d = short_on told.said row.line in omega (arith, a, b, c, d))))
 
 pub as_many : (lines : List LineRow) (rows : List (List ℕ)) (logs : List HistorySeen) → Tell lines rows (entries_of logs) → length logs ≡ length lines
 as_many lines rows logs told =
@@ -287,7 +308,8 @@ emptied [] n less = absurd (omega (arith, less))
 emptied (row ∷ rows) zero less = refl
 emptied (row ∷ rows) (suc n) less = ap (λ (ess : List (List Entry)). [] ∷ ess) (emptied rows n (omega (arith, less)))
 
-pub empty_more : (lines : List LineRow) (n : ℕ) (logs new : List HistorySeen) (h : HistorySeen) → n < length lines → entries_of logs ≡ map no_entries (take n lines)
+pub empty_more : (lines : List LineRow) (n : ℕ) (logs new : List HistorySeen) (h : HistorySeen) → n < length lines
+    → entries_of logs ≡ map no_entries (take n lines)
     → h.entries ≡ [] → new ≡ logs ++ h ∷ [] → entries_of new ≡ map no_entries (take (n + 1) lines)
 empty_more lines n logs new h less so_far none is =
     let e : n + 1 ≡ suc n = omega arith in
@@ -299,7 +321,8 @@ empty_more lines n logs new h less so_far none is =
 
 -- a row of a line that isn't the board's
 
-pub undeclared : (lines : List LineRow) (row : List ℕ) (line : LineNo) (e : Entry) → IsRowOf row line e → has_line lines line ≡ false → is_passed_over row ≡ false → IsRow lines row → ⊥
+pub undeclared : (lines : List LineRow) (row : List ℕ) (line : LineNo) (e : Entry) → IsRowOf row line e
+    → has_line lines line ≡ false → is_passed_over row ≡ false → IsRow lines row → ⊥
 undeclared lines row line e is unknown unpassed (inl passed) = false≢true (sym unpassed ∙ passed)
 undeclared lines row line e is unknown unpassed (inr (said, on)) =
     let same = (rows_tell row said.0 line said.1 e on.formed is).0 in
@@ -309,7 +332,8 @@ pub judged_wrong : (lines : List LineRow) (row : List ℕ) (t : Bool) (old new :
 judged_wrong lines row true old new h judged = absurd (false≢true (sym h))
 judged_wrong lines row false old new h judged = judged
 
-pub judged_fine : (lines : List LineRow) (row : List ℕ) (t : Bool) (old new : List (List Entry)) → t ≡ true → Judges lines row t old new → Judges lines row true old new
+pub judged_fine : (lines : List LineRow) (row : List ℕ) (t : Bool) (old new : List (List Entry)) → t ≡ true
+    → Judges lines row t old new → Judges lines row true old new
 judged_fine lines row true old new h judged = judged
 judged_fine lines row false old new h judged = absurd (false≢true h)
 

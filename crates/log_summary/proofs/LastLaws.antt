@@ -27,7 +27,8 @@ without : (d : DevNo) (ds : List DevNo) → count_of (same_dev d) ds ≤ 0 → o
 without d [] none = refl
 without d (x ∷ ds) none = by_test (same_dev d x) (same_both x d) none (without d ds)
   where
-    by_test : (b : Bool) → same_dev x d ≡ b → cond b (count_of (same_dev d) ds + 1) (count_of (same_dev d) ds) ≤ 0 → (count_of (same_dev d) ds ≤ 0 → others d ds ≡ ds) → others d (x ∷ ds) ≡ x ∷ ds
+    by_test : (b : Bool) → same_dev x d ≡ b → cond b (count_of (same_dev d) ds + 1) (count_of (same_dev d) ds) ≤ 0
+        → (count_of (same_dev d) ds ≤ 0 → others d ds ≡ ds) → others d (x ∷ ds) ≡ x ∷ ds
     by_test true is m rest = absurd (omega (arith, m))
     by_test false is m rest = rw is (ap (λ ys. x ∷ ys) (rest m))
 
@@ -36,7 +37,8 @@ left_without : (d : DevNo) (ds : List DevNo) → list_any (same_dev d) ds ≡ tr
 left_without d [] there once = cc
 left_without d (x ∷ ds) there once = by_test (same_dev d x) (same_both x d) once
   where
-    by_test : (b : Bool) → same_dev x d ≡ b → cond b (count_of (same_dev d) ds + 1) (count_of (same_dev d) ds) ≤ 1 → is_empty (others d (x ∷ ds)) ≡ (b && is_empty ds)
+    by_test : (b : Bool) → same_dev x d ≡ b → cond b (count_of (same_dev d) ds + 1) (count_of (same_dev d) ds) ≤ 1
+        → is_empty (others d (x ∷ ds)) ≡ (b && is_empty ds)
     by_test true is m = rw is (ap is_empty (without d ds (omega (arith, m))))
     by_test false is m = rw is refl
 
@@ -50,7 +52,9 @@ last_told : (def : LineDef) (r : DriverNo) (d : DevNo) (last : Bool) (past : Lis
 last_told def r d last past due =
     let answer = answer_of (is_linked past d) last (is_only d (linked past)) (unlink_due def r d (unlinks.Unlinked last) past due).answer_is in
     let there : list_any (same_dev d) (linked past) ≡ true = of_linked (same_dev d) past d answer.1 (same_self d) in
-    let once : count_of (same_dev d) (linked past) ≤ 1 = (let n = count_filter (same_dev d) (is_linked past) (requested past) in let m = requested_once d past in omega (arith, n, m)) in
+    let once : count_of (same_dev d) (linked past) ≤ 1
+    = (let n = count_filter (same_dev d) (is_linked past) (requested past) in let m = requested_once d past in
+    omega (arith, n, m)) in
     ap is_empty (linked_unlink r d last past) ∙ left_without d (linked past) there once ∙ sym answer.0
 
 tells : (def : LineDef) (e : Entry) (past : List Entry) → IsDue def e past → TellsLast e past

@@ -1,5 +1,6 @@
 -- A history is gone through entry by entry.
-use Rattle.std.proofs.Common.{◌≡◌, ℕ, zero, suc, ◌+◌, ◌≤◌, Bool, true, false, rules, not, ◌&&◌, ◌||◌, cond, Some, List, [], ◌∷◌, ◌++◌, length, take, get_or, reverse, refl, sym, ap, ◌∙◌, subst, arith}
+use Rattle.std.proofs.Common.{◌≡◌, ℕ, zero, suc, ◌+◌, ◌≤◌, Bool, true, false, rules, not, ◌&&◌, ◌||◌, cond, Some, List}
+use Rattle.std.proofs.Common.{[], ◌∷◌, ◌++◌, length, take, get_or, reverse, refl, sym, ap, ◌∙◌, subst, arith}
 use Rattle.std.specs.List.{slice_get}
 use Rattle.std.specs.Prelude.{count_by, sum_by}
 use Rattle.std.proofs.lemmas.List.{reverse-append}
@@ -42,7 +43,8 @@ newest xs n x at = ap reverse (take_next xs n x at) ∙ reverse-append (take n x
 
 -- ---- the counts
 
-count_next : (p : Entry → Bool) (h : List Entry) (n : ℕ) (e : Entry) → slice_get h n ≡ Some e → count_by p (take (n + 1) h) ≡ count_by p (take n h) + cond (p e) 1 0
+count_next : (p : Entry → Bool) (h : List Entry) (n : ℕ) (e : Entry) → slice_get h n ≡ Some e
+    → count_by p (take (n + 1) h) ≡ count_by p (take n h) + cond (p e) 1 0
 count_next p h n e at = by_test (p e) (ap p (get_or_from_slice_get h n e e at))
   where
     by_test : (b : Bool) → p (get_or h n e) ≡ b → count_by p (take (n + 1) h) ≡ count_by p (take n h) + cond b 1 0
@@ -146,7 +148,8 @@ gained true m n is = omega (arith, is)
 gained false m n is = omega (arith, is)
 
 sides_more : (e : Entry) (past : List Entry) (s : Standing) → StandsAfter past s → (b : Bool) → is_reset (e ∷ past) ≡ b
-    → (cond b (cond (is_start e) 0 1) (s.raised + one_if (is_deepening e)) ≡ raised (e ∷ past)) × (cond b 0 (s.lowered + one_if (is_lowering e)) ≡ lowered (e ∷ past))
+    → (cond b (cond (is_start e) 0 1) (s.raised + one_if (is_deepening e)) ≡ raised (e ∷ past))
+    × (cond b 0 (s.lowered + one_if (is_lowering e)) ≡ lowered (e ∷ past))
 sides_more e past s k true is = let n = raised_reset e past is in (sym n.0, sym n.1)
 sides_more e past s k false is =
     let n = raised_more e past is in

@@ -1,5 +1,6 @@
 -- What words say, read back: each word of an answer is another, and so is each entry's.
-use Rattle.std.proofs.Common.{◌≡◌, ℕ, zero, suc, ◌<◌, ◌^◌, Bool, true, false, cond, List, [], ◌∷◌, ◌++◌, codes, decimal, drop, get_or, refl, ap, ◌∙◌, sym, arith}
+use Rattle.std.proofs.Common.{◌≡◌, ℕ, zero, suc, ◌<◌, ◌^◌, Bool, true, false, cond, List, [], ◌∷◌, ◌++◌, codes, decimal}
+use Rattle.std.proofs.Common.{drop, get_or, refl, ap, ◌∙◌, sym, arith}
 use Rattle.std.specs.Str.{bytes_eq}
 use Rattle.std.specs.Str.Parse.{digits_value}
 use Rattle.std.proofs.lemmas.Fmt.{decimal_is_IsNumeral}
@@ -30,7 +31,9 @@ use Rattle.irq_base.specs.declared.entries.AffinityAnswer.{AffinityAnswer}
 use Rattle.irq_base.specs.declared.entries.AffinityAnswer.TheVariants as affinities
 use Rattle.log_text.specs.EntryWords.{entry_words, IsPrintable}
 use Rattle.log_text.specs.Formed.{IsSmall, HasSmallNumbers, IsWritable}
-use Rattle.log_text.specs.Words.{driver_word, cpu_word, thread_word, way_word, take_word, answer_word, loop_word, mask_word, note_word, bit_word, resend_word, error_word, flags_word, enable_words, opened_words, link_words, unlink_word, affinity_words}
+use Rattle.log_text.specs.Words.{driver_word, cpu_word, thread_word, way_word, take_word, answer_word, loop_word}
+use Rattle.log_text.specs.Words.{mask_word, note_word, bit_word, resend_word, error_word, flags_word, enable_words}
+use Rattle.log_text.specs.Words.{opened_words, link_words, unlink_word, affinity_words}
 
 abbrev pub is : List ℕ → List ℕ → Bool
 is word text = bytes_eq word text

@@ -1,5 +1,6 @@
 -- The levels of a board's paths, and their names.
-use Rattle.std.proofs.Common.{◌≡◌, ℕ, zero, suc, ◌≤◌, ◌<◌, Bool, true, false, ◌&&◌, Option, Some, None, List, [], ◌∷◌, ◌++◌, length, slice_get, codes, decimal, refl, sym, ap, ◌∙◌, append_assoc, arith}
+use Rattle.std.proofs.Common.{◌≡◌, ℕ, zero, suc, ◌≤◌, ◌<◌, Bool, true, false, ◌&&◌, Option, Some, None, List, [], ◌∷◌}
+use Rattle.std.proofs.Common.{◌++◌, length, slice_get, codes, decimal, refl, sym, ap, ◌∙◌, append_assoc, arith}
 use Rattle.std.specs.List.{list_all}
 use Rattle.std.proofs.lemmas.Bool.{ltb-true}
 use Rattle.board_def.proofs.Paths.{has_path}
@@ -36,14 +37,17 @@ pub layout_length : (b : BoardSeen) (layout : List Placement) → layout ≡ lay
 layout_length b layout is = ap length is ∙ (laid_all (defs_of b.domains) [] (leaves_of b.lines) ∙ length-map b.lines leaf_of)
 
 -- a line's path has at most eight levels
-placed_short : (b : BoardSeen) (i : ℕ) (row : LineRow) (placement : Placement) → IsBoard b → slice_get b.lines i ≡ Some row → slice_get (layout_of b) i ≡ Some placement → IsShort placement
+placed_short : (b : BoardSeen) (i : ℕ) (row : LineRow) (placement : Placement) → IsBoard b
+    → slice_get b.lines i ≡ Some row → slice_get (layout_of b) i ≡ Some placement → IsShort placement
 placed_short b i row (placements.Mapped virq path) board at is = (has_path b row.line path board (i, row, virq, at, refl, is)).few
 placed_short b i row (placements.Refused why) board at is = tt
 
-at_layout : (b : BoardSeen) (layout : List Placement) (i : ℕ) (placement : Placement) → layout ≡ layout_of b → slice_get layout i ≡ Some placement → slice_get (layout_of b) i ≡ Some placement
+at_layout : (b : BoardSeen) (layout : List Placement) (i : ℕ) (placement : Placement) → layout ≡ layout_of b
+    → slice_get layout i ≡ Some placement → slice_get (layout_of b) i ≡ Some placement
 at_layout b layout i placement is at = sym (ap (λ (ps : List Placement). slice_get ps i) is) ∙ at
 
-pub short_at : (b : BoardSeen) (layout : List Placement) (i : ℕ) (row : LineRow) (placement : Placement) → IsBoard b → layout ≡ layout_of b → slice_get b.lines i ≡ Some row → slice_get layout i ≡ Some placement
+pub short_at : (b : BoardSeen) (layout : List Placement) (i : ℕ) (row : LineRow) (placement : Placement) → IsBoard b
+    → layout ≡ layout_of b → slice_get b.lines i ≡ Some row → slice_get layout i ≡ Some placement
     → IsShort placement
 short_at b layout i row placement board is at there = placed_short b i row placement board at (at_layout b layout i placement is there)
 
@@ -54,13 +58,19 @@ none_there (p ∷ ps) zero within none = cc
 none_there (p ∷ ps) (suc i) within none = none_there ps i (omega (arith, within)) none
 
 -- the row, piece by piece
-pub row_is : (b : BoardSeen) (layout : List Placement) (i : ℕ) (row : LineRow) (placement : Placement) → layout ≡ layout_of b → slice_get b.lines i ≡ Some row → slice_get layout i ≡ Some placement
-    → (((codes "#" ++ spaced (codes "irq" ∷ [])) ++ spaced (decimal row.line.0 ∷ [])) ++ spaced (placement_words b.domains placement)) ++ codes "\n" ≡ layout_row_text b i
+pub row_is : (b : BoardSeen) (layout : List Placement) (i : ℕ) (row : LineRow) (placement : Placement)
+    → layout ≡ layout_of b → slice_get b.lines i ≡ Some row → slice_get layout i ≡ Some placement
+    → (((codes "#" ++ spaced (codes "irq" ∷ [])) ++ spaced (decimal row.line.0 ∷ []))
+    ++ spaced (placement_words b.domains placement)) ++ codes "\n" ≡ layout_row_text b i
 row_is b layout i row placement is at there =
     let words = placement_words b.domains placement in
     let start = codes "#" ++ spaced (codes "irq" ∷ []) in
     let number = spaced (decimal row.line.0 ∷ []) in
     let whole : (start ++ number) ++ spaced words ≡ codes "#" ++ spaced (codes "irq" ∷ decimal row.line.0 ∷ words) =
-    append_assoc start number (spaced words) ∙ (append_assoc (codes "#") (spaced (codes "irq" ∷ [])) (number ++ spaced words) ∙ ap (λ text. codes "#" ++ text) (spaced_two (codes "irq") (decimal row.line.0) words)) in
+    append_assoc start number (spaced words) ∙ (append_assoc (codes "#") (spaced (codes "irq" ∷ []))
+    (number ++ spaced words) ∙ ap (λ text. codes "#" ++ text) (spaced_two (codes "irq") (decimal row.line.0) words))
+    in
     ap (λ text. text ++ codes "\n") (whole ∙ sym (joined (codes "#") (codes "irq" ∷ decimal row.line.0 ∷ words)))
-    ∙ (ap (λ (p : Option Placement). text_of_both b.domains (Some row) p) (sym (at_layout b layout i placement is there)) ∙ ap (λ (r : Option LineRow). text_of_both b.domains r (slice_get (layout_of b) i)) (sym at))
+    ∙ (ap (λ (p : Option Placement). text_of_both b.domains (Some row) p)
+    (sym (at_layout b layout i placement is there))
+    ∙ ap (λ (r : Option LineRow). text_of_both b.domains r (slice_get (layout_of b) i)) (sym at))

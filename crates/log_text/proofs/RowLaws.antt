@@ -1,5 +1,6 @@
 -- Different entries have different rows, and different histories different texts.
-use Rattle.std.proofs.Common.{◌≡◌, ℕ, zero, suc, ◌+◌, ◌<◌, ◌≤◌, ◌^◌, Bool, true, false, cond, eqb, List, [], ◌∷◌, ◌++◌, codes, decimal, drop, get_or, length, append_assoc, refl, ap, ◌∙◌, sym, arith}
+use Rattle.std.proofs.Common.{◌≡◌, ℕ, zero, suc, ◌+◌, ◌<◌, ◌≤◌, ◌^◌, Bool, true, false, cond, eqb, List, [], ◌∷◌, ◌++◌}
+use Rattle.std.proofs.Common.{codes, decimal, drop, get_or, length, append_assoc, refl, ap, ◌∙◌, sym, arith}
 use Rattle.std.specs.List.{All, join_with_byte, AllByRecursion}
 use Rattle.std.proofs.lemmas.List.Elements.{recursion_from_All}
 use Rattle.std.specs.Str.Parse.{digits_value}
@@ -13,12 +14,17 @@ use Rattle.irq_base.specs.declared.numbers.CpuNo.{CpuNo}
 use Rattle.irq_base.specs.declared.numbers.DevNo.{DevNo}
 use Rattle.irq_base.specs.declared.numbers.DriverNo.{DriverNo}
 use Rattle.irq_base.specs.declared.numbers.LineNo.{LineNo}
-use Rattle.log_text.proofs.Back.{is, at, way_at, take_at, answer_at, loop_at, mask_at, note_at, bit_at, resend_at, flags_at, unlink_at, enable_at, opened_at, link_at, linked_at, affinity_at, way_back, take_back, answer_back, loop_back, mask_back, note_back, bit_back, flags_back, unlink_back, enable_back, opened_back, link_back, affinity_back, number_back}
+use Rattle.log_text.proofs.Back.{is, at, way_at, take_at, answer_at, loop_at, mask_at, note_at, bit_at, resend_at}
+use Rattle.log_text.proofs.Back.{flags_at, unlink_at, enable_at, opened_at, link_at, linked_at, affinity_at, way_back}
+use Rattle.log_text.proofs.Back.{take_back, answer_back, loop_back, mask_back, note_back, bit_back, flags_back}
+use Rattle.log_text.proofs.Back.{unlink_back, enable_back, opened_back, link_back, affinity_back, number_back}
 use Rattle.log_text.proofs.Splitting.{words_of, row_words, row_back, row_within, same_cut}
 use Rattle.log_text.specs.EntryWords.{entry_words, IsPrintable}
 use Rattle.log_text.specs.Formed.{IsSmall, HasSmallNumbers, IsWritable, IsRowOf}
 use Rattle.log_text.specs.Rows.{entry_text, history_text}
-use Rattle.log_text.specs.Words.{driver_word, cpu_word, thread_word, way_word, take_word, answer_word, loop_word, mask_word, note_word, bit_word, resend_word, error_word, flags_word, enable_words, opened_words, link_words, unlink_word, affinity_words}
+use Rattle.log_text.specs.Words.{driver_word, cpu_word, thread_word, way_word, take_word, answer_word, loop_word}
+use Rattle.log_text.specs.Words.{mask_word, note_word, bit_word, resend_word, error_word, flags_word, enable_words}
+use Rattle.log_text.specs.Words.{opened_words, link_words, unlink_word, affinity_words}
 
 abbrev number_at : List (List ℕ) → ℕ → ℕ
 number_at words i = digits_value 10 (at words i)
@@ -88,7 +94,8 @@ entry_back (entries.Ask driver dev) w = ap2 (λ a b. entries.Ask (driver_no a) (
 entry_back (entries.Take cpu way answer) w = ap3 (λ a b c. entries.Take (cpu_no a) b c) (number_back cpu.0 w.small) (way_back way) (take_back answer)
 entry_back (entries.Begin cpu dev) w = ap2 (λ a b. entries.Begin (cpu_no a) (dev_no b)) (number_back cpu.0 w.small.0) (number_back dev.0 w.small.1)
 entry_back (entries.Return cpu dev answer served) w =
-    ap4 (λ a b c d. entries.Return (cpu_no a) (dev_no b) c d) (number_back cpu.0 w.small.0) (number_back dev.0 w.small.1) (answer_back answer) (number_back served w.small.2)
+    ap4 (λ a b c d. entries.Return (cpu_no a) (dev_no b) c d) (number_back cpu.0 w.small.0)
+    (number_back dev.0 w.small.1) (answer_back answer) (number_back served w.small.2)
 entry_back (entries.End cpu again unmask note) w =
     ap4 (λ a b c d. entries.End (cpu_no a) b c d) (number_back cpu.0 w.small) (loop_back again) (mask_back unmask) (note_back note)
 entry_back (entries.ThreadBegin dev) w = ap (λ a. entries.ThreadBegin (dev_no a)) (number_back dev.0 w.small)
@@ -100,9 +107,11 @@ entry_back (entries.HardClear driver) w = ap (λ a. entries.HardClear (driver_no
 entry_back (entries.Synced driver) w = ap (λ a. entries.Synced (driver_no a)) (number_back driver.0 w.small)
 entry_back (entries.Enable driver answer) w = ap2 (λ a b. entries.Enable (driver_no a) b) (number_back driver.0 w.small) (enable_back answer)
 entry_back (entries.Request driver dev flags links.Linked opened) w =
-    ap4 (λ a b c d. entries.Request (driver_no a) (dev_no b) c links.Linked d) (number_back driver.0 w.small.0) (number_back dev.0 w.small.1) (flags_back flags) (opened_back opened)
+    ap4 (λ a b c d. entries.Request (driver_no a) (dev_no b) c links.Linked d) (number_back driver.0 w.small.0)
+    (number_back dev.0 w.small.1) (flags_back flags) (opened_back opened)
 entry_back (entries.Request driver dev flags (links.Refused errno) opened) w =
-    ap4 (λ a b c d. entries.Request (driver_no a) (dev_no b) c d openings.No) (number_back driver.0 w.small.0) (number_back dev.0 w.small.1) (flags_back flags) (link_back (links.Refused errno) openings.No)
+    ap4 (λ a b c d. entries.Request (driver_no a) (dev_no b) c d openings.No) (number_back driver.0 w.small.0)
+    (number_back dev.0 w.small.1) (flags_back flags) (link_back (links.Refused errno) openings.No)
     ∙ ap (λ o. entries.Request driver dev flags (links.Refused errno) o) (sym w.printable)
 entry_back (entries.Unlink driver dev answer) w =
     ap3 (λ a b c. entries.Unlink (driver_no a) (dev_no b) c) (number_back driver.0 w.small.0) (number_back dev.0 w.small.1) (unlink_back answer)
@@ -123,7 +132,8 @@ same_row_words l m e f small low we wf same =
     let words : entry_words e ≡ entry_words f = ap (λ (ws : List (List ℕ)). drop 1 ws) same in
     (ap (λ n. line_no n) line, same_words e f we wf words)
 
-same_rows : (l m : LineNo) (e f : Entry) → IsSmall l.0 → IsSmall m.0 → IsWritable e → IsWritable f → join_with_byte 32 (row_words l e) ≡ join_with_byte 32 (row_words m f) → (l ≡ m) × (e ≡ f)
+same_rows : (l m : LineNo) (e f : Entry) → IsSmall l.0 → IsSmall m.0 → IsWritable e → IsWritable f
+    → join_with_byte 32 (row_words l e) ≡ join_with_byte 32 (row_words m f) → (l ≡ m) × (e ≡ f)
 same_rows l m e f small low we wf same =
     same_row_words l m e f small low we wf (sym (row_back l e small we) ∙ (ap words_of same ∙ row_back m f low wf))
 
@@ -146,7 +156,8 @@ no_row l e text h = nothing (join_with_byte 32 (row_words l e)) text (h ∙ some
     nothing (b ∷ bs) x i = cc
 
 -- the text of a line tells its entries
-pub texts_tell : (l : LineNo) (es fs : List Entry) → IsSmall l.0 → AllByRecursion IsWritable es → AllByRecursion IsWritable fs → history_text l es ≡ history_text l fs → es ≡ fs
+pub texts_tell : (l : LineNo) (es fs : List Entry) → IsSmall l.0 → AllByRecursion IsWritable es
+    → AllByRecursion IsWritable fs → history_text l es ≡ history_text l fs → es ≡ fs
 texts_tell l [] [] small we wf same = refl
 texts_tell l [] (f ∷ fs) small we wf same = absurd (no_row l f (history_text l fs) same)
 texts_tell l (e ∷ es) [] small we wf same = absurd (no_row l e (history_text l es) (sym same))

@@ -12,7 +12,8 @@ joined word [] = sym (append-nil word)
 joined word (next ∷ words) = ap (λ rest. word ++ (32 ∷ rest)) (joined next words)
 
 -- one more word
-pub spaced_more : {X : Type 0} (f : X → List ℕ) (xs : List X) (i : ℕ) (x : X) → slice_get xs i ≡ Some x → spaced (map f (take (i + 1) xs)) ≡ spaced (map f (take i xs)) ++ spaced (f x ∷ [])
+pub spaced_more : {X : Type 0} (f : X → List ℕ) (xs : List X) (i : ℕ) (x : X) → slice_get xs i ≡ Some x
+    → spaced (map f (take (i + 1) xs)) ≡ spaced (map f (take i xs)) ++ spaced (f x ∷ [])
 spaced_more f xs i x at =
     ap spaced (map_more f xs i x (slice_get_within xs i x at) ∙ ap (λ y. map f (take i xs) ++ f y ∷ []) (get_or_from_slice_get xs i x x at))
     ∙ flat_map-append (λ word. 32 ∷ word) (map f (take i xs)) (f x ∷ [])

@@ -1,6 +1,7 @@
 -- A row cut at its spaces gives its words back, and a text cut at line feeds gives back the rows
 -- that were put together.
-use Rattle.std.proofs.Common.{◌≡◌, ℕ, zero, suc, ◌+◌, ◌<◌, ◌≤◌, ◌^◌, ◌/◌, ◌%◌, Bool, true, false, ◌&&◌, cond, eqb, ltb, List, [], ◌∷◌, ◌++◌, codes, decimal, refl, ap, ◌∙◌, sym, arith}
+use Rattle.std.proofs.Common.{◌≡◌, ℕ, zero, suc, ◌+◌, ◌<◌, ◌≤◌, ◌^◌, ◌/◌, ◌%◌, Bool, true, false, ◌&&◌, cond, eqb, ltb}
+use Rattle.std.proofs.Common.{List, [], ◌∷◌, ◌++◌, codes, decimal, refl, ap, ◌∙◌, sym, arith}
 use Rattle.std.specs.List.{join_with_byte, slice_split, onto_first, list_all}
 use Rattle.std.proofs.lemmas.Bool.{and_from, and_parts, ltb-true, lt-ltb, ne_eqb}
 use Rattle.std.proofs.lemmas.Fmt.{decimal_by_steps}
@@ -34,7 +35,9 @@ use Rattle.irq_base.specs.declared.entries.AffinityAnswer.TheVariants as affinit
 use Rattle.irq_base.specs.declared.numbers.LineNo.{LineNo}
 use Rattle.log_text.specs.EntryWords.{entry_words, IsPrintable}
 use Rattle.log_text.specs.Formed.{IsSmall, HasSmallNumbers, IsWritable}
-use Rattle.log_text.specs.Words.{driver_word, cpu_word, thread_word, way_word, take_word, answer_word, loop_word, mask_word, note_word, bit_word, resend_word, error_word, flags_word, enable_words, opened_words, link_words, unlink_word, affinity_words}
+use Rattle.log_text.specs.Words.{driver_word, cpu_word, thread_word, way_word, take_word, answer_word, loop_word}
+use Rattle.log_text.specs.Words.{mask_word, note_word, bit_word, resend_word, error_word, flags_word, enable_words}
+use Rattle.log_text.specs.Words.{opened_words, link_words, unlink_word, affinity_words}
 
 -- each byte is above n
 abbrev pub are_above : ℕ → List ℕ → Bool
@@ -182,30 +185,41 @@ number_is : (n : ℕ) (words : List (List ℕ)) → IsSmall n → AreWords words
 number_is n words small i = more (decimal n) words (number_word n small) i
 
 -- a letter and a number, and others
-who_is : (n letter : ℕ) (words : List (List ℕ)) → IsSmall n → ltb 32 letter ≡ true → (verb : List ℕ) → are_above 32 verb ≡ true → AreWords words → AreWords ((letter ∷ decimal n) ∷ verb ∷ words)
-who_is n letter words small h verb v i = more (letter ∷ decimal n) (verb ∷ words) (and_from (ltb 32 letter) (are_above 32 (decimal n)) h (number_word n small)) (more verb words v i)
+who_is : (n letter : ℕ) (words : List (List ℕ)) → IsSmall n → ltb 32 letter ≡ true → (verb : List ℕ)
+    → are_above 32 verb ≡ true → AreWords words → AreWords ((letter ∷ decimal n) ∷ verb ∷ words)
+who_is n letter words small h verb v i = more (letter ∷ decimal n) (verb ∷ words)
+    (and_from (ltb 32 letter) (are_above 32 (decimal n)) h (number_word n small)) (more verb words v i)
 
 entry_is : (e : Entry) → IsWritable e → AreWords (entry_words e)
 entry_is (entries.Ask driver dev) w = who_is driver.0 100 _ w.small.0 refl (codes "ask") refl (number_is dev.0 [] w.small.1 none)
-entry_is (entries.Take cpu way answer) w = who_is cpu.0 99 _ w.small refl (codes "take") refl (more (way_word way) _ (way_is way) (one (take_word answer) (take_is answer)))
+entry_is (entries.Take cpu way answer) w = who_is cpu.0 99 _ w.small refl (codes "take") refl
+    (more (way_word way) _ (way_is way) (one (take_word answer) (take_is answer)))
 entry_is (entries.Begin cpu dev) w = who_is cpu.0 99 _ w.small.0 refl (codes "begin") refl (number_is dev.0 [] w.small.1 none)
 entry_is (entries.Return cpu dev answer served) w =
-    who_is cpu.0 99 _ w.small.0 refl (codes "return") refl (number_is dev.0 _ w.small.1 (more (answer_word answer) _ (answer_is answer) (number_is served [] w.small.2 none)))
+    who_is cpu.0 99 _ w.small.0 refl (codes "return") refl
+    (number_is dev.0 _ w.small.1 (more (answer_word answer) _ (answer_is answer)
+    (number_is served [] w.small.2 none)))
 entry_is (entries.End cpu again unmask note) w =
-    who_is cpu.0 99 _ w.small refl (codes "end") refl (more (loop_word again) _ (loop_is again) (more (mask_word unmask) _ (mask_is unmask) (one (note_word note) (note_is note))))
+    who_is cpu.0 99 _ w.small refl (codes "end") refl (more (loop_word again) _ (loop_is again)
+    (more (mask_word unmask) _ (mask_is unmask) (one (note_word note) (note_is note))))
 entry_is (entries.ThreadBegin dev) w = who_is dev.0 116 _ w.small refl (codes "begin") refl none
 entry_is (entries.ThreadReturn dev served) w = who_is dev.0 116 _ w.small.0 refl (codes "return") refl (number_is served [] w.small.1 none)
-entry_is (entries.Finish dev kept unmask) w = who_is dev.0 116 _ w.small refl (codes "finish") refl (more (bit_word kept) _ (bit_is kept) (one (mask_word unmask) (mask_is unmask)))
+entry_is (entries.Finish dev kept unmask) w = who_is dev.0 116 _ w.small refl (codes "finish") refl
+    (more (bit_word kept) _ (bit_is kept) (one (mask_word unmask) (mask_is unmask)))
 entry_is (entries.Done dev) w = who_is dev.0 116 _ w.small refl (codes "done") refl none
 entry_is (entries.Disable driver) w = who_is driver.0 100 _ w.small refl (codes "disable") refl none
 entry_is (entries.HardClear driver) w = who_is driver.0 100 _ w.small refl (codes "hardclear") refl none
 entry_is (entries.Synced driver) w = who_is driver.0 100 _ w.small refl (codes "synced") refl none
 entry_is (entries.Enable driver answer) w = who_is driver.0 100 _ w.small refl (codes "enable") refl (record { are = enable_are answer })
 entry_is (entries.Request driver dev flags answer opened) w =
-    who_is driver.0 100 _ w.small.0 refl (codes "request") refl (number_is dev.0 _ w.small.1 (more (flags_word flags) _ (flags_is flags) (record { are = link_are answer opened })))
-entry_is (entries.Unlink driver dev answer) w = who_is driver.0 100 _ w.small.0 refl (codes "unlink") refl (number_is dev.0 _ w.small.1 (one (unlink_word answer) (unlink_is answer)))
+    who_is driver.0 100 _ w.small.0 refl (codes "request") refl
+    (number_is dev.0 _ w.small.1 (more (flags_word flags) _ (flags_is flags)
+    (record { are = link_are answer opened })))
+entry_is (entries.Unlink driver dev answer) w = who_is driver.0 100 _ w.small.0 refl (codes "unlink") refl
+    (number_is dev.0 _ w.small.1 (one (unlink_word answer) (unlink_is answer)))
 entry_is (entries.Freed driver dev) w = who_is driver.0 100 _ w.small.0 refl (codes "freed") refl (number_is dev.0 [] w.small.1 none)
-entry_is (entries.Affinity driver mask answer) w = who_is driver.0 100 _ w.small.0 refl (codes "affinity") refl (number_is mask _ w.small.1 (record { are = affinity_are answer }))
+entry_is (entries.Affinity driver mask answer) w = who_is driver.0 100 _ w.small.0 refl (codes "affinity") refl
+    (number_is mask _ w.small.1 (record { are = affinity_are answer }))
 entry_is (entries.Moment driver moment) w = who_is driver.0 100 _ w.small.0 refl (codes "moment") refl (number_is moment [] w.small.1 none)
 
 -- the words of a row, with the line's number

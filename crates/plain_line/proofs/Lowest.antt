@@ -1,5 +1,6 @@
 -- The lowest thread that has an entry due, device by device.
-use Rattle.std.proofs.Common.{◌≡◌, ℕ, ◌≤◌, Bool, true, false, cond, nat_le, List, [], ◌∷◌, Option, Some, None, refl, sym, ap, subst, ◌∙◌, arith, leb-true, leb-false, ◌⊎◌, inl, inr}
+use Rattle.std.proofs.Common.{◌≡◌, ℕ, ◌≤◌, Bool, true, false, cond, nat_le, List, [], ◌∷◌, Option, Some, None, refl}
+use Rattle.std.proofs.Common.{sym, ap, subst, ◌∙◌, arith, leb-true, leb-false, ◌⊎◌, inl, inr}
 use Rattle.std.specs.Prelude.{IsSome}
 use Rattle.std.specs.List.{list_any}
 use Rattle.std.proofs.lemmas.Bool.{false≢true, or_cases, cond-true}
@@ -79,7 +80,9 @@ more_is p x xs so_far low is rest =
     record {
       counts = subst (λ (o : Option DevNo). Counts p o) same rest.counts;
       kept = λ l there. subst (λ (o : Option DevNo). Below o l) same
-          (below_lower R low l rest.kept (subst (λ (o : Option DevNo). Below o l) (sym is) (subst (λ (o : Option DevNo). Below (lower_of o x.dev (p x.dev)) l) (sym there) (lower_keeps l x.dev (p x.dev)))));
+          (below_lower R low l rest.kept (subst (λ (o : Option DevNo). Below o l) (sym is)
+          (subst (λ (o : Option DevNo). Below (lower_of o x.dev (p x.dev)) l) (sym there)
+          (lower_keeps l x.dev (p x.dev)))));
       below = λ d h q. subst (λ (o : Option DevNo). Below o d) same (by_place d q (or_cases (is_device d x) (list_any (is_device d) xs) h));
     }
   where
@@ -88,7 +91,8 @@ more_is p x xs so_far low is rest =
         let here : d ≡ x.dev = dev_from_same d x.dev h in
         let low_is : low ≡ lower_of so_far x.dev true = is ∙ ap (lower_of so_far x.dev) (ap p (sym here) ∙ q) in
         below_lower (lowest_of p low xs) low d rest.kept
-        (subst (λ (o : Option DevNo). Below o d) (sym low_is) (subst (λ (y : DevNo). Below (lower_of so_far x.dev true) y) (sym here) (lower_is_below so_far x.dev)))
+        (subst (λ (o : Option DevNo). Below o d) (sym low_is)
+        (subst (λ (y : DevNo). Below (lower_of so_far x.dev true) y) (sym here) (lower_is_below so_far x.dev)))
     by_place d q (inr h) = rest.below d h q
 
 lowest_is : (p : DevNo → Bool) (xs : List DeviceDef) (so_far : Option DevNo) → Counts p so_far → IsLowestOf p so_far xs
@@ -101,10 +105,12 @@ lowest_is p [] so_far c = record {
     self : (n : ℕ) → n ≤ n
     self n = omega arith
 lowest_is p (x ∷ xs) so_far c =
-    more_is p x xs so_far (lower_of so_far x.dev (p x.dev)) refl (lowest_is p xs (lower_of so_far x.dev (p x.dev)) (lower_counts p so_far x.dev (p x.dev) refl c))
+    more_is p x xs so_far (lower_of so_far x.dev (p x.dev)) refl
+    (lowest_is p xs (lower_of so_far x.dev (p x.dev)) (lower_counts p so_far x.dev (p x.dev) refl c))
 
 -- an entry of a thread is due only if the device is one of the line's
-due_device : (def : LineDef) (past : List Entry) → IsValid def → IsLegalPast def past → (d : DevNo) → IsThreadDueAt def past d → list_any (is_device d) def.devices ≡ true
+due_device : (def : LineDef) (past : List Entry) → IsValid def → IsLegalPast def past → (d : DevNo)
+    → IsThreadDueAt def past d → list_any (is_device d) def.devices ≡ true
 due_device def past valid legal d = by_due (next_past def past (actors.Thread def.line d)) refl
   where
     own : next_past def past (actors.Thread def.line d) ≡ next_of_thread def d past
@@ -114,12 +120,16 @@ due_device def past valid legal d = by_due (next_past def past (actors.Thread de
     by_due None is h = absurd (false≢true h)
     by_due (Some e) is h = thread_device def past d e (kept def past valid legal) (sym own ∙ is)
 
-pub lowest_found : (def : LineDef) (past : List Entry) (o : Option DevNo) → IsValid def → IsLegalPast def past → o ≡ lowest_of (is_thread_due def past) None def.devices → IsLowestAt def past o
-lowest_found def past o valid legal is = subst (λ (x : Option DevNo). IsLowestAt def past x) (sym is) (found (lowest_of (is_thread_due def past) None def.devices) all.counts all.below)
+pub lowest_found : (def : LineDef) (past : List Entry) (o : Option DevNo) → IsValid def → IsLegalPast def past
+    → o ≡ lowest_of (is_thread_due def past) None def.devices → IsLowestAt def past o
+lowest_found def past o valid legal is = subst (λ (x : Option DevNo). IsLowestAt def past x) (sym is)
+    (found (lowest_of (is_thread_due def past) None def.devices) all.counts all.below)
   where
     all : IsLowestOf (is_thread_due def past) None def.devices
     all = lowest_is (is_thread_due def past) def.devices None tt
 
-    found : (r : Option DevNo) → Counts (is_thread_due def past) r → ((d : DevNo) → list_any (is_device d) def.devices ≡ true → is_thread_due def past d ≡ true → Below r d) → IsLowestAt def past r
+    found : (r : Option DevNo) → Counts (is_thread_due def past) r
+        → ((d : DevNo) → list_any (is_device d) def.devices ≡ true → is_thread_due def past d ≡ true → Below r d)
+        → IsLowestAt def past r
     found None c below = λ d h. below d (due_device def past valid legal d h) h
     found (Some l) c below = (c, λ d h. below d (due_device def past valid legal d h) h)

@@ -1,5 +1,6 @@
 -- A walk from an edge's place to the newest entry.
-use Rattle.std.proofs.Common.{◌≡◌, ℕ, suc, ◌-◌, ◌<◌, ◌≤◌, Bool, true, false, not, ◌||◌, ◌&&◌, List, ◌∷◌, ◌++◌, length, take, drop, get_or, sym, ap, ◌∙◌, arith, drop-cons}
+use Rattle.std.proofs.Common.{◌≡◌, ℕ, suc, ◌-◌, ◌<◌, ◌≤◌, Bool, true, false, not, ◌||◌, ◌&&◌, List, ◌∷◌, ◌++◌, length}
+use Rattle.std.proofs.Common.{take, drop, get_or, sym, ap, ◌∙◌, arith, drop-cons}
 use Rattle.std.proofs.lemmas.List.{take-append-drop, length-take-le, get_or-take, drop-append-le}
 use Rattle.irq_base.specs.declared.lines.LineDef.{LineDef}
 use Rattle.irq_base.specs.declared.entries.Entry.{Entry}
@@ -49,7 +50,8 @@ opened_more def past place i o m a b l p q =
 -- whether a take took the edge; t says so before the entry, m whether the line was masked then, and
 -- o whether it was open since the edge
 pub taken_more : (def : LineDef) (past : List Entry) (place i : ℕ) (d : Entry) (t o m : Bool) → 0 < i → i ≤ place → place < length past
-    → t ≡ is_taken def (drop i (take place past)) (drop place past) → o ≡ was_open def (drop i (take place past)) (drop place past) → m ≡ is_masked def (drop i past)
+    → t ≡ is_taken def (drop i (take place past)) (drop place past)
+    → o ≡ was_open def (drop i (take place past)) (drop place past) → m ≡ is_masked def (drop i past)
     → ((is_take (get_or past (i - 1) d) && (not m || (not def.recalls && o))) || t) ≡ is_taken def (drop (i - 1) (take place past)) (drop place past)
 taken_more def past place i d t o m a b l p q r =
     let rest = drop place past in

@@ -47,10 +47,12 @@ linked_request driver dev flags opened past =
     let now = is_linked (entries.Request driver dev flags links.Linked opened ∷ past) in
     let others : filter now (without dev (requested past)) ≡ without dev (linked past) =
     filter-filter now (λ x. not (same_dev x dev)) (requested past)
-    ∙ (filter_agree (λ x. not (same_dev x dev) && now x) (λ x. is_linked past x && not (same_dev x dev)) (λ x. linked_else (same_dev x dev) (is_linked past x)) (requested past)
+    ∙ (filter_agree (λ x. not (same_dev x dev) && now x) (λ x. is_linked past x && not (same_dev x dev))
+    (λ x. linked_else (same_dev x dev) (is_linked past x)) (requested past)
     ∙ sym (filter-filter (λ x. not (same_dev x dev)) (is_linked past) (requested past))) in
     let itself : filter now (dev ∷ []) ≡ dev ∷ [] = ap (λ b. cond ((b && true) || (not false && is_linked past dev)) (dev ∷ []) []) (same_self dev) in
-    filter-append now (without dev (requested past)) (dev ∷ []) ∙ (ap (λ ds. ds ++ filter now (dev ∷ [])) others ∙ ap (λ ds. without dev (linked past) ++ ds) itself)
+    filter-append now (without dev (requested past)) (dev ∷ [])
+    ∙ (ap (λ ds. ds ++ filter now (dev ∷ [])) others ∙ ap (λ ds. without dev (linked past) ++ ds) itself)
 
 -- an unlink takes its device out
 pub linked_unlink : (driver : DriverNo) (dev : DevNo) (last : Bool) (past : List Entry)

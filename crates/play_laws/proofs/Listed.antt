@@ -1,5 +1,6 @@
 -- Only the line's own actors ever have a due entry.
-use Rattle.std.proofs.Common.{◌≡◌, ℕ, zero, suc, ◌+◌, ◌==◌, ◌⊎◌, inl, inr, Bool, true, false, ◌||◌, ◌&&◌, cond, nat_lt, Option, Some, None, List, [], ◌∷◌, ◌++◌, map, refl, sym, ap, ◌∙◌, subst, eqb-true}
+use Rattle.std.proofs.Common.{◌≡◌, ℕ, zero, suc, ◌+◌, ◌==◌, ◌⊎◌, inl, inr, Bool, true, false, ◌||◌, ◌&&◌, cond, nat_lt}
+use Rattle.std.proofs.Common.{Option, Some, None, List, [], ◌∷◌, ◌++◌, map, refl, sym, ap, ◌∙◌, subst, eqb-true}
 use Rattle.std.proofs.lemmas.Bool.{or_cases, or_left, or_right}
 use Rattle.std.specs.List.{list_any}
 use Rattle.irq_base.specs.declared.numbers.LineNo.{LineNo}
@@ -61,7 +62,8 @@ put_keeps : (f : ℕ → Actor) (a : Actor) (n : ℕ) (ms : List ℕ) → IsOneO
 put_keeps f a n [] at = absurd at
 put_keeps f a n (m ∷ ms) at = by_tests (nat_lt n m) (n == m) at (put_keeps f a n ms)
   where
-    by_tests : (l e : Bool) → (a ≡ f m) ⊎ IsOneOf a (map f ms) → (IsOneOf a (map f ms) → IsOneOf a (map f (put n ms))) → IsOneOf a (map f (cond l (n ∷ m ∷ ms) (cond e (m ∷ ms) (m ∷ put n ms))))
+    by_tests : (l e : Bool) → (a ≡ f m) ⊎ IsOneOf a (map f ms) → (IsOneOf a (map f ms) → IsOneOf a (map f (put n ms)))
+        → IsOneOf a (map f (cond l (n ∷ m ∷ ms) (cond e (m ∷ ms) (m ∷ put n ms))))
     by_tests true e at deeper = inr at
     by_tests false true at deeper = at
     by_tests false false (inl here) deeper = inl here
@@ -71,7 +73,9 @@ named : (f : ℕ → Actor) (n : ℕ) (ms : List ℕ) → list_any (λ m. n == m
 named f n [] h = cc
 named f n (m ∷ ms) h = by_case (or_cases (n == m) (list_any (λ m. n == m) ms) h) (named f n ms)
   where
-    by_case : ((n == m) ≡ true) ⊎ (list_any (λ m. n == m) ms ≡ true) → (list_any (λ m. n == m) ms ≡ true → IsOneOf (f n) (map f (rising ms))) → IsOneOf (f n) (map f (put m (rising ms)))
+    by_case : ((n == m) ≡ true) ⊎ (list_any (λ m. n == m) ms ≡ true)
+        → (list_any (λ m. n == m) ms ≡ true → IsOneOf (f n) (map f (rising ms)))
+        → IsOneOf (f n) (map f (put m (rising ms)))
     by_case (inl here) deeper = subst (λ (k : ℕ). IsOneOf (f k) (map f (put m (rising ms)))) (sym (eqb-true n m here)) (put_here f m (rising ms))
     by_case (inr there) deeper = put_keeps f (f n) m (rising ms) (deeper there)
 
@@ -81,7 +85,8 @@ device_number : (d : DevNo) (xs : List DeviceDef) → list_any (is_device d) xs 
 device_number d [] h = cc
 device_number d (x ∷ xs) h = by_case (or_cases (is_device d x) (list_any (is_device d) xs) h) (device_number d xs)
   where
-    by_case : (is_device d x ≡ true) ⊎ (list_any (is_device d) xs ≡ true) → (list_any (is_device d) xs ≡ true → list_any (λ m. d.0 == m) (map (λ (x : DeviceDef). x.dev.0) xs) ≡ true)
+    by_case : (is_device d x ≡ true) ⊎ (list_any (is_device d) xs ≡ true)
+        → (list_any (is_device d) xs ≡ true → list_any (λ m. d.0 == m) (map (λ (x : DeviceDef). x.dev.0) xs) ≡ true)
         → ((d.0 == x.dev.0) || list_any (λ m. d.0 == m) (map (λ (x : DeviceDef). x.dev.0) xs)) ≡ true
     by_case (inl here) deeper = or_left (d.0 == x.dev.0) _ here
     by_case (inr there) deeper = or_right (d.0 == x.dev.0) _ (deeper there)
@@ -102,17 +107,21 @@ both_false false false h = (refl, refl)
 both_false true b h = cc
 both_false false true h = cc
 
-pub thread_device : (def : LineDef) (past : List Entry) (d : DevNo) (e : Entry) → Kept def past → next_of_thread def d past ≡ Some e → list_any (is_device d) def.devices ≡ true
+pub thread_device : (def : LineDef) (past : List Entry) (d : DevNo) (e : Entry) → Kept def past
+    → next_of_thread def d past ≡ Some e → list_any (is_device d) def.devices ≡ true
 thread_device def past d e k h = by_there (is_linked past d || is_being_freed past d) refl
   where
     by_there : (b : Bool) → (is_linked past d || is_being_freed past d) ≡ b → list_any (is_device d) def.devices ≡ true
     by_there true is = there_named def past k d is
     by_there false is =
         let n = both_false (is_linked past d) (is_being_freed past d) is in
-        let m = at_rest (is_linked past d) (is_being_freed past d) (is_woken past d) (is_running past d) (is_unfinished past d) (is_called past d) n.0 n.1 (k.rest.at_rest d) in
-        absurd (idle_thread (is_running past d) (is_woken past d) (has_returned past d) (is_oneshot past) (has_finished past d) (has_flow def past) _ _ _ _ e h m.0 m.1)
+        let m = at_rest (is_linked past d) (is_being_freed past d) (is_woken past d) (is_running past d)
+        (is_unfinished past d) (is_called past d) n.0 n.1 (k.rest.at_rest d) in
+        absurd (idle_thread (is_running past d) (is_woken past d) (has_returned past d) (is_oneshot past)
+        (has_finished past d) (has_flow def past) _ _ _ _ e h m.0 m.1)
 
-thread_listed : (def : LineDef) (past : List Entry) (line : LineNo) (d : DevNo) (e : Entry) → Kept def past → next_past def past (actors.Thread line d) ≡ Some e → IsOneOf (actors.Thread line d) (threads_of def)
+thread_listed : (def : LineDef) (past : List Entry) (line : LineNo) (d : DevNo) (e : Entry) → Kept def past
+    → next_past def past (actors.Thread line d) ≡ Some e → IsOneOf (actors.Thread line d) (threads_of def)
 thread_listed def past line d e k h = by_line (chosen (same_line line def.line) (next_of_thread def d past) None e h)
   where
     numbered : ℕ → Actor
@@ -121,8 +130,10 @@ thread_listed def past line d e k h = by_line (chosen (same_line line def.line) 
     here : IsOneOf (numbered d.0) (threads_of def) → same_line line def.line ≡ true → IsOneOf (actors.Thread line d) (threads_of def)
     here at same = subst (λ (l : LineNo). IsOneOf (actors.Thread l d) (threads_of def)) (sym (line_from_same line def.line same)) at
 
-    by_line : ((same_line line def.line ≡ true) × (next_of_thread def d past ≡ Some e)) ⊎ ((same_line line def.line ≡ false) × (None ≡ Some e)) → IsOneOf (actors.Thread line d) (threads_of def)
-    by_line (inl h) = here (named numbered d.0 (map (λ (x : DeviceDef). x.dev.0) def.devices) (device_number d def.devices (thread_device def past d e k h.1))) h.0
+    by_line : ((same_line line def.line ≡ true) × (next_of_thread def d past ≡ Some e))
+        ⊎ ((same_line line def.line ≡ false) × (None ≡ Some e)) → IsOneOf (actors.Thread line d) (threads_of def)
+    by_line (inl h) = here (named numbered d.0 (map (λ (x : DeviceDef). x.dev.0) def.devices)
+        (device_number d def.devices (thread_device def past d e k h.1))) h.0
     by_line (inr h) = let n = h.1 in cc
 
 -- ---- processors
@@ -134,7 +145,8 @@ lowest_listed : (mask c n : ℕ) (k : CpuNo) → lowest_from mask c n ≡ Some k
 lowest_listed mask c zero k h = cc
 lowest_listed mask c (suc n) k h = by_test (is_in_mask mask c) h (lowest_listed mask (c + 1) n k)
   where
-    by_test : (b : Bool) → cond b (Some (record { 0 = c })) (lowest_from mask (c + 1) n) ≡ Some k → (lowest_from mask (c + 1) n ≡ Some k → IsOneOf (actors.Cpu k) (map numbered_cpu (count_up (c + 1) n)))
+    by_test : (b : Bool) → cond b (Some (record { 0 = c })) (lowest_from mask (c + 1) n) ≡ Some k
+        → (lowest_from mask (c + 1) n ≡ Some k → IsOneOf (actors.Cpu k) (map numbered_cpu (count_up (c + 1) n)))
         → (actors.Cpu k ≡ numbered_cpu c) ⊎ IsOneOf (actors.Cpu k) (map numbered_cpu (count_up (c + 1) n))
     by_test true is deeper = let here : CpuNo = record { 0 = c } in inl (sym (ap actors.Cpu (the_same here k is)))
     by_test false is deeper = inr (deeper is)
@@ -158,38 +170,46 @@ flow_listed def (e ∷ past) c legal is = by_test (is_handle e || closes def e) 
   where
     taken : (x : Entry) → IsDue def x past → (is_handle x || closes def x) ≡ true → cpu_of_handle (Some x) ≡ Some c → IsOneOf (actors.Cpu c) (cpus_of def)
     taken (entries.Take cpu way takes.Handle) due t at =
-        subst (λ (y : CpuNo). IsOneOf (actors.Cpu y) (cpus_of def)) (the_same cpu c at) (target_listed def past cpu (take_due def cpu way takes.Handle past due).of_target)
+        subst (λ (y : CpuNo). IsOneOf (actors.Cpu y) (cpus_of def)) (the_same cpu c at)
+        (target_listed def past cpu (take_due def cpu way takes.Handle past due).of_target)
     taken (entries.Take cpu way takes.Busy) due t at = not_handled (is_eoi_flow def.flow) t
     taken (entries.Take cpu way takes.Off) due t at = not_handled (is_eoi_flow def.flow) t
     taken x due t at = cc
 
-    by_test : (b : Bool) → (is_handle e || closes def e) ≡ b → (flow def past ≡ Some c → IsOneOf (actors.Cpu c) (cpus_of def)) → IsOneOf (actors.Cpu c) (cpus_of def)
-    by_test true t deeper = taken e legal.0 t (sym (ap (λ (b : Bool). cpu_of_handle (cond b (Some e) (last_of (λ e. is_handle e || closes def e) past))) t) ∙ is)
+    by_test : (b : Bool) → (is_handle e || closes def e) ≡ b
+        → (flow def past ≡ Some c → IsOneOf (actors.Cpu c) (cpus_of def)) → IsOneOf (actors.Cpu c) (cpus_of def)
+    by_test true t deeper = taken e legal.0 t (sym (ap
+        (λ (b : Bool). cpu_of_handle (cond b (Some e) (last_of (λ e. is_handle e || closes def e) past))) t) ∙ is)
     by_test false t deeper = deeper (sym (ap (λ (b : Bool). cpu_of_handle (cond b (Some e) (last_of (λ e. is_handle e || closes def e) past))) t) ∙ is)
 
-cpu_listed : (def : LineDef) (past : List Entry) (c : CpuNo) (e : Entry) → IsLegalPast def past → next_of_cpu def c past ≡ Some e → IsOneOf (actors.Cpu c) (cpus_of def)
+cpu_listed : (def : LineDef) (past : List Entry) (c : CpuNo) (e : Entry) → IsLegalPast def past
+    → next_of_cpu def c past ≡ Some e → IsOneOf (actors.Cpu c) (cpus_of def)
 cpu_listed def past c e legal h = by_case (cpu_cases def c past e h)
   where
     in_flow : (o : Option CpuNo) → flow def past ≡ o → is_cpu c o ≡ true → IsOneOf (actors.Cpu c) (cpus_of def)
     in_flow None at is = cc
     in_flow (Some k) at is = subst (λ (x : CpuNo). IsOneOf (actors.Cpu x) (cpus_of def)) (sym (cpu_from_same c k is)) (flow_listed def past k legal at)
 
-    by_case : ((is_cpu c (flow def past) ≡ true) × (next_in_flow def c past (at_work past) ≡ e)) ⊎ ((is_cpu c (flow def past) ≡ false) × (next_take def c past ≡ Some e)) → IsOneOf (actors.Cpu c) (cpus_of def)
+    by_case : ((is_cpu c (flow def past) ≡ true) × (next_in_flow def c past (at_work past) ≡ e))
+        ⊎ ((is_cpu c (flow def past) ≡ false) × (next_take def c past ≡ Some e)) → IsOneOf (actors.Cpu c) (cpus_of def)
     by_case (inl h) = in_flow (flow def past) refl h.0
     by_case (inr h) = target_listed def past c (take_cases (is_cpu c (target def past)) (signals def past) (is_soft past) _ _ e h.1).0
 
 -- ---- drivers
 
-call_number : (r : DriverNo) (cs : List (DriverNo × Call)) (es : List Entry) (x : Call × ℕ) → due_of (calls_by r cs) es ≡ Some x → list_any (λ m. r.0 == m) (map (λ (c : DriverNo × Call). c.0.0) cs) ≡ true
+call_number : (r : DriverNo) (cs : List (DriverNo × Call)) (es : List Entry) (x : Call × ℕ)
+    → due_of (calls_by r cs) es ≡ Some x → list_any (λ m. r.0 == m) (map (λ (c : DriverNo × Call). c.0.0) cs) ≡ true
 call_number r [] es x h = cc
 call_number r (c ∷ cs) es x h = by_test (same_driver r c.0) refl (call_number r cs es x)
   where
-    by_test : (b : Bool) → same_driver r c.0 ≡ b → (due_of (calls_by r cs) es ≡ Some x → list_any (λ m. r.0 == m) (map (λ (c : DriverNo × Call). c.0.0) cs) ≡ true)
+    by_test : (b : Bool) → same_driver r c.0 ≡ b → (due_of (calls_by r cs) es ≡ Some x
+        → list_any (λ m. r.0 == m) (map (λ (c : DriverNo × Call). c.0.0) cs) ≡ true)
         → ((r.0 == c.0.0) || list_any (λ m. r.0 == m) (map (λ (c : DriverNo × Call). c.0.0) cs)) ≡ true
     by_test true is deeper = or_left (r.0 == c.0.0) _ is
     by_test false is deeper = or_right (r.0 == c.0.0) _ (deeper (sym (ap (λ (b : Bool). due_of (cond b (c.1 ∷ calls_by r cs) (calls_by r cs)) es) is) ∙ h))
 
-driver_listed : (def : LineDef) (past : List Entry) (r : DriverNo) (e : Entry) → next_of_call def r past (due_call def r past) ≡ Some e → IsOneOf (actors.Driver r) (drivers_of def)
+driver_listed : (def : LineDef) (past : List Entry) (r : DriverNo) (e : Entry)
+    → next_of_call def r past (due_call def r past) ≡ Some e → IsOneOf (actors.Driver r) (drivers_of def)
 driver_listed def past r e h = by_due (due_call def r past) refl h
   where
     numbered : ℕ → Actor
@@ -201,10 +221,13 @@ driver_listed def past r e h = by_due (due_call def r past) refl h
 
 -- ---- all of them
 
-pub mover_listed : (def : LineDef) (past : List Entry) (a : Actor) (e : Entry) → IsValid def → IsLegalPast def past → next_past def past a ≡ Some e → IsOneOf a (actors_of def)
+pub mover_listed : (def : LineDef) (past : List Entry) (a : Actor) (e : Entry) → IsValid def → IsLegalPast def past
+    → next_past def past a ≡ Some e → IsOneOf a (actors_of def)
 mover_listed def past (actors.Thread line d) e valid legal h =
     in_first (actors.Thread line d) (threads_of def) (cpus_of def ++ drivers_of def) (thread_listed def past line d e (kept def past valid legal) h)
 mover_listed def past (actors.Cpu c) e valid legal h =
-    in_second (actors.Cpu c) (threads_of def) (cpus_of def ++ drivers_of def) (in_first (actors.Cpu c) (cpus_of def) (drivers_of def) (cpu_listed def past c e legal h))
+    in_second (actors.Cpu c) (threads_of def) (cpus_of def ++ drivers_of def)
+    (in_first (actors.Cpu c) (cpus_of def) (drivers_of def) (cpu_listed def past c e legal h))
 mover_listed def past (actors.Driver r) e valid legal h =
-    in_second (actors.Driver r) (threads_of def) (cpus_of def ++ drivers_of def) (in_second (actors.Driver r) (cpus_of def) (drivers_of def) (driver_listed def past r e h))
+    in_second (actors.Driver r) (threads_of def) (cpus_of def ++ drivers_of def)
+    (in_second (actors.Driver r) (cpus_of def) (drivers_of def) (driver_listed def past r e h))

@@ -19,12 +19,14 @@ others_rest def h a valid legal other = by_next (next def h a) refl
     by_next (Some e) is = absurd (other (mover_listed def (reverse h) a e valid legal is))
 
 -- if none of the line's actors has a due entry, no actor has
-all_rest : (def : LineDef) (h : List Entry) → IsValid def → IsLegal def h → ((a : Actor) → IsOneOf a (actors_of def) → next def h a ≡ None) → (a : Actor) → next def h a ≡ None
+all_rest : (def : LineDef) (h : List Entry) → IsValid def → IsLegal def h
+    → ((a : Actor) → IsOneOf a (actors_of def) → next def h a ≡ None) → (a : Actor) → next def h a ≡ None
 all_rest def h valid legal rest a = by_next (next def h a) refl
   where
     by_next : (o : Option Entry) → next def h a ≡ o → next def h a ≡ None
     by_next None is = is
     by_next (Some e) is = rest a (mover_listed def (reverse h) a e valid legal is)
 
-pub rest_is_settled : (def : LineDef) (h : List Entry) → IsValid def → IsLegal def h → ((a : Actor) → IsOneOf a (actors_of def) → next def h a ≡ None) → IsSettled def h
+pub rest_is_settled : (def : LineDef) (h : List Entry) → IsValid def → IsLegal def h
+    → ((a : Actor) → IsOneOf a (actors_of def) → next def h a ≡ None) → IsSettled def h
 rest_is_settled def h valid legal rest = no_standstill def h valid legal (all_rest def h valid legal rest)

@@ -11,12 +11,14 @@ all_moves : (board : BoardSeen) (g : List Move) → moves_in (picks_then_lowest 
 all_moves board [] = refl
 all_moves board (m ∷ g) = ap (λ x. m ∷ x) (all_moves board g)
 
-made : (board : BoardSeen) (picks : List Actor) (g : List Move) (left : List Actor) → IsChosen board picks g left → IsMade (picks_then_lowest board) picks g left
+made : (board : BoardSeen) (picks : List Actor) (g : List Move) (left : List Actor) → IsChosen board picks g left
+    → IsMade (picks_then_lowest board) picks g left
 made board picks [] left is = is
 made board picks (m ∷ g) left is =
     (is.0, made board picks g is.0 is.1, is.2, subst (λ x. length (part m.0 x) < board.log) (sym (all_moves board g)) is.3)
 
-chosen : (board : BoardSeen) (picks : List Actor) (g : List Move) (left : List Actor) → IsMade (picks_then_lowest board) picks g left → IsChosen board picks g left
+chosen : (board : BoardSeen) (picks : List Actor) (g : List Move) (left : List Actor)
+    → IsMade (picks_then_lowest board) picks g left → IsChosen board picks g left
 chosen board picks [] left is = is
 chosen board picks (m ∷ g) left is =
     (is.0, chosen board picks g is.0 is.1, is.2, subst (λ x. length (part m.0 x) < board.log) (all_moves board g) is.3)
@@ -46,6 +48,7 @@ is_end board g left (Full line) is = record {
   length = subst (λ x. length (part line x) ≡ board.log) (all_moves board g) is.is_long;
 }
 
-pub plays_in_order : (board : BoardSeen) (picks : List Actor) (g : List Move) (end : End) → Plays board picks g end ↔ IsPlayed (picks_then_lowest board) picks g end
+pub plays_in_order : (board : BoardSeen) (picks : List Actor) (g : List Move) (end : End)
+    → Plays board picks g end ↔ IsPlayed (picks_then_lowest board) picks g end
 plays_in_order board picks g end =
     (λ x. (x.0, made board picks g x.0 x.1, ends board g x.0 end x.2), λ x. (x.0, chosen board picks g x.0 x.1, is_end board g x.0 end x.2))

@@ -1,6 +1,7 @@
 -- A board's text isn't longer than what is read, so reading it reaches the end of the source. And
 -- if the bytes that were cut off there are too long, the whole text is too.
-use Rattle.std.proofs.Common.{◌≡◌, ℕ, ◌+◌, ◌<◌, ◌≤◌, Bool, true, false, cond, nat_lt, Option, Some, None, Result, Ok, Err, List, [], take, length, refl, sym, ap, ◌∙◌, inl, inr, ◌⊎◌, arith, length-take}
+use Rattle.std.proofs.Common.{◌≡◌, ℕ, ◌+◌, ◌<◌, ◌≤◌, Bool, true, false, cond, nat_lt, Option, Some, None, Result, Ok}
+use Rattle.std.proofs.Common.{Err, List, [], take, length, refl, sym, ap, ◌∙◌, inl, inr, ◌⊎◌, arith, length-take}
 use Rattle.std.proofs.lemmas.List.{take_all, drop_all}
 use Rattle.std.proofs.lemmas.Bool.{ltb-true}
 use Rattle.std.proofs.lemmas.Bool.Decides.{nat_tests}
@@ -22,7 +23,8 @@ is_longer bytes h = grind (arith, nat_tests)
 
 too_long : (bytes : List ℕ) → longest_text < length bytes → board_of_text bytes ≡ Err (whole faults.TooLong)
 too_long bytes h =
-    first_of (nat_lt longest_text (length bytes)) (Err (whole faults.TooLong)) (board_unless (fault_of_lines (text_lines bytes)) (with_lines [] (text_lines bytes))) (is_longer bytes h)
+    first_of (nat_lt longest_text (length bytes)) (Err (whole faults.TooLong))
+    (board_unless (fault_of_lines (text_lines bytes)) (with_lines [] (text_lines bytes))) (is_longer bytes h)
 
 at_most : (m n : ℕ) → nat_lt n m ≡ false → m ≤ n
 at_most m n h = grind (arith, nat_tests)
@@ -56,17 +58,20 @@ cut_states bytes = by_size (within_or_not (length bytes) (longest_text + 1))
         let all : longest_text < length bytes = omega (arith, many) in
         too_long (take (longest_text + 1) bytes) cut ∙ sym (too_long bytes all)
 
-pub content : (before now : Option (List ℕ)) (text : List ℕ) (b : BoardSeen) → TakesUpTo (longest_text + 1) before now text → board_of_text text ≡ Ok b → ReadsBoard before now (Ok b)
+pub content : (before now : Option (List ℕ)) (text : List ℕ) (b : BoardSeen)
+    → TakesUpTo (longest_text + 1) before now text → board_of_text text ≡ Ok b → ReadsBoard before now (Ok b)
 content None now text b read states = tt
 content (Some bytes) now text b read states =
     let of_all : board_of_text bytes ≡ Ok b = sym (cut_states bytes) ∙ (ap board_of_text (sym read.0) ∙ states) in
     (of_all, read.1 ∙ ap Some (drop_all (longest_text + 1) bytes (omega (arith, short bytes b of_all))))
 
-pub refused : (before now : Option (List ℕ)) (text : List ℕ) (fault : BoardFault) → TakesUpTo (longest_text + 1) before now text → length text ≤ longest_text + 1 → board_of_text text ≡ Err fault
+pub refused : (before now : Option (List ℕ)) (text : List ℕ) (fault : BoardFault)
+    → TakesUpTo (longest_text + 1) before now text → length text ≤ longest_text + 1 → board_of_text text ≡ Err fault
     → ReadsBoard before now (Err (refusals.Fault fault))
 refused None now text fault read within states = record { text = text; within = within; fails = states }
 refused (Some bytes) now text fault read within states = (sym (cut_states bytes) ∙ (ap board_of_text (sym read.0) ∙ states), read.1)
 
-pub stated : (before now : Option (List ℕ)) (text : List ℕ) (b : BoardSeen) → TakesUpTo (longest_text + 1) before now text → board_of_text text ≡ Ok b → IsStated before b
+pub stated : (before now : Option (List ℕ)) (text : List ℕ) (b : BoardSeen)
+    → TakesUpTo (longest_text + 1) before now text → board_of_text text ≡ Ok b → IsStated before b
 stated None now text b read states = record { text = text; as_told = tt; states = states }
 stated (Some bytes) now text b read states = record { text = bytes; as_told = refl; states = sym (cut_states bytes) ∙ (ap board_of_text (sym read.0) ∙ states) }

@@ -1,5 +1,6 @@
 -- What every entry keeps while a driver's disable stands and nobody disturbs the line.
-use Rattle.std.proofs.Common.{◌≡◌, ℕ, ◌+◌, ◌-◌, ◌<◌, ◌≤◌, ◌⊎◌, inl, inr, Bool, true, false, not, ◌||◌, ◌&&◌, cond, is_some, List, [], ◌∷◌, reverse, refl, sym, ap, ◌∙◌, subst, arith}
+use Rattle.std.proofs.Common.{◌≡◌, ℕ, ◌+◌, ◌-◌, ◌<◌, ◌≤◌, ◌⊎◌, inl, inr, Bool, true, false, not, ◌||◌, ◌&&◌, cond}
+use Rattle.std.proofs.Common.{is_some, List, [], ◌∷◌, reverse, refl, sym, ap, ◌∙◌, subst, arith}
 use Rattle.std.proofs.lemmas.Bool.{lt-ltb, or_left, or_right, or_cases, or_from, or_parts, and_right}
 use Rattle.std.proofs.lemmas.List.{reverse-reverse}
 use Rattle.std.specs.List.{list_any}
@@ -17,7 +18,8 @@ use Rattle.irq_base.specs.declared.entries.LinkAnswer.TheVariants as links
 use Rattle.irq_base.specs.declared.entries.UnlinkAnswer.TheVariants as unlinks
 use Rattle.irq_base.specs.declared.entries.Opened.TheVariants as opens
 use Rattle.irq_model.specs.Places.{EachEntry, count_of}
-use Rattle.irq_model.specs.Kinds.{same_driver, is_take, is_again, is_disable, is_kill, is_start, is_started_opened, is_lowering_opened, is_hard_clear, is_synced}
+use Rattle.irq_model.specs.Kinds.{same_driver, is_take, is_again, is_disable, is_kill, is_start, is_started_opened}
+use Rattle.irq_model.specs.Kinds.{is_lowering_opened, is_hard_clear, is_synced}
 use Rattle.irq_model.specs.Lines.{is_edge_line}
 use Rattle.irq_model.specs.Links.{linked, is_none_linked, depth, is_disabled, is_reset, is_deepening, is_lowering}
 use Rattle.irq_model.specs.Rounds.{flow, has_flow}
@@ -71,7 +73,14 @@ quiet def (entries.Request s x flags links.Linked opened) past due none = cc
 quiet def (entries.Request s x flags (links.Refused error) opened) past due none =
     let u = request_due def s x flags (links.Refused error) opened past due in
     let is : opened ≡ opens.No = u.opened_is ∙ ap (λ (a : LinkAnswer). opened_with def flags past a) (sym u.answer_is) in
-    record { no_reset = refl; no_lowering = ap is_lowering_opened is; no_start = ap is_started_opened is; no_disable = refl; same_links = linked_refused s x flags error opened past }
+    record {
+      no_reset = refl;
+      no_lowering = ap is_lowering_opened is;
+      no_start = ap is_started_opened is;
+      no_disable
+          = refl;
+      same_links = linked_refused s x flags error opened past;
+    }
 quiet def (entries.Unlink s x (unlinks.Unlinked last)) past due none = cc
 quiet def (entries.Unlink s x unlinks.NotThere) past due none =
     record { no_reset = refl; no_lowering = refl; no_start = refl; no_disable = refl; same_links = linked_not_there s x past }
@@ -82,7 +91,8 @@ depth_by : (k : Bool) (up low n m : ℕ) → low ≤ up → n ≡ cond k (up + 1
 depth_by true up low n m exact a b = omega (arith, exact, a, b)
 depth_by false up low n m exact a b = omega (arith, a, b)
 
-depth_more : (e : Entry) (past : List Entry) → lowered past ≤ raised past → LeavesAlone e past → depth (e ∷ past) ≡ cond (is_kill e) (depth past + 1) (depth past)
+depth_more : (e : Entry) (past : List Entry) → lowered past ≤ raised past → LeavesAlone e past
+    → depth (e ∷ past) ≡ cond (is_kill e) (depth past + 1) (depth past)
 depth_more e past exact q =
     let n = raised_more e past q.no_reset in
     let deepens : is_deepening e ≡ is_kill e = ap (λ (b : Bool). b || is_kill e) q.no_disable in
@@ -95,12 +105,15 @@ depth_more e past exact q =
 pub is_off : (past : List Entry) → 0 < depth past → is_disabled past ≡ true
 is_off past deep = lt-ltb 0 (depth past) deep
 
-pub not_handled : {P : Type 0} (def : LineDef) (past : List Entry) → 0 < depth past → (has_flow def past ≡ false) × ((is_disabled past || is_none_linked past) ≡ false) → P
+pub not_handled : {P : Type 0} (def : LineDef) (past : List Entry) → 0 < depth past
+    → (has_flow def past ≡ false) × ((is_disabled past || is_none_linked past) ≡ false) → P
 not_handled def past deep h = both_ways (is_disabled past) (is_off past deep) (or_parts (is_disabled past) (is_none_linked past) h.1).0
 
 -- no flow begins
-pub flow_stays : (def : LineDef) (e : Entry) (past : List Entry) → IsDue def e past → 0 < depth past → has_flow def past ≡ false → has_flow def (e ∷ past) ≡ false
-flow_stays def (entries.Take c way takes.Handle) past due deep idle = not_handled def past deep (handle_idle def past (take_due def c way takes.Handle past due).answer_is)
+pub flow_stays : (def : LineDef) (e : Entry) (past : List Entry) → IsDue def e past → 0 < depth past
+    → has_flow def past ≡ false → has_flow def (e ∷ past) ≡ false
+flow_stays def (entries.Take c way takes.Handle) past due deep idle
+    = not_handled def past deep (handle_idle def past (take_due def c way takes.Handle past due).answer_is)
 flow_stays def (entries.End c again unmask note) past due deep idle =
     both_ways (has_flow def past) (has_a_flow c (flow def past) (end_due def c again unmask note past due).of_flow) idle
 flow_stays def e past due deep idle = ap is_some (flow_quiet def e past refl refl refl) ∙ idle
@@ -120,20 +133,25 @@ no_again def (entries.End c again unmask note) past due deep =
 no_again def e past due deep = refl
 
 -- what is pending stays so
-clears_none : (def : LineDef) (e : Entry) (past : List Entry) → IsDue def e past → 0 < depth past → is_take e ≡ false → LeavesAlone e past → clears_pending e ≡ false
+clears_none : (def : LineDef) (e : Entry) (past : List Entry) → IsDue def e past → 0 < depth past → is_take e ≡ false
+    → LeavesAlone e past → clears_pending e ≡ false
 clears_none def (entries.Take c way answer) past due deep no_take q = cc
 clears_none def e past due deep no_take q = or_from (is_again e) (is_start e) (no_again def e past due deep) q.no_start
 
 -- and a take leaves its interrupt pending
-take_pends : (def : LineDef) (e : Entry) (past : List Entry) → IsDue def e past → 0 < depth past → is_edge_line def ≡ true → is_take e ≡ true → is_pending def (e ∷ past) ≡ true
-take_pends def (entries.Take c way takes.Handle) past due deep edge took = not_handled def past deep (handle_idle def past (take_due def c way takes.Handle past due).answer_is)
+take_pends : (def : LineDef) (e : Entry) (past : List Entry) → IsDue def e past → 0 < depth past
+    → is_edge_line def ≡ true → is_take e ≡ true → is_pending def (e ∷ past) ≡ true
+take_pends def (entries.Take c way takes.Handle) past due deep edge took
+    = not_handled def past deep (handle_idle def past (take_due def c way takes.Handle past due).answer_is)
 take_pends def (entries.Take c way takes.Off) past due deep edge took = refl
-take_pends def (entries.Take c way takes.Busy) past due deep edge took = ap (λ (b : Bool). (false || (b && true)) || (not (false || (false || false)) && is_pending def past)) edge
+take_pends def (entries.Take c way takes.Busy) past due deep edge took
+    = ap (λ (b : Bool). (false || (b && true)) || (not (false || (false || false)) && is_pending def past)) edge
 take_pends def e past due deep edge took = cc
 
 -- ---- the threads rest
 
-threads_rest : (def : LineDef) (e : Entry) (past : List Entry) → IsDue def e past → has_flow def past ≡ false → ((d : DevNo) → (is_woken past d || is_running past d) ≡ false)
+threads_rest : (def : LineDef) (e : Entry) (past : List Entry) → IsDue def e past → has_flow def past ≡ false
+    → ((d : DevNo) → (is_woken past d || is_running past d) ≡ false)
     → (d : DevNo) → (is_woken (e ∷ past) d || is_running (e ∷ past) d) ≡ false
 threads_rest def (entries.Return c x answer served) past due idle rest d =
     both_ways (has_flow def past) (has_a_flow c (flow def past) (return_due def c x answer served past due).of_flow) idle
@@ -147,11 +165,13 @@ threads_rest def e past due idle rest d = rest d
 abbrev Synchronised : Entry → List Entry → Type 0
 Synchronised e past = (d : DevNo) → (is_hard_clear e ≡ true → is_called past d ≡ false) × (is_synced e ≡ true → (is_woken past d || is_running past d) ≡ false)
 
-all_idle : (def : LineDef) (s : DriverNo) (past : List Entry) → IsValid def → IsLegalPast def (entries.Synced s ∷ past) → (d : DevNo) → (is_woken past d || is_running past d) ≡ false
+all_idle : (def : LineDef) (s : DriverNo) (past : List Entry) → IsValid def → IsLegalPast def (entries.Synced s ∷ past)
+    → (d : DevNo) → (is_woken past d || is_running past d) ≡ false
 all_idle def s past valid legal d =
     let whole = entries.Synced s ∷ past in
     let turned : IsLegalPast def (reverse (reverse whole)) = subst (λ (es : List Entry). IsLegalPast def es) (sym (reverse-reverse whole)) legal in
-    let each : EachEntry Synchronised whole = subst (λ (es : List Entry). EachEntry Synchronised es) (reverse-reverse whole) (synchronised def (reverse whole) valid turned) in
+    let each : EachEntry Synchronised whole = subst (λ (es : List Entry). EachEntry Synchronised es)
+    (reverse-reverse whole) (synchronised def (reverse whole) valid turned) in
     (each.0 d).1 refl
 
 -- ---- one more entry
@@ -161,7 +181,8 @@ count_more true n m c h = omega (arith, h)
 count_more false n m c h = h
 
 cleared_more : (def : LineDef) (r : DriverNo) (e : Entry) (past newer : List Entry) → IsDue def e past → 0 < depth past
-    → (list_any (is_hard_clear_by r) newer ≡ true → has_flow def past ≡ false) → list_any (is_hard_clear_by r) (e ∷ newer) ≡ true → has_flow def (e ∷ past) ≡ false
+    → (list_any (is_hard_clear_by r) newer ≡ true → has_flow def past ≡ false)
+    → list_any (is_hard_clear_by r) (e ∷ newer) ≡ true → has_flow def (e ∷ past) ≡ false
 cleared_more def r (entries.HardClear s) past newer due deep was h =
     ap is_some (flow_quiet def (entries.HardClear s) past refl refl refl) ∙ (hard_clear_due def s past due).no_flow
 cleared_more def r e past newer due deep was h = flow_stays def e past due deep (was h)
@@ -172,7 +193,8 @@ waited_more : (def : LineDef) (r : DriverNo) (e : Entry) (past : List Entry) →
 waited_more def r (entries.Synced s) past legal was h = by_case (or_cases (same_driver r s) _ h)
   where
     by_case : (same_driver r s ≡ true) ⊎ (list_any (is_synced_by r) (since_disable r past) ≡ true) → list_any (is_hard_clear_by r) (since_disable r past) ≡ true
-    by_case (inl mine) = cleared_before def r past legal.1 (subst (λ (t : DriverNo). IsDue def (entries.Synced t) past) (sym (driver_from_same r s mine)) legal.0)
+    by_case (inl mine) = cleared_before def r past legal.1
+        (subst (λ (t : DriverNo). IsDue def (entries.Synced t) past) (sym (driver_from_same r s mine)) legal.0)
     by_case (inr there) = was there
 waited_more def r e past legal was h = or_right (is_hard_clear_by r e) _ (was h)
 
@@ -194,13 +216,17 @@ pending_more def e past newer due deep q edge was h = by_take (is_take e) refl (
         ∙ ap (λ (b : Bool). not b && is_pending def past) (clears_none def e past due deep none q)
         ∙ was there
 
-more : (def : LineDef) (r : DriverNo) (e : Entry) (past : List Entry) → IsValid def → IsLegalPast def (e ∷ past) → disturbs e ≡ false → Held def r past → HeldOver def r (e ∷ past) (e ∷ since_disable r past) (before_disable r past)
+more : (def : LineDef) (r : DriverNo) (e : Entry) (past : List Entry) → IsValid def → IsLegalPast def (e ∷ past)
+    → disturbs e ≡ false → Held def r past → HeldOver def r (e ∷ past) (e ∷ since_disable r past)
+    (before_disable r past)
 more def r e past valid legal none k =
     let q = quiet def e past legal.0 none in
     let was : depth past ≡ depth (before_disable r past) + 1 + count_of is_kill (since_disable r past) = k.deeper in
     let deep : 0 < depth past = omega (arith, was) in
     record {
-      deeper = depth_more e past (kept def past valid legal.1).depth.exact q ∙ count_more (is_kill e) (depth (before_disable r past)) (depth past) (count_of is_kill (since_disable r past)) was;
+      deeper = depth_more e past (kept def past valid legal.1).depth.exact q
+          ∙ count_more (is_kill e) (depth (before_disable r past)) (depth past)
+          (count_of is_kill (since_disable r past)) was;
       links = q.same_links ∙ k.links;
       cleared = cleared_more def r e past (since_disable r past) legal.0 deep k.cleared;
       waited = waited_more def r e past legal k.waited;
@@ -225,7 +251,8 @@ begun def r s past exact =
       pending = λ edge h. cc;
     }
 
-begins : (def : LineDef) (r : DriverNo) (e : Entry) (past : List Entry) → lowered past ≤ raised past → is_disable_by r e ≡ true → HeldOver def r (e ∷ past) [] past
+begins : (def : LineDef) (r : DriverNo) (e : Entry) (past : List Entry) → lowered past ≤ raised past
+    → is_disable_by r e ≡ true → HeldOver def r (e ∷ past) [] past
 begins def r (entries.Disable s) past exact is = begun def r s past exact
 begins def r e past exact is = cc
 
@@ -238,7 +265,8 @@ alone_parts false false h = (refl, refl)
 alone_parts true y h = cc
 alone_parts false true h = cc
 
-pub held : (def : LineDef) (r : DriverNo) (past : List Entry) → IsValid def → IsLegalPast def past → is_suspended r past ≡ true → is_left_alone r past ≡ true → Held def r past
+pub held : (def : LineDef) (r : DriverNo) (past : List Entry) → IsValid def → IsLegalPast def past
+    → is_suspended r past ≡ true → is_left_alone r past ≡ true → Held def r past
 held def r [] valid legal stands alone = cc
 held def r (e ∷ past) valid legal stands alone = by_disable (is_disable_by r e) refl (held def r past valid legal.1)
   where
@@ -247,7 +275,9 @@ held def r (e ∷ past) valid legal stands alone = by_disable (is_disable_by r e
         let over : HeldOver def r (e ∷ past) [] past = begins def r e past (kept def past valid legal.1).depth.exact is in
         subst (λ (b : Bool). HeldOver def r (e ∷ past) (cond b [] (e ∷ since_disable r past)) (cond b past (before_disable r past))) (sym is) over
     by_disable false other deeper =
-        let left : not (list_any disturbs (e ∷ since_disable r past)) ≡ true = sym (ap (λ (b : Bool). not (list_any disturbs (cond b [] (e ∷ since_disable r past)))) other) ∙ alone in
+        let left : not (list_any disturbs (e ∷ since_disable r past))
+        ≡ true = sym (ap (λ (b : Bool). not (list_any disturbs (cond b [] (e ∷ since_disable r past)))) other)
+        ∙ alone in
         let parts = alone_parts (disturbs e) (list_any disturbs (since_disable r past)) left in
         let over = more def r e past valid legal parts.0 (deeper (stood (is_disable_by r e) (is_enable_by r e) (is_suspended r past) other stands) parts.1) in
         subst (λ (b : Bool). HeldOver def r (e ∷ past) (cond b [] (e ∷ since_disable r past)) (cond b past (before_disable r past))) (sym other) over

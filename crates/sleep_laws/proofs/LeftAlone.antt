@@ -1,5 +1,6 @@
 -- A driver whose calls on the line are one disable and one enable disturbs nothing between the two.
-use Rattle.std.proofs.Common.{◌≡◌, ℕ, ◌==◌, Bool, true, false, not, ◌||◌, ◌&&◌, cond, Option, Some, List, [], ◌∷◌, ◌++◌, reverse, refl, ap, ap₂, ◌∙◌, subst, arith}
+use Rattle.std.proofs.Common.{◌≡◌, ℕ, ◌==◌, Bool, true, false, not, ◌||◌, ◌&&◌, cond, Option, Some, List, [], ◌∷◌, ◌++◌}
+use Rattle.std.proofs.Common.{reverse, refl, ap, ap₂, ◌∙◌, subst, arith}
 use Rattle.std.proofs.lemmas.Bool.{or_parts, or_from, and_right}
 use Rattle.std.specs.List.{list_any}
 use Rattle.irq_base.specs.declared.numbers.DriverNo.{DriverNo}
@@ -66,9 +67,11 @@ past_other r e past other (at_enable a b c d is awake) = at_enable a b c d (entr
 -- ---- an entry of its own
 
 -- the entry is the next of the call that is due after those
-own_next : (def : LineDef) (r : DriverNo) (e : Entry) (past es : List Entry) → calls_by r def.calls ≡ script → entries_by r past ≡ es → next_of_call def r past (due_call def r past) ≡ Some e
+own_next : (def : LineDef) (r : DriverNo) (e : Entry) (past es : List Entry) → calls_by r def.calls ≡ script
+    → entries_by r past ≡ es → next_of_call def r past (due_call def r past) ≡ Some e
     → next_of_call def r past (due_of script es) ≡ Some e
-own_next def r e past es of_script is due = subst (λ (o : Option (Call × ℕ)). next_of_call def r past o ≡ Some e) (ap₂ (λ (cs : List Call) (xs : List Entry). due_of cs xs) of_script is) due
+own_next def r e past es of_script is due = subst (λ (o : Option (Call × ℕ)). next_of_call def r past o ≡ Some e)
+    (ap₂ (λ (cs : List Call) (xs : List Entry). due_of cs xs) of_script is) due
 
 one_more : (r : DriverNo) (e : Entry) (past es : List Entry) → is_by_driver r e ≡ true → entries_by r past ≡ es → entries_by r (e ∷ past) ≡ es ++ e ∷ []
 one_more r e past es mine is = entries_more r e past mine ∙ ap (λ (xs : List Entry). xs ++ e ∷ []) is
@@ -86,18 +89,24 @@ left_quiet r e past no_disable none left =
 awake_at : (def : LineDef) (r : DriverNo) (past : List Entry) → is_suspended r (entries.Enable r (enable_answer def past) ∷ past) ≡ false
 awake_at def r past = ap (λ (b : Bool). false || (not b && is_suspended r past)) (same_self_driver r)
 
-past_own : (def : LineDef) (r : DriverNo) (e : Entry) (past : List Entry) → calls_by r def.calls ≡ script → is_by_driver r e ≡ true → next_of_call def r past (due_call def r past) ≡ Some e → Position r past → Position r (e ∷ past)
+past_own : (def : LineDef) (r : DriverNo) (e : Entry) (past : List Entry) → calls_by r def.calls ≡ script
+    → is_by_driver r e ≡ true → next_of_call def r past (due_call def r past) ≡ Some e → Position r past
+    → Position r (e ∷ past)
 past_own def r e past of_script mine due (at_none is awake) =
     let same : entries.Disable r ≡ e = the_same (entries.Disable r) e (own_next def r e past [] of_script is due) in
     at_disable e (one_more r e past [] mine is) (subst (λ (x : Entry). IsOwnLeft r (x ∷ past)) same (left_at r past))
 past_own def r e past of_script mine due (at_disable a is left) =
     let same = (from_else (has_flow def past) (entries.HardClear r) e (own_next def r e past (a ∷ []) of_script is due)).1 in
-    at_clear a e (one_more r e past (a ∷ []) mine is) (subst (λ (x : Entry). IsOwnLeft r (x ∷ past)) same (left_quiet r (entries.HardClear r) past refl refl left))
+    at_clear a e (one_more r e past (a ∷ []) mine is) (subst (λ (x : Entry). IsOwnLeft r (x ∷ past)) same
+    (left_quiet r (entries.HardClear r) past refl refl left))
 past_own def r e past of_script mine due (at_clear a b is left) =
     let same = (from_then (active_count def past == 0) (entries.Synced r) e (own_next def r e past (a ∷ b ∷ []) of_script is due)).1 in
-    at_synced a b e (one_more r e past (a ∷ b ∷ []) mine is) (subst (λ (x : Entry). IsOwnLeft r (x ∷ past)) same (left_quiet r (entries.Synced r) past refl refl left))
+    at_synced a b e (one_more r e past (a ∷ b ∷ []) mine is)
+    (subst (λ (x : Entry). IsOwnLeft r (x ∷ past)) same (left_quiet r (entries.Synced r) past refl refl left))
 past_own def r e past of_script mine due (at_synced a b c is left) =
-    let same : entries.Enable r (enable_answer def past) ≡ e = the_same (entries.Enable r (enable_answer def past)) e (own_next def r e past (a ∷ b ∷ c ∷ []) of_script is due) in
+    let same : entries.Enable r (enable_answer def past)
+    ≡ e = the_same (entries.Enable r (enable_answer def past)) e
+    (own_next def r e past (a ∷ b ∷ c ∷ []) of_script is due) in
     at_enable a b c e (one_more r e past (a ∷ b ∷ c ∷ []) mine is) (subst (λ (x : Entry). is_suspended r (x ∷ past) ≡ false) same (awake_at def r past))
 past_own def r e past of_script mine due (at_enable a b c d is awake) = let n = own_next def r e past (a ∷ b ∷ c ∷ d ∷ []) of_script is due in cc
 
@@ -140,7 +149,9 @@ not_false : (b : Bool) → not b ≡ true → b ≡ false
 not_false true h = cc
 not_false false h = refl
 
-pub left_alone : (def : LineDef) (r : DriverNo) (h : List Entry) → IsLegal def h → calls_by r def.calls ≡ calls.Disable ∷ calls.Enable ∷ [] → is_suspended r (reverse h) ≡ true → others_only_ask r (reverse h) ≡ true → is_left_alone r (reverse h) ≡ true
+pub left_alone : (def : LineDef) (r : DriverNo) (h : List Entry) → IsLegal def h
+    → calls_by r def.calls ≡ calls.Disable ∷ calls.Enable ∷ [] → is_suspended r (reverse h) ≡ true
+    → others_only_ask r (reverse h) ≡ true → is_left_alone r (reverse h) ≡ true
 left_alone def r h legal of_script stands others =
     let own = own_left r (reverse h) stands (position def r (reverse h) of_script legal) in
     ap not (none_disturbs r (since_disable r (reverse h)) own (not_false (list_any (is_other_call r) (since_disable r (reverse h))) others))

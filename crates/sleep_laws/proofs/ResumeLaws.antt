@@ -1,5 +1,6 @@
 -- What the enable finds by which a driver ends its disable.
-use Rattle.std.proofs.Common.{◌≡◌, ℕ, ◌+◌, ◌-◌, ◌<◌, ◌==◌, Bool, true, false, ◌||◌, ◌&&◌, cond, is_some, List, [], ◌∷◌, reverse, refl, sym, ap, ◌∙◌, subst, arith, eq-eqb}
+use Rattle.std.proofs.Common.{◌≡◌, ℕ, ◌+◌, ◌-◌, ◌<◌, ◌==◌, Bool, true, false, ◌||◌, ◌&&◌, cond, is_some, List, [], ◌∷◌}
+use Rattle.std.proofs.Common.{reverse, refl, sym, ap, ◌∙◌, subst, arith, eq-eqb}
 use Rattle.std.proofs.lemmas.Bool.{and_from, or_parts, ne_eqb, false_from_ne_true}
 use Rattle.std.proofs.lemmas.List.{reverse-reverse}
 use Rattle.std.specs.List.{list_any}
@@ -14,7 +15,8 @@ use Rattle.irq_base.specs.declared.entries.EnableAnswer.TheVariants as enables
 use Rattle.irq_base.specs.declared.entries.Resend.{Resend}
 use Rattle.irq_base.specs.declared.entries.Resend.TheVariants as resends
 use Rattle.irq_model.specs.Places.{before, count_of}
-use Rattle.irq_model.specs.Kinds.{opened_by_enable, is_take, is_kill, is_start, is_started_opened, is_lowering_opened, is_chip_opened, is_soft_opened, is_chip_start, is_soft_start}
+use Rattle.irq_model.specs.Kinds.{opened_by_enable, is_take, is_kill, is_start, is_started_opened, is_lowering_opened}
+use Rattle.irq_model.specs.Kinds.{is_chip_opened, is_soft_opened, is_chip_start, is_soft_start}
 use Rattle.irq_model.specs.Lines.{is_edge_line}
 use Rattle.irq_model.specs.Links.{is_empty, is_none_linked, depth}
 use Rattle.irq_model.specs.Asks.{is_high}
@@ -69,13 +71,16 @@ lower_by up low n m d a b h = omega (arith, a, b, h)
 moved : (d k n : ℕ) → n ≡ d + 1 + k → n ≡ (d + k) + 1
 moved d k n h = omega (arith, h)
 
-restored : (s : DriverNo) (answer : EnableAnswer) (past : List Entry) (d : ℕ) → is_lowering_opened (opened_by_enable answer) ≡ true → depth past ≡ d + 1 → depth (entries.Enable s answer ∷ past) ≡ d
+restored : (s : DriverNo) (answer : EnableAnswer) (past : List Entry) (d : ℕ)
+    → is_lowering_opened (opened_by_enable answer) ≡ true → depth past ≡ d + 1
+    → depth (entries.Enable s answer ∷ past) ≡ d
 restored s answer past d lowering was =
     let n = raised_more (entries.Enable s answer) past refl in
     let low : lowered (entries.Enable s answer ∷ past) ≡ lowered past + 1 = n.1 ∙ ap (λ (b : Bool). cond b (lowered past + 1) (lowered past)) lowering in
     lower_by (raised past) (lowered past) (raised (entries.Enable s answer ∷ past)) (lowered (entries.Enable s answer ∷ past)) d n.0 low was
 
-unchanged : (s : DriverNo) (answer : EnableAnswer) (past : List Entry) → is_lowering_opened (opened_by_enable answer) ≡ false → depth (entries.Enable s answer ∷ past) ≡ depth past
+unchanged : (s : DriverNo) (answer : EnableAnswer) (past : List Entry)
+    → is_lowering_opened (opened_by_enable answer) ≡ false → depth (entries.Enable s answer ∷ past) ≡ depth past
 unchanged s answer past same =
     let n = raised_more (entries.Enable s answer) past refl in
     let low : lowered (entries.Enable s answer ∷ past) ≡ lowered past = n.1 ∙ ap (λ (b : Bool). cond b (lowered past + 1) (lowered past)) same in
@@ -91,19 +96,23 @@ some_deep def r past k =
     let was : depth past ≡ depth (before_disable r past) + 1 + count_of is_kill (since_disable r past) = k.deeper in
     omega (arith, was)
 
-restores_at : (def : LineDef) (r : DriverNo) (e : Entry) (past : List Entry) → IsDue def e past → is_enable_by r e ≡ true → Held def r past → is_none_linked past ≡ false
+restores_at : (def : LineDef) (r : DriverNo) (e : Entry) (past : List Entry) → IsDue def e past
+    → is_enable_by r e ≡ true → Held def r past → is_none_linked past ≡ false
     → depth (e ∷ past) ≡ depth (before_disable r past) + count_of is_kill (since_disable r past)
 restores_at def r (entries.Enable s answer) past due mine k some =
-    let lowering = lowers (is_none_linked past) (depth past == 0) (depth past == 1) (resend_of def past) some (not_zero (depth past) (some_deep def r past k)) in
+    let lowering = lowers (is_none_linked past) (depth past == 0) (depth past == 1) (resend_of def past) some
+    (not_zero (depth past) (some_deep def r past k)) in
     restored s answer past (depth (before_disable r past) + count_of is_kill (since_disable r past))
     (ap (λ (a : EnableAnswer). is_lowering_opened (opened_by_enable a)) (enable_due def s answer past due).answer_is ∙ lowering)
     (moved (depth (before_disable r past)) (count_of is_kill (since_disable r past)) (depth past) k.deeper)
 restores_at def r e past due mine k some = cc
 
-unlinked_at : (def : LineDef) (r : DriverNo) (e : Entry) (past : List Entry) → IsDue def e past → is_enable_by r e ≡ true → is_none_linked past ≡ true → depth (e ∷ past) ≡ depth past
+unlinked_at : (def : LineDef) (r : DriverNo) (e : Entry) (past : List Entry) → IsDue def e past
+    → is_enable_by r e ≡ true → is_none_linked past ≡ true → depth (e ∷ past) ≡ depth past
 unlinked_at def r (entries.Enable s answer) past due mine none =
     unchanged s answer past
-    (ap (λ (a : EnableAnswer). is_lowering_opened (opened_by_enable a)) (enable_due def s answer past due).answer_is ∙ lowers_none (is_none_linked past) (depth past == 0) (depth past == 1) (resend_of def past) none)
+    (ap (λ (a : EnableAnswer). is_lowering_opened (opened_by_enable a)) (enable_due def s answer past due).answer_is
+    ∙ lowers_none (is_none_linked past) (depth past == 0) (depth past == 1) (resend_of def past) none)
 unlinked_at def r e past due mine none = cc
 
 -- ---- a line that was open
@@ -136,25 +145,34 @@ was_open def r e past valid legal i =
     let linked_then = ((kept def (before_disable r past) valid (legal_before def (is_disable_by r) past legal.1)).depth.enabled zero).1 in
     record { one = omega (arith, was, zero, none); some = ap is_empty k.links ∙ linked_then }
 
-started : (def : LineDef) (s : DriverNo) (answer : EnableAnswer) (past : List Entry) → IsDue def (entries.Enable s answer) past → WasOpen past → answer ≡ enables.Started (resend_of def past)
+started : (def : LineDef) (s : DriverNo) (answer : EnableAnswer) (past : List Entry)
+    → IsDue def (entries.Enable s answer) past → WasOpen past → answer ≡ enables.Started (resend_of def past)
 started def s answer past due w =
     let is = w.one in
     (enable_due def s answer past due).answer_is
-    ∙ starts (is_none_linked past) (depth past == 0) (depth past == 1) (resend_of def past) w.some (not_zero (depth past) (omega (arith, is))) (eq-eqb (depth past) 1 is)
+    ∙ starts (is_none_linked past) (depth past == 0) (depth past == 1) (resend_of def past) w.some
+    (not_zero (depth past) (omega (arith, is))) (eq-eqb (depth past) 1 is)
 
-opens_at : (def : LineDef) (r : DriverNo) (e : Entry) (past : List Entry) → IsDue def e past → is_enable_by r e ≡ true → WasOpen past → (is_start e ≡ true) × (depth (e ∷ past) ≡ 0)
+opens_at : (def : LineDef) (r : DriverNo) (e : Entry) (past : List Entry) → IsDue def e past → is_enable_by r e ≡ true
+    → WasOpen past → (is_start e ≡ true) × (depth (e ∷ past) ≡ 0)
 opens_at def r (entries.Enable s answer) past due mine w =
-    let is = started def s answer past due w in
-    (ap (λ (a : EnableAnswer). is_started_opened (opened_by_enable a)) is, restored s answer past 0 (ap (λ (a : EnableAnswer). is_lowering_opened (opened_by_enable a)) is) w.one)
+    let is = started def s answer past due w in (
+      ap (λ (a : EnableAnswer). is_started_opened (opened_by_enable a)) is,
+      restored s answer past 0
+          (ap (λ (a : EnableAnswer). is_lowering_opened (opened_by_enable a)) is) w.one,
+    )
 opens_at def r e past due mine w = cc
 
 -- what is pending on an edge line is sent again
-sent_again : (p t : Bool) → p ≡ true → (is_chip_opened (opened_by_enable (enables.Started (cond p (cond t resends.Chip resends.Soft) resends.No))) || is_soft_opened (opened_by_enable (enables.Started (cond p (cond t resends.Chip resends.Soft) resends.No)))) ≡ true
+sent_again : (p t : Bool) → p ≡ true → (is_chip_opened
+    (opened_by_enable (enables.Started (cond p (cond t resends.Chip resends.Soft) resends.No))) || is_soft_opened
+    (opened_by_enable (enables.Started (cond p (cond t resends.Chip resends.Soft) resends.No)))) ≡ true
 sent_again true true h = refl
 sent_again true false h = refl
 sent_again false t h = cc
 
-resends_at : (def : LineDef) (r : DriverNo) (e : Entry) (past : List Entry) → IsDue def e past → is_enable_by r e ≡ true → WasOpen past → is_edge_line def ≡ true → is_pending def past ≡ true → (is_chip_start e || is_soft_start e) ≡ true
+resends_at : (def : LineDef) (r : DriverNo) (e : Entry) (past : List Entry) → IsDue def e past → is_enable_by r e ≡ true
+    → WasOpen past → is_edge_line def ≡ true → is_pending def past ≡ true → (is_chip_start e || is_soft_start e) ≡ true
 resends_at def r (entries.Enable s answer) past due mine w edge pends =
     ap (λ (a : EnableAnswer). is_chip_opened (opened_by_enable a) || is_soft_opened (opened_by_enable a)) (started def s answer past due w)
     ∙ sent_again (is_edge_line def && is_pending def past) def.retriggers (and_from (is_edge_line def) (is_pending def past) edge pends)
@@ -174,7 +192,9 @@ not_at_work false false f a b = cc
 all_finished : (def : LineDef) (past : List Entry) → Kept def past → IsAtRest def past → is_some_unfinished def past ≡ false
 all_finished def past k rest =
     none_any (λ x. is_unfinished past x.dev) def.devices
-    (λ x. false_from_ne_true (is_unfinished past x.dev) (λ h. not_at_work (is_woken past x.dev) (is_running past x.dev) _ (rest.no_thread x.dev) (k.rest.at_work x.dev h)))
+    (λ x. false_from_ne_true (is_unfinished past x.dev)
+    (λ h. not_at_work (is_woken past x.dev) (is_running past x.dev) _ (rest.no_thread x.dev)
+    (k.rest.at_work x.dev h)))
 
 -- the line is open, has no flow, and no thread is unfinished
 record IsReady (def : LineDef) (past : List Entry) : Type 0 where
@@ -182,42 +202,60 @@ record IsReady (def : LineDef) (past : List Entry) : Type 0 where
   no_flow : has_flow def past ≡ false
   finished : is_some_unfinished def past ≡ false
 
-ready : (def : LineDef) (r : DriverNo) (e : Entry) (past : List Entry) → is_enable_by r e ≡ true → depth (e ∷ past) ≡ 0 → Kept def past → IsAtRest def past → IsReady def (e ∷ past)
+ready : (def : LineDef) (r : DriverNo) (e : Entry) (past : List Entry) → is_enable_by r e ≡ true → depth (e ∷ past) ≡ 0
+    → Kept def past → IsAtRest def past → IsReady def (e ∷ past)
 ready def r (entries.Enable s answer) past mine zero k rest =
-    record { open_now = zero; no_flow = ap is_some (flow_quiet def (entries.Enable s answer) past refl refl refl) ∙ rest.no_flow; finished = all_finished def past k rest }
+    record {
+      open_now = zero;
+      no_flow = ap is_some (flow_quiet def (entries.Enable s answer) past refl refl refl)
+          ∙ rest.no_flow;
+      finished = all_finished def past k rest;
+    }
 ready def r e past mine zero k rest = cc
 
-ready_at : (def : LineDef) (r : DriverNo) (e : Entry) (past : List Entry) → IsValid def → IsLegalPast def (e ∷ past) → IsReopening r e past → is_asleep r past ≡ true → IsReady def (e ∷ past)
+ready_at : (def : LineDef) (r : DriverNo) (e : Entry) (past : List Entry) → IsValid def → IsLegalPast def (e ∷ past)
+    → IsReopening r e past → is_asleep r past ≡ true → IsReady def (e ∷ past)
 ready_at def r e past valid legal i asleep =
-    ready def r e past i.resume.enable (opens_at def r e past legal.0 i.resume.enable (was_open def r e past valid legal i)).1 (kept def past valid legal.1) (rests def r past valid legal.1 asleep i.resume.alone)
+    ready def r e past i.resume.enable (opens_at def r e past legal.0 i.resume.enable
+    (was_open def r e past valid legal i)).1 (kept def past valid legal.1)
+    (rests def r past valid legal.1 asleep i.resume.alone)
 
 -- the same, of the history turned round twice
 turned : (P : List Entry → Type 0) (past : List Entry) → P past → P (reverse (reverse past))
 turned P past h = subst P (sym (reverse-reverse past)) h
 
-handled_owed : (def : LineDef) (past : List Entry) → IsValid def → IsLegalPast def past → IsReady def past → (d : DevNo) → is_owed def d past ≡ true → IsHandledNext def (reverse past)
+handled_owed : (def : LineDef) (past : List Entry) → IsValid def → IsLegalPast def past → IsReady def past → (d : DevNo)
+    → is_owed def d past ≡ true → IsHandledNext def (reverse past)
 handled_owed def past valid legal k d h =
     (served_when_idle def (reverse past) valid (turned (λ es. IsLegalPast def es) past legal)).owed
     (turned (λ es. depth es ≡ 0) past k.open_now) (turned (λ es. has_flow def es ≡ false) past k.no_flow) d (turned (λ es. is_owed def d es ≡ true) past h)
 
-handled_high : (def : LineDef) (past : List Entry) → IsValid def → IsLegalPast def past → IsReady def past → is_high def past ≡ true → IsHandledNext def (reverse past)
+handled_high : (def : LineDef) (past : List Entry) → IsValid def → IsLegalPast def past → IsReady def past
+    → is_high def past ≡ true → IsHandledNext def (reverse past)
 handled_high def past valid legal k h =
     (served_when_idle def (reverse past) valid (turned (λ es. IsLegalPast def es) past legal)).high
-    (turned (λ es. depth es ≡ 0) past k.open_now) (turned (λ es. has_flow def es ≡ false) past k.no_flow) (turned (λ es. is_high def es ≡ true) past h) (turned (λ es. is_some_unfinished def es ≡ false) past k.finished)
+    (turned (λ es. depth es ≡ 0) past k.open_now) (turned (λ es. has_flow def es ≡ false) past k.no_flow)
+    (turned (λ es. is_high def es ≡ true) past h) (turned (λ es. is_some_unfinished def es ≡ false) past k.finished)
 
 -- ---- together
 
 pub resumes_as_it_was : (def : LineDef) (r : DriverNo) (h : List Entry) → IsValid def → IsLegal def h → ResumesAsItWas def r h
 resumes_as_it_was def r h valid legal =
     record {
-      restores = each_legal def (λ e past. IsResume r e past → is_none_linked past ≡ false → depth (e ∷ past) ≡ depth (before_disable r past) + count_of is_kill (since_disable r past))
+      restores = each_legal def (λ e past. IsResume r e past → is_none_linked past ≡ false
+          → depth (e ∷ past) ≡ depth (before_disable r past) + count_of is_kill (since_disable r past))
           (λ e past l i some. restores_at def r e past l.0 i.enable (slept def r e past valid l i) some) (reverse h) legal;
-      unlinked = each_legal def (λ e past. IsResume r e past → is_none_linked past ≡ true → depth (e ∷ past) ≡ depth past) (λ e past l i none. unlinked_at def r e past l.0 i.enable none) (reverse h) legal;
+      unlinked = each_legal def (λ e past. IsResume r e past → is_none_linked past ≡ true
+          → depth (e ∷ past) ≡ depth past) (λ e past l i none. unlinked_at def r e past l.0 i.enable none) (reverse h)
+          legal;
       opens = each_legal def (λ e past. IsReopening r e past → (is_start e ≡ true) × (depth (e ∷ past) ≡ 0))
           (λ e past l i. opens_at def r e past l.0 i.resume.enable (was_open def r e past valid l i)) (reverse h) legal;
-      resends = λ edge. each_legal def (λ e past. IsReopening r e past → list_any is_take (since_disable r past) ≡ true → (is_chip_start e || is_soft_start e) ≡ true)
-          (λ e past l i took. resends_at def r e past l.0 i.resume.enable (was_open def r e past valid l i) edge ((slept def r e past valid l i.resume).pending edge took)) (reverse h) legal;
-      owed = each_legal def (λ e past. IsReopening r e past → is_asleep r past ≡ true → (d : DevNo) → is_owed def d (e ∷ past) ≡ true → IsHandledNext def (reverse (e ∷ past)))
+      resends = λ edge. each_legal def (λ e past. IsReopening r e past → list_any is_take (since_disable r past) ≡ true
+          → (is_chip_start e || is_soft_start e) ≡ true)
+          (λ e past l i took. resends_at def r e past l.0 i.resume.enable (was_open def r e past valid l i) edge
+          ((slept def r e past valid l i.resume).pending edge took)) (reverse h) legal;
+      owed = each_legal def (λ e past. IsReopening r e past → is_asleep r past ≡ true → (d : DevNo)
+          → is_owed def d (e ∷ past) ≡ true → IsHandledNext def (reverse (e ∷ past)))
           (λ e past l i asleep d h. handled_owed def (e ∷ past) valid l (ready_at def r e past valid l i asleep) d h) (reverse h) legal;
       high = each_legal def (λ e past. IsReopening r e past → is_asleep r past ≡ true → is_high def (e ∷ past) ≡ true → IsHandledNext def (reverse (e ∷ past)))
           (λ e past l i asleep h. handled_high def (e ∷ past) valid l (ready_at def r e past valid l i asleep) h) (reverse h) legal;

@@ -116,7 +116,8 @@ wake_is_still = (refl, refl, refl)
 
 -- it sleeps from the synced to the enable, and is disabled from the disable to the enable
 pub wake_sleeps :
-    (map (λ n. is_asleep (driver 9) (first n wake_log)) (0 ∷ 1 ∷ 2 ∷ 3 ∷ 4 ∷ 5 ∷ 6 ∷ 7 ∷ 11 ∷ []) ≡ false ∷ false ∷ false ∷ false ∷ true ∷ true ∷ true ∷ false ∷ false ∷ [])
+    (map (λ n. is_asleep (driver 9) (first n wake_log)) (0 ∷ 1 ∷ 2 ∷ 3 ∷ 4 ∷ 5 ∷ 6 ∷ 7 ∷ 11 ∷ [])
+    ≡ false ∷ false ∷ false ∷ false ∷ true ∷ true ∷ true ∷ false ∷ false ∷ [])
     × (map (λ n. is_suspended (driver 9) (first n wake_log)) (0 ∷ 1 ∷ 2 ∷ 3 ∷ 6 ∷ 7 ∷ []) ≡ false ∷ false ∷ true ∷ true ∷ true ∷ false ∷ [])
     × (map (λ n. depth (first n wake_log)) (0 ∷ 1 ∷ 2 ∷ 3 ∷ 4 ∷ 5 ∷ 6 ∷ 7 ∷ []) ≡ 1 ∷ 0 ∷ 1 ∷ 1 ∷ 1 ∷ 1 ∷ 1 ∷ 0 ∷ [])
 wake_sleeps = (refl, refl, refl)

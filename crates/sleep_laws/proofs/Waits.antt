@@ -1,5 +1,6 @@
 -- Before its synced a driver has made its hard clear, in the same call.
-use Rattle.std.proofs.Common.{◌≡◌, ℕ, ◌+◌, ◌<◌, ◌==◌, ◌⊎◌, inl, inr, Bool, true, false, cond, Option, Some, None, List, [], ◌∷◌, length, refl, sym, ap, ◌∙◌, subst, arith}
+use Rattle.std.proofs.Common.{◌≡◌, ℕ, ◌+◌, ◌<◌, ◌==◌, ◌⊎◌, inl, inr, Bool, true, false, cond, Option, Some, None, List}
+use Rattle.std.proofs.Common.{[], ◌∷◌, length, refl, sym, ap, ◌∙◌, subst, arith}
 use Rattle.std.proofs.lemmas.Bool.{ltb-true, eqb-false, or_left, or_right}
 use Rattle.std.specs.List.{list_any}
 use Rattle.irq_base.specs.declared.numbers.DriverNo.{DriverNo}
@@ -26,10 +27,13 @@ is_hard_clear_by r _ = false
 
 -- ---- a driver's own entry is the next of its due call
 
-of_same : (def : LineDef) (r s : DriverNo) (e : Entry) (past : List Entry) → next_of_call def s past (due_call def s past) ≡ Some e → same_driver r s ≡ true → next_of_call def r past (due_call def r past) ≡ Some e
+of_same : (def : LineDef) (r s : DriverNo) (e : Entry) (past : List Entry)
+    → next_of_call def s past (due_call def s past) ≡ Some e → same_driver r s ≡ true
+    → next_of_call def r past (due_call def r past) ≡ Some e
 of_same def r s e past due same = subst (λ (t : DriverNo). next_of_call def t past (due_call def t past) ≡ Some e) (sym (driver_from_same r s same)) due
 
-pub own_due : (def : LineDef) (r : DriverNo) (e : Entry) (past : List Entry) → IsDue def e past → is_by_driver r e ≡ true → next_of_call def r past (due_call def r past) ≡ Some e
+pub own_due : (def : LineDef) (r : DriverNo) (e : Entry) (past : List Entry) → IsDue def e past
+    → is_by_driver r e ≡ true → next_of_call def r past (due_call def r past) ≡ Some e
 own_due def r (entries.Ask s x) past due mine = of_same def r s (entries.Ask s x) past due mine
 own_due def r (entries.Disable s) past due mine = of_same def r s (entries.Disable s) past due mine
 own_due def r (entries.HardClear s) past due mine = of_same def r s (entries.HardClear s) past due mine
@@ -65,7 +69,8 @@ none_before n h = omega (arith, h)
 abbrev DueAfter : LineDef → DriverNo → List Entry → Entry → Type 0
 DueAfter def r past e = (o : Option (Call × ℕ)) → due_call def r past ≡ o → next_of_call def r past o ≡ Some e → e ≡ entries.HardClear r
 
-disable_before : (def : LineDef) (r : DriverNo) (past : List Entry) (e : Entry) → is_by_driver r e ≡ true → due_call def r (e ∷ past) ≡ Some (calls.Disable, 2) → DueAfter def r past e
+disable_before : (def : LineDef) (r : DriverNo) (past : List Entry) (e : Entry) → is_by_driver r e ≡ true
+    → due_call def r (e ∷ past) ≡ Some (calls.Disable, 2) → DueAfter def r past e
 disable_before def r past e mine is None was due = cc
 disable_before def r past e mine is (Some (c, n)) was due = by_step (one_more def r e past c n calls.Disable 2 mine was is)
   where
@@ -75,7 +80,8 @@ disable_before def r past e mine is (Some (c, n)) was due = by_step (one_more de
         clears def r past e (subst (λ (m : ℕ). next_of_call def r past (Some (calls.Disable, m)) ≡ Some e) (one_before n h.1) first)
     by_step (inr h) = absurd (omega (arith, h))
 
-sync_before : (def : LineDef) (r : DriverNo) (past : List Entry) (e : Entry) → is_by_driver r e ≡ true → due_call def r (e ∷ past) ≡ Some (calls.Sync, 1) → DueAfter def r past e
+sync_before : (def : LineDef) (r : DriverNo) (past : List Entry) (e : Entry) → is_by_driver r e ≡ true
+    → due_call def r (e ∷ past) ≡ Some (calls.Sync, 1) → DueAfter def r past e
 sync_before def r past e mine is None was due = cc
 sync_before def r past e mine is (Some (c, n)) was due = by_step (one_more def r e past c n calls.Sync 1 mine was is)
   where
@@ -85,7 +91,8 @@ sync_before def r past e mine is (Some (c, n)) was due = by_step (one_more def r
         clears def r past e (subst (λ (m : ℕ). next_of_call def r past (Some (calls.Sync, m)) ≡ Some e) (none_before n h.1) first)
     by_step (inr h) = absurd (omega (arith, h))
 
-own_clear : (def : LineDef) (r : DriverNo) (past : List Entry) (e : Entry) → IsDue def e past → is_by_driver r e ≡ true → Waits def r (e ∷ past) → e ≡ entries.HardClear r
+own_clear : (def : LineDef) (r : DriverNo) (past : List Entry) (e : Entry) → IsDue def e past → is_by_driver r e ≡ true
+    → Waits def r (e ∷ past) → e ≡ entries.HardClear r
 own_clear def r past e due mine (inl is) = disable_before def r past e mine is (due_call def r past) refl (own_due def r e past due mine)
 own_clear def r past e due mine (inr is) = sync_before def r past e mine is (due_call def r past) refl (own_due def r e past due mine)
 
@@ -101,13 +108,15 @@ abbrev IsClearedAfter : DriverNo → List Entry → Entry → Type 0
 IsClearedAfter r past e = list_any (is_hard_clear_by r) (since_disable r (e ∷ past)) ≡ true
 
 -- so it stands after the last disable of r
-cleared_since : (def : LineDef) (r : DriverNo) (past : List Entry) → IsLegalPast def past → Waits def r past → list_any (is_hard_clear_by r) (since_disable r past) ≡ true
+cleared_since : (def : LineDef) (r : DriverNo) (past : List Entry) → IsLegalPast def past → Waits def r past
+    → list_any (is_hard_clear_by r) (since_disable r past) ≡ true
 cleared_since def r [] legal w = absurd (nothing_waits def r w)
 cleared_since def r (e ∷ past) legal w = by_driver (is_by_driver r e) refl (cleared_since def r past legal.1)
   where
     by_driver : (b : Bool) → is_by_driver r e ≡ b → (Waits def r past → list_any (is_hard_clear_by r) (since_disable r past) ≡ true) → IsClearedAfter r past e
     by_driver true mine deeper =
-        subst (λ (x : Entry). IsClearedAfter r past x) (sym (own_clear def r past e legal.0 mine w)) (or_left (same_driver r r) (list_any (is_hard_clear_by r) (since_disable r past)) (same_self_driver r))
+        subst (λ (x : Entry). IsClearedAfter r past x) (sym (own_clear def r past e legal.0 mine w))
+        (or_left (same_driver r r) (list_any (is_hard_clear_by r) (since_disable r past)) (same_self_driver r))
     by_driver false other deeper =
         ap (λ (b : Bool). list_any (is_hard_clear_by r) (cond b [] (e ∷ since (is_disable_by r) past))) (not_own r e other)
         ∙ or_right (is_hard_clear_by r e) (list_any (is_hard_clear_by r) (since_disable r past)) (deeper (still_waits def r past e other w))
@@ -137,10 +146,12 @@ below_two def r past n is =
 synced_waits : (def : LineDef) (r : DriverNo) (past : List Entry) → IsSyncedDue def r past → Waits def r past
 synced_waits def r past u = by_call u.count u.call
   where
-    by_call : (n : ℕ) → ((due_call def r past ≡ Some (calls.Disable, n)) × ((n == 0) ≡ false) × ((n == 1) ≡ false)) ⊎ ((due_call def r past ≡ Some (calls.Sync, n)) × ((n == 0) ≡ false)) → Waits def r past
+    by_call : (n : ℕ) → ((due_call def r past ≡ Some (calls.Disable, n)) × ((n == 0) ≡ false) × ((n == 1) ≡ false))
+        ⊎ ((due_call def r past ≡ Some (calls.Sync, n)) × ((n == 0) ≡ false)) → Waits def r past
     by_call n (inl h) = inl (subst (λ (m : ℕ). due_call def r past ≡ Some (calls.Disable, m)) (third n h.1 h.2 (below_three def r past n h.0)) h.0)
     by_call n (inr h) = inr (subst (λ (m : ℕ). due_call def r past ≡ Some (calls.Sync, m)) (second n h.1 (below_two def r past n h.0)) h.0)
 
 -- at r's synced its hard clear stands after its last disable
-pub cleared_before : (def : LineDef) (r : DriverNo) (past : List Entry) → IsLegalPast def past → IsDue def (entries.Synced r) past → list_any (is_hard_clear_by r) (since_disable r past) ≡ true
+pub cleared_before : (def : LineDef) (r : DriverNo) (past : List Entry) → IsLegalPast def past
+    → IsDue def (entries.Synced r) past → list_any (is_hard_clear_by r) (since_disable r past) ≡ true
 cleared_before def r past legal due = cleared_since def r past legal (synced_waits def r past (synced_due def r past due))

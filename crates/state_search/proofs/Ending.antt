@@ -1,5 +1,6 @@
 -- What a search says at its end, from what held all the time.
-use Rattle.std.proofs.Common.{◌≡◌, ◌≤◌, ◌<◌, ◌+◌, ℕ, ◌⊎◌, inl, inr, Bool, true, Option, Some, None, List, map, length, take, slice_get, refl, ap, sym, subst, ◌∙◌, arith}
+use Rattle.std.proofs.Common.{◌≡◌, ◌≤◌, ◌<◌, ◌+◌, ℕ, ◌⊎◌, inl, inr, Bool, true, Option, Some, None, List, map, length}
+use Rattle.std.proofs.Common.{take, slice_get, refl, ap, sym, subst, ◌∙◌, arith}
 use Rattle.std.proofs.lemmas.Bool.{cases_lt}
 use Rattle.std.proofs.lemmas.Option.{slice_get_within}
 use Rattle.std.specs.Cmp.{IsEquivalence}
@@ -97,7 +98,8 @@ module _ {L : Type 0} (can : L → List L → Type 0) (node : List L → List �
     both a b l x y = laws.symm a b ∙ (laws.congr b l a y ∙ (laws.symm l a ∙ x))
 
     -- where such a label may come, it didn't come first later
-    first : (m : ℕ) (f : First L) → slice_get fs m ≡ Some f → (k : ℕ) (p : List L) (h : List L) (l : L) → slice_get ps k ≡ Some p → node h ≡ node p → IsPath can h → can l h
+    first : (m : ℕ) (f : First L) → slice_get fs m ≡ Some f → (k : ℕ) (p : List L) (h : List L) (l : L)
+        → slice_get ps k ≡ Some p → node h ≡ node p → IsPath can h → can l h
         → eq f.label l ≡ true → f.place ≤ k
     first m f at k p h l here same path c e = by (cases_lt k i)
       where
@@ -109,7 +111,8 @@ module _ {L : Type 0} (can : L → List L → Type 0) (node : List L → List �
             omega (arith, le, d.4)
         by (inr ge) = omega (arith, (n.each m f at).3, ge)
 
-    nearest : (m : ℕ) (f : First L) → slice_get fs m ≡ Some f → (p : List L) → slice_get ps f.place ≡ Some p → (h : List L) (l : L) → IsPath can h → can l h → eq f.label l ≡ true
+    nearest : (m : ℕ) (f : First L) → slice_get fs m ≡ Some f → (p : List L) → slice_get ps f.place ≡ Some p
+        → (h : List L) (l : L) → IsPath can h → can l h → eq f.label l ≡ true
         → length p ≤ length h
     nearest m f at p here h l path c e = by (met can node i ps u h path)
       where

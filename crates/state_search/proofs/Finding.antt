@@ -1,5 +1,6 @@
 -- Rows of numbers in one list.
-use Rattle.std.proofs.Common.{◌≡◌, ◌≤◌, ◌-◌, ℕ, List, [], ◌∷◌, ◌++◌, length, take, drop, slice_get, slice_range, Some, refl, ap, ◌∙◌, arith, length-append, length-drop}
+use Rattle.std.proofs.Common.{◌≡◌, ◌≤◌, ◌-◌, ℕ, List, [], ◌∷◌, ◌++◌, length, take, drop, slice_get, slice_range, Some}
+use Rattle.std.proofs.Common.{refl, ap, ◌∙◌, arith, length-append, length-drop}
 use Rattle.std.proofs.lemmas.List.{drop-append-le, take-append-le, drop_at, take_all, length-map}
 use Rattle.std.proofs.lemmas.List.Elements.{All-head, All-tail}
 use Rattle.std.proofs.lemmas.Option.{slice_get-map}
@@ -28,10 +29,12 @@ module _ {L : Type 0} where
       let W = λ (r : Row L). (r.from ≤ r.to) × (r.to ≤ length ws) in
       let h : (r.from ≤ r.to) × (r.to ≤ length ws) = All-head W r rows in' in
       let e : slice_range (ws ++ new) r.from r.to ≡ slice_range ws r.from r.to = range_stays ws new r.from r.to h.0 h.1 in
-      let rest : found_in (rows ++ row ∷ []) (ws ++ new) ≡ found_in rows ws ++ (row.label, new) ∷ [] = found_push rows ws new row (All-tail W r rows in') from to in
+      let rest : found_in (rows ++ row ∷ []) (ws ++ new)
+      ≡ found_in rows ws ++ (row.label, new) ∷ [] = found_push rows ws new row (All-tail W r rows in') from to in
       λ i. (r.label, e i) ∷ rest i
 
-  pub found_at : (rows : List (Row L)) (ws : List ℕ) (k : ℕ) (r : Row L) → slice_get rows k ≡ Some r → slice_get (found_in rows ws) k ≡ Some (r.label, slice_range ws r.from r.to)
+  pub found_at : (rows : List (Row L)) (ws : List ℕ) (k : ℕ) (r : Row L) → slice_get rows k ≡ Some r
+      → slice_get (found_in rows ws) k ≡ Some (r.label, slice_range ws r.from r.to)
   found_at rows ws k r e =
       let f : Row L → (L × List ℕ) = λ r. (r.label, slice_range ws r.from r.to) in
       slice_get-map f rows k ∙ ap (option_map f) e

@@ -1,5 +1,6 @@
 -- States that are added leave what holds as it was.
-use Rattle.std.proofs.Common.{◌≡◌, ◌≤◌, ◌<◌, ◌+◌, ℕ, suc, ◌⊎◌, inl, inr, Bool, Option, Some, List, [], ◌∷◌, ◌++◌, map, length, slice_get, refl, ap, sym, subst, ◌∙◌, arith, append_assoc}
+use Rattle.std.proofs.Common.{◌≡◌, ◌≤◌, ◌<◌, ◌+◌, ℕ, suc, ◌⊎◌, inl, inr, Bool, Option, Some, List, [], ◌∷◌, ◌++◌, map}
+use Rattle.std.proofs.Common.{length, slice_get, refl, ap, sym, subst, ◌∙◌, arith, append_assoc}
 use Rattle.std.proofs.lemmas.List.{length_push, map-append, append-nil}
 use Rattle.std.proofs.lemmas.Option.{slice_get_within, get_or_from_slice_get}
 use Rattle.state_search.specs.declared.firsts.First.{First}
@@ -98,7 +99,8 @@ module _ {L : Type 0} (can : L → List L → Type 0) (node : List L → List �
   module _ (eq : L → L → Bool) (fs : List (First L)) (p : List L) where
     -- one state more
     grown_one : (es : List (List ℕ × Option (Came L))) (e : List ℕ × Option (Came L)) → AreGrown eq es fs → slice_get (paths_of es) i ≡ Some p
-        → AddsStep p e → ((k : ℕ) → slice_get (states_of es) k ≡ Some e.0 → ⊥) → AreGrown eq (es ++ e ∷ []) fs × (slice_get (paths_of (es ++ e ∷ [])) i ≡ Some p)
+        → AddsStep p e → ((k : ℕ) → slice_get (states_of es) k ≡ Some e.0 → ⊥)
+        → AreGrown eq (es ++ e ∷ []) fs × (slice_get (paths_of (es ++ e ∷ [])) i ≡ Some p)
     grown_one es e g here a new =
         let ps = paths_of es in
         let by : path_by ps e.1 ≡ a.0 ∷ p = ap (path_by ps) a.3 ∙ ap (λ q. a.0 ∷ q) (get_or_from_slice_get ps i p [] here) in
@@ -124,11 +126,15 @@ module _ {L : Type 0} (can : L → List L → Type 0) (node : List L → List �
         subst P (sym (append-nil es)) (g, here)
     grown_all es (e ∷ added) g here each once =
         let P : List (List ℕ × Option (Came L)) → Type 0 = λ t. AreGrown eq t fs × (slice_get (paths_of t) i ≡ Some p) in
-        let first : slice_get (states_of (es ++ e ∷ added)) (length es) ≡ Some e.0 = map_at (λ (x : List ℕ × Option (Came L)). x.0) (es ++ e ∷ added) (length es) e (at_seam es e added) in
+        let first : slice_get (states_of (es ++ e ∷ added)) (length es)
+        ≡ Some e.0 = map_at (λ (x : List ℕ × Option (Came L)). x.0) (es ++ e ∷ added) (length es) e
+        (at_seam es e added) in
         let new : (k : ℕ) → slice_get (states_of es) k ≡ Some e.0 → ⊥ =
         λ k at.
         let lt : k < length (states_of es) = slice_get_within (states_of es) k e.0 at in
-        let both : k ≡ length es = once k (length es) e.0 (ap (λ t. slice_get t k) (map-append (λ x. x.0) es (e ∷ added)) ∙ at_old (states_of es) (states_of (e ∷ added)) k e.0 at) first in
+        let both : k ≡ length es = once k (length es) e.0
+        (ap (λ t. slice_get t k) (map-append (λ x. x.0) es (e ∷ added))
+        ∙ at_old (states_of es) (states_of (e ∷ added)) k e.0 at) first in
         omega (arith, lt, both, long es) in
         let one = grown_one es e g here (each 0 e refl) new in
         let assoc : (es ++ e ∷ []) ++ added ≡ es ++ e ∷ added = append_assoc es (e ∷ []) added in

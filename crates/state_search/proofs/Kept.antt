@@ -1,5 +1,6 @@
 -- The map from numbers.
-use Rattle.std.proofs.Common.{◌≡◌, ◌<◌, ℕ, zero, suc, inl, inr, ◌⊎◌, Bool, true, false, Option, Some, None, IfSome, is_some, List, [], ◌∷◌, ◌++◌, length, slice_get, Vec, refl, ap, sym, subst, ◌∙◌}
+use Rattle.std.proofs.Common.{◌≡◌, ◌<◌, ℕ, zero, suc, inl, inr, ◌⊎◌, Bool, true, false, Option, Some, None, IfSome}
+use Rattle.std.proofs.Common.{is_some, List, [], ◌∷◌, ◌++◌, length, slice_get, Vec, refl, ap, sym, subst, ◌∙◌}
 use Rattle.std.specs.Map.{lookup}
 use Rattle.std.specs.Str.{bytes_eq}
 use Rattle.std.proofs.lemmas.List.{map-append}
@@ -20,10 +21,12 @@ abbrev pub same_row : {L : Type 0} → (a b : List ℕ × Option (Came L)) → T
 same_row a b = a ≡ b
 
 module _ {L Z : Type 0} where
-  pub row_at : (es : List (Vec ℕ Z × Option (Came L))) (k : ℕ) (w : Vec ℕ Z) (v : Option (Came L)) → slice_get es k ≡ Some (w, v) → slice_get (rows_of es) k ≡ Some (w.items, v)
+  pub row_at : (es : List (Vec ℕ Z × Option (Came L))) (k : ℕ) (w : Vec ℕ Z) (v : Option (Came L))
+      → slice_get es k ≡ Some (w, v) → slice_get (rows_of es) k ≡ Some (w.items, v)
   row_at es k w v at = map_at (λ (e : Vec ℕ Z × Option (Came L)). (let p : List ℕ × Option (Came L) = (e.0.items, e.1) in p)) es k (w, v) at
 
-  pub words_at : (es : List (Vec ℕ Z × Option (Came L))) (k : ℕ) (w : Vec ℕ Z) (v : Option (Came L)) → slice_get es k ≡ Some (w, v) → slice_get (states_of (rows_of es)) k ≡ Some w.items
+  pub words_at : (es : List (Vec ℕ Z × Option (Came L))) (k : ℕ) (w : Vec ℕ Z) (v : Option (Came L))
+      → slice_get es k ≡ Some (w, v) → slice_get (states_of (rows_of es)) k ≡ Some w.items
   words_at es k w v at = map_at (λ (e : List ℕ × Option (Came L)). e.0) (rows_of es) k (w.items, v) (row_at es k w v at)
 
   pub has_yes : (es : List (Vec ℕ Z × Option (Came L))) (ws : List ℕ) → is_some (lookup (is_key ws) es) ≡ true → IsIn (states_of (rows_of es)) ws
@@ -35,7 +38,8 @@ module _ {L Z : Type 0} where
           let p = place_from_lookup (is_key ws) es v e in
           (p.0, words_at es p.0 p.1 v p.2 ∙ ap Some (sym ((bytes_eq-Decides ws p.1.items).0 p.3)))
 
-  passes : (test : Vec ℕ Z → Bool) (es : List (Vec ℕ Z × Option (Came L))) (k : ℕ) (x : Vec ℕ Z × Option (Came L)) → slice_get es k ≡ Some x → test x.0 ≡ true → is_some (lookup test es) ≡ true
+  passes : (test : Vec ℕ Z → Bool) (es : List (Vec ℕ Z × Option (Came L))) (k : ℕ) (x : Vec ℕ Z × Option (Came L))
+      → slice_get es k ≡ Some x → test x.0 ≡ true → is_some (lookup test es) ≡ true
   passes test [] k x at h = absurd (none-some x at)
   passes test (e ∷ es) zero x at h = ap is_some (lookup_head test e es (ap (λ t. test t.0) (same_some e x at) ∙ h))
   passes test (e ∷ es) (suc k) x at h = by (test e.0) refl (passes test es k x at h)
@@ -57,11 +61,15 @@ module _ {L Z : Type 0} where
       by None e = e
       by (Some v) e = absurd (unseen (has_yes es ws (ap is_some e)))
 
-  pub rows_push : (es : List (Vec ℕ Z × Option (Came L))) (w : Vec ℕ Z) (v : Option (Came L)) (ws : List ℕ) → w.items ≡ ws → rows_of (es ++ (w, v) ∷ []) ≡ rows_of es ++ (ws, v) ∷ []
-  rows_push es w v ws is = map-append (λ (e : Vec ℕ Z × Option (Came L)). (let p : List ℕ × Option (Came L) = (e.0.items, e.1) in p)) es ((w, v) ∷ []) ∙ ap (λ t. rows_of es ++ (t, v) ∷ []) is
+  pub rows_push : (es : List (Vec ℕ Z × Option (Came L))) (w : Vec ℕ Z) (v : Option (Came L)) (ws : List ℕ)
+      → w.items ≡ ws → rows_of (es ++ (w, v) ∷ []) ≡ rows_of es ++ (ws, v) ∷ []
+  rows_push es w v ws is = map-append (λ (e : Vec ℕ Z × Option (Came L)).
+      (let p : List ℕ × Option (Came L) = (e.0.items, e.1) in p)) es ((w, v) ∷ [])
+      ∙ ap (λ t. rows_of es ++ (t, v) ∷ []) is
 
 module _ {L : Type 0} where
-  pub rooted_push : (es : List (List ℕ × Option (Came L))) (ws : List ℕ) (v : Option (Came L)) → AreRooted es → IfSome v (λ c. c.from < length es) → AreRooted (es ++ (ws, v) ∷ [])
+  pub rooted_push : (es : List (List ℕ × Option (Came L))) (ws : List ℕ) (v : Option (Came L)) → AreRooted es
+      → IfSome v (λ c. c.from < length es) → AreRooted (es ++ (ws, v) ∷ [])
   rooted_push es ws v r low = λ k words c at. by k words c (push_cases es (ws, v) (words, Some c) k at)
     where
       by : (k : ℕ) (words : List ℕ) (c : Came L) → (slice_get es k ≡ Some (words, Some c)) ⊎ ((k ≡ length es) × same_row (ws, v) (words, Some c)) → c.from < k

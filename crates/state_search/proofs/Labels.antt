@@ -1,5 +1,7 @@
 -- Labels are noted one by one.
-use Rattle.std.proofs.Common.{◌≡◌, ◌≤◌, ◌<◌, ◌+◌, ℕ, zero, suc, inl, inr, ◌⊎◌, Bool, true, false, true≢false, IsTrue, Option, Some, None, IfSome, IfNone, is_some, List, [], ◌∷◌, ◌++◌, length, slice_get, refl, ap, sym, subst, ◌∙◌, arith, append_assoc}
+use Rattle.std.proofs.Common.{◌≡◌, ◌≤◌, ◌<◌, ◌+◌, ℕ, zero, suc, inl, inr, ◌⊎◌, Bool, true, false, true≢false, IsTrue}
+use Rattle.std.proofs.Common.{Option, Some, None, IfSome, IfNone, is_some, List, [], ◌∷◌, ◌++◌, length, slice_get, refl}
+use Rattle.std.proofs.Common.{ap, sym, subst, ◌∙◌, arith, append_assoc}
 use Rattle.std.proofs.lemmas.Bool.{cases_lt}
 use Rattle.std.proofs.lemmas.List.{append-nil}
 use Rattle.std.proofs.lemmas.Option.{none-some}
@@ -38,7 +40,8 @@ module _ {L : Type 0} (eq : L → L → Bool) (place : ℕ) (found : List (L × 
         by m k words lt at (inl less) = n.all m k words less at
         by m k words lt at (inr ge) = subst (IsNoted eq mid) (at_next i m l k ws words here lt ge at) is
 
-    pub note_new : IsEquivalence eq → (f : First L) → f.label ≡ l → f.place ≡ place → (IsNoted eq mid l → ⊥) → AreNoted eq place found (i + 1) old (mid ++ f ∷ [])
+    pub note_new : IsEquivalence eq → (f : First L) → f.label ≡ l → f.place ≡ place → (IsNoted eq mid l → ⊥)
+        → AreNoted eq place found (i + 1) old (mid ++ f ∷ [])
     note_new laws f label at_place unseen = record {
       added = n.added ++ f ∷ [];
       grows = ap (λ t. t ++ f ∷ []) n.grows ∙ append_assoc old n.added (f ∷ []);
@@ -47,7 +50,8 @@ module _ {L : Type 0} (eq : L → L → Bool) (place : ℕ) (found : List (L × 
       apart = λ h j k a b x y e. apart (n.apart h) j k a b (push_cases mid f a j x) (push_cases mid f b k y) e;
     }
       where
-        each : (k : ℕ) (g : First L) → (slice_get n.added k ≡ Some g) ⊎ ((k ≡ length n.added) × (f ≡ g)) → (g.place ≡ place) × (m : ℕ) × (words : List ℕ) × (slice_get found m ≡ Some (g.label, words))
+        each : (k : ℕ) (g : First L) → (slice_get n.added k ≡ Some g) ⊎ ((k ≡ length n.added) × (f ≡ g))
+            → (g.place ≡ place) × (m : ℕ) × (words : List ℕ) × (slice_get found m ≡ Some (g.label, words))
         each k g (inl a) = n.each k g a
         each k g (inr a) = (ap (λ t. t.place) (sym a.1) ∙ at_place, i, ws, here ∙ ap (λ t. Some (t, ws)) (sym label ∙ ap (λ t. t.label) a.1))
 
@@ -56,9 +60,16 @@ module _ {L : Type 0} (eq : L → L → Bool) (place : ℕ) (found : List (L × 
 
         by : (m : ℕ) (k : L) (words : List ℕ) → m < i + 1 → slice_get found m ≡ Some (k, words) → (m < i) ⊎ (i ≤ m) → IsNoted eq (mid ++ f ∷ []) k
         by m k words lt at (inl less) = stays k (n.all m k words less at)
-        by m k words lt at (inr ge) = (length mid, f, at_seam mid f [], ap (eq f.label) (sym (at_next i m l k ws words here lt ge at) ∙ sym label) ∙ laws.refl f.label)
+        by m k words lt at (inr ge) = (
+          length mid,
+          f,
+          at_seam mid f [],
+          ap (eq f.label)
+              (sym (at_next i m l k ws words here lt ge at) ∙ sym label) ∙ laws.refl f.label,
+        )
 
-        apart : AreApart eq mid → (j k : ℕ) (a b : First L) → (slice_get mid j ≡ Some a) ⊎ ((j ≡ length mid) × (f ≡ a)) → (slice_get mid k ≡ Some b) ⊎ ((k ≡ length mid) × (f ≡ b))
+        apart : AreApart eq mid → (j k : ℕ) (a b : First L) → (slice_get mid j ≡ Some a) ⊎ ((j ≡ length mid) × (f ≡ a))
+            → (slice_get mid k ≡ Some b) ⊎ ((k ≡ length mid) × (f ≡ b))
             → eq a.label b.label ≡ true → j ≡ k
         apart h j k a b (inl x) (inl y) e = h j k a b x y e
         apart h j k a b (inl x) (inr y) e = absurd (unseen (j, a, x, ap (eq a.label) (sym label ∙ ap (λ t. t.label) y.1) ∙ e))

@@ -1,5 +1,6 @@
 -- One state is looked at.
-use Rattle.std.proofs.Common.{◌≡◌, ◌≤◌, ◌<◌, ◌+◌, ℕ, suc, zero, Bool, Option, Some, List, [], ◌∷◌, ◌++◌, map, length, slice_get, refl, ap, sym, subst, ◌∙◌, arith}
+use Rattle.std.proofs.Common.{◌≡◌, ◌≤◌, ◌<◌, ◌+◌, ℕ, suc, zero, Bool, Option, Some, List, [], ◌∷◌, ◌++◌, map, length}
+use Rattle.std.proofs.Common.{slice_get, refl, ap, sym, subst, ◌∙◌, arith}
 use Rattle.std.proofs.lemmas.Option.{slice_get_within, none-some}
 use Rattle.state_search.specs.declared.firsts.First.{First}
 use Rattle.state_search.specs.declared.states.Came.{Came}
@@ -42,14 +43,16 @@ module _ {L : Type 0} (eq : L → L → Bool) (can : L → List L → Type 0) (n
   starts s h = record {
     paths = subst (λ n. AreUnder can node n s.paths) (sym h.looked) (subst (AreUnder can node 0) (sym h.paths) begun);
     states = h.states ∙ ap (map node) (sym h.paths);
-    firsts = subst (λ n. AreNotedUnder eq can node n s.paths s.firsts) (sym h.looked) (subst (AreNotedUnder eq can node 0 s.paths) (sym h.firsts) (unnoted s.paths));
+    firsts = subst (λ n. AreNotedUnder eq can node n s.paths s.firsts) (sym h.looked)
+        (subst (AreNotedUnder eq can node 0 s.paths) (sym h.firsts) (unnoted s.paths));
   }
 
   module _ (i : ℕ) (es es' : List (List ℕ × Option (Came L))) (fs gs : List (First L)) (found : List (L × List ℕ)) (n : ℕ)
       (u : IsUnder eq can node (search_seen es fs i)) (p : List L) (here : slice_get (paths_of es) i ≡ Some p)
       (steps : (g : List L) → IsPath can g → node g ≡ node p → AreSteps can node g found)
       (d : AreNoted eq i found (length found) fs gs) (put : ArePut i found n es es') where
-    found_is : (g : List L) → IsPath can g → node g ≡ node p → (m : ℕ) (l : L) (words : List ℕ) → slice_get found m ≡ Some (l, words) → can l g × (node (l ∷ g) ≡ words)
+    found_is : (g : List L) → IsPath can g → node g ≡ node p → (m : ℕ) (l : L) (words : List ℕ)
+        → slice_get found m ≡ Some (l, words) → can l g × (node (l ∷ g) ≡ words)
     found_is g path same m l words at = all_at (λ f. can f.0 g × (node (f.0 ∷ g) ≡ f.1)) found m (l, words) (steps g path same).each at
 
     of_p : (m : ℕ) (l : L) (words : List ℕ) → slice_get found m ≡ Some (l, words) → can l p × (node (l ∷ p) ≡ words)
@@ -67,7 +70,8 @@ module _ {L : Type 0} (eq : L → L → Bool) (can : L → List L → Type 0) (n
         let r = map_from node (paths_of es) k x (ap (λ t. slice_get t k) (sym u.states) ∙ b) in
         u.paths.apart j k q.0 r.0 q.1 r.1 (q.2 ∙ sym r.2) in
         let once : IsEachOnce (states_of (es ++ put.added)) = subst (λ t. IsEachOnce (states_of t)) put.grows (put.apart old) in
-        subst (λ t. AreGrown can node i eq t gs × (slice_get (paths_of t) i ≡ Some p)) (sym put.grows) (grown_all can node i eq gs p es put.added g here each once)
+        subst (λ t. AreGrown can node i eq t gs × (slice_get (paths_of t) i ≡ Some p)) (sym put.grows)
+        (grown_all can node i eq gs p es put.added g here each once)
 
     -- not all of what was found fits
     pub look_cut : IsUnder eq can node (search_seen es' gs i)
@@ -96,7 +100,8 @@ module _ {L : Type 0} (eq : L → L → Bool) (can : L → List L → Type 0) (n
 
   -- the same, of what is seen of the search
   module _ (i : ℕ) (es es' : List (List ℕ × Option (Came L))) (fs gs : List (First L)) (found : List (L × List ℕ)) (s : SearchSeen L)
-      (is : search_seen es fs i ≡ s) (u : IsUnder eq can node s) (open' : s.looked < length s.paths) (ws : List ℕ) (at : slice_get (states_of es) i ≡ Some ws) where
+      (is : search_seen es fs i ≡ s) (u : IsUnder eq can node s) (open' : s.looked < length s.paths) (ws : List ℕ)
+      (at : slice_get (states_of es) i ≡ Some ws) where
     under : IsUnder eq can node (search_seen es fs i)
     under = subst (IsUnder eq can node) (sym is) u
 
@@ -115,7 +120,8 @@ module _ {L : Type 0} (eq : L → L → Bool) (can : L → List L → Type 0) (n
         let le : length (paths_of es) ≤ n = subst (λ t. length t.paths ≤ n) (sym is) few in
         (p.0, under.paths.paths_are i p.0 p.1, next_node, omega (arith, short, lt, le))
 
-    module _ (steps : (g : List L) → IsPath can g → node g ≡ ws → AreSteps can node g found) (d : AreNoted eq i found (length found) fs gs) (n : ℕ) (put : ArePut i found n es es') where
+    module _ (steps : (g : List L) → IsPath can g → node g ≡ ws → AreSteps can node g found)
+        (d : AreNoted eq i found (length found) fs gs) (n : ℕ) (put : ArePut i found n es es') where
       steps_of : (g : List L) → IsPath can g → node g ≡ node next_path.0 → AreSteps can node g found
       steps_of g path same = steps g path (same ∙ next_node)
 

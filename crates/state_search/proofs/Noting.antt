@@ -6,7 +6,8 @@ use Rattle.state_search.specs.Growing.{AreNoted}
 use Rattle.state_search.specs.Steps.{AreNotedUnder}
 use Rattle.state_search.proofs.Places.{append_cases, at_old}
 
-module _ {L : Type 0} (eq : L → L → Bool) (can : L → List L → Type 0) (node : List L → List ℕ) (i : ℕ) (ps : List (List L)) (p : List L) (here : slice_get ps i ≡ Some p)
+module _ {L : Type 0} (eq : L → L → Bool) (can : L → List L → Type 0) (node : List L → List ℕ) (i : ℕ)
+    (ps : List (List L)) (p : List L) (here : slice_get ps i ≡ Some p)
     (found : List (L × List ℕ)) (may : (m : ℕ) (l : L) (words : List ℕ) → slice_get found m ≡ Some (l, words) → can l p)
     (n : ℕ) (fs gs : List (First L)) (u : AreNotedUnder eq can node i ps fs) (d : AreNoted eq i found n fs gs) where
   -- an old label, or a new one

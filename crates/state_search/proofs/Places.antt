@@ -1,5 +1,6 @@
 -- Lists by their places.
-use Rattle.std.proofs.Common.{◌≡◌, ◌≤◌, ◌<◌, ℕ, zero, suc, ◌⊎◌, inl, inr, Some, List, [], ◌∷◌, ◌++◌, map, length, take, get_or, slice_get, All, Contains, refl, ap, sym, subst, ◌∙◌, arith}
+use Rattle.std.proofs.Common.{◌≡◌, ◌≤◌, ◌<◌, ℕ, zero, suc, ◌⊎◌, inl, inr, Some, List, [], ◌∷◌, ◌++◌, map, length, take}
+use Rattle.std.proofs.Common.{get_or, slice_get, All, Contains, refl, ap, sym, subst, ◌∙◌, arith}
 use Rattle.std.proofs.lemmas.Option.{slice_get_within, slice_get-get_or, get_or_from_slice_get, none-some}
 
 module _ {X : Type 0} where
@@ -17,7 +18,8 @@ module _ {X : Type 0} where
   push_cases (z ∷ xs) y x (suc k) e = elim (push_cases xs y x k e) [ inl h ↦ inl h | inr h ↦ inr (ap suc h.0, h.1) ]
 
   -- an item of two lists is in the first, or behind it in the second
-  pub append_cases : (xs ys : List X) (x : X) (k : ℕ) → slice_get (xs ++ ys) k ≡ Some x → (slice_get xs k ≡ Some x) ⊎ ((length xs ≤ k) × (j : ℕ) × (slice_get ys j ≡ Some x))
+  pub append_cases : (xs ys : List X) (x : X) (k : ℕ) → slice_get (xs ++ ys) k ≡ Some x
+      → (slice_get xs k ≡ Some x) ⊎ ((length xs ≤ k) × (j : ℕ) × (slice_get ys j ≡ Some x))
   append_cases [] ys x k e = inr (omega arith, k, e)
   append_cases (z ∷ xs) ys x zero e = inl e
   append_cases (z ∷ xs) ys x (suc k) e = elim (append_cases xs ys x k e) [ inl h ↦ inl h | inr h ↦ inr (omega arith, h.1, h.2) ]

@@ -1,5 +1,6 @@
 -- The states that one state leads to are added one by one.
-use Rattle.std.proofs.Common.{◌≡◌, ◌≤◌, ◌<◌, ◌+◌, ℕ, inl, inr, ◌⊎◌, true, false, true≢false, Option, Some, List, [], ◌∷◌, ◌++◌, length, slice_get, refl, ap, sym, subst, ◌∙◌, arith, append_assoc}
+use Rattle.std.proofs.Common.{◌≡◌, ◌≤◌, ◌<◌, ◌+◌, ℕ, inl, inr, ◌⊎◌, true, false, true≢false, Option, Some, List, []}
+use Rattle.std.proofs.Common.{◌∷◌, ◌++◌, length, slice_get, refl, ap, sym, subst, ◌∙◌, arith, append_assoc}
 use Rattle.std.proofs.lemmas.Bool.{cases_lt}
 use Rattle.std.proofs.lemmas.List.{map-append, append-nil}
 use Rattle.std.proofs.lemmas.Option.{none-some}
@@ -25,7 +26,8 @@ module _ {L : Type 0} (from : ℕ) (found : List (L × List ℕ)) where
       let e : m ≡ i = omega (arith, lt, ge) in
       ap (λ t. t.1) (one_at found i (l, ws) (k, words) here (subst (λ n. slice_get found n ≡ Some (k, words)) e at))
 
-  module _ (i : ℕ) (old mid : List (List ℕ × Option (Came L))) (put : ArePut from found i old mid) (l : L) (ws : List ℕ) (here : slice_get found i ≡ Some (l, ws)) where
+  module _ (i : ℕ) (old mid : List (List ℕ × Option (Came L))) (put : ArePut from found i old mid) (l : L) (ws : List ℕ)
+      (here : slice_get found i ≡ Some (l, ws)) where
     -- the state is known
     put_known : IsIn (states_of mid) ws → ArePut from found (i + 1) old mid
     put_known is = record {
@@ -62,12 +64,17 @@ module _ {L : Type 0} (from : ℕ) (found : List (L × List ℕ)) where
           stays : (words : List ℕ) → IsIn (states_of mid) words → IsIn (states_of (mid ++ (ws, Some came) ∷ [])) words
           stays words x = (x.0, ap (λ t. slice_get t x.0) split ∙ at_old (states_of mid) (ws ∷ []) x.0 words x.1)
 
-          by : (m : ℕ) (k : L) (words : List ℕ) → m < i + 1 → slice_get found m ≡ Some (k, words) → (m < i) ⊎ (i ≤ m) → IsIn (states_of (mid ++ (ws, Some came) ∷ [])) words
+          by : (m : ℕ) (k : L) (words : List ℕ) → m < i + 1 → slice_get found m ≡ Some (k, words) → (m < i) ⊎ (i ≤ m)
+              → IsIn (states_of (mid ++ (ws, Some came) ∷ [])) words
           by m k words lt at (inl less) = stays words (put.all m k words less at)
-          by m k words lt at (inr ge) =
-              (length (states_of mid), ap (λ t. slice_get t (length (states_of mid))) split ∙ (at_seam (states_of mid) ws [] ∙ ap Some (at_next i m l k ws words here lt ge at)))
+          by m k words lt at (inr ge) = (
+            length (states_of mid),
+            ap (λ t. slice_get t (length (states_of mid))) split
+                ∙ (at_seam (states_of mid) ws [] ∙ ap Some (at_next i m l k ws words here lt ge at)),
+          )
 
-          cases : (j : ℕ) (x : List ℕ) → slice_get (states_of (mid ++ (ws, Some came) ∷ [])) j ≡ Some x → (slice_get (states_of mid) j ≡ Some x) ⊎ ((j ≡ length (states_of mid)) × (ws ≡ x))
+          cases : (j : ℕ) (x : List ℕ) → slice_get (states_of (mid ++ (ws, Some came) ∷ [])) j ≡ Some x
+              → (slice_get (states_of mid) j ≡ Some x) ⊎ ((j ≡ length (states_of mid)) × (ws ≡ x))
           cases j x a = push_cases (states_of mid) ws x j (ap (λ t. slice_get t j) (sym split) ∙ a)
 
           apart : IsEachOnce (states_of mid) → (j k : ℕ) (x : List ℕ) → (slice_get (states_of mid) j ≡ Some x) ⊎ ((j ≡ length (states_of mid)) × (ws ≡ x))
@@ -77,13 +84,16 @@ module _ {L : Type 0} (from : ℕ) (found : List (L × List ℕ)) where
           apart h j k x (inr a) (inl b) = absurd (unseen (k, b ∙ ap Some (sym a.1)))
           apart h j k x (inr a) (inr b) = a.0 ∙ sym b.0
 
-    pub put_next : (most : ℕ) (new : List (List ℕ × Option (Came L))) → IsPut (record { from = from; label = l }) ws most mid new true → ArePut from found (i + 1) old new
+    pub put_next : (most : ℕ) (new : List (List ℕ × Option (Came L)))
+        → IsPut (record { from = from; label = l }) ws most mid new true → ArePut from found (i + 1) old new
     put_next most new (inl a) = subst (ArePut from found (i + 1) old) (sym a.2) (put_known a.1)
     put_next most new (inr (inl a)) = absurd (true≢false a.0)
     put_next most new (inr (inr a)) = subst (ArePut from found (i + 1) old) (sym a.3) (put_new (record { from = from; label = l }) refl a.2)
 
     -- it doesn't fit
-    pub put_full : (most : ℕ) (new : List (List ℕ × Option (Came L))) → IsPut (record { from = from; label = l }) ws most mid new false → ArePut from found i old new × (length new ≡ most)
+    pub put_full : (most : ℕ) (new : List (List ℕ × Option (Came L)))
+        → IsPut (record { from = from; label = l }) ws most mid new false
+        → ArePut from found i old new × (length new ≡ most)
     put_full most new (inl a) = absurd (true≢false (sym a.0))
     put_full most new (inr (inl a)) = (subst (ArePut from found i old) (sym a.2) put, ap length a.2 ∙ a.1)
     put_full most new (inr (inr a)) = absurd (true≢false (sym a.0))

@@ -25,7 +25,8 @@ module _ {L : Type 0} where
       let one : length (ps ++ p ∷ []) ≡ length ps + 1 = length_push ps p in
       omega (arith, rest, one)
 
-  paths_keep : (ps : List (List L)) (es : List (List ℕ × Option (Came L))) (k : ℕ) (p : List L) → slice_get ps k ≡ Some p → slice_get (paths_from ps es) k ≡ Some p
+  paths_keep : (ps : List (List L)) (es : List (List ℕ × Option (Came L))) (k : ℕ) (p : List L)
+      → slice_get ps k ≡ Some p → slice_get (paths_from ps es) k ≡ Some p
   paths_keep ps [] k p e = e
   paths_keep ps (x ∷ es) k p e = paths_keep (ps ++ path_by ps x.1 ∷ []) es k p (at_old ps (path_by ps x.1 ∷ []) k p e)
 
@@ -45,7 +46,8 @@ module _ {L : Type 0} where
       let y = path_by ps x.1 in
       let qs = paths_from (ps ++ y ∷ []) es in
       let here : length ps + 0 ≡ length ps = omega arith in
-      let low : IfSome x.1 (λ c. c.from < length ps) = if_some_from (λ c. c.from < length ps) x.1 (λ c is. subst (λ n. c.from < n) here (r 0 x.0 c (ap (λ t. Some (x.0, t)) is))) in
+      let low : IfSome x.1 (λ c. c.from < length ps) = if_some_from (λ c. c.from < length ps) x.1
+      (λ c is. subst (λ n. c.from < n) here (r 0 x.0 c (ap (λ t. Some (x.0, t)) is))) in
       ap (λ n. slice_get qs n) here
       ∙ (paths_keep (ps ++ y ∷ []) es (length ps) y (at_seam ps y [])
       ∙ (ap Some (sym (path_same ps qs x.1 low (λ k p a. paths_keep (ps ++ y ∷ []) es k p (at_old ps (y ∷ []) k p a))))

@@ -22,7 +22,8 @@ module _ {L : Type 0} (es : List (List ℕ × Option (Came L))) where
 
   -- one step back
   pub path_back : (k : ℕ) (came : Came L) → slice_get (paths_of es) k ≡ Some (path_by (paths_of es) (Some came)) → path_to k ≡ came.label ∷ path_to came.from
-  path_back k came at = one_at (paths_of es) k (path_to k) (came.label ∷ path_to came.from) (path_there k (slice_get_within (paths_of es) k (came.label ∷ path_to came.from) at)) at
+  path_back k came at = one_at (paths_of es) k (path_to k) (came.label ∷ path_to came.from)
+      (path_there k (slice_get_within (paths_of es) k (came.label ∷ path_to came.from) at)) at
 
   pub path_first : (k : ℕ) → slice_get (paths_of es) k ≡ Some (path_by (paths_of es) None) → path_to k ≡ []
   path_first k at = one_at (paths_of es) k (path_to k) [] (path_there k (slice_get_within (paths_of es) k [] at)) at

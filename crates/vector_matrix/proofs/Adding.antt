@@ -34,5 +34,17 @@ module _ {A : Type 0} where
 
     pub total_one : (l : List A) (i : ℕ) (a : A) → get_elem? l i ≡ some a → ((j : ℕ) (b : A) → get_elem? l j ≡ some b → j ≢ i → f b ≡ 0) → sum_by f l ≡ f a
     total_one [] i a e none = absurd (some-ne-none a (sym e))
-    total_one (x ∷ xs) zero a e none = omega (arith, sum_by-cons f x xs, ap f (some-injective x a e), total_none xs (λ j b g. none (suc j) b g (λ h. omega arith)))
-    total_one (x ∷ xs) (suc i) a e none = omega (arith, sum_by-cons f x xs, none 0 x refl (λ h. omega arith), total_one xs i a e (λ j b g apart. none (suc j) b g (λ h. apart (omega (arith, h)))))
+    total_one (x ∷ xs) zero a e none = omega (
+      arith,
+      sum_by-cons f x xs,
+      ap f (some-injective x a e),
+      total_none xs
+          (λ j b g. none (suc j) b g (λ h. omega arith)),
+    )
+    total_one (x ∷ xs) (suc i) a e none = omega (
+      arith,
+      sum_by-cons f x xs,
+      none 0 x refl (λ h. omega arith),
+      total_one
+          xs i a e (λ j b g apart. none (suc j) b g (λ h. apart (omega (arith, h)))),
+    )

@@ -1,5 +1,7 @@
 -- One bit of one word changes.
-use Rattle.std.proofs.Common.{◌≡◌, ◌≢◌, ℕ, zero, suc, ◌*◌, ◌^◌, ◌<◌, ◌==◌, Bool, true, false, not, ◌&&◌, eqb, min, List, length, set, slice_index, bit_or, bit_and, w64, refl, sym, ap, ◌∙◌, subst, inl, inr, eq-eqb, eqb-true, arith}
+use Rattle.std.proofs.Common.{◌≡◌, ◌≢◌, ℕ, zero, suc, ◌*◌, ◌^◌, ◌<◌, ◌==◌, Bool, true, false, not, ◌&&◌, eqb, min, List}
+use Rattle.std.proofs.Common.{length, set, slice_index, bit_or, bit_and, w64, refl, sym, ap, ◌∙◌, subst, inl, inr}
+use Rattle.std.proofs.Common.{eq-eqb, eqb-true, arith}
 use Rattle.std.proofs.lemmas.Bool.{false≢true, eqb-false, cases_lt}
 use Rattle.std.proofs.lemmas.Bool.Decides.{nat_tests}
 use Rattle.std.proofs.lemmas.List.{get_or-set_same, get_or-set_other}
@@ -61,5 +63,7 @@ at_other p q words w inside apart alike = by_test (eqb q.cpu.0 p.cpu.0) refl
         let same : q.cpu.0 ≡ p.cpu.0 = eqb-true q.cpu.0 p.cpu.0 e in
         let other : q.number ≢ p.number =
         λ h. false≢true (sym apart ∙ (ap (λ t. t && (p.number == q.number)) (eq-eqb p.cpu.0 q.cpu.0 (sym same)) ∙ eq-eqb p.number q.number (sym h))) in
-        ap (λ c. bit_at (slice_index (set words p.cpu.0 w) c) q.number) same ∙ (ap (λ n. bit_at n q.number) (get_or-set_same words p.cpu.0 w 0 inside) ∙ (alike q.number other ∙ ap (λ c. bit_at (slice_index words c) q.number) (sym same)))
+        ap (λ c. bit_at (slice_index (set words p.cpu.0 w) c) q.number) same
+        ∙ (ap (λ n. bit_at n q.number) (get_or-set_same words p.cpu.0 w 0 inside)
+        ∙ (alike q.number other ∙ ap (λ c. bit_at (slice_index words c) q.number) (sym same)))
     by_test false e = ap (λ n. bit_at n q.number) (get_or-set_other words p.cpu.0 q.cpu.0 w 0 (eqb-false q.cpu.0 p.cpu.0 e))

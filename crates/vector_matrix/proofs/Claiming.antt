@@ -1,5 +1,6 @@
 -- What every claim keeps, and what the calls of the matrix come to.
-use Rattle.std.proofs.Common.{◌≡◌, ◌⊎◌, ℕ, zero, suc, ◌+◌, ◌<◌, ◌≤◌, Bool, true, false, not, ◌||◌, MatchBool, List, [], ◌∷◌, ◌++◌, refl, sym, ap, ◌∙◌, subst, inl, inr, add-one, append-nil, append_assoc, arith}
+use Rattle.std.proofs.Common.{◌≡◌, ◌⊎◌, ℕ, zero, suc, ◌+◌, ◌<◌, ◌≤◌, Bool, true, false, not, ◌||◌, MatchBool, List, []}
+use Rattle.std.proofs.Common.{◌∷◌, ◌++◌, refl, sym, ap, ◌∙◌, subst, inl, inr, add-one, append-nil, append_assoc, arith}
 use Rattle.std.proofs.lemmas.Bool.{false≢true, cases_lt}
 use borrow.Author.Count.{below_more}
 use Rattle.atomic_table.specs.Seated.{TableId}
@@ -11,7 +12,9 @@ use Rattle.vector_matrix.specs.Claims.{ClaimSeen, claim_seen, IsWhole, Gains, Fi
 use Rattle.vector_matrix.specs.Rule.{first_view, left_view, right_view, met_view}
 use Rattle.vector_matrix.specs.Steps.{gaining, meeting, freeing, Claims, Learns}
 use Rattle.vector_matrix.specs.Vectors.{vector_of, same_vector, is_in, count_of, without, unless_in, others_below}
-use Rattle.vector_matrix.proofs.Listing.{from_same, one_same, one_other, count_push, count_both, in_counts, not_counts, is_in_from, in_one, in_first, in_second, in_alone, in_put, in_or_put, count_without, count_others, in_without}
+use Rattle.vector_matrix.proofs.Listing.{from_same, one_same, one_other, count_push, count_both, in_counts, not_counts}
+use Rattle.vector_matrix.proofs.Listing.{is_in_from, in_one, in_first, in_second, in_alone, in_put, in_or_put}
+use Rattle.vector_matrix.proofs.Listing.{count_without, count_others, in_without}
 
 -- ---- one vector is claimed
 
@@ -27,7 +30,8 @@ met_claim cpus v p k whole = record {
   ];
 }
 
-got_claim : (cpus : ℕ) (v : View) (p : Vector) → IsClaim cpus (v, []) → p.cpu.0 < cpus → p.number < 64 → is_in p v.holds ≡ false → IsClaim cpus (gaining p v, [])
+got_claim : (cpus : ℕ) (v : View) (p : Vector) → IsClaim cpus (v, []) → p.cpu.0 < cpus → p.number < 64
+    → is_in p v.holds ≡ false → IsClaim cpus (gaining p v, [])
 got_claim cpus v p k cpu number free = record {
   there = k.there;
   idle = refl;
@@ -48,11 +52,14 @@ got_claim cpus v p k cpu number free = record {
             omega (arith, count_push q p v.holds, one_same q p is, none)
         by_test false is = omega (arith, count_push q p v.holds, one_other q p is, k.once q)
 
-pub claimed : (cpus : ℕ) (me after : Me ℕ View) (p : Vector) (set : Bool) → IsClaim cpus me → p.cpu.0 < cpus → p.number < 64 → Claims p me set after → IsClaim cpus after
+pub claimed : (cpus : ℕ) (me after : Me ℕ View) (p : Vector) (set : Bool) → IsClaim cpus me → p.cpu.0 < cpus
+    → p.number < 64 → Claims p me set after → IsClaim cpus after
 claimed cpus me after p true k cpu number c =
-    subst (IsClaim cpus) (sym (c.becomes ∙ ap (λ xs. (meeting p me.0, xs)) k.idle)) (met_claim cpus me.0 p (subst (λ xs. IsClaim cpus (me.0, xs)) k.idle k) (c.whole refl))
+    subst (IsClaim cpus) (sym (c.becomes ∙ ap (λ xs. (meeting p me.0, xs)) k.idle))
+    (met_claim cpus me.0 p (subst (λ xs. IsClaim cpus (me.0, xs)) k.idle k) (c.whole refl))
 claimed cpus me after p false k cpu number c =
-    subst (IsClaim cpus) (sym (c.becomes ∙ ap (λ xs. (gaining p me.0, xs)) k.idle)) (got_claim cpus me.0 p (subst (λ xs. IsClaim cpus (me.0, xs)) k.idle k) cpu number (c.free refl))
+    subst (IsClaim cpus) (sym (c.becomes ∙ ap (λ xs. (gaining p me.0, xs)) k.idle))
+    (got_claim cpus me.0 p (subst (λ xs. IsClaim cpus (me.0, xs)) k.idle k) cpu number (c.free refl))
 
 pub shown : (table : TableId) (me after : Me ℕ View) (p : Vector) (set : Bool) → Claims p me set after
     → MatchBool (not set) (Gains p (claim_seen table me.0) (claim_seen table after.0)) (FindsTaken p (claim_seen table me.0) (claim_seen table after.0))
@@ -88,7 +95,8 @@ one_passed n cpu old mid new before now = record {
         ∙ now.whole (ap (λ (m : ClaimSeen). m.first) before.becomes ∙ is.0, ap (λ (m : ClaimSeen). m.out) before.becomes ∙ is.1)
 
 -- what was passed by is held or was met
-pub known_below : (n u : ℕ) (cpu : CpuNo) (all : List Vector) → u < n → (is_in (vector_of cpu u) all ≡ true) ⊎ (is_in (vector_of cpu u) (others_below n cpu all) ≡ true)
+pub known_below : (n u : ℕ) (cpu : CpuNo) (all : List Vector) → u < n
+    → (is_in (vector_of cpu u) all ≡ true) ⊎ (is_in (vector_of cpu u) (others_below n cpu all) ≡ true)
 known_below zero u cpu all less = absurd (omega arith)
 known_below (suc n) u cpu all less = by_place (cases_lt u n) (known_below n u cpu all)
   where
@@ -100,7 +108,8 @@ known_below (suc n) u cpu all less = by_place (cases_lt u n) (known_below n u cp
     ]
     by_place (inr t) rest =
         let same : u ≡ n = omega (arith, t, less) in
-        subst (λ k. (is_in (vector_of cpu k) all ≡ true) ⊎ (is_in (vector_of cpu k) (others_below n cpu all ++ unless_in all (vector_of cpu n)) ≡ true)) (sym same)
+        subst (λ k. (is_in (vector_of cpu k) all ≡ true)
+        ⊎ (is_in (vector_of cpu k) (others_below n cpu all ++ unless_in all (vector_of cpu n)) ≡ true)) (sym same)
         (elim (in_or_put (vector_of cpu n) all) [
           | inl x ↦ inl x
           | inr x ↦ inr (in_second (vector_of cpu n) (others_below n cpu all) (unless_in all (vector_of cpu n)) x)
@@ -111,7 +120,8 @@ or_from true t h = refl
 or_from false t (inl e) = absurd (false≢true e)
 or_from false t (inr e) = e
 
-pub known_after : (n : ℕ) (cpu : CpuNo) (old new : ClaimSeen) (more : List Vector) → new ≡ record old { holds = old.holds ++ more; met = old.met ++ others_below n cpu old.holds }
+pub known_after : (n : ℕ) (cpu : CpuNo) (old new : ClaimSeen) (more : List Vector)
+    → new ≡ record old { holds = old.holds ++ more; met = old.met ++ others_below n cpu old.holds }
     → (u : ℕ) → u < n → (is_in (vector_of cpu u) new.holds || is_in (vector_of cpu u) new.met) ≡ true
 known_after n cpu old new more is u less =
     subst (λ (m : ClaimSeen). (is_in (vector_of cpu u) m.holds || is_in (vector_of cpu u) m.met) ≡ true) (sym is)
@@ -120,19 +130,23 @@ known_after n cpu old new more is u less =
       | inr x ↦ inr (in_second (vector_of cpu u) old.met (others_below n cpu old.holds) x)
     ]))
 
-pub got_free : (n : ℕ) (cpu : CpuNo) (old mid new : ClaimSeen) → PassedBy n cpu old mid → Gains (vector_of cpu n) mid new → is_in (vector_of cpu n) old.holds ≡ false
+pub got_free : (n : ℕ) (cpu : CpuNo) (old mid new : ClaimSeen) → PassedBy n cpu old mid
+    → Gains (vector_of cpu n) mid new → is_in (vector_of cpu n) old.holds ≡ false
 got_free n cpu old mid new before now = ap (λ (m : ClaimSeen). is_in (vector_of cpu n) m.holds) (sym before.becomes) ∙ now.free
 
 pub got_after : (n : ℕ) (cpu : CpuNo) (old mid new : ClaimSeen) → PassedBy n cpu old mid → Gains (vector_of cpu n) mid new
     → new ≡ record old { holds = old.holds ++ vector_of cpu n ∷ []; met = old.met ++ others_below n cpu old.holds }
 got_after n cpu old mid new before now = now.becomes ∙ ap (λ (m : ClaimSeen). record m { holds = m.holds ++ vector_of cpu n ∷ [] }) before.becomes
 
-pub full_after : (n : ℕ) (cpu : CpuNo) (old new : ClaimSeen) → PassedBy n cpu old new → new ≡ record old { holds = old.holds ++ []; met = old.met ++ others_below n cpu old.holds }
-full_after n cpu old new before = before.becomes ∙ ap (λ (xs : List Vector). record old { holds = xs; met = old.met ++ others_below n cpu old.holds }) (sym (append-nil old.holds))
+pub full_after : (n : ℕ) (cpu : CpuNo) (old new : ClaimSeen) → PassedBy n cpu old new
+    → new ≡ record old { holds = old.holds ++ []; met = old.met ++ others_below n cpu old.holds }
+full_after n cpu old new before = before.becomes ∙ ap (λ (xs : List Vector). record old
+    { holds = xs; met = old.met ++ others_below n cpu old.holds }) (sym (append-nil old.holds))
 
 -- ---- a vector is given back
 
-pub inside_of : (cpus : ℕ) (table : TableId) (me : Me ℕ View) (old : ClaimSeen) (p : Vector) → claim_seen table me.0 ≡ old → IsClaim cpus me → is_in p old.holds ≡ true
+pub inside_of : (cpus : ℕ) (table : TableId) (me : Me ℕ View) (old : ClaimSeen) (p : Vector)
+    → claim_seen table me.0 ≡ old → IsClaim cpus me → is_in p old.holds ≡ true
     → (is_in p me.0.holds ≡ true) × (p.cpu.0 < cpus) × (p.number < 64)
 inside_of cpus table me old p is k held =
     let here : is_in p me.0.holds ≡ true = ap (λ (m : ClaimSeen). is_in p m.holds) is ∙ held in
@@ -185,7 +199,8 @@ left_claim cpus me k = record {
   whole = λ firstly nobody q is. absurd (omega (arith, nobody));
 }
 
-pub both_claim : (cpus : ℕ) (me other after : Me ℕ View) → IsClaim cpus me → IsClaim cpus other → Learns (met_view me.0 other.0, me.1) after → IsClaim cpus after
+pub both_claim : (cpus : ℕ) (me other after : Me ℕ View) → IsClaim cpus me → IsClaim cpus other
+    → Learns (met_view me.0 other.0, me.1) after → IsClaim cpus after
 both_claim cpus me other after k l now =
     subst (IsClaim cpus) (sym now.becomes) (record {
       there = k.there;
@@ -196,7 +211,8 @@ both_claim cpus me other after k l now =
     })
 
 -- no vector was held by both
-pub none_shared : (v w : View) (rest : List (ℕ × ℕ)) (after : Me ℕ View) → Learns (met_view v w, rest) after → (p : Vector) → is_in p v.holds ≡ true → is_in p w.holds ≡ false
+pub none_shared : (v w : View) (rest : List (ℕ × ℕ)) (after : Me ℕ View) → Learns (met_view v w, rest) after
+    → (p : Vector) → is_in p v.holds ≡ true → is_in p w.holds ≡ false
 none_shared v w rest after now p held = by_test (is_in p w.holds) refl
   where
     by_test : (t : Bool) → is_in p w.holds ≡ t → is_in p w.holds ≡ false

@@ -30,7 +30,8 @@ taken_length (suc m) (suc n) few = ap suc (taken_length m n (omega (arith, few))
 
 pub fresh : (cpus : ℕ) (words : List ℕ) → words ≡ zeros 32 → cpus ≤ 32 → Holds cpus (opening (take cpus words) [] first_view)
 fresh cpus words is few =
-    opened cpus (take cpus words) (ap (λ (ws : List ℕ). length (take cpus ws)) is ∙ taken_length 32 cpus few) (λ c. ap (λ (ws : List ℕ). slice_index (take cpus ws) c) is ∙ taken_word 32 cpus c)
+    opened cpus (take cpus words) (ap (λ (ws : List ℕ). length (take cpus ws)) is ∙ taken_length 32 cpus few)
+    (λ c. ap (λ (ws : List ℕ). slice_index (take cpus ws) c) is ∙ taken_word 32 cpus c)
 
 word_at : (ws : List ℕ) (i w : ℕ) → get_elem? ws i ≡ some w → w ≡ slice_index ws i
 word_at [] i w e = absurd (some-ne-none w (sym e))
@@ -41,7 +42,9 @@ word_at (x ∷ ws) (suc i) w e = word_at ws i w e
 pub copied : (words ws : List ℕ) (n w : ℕ) → n < length words → get_elem? ws n ≡ some w → ((k : ℕ) → k < n → slice_index words k ≡ slice_index ws k)
     → (k : ℕ) → k < n + 1 → slice_index (set words n w) k ≡ slice_index ws k
 copied words ws n w inside at old =
-    below_more (λ k. slice_index (set words n w) k ≡ slice_index ws k) n (λ k less. get_or-set_other words n k w 0 (λ e. omega (arith, e, less)) ∙ old k less) (get_or-set_same words n w 0 inside ∙ word_at ws n w at)
+    below_more (λ k. slice_index (set words n w) k ≡ slice_index ws k) n
+    (λ k less. get_or-set_other words n k w 0 (λ e. omega (arith, e, less)) ∙ old k less)
+    (get_or-set_same words n w 0 inside ∙ word_at ws n w at)
 
 pub zeros_left : (words : List ℕ) (n w : ℕ) → ((k : ℕ) → n ≤ k → slice_index words k ≡ 0) → (k : ℕ) → n + 1 ≤ k → slice_index (set words n w) k ≡ 0
 zeros_left words n w old k more = get_or-set_other words n k w 0 (λ e. omega (arith, e, more)) ∙ old k (omega (arith, more))

@@ -1,5 +1,6 @@
 -- What the steps do to the claims, and that the rule is kept.
-use Rattle.std.proofs.Common.{◌≡◌, ◌≢◌, ℕ, ◌+◌, ◌<◌, ◌≤◌, Bool, true, false, not, cond, List, [], ◌∷◌, ◌++◌, length, set, slice_index, sum_by, count_by, refl, sym, ap, ◌∙◌, inl, inr, arith}
+use Rattle.std.proofs.Common.{◌≡◌, ◌≢◌, ℕ, ◌+◌, ◌<◌, ◌≤◌, Bool, true, false, not, cond, List, [], ◌∷◌, ◌++◌, length}
+use Rattle.std.proofs.Common.{set, slice_index, sum_by, count_by, refl, sym, ap, ◌∙◌, inl, inr, arith}
 use Rattle.std.proofs.lemmas.Bool.{false≢true}
 use Rattle.std.proofs.lemmas.List.Sums.{sum_by_push}
 use Rattle.std.proofs.lemmas.Nat.Bits.{bit_at-lt}
@@ -57,7 +58,15 @@ module _ (cpus : ℕ) (s : State ℕ View) (rule : Holds cpus s) (id : ℕ) (v :
           by_test : (t : Bool) → u.spent ≡ t → u.spent ≡ true
           by_test true is = is
           by_test false is =
-              absurd (omega (arith, total_two one_there s.views id j v u (λ h. apart (sym h)) at e, there_one v there, there_one u is, count_there s.views, (rule.first id v at firstly).1, nobody))
+              absurd (omega (
+                arith,
+                total_two one_there s.views id j v u (λ h. apart (sym h)) at e,
+                there_one v there,
+                there_one u is,
+                count_there s.views,
+                (rule.first id v at firstly).1,
+                nobody,
+              ))
 
       -- and what is held it holds
       pub all_held : (q : Vector) → bit_of q s.words ≡ count_of q v.holds
@@ -100,12 +109,30 @@ module _ (cpus : ℕ) (s : State ℕ View) (rule : Holds cpus s) (id : ℕ) (v :
   forked firstly =
       let rest : List View = set s.views id (left_view v) in
       let count : count_by is_there (rest ++ right_view ∷ []) ≡ count_by is_there s.views + 1 =
-      omega (arith, count_there rest, count_there (rest ++ right_view ∷ []), sum_by_push one_there rest right_view, there_one right_view refl, there_same (left_view v) there) in
+      omega (
+        arith,
+        count_there rest,
+        count_there (rest ++ right_view ∷ []),
+        sum_by_push one_there rest right_view,
+        there_one right_view refl,
+        there_same (left_view v) there,
+      ) in
       record {
         words = rule.words;
-        bits = λ q. omega (arith, rule.bits q, sum_by_push (held q) rest right_view, held_there q right_view refl, total_set (held q) s.views id (left_view v) v at, held_there q v there, held_there q (left_view v) there);
+        bits = λ q. omega (
+          arith,
+          rule.bits q,
+          sum_by_push (held q) rest right_view,
+          held_there q right_view refl,
+          total_set (held q) s.views id (left_view v) v at,
+          held_there q v there,
+          held_there q (left_view v) there,
+        );
         met = λ j u q e there_u is. elim (at_snoc rest right_view u j e) [
-          | inl t ↦ elim (at_set s.views id j (left_view v) u t) [ inl r ↦ rule.met id v q at there (ap (λ (y : View). is_in q y.met) r.1 ∙ is) | inr r ↦ rule.met j u q r.1 there_u is ]
+          | inl t ↦ elim (at_set s.views id j (left_view v) u t) [
+            | inl r ↦ rule.met id v q at there (ap (λ (y : View). is_in q y.met) r.1 ∙ is)
+            | inr r ↦ rule.met j u q r.1 there_u is
+          ]
           | inr t ↦ absurd (false≢true (ap (λ (y : View). is_in q y.met) t ∙ is))
         ];
         first = λ j u e firstly_u. elim (at_snoc rest right_view u j e) [
@@ -119,34 +146,75 @@ module _ (cpus : ℕ) (s : State ℕ View) (rule : Holds cpus s) (id : ℕ) (v :
 
   -- ---- a meeting
 
-  module _ (firstly : v.first ≡ true) (other : ℕ) (w : View) (apart : other ≢ id) (at_other : get_elem? s.views other ≡ some w) (there_other : w.spent ≡ false) where
+  module _ (firstly : v.first ≡ true) (other : ℕ) (w : View) (apart : other ≢ id)
+      (at_other : get_elem? s.views other ≡ some w) (there_other : w.spent ≡ false) where
     pub some_out : 0 < v.out
-    some_out = omega (arith, total_two one_there s.views id other v w (λ h. apart (sym h)) at at_other, there_one v there, there_one w there_other, count_there s.views, (rule.first id v at firstly).1)
+    some_out = omega (
+      arith,
+      total_two one_there s.views id other v w (λ h. apart (sym h)) at at_other,
+      there_one v
+          there,
+      there_one w there_other,
+      count_there s.views,
+      (rule.first id v at firstly).1,
+    )
 
     -- no vector is held by both
     pub held_by_one : (q : Vector) → count_of q v.holds + count_of q w.holds ≤ 1
-    held_by_one q = omega (arith, total_two (held q) s.views id other v w (λ h. apart (sym h)) at at_other, held_there q v there, held_there q w there_other, rule.bits q, bit_at-lt (slice_index s.words q.cpu.0) q.number)
+    held_by_one q = omega (
+      arith,
+      total_two (held q) s.views id other v w (λ h. apart (sym h)) at at_other,
+      held_there q
+          v there,
+      held_there q w there_other,
+      rule.bits q,
+      bit_at-lt (slice_index s.words q.cpu.0) q.number,
+    )
 
     pub met_one : Holds cpus (record { words = s.words; homes = s.homes; views = set (set s.views id (met_view v w)) other spent_view })
     met_one =
         let both : List View = set s.views id (met_view v w) in
         let there_both : get_elem? both other ≡ some w = set_else s.views id other (met_view v w) apart ∙ at_other in
         let count : count_by is_there (set both other spent_view) + 1 ≡ count_by is_there s.views =
-        omega (arith, count_there both, count_there (set both other spent_view), total_set one_there both other spent_view w there_both, there_one w there_other, gone_none spent_view refl, there_same (met_view v w) there) in
+        omega (
+          arith,
+          count_there both,
+          count_there (set both other spent_view),
+          total_set one_there both other
+              spent_view w there_both,
+          there_one w there_other,
+          gone_none spent_view refl,
+          there_same (met_view v w)
+              there,
+        ) in
         record {
           words = rule.words;
-          bits = λ q. omega (arith, rule.bits q, total_set (held q) both other spent_view w there_both, total_set (held q) s.views id (met_view v w) v at, held_there q v there, held_there q w there_other, held_there q (met_view v w) there, held_gone q spent_view refl, count_both q v.holds w.holds);
+          bits = λ q. omega (
+            arith,
+            rule.bits q,
+            total_set (held q) both other spent_view w there_both,
+            total_set
+                (held q) s.views id (met_view v w) v at,
+            held_there q v there,
+            held_there q w there_other,
+            held_there q
+                (met_view v w) there,
+            held_gone q spent_view refl,
+            count_both q v.holds w.holds,
+          );
           met = λ j u q e there_u is. elim (at_set both other j spent_view u e) [
             | inl t ↦ absurd (false≢true (sym there_u ∙ ap (λ (y : View). y.spent) (sym t.1)))
             | inr t ↦ elim (at_set s.views id j (met_view v w) u t.1) [
-              | inl r ↦ elim (in_one q v.met w.met (ap (λ (y : View). is_in q y.met) r.1 ∙ is)) [ inl x ↦ rule.met id v q at there x | inr x ↦ rule.met other w q at_other there_other x ]
+              | inl r ↦ elim (in_one q v.met w.met (ap (λ (y : View). is_in q y.met) r.1 ∙ is))
+                  [ inl x ↦ rule.met id v q at there x | inr x ↦ rule.met other w q at_other there_other x ]
               | inr r ↦ rule.met j u q r.1 there_u is
             ]
           ];
           first = λ j u e firstly_u. elim (at_set both other j spent_view u e) [
             | inl t ↦ absurd (false≢true (ap (λ (y : View). y.first) t.1 ∙ firstly_u))
             | inr t ↦ elim (at_set s.views id j (met_view v w) u t.1) [
-              | inl r ↦ (let f = rule.first id v at firstly in let here : j ≡ 0 = r.0 ∙ f.0 in (here, omega (arith, f.1, count, some_out, ap (λ (y : View). y.out) r.1)))
+              | inl r ↦ (let f = rule.first id v at firstly in let here : j ≡ 0 = r.0 ∙ f.0 in
+                  (here, omega (arith, f.1, count, some_out, ap (λ (y : View). y.out) r.1)))
               | inr r ↦ absurd (r.0 ((rule.first j u r.1 firstly_u).0 ∙ sym (is_zero firstly)))
             ]
           ];

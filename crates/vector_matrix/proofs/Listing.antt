@@ -1,5 +1,6 @@
 -- Vectors, and lists of them.
-use Rattle.std.proofs.Common.{◌≡◌, ◌⊎◌, ℕ, ◌+◌, ◌<◌, Bool, true, false, not, ◌||◌, cond, eqb, List, [], ◌∷◌, ◌++◌, refl, sym, ap, ◌∙◌, subst, inl, inr, eq-eqb, eqb-true, arith}
+use Rattle.std.proofs.Common.{◌≡◌, ◌⊎◌, ℕ, ◌+◌, ◌<◌, Bool, true, false, not, ◌||◌, cond, eqb, List, [], ◌∷◌, ◌++◌, refl}
+use Rattle.std.proofs.Common.{sym, ap, ◌∙◌, subst, inl, inr, eq-eqb, eqb-true, arith}
 use Rattle.std.proofs.lemmas.Bool.{false≢true, and_parts, and_from}
 use Rattle.std.proofs.lemmas.List.Sums.{sum_by-cons, sum_by-append, sum_by_push}
 use Rattle.vector_matrix.specs.declared.view.Vector.{Vector}
@@ -140,7 +141,8 @@ pub count_others : (p r : Vector) (all : List Vector) → same_vector p r ≡ fa
 count_others p r [] apart = refl
 count_others p r (q ∷ all) apart = by_test (count_others p r all apart) (same_vector p q) refl
   where
-    by_test : count_of r (without p all) ≡ count_of r all → (t : Bool) → same_vector p q ≡ t → count_of r (cond (not t) (q ∷ without p all) (without p all)) ≡ count_of r (q ∷ all)
+    by_test : count_of r (without p all) ≡ count_of r all → (t : Bool) → same_vector p q ≡ t
+        → count_of r (cond (not t) (q ∷ without p all) (without p all)) ≡ count_of r (q ∷ all)
     by_test rest true e = omega (arith, count_cons r q all, one_other r q (same_apart p q r e apart), rest)
     by_test rest false e = omega (arith, count_cons r q all, count_cons r q (without p all), rest)
 

@@ -1,5 +1,7 @@
 -- Each step as the table asks for it.
-use Rattle.std.proofs.Common.{◌≡◌, ℕ, zero, suc, ◌+◌, ◌^◌, ◌<◌, Bool, true, false, cond, List, [], ◌∷◌, ◌++◌, length, set, slice_index, bit_or, bit_and, w64, refl, sym, ap, ◌∙◌, subst, inl, inr, eqb, arith, length-set}
+use Rattle.std.proofs.Common.{◌≡◌, ℕ, zero, suc, ◌+◌, ◌^◌, ◌<◌, Bool, true, false, cond, List, [], ◌∷◌, ◌++◌, length}
+use Rattle.std.proofs.Common.{set, slice_index, bit_or, bit_and, w64, refl, sym, ap, ◌∙◌, subst, inl, inr, eqb, arith}
+use Rattle.std.proofs.Common.{length-set}
 use Rattle.std.proofs.lemmas.Bool.{false≢true}
 use Rattle.std.proofs.lemmas.Nat.Bits.{bit_at-lt, bit_at-zero}
 use Rattle.std.specs.Int.{bit_at, bit_not}
@@ -16,9 +18,12 @@ use Rattle.vector_matrix.specs.Rule.{bit_of, Holds, first_view, left_view, right
 use Rattle.vector_matrix.specs.Steps.{has, gaining, meeting, freeing, Claims, Frees, Learns}
 use Rattle.vector_matrix.proofs.Bits.{or_same, or_other, and_same, and_other, has_bit, has_none, at_own, at_other}
 use Rattle.vector_matrix.proofs.Keeping.{held_least, told_once, told_whole, others_gone, all_held, changed, forked, met_one}
-use Rattle.vector_matrix.proofs.Listing.{from_same, one_same, one_other, count_push, in_one, in_put, in_counts, not_counts, is_in_from, not_in_from, count_without, count_others, in_without, apart_both}
+use Rattle.vector_matrix.proofs.Listing.{from_same, one_same, one_other, count_push, in_one, in_put, in_counts}
+use Rattle.vector_matrix.proofs.Listing.{not_counts, is_in_from, not_in_from, count_without, count_others, in_without}
+use Rattle.vector_matrix.proofs.Listing.{apart_both}
 
-module _ (cpus : ℕ) (s : State ℕ View) (rule : Holds cpus s) (id : ℕ) (v : View) (at : get_elem? s.views id ≡ some v) (there : v.spent ≡ false) (p : Vector) (inside : p.cpu.0 < cpus) (few : p.number < 64) where
+module _ (cpus : ℕ) (s : State ℕ View) (rule : Holds cpus s) (id : ℕ) (v : View) (at : get_elem? s.views id ≡ some v)
+    (there : v.spent ≡ false) (p : Vector) (inside : p.cpu.0 < cpus) (few : p.number < 64) where
   within : p.cpu.0 < length s.words
   within = omega (arith, rule.words, inside)
 
@@ -54,7 +59,8 @@ module _ (cpus : ℕ) (s : State ℕ View) (rule : Holds cpus s) (id : ℕ) (v :
 
   met_set : bit_of p s.words ≡ 1 → Holds cpus (record { words = words_set; homes = s.homes; views = set s.views id (meeting p v) })
   met_set one =
-      changed cpus s rule id v at there words_set (meeting p v) (length-set s.words p.cpu.0 word_set) there refl refl (λ q. ap (λ n. n + count_of q v.holds) (set_alike one q))
+      changed cpus s rule id v at there words_set (meeting p v) (length-set s.words p.cpu.0 word_set) there refl refl
+      (λ q. ap (λ n. n + count_of q v.holds) (set_alike one q))
       (λ q is. elim (in_one q v.met (unless_in v.holds p) is) [
         | inl t ↦ set_still q (rule.met id v q at there t)
         | inr t ↦ subst (λ x. bit_of x words_set ≡ 1) (sym (in_put p q v.holds t)) set_own
@@ -75,7 +81,8 @@ module _ (cpus : ℕ) (s : State ℕ View) (rule : Holds cpus s) (id : ℕ) (v :
 
   got_set : bit_of p s.words ≡ 0 → Holds cpus (record { words = words_set; homes = s.homes; views = set s.views id (gaining p v) })
   got_set none =
-      changed cpus s rule id v at there words_set (gaining p v) (length-set s.words p.cpu.0 word_set) there refl refl (got_bits none) (λ q is. set_still q (rule.met id v q at there is))
+      changed cpus s rule id v at there words_set (gaining p v) (length-set s.words p.cpu.0 word_set) there refl refl
+      (got_bits none) (λ q is. set_still q (rule.met id v q at there is))
       (λ j u q e apart there_u is. set_still q (rule.met j u q e there_u is))
 
   -- ---- the vector's bit is cleared
@@ -154,7 +161,8 @@ claim_step cpus slots id me p there inside few s rule size at small = by_test (h
 
 pub free_step : (cpus slots id : ℕ) (me : Me ℕ View) (p : Vector) → me.0.spent ≡ false → me.0.first ≡ true → me.0.out ≡ 0 → p.cpu.0 < cpus → p.number < 64
     → Allows (Holds cpus) slots id me p.cpu.0 (λ n. bit_and n (bit_not w64 (2 ^ p.number))) (λ n after. Frees p me after)
-free_step cpus slots id me p there firstly nobody inside few s rule size at small = (freeing p me.0, keeps, tt, freed cpus s rule id me.0 at there p inside few firstly nobody small, refl)
+free_step cpus slots id me p there firstly nobody inside few s rule size at small
+    = (freeing p me.0, keeps, tt, freed cpus s rule id me.0 at there p inside few firstly nobody small, refl)
 
 set_read : (ns : List ℕ) (i : ℕ) → set ns i (slice_index ns i) ≡ ns
 set_read [] i = refl
@@ -175,8 +183,11 @@ learn_step cpus slots id me there s rule size at small =
 pub split_step : (cpus id : ℕ) (v : View) → v.spent ≡ false → v.first ≡ true → Splits (Holds cpus) id v (left_view v) right_view
 split_step cpus id v there firstly s rule at = forked cpus s rule id v at there firstly
 
-pub join_step : (cpus id other : ℕ) (v w : View) → v.spent ≡ false → v.first ≡ true → w.spent ≡ false → Joins (Holds cpus) id v other w (met_view v w) spent_view
-join_step cpus id other v w there firstly there_w s rule at apart at_w = met_one cpus s rule id v at there firstly other w apart (sym (set_else s.views id other (met_view v w) apart) ∙ at_w) there_w
+pub join_step : (cpus id other : ℕ) (v w : View) → v.spent ≡ false → v.first ≡ true → w.spent ≡ false
+    → Joins (Holds cpus) id v other w (met_view v w) spent_view
+join_step cpus id other v w there firstly there_w s rule at apart at_w
+    = met_one cpus s rule id v at there firstly other w apart
+    (sym (set_else s.views id other (met_view v w) apart) ∙ at_w) there_w
 
 -- ---- the start and the end
 
@@ -199,7 +210,8 @@ ended cpus id v words slots there firstly nobody last cpu n =
     by_test (is_in (vector_of cpu n) v.holds) refl
   where
     bit : bit_at (slice_index words cpu.0) n ≡ count_of (vector_of cpu n) v.holds
-    bit = ap (λ (ws : List ℕ). bit_at (slice_index ws cpu.0) n) (sym last.2) ∙ all_held cpus last.0 last.1.0 id v last.1.1 there firstly nobody (vector_of cpu n)
+    bit = ap (λ (ws : List ℕ). bit_at (slice_index ws cpu.0) n) (sym last.2)
+        ∙ all_held cpus last.0 last.1.0 id v last.1.1 there firstly nobody (vector_of cpu n)
 
     by_test : (t : Bool) → is_in (vector_of cpu n) v.holds ≡ t → has (slice_index words cpu.0) n ≡ is_in (vector_of cpu n) v.holds
     by_test true is =

@@ -1,5 +1,7 @@
 -- What a driver's try makes of its job.
-use Rattle.std.proofs.Common.{◌≡◌, ℕ, zero, suc, ◌+◌, ◌-◌, ◌<◌, ◌≤◌, ◌⊎◌, inl, inr, Bool, true, false, cond, IsSomeAnd, Option, Some, None, Result, List, [], ◌∷◌, length, map, reverse, set, slice_get, refl, sym, ap, ◌∙◌, subst, arith}
+use Rattle.std.proofs.Common.{◌≡◌, ℕ, zero, suc, ◌+◌, ◌-◌, ◌<◌, ◌≤◌, ◌⊎◌, inl, inr, Bool, true, false, cond, IsSomeAnd}
+use Rattle.std.proofs.Common.{Option, Some, None, Result, List, [], ◌∷◌, length, map, reverse, set, slice_get, refl}
+use Rattle.std.proofs.Common.{sym, ap, ◌∙◌, subst, arith}
 use Rattle.irq_base.specs.declared.entries.Actor.{Actor}
 use Rattle.irq_base.specs.declared.entries.Actor.TheVariants as actors
 use Rattle.irq_base.specs.declared.entries.Entry.{Entry}
@@ -33,7 +35,8 @@ use Rattle.workers.proofs.Lists.{at_map, of_map, within}
 use Rattle.workers.proofs.Own.{own_are_seen, AreAlike, same_script}
 use Rattle.workers.proofs.Rooms.{room_after, room_as, room_from, same_room}
 
-same_defs : (seats : List SeatSeen) (lines : List LockSeen) → length seats ≡ length lines → ((i : ℕ) (s : SeatSeen) → slice_get seats i ≡ Some s → IsSomeAnd (slice_get lines i) (λ l. s.pass.def ≡ l.def))
+same_defs : (seats : List SeatSeen) (lines : List LockSeen) → length seats ≡ length lines
+    → ((i : ℕ) (s : SeatSeen) → slice_get seats i ≡ Some s → IsSomeAnd (slice_get lines i) (λ l. s.pass.def ≡ l.def))
     → map (λ (x : BoardLine). x.def) (own_lines seats) ≡ map (λ (l : LockSeen). l.def) lines
 same_defs [] [] long each = refl
 same_defs [] (l ∷ ls) long each = absurd (omega (arith, long))
@@ -62,13 +65,15 @@ module _ (board : BoardSeen) (lines : List LockSeen) (boards : AreBoards board l
   among : AreAmong lines (own_lines j.seats)
   among i x at = let s = of_map own_line j.seats i x at in by_line s.0 s.2 (slice_get lines i) refl (line_at i s.0 s.1)
     where
-      by_line : (s : SeatSeen) → own_line s ≡ x → (o : Option LockSeen) → slice_get lines i ≡ o → IsSomeAnd o (λ l. Sits l j.actor s) → (l : LockSeen) × (slice_get lines i ≡ Some l) × (x.def ≡ l.def)
+      by_line : (s : SeatSeen) → own_line s ≡ x → (o : Option LockSeen) → slice_get lines i ≡ o
+          → IsSomeAnd o (λ l. Sits l j.actor s) → (l : LockSeen) × (slice_get lines i ≡ Some l) × (x.def ≡ l.def)
       by_line s is None at_line sits = absurd sits
       by_line s is (Some l) at_line sits = (l, at_line, ap (λ (y : BoardLine). y.def) (sym is) ∙ sits.of_line.1)
 
   -- the driver goes to its next call
   pub next_driven : (q : ℕ) (now : JobSeen) → now ≡ record j { at = q } → j.at ≤ q → q ≤ length board.calls
-      → ((k : ℕ) (c : ScriptCall) → j.at ≤ k → k < q → slice_get board.calls k ≡ Some c → c.driver ≡ r → IsPlaceOf lines c.line None) → IsDriven board lines r now
+      → ((k : ℕ) (c : ScriptCall) → j.at ≤ k → k < q → slice_get board.calls k ≡ Some c → c.driver ≡ r
+      → IsPlaceOf lines c.line None) → IsDriven board lines r now
   next_driven q now is from few passed =
       subst (λ (x : JobSeen). IsDriven board lines r x) (sym is)
       (record {
@@ -82,12 +87,16 @@ module _ (board : BoardSeen) (lines : List LockSeen) (boards : AreBoards board l
 
   -- ---- a try at the current call
 
-  module _ (isb : IsBoard board) (c : ScriptCall) (at_p : slice_get board.calls j.at ≡ Some c) (mine : c.driver ≡ r) (place : ℕ) (place_is : IsPlaceOf lines c.line (Some place)) (turn : Turn) (mid : JobSeen) (s : StepsSeat lines place turn j mid) where
+  module _ (isb : IsBoard board) (c : ScriptCall) (at_p : slice_get board.calls j.at ≡ Some c) (mine : c.driver ≡ r)
+      (place : ℕ) (place_is : IsPlaceOf lines c.line (Some place)) (turn : Turn) (mid : JobSeen)
+      (s : StepsSeat lines place turn j mid) where
     line_is : s.line.def.line ≡ c.line
-    line_is = subst (λ (o : Option LockSeen). IsSomeAnd o (λ l. l.def.line ≡ c.line)) (ap (λ (n : ℕ). slice_get lines n) (sym (k_is place)) ∙ s.at_line) place_is
+    line_is = subst (λ (o : Option LockSeen). IsSomeAnd o (λ l. l.def.line ≡ c.line))
+        (ap (λ (n : ℕ). slice_get lines n) (sym (k_is place)) ∙ s.at_line) place_is
 
     seat_def : s.seat.pass.def ≡ s.line.def
-    seat_def = (subst (λ (o : Option LockSeen). IsSomeAnd o (λ l. Sits l j.actor s.seat)) (ap (λ (n : ℕ). slice_get lines n) (sym (k_is place)) ∙ s.at_line) (line_at place s.seat s.at_seat)).of_line.1
+    seat_def = (subst (λ (o : Option LockSeen). IsSomeAnd o (λ l. Sits l j.actor s.seat))
+        (ap (λ (n : ℕ). slice_get lines n) (sym (k_is place)) ∙ s.at_line) (line_at place s.seat s.at_seat)).of_line.1
 
     seats_are : mid.seats ≡ set j.seats place s.after
     seats_are = ap (λ (x : JobSeen). x.seats) s.is
@@ -108,7 +117,8 @@ module _ (board : BoardSeen) (lines : List LockSeen) (boards : AreBoards board l
     driver_rests not =
         record {
           keeps = keeps_seats lines place turn j mid d.seated s;
-          up_to = subst (λ (n : ℕ). IsUpTo board.calls (own_lines mid.seats) r n) (sym at_is) (same_script board.calls (own_lines mid.seats) (own_lines j.seats) r j.at alike d.up_to);
+          up_to = subst (λ (n : ℕ). IsUpTo board.calls (own_lines mid.seats) r n) (sym at_is)
+              (same_script board.calls (own_lines mid.seats) (own_lines j.seats) r j.at alike d.up_to);
           within = let w = d.within in omega (arith, w, at_is);
           rests = λ is. inr (waits is);
           full = full_is_so lines place turn j mid s;
@@ -121,10 +131,14 @@ module _ (board : BoardSeen) (lines : List LockSeen) (boards : AreBoards board l
         alike : AreAlike r (own_lines mid.seats) (own_lines j.seats)
         alike k x at =
             let t = of_map own_line mid.seats k x at in
-            subst (λ (y : BoardLine). (z : BoardLine) × (slice_get (own_lines j.seats) k ≡ Some z) × (y.def ≡ z.def) × (entries_by r y.past ≡ entries_by r z.past)) t.2
+            subst (λ (y : BoardLine). (z : BoardLine) × (slice_get (own_lines j.seats) k ≡ Some z) × (y.def ≡ z.def)
+            × (entries_by r y.past ≡ entries_by r z.past)) t.2
             (by_place t.0 (seat_now lines place turn j mid s k t.0 t.1))
           where
-            by_place : (t : SeatSeen) → ((k ≡ place) × (t ≡ s.after)) ⊎ ((k ≡ place → ⊥) × (slice_get j.seats k ≡ Some t)) → (z : BoardLine) × (slice_get (own_lines j.seats) k ≡ Some z) × (t.pass.def ≡ z.def) × (entries_by r (own_past t.pass.knows.mine) ≡ entries_by r z.past)
+            by_place : (t : SeatSeen) → ((k ≡ place) × (t ≡ s.after))
+                ⊎ ((k ≡ place → ⊥) × (slice_get j.seats k ≡ Some t))
+                → (z : BoardLine) × (slice_get (own_lines j.seats) k ≡ Some z) × (t.pass.def ≡ z.def)
+                × (entries_by r (own_past t.pass.knows.mine) ≡ entries_by r z.past)
             by_place t (inl here) = (
               own_line s.seat,
               ap (λ (n : ℕ). slice_get (own_lines j.seats) n) here.0 ∙ at_y,
@@ -144,10 +158,12 @@ module _ (board : BoardSeen) (lines : List LockSeen) (boards : AreBoards board l
               own = mine;
               at_seat = seat_there lines place turn j mid s;
               line = ap (λ (x : LineDef). x.line) s.sits.of_line.1 ∙ line_is;
-              rests = subst (λ (x : LineDef). IsIdle x (actors.Driver r) s.after.pass.knows) (sym s.sits.of_line.1) (subst (λ (a : Actor). IsIdle s.line.def a s.after.pass.knows) d.actor idle);
+              rests = subst (λ (x : LineDef). IsIdle x (actors.Driver r) s.after.pass.knows) (sym s.sits.of_line.1)
+                  (subst (λ (a : Actor). IsIdle s.line.def a s.after.pass.knows) d.actor idle);
             }
 
-    pub driver_moved : (e : Entry) → turn ≡ turns.Moved e → (last : Bool) → completes c.call e ≡ last → (new : JobSeen) → new ≡ record mid { at = cond last (mid.at + 1) mid.at } → TurnsDriver board lines r (turns.Moved e) j new
+    pub driver_moved : (e : Entry) → turn ≡ turns.Moved e → (last : Bool) → completes c.call e ≡ last → (new : JobSeen)
+        → new ≡ record mid { at = cond last (mid.at + 1) mid.at } → TurnsDriver board lines r (turns.Moved e) j new
     driver_moved e is last is_l new now =
         record {
           keeps = subst (λ (x : JobSeen). KeepsSeats lines j x) (sym now) (same_seats (keeps_seats lines place turn j mid d.seated s));
@@ -157,7 +173,8 @@ module _ (board : BoardSeen) (lines : List LockSeen) (boards : AreBoards board l
           within = let w = within board.calls j.at c at_p in let n = ap (λ (x : JobSeen). x.at) now in fits last n w;
           rests = λ h. cc;
           full = tt;
-          room = room_as (turns.Moved e) j mid new (ap (λ (x : JobSeen). x.seats) now) (subst (λ (t : Turn). RoomAfter t j mid) is (room_after lines place turn j mid d.seated s));
+          room = room_as (turns.Moved e) j mid new (ap (λ (x : JobSeen). x.seats) now)
+              (subst (λ (t : Turn). RoomAfter t j mid) is (room_after lines place turn j mid d.seated s));
         }
       where
         same_seats : KeepsSeats lines j mid → KeepsSeats lines j (record mid { at = cond last (mid.at + 1) mid.at })
@@ -168,25 +185,32 @@ module _ (board : BoardSeen) (lines : List LockSeen) (boards : AreBoards board l
         fits false n w = omega (arith, n, w, at_is)
 
         gains : Gains s.line.def j.actor s.seat.pass.knows e s.after.pass.knows
-        gains = (subst (λ (t : Result (Option Entry) StepRefused). Tries s.line.def j.actor s.seat.pass.knows t s.after.pass.knows) (moved_is s.line.def.line e s.tried (sym is ∙ s.told)) s.tries).came
+        gains = (subst (λ (t : Result (Option Entry) StepRefused). Tries s.line.def j.actor s.seat.pass.knows t
+            s.after.pass.knows) (moved_is s.line.def.line e s.tried (sym is ∙ s.told)) s.tries).came
 
         due : next s.seat.pass.def gains.history (actors.Driver r) ≡ Some e
-        due = ap (λ (x : LineDef). next x gains.history (actors.Driver r)) seat_def ∙ (ap (λ (a : Actor). next s.line.def gains.history a) (sym d.actor) ∙ gains.due)
+        due = ap (λ (x : LineDef). next x gains.history (actors.Driver r)) seat_def
+            ∙ (ap (λ (a : Actor). next s.line.def gains.history a) (sym d.actor) ∙ gains.due)
 
         own : entries_by r (own_past s.seat.pass.knows.mine) ≡ entries_by r (reverse gains.history)
-        own = own_are_seen s.line.def.line r gains.history s.seat.pass.knows.mine (gains.own ∙ ap (λ (a : Actor). placed s.line.def.line a gains.history) d.actor)
+        own = own_are_seen s.line.def.line r gains.history s.seat.pass.knows.mine
+            (gains.own ∙ ap (λ (a : Actor). placed s.line.def.line a gains.history) d.actor)
 
         up : IsUpTo board.calls (lines_after (s.seat.pass.def.line, e) (own_lines j.seats)) r (cond last (j.at + 1) j.at)
         up = up_after board isb (own_lines j.seats) own_defs r j.at d.up_to c at_p mine place (own_line s.seat) at_y y_line gains.history e due own last is_l
 
         after : IsUpTo board.calls (own_lines (set j.seats place s.after)) r (cond last (j.at + 1) j.at)
         after =
-            same_script board.calls (own_lines (set j.seats place s.after)) (lines_after (s.seat.pass.def.line, e) (own_lines j.seats)) r (cond last (j.at + 1) j.at)
-            (alike_after j.seats (subst AreApart (sym own_defs) (apart_defs board isb)) place s.seat s.after s.at_seat after_def e (own_more s.seat.pass.knows.mine s.after.pass.knows.mine (length gains.history) e gains.mine) r) up
+            same_script board.calls (own_lines (set j.seats place s.after))
+            (lines_after (s.seat.pass.def.line, e) (own_lines j.seats)) r (cond last (j.at + 1) j.at)
+            (alike_after j.seats (subst AreApart (sym own_defs) (apart_defs board isb)) place s.seat s.after s.at_seat
+            after_def e (own_more s.seat.pass.knows.mine s.after.pass.knows.mine (length gains.history) e
+            gains.mine) r) up
 
 -- ---- a whole turn
 
-module _ (board : BoardSeen) (lines : List LockSeen) (boards : AreBoards board lines) (r : DriverNo) (j now : JobSeen) (d : IsDriven board lines r j) (q : ℕ) (is : now ≡ record j { at = q }) where
+module _ (board : BoardSeen) (lines : List LockSeen) (boards : AreBoards board lines) (r : DriverNo) (j now : JobSeen)
+    (d : IsDriven board lines r j) (q : ℕ) (is : now ≡ record j { at = q }) where
   same_seats : KeepsSeats lines j now
   same_seats = subst (λ (x : JobSeen). KeepsSeats lines j x) (sym is) (record { actor = refl; first = refl; as_many = refl; seated = d.seated })
 
@@ -209,4 +233,13 @@ module _ (board : BoardSeen) (lines : List LockSeen) (boards : AreBoards board l
   pub driver_turned : (turn : Turn) (new : JobSeen) (s : DriverNo) → s ≡ r → TurnsDriver board lines s turn now new → TurnsDriver board lines r turn j new
   driver_turned turn new s same t =
       subst (λ (x : DriverNo). TurnsDriver board lines x turn j new) same
-      (record { keeps = keeps_on lines j now new same_seats t.keeps; up_to = t.up_to; within = t.within; rests = t.rests; full = t.full; room = room_from turn j now new (same_room j now (ap (λ (x : JobSeen). x.seats) is)) t.room })
+      (record {
+        keeps = keeps_on lines j now new same_seats t.keeps;
+        up_to = t.up_to;
+        within = t.within;
+        rests
+            = t.rests;
+        full = t.full;
+        room = room_from turn j now new (same_room j now (ap (λ (x : JobSeen). x.seats) is))
+            t.room;
+      })

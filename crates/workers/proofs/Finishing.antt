@@ -1,5 +1,7 @@
 -- The lines come out of their locks.
-use Rattle.std.proofs.Common.{◌≡◌, ℕ, suc, ◌+◌, ◌<◌, inl, inr, Bool, true, false, cond, IsSomeAnd, Option, Some, None, Result, Ok, Err, IfOk, List, [], ◌∷◌, ◌++◌, map, filter, length, get_or, take, reverse, ◌&&◌, slice_get, refl, sym, ap, ◌∙◌, subst, arith, append-nil, append_assoc}
+use Rattle.std.proofs.Common.{◌≡◌, ℕ, suc, ◌+◌, ◌<◌, inl, inr, Bool, true, false, cond, IsSomeAnd, Option, Some, None}
+use Rattle.std.proofs.Common.{Result, Ok, Err, IfOk, List, [], ◌∷◌, ◌++◌, map, filter, length, get_or, take, reverse}
+use Rattle.std.proofs.Common.{◌&&◌, slice_get, refl, sym, ap, ◌∙◌, subst, arith, append-nil, append_assoc}
 use Rattle.std.proofs.lemmas.Bool.{false≢true, false_from_ne_true}
 use Rattle.std.proofs.lemmas.List.{reverse-append, reverse-reverse}
 use Rattle.irq_base.specs.declared.calls.Call.{Call}
@@ -49,34 +51,41 @@ pub none_finished : (all left : List PassSeen) → left ≡ reverse all → AreF
 none_finished all left is =
     record { done = []; split = sym (ap reverse is ∙ reverse-reverse all); count = refl; are = refl; sound = λ i x at. cc }
 
-module _ (all : List PassSeen) (n : ℕ) (left before : List PassSeen) (lines : List LineSeen) (p : PassSeen) (f : AreFinishing all n left lines) (popped : left ≡ before ++ p ∷ []) where
+module _ (all : List PassSeen) (n : ℕ) (left before : List PassSeen) (lines : List LineSeen) (p : PassSeen)
+    (f : AreFinishing all n left lines) (popped : left ≡ before ++ p ∷ []) where
   next : all ≡ f.done ++ p ∷ reverse before
   next = f.split ∙ ap (λ (ps : List PassSeen). f.done ++ ps) (ap reverse popped ∙ reverse-append before (p ∷ []))
 
   pub pass_next : slice_get all n ≡ Some p
-  pass_next = ap (λ (ps : List PassSeen). slice_get ps n) next ∙ (ap (λ (i : ℕ). slice_get (f.done ++ p ∷ reverse before) i) (sym f.count) ∙ behind f.done p (reverse before))
+  pass_next = ap (λ (ps : List PassSeen). slice_get ps n) next
+      ∙ (ap (λ (i : ℕ). slice_get (f.done ++ p ∷ reverse before) i) (sym f.count) ∙ behind f.done p (reverse before))
     where
       behind : (xs : List PassSeen) (y : PassSeen) (ys : List PassSeen) → slice_get (xs ++ y ∷ ys) (length xs) ≡ Some y
       behind [] y ys = refl
       behind (x ∷ xs) y ys = behind xs y ys
 
-  pub finished_more : (x : LineSeen) (more : List LineSeen) → more ≡ lines ++ x ∷ [] → x.def ≡ p.def → x.entries ≡ p.knows.seen → IsSound x → AreFinishing all (n + 1) before more
+  pub finished_more : (x : LineSeen) (more : List LineSeen) → more ≡ lines ++ x ∷ [] → x.def ≡ p.def
+      → x.entries ≡ p.knows.seen → IsSound x → AreFinishing all (n + 1) before more
   finished_more x more is def entries sound =
       record {
         done = f.done ++ p ∷ [];
         split = next ∙ sym (append_assoc f.done (p ∷ []) (reverse before));
         count = let c = f.count in let l = length_snoc f.done p in omega (arith, c, l);
-        are = ap board_lines is ∙ (map_more board_line lines x ∙ (ap (λ (xs : List BoardLine). xs ++ board_line x ∷ []) f.are ∙ (ap (λ (y : BoardLine). seen_lines f.done ++ y ∷ []) line_is ∙ sym (map_more seen_line f.done p))));
+        are = ap board_lines is ∙ (map_more board_line lines x
+            ∙ (ap (λ (xs : List BoardLine). xs ++ board_line x ∷ []) f.are
+            ∙ (ap (λ (y : BoardLine). seen_lines f.done ++ y ∷ []) line_is ∙ sym (map_more seen_line f.done p))));
         sound = subst AreSound (sym is) each;
       }
     where
       line_is : board_line x ≡ seen_line p
-      line_is = ap (λ (d : LineDef). record { def = d; past = reverse x.entries }) def ∙ ap (λ (es : List Entry). record { def = p.def; past = reverse es }) entries
+      line_is = ap (λ (d : LineDef). record { def = d; past = reverse x.entries }) def
+          ∙ ap (λ (es : List Entry). record { def = p.def; past = reverse es }) entries
 
       each : AreSound (lines ++ x ∷ [])
       each i y at = elim (at_snoc lines x i y at) [ inl old ↦ f.sound i y old | inr new ↦ subst IsSound new.1 sound ]
 
-pub final_here : (lines : List LockSeen) (firsts : List PassSeen) (n : ℕ) (p : PassSeen) (l : LockSeen) → AreFinal lines firsts → slice_get firsts n ≡ Some p → n < length lines → l ≡ get_or lines n l → IsFinal l p
+pub final_here : (lines : List LockSeen) (firsts : List PassSeen) (n : ℕ) (p : PassSeen) (l : LockSeen)
+    → AreFinal lines firsts → slice_get firsts n ≡ Some p → n < length lines → l ≡ get_or lines n l → IsFinal l p
 final_here lines firsts n p l are at less is =
     subst (λ (o : Option LockSeen). IsSomeAnd o (λ l. IsFinal l p)) (there_or lines n l less ∙ ap (λ (x : LockSeen). Some x) (sym is)) (are.each n p at)
 
@@ -88,7 +97,8 @@ some_left all n left lines f less none =
     let l = ap (λ (ps : List PassSeen). length ps) e in
     omega (arith, c, l, less)
 
-pub all_finished : (all : List PassSeen) (n : ℕ) (left : List PassSeen) (lines : List LineSeen) → AreFinishing all n left lines → n ≡ length all → board_lines lines ≡ seen_lines all
+pub all_finished : (all : List PassSeen) (n : ℕ) (left : List PassSeen) (lines : List LineSeen)
+    → AreFinishing all n left lines → n ≡ length all → board_lines lines ≡ seen_lines all
 all_finished all n left lines f whole = f.are ∙ ap seen_lines (sym (f.split ∙ (ap (λ (ps : List PassSeen). f.done ++ ps) rest ∙ append-nil f.done)))
   where
     longer : (xs ys : List PassSeen) → length (xs ++ ys) ≡ length xs + length ys
@@ -96,7 +106,8 @@ all_finished all n left lines f whole = f.are ∙ ap seen_lines (sym (f.split �
     longer (x ∷ xs) ys = let l = longer xs ys in omega (arith, l)
 
     rest : reverse left ≡ []
-    rest = none_left (reverse left) (let a = ap (λ (ps : List PassSeen). length ps) f.split in let b = longer f.done (reverse left) in let c = f.count in omega (arith, a, b, c, whole))
+    rest = none_left (reverse left) (let a = ap (λ (ps : List PassSeen). length ps) f.split in
+        let b = longer f.done (reverse left) in let c = f.count in omega (arith, a, b, c, whole))
 
 -- ---- before and after all jobs
 
@@ -126,14 +137,22 @@ gathers_first lines s fit =
       out = λ k p at. by_line k p (slice_get lines k) (fit.firsts.each k p at);
       drivers = λ r declared. inl
           (ap (λ (xs : List Actor). is_among (actors.Driver r) xs) fit.actors
-          ∙ among_right (actors.Driver r) (map (λ (x : DeviceDef). actors.Thread x.line x.dev) (filter (has_worker lines) s.board.devices)) (cpus_of s.board ++ drivers_of s.board) (among_right (actors.Driver r) (cpus_of s.board) (drivers_of s.board) (driver_among r s.board.drivers declared)));
+          ∙ among_right (actors.Driver r) (map (λ (x : DeviceDef). actors.Thread x.line x.dev)
+          (filter (has_worker lines) s.board.devices)) (cpus_of s.board ++ drivers_of s.board)
+          (among_right (actors.Driver r) (cpus_of s.board) (drivers_of s.board)
+          (driver_among r s.board.drivers declared)));
     }
   where
     by_line : (k : ℕ) (p : PassSeen) (o : Option LockSeen) → IsSomeAnd o (λ l. IsFirst l (actors_on k s.jobs) p) → AreOut s.jobs k p
     by_line k p None is = absurd is
-    by_line k p (Some l) is = record { given = λ who h. ap (λ (xs : List Actor). is_among who xs) (is.given ∙ sym is.out) ∙ h; out = λ who h. ap (λ (xs : List Actor). is_among who xs) (sym is.out) ∙ h }
+    by_line k p (Some l) is = record {
+      given = λ who h. ap (λ (xs : List Actor). is_among who xs)
+          (is.given ∙ sym is.out) ∙ h;
+      out = λ who h. ap (λ (xs : List Actor). is_among who xs) (sym is.out) ∙ h;
+    }
 
-pub are_final : (board : BoardSeen) (lines : List LockSeen) (firsts : List PassSeen) → AreHome lines firsts → Gathers board lines [] firsts → AreFinal lines firsts
+pub are_final : (board : BoardSeen) (lines : List LockSeen) (firsts : List PassSeen) → AreHome lines firsts
+    → Gathers board lines [] firsts → AreFinal lines firsts
 are_final board lines firsts home g = record { as_many = home.as_many; each = λ k p at. by_line k p (slice_get lines k) at (home.each k p at) }
   where
     nobody : (xs : List Actor) → ((who : Actor) → is_among who xs ≡ true → ⊥) → xs ≡ []
@@ -146,7 +165,9 @@ are_final board lines firsts home g = record { as_many = home.as_many; each = λ
 
 -- ---- what the lines are then
 
-pub are_kept : (board : BoardSeen) (locks : List LockSeen) (firsts : List PassSeen) (lines : List LineSeen) → IsBoard board → map (λ (l : LockSeen). l.def) locks ≡ defs_of board → AreHome locks firsts → Gathers board locks [] firsts
+pub are_kept : (board : BoardSeen) (locks : List LockSeen) (firsts : List PassSeen) (lines : List LineSeen)
+    → IsBoard board → map (λ (l : LockSeen). l.def) locks ≡ defs_of board → AreHome locks firsts
+    → Gathers board locks [] firsts
     → board_lines lines ≡ seen_lines firsts → AreSound lines → AreKept board (board_lines lines)
 are_kept board locks firsts lines isb defs home g are sound =
     record {
@@ -155,7 +176,9 @@ are_kept board locks firsts lines isb defs home g are sound =
       in_order = λ r. in_order r (has_driver board.drivers r) refl;
     }
   where
-    seen_defs : (ps : List PassSeen) (ls : List LockSeen) → length ps ≡ length ls → ((k : ℕ) (p : PassSeen) → slice_get ps k ≡ Some p → IsSomeAnd (slice_get ls k) (λ l. IsHome l p)) → map (λ (x : BoardLine). x.def) (seen_lines ps) ≡ map (λ (l : LockSeen). l.def) ls
+    seen_defs : (ps : List PassSeen) (ls : List LockSeen) → length ps ≡ length ls
+        → ((k : ℕ) (p : PassSeen) → slice_get ps k ≡ Some p → IsSomeAnd (slice_get ls k) (λ l. IsHome l p))
+        → map (λ (x : BoardLine). x.def) (seen_lines ps) ≡ map (λ (l : LockSeen). l.def) ls
     seen_defs [] [] long each = refl
     seen_defs [] (l ∷ ls) long each = absurd (omega (arith, long))
     seen_defs (p ∷ ps) [] long each = absurd (omega (arith, long))
@@ -167,19 +190,28 @@ are_kept board locks firsts lines isb defs home g are sound =
     legal i x at = let s = of_map board_line lines i x at in subst (λ (y : BoardLine). IsLegalPast y.def y.past) s.2 (sound i s.0 s.1).legal
 
     in_order : (r : DriverNo) (b : Bool) → has_driver board.drivers r ≡ b → (place : ℕ) × IsUpTo board.calls (board_lines lines) r place
-    in_order r true declared = subst (λ (ls : List BoardLine). (place : ℕ) × IsUpTo board.calls ls r place) (sym are) (elim (g.drivers r declared) [ inl among ↦ absurd (false≢true among) | inr back ↦ back.1 ])
+    in_order r true declared = subst (λ (ls : List BoardLine). (place : ℕ) × IsUpTo board.calls ls r place) (sym are)
+        (elim (g.drivers r declared) [ inl among ↦ absurd (false≢true among) | inr back ↦ back.1 ])
     in_order r false undeclared = (0, record { complete = complete; begun = begun })
       where
         no_call : (i : ℕ) (x : BoardLine) → slice_get (board_lines lines) i ≡ Some x → calls_by r x.def.calls ≡ []
         no_call i x at =
             none_left (calls_by r x.def.calls)
-            (calls_fit board i x.def (ap (λ (ds : List LineDef). slice_get ds i) (sym (ap (map (λ (x : BoardLine). x.def)) are ∙ (seen_defs firsts locks home.as_many home.each ∙ defs))) ∙ def_there (board_lines lines) i x at) r
+            (calls_fit board i x.def (ap (λ (ds : List LineDef). slice_get ds i)
+            (sym (ap (map (λ (x : BoardLine). x.def)) are ∙ (seen_defs firsts locks home.as_many home.each ∙ defs)))
+            ∙ def_there (board_lines lines) i x at) r
             ∙ none_of x.def.line board.calls (λ k c at. (isb.calls k c at).driver))
           where
-            none_of : (line : LineNo) (cs : List ScriptCall) → ((k : ℕ) (c : ScriptCall) → slice_get cs k ≡ Some c → has_driver board.drivers c.driver ≡ true) → calls_on line r cs ≡ 0
+            none_of : (line : LineNo) (cs : List ScriptCall)
+                → ((k : ℕ) (c : ScriptCall) → slice_get cs k ≡ Some c → has_driver board.drivers c.driver ≡ true)
+                → calls_on line r cs ≡ 0
             none_of line [] all = refl
             none_of line (c ∷ cs) all =
-                ap (λ (b : Bool). cond (same_line c.line line && b) (calls_on line r cs + 1) (calls_on line r cs)) (false_from_ne_true (same_driver r c.driver) (λ same. both_ways (has_driver board.drivers r) (ap (λ (d : DriverNo). has_driver board.drivers d) (driver_from_same r c.driver same) ∙ all 0 c refl) undeclared))
+                ap (λ (b : Bool). cond (same_line c.line line && b) (calls_on line r cs + 1) (calls_on line r cs))
+                (false_from_ne_true (same_driver r c.driver)
+                (λ same. both_ways (has_driver board.drivers r)
+                (ap (λ (d : DriverNo). has_driver board.drivers d) (driver_from_same r c.driver same)
+                ∙ all 0 c refl) undeclared))
                 ∙ (either (same_line c.line line) ∙ none_of line cs (λ k d at. all (suc k) d at))
               where
                 either : (b : Bool) → cond (b && false) (calls_on line r cs + 1) (calls_on line r cs) ≡ calls_on line r cs
@@ -187,13 +219,15 @@ are_kept board locks firsts lines isb defs home g are sound =
                 either false = refl
 
         complete : (i : ℕ) (x : BoardLine) → slice_get (board_lines lines) i ≡ Some x → completed x.def r x.past ≡ calls_on x.def.line r (take 0 board.calls)
-        complete i x at = ap (λ (cs : List Call). length (complete_of [] cs (entries_by r x.past))) (no_call i x at) ∙ sym (ap (λ (cs : List ScriptCall). calls_on x.def.line r cs) (nothing_taken board.calls))
+        complete i x at = ap (λ (cs : List Call). length (complete_of [] cs (entries_by r x.past))) (no_call i x at)
+            ∙ sym (ap (λ (cs : List ScriptCall). calls_on x.def.line r cs) (nothing_taken board.calls))
           where
             nothing_taken : (cs : List ScriptCall) → take 0 cs ≡ []
             nothing_taken [] = refl
             nothing_taken (c ∷ cs) = refl
 
-        begun : (i : ℕ) (x : BoardLine) (c : Call) (n : ℕ) → slice_get (board_lines lines) i ≡ Some x → due_call x.def r x.past ≡ Some (c, suc n) → IsSomeAnd (slice_get board.calls 0) (IsCallOn x.def.line r)
+        begun : (i : ℕ) (x : BoardLine) (c : Call) (n : ℕ) → slice_get (board_lines lines) i ≡ Some x
+            → due_call x.def r x.past ≡ Some (c, suc n) → IsSomeAnd (slice_get board.calls 0) (IsCallOn x.def.line r)
         begun i x c n at due = absurd (none_is_none (ap (λ (cs : List Call). due_of cs (entries_by r x.past)) (sym (no_call i x at)) ∙ due))
           where
             none_is_none : ◌≡◌ {A = Option (Call × ℕ)} None (Some (c, suc n)) → ⊥
@@ -202,16 +236,22 @@ are_kept board locks firsts lines isb defs home g are sound =
 -- ---- the same, as the code has it
 
 pub home_at : (lines here : List LockSeen) (s : JobsSeen) (firsts : List PassSeen) → here ≡ lines → firsts ≡ s.firsts → Fit lines s → AreHome here firsts
-home_at lines here s firsts same are fit = subst (λ (ls : List LockSeen). AreHome ls firsts) (sym same) (subst (λ (ps : List PassSeen). AreHome lines ps) (sym are) (are_home lines s fit))
+home_at lines here s firsts same are fit = subst (λ (ls : List LockSeen). AreHome ls firsts) (sym same)
+    (subst (λ (ps : List PassSeen). AreHome lines ps) (sym are) (are_home lines s fit))
 
-pub gathered : (lines here : List LockSeen) (s : JobsSeen) (jobs : List JobSeen) (firsts new : List PassSeen) → here ≡ lines → jobs ≡ s.jobs → firsts ≡ s.firsts → Fit lines s
+pub gathered : (lines here : List LockSeen) (s : JobsSeen) (jobs : List JobSeen) (firsts new : List PassSeen)
+    → here ≡ lines → jobs ≡ s.jobs → firsts ≡ s.firsts → Fit lines s
     → ((board : BoardSeen) → Gathers board here jobs firsts → Gathers board here [] new) → Gathers s.board here [] new
 gathered lines here s jobs firsts new same are_jobs are fit on =
     on s.board
     (subst (λ (ls : List LockSeen). Gathers s.board ls jobs firsts) (sym same)
-    (subst (λ (js : List JobSeen). Gathers s.board lines js firsts) (sym are_jobs) (subst (λ (ps : List PassSeen). Gathers s.board lines s.jobs ps) (sym are) (gathers_first lines s fit))))
+    (subst (λ (js : List JobSeen). Gathers s.board lines js firsts) (sym are_jobs)
+    (subst (λ (ps : List PassSeen). Gathers s.board lines s.jobs ps) (sym are) (gathers_first lines s fit))))
 
-pub kept_result : {A E : Type 0} (f : A → List LineSeen) (r : Result A E) (board : BoardSeen) (lines here : List LockSeen) (firsts : List PassSeen) → IsBoard board → here ≡ lines → map (λ (l : LockSeen). l.def) lines ≡ defs_of board → AreHome here firsts → Gathers board here [] firsts
+pub kept_result : {A E : Type 0} (f : A → List LineSeen) (r : Result A E) (board : BoardSeen)
+    (lines here : List LockSeen) (firsts : List PassSeen) → IsBoard board → here ≡ lines
+    → map (λ (l : LockSeen). l.def) lines ≡ defs_of board → AreHome here firsts → Gathers board here [] firsts
     → IfOk r (λ all. board_lines (f all) ≡ seen_lines firsts) → IfOk r (λ all. AreSound (f all)) → IfOk r (λ all. AreKept board (board_lines (f all)))
-kept_result f (Ok all) board lines here firsts isb same defs home g are sound = are_kept board here firsts (f all) isb (ap (map (λ (l : LockSeen). l.def)) same ∙ defs) home g are sound
+kept_result f (Ok all) board lines here firsts isb same defs home g are sound
+    = are_kept board here firsts (f all) isb (ap (map (λ (l : LockSeen). l.def)) same ∙ defs) home g are sound
 kept_result f (Err e) board lines here firsts isb same defs home g are sound = tt

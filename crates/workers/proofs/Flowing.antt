@@ -1,5 +1,7 @@
 -- A processor's tries keep that it has a flow in progress on one line at most.
-use Rattle.std.proofs.Common.{◌≡◌, ℕ, ◌+◌, ◌<◌, ◌⊎◌, inl, inr, Bool, true, false, ◌&&◌, ◌||◌, cond, IsSomeAnd, Option, Some, None, is_some, Result, Ok, Err, List, [], ◌∷◌, ◌++◌, length, map, reverse, slice_get, refl, sym, ap, ◌∙◌, subst, arith}
+use Rattle.std.proofs.Common.{◌≡◌, ℕ, ◌+◌, ◌<◌, ◌⊎◌, inl, inr, Bool, true, false, ◌&&◌, ◌||◌, cond, IsSomeAnd, Option}
+use Rattle.std.proofs.Common.{Some, None, is_some, Result, Ok, Err, List, [], ◌∷◌, ◌++◌, length, map, reverse}
+use Rattle.std.proofs.Common.{slice_get, refl, sym, ap, ◌∙◌, subst, arith}
 use Rattle.std.proofs.Math.ListN.{length-set}
 use Rattle.std.proofs.lemmas.List.{reverse-append}
 use Rattle.irq_base.specs.declared.entries.Actor.{Actor}
@@ -36,9 +38,11 @@ use Rattle.workers.proofs.Turning.{still_seated}
 -- one more entry of one's own
 pub own_more : (old new : List Placed) (n : ℕ) (e : Entry) → new ≡ old ++ record { place = n; entry = e } ∷ [] → own_past new ≡ e ∷ own_past old
 own_more old new n e is =
-    ap own_past is ∙ (ap reverse (map_more (λ (x : Placed). x.entry) old (record { place = n; entry = e })) ∙ reverse-append (map (λ (x : Placed). x.entry) old) (e ∷ []))
+    ap own_past is ∙ (ap reverse (map_more (λ (x : Placed). x.entry) old (record { place = n; entry = e }))
+    ∙ reverse-append (map (λ (x : Placed). x.entry) old) (e ∷ []))
 
-pub keeps_seats : (lines : List LockSeen) (place : ℕ) (turn : Turn) (old new : JobSeen) → AreSeated lines old → StepsSeat lines place turn old new → KeepsSeats lines old new
+pub keeps_seats : (lines : List LockSeen) (place : ℕ) (turn : Turn) (old new : JobSeen) → AreSeated lines old
+    → StepsSeat lines place turn old new → KeepsSeats lines old new
 keeps_seats lines place turn old new seated s =
     record {
       actor = ap (λ (j : JobSeen). j.actor) s.is;
@@ -48,10 +52,13 @@ keeps_seats lines place turn old new seated s =
     }
 
 -- the pass that was tried, and the others
-pub seat_now : (lines : List LockSeen) (place : ℕ) (turn : Turn) (old new : JobSeen) (s : StepsSeat lines place turn old new) (i : ℕ) (t : SeatSeen) → slice_get new.seats i ≡ Some t → ((i ≡ place) × (t ≡ s.after)) ⊎ ((i ≡ place → ⊥) × (slice_get old.seats i ≡ Some t))
+pub seat_now : (lines : List LockSeen) (place : ℕ) (turn : Turn) (old new : JobSeen)
+    (s : StepsSeat lines place turn old new) (i : ℕ) (t : SeatSeen) → slice_get new.seats i ≡ Some t
+    → ((i ≡ place) × (t ≡ s.after)) ⊎ ((i ≡ place → ⊥) × (slice_get old.seats i ≡ Some t))
 seat_now lines place turn old new s i t at = at_set old.seats place s.after i t (ap (λ (j : JobSeen). slice_get j.seats i) (sym s.is) ∙ at)
 
-pub seat_there : (lines : List LockSeen) (place : ℕ) (turn : Turn) (old new : JobSeen) (s : StepsSeat lines place turn old new) → slice_get new.seats place ≡ Some s.after
+pub seat_there : (lines : List LockSeen) (place : ℕ) (turn : Turn) (old new : JobSeen)
+    (s : StepsSeat lines place turn old new) → slice_get new.seats place ≡ Some s.after
 seat_there lines place turn old new s = ap (λ (j : JobSeen). slice_get j.seats place) s.is ∙ set_there old.seats place s.after s.seat s.at_seat
 
 -- a seat rests only if nothing was due
@@ -64,7 +71,9 @@ never_rests (Err refusals.NoMemory) not = refl
 pub full_is_so : (lines : List LockSeen) (place : ℕ) (turn : Turn) (old new : JobSeen) → StepsSeat lines place turn old new → FullIsSo new turn
 full_is_so lines place turn old new s = subst (λ (t : Turn). FullIsSo new t) (sym s.told) (by_tried s.tried s.tries)
   where
-    by_tried : (tried : Result (Option Entry) StepRefused) → Tries s.line.def old.actor s.seat.pass.knows tried s.after.pass.knows → FullIsSo new (turn_of s.line.def.line tried)
+    by_tried : (tried : Result (Option Entry) StepRefused)
+        → Tries s.line.def old.actor s.seat.pass.knows tried s.after.pass.knows
+        → FullIsSo new (turn_of s.line.def.line tried)
     by_tried (Ok (Some e)) t = tt
     by_tried (Ok None) t = tt
     by_tried (Err (refusals.Full len)) t =
@@ -74,7 +83,9 @@ full_is_so lines place turn old new s = subst (λ (t : Turn). FullIsSo new t) (s
           seat = s.after;
           at = seat_there lines place turn old new s;
           number = ap (λ (d : LineDef). d.line) def;
-          is = subst (λ (d : LineDef). IsFull d new.actor s.after.pass.knows) (sym def) (subst (λ (a : Actor). IsFull s.line.def a s.after.pass.knows) (sym (ap (λ (j : JobSeen). j.actor) s.is)) t.came.0);
+          is = subst (λ (d : LineDef). IsFull d new.actor s.after.pass.knows) (sym def)
+              (subst (λ (a : Actor). IsFull s.line.def a s.after.pass.knows) (sym (ap (λ (j : JobSeen). j.actor) s.is))
+              t.came.0);
           log = t.came.1 ∙ ap (λ (d : LineDef). d.log) (sym def);
         }
     by_tried (Err refusals.NoMemory) t = tt
@@ -94,7 +105,9 @@ not_yet_is n (Err (refusals.Full len)) is = cc
 not_yet_is n (Err refusals.NoMemory) is = cc
 
 -- without an entry the pass's own stay
-pub nothing_gained : (def : LineDef) (who : Actor) (n : LineNo) (old new : Known) (tried : Result (Option Entry) StepRefused) (turn : Turn) → turn ≡ turn_of n tried → ((e : Entry) → turn ≡ turns.Moved e → ⊥) → Tries def who old tried new → new.mine ≡ old.mine
+pub nothing_gained : (def : LineDef) (who : Actor) (n : LineNo) (old new : Known)
+    (tried : Result (Option Entry) StepRefused) (turn : Turn) → turn ≡ turn_of n tried
+    → ((e : Entry) → turn ≡ turns.Moved e → ⊥) → Tries def who old tried new → new.mine ≡ old.mine
 nothing_gained def who n old new (Ok (Some e)) turn told not t = absurd (not e told)
 nothing_gained def who n old new (Ok None) turn told not t = t.came.1
 nothing_gained def who n old new (Err (refusals.Full len)) turn told not t = t.came.2
@@ -115,16 +128,20 @@ closing def (entries.Take cpu way answer) is = absurd (let h : false ≡ true = 
 closing def e is = refl
 
 -- the flow after an entry that neither begins nor ends one
-flow_on : (def : LineDef) (e : Entry) (past : List Entry) (h c : Bool) → is_handle e ≡ h → closes def e ≡ c → h ≡ false → (c ≡ true → has_flow def (e ∷ past) ≡ false) × (c ≡ false → has_flow def (e ∷ past) ≡ has_flow def past)
+flow_on : (def : LineDef) (e : Entry) (past : List Entry) (h c : Bool) → is_handle e ≡ h → closes def e ≡ c → h ≡ false
+    → (c ≡ true → has_flow def (e ∷ past) ≡ false) × (c ≡ false → has_flow def (e ∷ past) ≡ has_flow def past)
 flow_on def e past h c is_h is_c none = (
-  (λ yes. ap (λ (b : Bool). is_some (cpu_of_handle (cond b (Some e) (last_before past)))) (ap (λ (b : Bool). b || closes def e) (is_h ∙ none) ∙ (is_c ∙ yes)) ∙ ap (λ (o : Option _). is_some o) (closing def e (is_c ∙ yes))),
+  (λ yes. ap (λ (b : Bool). is_some (cpu_of_handle (cond b (Some e) (last_before past))))
+      (ap (λ (b : Bool). b || closes def e) (is_h ∙ none) ∙ (is_c ∙ yes))
+      ∙ ap (λ (o : Option _). is_some o) (closing def e (is_c ∙ yes))),
   (λ no. ap (λ (b : Bool). is_some (cpu_of_handle (cond b (Some e) (last_before past)))) (ap (λ (b : Bool). b || closes def e) (is_h ∙ none) ∙ (is_c ∙ no))),
 )
   where
     last_before : List Entry → Option Entry
     last_before es = last_of (λ f. is_handle f || closes def f) es
 
-module _ (lines : List LockSeen) (place : ℕ) (old mid : JobSeen) (seated : AreSeated lines old) (one : HasOneFlow old) (its : HasItsFlow old) (free : (i : ℕ) → old.flow ≡ Some i → i ≡ place) where
+module _ (lines : List LockSeen) (place : ℕ) (old mid : JobSeen) (seated : AreSeated lines old) (one : HasOneFlow old)
+    (its : HasItsFlow old) (free : (i : ℕ) → old.flow ≡ Some i → i ≡ place) where
   others_flow : (i : ℕ) (t : SeatSeen) → (i ≡ place → ⊥) → slice_get old.seats i ≡ Some t → has_flow t.pass.def (own_past t.pass.knows.mine) ≡ false
   others_flow i t other at = one i t at (λ is. other (free i is))
 
@@ -155,7 +172,8 @@ module _ (lines : List LockSeen) (place : ℕ) (old mid : JobSeen) (seated : Are
           | inl here ↦
               let mine = nothing_gained s.line.def old.actor s.line.def.line s.seat.pass.knows s.after.pass.knows s.tried turn s.told not s.tries in
               ap (λ (x : SeatSeen). has_flow x.pass.def (own_past x.pass.knows.mine)) here.1
-              ∙ (ap (λ (d : LineDef). has_flow d (own_past s.after.pass.knows.mine)) (s.sits.of_line.1 ∙ sym seat_def) ∙ (ap (λ (ps : List Placed). has_flow s.seat.pass.def (own_past ps)) mine
+              ∙ (ap (λ (d : LineDef). has_flow d (own_past s.after.pass.knows.mine)) (s.sits.of_line.1 ∙ sym seat_def)
+              ∙ (ap (λ (ps : List Placed). has_flow s.seat.pass.def (own_past ps)) mine
               ∙ one place s.seat s.at_seat (λ is. none (ap (λ (j : JobSeen). j.flow) s.is ∙ (is ∙ ap (λ (k : ℕ). Some k) (sym here.0))))))
           | inr other ↦ others_flow i t other.0 other.1
         ]
@@ -182,7 +200,8 @@ module _ (lines : List LockSeen) (place : ℕ) (old mid : JobSeen) (seated : Are
               ap (λ (k : ℕ). slice_get mid.seats k) here ∙ seat_there lines place turn old mid s,
               s.rests ∙ never_rests s.tried (due at_place),
               ap (λ (d : LineDef). flow d (own_past s.after.pass.knows.mine)) (s.sits.of_line.1 ∙ sym seat_def)
-                  ∙ (ap (λ (ps : List Placed). flow s.seat.pass.def (own_past ps)) mine ∙ subst (λ (x : SeatSeen). IsInFlow x.pass.def f.0 x.pass.knows) same f.5),
+                  ∙ (ap (λ (ps : List Placed). flow s.seat.pass.def (own_past ps)) mine
+                  ∙ subst (λ (x : SeatSeen). IsInFlow x.pass.def f.0 x.pass.knows) same f.5),
             )
 
         rests : turn ≡ turns.NotYet → (t : SeatSeen) → slice_get mid.seats place ≡ Some t → t.rests ≡ true
@@ -195,7 +214,9 @@ module _ (lines : List LockSeen) (place : ℕ) (old mid : JobSeen) (seated : Are
         others i t apart at = elim (seat_now lines place turn old mid s i t at) [ inl here ↦ absurd (apart here.0) | inr other ↦ other.1 ]
 
   -- when an entry was added
-  pub cpu_moved : (e : Entry) (s : StepsSeat lines place (turns.Moved e) old mid) (w : FlowKind) (new : JobSeen) → w ≡ s.line.def.flow → new ≡ record mid { flow = flow_after w e place mid.flow } → StepsCpu lines place (turns.Moved e) old new
+  pub cpu_moved : (e : Entry) (s : StepsSeat lines place (turns.Moved e) old mid) (w : FlowKind) (new : JobSeen)
+      → w ≡ s.line.def.flow → new ≡ record mid { flow = flow_after w e place mid.flow }
+      → StepsCpu lines place (turns.Moved e) old new
   cpu_moved e s w new way is =
       let k = keeps_seats lines place (turns.Moved e) old mid seated s in
       record {
@@ -222,7 +243,8 @@ module _ (lines : List LockSeen) (place : ℕ) (old mid : JobSeen) (seated : Are
       others i t apart at = elim (seat_at i t at) [ inl here ↦ absurd (apart here.0) | inr other ↦ other.1 ]
 
       gains : Gains s.line.def old.actor s.seat.pass.knows e s.after.pass.knows
-      gains = (subst (λ (r : Result (Option Entry) StepRefused). Tries s.line.def old.actor s.seat.pass.knows r s.after.pass.knows) (moved_is s.line.def.line e s.tried s.told) s.tries).came
+      gains = (subst (λ (r : Result (Option Entry) StepRefused). Tries s.line.def old.actor s.seat.pass.knows r
+          s.after.pass.knows) (moved_is s.line.def.line e s.tried s.told) s.tries).came
 
       def_is : s.after.pass.def ≡ s.seat.pass.def
       def_is = s.sits.of_line.1 ∙ sym (seat_def (turns.Moved e) s)
@@ -231,24 +253,31 @@ module _ (lines : List LockSeen) (place : ℕ) (old mid : JobSeen) (seated : Are
       flow_is h c is_h is_c =
           ap (λ (j : JobSeen). j.flow) is
           ∙ (ap (λ (v : FlowKind). flow_after v e place mid.flow) (way ∙ ap (λ (d : LineDef). d.flow) (sym (seat_def (turns.Moved e) s)))
-          ∙ (ap (λ (b : Bool). cond b (Some place) (cond (closes s.seat.pass.def e) None mid.flow)) is_h ∙ (ap (λ (b : Bool). cond h (Some place) (cond b None mid.flow)) is_c ∙ ap (λ (j : JobSeen). cond h (Some place) (cond c None j.flow)) s.is)))
+          ∙ (ap (λ (b : Bool). cond b (Some place) (cond (closes s.seat.pass.def e) None mid.flow)) is_h
+          ∙ (ap (λ (b : Bool). cond h (Some place) (cond b None mid.flow)) is_c
+          ∙ ap (λ (j : JobSeen). cond h (Some place) (cond c None j.flow)) s.is)))
 
       past_is : own_past s.after.pass.knows.mine ≡ e ∷ own_past s.seat.pass.knows.mine
       past_is = own_more s.seat.pass.knows.mine s.after.pass.knows.mine (length gains.history) e gains.mine
 
-      here_flow : (h c : Bool) → is_handle e ≡ h → closes s.seat.pass.def e ≡ c → (new.flow ≡ Some place → ⊥) → has_flow s.seat.pass.def (e ∷ own_past s.seat.pass.knows.mine) ≡ false
+      here_flow : (h c : Bool) → is_handle e ≡ h → closes s.seat.pass.def e ≡ c → (new.flow ≡ Some place → ⊥)
+          → has_flow s.seat.pass.def (e ∷ own_past s.seat.pass.knows.mine) ≡ false
       here_flow true c is_h is_c none = absurd (none (flow_is true c is_h is_c))
       here_flow false true is_h is_c none = (flow_on s.seat.pass.def e (own_past s.seat.pass.knows.mine) false true is_h is_c refl).0 refl
-      here_flow false false is_h is_c none = (flow_on s.seat.pass.def e (own_past s.seat.pass.knows.mine) false false is_h is_c refl).1 refl ∙ one place s.seat s.at_seat (λ was. none (flow_is false false is_h is_c ∙ was))
+      here_flow false false is_h is_c none = (flow_on s.seat.pass.def e (own_past s.seat.pass.knows.mine) false false
+          is_h is_c refl).1 refl ∙ one place s.seat s.at_seat (λ was. none (flow_is false false is_h is_c ∙ was))
 
       flow_now : (h c : Bool) → is_handle e ≡ h → closes s.seat.pass.def e ≡ c → flow s.after.pass.def (own_past s.after.pass.knows.mine)
           ≡ cpu_of_handle (cond (h || c) (Some e) (last_of (λ f. is_handle f || closes s.seat.pass.def f) (own_past s.seat.pass.knows.mine)))
       flow_now h c is_h is_c =
-          ap (λ (d : LineDef). flow d (own_past s.after.pass.knows.mine)) def_is ∙ (ap (λ (es : List Entry). flow s.seat.pass.def es) past_is ∙ flow_by s.seat.pass.def e (own_past s.seat.pass.knows.mine) h c is_h is_c)
+          ap (λ (d : LineDef). flow d (own_past s.after.pass.knows.mine)) def_is
+          ∙ (ap (λ (es : List Entry). flow s.seat.pass.def es) past_is
+          ∙ flow_by s.seat.pass.def e (own_past s.seat.pass.knows.mine) h c is_h is_c)
 
       -- the pass that was tried, with such a flow
       its_at : (c : CpuNo) (i : ℕ) → i ≡ place → old.actor ≡ actors.Cpu c → flow s.after.pass.def (own_past s.after.pass.knows.mine) ≡ Some c
-          → (c : CpuNo) × (t : SeatSeen) × (new.actor ≡ actors.Cpu c) × (slice_get new.seats i ≡ Some t) × (t.rests ≡ false) × IsInFlow t.pass.def c t.pass.knows
+          → (c : CpuNo) × (t : SeatSeen) × (new.actor ≡ actors.Cpu c) × (slice_get new.seats i ≡ Some t)
+          × (t.rests ≡ false) × IsInFlow t.pass.def c t.pass.knows
       its_at c i here actor its_flow = (
         c,
         s.after,
@@ -261,10 +290,14 @@ module _ (lines : List LockSeen) (place : ℕ) (old mid : JobSeen) (seated : Are
       new_its : HasItsFlow new
       new_its i at = by_tests (is_handle e) (closes s.seat.pass.def e) refl refl
         where
-          by_tests : (h c : Bool) → is_handle e ≡ h → closes s.seat.pass.def e ≡ c → (c : CpuNo) × (t : SeatSeen) × (new.actor ≡ actors.Cpu c) × (slice_get new.seats i ≡ Some t) × (t.rests ≡ false) × IsInFlow t.pass.def c t.pass.knows
+          by_tests : (h c : Bool) → is_handle e ≡ h → closes s.seat.pass.def e ≡ c
+              → (c : CpuNo) × (t : SeatSeen) × (new.actor ≡ actors.Cpu c) × (slice_get new.seats i ≡ Some t)
+              × (t.rests ≡ false) × IsInFlow t.pass.def c t.pass.knows
           by_tests true c is_h is_c =
               let f = handle_cpu s.line.def.line e is_h in
-              its_at f.0 i (the_same i place (sym at ∙ flow_is true c is_h is_c)) (sym (due_is_own s.line.def gains.history old.actor e gains.due) ∙ f.2) (flow_now true c is_h is_c ∙ f.1)
+              its_at f.0 i (the_same i place (sym at ∙ flow_is true c is_h is_c))
+              (sym (due_is_own s.line.def gains.history old.actor e gains.due) ∙ f.2)
+              (flow_now true c is_h is_c ∙ f.1)
           by_tests false true is_h is_c = let n : Some i ≡ None = sym at ∙ flow_is false true is_h is_c in cc
           by_tests false false is_h is_c =
               let was : old.flow ≡ Some i = sym (flow_is false false is_h is_c) ∙ at in
@@ -296,7 +329,9 @@ not_yet_from turns.NotYet is = refl
 not_yet_from (turns.Full line len) is = cc
 not_yet_from turns.NoMemory is = cc
 
-pub rests_more : (lines : List LockSeen) (place : ℕ) (turn : Turn) (old new : JobSeen) → turn ≡ turns.NotYet → StepsCpu lines place turn old new → ((i : ℕ) (s : SeatSeen) → i < place → slice_get old.seats i ≡ Some s → s.rests ≡ true)
+pub rests_more : (lines : List LockSeen) (place : ℕ) (turn : Turn) (old new : JobSeen) → turn ≡ turns.NotYet
+    → StepsCpu lines place turn old new → ((i : ℕ) (s : SeatSeen) → i < place → slice_get old.seats i ≡ Some s
+    → s.rests ≡ true)
     → (i : ℕ) (s : SeatSeen) → i < place + 1 → slice_get new.seats i ≡ Some s → s.rests ≡ true
 rests_more lines place turn old new not s rest i t less at = elim (two i place less) [
   | inl before ↦ rest i t before (s.others i t (λ same. omega (arith, same, before)) at)

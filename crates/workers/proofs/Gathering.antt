@@ -1,5 +1,7 @@
 -- One job's passes come back.
-use Rattle.std.proofs.Common.{◌≡◌, ℕ, ◌+◌, ◌<◌, ◌≤◌, ◌⊎◌, inl, inr, Bool, true, false, ◌&&◌, cond, nat_le, nat_lt, IfSome, ◌-◌, IsSomeAnd, Option, Some, None, List, [], ◌∷◌, ◌++◌, map, length, reverse, slice_get, refl, sym, ap, ◌∙◌, subst, arith}
+use Rattle.std.proofs.Common.{◌≡◌, ℕ, ◌+◌, ◌<◌, ◌≤◌, ◌⊎◌, inl, inr, Bool, true, false, ◌&&◌, cond, nat_le, nat_lt}
+use Rattle.std.proofs.Common.{IfSome, ◌-◌, IsSomeAnd, Option, Some, None, List, [], ◌∷◌, ◌++◌, map, length, reverse}
+use Rattle.std.proofs.Common.{slice_get, refl, sym, ap, ◌∙◌, subst, arith}
 use Rattle.std.proofs.lemmas.Bool.{false≢true, and_parts}
 use Rattle.irq_base.specs.declared.entries.Actor.{Actor}
 use Rattle.irq_base.specs.declared.entries.Actor.TheVariants as actors
@@ -23,9 +25,14 @@ use Rattle.workers.proofs.Manning.{map_more}
 use Rattle.workers.proofs.Own.{own_are_seen, same_places, AreAlike, same_script}
 
 among_seen : (who a : Actor) (xs : List Actor) → is_among who (xs ++ a ∷ []) ≡ true → (same_actor a who ≡ false) → is_among who xs ≡ true
-among_seen who a xs is other = elim (among_either who a xs is) [ inl old ↦ old | inr same ↦ absurd (false≢true (sym other ∙ (ap (λ (x : Actor). same_actor a x) same ∙ same_self_actor a))) ]
+among_seen who a xs is other = elim (among_either who a xs is) [
+  | inl old ↦ old
+  | inr same ↦ absurd (false≢true (sym other
+      ∙ (ap (λ (x : Actor). same_actor a x) same ∙ same_self_actor a)))
+]
 
-module _ (board : BoardSeen) (lines : List LockSeen) (rest : List JobSeen) (j : JobSeen) (old new : List PassSeen) (m : IsMet lines j old new) (home : AreHome lines old) (g : Gathers board lines (rest ++ j ∷ []) old) where
+module _ (board : BoardSeen) (lines : List LockSeen) (rest : List JobSeen) (j : JobSeen) (old new : List PassSeen)
+    (m : IsMet lines j old new) (home : AreHome lines old) (g : Gathers board lines (rest ++ j ∷ []) old) where
   job : IsJob board lines j
   job = g.each (length rest) j (at_end rest j)
 
@@ -43,10 +50,13 @@ module _ (board : BoardSeen) (lines : List LockSeen) (rest : List JobSeen) (j : 
 
   module _ (k : ℕ) (p q : PassSeen) (one : HasMetOne lines j k q p) where
     sits : Sits one.line j.actor one.seat
-    sits = subst (λ (o : Option LockSeen). IsSomeAnd o (λ l. Sits l j.actor one.seat)) (ap (λ (i : ℕ). slice_get lines i) (sym one.is) ∙ one.at_line) (job.seated one.place one.seat one.at_seat)
+    sits = subst (λ (o : Option LockSeen). IsSomeAnd o (λ l. Sits l j.actor one.seat))
+        (ap (λ (i : ℕ). slice_get lines i) (sym one.is) ∙ one.at_line) (job.seated one.place one.seat one.at_seat)
 
     out_is : (a : Actor) → is_among a p.knows.out ≡ cond (same_actor j.actor a) false (is_among a q.knows.out)
-    out_is a = ap (λ (x : Known). is_among a x.out) one.met.whole ∙ (ap (λ (o : Option Actor). is_among a (without_of o q.knows.out)) sits.actor ∙ among_without a j.actor q.knows.out)
+    out_is a = ap (λ (x : Known). is_among a x.out) one.met.whole
+        ∙ (ap (λ (o : Option Actor). is_among a (without_of o q.knows.out)) sits.actor
+        ∙ among_without a j.actor q.knows.out)
 
     given_same : p.knows.given ≡ q.knows.given
     given_same = ap (λ (x : Known). x.given) one.met.whole
@@ -54,13 +64,15 @@ module _ (board : BoardSeen) (lines : List LockSeen) (rest : List JobSeen) (j : 
     out_before : (a : Actor) → is_among a p.knows.out ≡ true → (same_actor j.actor a ≡ false) × (is_among a q.knows.out ≡ true)
     out_before a is = by_test (same_actor j.actor a) refl (sym (out_is a) ∙ is)
       where
-        by_test : (b : Bool) → same_actor j.actor a ≡ b → cond b false (is_among a q.knows.out) ≡ true → (same_actor j.actor a ≡ false) × (is_among a q.knows.out ≡ true)
+        by_test : (b : Bool) → same_actor j.actor a ≡ b → cond b false (is_among a q.knows.out) ≡ true
+            → (same_actor j.actor a ≡ false) × (is_among a q.knows.out ≡ true)
         by_test true same is = cc
         by_test false other is = (other, is)
 
     -- the job works on the line
     works : works_on k j ≡ true
-    works = let w = within j.seats one.place one.seat one.at_seat in let e = one.is in both (nat_le j.first k) (nat_lt k (j.first + length j.seats)) (from e) (to w e)
+    works = let w = within j.seats one.place one.seat one.at_seat in let e = one.is in
+        both (nat_le j.first k) (nat_lt k (j.first + length j.seats)) (from e) (to w e)
       where
         both : (a b : Bool) → a ≡ true → b ≡ true → (a && b) ≡ true
         both true true x y = refl
@@ -74,9 +86,12 @@ module _ (board : BoardSeen) (lines : List LockSeen) (rest : List JobSeen) (j : 
         to w e = grind (arith, w, e)
 
     -- the job's actor is back
-    own_back : (is_among j.actor q.knows.out ≡ true → is_among j.actor q.knows.given ≡ true) → (is_among j.actor p.knows.given ≡ true) × (is_among j.actor p.knows.out ≡ false)
+    own_back : (is_among j.actor q.knows.out ≡ true → is_among j.actor q.knows.given ≡ true)
+        → (is_among j.actor p.knows.given ≡ true) × (is_among j.actor p.knows.out ≡ false)
     own_back given = (
-      ap (λ (xs : List Actor). is_among j.actor xs) given_same ∙ given (subst (λ (o : Option Actor). IfSome o (λ a. is_among a q.knows.out ≡ true)) sits.actor one.met.was_out),
+      ap (λ (xs : List Actor). is_among j.actor xs) given_same
+          ∙ given (subst (λ (o : Option Actor). IfSome o (λ a. is_among a q.knows.out ≡ true)) sits.actor
+          one.met.was_out),
       out_is j.actor ∙ ap (λ (b : Bool). cond b false (is_among j.actor q.knows.out)) (same_self_actor j.actor),
     )
 
@@ -92,12 +107,19 @@ module _ (board : BoardSeen) (lines : List LockSeen) (rest : List JobSeen) (j : 
           given = λ who is. ap (λ (xs : List Actor). is_among who xs) (given_same k p e.0 one) ∙ was.given who (out_before k p e.0 one who is).1;
           out = λ who is.
               let b = out_before k p e.0 one who is in
-              among_seen who j.actor (actors_on k rest) (ap (λ (xs : List Actor). is_among who xs) (sym (actors_more_on k rest j ∙ ap (λ (t : Bool). cond t (actors_on k rest ++ j.actor ∷ []) (actors_on k rest)) (works k p e.0 one))) ∙ was.out who b.1) b.0;
+              among_seen who j.actor (actors_on k rest)
+              (ap (λ (xs : List Actor). is_among who xs)
+              (sym (actors_more_on k rest j ∙ ap (λ (t : Bool). cond t (actors_on k rest ++ j.actor ∷ [])
+              (actors_on k rest)) (works k p e.0 one))) ∙ was.out who b.1) b.0;
         }
     | inr none ↦
         record {
-          given = λ who is. ap (λ (x : PassSeen). is_among who x.knows.given) none.1 ∙ was.given who (ap (λ (x : PassSeen). is_among who x.knows.out) (sym none.1) ∙ is);
-          out = λ who is. ap (λ (xs : List Actor). is_among who xs) (sym (actors_more_on k rest j ∙ ap (λ (t : Bool). cond t (actors_on k rest ++ j.actor ∷ []) (actors_on k rest)) (idle k none.0))) ∙ was.out who (ap (λ (x : PassSeen). is_among who x.knows.out) (sym none.1) ∙ is);
+          given = λ who is. ap (λ (x : PassSeen). is_among who x.knows.given) none.1
+              ∙ was.given who (ap (λ (x : PassSeen). is_among who x.knows.out) (sym none.1) ∙ is);
+          out = λ who is. ap (λ (xs : List Actor). is_among who xs)
+              (sym (actors_more_on k rest j ∙ ap (λ (t : Bool). cond t (actors_on k rest ++ j.actor ∷ [])
+              (actors_on k rest)) (idle k none.0))) ∙ was.out who
+              (ap (λ (x : PassSeen). is_among who x.knows.out) (sym none.1) ∙ is);
         }
   ]
     where
@@ -115,28 +137,42 @@ module _ (board : BoardSeen) (lines : List LockSeen) (rest : List JobSeen) (j : 
 
   -- ---- drivers that were back
 
-  back_still : (r : DriverNo) → IsBack old r → ((place : ℕ) × IsUpTo board.calls (seen_lines old) r place) → IsBack new r × ((place : ℕ) × IsUpTo board.calls (seen_lines new) r place)
+  back_still : (r : DriverNo) → IsBack old r → ((place : ℕ) × IsUpTo board.calls (seen_lines old) r place)
+      → IsBack new r × ((place : ℕ) × IsUpTo board.calls (seen_lines new) r place)
   back_still r back up = (back_new, (up.0, same_script board.calls (seen_lines new) (seen_lines old) r up.0 alike up.1))
     where
       back_new : IsBack new r
       back_new k p at = let e = m.each k p at in let was = back k e.0 e.1 in elim e.2 [
-        | inl one ↦ (ap (λ (xs : List Actor). is_among (actors.Driver r) xs) (given_same k p e.0 one) ∙ was.0, out_is k p e.0 one (actors.Driver r) ∙ (ap (λ (b : Bool). cond (same_actor j.actor (actors.Driver r)) false b) was.1 ∙ either (same_actor j.actor (actors.Driver r))))
-        | inr none ↦ (ap (λ (x : PassSeen). is_among (actors.Driver r) x.knows.given) none.1 ∙ was.0, ap (λ (x : PassSeen). is_among (actors.Driver r) x.knows.out) none.1 ∙ was.1)
+        | inl one ↦ (
+          ap (λ (xs : List Actor). is_among (actors.Driver r) xs) (given_same k p e.0 one)
+              ∙ was.0,
+          out_is k p e.0 one (actors.Driver r)
+              ∙ (ap (λ (b : Bool). cond (same_actor j.actor (actors.Driver r)) false b) was.1
+              ∙ either (same_actor j.actor (actors.Driver r))),
+        )
+        | inr none ↦ (
+          ap (λ (x : PassSeen). is_among (actors.Driver r) x.knows.given) none.1
+              ∙ was.0,
+          ap (λ (x : PassSeen). is_among (actors.Driver r) x.knows.out) none.1 ∙ was.1,
+        )
       ]
         where
           either : (b : Bool) → cond b false false ≡ false
           either true = refl
           either false = refl
 
-      places : (k : ℕ) (p q : PassSeen) → slice_get old k ≡ Some q → HasMetOne lines j k q p ⊎ HasMetNone j k q p → entries_by r (reverse p.knows.seen) ≡ entries_by r (reverse q.knows.seen)
-      places k p q at (inl one) = let was = back k q at in same_places one.line.def.line r p.knows.seen q.knows.seen (one.met.settled (actors.Driver r) was.0 was.1)
+      places : (k : ℕ) (p q : PassSeen) → slice_get old k ≡ Some q → HasMetOne lines j k q p ⊎ HasMetNone j k q p
+          → entries_by r (reverse p.knows.seen) ≡ entries_by r (reverse q.knows.seen)
+      places k p q at (inl one) = let was = back k q at in
+          same_places one.line.def.line r p.knows.seen q.knows.seen (one.met.settled (actors.Driver r) was.0 was.1)
       places k p q at (inr none) = ap (λ (x : PassSeen). entries_by r (reverse x.knows.seen)) none.1
 
       alike : AreAlike r (seen_lines new) (seen_lines old)
       alike k x at =
           let s = of_map seen_line new k x at in
           let e = m.each k s.0 s.1 in
-          subst (λ (y : BoardLine). (z : BoardLine) × (slice_get (seen_lines old) k ≡ Some z) × (y.def ≡ z.def) × (entries_by r y.past ≡ entries_by r z.past)) s.2
+          subst (λ (y : BoardLine). (z : BoardLine) × (slice_get (seen_lines old) k ≡ Some z) × (y.def ≡ z.def)
+          × (entries_by r y.past ≡ entries_by r z.past)) s.2
           (seen_line e.0, at_map seen_line old k e.0 e.1, same_def k s.0 e.0 s.1 e.1, places k s.0 e.0 e.1 e.2)
 
   -- ---- the job's own driver
@@ -158,14 +194,17 @@ module _ (board : BoardSeen) (lines : List LockSeen) (rest : List JobSeen) (j : 
         let b = own_back k p e.0 (every k p e.0 at e.2) (λ is. (g.out k e.0 e.1).given j.actor is) in
         subst (λ (a : Actor). (is_among a p.knows.given ≡ true) × (is_among a p.knows.out ≡ false)) (sym its) b
 
-    own_at : (k : ℕ) (p q : PassSeen) → slice_get new k ≡ Some p → HasMetOne lines j k q p → (z : BoardLine) × (slice_get (own_lines j.seats) k ≡ Some z) × (p.def ≡ z.def) × (entries_by r (reverse p.knows.seen) ≡ entries_by r z.past)
+    own_at : (k : ℕ) (p q : PassSeen) → slice_get new k ≡ Some p → HasMetOne lines j k q p
+        → (z : BoardLine) × (slice_get (own_lines j.seats) k ≡ Some z) × (p.def ≡ z.def)
+        × (entries_by r (reverse p.knows.seen) ≡ entries_by r z.past)
     own_at k p q at one =
         let z = manned.0 in
         let is : one.place ≡ k = let e = one.is in omega (arith, e, z) in (
           own_line one.seat,
           at_map own_line j.seats k one.seat (ap (λ (i : ℕ). slice_get j.seats i) (sym is) ∙ one.at_seat),
           (home_of k p one.line at one.at_line).of_line.1 ∙ sym (sits k p q one).of_line.1,
-          sym (own_are_seen one.line.def.line r p.knows.seen one.seat.pass.knows.mine (own_placed k p q one ∙ ap (λ (a : Actor). placed one.line.def.line a p.knows.seen) (sym its))),
+          sym (own_are_seen one.line.def.line r p.knows.seen one.seat.pass.knows.mine
+              (own_placed k p q one ∙ ap (λ (a : Actor). placed one.line.def.line a p.knows.seen) (sym its))),
         )
 
     up_now : (place : ℕ) × IsUpTo board.calls (seen_lines new) r place
@@ -175,7 +214,8 @@ module _ (board : BoardSeen) (lines : List LockSeen) (rest : List JobSeen) (j : 
         alike k x at =
             let s = of_map seen_line new k x at in
             let e = m.each k s.0 s.1 in
-            subst (λ (y : BoardLine). (z : BoardLine) × (slice_get (own_lines j.seats) k ≡ Some z) × (y.def ≡ z.def) × (entries_by r y.past ≡ entries_by r z.past)) s.2
+            subst (λ (y : BoardLine). (z : BoardLine) × (slice_get (own_lines j.seats) k ≡ Some z) × (y.def ≡ z.def)
+            × (entries_by r y.past ≡ entries_by r z.past)) s.2
             (own_at k s.0 e.0 s.1 (every k s.0 e.0 s.1 e.2))
 
   pub gathers_on : Gathers board lines rest new
@@ -187,11 +227,14 @@ module _ (board : BoardSeen) (lines : List LockSeen) (rest : List JobSeen) (j : 
       }
     where
       drivers : (r : DriverNo) → has_driver board.drivers r ≡ true
-          → (is_among (actors.Driver r) (map (λ (j : JobSeen). j.actor) rest) ≡ true) ⊎ (IsBack new r × ((place : ℕ) × IsUpTo board.calls (seen_lines new) r place))
+          → (is_among (actors.Driver r) (map (λ (j : JobSeen). j.actor) rest) ≡ true)
+          ⊎ (IsBack new r × ((place : ℕ) × IsUpTo board.calls (seen_lines new) r place))
       drivers r declared = elim (g.drivers r declared) [
-        | inl among ↦ elim (among_either (actors.Driver r) j.actor (map (λ (j : JobSeen). j.actor) rest) (ap (λ (xs : List Actor). is_among (actors.Driver r) xs) (sym (map_more (λ (j : JobSeen). j.actor) rest j)) ∙ among)) [
-          | inl left ↦ inl left
-          | inr its ↦ inr (back_now r its, up_now r its)
-        ]
+        | inl among ↦ elim (among_either (actors.Driver r) j.actor (map (λ (j : JobSeen). j.actor) rest)
+            (ap (λ (xs : List Actor). is_among (actors.Driver r) xs) (sym (map_more (λ (j : JobSeen). j.actor) rest j))
+            ∙ among)) [
+              | inl left ↦ inl left
+              | inr its ↦ inr (back_now r its, up_now r its)
+            ]
         | inr back ↦ inr (back_still r back.0 back.1)
       ]

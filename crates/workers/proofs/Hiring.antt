@@ -1,5 +1,7 @@
 -- One more job.
-use Rattle.std.proofs.Common.{◌≡◌, ℕ, suc, ◌+◌, ◌<◌, ◌≤◌, inl, inr, Bool, true, false, ◌&&◌, cond, nat_le, nat_lt, IsSomeAnd, Option, Some, None, List, [], ◌∷◌, ◌++◌, map, filter, take, length, get_or, slice_get, refl, sym, ap, ◌∙◌, subst, arith}
+use Rattle.std.proofs.Common.{◌≡◌, ℕ, suc, ◌+◌, ◌<◌, ◌≤◌, inl, inr, Bool, true, false, ◌&&◌, cond, nat_le, nat_lt}
+use Rattle.std.proofs.Common.{IsSomeAnd, Option, Some, None, List, [], ◌∷◌, ◌++◌, map, filter, take, length, get_or}
+use Rattle.std.proofs.Common.{slice_get, refl, sym, ap, ◌∙◌, subst, arith}
 use Rattle.irq_base.specs.declared.entries.Actor.{Actor}
 use Rattle.irq_base.specs.declared.entries.Actor.TheVariants as actors
 use Rattle.irq_base.specs.declared.entries.Entry.{Entry}
@@ -19,7 +21,8 @@ use Rattle.line_lock.specs.Passes.{LockSeen, PassSeen}
 use Rattle.line_lock.specs.Placed.{same_actor}
 use Rattle.line_lock.specs.declared.view.Known.{Known}
 use Rattle.line_lock.specs.declared.view.Placed.{Placed}
-use Rattle.workers.specs.Fit.{IsPlaceOf, Sits, AreSeated, own_past, own_line, own_lines, IsManned, IsJob, works_on, actors_on, IsFirst, AreFirsts, workers_of, Fit}
+use Rattle.workers.specs.Fit.{IsPlaceOf, Sits, AreSeated, own_past, own_line, own_lines, IsManned, IsJob, works_on}
+use Rattle.workers.specs.Fit.{actors_on, IsFirst, AreFirsts, workers_of, Fit}
 use Rattle.workers.specs.Forks.{CanFork, IsLeft, is_within, Forks, IsSpan, AreBoards, Hires}
 use Rattle.workers.specs.Seen.{SeatSeen, JobSeen, JobsSeen}
 use Rattle.workers.specs.declared.job.Left.TheVariants as lefts
@@ -28,18 +31,23 @@ use Rattle.workers.proofs.Manning.{map_more, taken, all_taken}
 
 -- ---- when nothing was made yet
 
-pub nothing_made : (calls : List ScriptCall) (lines : List BoardLine) (r : DriverNo) → ((i : ℕ) (x : BoardLine) → slice_get lines i ≡ Some x → x.past ≡ []) → IsUpTo calls lines r 0
+pub nothing_made : (calls : List ScriptCall) (lines : List BoardLine) (r : DriverNo)
+    → ((i : ℕ) (x : BoardLine) → slice_get lines i ≡ Some x → x.past ≡ []) → IsUpTo calls lines r 0
 nothing_made calls lines r none =
     record {
-      complete = λ i x at. ap (λ (past : List Entry). completed x.def r past) (none i x at) ∙ (none_complete x.def r ∙ sym (ap (λ (cs : List ScriptCall). calls_on x.def.line r cs) (nothing_taken calls)));
-      begun = λ i x c n at due. absurd (let z = fresh (calls_by r x.def.calls) c (suc n) (ap (λ (past : List Entry). due_call x.def r past) (sym (none i x at)) ∙ due) in omega (arith, z));
+      complete = λ i x at. ap (λ (past : List Entry). completed x.def r past) (none i x at)
+          ∙ (none_complete x.def r ∙ sym (ap (λ (cs : List ScriptCall). calls_on x.def.line r cs)
+          (nothing_taken calls)));
+      begun = λ i x c n at due. absurd (let z = fresh (calls_by r x.def.calls) c (suc n)
+          (ap (λ (past : List Entry). due_call x.def r past) (sym (none i x at)) ∙ due) in omega (arith, z));
     }
   where
     nothing_taken : (cs : List ScriptCall) → take 0 cs ≡ []
     nothing_taken [] = refl
     nothing_taken (c ∷ cs) = refl
 
-pub actors_more_on : (k : ℕ) (jobs : List JobSeen) (j : JobSeen) → actors_on k (jobs ++ j ∷ []) ≡ cond (works_on k j) (actors_on k jobs ++ j.actor ∷ []) (actors_on k jobs)
+pub actors_more_on : (k : ℕ) (jobs : List JobSeen) (j : JobSeen)
+    → actors_on k (jobs ++ j ∷ []) ≡ cond (works_on k j) (actors_on k jobs ++ j.actor ∷ []) (actors_on k jobs)
 actors_more_on k [] j = by_test (works_on k j)
   where
     by_test : (b : Bool) → map (λ (x : JobSeen). x.actor) (cond b (j ∷ []) []) ≡ cond b ([] ++ j.actor ∷ []) []
@@ -49,13 +57,16 @@ actors_more_on k (x ∷ xs) j = by_test (works_on k x) (works_on k j) (actors_mo
   where
     by_test : (b d : Bool) → actors_on k (xs ++ j ∷ []) ≡ cond d (actors_on k xs ++ j.actor ∷ []) (actors_on k xs)
         → map (λ (x : JobSeen). x.actor) (cond b (x ∷ filter (works_on k) (xs ++ j ∷ [])) (filter (works_on k) (xs ++ j ∷ [])))
-        ≡ cond d (map (λ (x : JobSeen). x.actor) (cond b (x ∷ filter (works_on k) xs) (filter (works_on k) xs)) ++ j.actor ∷ []) (map (λ (x : JobSeen). x.actor) (cond b (x ∷ filter (works_on k) xs) (filter (works_on k) xs)))
+        ≡ cond d (map (λ (x : JobSeen). x.actor) (cond b (x ∷ filter (works_on k) xs) (filter (works_on k) xs))
+        ++ j.actor ∷ []) (map (λ (x : JobSeen). x.actor)
+        (cond b (x ∷ filter (works_on k) xs) (filter (works_on k) xs)))
     by_test true true deeper = ap (λ (ws : List Actor). x.actor ∷ ws) deeper
     by_test true false deeper = ap (λ (ws : List Actor). x.actor ∷ ws) deeper
     by_test false true deeper = deeper
     by_test false false deeper = deeper
 
-module _ (board : BoardSeen) (lines : List LockSeen) (who : Actor) (first end : ℕ) (old new : List PassSeen) (seats : List SeatSeen) (f : Forks lines first end who old new seats) where
+module _ (board : BoardSeen) (lines : List LockSeen) (who : Actor) (first end : ℕ) (old new : List PassSeen)
+    (seats : List SeatSeen) (f : Forks lines first end who old new seats) where
   seated : (j : JobSeen) → j.actor ≡ who → j.first ≡ first → j.seats ≡ seats → AreSeated lines j
   seated j actor from are i s at =
       let k = f.each i s (ap (λ (ss : List SeatSeen). slice_get ss i) (sym are) ∙ at) in
@@ -83,8 +94,11 @@ module _ (board : BoardSeen) (lines : List LockSeen) (who : Actor) (first end : 
   no_place i is = cc
 
   manned : (j : JobSeen) → j.first ≡ first → j.seats ≡ seats → j.flow ≡ None → j.at ≡ 0 → (a : Actor) → IsSpan lines a first end → IsManned board lines j a
-  manned j from are none at (actors.Thread line dev) span =
-      (let n = f.count in let m = span.1 in let l = ap (λ (ss : List SeatSeen). length ss) are in omega (arith, n, m, l), subst (λ (k : ℕ). IsPlaceOf lines line (Some k)) (sym from) span.0)
+  manned j from are none at (actors.Thread line dev) span = (
+    let n = f.count in let m = span.1 in let l = ap (λ (ss : List SeatSeen). length ss) are in
+        omega (arith, n, m, l),
+    subst (λ (k : ℕ). IsPlaceOf lines line (Some k)) (sym from) span.0,
+  )
   manned j from are none at (actors.Cpu c) span = (
     from ∙ span.0,
     (let n = f.count in let z = span.0 in let e = span.1 in let l = ap (λ (ss : List SeatSeen). length ss) are in omega (arith, n, z, e, l)),
@@ -94,16 +108,22 @@ module _ (board : BoardSeen) (lines : List LockSeen) (who : Actor) (first end : 
   manned j from are none at (actors.Driver r) span = (
     from ∙ span.0,
     (let n = f.count in let z = span.0 in let e = span.1 in let l = ap (λ (ss : List SeatSeen). length ss) are in omega (arith, n, z, e, l)),
-    subst (λ (n : ℕ). IsUpTo board.calls (own_lines j.seats) r n) (sym at) (subst (λ (ss : List SeatSeen). IsUpTo board.calls (own_lines ss) r 0) (sym are) (up_to r)),
+    subst (λ (n : ℕ). IsUpTo board.calls (own_lines j.seats) r n) (sym at)
+        (subst (λ (ss : List SeatSeen). IsUpTo board.calls (own_lines ss) r 0) (sym are) (up_to r)),
     omega (arith, at),
   )
 
   pub new_job : (j : JobSeen) → j.actor ≡ who → j.first ≡ first → j.seats ≡ seats → j.flow ≡ None → j.at ≡ 0 → IsSpan lines who first end → IsJob board lines j
-  new_job j actor from are none at span = record { seated = seated j actor from are; manned = manned j from are none at j.actor (subst (λ (a : Actor). IsSpan lines a first end) (sym actor) span) }
+  new_job j actor from are none at span = record {
+    seated = seated j actor from are;
+    manned
+        = manned j from are none at j.actor (subst (λ (a : Actor). IsSpan lines a first end) (sym actor) span);
+  }
 
   -- ---- the first passes
 
-  pub new_firsts : (jobs : List JobSeen) (j : JobSeen) → j.actor ≡ who → j.first ≡ first → j.seats ≡ seats → AreFirsts lines jobs old → AreFirsts lines (jobs ++ j ∷ []) new
+  pub new_firsts : (jobs : List JobSeen) (j : JobSeen) → j.actor ≡ who → j.first ≡ first → j.seats ≡ seats
+      → AreFirsts lines jobs old → AreFirsts lines (jobs ++ j ∷ []) new
   new_firsts jobs j actor from are firsts = record { as_many = f.as_many ∙ firsts.as_many; each = each }
     where
       works : (k : ℕ) → works_on k j ≡ is_within first end k
@@ -111,7 +131,9 @@ module _ (board : BoardSeen) (lines : List LockSeen) (who : Actor) (first end : 
           ap (λ (n : ℕ). nat_le n k && nat_lt k (n + length j.seats)) from
           ∙ ap (λ (n : ℕ). nat_le first k && nat_lt k n) (ap (λ (ss : List SeatSeen). first + length ss) are ∙ f.count)
 
-      later : (k : ℕ) (b : Bool) (l : LockSeen) (q p : PassSeen) → actors_on k (jobs ++ j ∷ []) ≡ cond b (actors_on k jobs ++ who ∷ []) (actors_on k jobs) → IsLeft b who q p → IsFirst l (actors_on k jobs) q → IsFirst l (actors_on k (jobs ++ j ∷ [])) p
+      later : (k : ℕ) (b : Bool) (l : LockSeen) (q p : PassSeen)
+          → actors_on k (jobs ++ j ∷ []) ≡ cond b (actors_on k jobs ++ who ∷ []) (actors_on k jobs) → IsLeft b who q p
+          → IsFirst l (actors_on k jobs) q → IsFirst l (actors_on k (jobs ++ j ∷ [])) p
       later k true l q p whom gave is =
           record {
             of_line = (gave.table ∙ is.of_line.0, gave.def ∙ is.of_line.1);
@@ -120,12 +142,17 @@ module _ (board : BoardSeen) (lines : List LockSeen) (who : Actor) (first end : 
             given = ap (λ (x : Known). x.given) gave.knows ∙ (ap (λ (ws : List Actor). ws ++ who ∷ []) is.given ∙ sym whom);
             out = ap (λ (x : Known). x.out) gave.knows ∙ (ap (λ (ws : List Actor). ws ++ who ∷ []) is.out ∙ sym whom);
           }
-      later k false l q p whom same is = subst (λ (ws : List Actor). IsFirst l ws p) (sym whom) (subst (λ (x : PassSeen). IsFirst l (actors_on k jobs) x) (sym same) is)
+      later k false l q p whom same is = subst (λ (ws : List Actor). IsFirst l ws p) (sym whom)
+          (subst (λ (x : PassSeen). IsFirst l (actors_on k jobs) x) (sym same) is)
 
       whom : (k : ℕ) → actors_on k (jobs ++ j ∷ []) ≡ cond (is_within first end k) (actors_on k jobs ++ who ∷ []) (actors_on k jobs)
-      whom k = actors_more_on k jobs j ∙ (ap (λ (b : Bool). cond b (actors_on k jobs ++ j.actor ∷ []) (actors_on k jobs)) (works k) ∙ ap (λ (a : Actor). cond (is_within first end k) (actors_on k jobs ++ a ∷ []) (actors_on k jobs)) actor)
+      whom k = actors_more_on k jobs j ∙ (ap (λ (b : Bool). cond b (actors_on k jobs ++ j.actor ∷ [])
+          (actors_on k jobs)) (works k) ∙ ap (λ (a : Actor). cond (is_within first end k) (actors_on k jobs ++ a ∷ [])
+          (actors_on k jobs)) actor)
 
-      some_later : (k : ℕ) (q p : PassSeen) (o : Option LockSeen) → IsLeft (is_within first end k) who q p → IsSomeAnd o (λ l. IsFirst l (actors_on k jobs) q) → IsSomeAnd o (λ l. IsFirst l (actors_on k (jobs ++ j ∷ [])) p)
+      some_later : (k : ℕ) (q p : PassSeen) (o : Option LockSeen) → IsLeft (is_within first end k) who q p
+          → IsSomeAnd o (λ l. IsFirst l (actors_on k jobs) q)
+          → IsSomeAnd o (λ l. IsFirst l (actors_on k (jobs ++ j ∷ [])) p)
       some_later k q p None left is = absurd is
       some_later k q p (Some l) left is = later k (is_within first end k) l q p (whom k) left is
 
@@ -133,7 +160,8 @@ module _ (board : BoardSeen) (lines : List LockSeen) (who : Actor) (first end : 
       each k p at = let q = f.left k p at in some_later k q.0 p (slice_get lines k) q.2 (firsts.each k q.0 q.1)
 
 -- a first pass can give one to an actor that has none
-pub can_give : (lines : List LockSeen) (jobs : List JobSeen) (firsts : List PassSeen) (who : Actor) → AreFirsts lines jobs firsts → ((k : ℕ) → is_among who (actors_on k jobs) ≡ false)
+pub can_give : (lines : List LockSeen) (jobs : List JobSeen) (firsts : List PassSeen) (who : Actor)
+    → AreFirsts lines jobs firsts → ((k : ℕ) → is_among who (actors_on k jobs) ≡ false)
     → (k : ℕ) (p : PassSeen) → slice_get firsts k ≡ Some p → IsSomeAnd (slice_get lines k) (λ l. CanFork l who p)
 can_give lines jobs firsts who are new k p at = by_line (slice_get lines k) (are.each k p at)
   where
@@ -142,11 +170,13 @@ can_give lines jobs firsts who are new k p at = by_line (slice_get lines k) (are
     by_line (Some l) is = record { of_line = is.of_line; idle = is.idle; first = is.actor; fresh = ap (is_among who) is.given ∙ new k }
 
 -- who has no job works on no line
-pub nowhere_on : (who : Actor) (k : ℕ) (jobs : List JobSeen) → is_among who (map (λ (j : JobSeen). j.actor) jobs) ≡ false → is_among who (actors_on k jobs) ≡ false
+pub nowhere_on : (who : Actor) (k : ℕ) (jobs : List JobSeen)
+    → is_among who (map (λ (j : JobSeen). j.actor) jobs) ≡ false → is_among who (actors_on k jobs) ≡ false
 nowhere_on who k [] not = refl
 nowhere_on who k (j ∷ js) not = by_tests (works_on k j) (same_actor who j.actor) not (λ h. nowhere_on who k js h) refl
   where
-    by_tests : (b t : Bool) → cond t true (is_among who (map (λ (j : JobSeen). j.actor) js)) ≡ false → (is_among who (map (λ (j : JobSeen). j.actor) js) ≡ false → is_among who (actors_on k js) ≡ false)
+    by_tests : (b t : Bool) → cond t true (is_among who (map (λ (j : JobSeen). j.actor) js)) ≡ false
+        → (is_among who (map (λ (j : JobSeen). j.actor) js) ≡ false → is_among who (actors_on k js) ≡ false)
         → same_actor who j.actor ≡ t → is_among who (map (λ (j : JobSeen). j.actor) (cond b (j ∷ filter (works_on k) js) (filter (works_on k) js))) ≡ false
     by_tests b true not deeper is = cc
     by_tests true false not deeper is = ap (λ (t : Bool). cond t true (is_among who (actors_on k js))) is ∙ deeper not
@@ -170,11 +200,15 @@ pub record AreHired (board : BoardSeen) (lines : List LockSeen) (i : ℕ) (s : J
   pub each : (k : ℕ) (j : JobSeen) → slice_get s.jobs k ≡ Some j → IsJob board lines j
   pub firsts : AreFirsts lines s.jobs s.firsts
 
-pub hired_more : (board : BoardSeen) (lines : List LockSeen) (i : ℕ) (a : Actor) (old new : JobsSeen) → AreHired board lines i old → slice_get (workers_of board lines) i ≡ Some a → new.board ≡ old.board → Hires lines a old new → AreHired board lines (i + 1) new
+pub hired_more : (board : BoardSeen) (lines : List LockSeen) (i : ℕ) (a : Actor) (old new : JobsSeen)
+    → AreHired board lines i old → slice_get (workers_of board lines) i ≡ Some a → new.board ≡ old.board
+    → Hires lines a old new → AreHired board lines (i + 1) new
 hired_more board lines i a old new is at same h =
     record {
       same = same ∙ is.same;
-      actors = ap (map (λ (j : JobSeen). j.actor)) h.jobs ∙ (map_more (λ (j : JobSeen). j.actor) old.jobs h.job ∙ (ap (λ (x : Actor). map (λ (j : JobSeen). j.actor) old.jobs ++ x ∷ []) h.actor
+      actors = ap (map (λ (j : JobSeen). j.actor)) h.jobs
+          ∙ (map_more (λ (j : JobSeen). j.actor) old.jobs h.job
+          ∙ (ap (λ (x : Actor). map (λ (j : JobSeen). j.actor) old.jobs ++ x ∷ []) h.actor
           ∙ (ap (λ (ws : List Actor). ws ++ a ∷ []) is.actors ∙ sym (taken (workers_of board lines) i a at))));
       each = each;
       firsts = h.firsts;
@@ -186,20 +220,25 @@ hired_more board lines i a old new is at same h =
       | inr now ↦ subst (λ (x : JobSeen). IsJob board lines x) now.1 (subst (λ (b : BoardSeen). IsJob b lines h.job) is.same h.is)
     ]
 
-pub all_hired : (board : BoardSeen) (lines : List LockSeen) (i : ℕ) (s : JobsSeen) → AreBoards board lines → AreHired board lines i s → length (workers_of board lines) ≤ i → Fit lines s
+pub all_hired : (board : BoardSeen) (lines : List LockSeen) (i : ℕ) (s : JobsSeen) → AreBoards board lines
+    → AreHired board lines i s → length (workers_of board lines) ≤ i → Fit lines s
 all_hired board lines i s defs is end =
     subst (λ (b : BoardSeen). Fit lines (record s { board = b })) (sym is.same)
     (record { defs = defs; actors = is.actors ∙ all_taken (workers_of board lines) i end; each = is.each; firsts = is.firsts })
 
 -- ---- the same, as the code has it
 
-pub can_give_at : (lines here : List LockSeen) (s : JobsSeen) (firsts : List PassSeen) (who : Actor) → here ≡ lines → firsts ≡ s.firsts → AreFirsts lines s.jobs s.firsts → ((k : ℕ) → is_among who (actors_on k s.jobs) ≡ false)
+pub can_give_at : (lines here : List LockSeen) (s : JobsSeen) (firsts : List PassSeen) (who : Actor) → here ≡ lines
+    → firsts ≡ s.firsts → AreFirsts lines s.jobs s.firsts → ((k : ℕ) → is_among who (actors_on k s.jobs) ≡ false)
     → (k : ℕ) (p : PassSeen) → slice_get firsts k ≡ Some p → IsSomeAnd (slice_get here k) (λ l. CanFork l who p)
 can_give_at lines here s firsts who same are is new k p at =
-    subst (λ (ls : List LockSeen). IsSomeAnd (slice_get ls k) (λ l. CanFork l who p)) (sym same) (can_give lines s.jobs s.firsts who is new k p (ap (λ (ps : List PassSeen). slice_get ps k) (sym are) ∙ at))
+    subst (λ (ls : List LockSeen). IsSomeAnd (slice_get ls k) (λ l. CanFork l who p)) (sym same)
+    (can_give lines s.jobs s.firsts who is new k p (ap (λ (ps : List PassSeen). slice_get ps k) (sym are) ∙ at))
 
-pub hires_one : (lines here : List LockSeen) (s : JobsSeen) (board : BoardSeen) (jobs : List JobSeen) (firsts new : List PassSeen) (who : Actor) (first end : ℕ) (seats : List SeatSeen)
-    → here ≡ lines → record { board = board; jobs = jobs; firsts = firsts } ≡ s → AreFirsts lines s.jobs s.firsts → IsSpan lines who first end → Forks here first end who firsts new seats
+pub hires_one : (lines here : List LockSeen) (s : JobsSeen) (board : BoardSeen) (jobs : List JobSeen)
+    (firsts new : List PassSeen) (who : Actor) (first end : ℕ) (seats : List SeatSeen)
+    → here ≡ lines → record { board = board; jobs = jobs; firsts = firsts } ≡ s → AreFirsts lines s.jobs s.firsts
+    → IsSpan lines who first end → Forks here first end who firsts new seats
     → (after : List JobSeen) → after ≡ jobs ++ record { actor = who; first = first; seats = seats; flow = None; at = 0; left = lefts.Idle } ∷ []
     → Hires lines who s (record { board = board; jobs = after; firsts = new })
 hires_one lines here s board jobs firsts new who first end seats same is are span f after grown =
@@ -212,15 +251,22 @@ hires_one lines here s board jobs firsts new who first end seats same is are spa
       is = new_job s.board lines who first end firsts new seats forks j refl refl refl refl refl span;
       firsts = subst (λ (js : List JobSeen). AreFirsts lines js new) (sym grown)
           (new_firsts s.board lines who first end firsts new seats forks jobs j refl refl refl
-          (subst (λ (js : List JobSeen). AreFirsts lines js firsts) (ap (λ (x : JobsSeen). x.jobs) (sym is)) (subst (λ (ps : List PassSeen). AreFirsts lines s.jobs ps) (ap (λ (x : JobsSeen). x.firsts) (sym is)) are)));
+          (subst (λ (js : List JobSeen). AreFirsts lines js firsts) (ap (λ (x : JobsSeen). x.jobs) (sym is))
+          (subst (λ (ps : List PassSeen). AreFirsts lines s.jobs ps) (ap (λ (x : JobsSeen). x.firsts) (sym is))
+          are)));
     }
 
 -- the actor at a place of the crew
-pub at_crew : (board : BoardSeen) (here lines : List LockSeen) (crew : List Actor) (i : ℕ) (a : Actor) → here ≡ lines → crew ≡ workers_of board lines → i < length crew → a ≡ get_or crew i a → slice_get (workers_of board here) i ≡ Some a
+pub at_crew : (board : BoardSeen) (here lines : List LockSeen) (crew : List Actor) (i : ℕ) (a : Actor) → here ≡ lines
+    → crew ≡ workers_of board lines → i < length crew → a ≡ get_or crew i a
+    → slice_get (workers_of board here) i ≡ Some a
 at_crew board here lines crew i a same are less is =
-    ap (λ (ls : List LockSeen). slice_get (workers_of board ls) i) same ∙ (ap (λ (ws : List Actor). slice_get ws i) (sym are) ∙ (there_or crew i a less ∙ ap (λ (x : Actor). Some x) (sym is)))
+    ap (λ (ls : List LockSeen). slice_get (workers_of board ls) i) same
+    ∙ (ap (λ (ws : List Actor). slice_get ws i) (sym are)
+    ∙ (there_or crew i a less ∙ ap (λ (x : Actor). Some x) (sym is)))
 
-pub all_crew : (board : BoardSeen) (here lines : List LockSeen) (crew : List Actor) (i : ℕ) → here ≡ lines → crew ≡ workers_of board lines → length crew ≤ i → length (workers_of board here) ≤ i
+pub all_crew : (board : BoardSeen) (here lines : List LockSeen) (crew : List Actor) (i : ℕ) → here ≡ lines
+    → crew ≡ workers_of board lines → length crew ≤ i → length (workers_of board here) ≤ i
 all_crew board here lines crew i same are end =
     let e = ap (λ (ls : List LockSeen). length (workers_of board ls)) same in
     let f = ap (λ (ws : List Actor). length ws) are in

@@ -1,5 +1,6 @@
 -- A processor that is within a flow by its own entries is so by all of them, and has an entry due.
-use Rattle.std.proofs.Common.{◌≡◌, ℕ, suc, Bool, true, false, ◌||◌, ◌&&◌, cond, IsSome, Option, Some, None, is_some, List, [], ◌∷◌, map, filter, reverse, refl, sym, ap, ◌∙◌, subst}
+use Rattle.std.proofs.Common.{◌≡◌, ℕ, suc, Bool, true, false, ◌||◌, ◌&&◌, cond, IsSome, Option, Some, None, is_some}
+use Rattle.std.proofs.Common.{List, [], ◌∷◌, map, filter, reverse, refl, sym, ap, ◌∙◌, subst}
 use Rattle.irq_base.specs.Who.{actor_of}
 use Rattle.irq_base.specs.declared.entries.Actor.{Actor}
 use Rattle.irq_base.specs.declared.entries.Actor.TheVariants as actors
@@ -31,7 +32,8 @@ by_actor line who n [] = refl
 by_actor line who n (e ∷ h) = by_test (is_by line who e) (by_actor line who (suc n) h)
   where
     by_test : (b : Bool) → map (λ (x : Placed). x.entry) (placed_from line who (suc n) h) ≡ filter (is_by line who) h
-        → map (λ (x : Placed). x.entry) (cond b (record { place = n; entry = e } ∷ placed_from line who (suc n) h) (placed_from line who (suc n) h)) ≡ cond b (e ∷ filter (is_by line who) h) (filter (is_by line who) h)
+        → map (λ (x : Placed). x.entry) (cond b (record { place = n; entry = e } ∷ placed_from line who (suc n) h)
+        (placed_from line who (suc n) h)) ≡ cond b (e ∷ filter (is_by line who) h) (filter (is_by line who) h)
     by_test true deeper = ap (λ (es : List Entry). e ∷ es) deeper
     by_test false deeper = deeper
 
@@ -45,16 +47,19 @@ and_false : (b : Bool) → (b && false) ≡ false
 and_false true = refl
 and_false false = refl
 
-others_stay : (def : LineDef) (c : CpuNo) (e : Entry) (past : List Entry) → IsDue def e past → flow def past ≡ Some c → is_by def.line (actors.Cpu c) e ≡ false → (is_handle e || closes def e) ≡ false
+others_stay : (def : LineDef) (c : CpuNo) (e : Entry) (past : List Entry) → IsDue def e past → flow def past ≡ Some c
+    → is_by def.line (actors.Cpu c) e ≡ false → (is_handle e || closes def e) ≡ false
 others_stay def c (entries.Take cpu way takes.Handle) past due is other =
-    absurd (busy (has_flow def past) (is_disabled past || is_none_linked past) (ap (λ (o : Option CpuNo). is_some o) is) (take_due def cpu way takes.Handle past due).answer_is)
+    absurd (busy (has_flow def past) (is_disabled past || is_none_linked past) (ap (λ (o : Option CpuNo). is_some o) is)
+    (take_due def cpu way takes.Handle past due).answer_is)
 others_stay def c (entries.End cpu again unmask note) past due is other =
     let same : cpu ≡ c = cpu_from_same cpu c (ap (is_cpu cpu) (sym is) ∙ (end_due def cpu again unmask note past due).of_flow) in
     both_ways (same_cpu c cpu) (subst (λ (x : CpuNo). same_cpu c x ≡ true) (sym same) (same_self_cpu c)) other
 others_stay def c e past due is other = and_false (is_eoi_flow def.flow)
 
 -- a processor's own entries tell its flow
-own_flow : (def : LineDef) (c : CpuNo) (past : List Entry) → IsLegalPast def past → flow def (filter (is_by def.line (actors.Cpu c)) past) ≡ Some c → flow def past ≡ Some c
+own_flow : (def : LineDef) (c : CpuNo) (past : List Entry) → IsLegalPast def past
+    → flow def (filter (is_by def.line (actors.Cpu c)) past) ≡ Some c → flow def past ≡ Some c
 own_flow def c [] legal is = is
 own_flow def c (e ∷ past) legal is = by_tests (is_by def.line (actors.Cpu c) e) (is_handle e || closes def e) refl refl is (own_flow def c past legal.1)
   where
@@ -64,14 +69,17 @@ own_flow def c (e ∷ past) legal is = by_tests (is_by def.line (actors.Cpu c) e
     last : List Entry → Option Entry
     last es = last_of (λ f. is_handle f || closes def f) es
 
-    by_tests : (b t : Bool) → is_by def.line (actors.Cpu c) e ≡ b → (is_handle e || closes def e) ≡ t → flow def (cond b (e ∷ own) own) ≡ Some c → (flow def own ≡ Some c → flow def past ≡ Some c) → cpu_of_handle (cond t (Some e) (last past)) ≡ Some c
+    by_tests : (b t : Bool) → is_by def.line (actors.Cpu c) e ≡ b → (is_handle e || closes def e) ≡ t
+        → flow def (cond b (e ∷ own) own) ≡ Some c → (flow def own ≡ Some c → flow def past ≡ Some c)
+        → cpu_of_handle (cond t (Some e) (last past)) ≡ Some c
     by_tests true true mine marks now deeper = ap (λ (t : Bool). cpu_of_handle (cond t (Some e) (last own))) (sym marks) ∙ now
     by_tests true false mine marks now deeper = deeper (ap (λ (t : Bool). cpu_of_handle (cond t (Some e) (last own))) (sym marks) ∙ now)
     by_tests false true mine marks now deeper = both_ways (is_handle e || closes def e) marks (others_stay def c e past legal.0 (deeper now) mine)
     by_tests false false mine marks now deeper = deeper now
 
 -- within a flow the processor has an entry due
-pub moves_within : (def : LineDef) (c : CpuNo) (h : List Entry) (mine : List Placed) → IsLegal def h → mine ≡ placed def.line (actors.Cpu c) h → flow def (own_past mine) ≡ Some c → next def h (actors.Cpu c) ≡ None → ⊥
+pub moves_within : (def : LineDef) (c : CpuNo) (h : List Entry) (mine : List Placed) → IsLegal def h
+    → mine ≡ placed def.line (actors.Cpu c) h → flow def (own_past mine) ≡ Some c → next def h (actors.Cpu c) ≡ None → ⊥
 moves_within def c h mine legal are own none =
     nothing (next def h (actors.Cpu c)) (flow_moves def h c (own_flow def c (reverse h) legal (ap (λ (es : List Entry). flow def es) (sym same) ∙ own))) none
   where
@@ -84,7 +92,8 @@ moves_within def c h mine legal are own none =
 
 -- ---- what an entry makes of the flow
 
-pub flow_by : (def : LineDef) (e : Entry) (past : List Entry) (h c : Bool) → is_handle e ≡ h → closes def e ≡ c → flow def (e ∷ past) ≡ cpu_of_handle (cond (h || c) (Some e) (last_of (λ f. is_handle f || closes def f) past))
+pub flow_by : (def : LineDef) (e : Entry) (past : List Entry) (h c : Bool) → is_handle e ≡ h → closes def e ≡ c
+    → flow def (e ∷ past) ≡ cpu_of_handle (cond (h || c) (Some e) (last_of (λ f. is_handle f || closes def f) past))
 flow_by def e past h c is_h is_c =
     ap (λ (b : Bool). cpu_of_handle (cond (b || closes def e) (Some e) (last_of (λ f. is_handle f || closes def f) past))) is_h
     ∙ ap (λ (b : Bool). cpu_of_handle (cond (h || b) (Some e) (last_of (λ f. is_handle f || closes def f) past))) is_c

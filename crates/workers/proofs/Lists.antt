@@ -34,12 +34,14 @@ module _ {A : Type 0} where
   there_or (z ∷ zs) zero d less = refl
   there_or (z ∷ zs) (suc k) d less = there_or zs k d (omega (arith, less))
 
-  pub at_set : (xs : List A) (i : ℕ) (y : A) (k : ℕ) (x : A) → slice_get (set xs i y) k ≡ Some x → ((k ≡ i) × (x ≡ y)) ⊎ ((k ≡ i → ⊥) × (slice_get xs k ≡ Some x))
+  pub at_set : (xs : List A) (i : ℕ) (y : A) (k : ℕ) (x : A) → slice_get (set xs i y) k ≡ Some x
+      → ((k ≡ i) × (x ≡ y)) ⊎ ((k ≡ i → ⊥) × (slice_get xs k ≡ Some x))
   at_set [] i y k x at = cc
   at_set (z ∷ zs) zero y zero x at = inl (refl, sym (the_same y x at))
   at_set (z ∷ zs) zero y (suc k) x at = inr ((λ h. omega arith), at)
   at_set (z ∷ zs) (suc i) y zero x at = inr ((λ h. omega arith), at)
-  at_set (z ∷ zs) (suc i) y (suc k) x at = elim (at_set zs i y k x at) [ inl here ↦ inl (ap suc here.0, here.1) | inr other ↦ inr ((λ h. other.0 (omega arith)), other.1) ]
+  at_set (z ∷ zs) (suc i) y (suc k) x at = elim (at_set zs i y k x at)
+      [ inl here ↦ inl (ap suc here.0, here.1) | inr other ↦ inr ((λ h. other.0 (omega arith)), other.1) ]
 
   pub set_there : (xs : List A) (k : ℕ) (y x : A) → slice_get xs k ≡ Some x → slice_get (set xs k y) k ≡ Some y
   set_there [] k y x at = cc

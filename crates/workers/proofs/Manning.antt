@@ -1,5 +1,7 @@
 -- Who has a worker: each actor once.
-use Rattle.std.proofs.Common.{◌≡◌, ℕ, zero, suc, ◌+◌, ◌<◌, ◌≤◌, ◌||◌, inl, inr, Bool, true, false, cond, is_some, IsSomeAnd, Option, Some, None, List, [], ◌∷◌, ◌++◌, map, filter, take, length, get_or, slice_get, refl, sym, ap, ◌∙◌, subst, arith, add-one, append_assoc, append-nil}
+use Rattle.std.proofs.Common.{◌≡◌, ℕ, zero, suc, ◌+◌, ◌<◌, ◌≤◌, ◌||◌, inl, inr, Bool, true, false, cond, is_some}
+use Rattle.std.proofs.Common.{IsSomeAnd, Option, Some, None, List, [], ◌∷◌, ◌++◌, map, filter, take, length, get_or}
+use Rattle.std.proofs.Common.{slice_get, refl, sym, ap, ◌∙◌, subst, arith, add-one, append_assoc, append-nil}
 use Rattle.std.specs.List.{list_any}
 use Rattle.std.proofs.lemmas.Bool.{or_cases, and_parts, false_from_ne_true}
 use Rattle.irq_base.specs.Handlers.{has_thread}
@@ -56,7 +58,11 @@ from_both n (x ∷ xs) ys a b = (a.0, from_both n xs ys a.1 b)
 
 rising_both : (n : ℕ) (xs ys : List Actor) → AreUnder n xs → AreFrom n ys → AreRising xs → AreRising ys → AreRising (xs ++ ys)
 rising_both n [] ys under from a b = b
-rising_both n (x ∷ xs) ys under from a b = (from_both (suc (rank x)) xs ys a.0 (from_less (suc (rank x)) n ys (omega (arith, under.0)) from), rising_both n xs ys under.1 from a.1 b)
+rising_both n (x ∷ xs) ys under from a b = (
+  from_both (suc (rank x)) xs ys a.0
+      (from_less (suc (rank x)) n ys (omega (arith, under.0)) from),
+  rising_both n xs ys under.1 from a.1 b,
+)
 
 above : (n : ℕ) (xs : List Actor) (i : ℕ) (a : Actor) → AreFrom n xs → slice_get xs i ≡ Some a → n ≤ rank a
 above n [] i a from at = cc
@@ -81,11 +87,13 @@ thread_of x = actors.Thread x.line x.dev
 abbrev threads_on : List LockSeen → List DeviceDef → List Actor
 threads_on lines xs = map thread_of (filter (has_worker lines) xs)
 
-threads_from : (lines : List LockSeen) (n : ℕ) (xs : List DeviceDef) → ((i : ℕ) (y : DeviceDef) → slice_get xs i ≡ Some y → n ≤ y.dev.0) → AreFrom n (threads_on lines xs)
+threads_from : (lines : List LockSeen) (n : ℕ) (xs : List DeviceDef)
+    → ((i : ℕ) (y : DeviceDef) → slice_get xs i ≡ Some y → n ≤ y.dev.0) → AreFrom n (threads_on lines xs)
 threads_from lines n [] all = tt
 threads_from lines n (x ∷ xs) all = by_test (has_worker lines x) (threads_from lines n xs (λ i y at. all (suc i) y at))
   where
-    by_test : (b : Bool) → AreFrom n (threads_on lines xs) → AreFrom n (map thread_of (cond b (x ∷ filter (has_worker lines) xs) (filter (has_worker lines) xs)))
+    by_test : (b : Bool) → AreFrom n (threads_on lines xs)
+        → AreFrom n (map thread_of (cond b (x ∷ filter (has_worker lines) xs) (filter (has_worker lines) xs)))
     by_test true deeper = (all 0 x refl, deeper)
     by_test false deeper = deeper
 
@@ -96,15 +104,18 @@ threads_rise lines (x ∷ xs) rises = by_test (has_worker lines x) (threads_rise
     higher : (i : ℕ) (y : DeviceDef) → slice_get xs i ≡ Some y → suc x.dev.0 ≤ y.dev.0
     higher i y at = let less : x.dev.0 < y.dev.0 = head_of (λ (e : DeviceDef). e.dev.0 < y.dev.0) x (take i xs) (rises (suc i) y at) in omega (arith, less)
 
-    by_test : (b : Bool) → AreRising (threads_on lines xs) → AreRising (map thread_of (cond b (x ∷ filter (has_worker lines) xs) (filter (has_worker lines) xs)))
+    by_test : (b : Bool) → AreRising (threads_on lines xs)
+        → AreRising (map thread_of (cond b (x ∷ filter (has_worker lines) xs) (filter (has_worker lines) xs)))
     by_test true deeper = (threads_from lines (suc x.dev.0) xs higher, deeper)
     by_test false deeper = deeper
 
-threads_under : (lines : List LockSeen) (n : ℕ) (xs : List DeviceDef) → ((i : ℕ) (y : DeviceDef) → slice_get xs i ≡ Some y → y.dev.0 < n) → AreUnder n (threads_on lines xs)
+threads_under : (lines : List LockSeen) (n : ℕ) (xs : List DeviceDef)
+    → ((i : ℕ) (y : DeviceDef) → slice_get xs i ≡ Some y → y.dev.0 < n) → AreUnder n (threads_on lines xs)
 threads_under lines n [] all = tt
 threads_under lines n (x ∷ xs) all = by_test (has_worker lines x) (threads_under lines n xs (λ i y at. all (suc i) y at))
   where
-    by_test : (b : Bool) → AreUnder n (threads_on lines xs) → AreUnder n (map thread_of (cond b (x ∷ filter (has_worker lines) xs) (filter (has_worker lines) xs)))
+    by_test : (b : Bool) → AreUnder n (threads_on lines xs)
+        → AreUnder n (map thread_of (cond b (x ∷ filter (has_worker lines) xs) (filter (has_worker lines) xs)))
     by_test true deeper = (all 0 x refl, deeper)
     by_test false deeper = deeper
 
@@ -119,7 +130,11 @@ cpus_from c (suc n) = (omega arith, from_less (70000 + c) (70000 + (c + 1)) (map
 
 cpus_rise : (c n : ℕ) → AreRising (map cpu_of (count_up c n))
 cpus_rise c zero = tt
-cpus_rise c (suc n) = (subst (λ (m : ℕ). AreFrom m (map cpu_of (count_up (c + 1) n))) (let e : 70000 + (c + 1) ≡ suc (70000 + c) = omega arith in e) (cpus_from (c + 1) n), cpus_rise (c + 1) n)
+cpus_rise c (suc n) = (
+  subst (λ (m : ℕ). AreFrom m (map cpu_of (count_up (c + 1) n)))
+      (let e : 70000 + (c + 1) ≡ suc (70000 + c) = omega arith in e) (cpus_from (c + 1) n),
+  cpus_rise (c + 1) n,
+)
 
 cpus_under : (c n m : ℕ) → 70000 + (c + n) ≤ m → AreUnder m (map cpu_of (count_up c n))
 cpus_under c zero m le = tt
@@ -152,7 +167,9 @@ crew_rises board lines is =
     (threads_under lines 70000 board.devices (λ i y at. let n = (is.devices i y at).number.1 in omega (arith, n)))
     (from_both 70000 (cpus_of board) (drivers_of board) cpus_high drivers_high)
     (threads_rise lines board.devices (λ i y at. (is.devices i y at).rises))
-    (rising_both 80000 (cpus_of board) (drivers_of board) (cpus_under 0 board.cpus 80000 (let f = is.few_cpus in omega (arith, f))) drivers_higher (cpus_rise 0 board.cpus) (drivers_rise board.drivers (λ i r at. (is.drivers i r at).rises)))
+    (rising_both 80000 (cpus_of board) (drivers_of board)
+    (cpus_under 0 board.cpus 80000 (let f = is.few_cpus in omega (arith, f))) drivers_higher
+    (cpus_rise 0 board.cpus) (drivers_rise board.drivers (λ i r at. (is.drivers i r at).rises)))
   where
     cpus_high : AreFrom 70000 (cpus_of board)
     cpus_high = from_less 70000 (70000 + 0) (cpus_of board) (omega arith) (cpus_from 0 board.cpus)
@@ -164,12 +181,14 @@ crew_rises board lines is =
     drivers_high = from_less 70000 80000 (drivers_of board) (omega arith) drivers_higher
 
 -- an actor of the crew differs from the actors before it
-pub is_new : (board : BoardSeen) (lines : List LockSeen) → IsBoard board → (i : ℕ) (a : Actor) → slice_get (workers_of board lines) i ≡ Some a → is_among a (take i (workers_of board lines)) ≡ false
+pub is_new : (board : BoardSeen) (lines : List LockSeen) → IsBoard board → (i : ℕ) (a : Actor)
+    → slice_get (workers_of board lines) i ≡ Some a → is_among a (take i (workers_of board lines)) ≡ false
 is_new board lines is i a at = not_before (workers_of board lines) i a (crew_rises board lines is) at
 
 -- ---- their lines are there
 
-line_there : (lines : List LockSeen) (number : LineNo) → list_any (λ (l : LockSeen). same_line number l.def.line) lines ≡ true → (k : ℕ) × IsPlaceOf lines number (Some k)
+line_there : (lines : List LockSeen) (number : LineNo)
+    → list_any (λ (l : LockSeen). same_line number l.def.line) lines ≡ true → (k : ℕ) × IsPlaceOf lines number (Some k)
 line_there [] number any = cc
 line_there (l ∷ ls) number any = elim (or_cases (same_line number l.def.line) (list_any (λ (l : LockSeen). same_line number l.def.line) ls) any) [
   | inl here ↦ (0, sym (line_from_same number l.def.line here))
@@ -191,7 +210,8 @@ threads_there : (lines : List LockSeen) (xs : List DeviceDef) → EachThere line
 threads_there lines [] = λ i a at. cc
 threads_there lines (x ∷ xs) = by_test (has_worker lines x) refl (threads_there lines xs)
   where
-    by_test : (b : Bool) → has_worker lines x ≡ b → EachThere lines (threads_on lines xs) → EachThere lines (map thread_of (cond b (x ∷ filter (has_worker lines) xs) (filter (has_worker lines) xs)))
+    by_test : (b : Bool) → has_worker lines x ≡ b → EachThere lines (threads_on lines xs)
+        → EachThere lines (map thread_of (cond b (x ∷ filter (has_worker lines) xs) (filter (has_worker lines) xs)))
     by_test true is deeper = first_there lines (thread_of x) (threads_on lines xs) (line_there lines x.line (and_parts (has_thread x.kind) _ is).1) deeper
     by_test false is deeper = deeper
 
@@ -229,7 +249,9 @@ module _ {A : Type 0} where
   filter_more p [] x = refl
   filter_more p (y ∷ ys) x = by_test (p y) (filter_more p ys x)
     where
-      by_test : (b : Bool) → filter p (ys ++ x ∷ []) ≡ filter p ys ++ cond (p x) (x ∷ []) [] → cond b (y ∷ filter p (ys ++ x ∷ [])) (filter p (ys ++ x ∷ [])) ≡ cond b (y ∷ filter p ys) (filter p ys) ++ cond (p x) (x ∷ []) []
+      by_test : (b : Bool) → filter p (ys ++ x ∷ []) ≡ filter p ys ++ cond (p x) (x ∷ []) []
+          → cond b (y ∷ filter p (ys ++ x ∷ [])) (filter p (ys ++ x ∷ []))
+          ≡ cond b (y ∷ filter p ys) (filter p ys) ++ cond (p x) (x ∷ []) []
       by_test true deeper = ap (λ (zs : List A). y ∷ zs) deeper
       by_test false deeper = deeper
 
@@ -238,46 +260,71 @@ map_more f [] x = refl
 map_more f (y ∷ ys) x = ap (λ (zs : List _). f y ∷ zs) (map_more f ys x)
 
 -- one more actor behind the actors that were there
-pub pushed : {A : Type 0} (f : A → Actor) (old now after : List Actor) (xs : List A) (i : ℕ) (x : A) → now ≡ old ++ map f (take i xs) → slice_get xs i ≡ Some x → after ≡ now ++ f x ∷ [] → after ≡ old ++ map f (take (i + 1) xs)
+pub pushed : {A : Type 0} (f : A → Actor) (old now after : List Actor) (xs : List A) (i : ℕ) (x : A)
+    → now ≡ old ++ map f (take i xs) → slice_get xs i ≡ Some x → after ≡ now ++ f x ∷ []
+    → after ≡ old ++ map f (take (i + 1) xs)
 pushed f old now after xs i x is at push =
-    push ∙ (ap (λ (ps : List Actor). ps ++ f x ∷ []) is ∙ (append_assoc old (map f (take i xs)) (f x ∷ []) ∙ ap (λ (ps : List Actor). old ++ ps) (sym (ap (map f) (taken xs i x at) ∙ map_more f (take i xs) x))))
+    push ∙ (ap (λ (ps : List Actor). ps ++ f x ∷ []) is
+    ∙ (append_assoc old (map f (take i xs)) (f x ∷ [])
+    ∙ ap (λ (ps : List Actor). old ++ ps) (sym (ap (map f) (taken xs i x at) ∙ map_more f (take i xs) x))))
 
 counted : (c n : ℕ) → count_up c (suc n) ≡ count_up c n ++ (c + n) ∷ []
 counted c zero = ap (λ (m : ℕ). m ∷ []) (let e : c ≡ c + 0 = omega arith in e)
-counted c (suc n) = ap (λ (ms : List ℕ). c ∷ ms) (counted (c + 1) n ∙ ap (λ (m : ℕ). count_up (c + 1) n ++ m ∷ []) (let e : (c + 1) + n ≡ c + suc n = omega arith in e))
+counted c (suc n) = ap (λ (ms : List ℕ). c ∷ ms) (counted (c + 1) n
+    ∙ ap (λ (m : ℕ). count_up (c + 1) n ++ m ∷ []) (let e : (c + 1) + n ≡ c + suc n = omega arith in e))
 
-pub cpu_pushed : (old now after : List Actor) (c : ℕ) → now ≡ old ++ map (λ n. actors.Cpu (record { 0 = n })) (count_up 0 c) → after ≡ now ++ actors.Cpu (record { 0 = c }) ∷ [] → after ≡ old ++ map (λ n. actors.Cpu (record { 0 = n })) (count_up 0 (c + 1))
+pub cpu_pushed : (old now after : List Actor) (c : ℕ) → now
+    ≡ old ++ map (λ n. actors.Cpu (record { 0 = n })) (count_up 0 c) → after ≡ now ++ actors.Cpu (record { 0 = c }) ∷ []
+    → after ≡ old ++ map (λ n. actors.Cpu (record { 0 = n })) (count_up 0 (c + 1))
 cpu_pushed old now after c is push =
     let more : map cpu_of (count_up 0 (c + 1)) ≡ map cpu_of (count_up 0 c) ++ cpu_of c ∷ [] =
-    ap (λ (n : ℕ). map cpu_of (count_up 0 n)) (add-one c) ∙ (ap (map cpu_of) (counted 0 c ∙ ap (λ (m : ℕ). count_up 0 c ++ m ∷ []) (let e : 0 + c ≡ c = omega arith in e)) ∙ map_more cpu_of (count_up 0 c) c) in
-    push ∙ (ap (λ (ps : List Actor). ps ++ cpu_of c ∷ []) is ∙ (append_assoc old (map cpu_of (count_up 0 c)) (cpu_of c ∷ []) ∙ ap (λ (ps : List Actor). old ++ ps) (sym more)))
+    ap (λ (n : ℕ). map cpu_of (count_up 0 n)) (add-one c)
+    ∙ (ap (map cpu_of) (counted 0 c ∙ ap (λ (m : ℕ). count_up 0 c ++ m ∷ []) (let e : 0 + c ≡ c = omega arith in e))
+    ∙ map_more cpu_of (count_up 0 c) c) in
+    push ∙ (ap (λ (ps : List Actor). ps ++ cpu_of c ∷ []) is
+    ∙ (append_assoc old (map cpu_of (count_up 0 c)) (cpu_of c ∷ [])
+    ∙ ap (λ (ps : List Actor). old ++ ps) (sym more)))
 
 -- a device whose thread has a worker, and one that has none
-threads_more : (lines : List LockSeen) (xs : List DeviceDef) (i : ℕ) (x : DeviceDef) → slice_get xs i ≡ Some x → (b : Bool) → has_worker lines x ≡ b → threads_on lines (take (i + 1) xs) ≡ threads_on lines (take i xs) ++ cond b (thread_of x ∷ []) []
+threads_more : (lines : List LockSeen) (xs : List DeviceDef) (i : ℕ) (x : DeviceDef) → slice_get xs i ≡ Some x
+    → (b : Bool) → has_worker lines x ≡ b → threads_on lines (take (i + 1) xs)
+    ≡ threads_on lines (take i xs) ++ cond b (thread_of x ∷ []) []
 threads_more lines xs i x at b is =
     ap (threads_on lines) (taken xs i x at)
-    ∙ (ap (map thread_of) (filter_more (has_worker lines) (take i xs) x ∙ ap (λ (b : Bool). filter (has_worker lines) (take i xs) ++ cond b (x ∷ []) []) is) ∙ by_test b)
+    ∙ (ap (map thread_of) (filter_more (has_worker lines) (take i xs) x
+    ∙ ap (λ (b : Bool). filter (has_worker lines) (take i xs) ++ cond b (x ∷ []) []) is) ∙ by_test b)
   where
-    by_test : (b : Bool) → map thread_of (filter (has_worker lines) (take i xs) ++ cond b (x ∷ []) []) ≡ threads_on lines (take i xs) ++ cond b (thread_of x ∷ []) []
+    by_test : (b : Bool) → map thread_of (filter (has_worker lines) (take i xs) ++ cond b (x ∷ []) [])
+        ≡ threads_on lines (take i xs) ++ cond b (thread_of x ∷ []) []
     by_test true = map_more thread_of (filter (has_worker lines) (take i xs)) x
     by_test false = ap (map thread_of) (append-nil (filter (has_worker lines) (take i xs))) ∙ sym (append-nil (threads_on lines (take i xs)))
 
-pub thread_pushed : (lines : List LockSeen) (old now after : List Actor) (xs : List DeviceDef) (i : ℕ) (x : DeviceDef) → now ≡ old ++ threads_on lines (take i xs) → slice_get xs i ≡ Some x → has_worker lines x ≡ true → after ≡ now ++ thread_of x ∷ [] → after ≡ old ++ threads_on lines (take (i + 1) xs)
+pub thread_pushed : (lines : List LockSeen) (old now after : List Actor) (xs : List DeviceDef) (i : ℕ) (x : DeviceDef)
+    → now ≡ old ++ threads_on lines (take i xs) → slice_get xs i ≡ Some x → has_worker lines x ≡ true
+    → after ≡ now ++ thread_of x ∷ [] → after ≡ old ++ threads_on lines (take (i + 1) xs)
 thread_pushed lines old now after xs i x is at has push =
-    push ∙ (ap (λ (ps : List Actor). ps ++ thread_of x ∷ []) is ∙ (append_assoc old (threads_on lines (take i xs)) (thread_of x ∷ []) ∙ ap (λ (ps : List Actor). old ++ ps) (sym (threads_more lines xs i x at true has))))
+    push ∙ (ap (λ (ps : List Actor). ps ++ thread_of x ∷ []) is
+    ∙ (append_assoc old (threads_on lines (take i xs)) (thread_of x ∷ [])
+    ∙ ap (λ (ps : List Actor). old ++ ps) (sym (threads_more lines xs i x at true has))))
 
-pub thread_passed : (lines : List LockSeen) (old now : List Actor) (xs : List DeviceDef) (i : ℕ) (x : DeviceDef) → now ≡ old ++ threads_on lines (take i xs) → slice_get xs i ≡ Some x → has_worker lines x ≡ false → now ≡ old ++ threads_on lines (take (i + 1) xs)
-thread_passed lines old now xs i x is at has = is ∙ ap (λ (ps : List Actor). old ++ ps) (sym (threads_more lines xs i x at false has ∙ append-nil (threads_on lines (take i xs))))
+pub thread_passed : (lines : List LockSeen) (old now : List Actor) (xs : List DeviceDef) (i : ℕ) (x : DeviceDef)
+    → now ≡ old ++ threads_on lines (take i xs) → slice_get xs i ≡ Some x → has_worker lines x ≡ false
+    → now ≡ old ++ threads_on lines (take (i + 1) xs)
+thread_passed lines old now xs i x is at has = is ∙ ap (λ (ps : List Actor). old ++ ps)
+    (sym (threads_more lines xs i x at false has ∙ append-nil (threads_on lines (take i xs))))
 
-pub threads_all : (lines : List LockSeen) (old now : List Actor) (xs : List DeviceDef) (i : ℕ) → now ≡ old ++ threads_on lines (take i xs) → length xs ≤ i → now ≡ old ++ threads_on lines xs
+pub threads_all : (lines : List LockSeen) (old now : List Actor) (xs : List DeviceDef) (i : ℕ)
+    → now ≡ old ++ threads_on lines (take i xs) → length xs ≤ i → now ≡ old ++ threads_on lines xs
 threads_all lines old now xs i is end = is ∙ ap (λ (ys : List DeviceDef). old ++ threads_on lines ys) (all_taken xs i end)
 
 -- what was found of a device's line says whether its thread has a worker
-pub place_says : (lines : List LockSeen) (number : LineNo) (o : Option ℕ) → IsPlaceOf lines number o → list_any (λ (l : LockSeen). same_line number l.def.line) lines ≡ is_some o
+pub place_says : (lines : List LockSeen) (number : LineNo) (o : Option ℕ) → IsPlaceOf lines number o
+    → list_any (λ (l : LockSeen). same_line number l.def.line) lines ≡ is_some o
 place_says lines number None is = is
 place_says lines number (Some k) is = any lines k is
   where
-    any : (ls : List LockSeen) (k : ℕ) → IsSomeAnd (slice_get ls k) (λ l. l.def.line ≡ number) → list_any (λ (l : LockSeen). same_line number l.def.line) ls ≡ true
+    any : (ls : List LockSeen) (k : ℕ) → IsSomeAnd (slice_get ls k) (λ l. l.def.line ≡ number)
+        → list_any (λ (l : LockSeen). same_line number l.def.line) ls ≡ true
     any [] k is = absurd is
     any (l ∷ ls) zero is = ap (λ (b : Bool). b || list_any (λ (l : LockSeen). same_line number l.def.line) ls) (same_number number l.def.line is)
       where
@@ -293,12 +340,16 @@ pub not_there : (lines : List LockSeen) (number : LineNo) (dev : DevNo) → IsTh
 not_there lines number dev is none = both_ways (list_any (λ (l : LockSeen). same_line number l.def.line) lines) (place_says lines number (Some is.0) is.1) none
 
 -- a line that is there isn't nowhere
-pub not_placed : (lines : List LockSeen) (number : LineNo) (k : ℕ) (l : LockSeen) → slice_get lines k ≡ Some l → l.def.line ≡ number → IsPlaceOf lines number None → ⊥
+pub not_placed : (lines : List LockSeen) (number : LineNo) (k : ℕ) (l : LockSeen) → slice_get lines k ≡ Some l
+    → l.def.line ≡ number → IsPlaceOf lines number None → ⊥
 not_placed lines number k l at is none =
-    both_ways (list_any (λ (l : LockSeen). same_line number l.def.line) lines) (place_says lines number (Some k) (subst (λ (o : Option LockSeen). IsSomeAnd o (λ l. l.def.line ≡ number)) (sym at) is)) none
+    both_ways (list_any (λ (l : LockSeen). same_line number l.def.line) lines)
+    (place_says lines number (Some k) (subst (λ (o : Option LockSeen). IsSomeAnd o (λ l. l.def.line ≡ number))
+    (sym at) is)) none
 
 -- what is known of a call that was read
-pub read_here : (calls : List ScriptCall) (k at : ℕ) (default d : ScriptCall) (P : ScriptCall → Type 0) → P (get_or calls at default) → at < length calls → k ≡ at → slice_get calls k ≡ Some d → P d
+pub read_here : (calls : List ScriptCall) (k at : ℕ) (default d : ScriptCall) (P : ScriptCall → Type 0)
+    → P (get_or calls at default) → at < length calls → k ≡ at → slice_get calls k ≡ Some d → P d
 read_here calls k at default d P here less same is =
     subst P (the_same (get_or calls at default) d (sym (there_or calls at default less) ∙ (ap (λ (n : ℕ). slice_get calls n) (sym same) ∙ is))) here
 

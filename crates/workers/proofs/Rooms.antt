@@ -1,5 +1,6 @@
 -- How much more the passes of jobs can see, after a try, a turn and a round.
-use Rattle.std.proofs.Common.{◌≡◌, ℕ, zero, suc, ◌<◌, ◌≤◌, IsSomeAnd, Option, Some, None, Result, Ok, Err, List, [], ◌∷◌, length, get_or, set, slice_get, sym, ap, ◌∙◌, subst, arith, length-append}
+use Rattle.std.proofs.Common.{◌≡◌, ℕ, zero, suc, ◌<◌, ◌≤◌, IsSomeAnd, Option, Some, None, Result, Ok, Err, List, []}
+use Rattle.std.proofs.Common.{◌∷◌, length, get_or, set, slice_get, sym, ap, ◌∙◌, subst, arith, length-append}
 use Rattle.irq_base.specs.declared.entries.Entry.{Entry}
 use Rattle.irq_base.specs.declared.lines.LineDef.{LineDef}
 use Rattle.irq_laws.proofs.Chosen.{the_same}
@@ -35,14 +36,16 @@ set_no_more (z ∷ zs) (suc k) y x at less = let l = set_no_more zs k y x at les
 
 -- ---- one try
 
-pub room_after : (lines : List LockSeen) (place : ℕ) (turn : Turn) (old new : JobSeen) → AreSeated lines old → StepsSeat lines place turn old new → RoomAfter turn old new
+pub room_after : (lines : List LockSeen) (place : ℕ) (turn : Turn) (old new : JobSeen) → AreSeated lines old
+    → StepsSeat lines place turn old new → RoomAfter turn old new
 room_after lines place turn old new seated s = subst (λ (t : Turn). RoomAfter t old new) (sym s.told) (by_tried s.tried s.tries)
   where
     seats_are : new.seats ≡ set old.seats place s.after
     seats_are = ap (λ (j : JobSeen). j.seats) s.is
 
     log_before : s.seat.pass.def.log ≡ s.line.def.log
-    log_before = ap (λ (d : LineDef). d.log) (subst (λ (o : Option LockSeen). IsSomeAnd o (λ l. Sits l old.actor s.seat)) s.at_line (seated place s.seat s.at_seat)).of_line.1
+    log_before = ap (λ (d : LineDef). d.log) (subst (λ (o : Option LockSeen). IsSomeAnd o
+        (λ l. Sits l old.actor s.seat)) s.at_line (seated place s.seat s.at_seat)).of_line.1
 
     log_after : s.after.pass.def.log ≡ s.line.def.log
     log_after = ap (λ (d : LineDef). d.log) s.sits.of_line.1
@@ -57,7 +60,9 @@ room_after lines place turn old new seated s = subst (λ (t : Turn). RoomAfter t
         let m = set_no_more old.seats place s.after s.seat s.at_seat r in
         omega (arith, m, same)
 
-    by_tried : (tried : Result (Option Entry) StepRefused) → Tries s.line.def old.actor s.seat.pass.knows tried s.after.pass.knows → RoomAfter (turn_of s.line.def.line tried) old new
+    by_tried : (tried : Result (Option Entry) StepRefused)
+        → Tries s.line.def old.actor s.seat.pass.knows tried s.after.pass.knows
+        → RoomAfter (turn_of s.line.def.line tried) old new
     by_tried (Ok (Some e)) t =
         let g = t.came in
         let l = no_shorter g.history s.seat.pass.knows.seen g.onto in
@@ -87,7 +92,8 @@ room_from turns.NotYet a b c first r = omega (arith, first, r)
 room_from (turns.Full line len) a b c first r = omega (arith, first, r)
 room_from turns.NoMemory a b c first r = omega (arith, first, r)
 
-pub no_more_on : (turn : Turn) (a b c : JobSeen) → room_of_seats b.seats ≤ room_of_seats a.seats → RoomAfter turn b c → room_of_seats c.seats ≤ room_of_seats a.seats
+pub no_more_on : (turn : Turn) (a b c : JobSeen) → room_of_seats b.seats ≤ room_of_seats a.seats → RoomAfter turn b c
+    → room_of_seats c.seats ≤ room_of_seats a.seats
 no_more_on turn a b c first r = let m = no_more_room turn b c r in omega (arith, first, m)
 
 -- with the same passes there is the same room
@@ -128,12 +134,15 @@ all_no_more (x ∷ xs) (y ∷ ys) long each =
     let rest = all_no_more xs ys (omega (arith, long)) (λ k d less. each (suc k) d (omega (arith, less))) in
     omega (arith, first, rest)
 
-pub some_less : (old new : List JobSeen) (i : ℕ) (j : JobSeen) → length new ≡ length old → EachLeaves old new → slice_get new i ≡ Some j → j.left ≡ lefts.Busy → room_of_jobs new < room_of_jobs old
+pub some_less : (old new : List JobSeen) (i : ℕ) (j : JobSeen) → length new ≡ length old → EachLeaves old new
+    → slice_get new i ≡ Some j → j.left ≡ lefts.Busy → room_of_jobs new < room_of_jobs old
 some_less [] [] i j long each at is = cc
 some_less [] (y ∷ ys) i j long each at is = absurd (omega (arith, long))
 some_less (x ∷ xs) [] i j long each at is = cc
 some_less (x ∷ xs) (y ∷ ys) zero j long each at is =
-    let first : room_of_seats y.seats < room_of_seats x.seats = subst (λ (l : Left). RoomLeft l x y) (ap (λ (k : JobSeen). k.left) (the_same y j at) ∙ is) (each 0 x (omega arith)) in
+    let first : room_of_seats y.seats < room_of_seats x.seats
+    = subst (λ (l : Left). RoomLeft l x y) (ap (λ (k : JobSeen). k.left) (the_same y j at) ∙ is)
+    (each 0 x (omega arith)) in
     let rest = all_no_more xs ys (omega (arith, long)) (λ k d less. each (suc k) d (omega (arith, less))) in
     omega (arith, first, rest)
 some_less (x ∷ xs) (y ∷ ys) (suc i) j long each at is =

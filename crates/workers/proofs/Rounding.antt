@@ -1,5 +1,7 @@
 -- What a turn of each kind of actor leaves of its job.
-use Rattle.std.proofs.Common.{◌≡◌, ℕ, suc, ◌+◌, ◌<◌, ◌≤◌, inl, inr, Bool, true, false, ◌&&◌, nat_le, nat_lt, ltb-true, ltb-false, cond, All, IsSomeAnd, Option, Some, None, List, [], ◌∷◌, ◌++◌, map, filter, take, drop, length, get_or, slice_get, refl, sym, ap, ◌∙◌, subst, arith}
+use Rattle.std.proofs.Common.{◌≡◌, ℕ, suc, ◌+◌, ◌<◌, ◌≤◌, inl, inr, Bool, true, false, ◌&&◌, nat_le, nat_lt, ltb-true}
+use Rattle.std.proofs.Common.{ltb-false, cond, All, IsSomeAnd, Option, Some, None, List, [], ◌∷◌, ◌++◌, map, filter}
+use Rattle.std.proofs.Common.{take, drop, length, get_or, slice_get, refl, sym, ap, ◌∙◌, subst, arith}
 use Rattle.irq_base.specs.declared.entries.Actor.{Actor}
 use Rattle.irq_base.specs.declared.entries.Actor.TheVariants as actors
 use Rattle.irq_base.specs.declared.lines.LineDef.{LineDef}
@@ -33,7 +35,8 @@ comes board j (turns.Full line len) rest full = full
 comes board j turns.NoMemory rest full = tt
 
 -- a pass that rests
-idle_of : (lines : List LockSeen) (j : JobSeen) → AreSeated lines j → (i : ℕ) (s : SeatSeen) → slice_get j.seats i ≡ Some s → s.rests ≡ true → IsIdle s.pass.def j.actor s.pass.knows
+idle_of : (lines : List LockSeen) (j : JobSeen) → AreSeated lines j → (i : ℕ) (s : SeatSeen)
+    → slice_get j.seats i ≡ Some s → s.rests ≡ true → IsIdle s.pass.def j.actor s.pass.knows
 idle_of lines j seated i s at rests = by_line (slice_get lines (j.first + i)) (seated i s at)
   where
     by_line : (o : Option LockSeen) → IsSomeAnd o (λ l. Sits l j.actor s) → IsIdle s.pass.def j.actor s.pass.knows
@@ -45,12 +48,26 @@ module _ (board : BoardSeen) (lines : List LockSeen) (turn : Turn) (old new : Jo
   manned_as a is = subst (λ (b : Actor). IsManned board lines old b) is job.manned
 
   works : (k : KeepsSeats lines old new) (a : Actor) → old.actor ≡ a → IsManned board lines new a → WorksOn board lines old new
-  works k a is manned = record { actor = k.actor; first = k.first; as_many = k.as_many; job = record { seated = k.seated; manned = subst (λ (b : Actor). IsManned board lines new b) (sym (k.actor ∙ is)) manned } }
+  works k a is manned = record {
+    actor = k.actor;
+    first = k.first;
+    as_many = k.as_many;
+    job
+        = record {
+          seated = k.seated;
+          manned = subst (λ (b : Actor). IsManned board lines new b) (sym (k.actor ∙ is))
+              manned;
+        };
+  }
 
   pub thread_turned : (line : LineNo) (dev : DevNo) → old.actor ≡ actors.Thread line dev → StepsSeat lines 0 turn old new → TurnsJob board lines turn old new
   thread_turned line dev is s =
       record {
-        works = works k (actors.Thread line dev) is (let l = k.as_many in let o = m.0 in omega (arith, l, o), subst (λ (n : ℕ). IsPlaceOf lines line (Some n)) (sym k.first) m.1);
+        works = works k (actors.Thread line dev) is (
+          let l = k.as_many in let o = m.0 in
+              omega (arith, l, o),
+          subst (λ (n : ℕ). IsPlaceOf lines line (Some n)) (sym k.first) m.1,
+        );
         came = comes board new turn rest (full_is_so lines 0 turn old new s);
         room = room_after lines 0 turn old new job.seated s;
       }
@@ -68,7 +85,8 @@ module _ (board : BoardSeen) (lines : List LockSeen) (turn : Turn) (old new : Jo
           each i t at = elim (seat_now lines 0 turn old new s i t at) [
             | inl here ↦
                 subst (λ (a : Actor). IsIdle t.pass.def a t.pass.knows) (k.actor ∙ is)
-                (idle_of lines new k.seated i t at (ap (λ (x : SeatSeen). x.rests) here.1 ∙ (s.rests ∙ ap rests_after (not_yet_is s.line.def.line s.tried (sym not ∙ s.told)))))
+                (idle_of lines new k.seated i t at (ap (λ (x : SeatSeen). x.rests) here.1
+                ∙ (s.rests ∙ ap rests_after (not_yet_is s.line.def.line s.tried (sym not ∙ s.told)))))
             | inr other ↦ absurd (other.0 (let w = within new.seats i t at in let l = k.as_many in let o = m.0 in omega (arith, w, l, o)))
           ]
 
@@ -87,7 +105,8 @@ module _ (board : BoardSeen) (lines : List LockSeen) (turn : Turn) (old new : Jo
       rest not = subst (λ (a : Actor). IsAtRest board new a) (sym (t.keeps.actor ∙ is)) each
         where
           each : (i : ℕ) (s : SeatSeen) → slice_get new.seats i ≡ Some s → IsIdle s.pass.def (actors.Cpu c) s.pass.knows
-          each i s at = subst (λ (a : Actor). IsIdle s.pass.def a s.pass.knows) (t.keeps.actor ∙ is) (idle_of lines new t.keeps.seated i s at (t.rests not i s at))
+          each i s at = subst (λ (a : Actor). IsIdle s.pass.def a s.pass.knows) (t.keeps.actor ∙ is)
+              (idle_of lines new t.keeps.seated i s at (t.rests not i s at))
 
   pub driven : (r : DriverNo) → old.actor ≡ actors.Driver r → IsDriven board lines r old
   driven r is =
@@ -122,7 +141,17 @@ module _ (board : BoardSeen) (lines : List LockSeen) (now : JobSeen) (left : Lef
   rest_left (actors.Cpu c) r = r
   rest_left (actors.Driver r) rest = elim rest [
     | inl past ↦ inl past
-    | inr w ↦ inr (record { call = w.call; place = w.place; seat = w.seat; at_call = w.at_call; own = w.own; at_seat = w.at_seat; line = w.line; rests = w.rests })
+    | inr w ↦ inr (record {
+      call = w.call;
+      place = w.place;
+      seat = w.seat;
+      at_call = w.at_call;
+      own = w.own;
+      at_seat
+          = w.at_seat;
+      line = w.line;
+      rests = w.rests;
+    })
   ]
 
   left_so : (l : Left) → LeftIsSo board now l → LeftIsSo board (record now { left = left }) l
@@ -131,10 +160,22 @@ module _ (board : BoardSeen) (lines : List LockSeen) (now : JobSeen) (left : Lef
   left_so (lefts.Full line len) is = record { place = is.place; seat = is.seat; at = is.at; number = is.number; is = is.is; log = is.log }
   left_so lefts.NoMemory is = tt
 
-  pub left_at : (old new : JobSeen) → WorksOn board lines old now → LeftIsSo board now left → RoomLeft left old now → new ≡ record now { left = left } → WorksJob board lines old new
+  pub left_at : (old new : JobSeen) → WorksOn board lines old now → LeftIsSo board now left → RoomLeft left old now
+      → new ≡ record now { left = left } → WorksJob board lines old new
   left_at old new w is room same =
       subst (λ (j : JobSeen). WorksJob board lines old j) (sym same)
-      (record { works = record { actor = w.actor; first = w.first; as_many = w.as_many; job = record { seated = w.job.seated; manned = manned_left now.actor w.job.manned } }; left = left_so left is; room = room_left left old now (record now { left = left }) refl room })
+      (record {
+        works = record {
+          actor = w.actor;
+          first = w.first;
+          as_many = w.as_many;
+          job
+              = record { seated = w.job.seated; manned = manned_left now.actor w.job.manned };
+        };
+        left
+            = left_so left is;
+        room = room_left left old now (record now { left = left }) refl room;
+      })
 
 -- ---- all jobs
 
@@ -167,11 +208,14 @@ module _ (board : BoardSeen) (lines : List LockSeen) where
       works_same : works_on k y ≡ works_on k x
       works_same = ap (λ (n : ℕ). nat_le n k && nat_lt k (n + length y.seats)) w.first ∙ ap (λ (n : ℕ). nat_le x.first k && nat_lt k (x.first + n)) w.as_many
 
-      by_test : (b : Bool) → actors_on k ys ≡ actors_on k xs → map (λ (j : JobSeen). j.actor) (cond b (y ∷ filter (works_on k) ys) (filter (works_on k) ys)) ≡ map (λ (j : JobSeen). j.actor) (cond b (x ∷ filter (works_on k) xs) (filter (works_on k) xs))
+      by_test : (b : Bool) → actors_on k ys ≡ actors_on k xs
+          → map (λ (j : JobSeen). j.actor) (cond b (y ∷ filter (works_on k) ys) (filter (works_on k) ys))
+          ≡ map (λ (j : JobSeen). j.actor) (cond b (x ∷ filter (works_on k) xs) (filter (works_on k) xs))
       by_test true deeper = ap (λ (a : Actor). a ∷ actors_on k ys) w.actor ∙ ap (λ (rest : List Actor). x.actor ∷ rest) deeper
       by_test false deeper = deeper
 
-  each_at : (old new : List JobSeen) → length new ≡ length old → EachWorks old new → (i : ℕ) (j : JobSeen) → slice_get new i ≡ Some j → IsJob board lines j × LeftIsSo board j j.left
+  each_at : (old new : List JobSeen) → length new ≡ length old → EachWorks old new → (i : ℕ) (j : JobSeen)
+      → slice_get new i ≡ Some j → IsJob board lines j × LeftIsSo board j j.left
   each_at old new long each i j at =
       let less : i < length old = let w = within new i j at in omega (arith, w, long) in
       let e = each i j less in
@@ -179,17 +223,25 @@ module _ (board : BoardSeen) (lines : List LockSeen) where
       (subst (λ (x : JobSeen). IsJob board lines x) is e.works.job, subst (λ (x : JobSeen). LeftIsSo board x x.left) is e.left)
 
 -- the jobs fit after a round, as they did
-pub still_fit : (lines : List LockSeen) (old new : JobsSeen) → Fit lines old → new.board ≡ old.board → new.firsts ≡ old.firsts → length new.jobs ≡ length old.jobs → KeepsJobs old.board lines old.jobs new.jobs → Fit lines new
+pub still_fit : (lines : List LockSeen) (old new : JobsSeen) → Fit lines old → new.board ≡ old.board
+    → new.firsts ≡ old.firsts → length new.jobs ≡ length old.jobs → KeepsJobs old.board lines old.jobs new.jobs
+    → Fit lines new
 still_fit lines old new fit board firsts long each =
     record {
       defs = fit.defs ∙ ap defs_of (sym board);
       actors = same_actors old.board lines old.jobs new.jobs long each ∙ (fit.actors ∙ ap (λ (b : BoardSeen). workers_of b lines) (sym board));
       each = λ i j at. subst (λ (b : BoardSeen). IsJob b lines j) (sym board) (each_at old.board lines old.jobs new.jobs long each i j at).0;
       firsts = subst (λ (ps : List PassSeen). AreFirsts lines new.jobs ps) (sym firsts)
-          (record { as_many = fit.firsts.as_many; each = λ k p at. subst (λ (whom : List Actor). IsSomeAnd (slice_get lines k) (λ l. IsFirst l whom p)) (sym (same_on old.board lines k old.jobs new.jobs long each)) (fit.firsts.each k p at) });
+          (record {
+            as_many = fit.firsts.as_many;
+            each
+                = λ k p at. subst (λ (whom : List Actor). IsSomeAnd (slice_get lines k) (λ l. IsFirst l whom p))
+                (sym (same_on old.board lines k old.jobs new.jobs long each)) (fit.firsts.each k p at);
+          });
     }
 
-pub left_after : (lines : List LockSeen) (board : BoardSeen) (old new : List JobSeen) → length new ≡ length old → KeepsJobs board lines old new → (i : ℕ) (j : JobSeen) → slice_get new i ≡ Some j → LeftIsSo board j j.left
+pub left_after : (lines : List LockSeen) (board : BoardSeen) (old new : List JobSeen) → length new ≡ length old
+    → KeepsJobs board lines old new → (i : ℕ) (j : JobSeen) → slice_get new i ≡ Some j → LeftIsSo board j j.left
 left_after lines board old new long each i j at = (each_at board lines old new long each i j at).1
 
 -- all of them may be worked on
@@ -200,7 +252,8 @@ all_jobs lines s fit k d less = fit.each k (get_or s.jobs k d) (there_or s.jobs 
 
 -- one job more
 module _ (jobs : List JobSeen) (n : ℕ) (job : JobSeen) (at : slice_get jobs n ≡ Some job) where
-  more : {P : JobSeen → Type 0} → ((k : ℕ) (j : JobSeen) → k < n → slice_get jobs k ≡ Some j → P j) → P job → (k : ℕ) (j : JobSeen) → k < n + 1 → slice_get jobs k ≡ Some j → P j
+  more : {P : JobSeen → Type 0} → ((k : ℕ) (j : JobSeen) → k < n → slice_get jobs k ≡ Some j → P j) → P job
+      → (k : ℕ) (j : JobSeen) → k < n + 1 → slice_get jobs k ≡ Some j → P j
   more {P} old here k j less at_j = elim (two k n less) [
     | inl before ↦ old k j before at_j
     | inr now ↦ subst P (the_same job j (sym at ∙ (ap (λ (i : ℕ). slice_get jobs i) (sym now) ∙ at_j))) here
@@ -211,7 +264,8 @@ module _ (jobs : List JobSeen) (n : ℕ) (job : JobSeen) (at : slice_get jobs n 
   NoneFull m = (k : ℕ) (j : JobSeen) (other : LineNo) (len : ℕ) → k < m → slice_get jobs k ≡ Some j → j.left ≡ lefts.Full other len → ⊥
 
   none_more : NoneFull n → ((other : LineNo) (len : ℕ) → job.left ≡ lefts.Full other len → ⊥) → NoneFull (n + 1)
-  none_more old here k j other len less at_j = more {P = λ x. (other : LineNo) (len : ℕ) → x.left ≡ lefts.Full other len → ⊥} (λ k j less at other len. old k j other len less at) here k j less at_j other len
+  none_more old here k j other len less at_j = more {P = λ x. (other : LineNo) (len : ℕ) → x.left ≡ lefts.Full other len
+      → ⊥} (λ k j less at other len. old k j other len less at) here k j less at_j other len
 
   idle_none : ((k : ℕ) (j : JobSeen) → k < n → slice_get jobs k ≡ Some j → j.left ≡ lefts.Idle) → NoneFull n
   idle_none old k j other len less at_j is = let h : lefts.Idle ≡ lefts.Full other len = sym (old k j less at_j) ∙ is in cc
@@ -223,21 +277,24 @@ module _ (jobs : List JobSeen) (n : ℕ) (job : JobSeen) (at : slice_get jobs n 
         job = job;
         at = at;
         left = is;
-        lowest = λ k j other len less at_j. more {P = λ x. (other : LineNo) (len : ℕ) → x.left ≡ lefts.Full other len → b.0 ≤ other.0} (λ k j less at other len h. absurd (none k j other len less at h))
+        lowest = λ k j other len less at_j. more {P = λ x. (other : LineNo) (len : ℕ) → x.left ≡ lefts.Full other len
+            → b.0 ≤ other.0} (λ k j less at other len h. absurd (none k j other len less at h))
             (λ other len h. let same : lefts.Full b m ≡ lefts.Full other len = sym is ∙ h in le_same b other m len same) k j less at_j other len;
       }
     where
       le_same : (a b : LineNo) (m n : ℕ) → lefts.Full a m ≡ lefts.Full b n → a.0 ≤ b.0
       le_same a b m n h = let e : a ≡ b = cc in let f = ap (λ (l : LineNo). l.0) e in omega (arith, f)
 
-  full_on : (a : LineNo) (m : ℕ) → IsLowestFull jobs n a m → ((other : LineNo) (len : ℕ) → job.left ≡ lefts.Full other len → a.0 ≤ other.0) → IsLowestFull jobs (n + 1) a m
+  full_on : (a : LineNo) (m : ℕ) → IsLowestFull jobs n a m
+      → ((other : LineNo) (len : ℕ) → job.left ≡ lefts.Full other len → a.0 ≤ other.0) → IsLowestFull jobs (n + 1) a m
   full_on a m f here =
       record {
         place = f.place;
         job = f.job;
         at = f.at;
         left = f.left;
-        lowest = λ k j other len less at_j. more {P = λ x. (other : LineNo) (len : ℕ) → x.left ≡ lefts.Full other len → a.0 ≤ other.0} (λ k j less at other len. f.lowest k j other len less at) here k j less at_j other len;
+        lowest = λ k j other len less at_j. more {P = λ x. (other : LineNo) (len : ℕ) → x.left ≡ lefts.Full other len
+            → a.0 ≤ other.0} (λ k j less at other len. f.lowest k j other len less at) here k j less at_j other len;
       }
 
   lower_full : (a b : LineNo) (m l : ℕ) → b.0 < a.0 → job.left ≡ lefts.Full b l → IsLowestFull jobs n a m → IsLowestFull jobs (n + 1) b l
@@ -255,7 +312,8 @@ module _ (jobs : List JobSeen) (n : ℕ) (job : JobSeen) (at : slice_get jobs n 
       le_same : (a b : LineNo) (m n : ℕ) → lefts.Full a m ≡ lefts.Full b n → a.0 ≤ b.0
       le_same a b m n h = let e : a ≡ b = cc in let f = ap (λ (l : LineNo). l.0) e in omega (arith, f)
 
-  no_full : (l : Left) → job.left ≡ l → ((other : LineNo) (len : ℕ) → l ≡ lefts.Full other len → ⊥) → (other : LineNo) (len : ℕ) → job.left ≡ lefts.Full other len → ⊥
+  no_full : (l : Left) → job.left ≡ l → ((other : LineNo) (len : ℕ) → l ≡ lefts.Full other len → ⊥)
+      → (other : LineNo) (len : ℕ) → job.left ≡ lefts.Full other len → ⊥
   no_full l is none other len h = none other len (sym is ∙ h)
 
   pub sums_more : (all l : Left) → job.left ≡ l → SumsUp jobs n all → SumsUp jobs (n + 1) (worse all l)
@@ -263,7 +321,8 @@ module _ (jobs : List JobSeen) (n : ℕ) (job : JobSeen) (at : slice_get jobs n 
     where
       by_test : (t : Bool) → nat_lt b.0 a.0 ≡ t → SumsUp jobs (n + 1) (cond t (lefts.Full b k) (lefts.Full a m))
       by_test true less = lower_full a b m k (ltb-true b.0 a.0 less) is f
-      by_test false not = full_on a m f (λ other len h. let same : lefts.Full b k ≡ lefts.Full other len = sym is ∙ h in le_line other len same (ltb-false b.0 a.0 not))
+      by_test false not = full_on a m f (λ other len h. let same : lefts.Full b k ≡ lefts.Full other len = sym is ∙ h in
+          le_line other len same (ltb-false b.0 a.0 not))
         where
           le_line : (other : LineNo) (len : ℕ) → lefts.Full b k ≡ lefts.Full other len → a.0 ≤ b.0 → a.0 ≤ other.0
           le_line other len h le = let e : b ≡ other = cc in let f = ap (λ (l : LineNo). l.0) e in omega (arith, f, le)
@@ -330,27 +389,33 @@ full_for s line len left f =
 
 -- ---- one round, as the code has it
 
-module _ (lines : List LockSeen) (s : JobsSeen) (fit : Fit lines s) (board : BoardSeen) (jobs here new after : List JobSeen) (firsts : List PassSeen) (is : record { board = board; jobs = jobs; firsts = firsts } ≡ s) (same : here ≡ jobs) where
+module _ (lines : List LockSeen) (s : JobsSeen) (fit : Fit lines s) (board : BoardSeen)
+    (jobs here new after : List JobSeen) (firsts : List PassSeen)
+    (is : record { board = board; jobs = jobs; firsts = firsts } ≡ s) (same : here ≡ jobs) where
   here_is : here ≡ s.jobs
   here_is = same ∙ ap (λ (x : JobsSeen). x.jobs) is
 
   pub round_may : All (IsJob board lines) here
-  round_may = subst (λ (b : BoardSeen). All (IsJob b lines) here) (ap (λ (x : JobsSeen). x.board) (sym is)) (subst (λ (js : List JobSeen). All (IsJob s.board lines) js) (sym here_is) (all_jobs lines s fit))
+  round_may = subst (λ (b : BoardSeen). All (IsJob b lines) here) (ap (λ (x : JobsSeen). x.board) (sym is))
+      (subst (λ (js : List JobSeen). All (IsJob s.board lines) js) (sym here_is) (all_jobs lines s fit))
 
   module _ (long : length new ≡ length here) (keeps : KeepsJobs board lines here new) (back : after ≡ new) where
     keeps_s : KeepsJobs s.board lines s.jobs after
     keeps_s =
         subst (λ (js : List JobSeen). KeepsJobs s.board lines s.jobs js) (sym back)
-        (subst (λ (js : List JobSeen). KeepsJobs s.board lines js new) here_is (subst (λ (b : BoardSeen). KeepsJobs b lines here new) (ap (λ (x : JobsSeen). x.board) is) keeps))
+        (subst (λ (js : List JobSeen). KeepsJobs s.board lines js new) here_is
+        (subst (λ (b : BoardSeen). KeepsJobs b lines here new) (ap (λ (x : JobsSeen). x.board) is) keeps))
 
     long_s : length after ≡ length s.jobs
     long_s = ap (λ (js : List JobSeen). length js) back ∙ (long ∙ ap (λ (js : List JobSeen). length js) here_is)
 
     pub round_fit : Fit lines (record { board = board; jobs = after; firsts = firsts })
-    round_fit = still_fit lines s (record { board = board; jobs = after; firsts = firsts }) fit (ap (λ (x : JobsSeen). x.board) is) (ap (λ (x : JobsSeen). x.firsts) is) long_s keeps_s
+    round_fit = still_fit lines s (record { board = board; jobs = after; firsts = firsts }) fit
+        (ap (λ (x : JobsSeen). x.board) is) (ap (λ (x : JobsSeen). x.firsts) is) long_s keeps_s
 
     pub round_left : EachLeftSo (record { board = board; jobs = after; firsts = firsts })
-    round_left i j at = subst (λ (b : BoardSeen). LeftIsSo b j j.left) (ap (λ (x : JobsSeen). x.board) (sym is)) (left_after lines s.board s.jobs after long_s keeps_s i j at)
+    round_left i j at = subst (λ (b : BoardSeen). LeftIsSo b j j.left) (ap (λ (x : JobsSeen). x.board) (sym is))
+        (left_after lines s.board s.jobs after long_s keeps_s i j at)
 
     pub round_room : room_of_jobs after ≤ room_of_jobs s.jobs
     round_room = all_no_more s.jobs after long_s (λ k d less. (keeps_s k d less).room)

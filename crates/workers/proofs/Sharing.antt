@@ -1,5 +1,6 @@
 -- One more line that is shared.
-use Rattle.std.proofs.Common.{◌≡◌, ℕ, inl, inr, false, IsSomeAnd, Option, Some, None, List, [], ◌∷◌, ◌++◌, map, length, slice_get, refl, sym, ap, ◌∙◌, subst, arith}
+use Rattle.std.proofs.Common.{◌≡◌, ℕ, inl, inr, false, IsSomeAnd, Option, Some, None, List, [], ◌∷◌, ◌++◌, map, length}
+use Rattle.std.proofs.Common.{slice_get, refl, sym, ap, ◌∙◌, subst, arith}
 use Rattle.irq_base.specs.declared.lines.FlowKind.{FlowKind}
 use Rattle.irq_base.specs.declared.lines.LineDef.{LineDef}
 use Rattle.irq_base.specs.declared.numbers.LineNo.{LineNo}
@@ -21,13 +22,23 @@ pub record AreShared (done : List LineSeen) (lines : List LockSeen) (numbers : L
 pub none_shared : AreShared [] [] [] [] []
 none_shared = record { defs = refl; numbered = refl; flowing = refl; each = record { as_many = refl; each = λ k p at. cc } }
 
-pub one_shared : (done : List LineSeen) (lines : List LockSeen) (numbers : List LineNo) (flows : List FlowKind) (firsts : List PassSeen) (x : LineSeen) (l : LockSeen) (n : LineNo) (w : FlowKind) (p : PassSeen) → AreShared done lines numbers flows firsts → l.def ≡ x.def → n ≡ x.def.line → w ≡ x.def.flow
-    → IsPassOf l p → p.knows ≡ nothing_known → p.turn ≡ false → AreShared (done ++ x ∷ []) (lines ++ l ∷ []) (numbers ++ n ∷ []) (flows ++ w ∷ []) (firsts ++ p ∷ [])
+pub one_shared : (done : List LineSeen) (lines : List LockSeen) (numbers : List LineNo) (flows : List FlowKind)
+    (firsts : List PassSeen) (x : LineSeen) (l : LockSeen) (n : LineNo) (w : FlowKind) (p : PassSeen)
+    → AreShared done lines numbers flows firsts → l.def ≡ x.def → n ≡ x.def.line → w ≡ x.def.flow
+    → IsPassOf l p → p.knows ≡ nothing_known → p.turn ≡ false
+    → AreShared (done ++ x ∷ []) (lines ++ l ∷ []) (numbers ++ n ∷ []) (flows ++ w ∷ []) (firsts ++ p ∷ [])
 one_shared done lines numbers flows firsts x l n w p s def number flow of_line knows idle =
     record {
-      defs = map_more (λ (l : LockSeen). l.def) lines l ∙ (ap (λ (ds : List LineDef). ds ++ l.def ∷ []) s.defs ∙ (ap (λ (d : LineDef). map (λ (x : LineSeen). x.def) done ++ d ∷ []) def ∙ sym (map_more (λ (x : LineSeen). x.def) done x)));
-      numbered = ap (λ (ns : List LineNo). ns ++ n ∷ []) s.numbered ∙ (ap (λ (m : LineNo). numbers_of lines ++ m ∷ []) (number ∙ ap (λ (d : LineDef). d.line) (sym def)) ∙ sym (map_more (λ (l : LockSeen). l.def.line) lines l));
-      flowing = ap (λ (ns : List FlowKind). ns ++ w ∷ []) s.flowing ∙ (ap (λ (m : FlowKind). flows_of lines ++ m ∷ []) (flow ∙ ap (λ (d : LineDef). d.flow) (sym def)) ∙ sym (map_more (λ (l : LockSeen). l.def.flow) lines l));
+      defs = map_more (λ (l : LockSeen). l.def) lines l
+          ∙ (ap (λ (ds : List LineDef). ds ++ l.def ∷ []) s.defs
+          ∙ (ap (λ (d : LineDef). map (λ (x : LineSeen). x.def) done ++ d ∷ []) def
+          ∙ sym (map_more (λ (x : LineSeen). x.def) done x)));
+      numbered = ap (λ (ns : List LineNo). ns ++ n ∷ []) s.numbered
+          ∙ (ap (λ (m : LineNo). numbers_of lines ++ m ∷ []) (number ∙ ap (λ (d : LineDef). d.line) (sym def))
+          ∙ sym (map_more (λ (l : LockSeen). l.def.line) lines l));
+      flowing = ap (λ (ns : List FlowKind). ns ++ w ∷ []) s.flowing
+          ∙ (ap (λ (m : FlowKind). flows_of lines ++ m ∷ []) (flow ∙ ap (λ (d : LineDef). d.flow) (sym def))
+          ∙ sym (map_more (λ (l : LockSeen). l.def.flow) lines l));
       each = record {
         as_many = let a = s.each.as_many in let b = length_snoc firsts p in let c = length_snoc lines l in omega (arith, a, b, c);
         each = each;
@@ -35,9 +46,18 @@ one_shared done lines numbers flows firsts x l n w p s def number flow of_line k
     }
   where
     is_first : IsFirst l (actors_on (length firsts) []) p
-    is_first = record { of_line = of_line; idle = idle; actor = ap (λ (k : Known). k.actor) knows; given = ap (λ (k : Known). k.given) knows; out = ap (λ (k : Known). k.out) knows }
+    is_first = record {
+      of_line = of_line;
+      idle = idle;
+      actor = ap (λ (k : Known). k.actor) knows;
+      given
+          = ap (λ (k : Known). k.given) knows;
+      out = ap (λ (k : Known). k.out) knows;
+    }
 
-    old_line : (k : ℕ) (q : PassSeen) (o : Option LockSeen) → slice_get lines k ≡ o → IsSomeAnd o (λ l. IsFirst l (actors_on k []) q) → IsSomeAnd (slice_get (lines ++ l ∷ []) k) (λ l. IsFirst l (actors_on k []) q)
+    old_line : (k : ℕ) (q : PassSeen) (o : Option LockSeen) → slice_get lines k ≡ o
+        → IsSomeAnd o (λ l. IsFirst l (actors_on k []) q)
+        → IsSomeAnd (slice_get (lines ++ l ∷ []) k) (λ l. IsFirst l (actors_on k []) q)
     old_line k q None at is = absurd is
     old_line k q (Some y) at is = subst (λ (o : Option LockSeen). IsSomeAnd o (λ l. IsFirst l (actors_on k []) q)) (sym (at_old lines (l ∷ []) k y at)) is
 
@@ -49,15 +69,20 @@ one_shared done lines numbers flows firsts x l n w p s def number flow of_line k
           subst (λ (o : Option LockSeen). IsSomeAnd o (λ l. IsFirst l (actors_on k []) q)) (sym here) (subst (λ (r : PassSeen). IsFirst l [] r) now.1 is_first)
     ]
 
-pub all_shared : (done all : List LineSeen) (lines : List LockSeen) (numbers : List LineNo) (flows : List FlowKind) (firsts : List PassSeen) → AreShared done lines numbers flows firsts → done ≡ all → map (λ (l : LockSeen). l.def) lines ≡ map (λ (x : LineSeen). x.def) all
+pub all_shared : (done all : List LineSeen) (lines : List LockSeen) (numbers : List LineNo) (flows : List FlowKind)
+    (firsts : List PassSeen) → AreShared done lines numbers flows firsts → done ≡ all
+    → map (λ (l : LockSeen). l.def) lines ≡ map (λ (x : LineSeen). x.def) all
 all_shared done all lines numbers flows firsts s same = s.defs ∙ ap (map (λ (x : LineSeen). x.def)) same
 
-pub shared_as : (done also : List LineSeen) (lines more : List LockSeen) (numbers nos : List LineNo) (flows ways : List FlowKind) (firsts ones : List PassSeen) → AreShared done lines numbers flows firsts → also ≡ done → more ≡ lines → nos ≡ numbers → ways ≡ flows → ones ≡ firsts → AreShared also more nos ways ones
+pub shared_as : (done also : List LineSeen) (lines more : List LockSeen) (numbers nos : List LineNo)
+    (flows ways : List FlowKind) (firsts ones : List PassSeen) → AreShared done lines numbers flows firsts → also ≡ done
+    → more ≡ lines → nos ≡ numbers → ways ≡ flows → ones ≡ firsts → AreShared also more nos ways ones
 shared_as done also lines more numbers nos flows ways firsts ones s a b c d e =
     subst (λ (x : List LineSeen). AreShared x more nos ways ones) (sym a)
     (subst (λ (x : List LockSeen). AreShared done x nos ways ones) (sym b)
     (subst (λ (x : List LineNo). AreShared done lines x ways ones) (sym c)
-    (subst (λ (x : List FlowKind). AreShared done lines numbers x ones) (sym d) (subst (λ (x : List PassSeen). AreShared done lines numbers flows x) (sym e) s))))
+    (subst (λ (x : List FlowKind). AreShared done lines numbers x ones) (sym d)
+    (subst (λ (x : List PassSeen). AreShared done lines numbers flows x) (sym e) s))))
 
 pub map_same : {A : Type 0} (xs : List A) → map (λ y. y) xs ≡ xs
 map_same [] = refl

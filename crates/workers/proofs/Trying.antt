@@ -34,7 +34,8 @@ pub waits_first : (line : LockSeen) (old : PassSeen) → IsPassOf line old → o
 waits_first line old of_line idle = record { of_line = of_line; idle = idle; actor = refl; mine = refl; begins = begins_self old.knows.seen }
 
 -- a step that left the history as it was
-module _ (def : LineDef) (who : Actor) (old mid new : Known) (begins : BeginsWith mid.seen old.seen) (entries : List Entry) (sees : BeginsWith entries mid.seen) where
+module _ (def : LineDef) (who : Actor) (old mid new : Known) (begins : BeginsWith mid.seen old.seen)
+    (entries : List Entry) (sees : BeginsWith entries mid.seen) where
   pub same_begins : new.seen ≡ entries → BeginsWith new.seen old.seen
   same_begins is = subst (λ (h : List Entry). BeginsWith h old.seen) (sym is) (begins_more entries mid.seen old.seen sees begins)
 
@@ -63,7 +64,11 @@ module _ (line : LockSeen) (who : Actor) (old mid new : PassSeen) (said : Option
   tries_not_yet s =
       record {
         begins = same_begins line.def who old.knows mid.knows new.knows w.begins s.line.entries s.begins s.gains.0;
-        came = (ap (λ (h : List Entry). next line.def h who) s.gains.0 ∙ subst (λ (d : LineDef). next d s.line.entries who ≡ None) s.def s.answer.0, s.gains.1 ∙ w.mine);
+        came = (
+          ap (λ (h : List Entry). next line.def h who) s.gains.0
+              ∙ subst (λ (d : LineDef). next d s.line.entries who ≡ None) s.def s.answer.0,
+          s.gains.1 ∙ w.mine,
+        );
       }
 
   -- within a flow something was due
@@ -79,7 +84,8 @@ module _ (line : LockSeen) (who : Actor) (old mid new : PassSeen) (said : Option
         begins = same_begins line.def who old.knows mid.knows new.knows w.begins s.line.entries s.begins s.gains.0;
         came = (
           record {
-            due = subst (λ (h : List Entry). IsSome (next line.def h who)) (sym s.gains.0) (subst (λ (d : LineDef). IsSome (next d s.line.entries who)) s.def s.answer.0.due);
+            due = subst (λ (h : List Entry). IsSome (next line.def h who)) (sym s.gains.0)
+                (subst (λ (d : LineDef). IsSome (next d s.line.entries who)) s.def s.answer.0.due);
             length = ap length s.gains.0 ∙ full;
           },
           s.answer.0.told ∙ full,
@@ -95,7 +101,8 @@ module _ (line : LockSeen) (who : Actor) (old mid new : PassSeen) (said : Option
         came = s.gains.1 ∙ w.mine;
       }
 
-  pub waits_on : (run : Run) → Steps line.def who mid.knows said (Ok (stepped.Run run)) new.knows → IsPassOf line new → new.turn ≡ false → new.knows.actor ≡ mid.knows.actor → Waits line old new
+  pub waits_on : (run : Run) → Steps line.def who mid.knows said (Ok (stepped.Run run)) new.knows → IsPassOf line new
+      → new.turn ≡ false → new.knows.actor ≡ mid.knows.actor → Waits line old new
   waits_on run s of_line idle actor =
       record {
         of_line = of_line;

@@ -1,5 +1,6 @@
 -- One try with a pass of a job.
-use Rattle.std.proofs.Common.{◌≡◌, ℕ, ◌+◌, ◌<◌, inl, inr, true, false, IsSomeAnd, Option, Some, None, Result, Ok, Err, List, length, get_or, set, slice_get, slice_set, refl, sym, ap, ◌∙◌, subst, arith}
+use Rattle.std.proofs.Common.{◌≡◌, ℕ, ◌+◌, ◌<◌, inl, inr, true, false, IsSomeAnd, Option, Some, None, Result, Ok, Err}
+use Rattle.std.proofs.Common.{List, length, get_or, set, slice_get, slice_set, refl, sym, ap, ◌∙◌, subst, arith}
 use Rattle.std.proofs.Math.ListN.{length-map}
 use Rattle.irq_base.specs.declared.entries.Actor.{Actor}
 use Rattle.irq_base.specs.declared.entries.Entry.{Entry}
@@ -30,12 +31,22 @@ pub at_place : (lines : List LockSeen) (j : JobSeen) (place : ℕ) → AreSeated
 at_place lines j place seated less =
     let s = there j.seats place less in by_line s.0 s.1 (slice_get lines (j.first + place)) refl (seated place s.0 s.1)
   where
-    by_line : (s : SeatSeen) → slice_get j.seats place ≡ Some s → (o : Option LockSeen) → slice_get lines (j.first + place) ≡ o → IsSomeAnd o (λ l. Sits l j.actor s) → AtPlace lines j place
+    by_line : (s : SeatSeen) → slice_get j.seats place ≡ Some s → (o : Option LockSeen)
+        → slice_get lines (j.first + place) ≡ o → IsSomeAnd o (λ l. Sits l j.actor s) → AtPlace lines j place
     by_line s at None at_line is = absurd is
-    by_line s at (Some l) at_line is = record { line = l; seat = s; at_line = at_line; at_seat = at; sits = is; in_lines = within lines (j.first + place) l at_line }
+    by_line s at (Some l) at_line is = record {
+      line = l;
+      seat = s;
+      at_line = at_line;
+      at_seat = at;
+      sits = is;
+      in_lines
+          = within lines (j.first + place) l at_line;
+    }
 
 -- what the code takes there
-module _ (lines here : List LockSeen) (j : JobSeen) (first place : ℕ) (seats : List SeatSeen) (a : AtPlace lines j place) (same : here ≡ lines) (from : first ≡ j.first) (are : seats ≡ j.seats) where
+module _ (lines here : List LockSeen) (j : JobSeen) (first place : ℕ) (seats : List SeatSeen)
+    (a : AtPlace lines j place) (same : here ≡ lines) (from : first ≡ j.first) (are : seats ≡ j.seats) where
   k_is : first + place ≡ j.first + place
   k_is = omega (arith, from)
 
@@ -43,34 +54,46 @@ module _ (lines here : List LockSeen) (j : JobSeen) (first place : ℕ) (seats :
   in_here = let w = a.in_lines in let e = ap (λ (ls : List LockSeen). length ls) same in omega (arith, w, e, from)
 
   pub in_numbers : (numbers : List LineNo) → numbers ≡ numbers_of here → first + place < length numbers
-  in_numbers numbers is = let w = in_here in let e = ap (λ (ns : List LineNo). length ns) is in let m = length-map here (λ (l : LockSeen). l.def.line) in omega (arith, w, e, m)
+  in_numbers numbers is = let w = in_here in let e = ap (λ (ns : List LineNo). length ns) is in
+      let m = length-map here (λ (l : LockSeen). l.def.line) in omega (arith, w, e, m)
 
   pub line_is : (l : LockSeen) → l ≡ get_or here (first + place) l → l ≡ a.line
   line_is l is =
       the_same l a.line
-      (ap (λ (x : LockSeen). Some x) is ∙ (sym (there_or here (first + place) l in_here) ∙ (ap (λ (ls : List LockSeen). slice_get ls (first + place)) same ∙ (ap (λ (i : ℕ). slice_get lines i) k_is ∙ a.at_line))))
+      (ap (λ (x : LockSeen). Some x) is ∙ (sym (there_or here (first + place) l in_here)
+      ∙ (ap (λ (ls : List LockSeen). slice_get ls (first + place)) same
+      ∙ (ap (λ (i : ℕ). slice_get lines i) k_is ∙ a.at_line))))
 
   pub seat_is : (s : SeatSeen) → s ≡ get_or seats place s → s ≡ a.seat
   seat_is s is =
-      let less : place < length seats = let w = within j.seats place a.seat a.at_seat in let e = ap (λ (ss : List SeatSeen). length ss) are in omega (arith, w, e) in
-      the_same s a.seat (ap (λ (x : SeatSeen). Some x) is ∙ (sym (there_or seats place s less) ∙ (ap (λ (ss : List SeatSeen). slice_get ss place) are ∙ a.at_seat)))
+      let less : place < length seats = let w = within j.seats place a.seat a.at_seat in
+      let e = ap (λ (ss : List SeatSeen). length ss) are in omega (arith, w, e) in
+      the_same s a.seat (ap (λ (x : SeatSeen). Some x) is
+      ∙ (sym (there_or seats place s less) ∙ (ap (λ (ss : List SeatSeen). slice_get ss place) are ∙ a.at_seat)))
 
   pub number_is : (numbers : List LineNo) (d : LineNo) → numbers ≡ numbers_of here → get_or numbers (first + place) d ≡ a.line.def.line
   number_is numbers d are_numbers =
       the_same (get_or numbers (first + place) d) a.line.def.line
-      (sym (there_or numbers (first + place) d (in_numbers numbers are_numbers)) ∙ (ap (λ (ns : List LineNo). slice_get ns (first + place)) (are_numbers ∙ ap numbers_of same)
+      (sym (there_or numbers (first + place) d (in_numbers numbers are_numbers))
+      ∙ (ap (λ (ns : List LineNo). slice_get ns (first + place)) (are_numbers ∙ ap numbers_of same)
       ∙ (ap (λ (i : ℕ). slice_get (numbers_of lines) i) k_is ∙ at_map (λ (l : LockSeen). l.def.line) lines (j.first + place) a.line a.at_line)))
 
 -- when nothing was due, that is known
-rests_idle : (def : LineDef) (who : Actor) (old new : Known) (tried : Result (Option Entry) StepRefused) → Tries def who old tried new → rests_after tried ≡ true → IsIdle def who new
+rests_idle : (def : LineDef) (who : Actor) (old new : Known) (tried : Result (Option Entry) StepRefused)
+    → Tries def who old tried new → rests_after tried ≡ true → IsIdle def who new
 rests_idle def who old new (Ok (Some e)) t is = cc
 rests_idle def who old new (Ok None) t is = t.came.0
 rests_idle def who old new (Err (refusals.Full len)) t is = cc
 rests_idle def who old new (Err refusals.NoMemory) t is = cc
 
-pub steps_seat : (lines : List LockSeen) (j now : JobSeen) (place : ℕ) (a : AtPlace lines j place) (number : LineNo) (turn : Turn) (tried : Result (Option Entry) StepRefused) (after : SeatSeen)
-    → turn ≡ turn_of number tried → number ≡ a.line.def.line → now ≡ record j { seats = slice_set j.seats place after } → IsPassOf a.line after.pass → after.pass.turn ≡ false → after.pass.knows.actor ≡ a.seat.pass.knows.actor → after.rests ≡ rests_after tried
-    → ((who : Actor) → a.seat.pass.knows.actor ≡ Some who → Tries a.line.def who a.seat.pass.knows tried after.pass.knows) → (a.seat.rests ≡ false → FlowMoves a.line.def a.seat.pass.knows tried) → StepsSeat lines place turn j now
+pub steps_seat : (lines : List LockSeen) (j now : JobSeen) (place : ℕ) (a : AtPlace lines j place) (number : LineNo)
+    (turn : Turn) (tried : Result (Option Entry) StepRefused) (after : SeatSeen)
+    → turn ≡ turn_of number tried → number ≡ a.line.def.line → now ≡ record j { seats = slice_set j.seats place after }
+    → IsPassOf a.line after.pass → after.pass.turn ≡ false → after.pass.knows.actor ≡ a.seat.pass.knows.actor
+    → after.rests ≡ rests_after tried
+    → ((who : Actor) → a.seat.pass.knows.actor ≡ Some who
+    → Tries a.line.def who a.seat.pass.knows tried after.pass.knows)
+    → (a.seat.rests ≡ false → FlowMoves a.line.def a.seat.pass.knows tried) → StepsSeat lines place turn j now
 steps_seat lines j now place a number turn tried after told its is of_line idle actor rests tries flows =
     let t = tries j.actor a.sits.actor in
     record {
@@ -82,7 +105,14 @@ steps_seat lines j now place a number turn tried after told its is of_line idle 
       at_seat = a.at_seat;
       told = told ∙ ap (λ (n : LineNo). turn_of n tried) its;
       is = is;
-      sits = record { of_line = of_line; idle = idle; actor = actor ∙ a.sits.actor; rests = λ h. rests_idle a.line.def j.actor a.seat.pass.knows after.pass.knows tried t (sym rests ∙ h) };
+      sits = record {
+        of_line = of_line;
+        idle = idle;
+        actor = actor
+            ∙ a.sits.actor;
+        rests = λ h. rests_idle a.line.def j.actor a.seat.pass.knows after.pass.knows tried t
+            (sym rests ∙ h);
+      };
       tries = t;
       rests = rests;
       flows = flows;
@@ -90,13 +120,16 @@ steps_seat lines j now place a number turn tried after told its is of_line idle 
 
 -- ---- what a try keeps
 
-pub still_seated : (lines : List LockSeen) (place : ℕ) (turn : Turn) (old new : JobSeen) → AreSeated lines old → StepsSeat lines place turn old new → AreSeated lines new
+pub still_seated : (lines : List LockSeen) (place : ℕ) (turn : Turn) (old new : JobSeen) → AreSeated lines old
+    → StepsSeat lines place turn old new → AreSeated lines new
 still_seated lines place turn old new seated s =
     subst (λ (j : JobSeen). AreSeated lines j) (sym s.is) each
   where
     each : AreSeated lines (record old { seats = set old.seats place s.after })
     each i t at = elim (at_set old.seats place s.after i t at) [
       | inl here ↦
-          subst (λ (o : Option LockSeen). IsSomeAnd o (λ l. Sits l old.actor t)) (sym (ap (λ (k : ℕ). slice_get lines (old.first + k)) here.0 ∙ s.at_line)) (subst (λ (x : SeatSeen). Sits s.line old.actor x) (sym here.1) s.sits)
+          subst (λ (o : Option LockSeen). IsSomeAnd o (λ l. Sits l old.actor t))
+          (sym (ap (λ (k : ℕ). slice_get lines (old.first + k)) here.0 ∙ s.at_line))
+          (subst (λ (x : SeatSeen). Sits s.line old.actor x) (sym here.1) s.sits)
       | inr other ↦ seated i t other.1
     ]

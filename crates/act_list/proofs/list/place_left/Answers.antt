@@ -15,5 +15,6 @@ pub loop-dev-preserved : goal.loop-dev-preserved
 loop-dev-preserved c = record {
   within = place_within c.args.actions.now.actions c.loop-dev.place c.in-Some.dev c.in-Some.ensures;
   begun =
-      begun_next (stamped c.args.stamp c.args.stamps.now) c.args.actions.now.actions c.loop-dev.place c.in-Some.dev c.in-Some.ensures (sym c.is_stamped.ensures ∙ c.if-not-is_stamped.false) c.loop-dev.invariant.begun;
+      begun_next (stamped c.args.stamp c.args.stamps.now) c.args.actions.now.actions c.loop-dev.place c.in-Some.dev
+      c.in-Some.ensures (sym c.is_stamped.ensures ∙ c.if-not-is_stamped.false) c.loop-dev.invariant.begun;
 }

@@ -9,14 +9,17 @@ pub place_of-script-requires : goal.place_of-script-requires
 place_of-script-requires c = rising_drivers c.args.board.now c.is_board.ensures.board c.args.driver_numbers.now c.requires
 
 pub push_call-requires : goal.push_call-requires
-push_call-requires c = script_there c.args.board.now c.loop-i.own.items c.args.driver_numbers.now c.in-Some.driver.0 c.place_of-script.result c.loop-i.invariant.drivers c.requires c.place_of-script.ensures
+push_call-requires c = script_there c.args.board.now c.loop-i.own.items c.args.driver_numbers.now c.in-Some.driver.0
+    c.place_of-script.result c.loop-i.invariant.drivers c.requires c.place_of-script.ensures
 
 pub loop-i-init : goal.loop-i-init
 loop-i-init c = bare_first c.args.board.now c.in_ok-own.own.items c.in_ok-own.ensures c.args.def.now.calls
 
 pub loop-i-preserved : goal.loop-i-preserved
 loop-i-preserved c =
-    bare_more c.args.board.now.drivers (λ i r at. (c.is_board.ensures.board.drivers i r at).rises) c.args.driver_numbers.now c.requires c.args.def.now.calls c.loop-i.i c.in-Some.driver _ (c.in-Some.driver, c.in-Some.call) (sym c.in-Some.ensures) refl refl
+    bare_more c.args.board.now.drivers (λ i r at. (c.is_board.ensures.board.drivers i r at).rises)
+    c.args.driver_numbers.now c.requires c.args.def.now.calls c.loop-i.i c.in-Some.driver _
+    (c.in-Some.driver, c.in-Some.call) (sym c.in-Some.ensures) refl refl
     c.place_of-script.result c.place_of-script.ensures c.loop-i.own.items c.push_call.new.scripts.items c.in_ok-push_call.ensures c.loop-i.invariant
 
 pub returns : goal.returns

@@ -15,6 +15,8 @@ loop-i-preserved c =
           w.devices-is ∙ (w.in_ok-push.ensures.ok ∙ (ap (λ ds. ds ++ w.in-Some.device ∷ []) c.loop-i.invariant
           ∙ sym (kept_at on_line all i w.in-Some.device true (sym w.in-Some.ensures) (sym w.eq.ensures ∙ w.if-eq.true))))
       | in-Some+else-eq w ↦
-          w.devices-is ∙ (c.loop-i.invariant ∙ (sym (append-nil (filter on_line (take i all))) ∙ sym (kept_at on_line all i w.in-Some.device false (sym w.in-Some.ensures) (sym w.eq.ensures ∙ w.if-eq.false))))
+          w.devices-is ∙ (c.loop-i.invariant ∙ (sym (append-nil (filter on_line (take i all)))
+          ∙ sym (kept_at on_line all i w.in-Some.device false (sym w.in-Some.ensures)
+          (sym w.eq.ensures ∙ w.if-eq.false))))
       | in_default w ↦ w.devices-is ∙ (c.loop-i.invariant ∙ sym (kept_past on_line all i (sym w.in_default.ensures)))
     ]

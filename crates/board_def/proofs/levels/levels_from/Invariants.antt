@@ -7,7 +7,8 @@ use Rattle.board_def.proofs.levels.levels_from.Given as goal
 abbrev pub invariant-loop-levels : goal.invariant-loop-levels
 invariant-loop-levels l = record {
   few : l.levels.count ≤ 8;
-  passed : passed l.levels (left_of_way (8 - l.levels.count) (defs_of l.board.domains) l.at) ≡ passed none_passed (kinds_from (defs_of l.board.domains) l.fn.from);
+  passed : passed l.levels (left_of_way (8 - l.levels.count) (defs_of l.board.domains) l.at)
+      ≡ passed none_passed (kinds_from (defs_of l.board.domains) l.fn.from);
 }
 
 abbrev pub decreases-loop-levels : goal.decreases-loop-levels

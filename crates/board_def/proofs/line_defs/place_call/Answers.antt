@@ -4,7 +4,8 @@ use Rattle.board_def.proofs.line_defs.place_call.Goals as goal
 
 pub returns-in_ok-add_call : goal.returns-in_ok-add_call
 returns-in_ok-add_call c =
-    call_given c.args.board.now c.args.index c.args.call c.in-Some.place c.index_mut.result.now c.is_board.ensures.board c.requires.there (sym c.in-Some.ensures) c.args.defs.now.items c.requires.before
+    call_given c.args.board.now c.args.index c.args.call c.in-Some.place c.index_mut.result.now c.is_board.ensures.board
+    c.requires.there (sym c.in-Some.ensures) c.args.defs.now.items c.requires.before
     c.index_mut.ensures.value c.add_call.new.def c.in_ok-add_call.ensures
 
 pub returns-in_default : goal.returns-in_default

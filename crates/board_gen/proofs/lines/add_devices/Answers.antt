@@ -9,7 +9,8 @@ pub add_device-requires : goal.add_device-requires
 add_device-requires c =
     let k = c.loop-i.invariant in
     record {
-      board = device_grows c.args.board.now c.loop-i.board c.args.line c.args.first c.args.devices c.loop-i.i c.args.draws.now.x c.kind.result k.devices c.is_board.ensures.board
+      board = device_grows c.args.board.now c.loop-i.board c.args.line c.args.first c.args.devices c.loop-i.i
+          c.args.draws.now.x c.kind.result k.devices c.is_board.ensures.board
           c.requires.line c.requires.first c.requires.few c.loop-i-test.true c.requires.count k.rises;
     }
 
@@ -22,6 +23,7 @@ loop-i-preserved c =
     let kind : c.kind.result ≡ kind_of (draw (i + 1) 3 x0) = c.kind.ensures ∙ ap kind_of (c.draw.ensures.drawn ∙ ap (drawn 3) next) in
     record {
       drawn = next;
-      devices = devices_next c.args.board.now c.loop-i.board c.add_device.new.self c.args.line c.args.first i x0 c.kind.result k.devices c.in_ok-add_device.ensures.added kind;
+      devices = devices_next c.args.board.now c.loop-i.board c.add_device.new.self c.args.line c.args.first i x0
+          c.kind.result k.devices c.in_ok-add_device.ensures.added kind;
       rises = rises_next c.loop-i.board c.add_device.new.self c.args.line c.args.first i c.kind.result k.rises c.in_ok-add_device.ensures.added;
     }

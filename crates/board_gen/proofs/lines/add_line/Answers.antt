@@ -25,7 +25,9 @@ add_script-requires-clause-scripted c =
     let s : Script = record { number = c.args.number; first = c.args.first; devices = devices; asks = 50 + c.draw.result } in
     let is = begun_is c.args.board.now c.add_row.new.board c.add_devices.new.board c.add_driver.new.self c.args.number c.draw-domain.result c.args.first kinds
     c.in_ok-add_row.ensures c.in_ok-add_devices.ensures.devices c.in_ok-add_driver.ensures.added in
-    subst (λ (b : BoardSeen). IsScripted s b) (sym is) (scripted_first c.args.board.now c.draw-domain.result kinds s c.requires.up_to (kinds_length devices c.draw-devices.new.self.x))
+    subst (λ (b : BoardSeen). IsScripted s b) (sym is)
+    (scripted_first c.args.board.now c.draw-domain.result kinds s c.requires.up_to
+    (kinds_length devices c.draw-devices.new.self.x))
 
 pub returns-clause-drawn : goal.returns-clause-drawn
 returns-clause-drawn c =
@@ -39,11 +41,15 @@ returns-clause-line c =
     let x2 = c.draw-devices.new.self.x in
     let x4 = c.draw.new.self.x in
     let devices = 1 + c.draw-devices.result in
-    let is = begun_is c.args.board.now c.add_row.new.board c.add_devices.new.board c.add_driver.new.self c.args.number c.draw-domain.result c.args.first (kinds_drawn devices x2)
+    let is = begun_is c.args.board.now c.add_row.new.board c.add_devices.new.board c.add_driver.new.self c.args.number
+    c.draw-domain.result c.args.first (kinds_drawn devices x2)
     c.in_ok-add_row.ensures c.in_ok-add_devices.ensures.devices c.in_ok-add_driver.ensures.added in
-    let last = x_line x0 x1 x2 c.add_devices.new.draws.x x4 devices c.draw-domain.ensures.x c.draw-devices.ensures.x c.in_ok-add_devices.ensures.drawn c.draw.ensures.x in
-    line_is c.args.board.now c.add_driver.new.self c.add_script.new.board c.args.number c.args.first c.draw-domain.result c.draw-devices.result c.draw.result x0 x1 x2 x4
-    c.draw-domain.ensures.x c.draw-devices.ensures.x last c.draw-domain.ensures.drawn c.draw-devices.ensures.drawn c.draw.ensures.drawn is c.in_ok-add_script.ensures.calls
+    let last = x_line x0 x1 x2 c.add_devices.new.draws.x x4 devices c.draw-domain.ensures.x c.draw-devices.ensures.x
+    c.in_ok-add_devices.ensures.drawn c.draw.ensures.x in
+    line_is c.args.board.now c.add_driver.new.self c.add_script.new.board c.args.number c.args.first
+    c.draw-domain.result c.draw-devices.result c.draw.result x0 x1 x2 x4
+    c.draw-domain.ensures.x c.draw-devices.ensures.x last c.draw-domain.ensures.drawn c.draw-devices.ensures.drawn
+    c.draw.ensures.drawn is c.in_ok-add_script.ensures.calls
 
 pub returns-clause-up_to : goal.returns-clause-up_to
 returns-clause-up_to c =
@@ -53,8 +59,12 @@ returns-clause-up_to c =
     let s : Script = record { number = c.args.number; first = c.args.first; devices = devices; asks = 50 + c.draw.result } in
     let is = begun_is c.args.board.now c.add_row.new.board c.add_devices.new.board c.add_driver.new.self c.args.number c.draw-domain.result c.args.first kinds
     c.in_ok-add_row.ensures c.in_ok-add_devices.ensures.devices c.in_ok-add_driver.ensures.added in
-    let rises : All (λ (e : DeviceDef). e.dev.0 < c.args.first + (1 + c.draw-devices.result)) (begun c.args.board.now c.args.number c.draw-domain.result c.args.first kinds).devices =
+    let rises : All (λ (e : DeviceDef). e.dev.0 < c.args.first + (1 + c.draw-devices.result))
+    (begun c.args.board.now c.args.number c.draw-domain.result c.args.first kinds).devices =
     subst (λ (b : BoardSeen). All (λ (e : DeviceDef). e.dev.0 < c.args.first + (1 + c.draw-devices.result)) b.devices) is
-    (subst (λ (b : BoardSeen). All (λ (e : DeviceDef). e.dev.0 < c.args.first + (1 + c.draw-devices.result)) b.devices) (sym c.in_ok-add_driver.ensures.added) c.in_ok-add_devices.ensures.rises) in
+    (subst (λ (b : BoardSeen). All (λ (e : DeviceDef). e.dev.0 < c.args.first + (1 + c.draw-devices.result)) b.devices)
+    (sym c.in_ok-add_driver.ensures.added) c.in_ok-add_devices.ensures.rises) in
     up_to_next c.args.board.now c.add_driver.new.self c.add_script.new.board c.args.number c.draw-domain.result c.args.first kinds s (script_calls s)
-    c.requires.up_to is c.in_ok-add_script.ensures.calls refl refl (kinds_length devices x2) (omega (arith, c.draw-devices.ensures.below)) (omega (arith, c.draw.ensures.below)) c.in_ok-add_script.ensures.count rises c.in_ok-add_script.ensures.scripted
+    c.requires.up_to is c.in_ok-add_script.ensures.calls refl refl (kinds_length devices x2)
+    (omega (arith, c.draw-devices.ensures.below)) (omega (arith, c.draw.ensures.below))
+    c.in_ok-add_script.ensures.count rises c.in_ok-add_script.ensures.scripted

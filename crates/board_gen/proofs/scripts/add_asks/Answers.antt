@@ -17,7 +17,9 @@ loop-i-preserved c =
     record {
       calls = calls_next c.args.board.now c.loop-i.board c.add_call.new.board (asks_from s from (i - from)) (asks_from s from (i + 1 - from))
           (script_call s (calls.Ask (record { 0 = s.first + i % s.devices }))) k.calls done.calls
-          (ap (asks_from s from) next ∙ map-range_with_len_more (λ p. script_call s (calls.Ask (record { 0 = s.first + p % s.devices }))) from (i - from) i (omega (arith, passed)));
+          (ap (asks_from s from) next ∙ map-range_with_len_more
+          (λ p. script_call s (calls.Ask (record { 0 = s.first + p % s.devices }))) from (i - from) i
+          (omega (arith, passed)));
       count = omega (arith, done.count, k.count, next);
       scripted = done.scripted;
     }

@@ -8,7 +8,8 @@ use Rattle.board_gen.proofs.scripts.add_requests.Goals as goal
 pub add_call-requires-clause-owner : goal.add_call-requires-clause-owner
 add_call-requires-clause-owner c =
     let s = c.args.script.now in
-    request_owner c.loop-i.board.calls (record { 0 = s.number }) shared_oneshot (record { 0 = s.first + c.loop-i.i }) (c.loop-i.invariant.unnamed (record { 0 = s.first + c.loop-i.i }) (omega arith))
+    request_owner c.loop-i.board.calls (record { 0 = s.number }) shared_oneshot (record { 0 = s.first + c.loop-i.i })
+    (c.loop-i.invariant.unnamed (record { 0 = s.first + c.loop-i.i }) (omega arith))
 
 pub loop-i-preserved : goal.loop-i-preserved
 loop-i-preserved c =

@@ -28,8 +28,10 @@ returns c =
     let p = c.in_ok-placement.placement in
     let is : p ≡ placement_of (defs_of b.domains) earlier leaf = c.in_ok-placement.ensures.placement ∙ ap (λ ds. placement_of ds earlier leaf) before.domains in
     let now : c.push.new.self ≡ earlier ++ p ∷ [] = c.in_ok-push.ensures.ok in
-    let at : slice_get (leaves_of b.lines) c.args.place ≡ Some leaf = slice_get-map leaf_of b.lines c.args.place ∙ ap (option_map leaf_of) (sym c.in-Some.ensures) in
-    let last : AllFall (p ∷ []) = subst (λ (x : Placement). AllFall (x ∷ [])) (sym is) (placement_falls (defs_of b.domains) earlier leaf (defs_allowed b.domains c.is_board.ensures.board.domains)) in
+    let at : slice_get (leaves_of b.lines) c.args.place ≡ Some leaf = slice_get-map leaf_of b.lines c.args.place
+    ∙ ap (option_map leaf_of) (sym c.in-Some.ensures) in
+    let last : AllFall (p ∷ []) = subst (λ (x : Placement). AllFall (x ∷ [])) (sym is)
+    (placement_falls (defs_of b.domains) earlier leaf (defs_allowed b.domains c.is_board.ensures.board.domains)) in
     let long : length c.push.new.self ≡ length earlier + 1 = ap length now ∙ length_push earlier p in
     record {
       domains = c.in_ok-placement.ensures.domains ∙ before.domains;

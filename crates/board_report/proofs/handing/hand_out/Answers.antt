@@ -5,29 +5,36 @@ use Rattle.board_report.proofs.Handed.{done, few_told, full, of_its_board, rows_
 use Rattle.board_report.proofs.handing.hand_out.Goals as goal
 
 pub fill-requires-clause-lines : goal.fill-requires-clause-lines
-fill-requires-clause-lines g c = of_its_board c.args.board.now c.args.system c.requires.board c.is_kept.ensures (map g.L.IrqLine.seen c.take_lines.result.items) c.take_lines.ensures
+fill-requires-clause-lines g c = of_its_board c.args.board.now c.args.system c.requires.board c.is_kept.ensures
+    (map g.L.IrqLine.seen c.take_lines.result.items) c.take_lines.ensures
 
 pub returns-clause-so_far : goal.returns-clause-so_far
 returns-clause-so_far g c =
-    so_far c.args.board.now c.args.system c.requires.board c.is_kept.ensures c.is_board.ensures.board (map g.L.IrqLine.seen c.take_lines.result.items) c.take_lines.ensures c.fill.result.reports c.fill.ensures
+    so_far c.args.board.now c.args.system c.requires.board c.is_kept.ensures c.is_board.ensures.board
+    (map g.L.IrqLine.seen c.take_lines.result.items) c.take_lines.ensures c.fill.result.reports c.fill.ensures
 
 pub returns-clause-done : goal.returns-clause-done
 returns-clause-done g c =
-    done c.args.board.now c.args.system c.requires.board c.is_kept.ensures c.is_board.ensures.board (map g.L.IrqLine.seen c.take_lines.result.items) c.take_lines.ensures c.fill.result.reports c.fill.ensures
+    done c.args.board.now c.args.system c.requires.board c.is_kept.ensures c.is_board.ensures.board
+    (map g.L.IrqLine.seen c.take_lines.result.items) c.take_lines.ensures c.fill.result.reports c.fill.ensures
 
 pub returns-clause-full : goal.returns-clause-full
 returns-clause-full g c =
-    full c.args.board.now c.args.system c.requires.board c.is_kept.ensures c.is_board.ensures.board (map g.L.IrqLine.seen c.take_lines.result.items) c.take_lines.ensures c.fill.result.reports c.fill.ensures
+    full c.args.board.now c.args.system c.requires.board c.is_kept.ensures c.is_board.ensures.board
+    (map g.L.IrqLine.seen c.take_lines.result.items) c.take_lines.ensures c.fill.result.reports c.fill.ensures
 
 pub returns-clause-rows : goal.returns-clause-rows
 returns-clause-rows g c =
-    rows_told c.args.board.now c.args.system c.requires.board c.is_kept.ensures c.is_board.ensures.board (map g.L.IrqLine.seen c.take_lines.result.items) c.take_lines.ensures c.fill.result.reports c.fill.ensures
+    rows_told c.args.board.now c.args.system c.requires.board c.is_kept.ensures c.is_board.ensures.board
+    (map g.L.IrqLine.seen c.take_lines.result.items) c.take_lines.ensures c.fill.result.reports c.fill.ensures
 
 pub returns-clause-few : goal.returns-clause-few
 returns-clause-few g c =
-    few_told c.args.board.now c.args.system c.requires.board c.is_kept.ensures c.is_board.ensures.board (map g.L.IrqLine.seen c.take_lines.result.items) c.take_lines.ensures c.fill.result.reports c.fill.ensures
+    few_told c.args.board.now c.args.system c.requires.board c.is_kept.ensures c.is_board.ensures.board
+    (map g.L.IrqLine.seen c.take_lines.result.items) c.take_lines.ensures c.fill.result.reports c.fill.ensures
 
 pub returns-clause-summable : goal.returns-clause-summable
 returns-clause-summable g c =
-    summable_told c.args.board.now c.args.system c.requires.board c.is_kept.ensures c.is_board.ensures.board (map g.L.IrqLine.seen c.take_lines.result.items) c.take_lines.ensures c.fill.result.reports c.fill.ensures
+    summable_told c.args.board.now c.args.system c.requires.board c.is_kept.ensures c.is_board.ensures.board
+    (map g.L.IrqLine.seen c.take_lines.result.items) c.take_lines.ensures c.fill.result.reports c.fill.ensures
     (subst (λ (seen : List LineSeen). AreSound seen) c.lines.ensures c.are_sound.ensures)

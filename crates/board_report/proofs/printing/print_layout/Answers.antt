@@ -8,18 +8,26 @@ use Rattle.board_report.proofs.printing.print_layout.Goals as goal
 
 pub returns-in-Failed-clause-content : goal.returns-in-Failed-clause-content
 returns-in-Failed-clause-content g c =
-    items_failed (layout_row_text c.args.board.now) (g.O.Sink.written c.args.out.now) (g.O.Sink.written c.loop-i.out) (g.O.Sink.written c.write_all.new.sink) (range_with_len 0 (length c.args.board.now.lines)) c.loop-i.i c.loop-i.i
-    c.bytes.result.now (number_at (length c.args.board.now.lines) c.loop-i.i (omega (arith, c.lines_len-i-end.ensures, c.loop-i-test.true))) (c.bytes.ensures.bytes ∙ c.layout_row.ensures) c.loop-i.invariant.content c.in-Failed.ensures.content
+    items_failed (layout_row_text c.args.board.now) (g.O.Sink.written c.args.out.now) (g.O.Sink.written c.loop-i.out)
+    (g.O.Sink.written c.write_all.new.sink) (range_with_len 0 (length c.args.board.now.lines)) c.loop-i.i c.loop-i.i
+    c.bytes.result.now (number_at (length c.args.board.now.lines) c.loop-i.i
+    (omega (arith, c.lines_len-i-end.ensures, c.loop-i-test.true))) (c.bytes.ensures.bytes ∙ c.layout_row.ensures)
+    c.loop-i.invariant.content c.in-Failed.ensures.content
 
 pub loop-i-preserved : goal.loop-i-preserved
 loop-i-preserved g c = record {
   content =
-      items_done (layout_row_text c.args.board.now) (g.O.Sink.written c.args.out.now) (g.O.Sink.written c.loop-i.out) (g.O.Sink.written c.write_all.new.sink) (range_with_len 0 (length c.args.board.now.lines)) c.loop-i.i c.loop-i.i
-      c.bytes.result.now (number_at (length c.args.board.now.lines) c.loop-i.i (omega (arith, c.lines_len-i-end.ensures, c.loop-i-test.true))) (c.bytes.ensures.bytes ∙ c.layout_row.ensures) c.loop-i.invariant.content c.in-Done.ensures.content;
+      items_done (layout_row_text c.args.board.now) (g.O.Sink.written c.args.out.now) (g.O.Sink.written c.loop-i.out)
+      (g.O.Sink.written c.write_all.new.sink) (range_with_len 0 (length c.args.board.now.lines)) c.loop-i.i
+      c.loop-i.i
+      c.bytes.result.now (number_at (length c.args.board.now.lines) c.loop-i.i
+      (omega (arith, c.lines_len-i-end.ensures, c.loop-i-test.true))) (c.bytes.ensures.bytes ∙ c.layout_row.ensures)
+      c.loop-i.invariant.content c.in-Done.ensures.content;
   faults = c.in-Done.ensures.cause ∙ c.loop-i.invariant.faults;
 }
 
 pub returns-clause-content : goal.returns-clause-content
 returns-clause-content g c =
     subst (λ (text : List ℕ). WritesAll (g.O.Sink.written c.args.out.now) (g.O.Sink.written c.loop-i.out) text ends.Done)
-    (ap (flat_map (layout_row_text c.args.board.now)) (numbers_all (length c.args.board.now.lines) c.loop-i.i (omega (arith, c.lines_len-i-end.ensures, c.loop-i-test.false)))) c.loop-i.invariant.content
+    (ap (flat_map (layout_row_text c.args.board.now)) (numbers_all (length c.args.board.now.lines) c.loop-i.i
+    (omega (arith, c.lines_len-i-end.ensures, c.loop-i-test.false)))) c.loop-i.invariant.content

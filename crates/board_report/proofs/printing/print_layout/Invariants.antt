@@ -7,6 +7,7 @@ use Rattle.board_report.proofs.printing.print_layout.Given as goal
 
 abbrev pub invariant-loop-i : goal.invariant-loop-i
 invariant-loop-i g l = record {
-  content : WritesAll (g.O.Sink.written l.fn.out) (g.O.Sink.written l.out) (flat_map (layout_row_text l.board) (take l.i (range_with_len 0 (length l.board.lines)))) ends.Done;
+  content : WritesAll (g.O.Sink.written l.fn.out) (g.O.Sink.written l.out)
+      (flat_map (layout_row_text l.board) (take l.i (range_with_len 0 (length l.board.lines)))) ends.Done;
   faults : g.O.Sink.faults l.out ≡ g.O.Sink.faults l.fn.out;
 }

@@ -20,7 +20,8 @@ loop-i-preserved g c =
     let sink = g.O.Sink.written in
     record {
       content =
-          items_done report_row (sink c.args.out.now) (sink c.loop-i.out) (sink c.write_all.new.sink) c.args.reports.now.reports c.loop-i.i c.in-Some.report.now c.bytes.result.now
+          items_done report_row (sink c.args.out.now) (sink c.loop-i.out) (sink c.write_all.new.sink)
+          c.args.reports.now.reports c.loop-i.i c.in-Some.report.now c.bytes.result.now
           (sym c.in-Some.ensures) (c.bytes.ensures.bytes ∙ c.summary_row.ensures) c.loop-i.invariant.content c.in-Done.ensures.content;
       faults = c.in-Done.ensures.cause ∙ c.loop-i.invariant.faults;
     }
@@ -30,4 +31,5 @@ returns-clause-content g c =
     let sink = g.O.Sink.written in
     let reports = c.args.reports.now.reports in
     subst (λ (text : List ℕ). WritesAll (sink c.args.out.now) (sink c.loop-i.out) text ends.Done)
-    (ap (flat_map report_row) (take_all c.loop-i.i reports (omega (arith, c.len-i-end.ensures, c.loop-i-test.false))) ∙ rows_of_reports reports) c.loop-i.invariant.content
+    (ap (flat_map report_row) (take_all c.loop-i.i reports (omega (arith, c.len-i-end.ensures, c.loop-i-test.false)))
+    ∙ rows_of_reports reports) c.loop-i.invariant.content

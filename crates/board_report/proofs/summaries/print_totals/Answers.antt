@@ -10,6 +10,8 @@ pub returns-clause-content : goal.returns-clause-content
 returns-clause-content g c =
     let sink = g.O.Sink.written in
     let histories = map told_by c.args.reports.now.reports in
-    and_then (sink c.args.out.now) (sink c.print_summaries.new.out) (sink c.write_all.new.sink) (summaries_text histories) (total_text (count_of_entries histories)) c.write_all.result c.in-Done.ensures.content
+    and_then (sink c.args.out.now) (sink c.print_summaries.new.out) (sink c.write_all.new.sink)
+    (summaries_text histories) (total_text (count_of_entries histories)) c.write_all.result
+    c.in-Done.ensures.content
     (subst (λ (text : List ℕ). WritesAll (sink c.print_summaries.new.out) (sink c.write_all.new.sink) text c.write_all.result)
     (c.bytes.ensures.bytes ∙ (c.total_row.ensures ∙ ap total_text c.count_entries.ensures)) c.write_all.ensures.content)

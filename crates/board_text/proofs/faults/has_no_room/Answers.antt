@@ -9,6 +9,8 @@ loop-i-preserved c =
     let picks = c.args.picks.now in
     let within : c.loop-i.i < length picks = omega arith in
     elim c.match-get.branch [
-      | in-Some-get+else-times-room w ↦ c.loop-i.invariant ∙ room_left c.loop-i.room c.match-get.room picks c.loop-i.i w.in-Some-get.pick (cc) w.if-times-room.false w.room-is
+      | in-Some-get+else-times-room w ↦ c.loop-i.invariant
+          ∙ room_left c.loop-i.room c.match-get.room picks c.loop-i.i w.in-Some-get.pick (cc) w.if-times-room.false
+          w.room-is
       | in_default-get w ↦ absurd (item_there picks c.loop-i.i (cc) within)
     ]

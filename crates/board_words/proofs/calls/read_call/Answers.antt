@@ -16,27 +16,33 @@ returns-in_err-dev-in-Free c =
 pub returns-in_err-dev-in-Ask : goal.returns-in_err-dev-in-Ask
 returns-in_err-dev-in-Ask c =
     let p = err_from_is_err_and c.from_residual-in_err-dev-in-Ask.result c.from_residual-in_err-dev-in-Ask.ensures.1 in
-    rw (c.in-Ask.is, p.1, p.2) (outcome_err _ _ (call_of (call_text words.Ask) (words_left c.args.words)) _ (sym c.in_err-dev-in-Ask.was ∙ c.dev-in-Ask.ensures))
+    rw (c.in-Ask.is, p.1, p.2) (outcome_err _ _ (call_of (call_text words.Ask) (words_left c.args.words)) _
+    (sym c.in_err-dev-in-Ask.was ∙ c.dev-in-Ask.ensures))
 
 pub returns-in_err-line-in-Disable : goal.returns-in_err-line-in-Disable
 returns-in_err-line-in-Disable c =
     let p = err_from_is_err_and c.from_residual-in_err-line-in-Disable.result c.from_residual-in_err-line-in-Disable.ensures.1 in
-    rw (c.in-Disable.is, p.1, p.2) (outcome_err _ _ (call_of (call_text words.Disable) (words_left c.args.words)) _ (sym c.in_err-line-in-Disable.was ∙ c.line.ensures))
+    rw (c.in-Disable.is, p.1, p.2) (outcome_err _ _ (call_of (call_text words.Disable) (words_left c.args.words)) _
+    (sym c.in_err-line-in-Disable.was ∙ c.line.ensures))
 
 pub returns-in_err-line-in-DisableNosync : goal.returns-in_err-line-in-DisableNosync
 returns-in_err-line-in-DisableNosync c =
     let p = err_from_is_err_and c.from_residual-in_err-line-in-DisableNosync.result c.from_residual-in_err-line-in-DisableNosync.ensures.1 in
-    rw (c.in-DisableNosync.is, p.1, p.2) (outcome_err _ _ (call_of (call_text words.DisableNosync) (words_left c.args.words)) _ (sym c.in_err-line-in-DisableNosync.was ∙ c.line-in-DisableNosync.ensures))
+    rw (c.in-DisableNosync.is, p.1, p.2) (outcome_err _ _
+    (call_of (call_text words.DisableNosync) (words_left c.args.words)) _
+    (sym c.in_err-line-in-DisableNosync.was ∙ c.line-in-DisableNosync.ensures))
 
 pub returns-in_err-line-in-Enable : goal.returns-in_err-line-in-Enable
 returns-in_err-line-in-Enable c =
     let p = err_from_is_err_and c.from_residual-in_err-line-in-Enable.result c.from_residual-in_err-line-in-Enable.ensures.1 in
-    rw (c.in-Enable.is, p.1, p.2) (outcome_err _ _ (call_of (call_text words.Enable) (words_left c.args.words)) _ (sym c.in_err-line-in-Enable.was ∙ c.line-in-Enable.ensures))
+    rw (c.in-Enable.is, p.1, p.2) (outcome_err _ _ (call_of (call_text words.Enable) (words_left c.args.words)) _
+    (sym c.in_err-line-in-Enable.was ∙ c.line-in-Enable.ensures))
 
 pub returns-in_err-line-in-Sync : goal.returns-in_err-line-in-Sync
 returns-in_err-line-in-Sync c =
     let p = err_from_is_err_and c.from_residual-in_err-line-in-Sync.result c.from_residual-in_err-line-in-Sync.ensures.1 in
-    rw (c.in-Sync.is, p.1, p.2) (outcome_err _ _ (call_of (call_text words.Sync) (words_left c.args.words)) _ (sym c.in_err-line-in-Sync.was ∙ c.line-in-Sync.ensures))
+    rw (c.in-Sync.is, p.1, p.2) (outcome_err _ _ (call_of (call_text words.Sync) (words_left c.args.words)) _
+    (sym c.in_err-line-in-Sync.was ∙ c.line-in-Sync.ensures))
 
 pub returns-in_ok-dev-in-Free : goal.returns-in_ok-dev-in-Free
 returns-in_ok-dev-in-Free c = rw c.in-Free.is (outcome_ok (λ x. calls.Free x) _ _ _ (sym c.in_ok-dev-in-Free.was ∙ c.dev.ensures))
@@ -48,7 +54,9 @@ pub returns-in_ok-line-in-Disable : goal.returns-in_ok-line-in-Disable
 returns-in_ok-line-in-Disable c = rw c.in-Disable.is (outcome_ok (λ x. calls.Disable x) _ _ _ (sym c.in_ok-line-in-Disable.was ∙ c.line.ensures))
 
 pub returns-in_ok-line-in-DisableNosync : goal.returns-in_ok-line-in-DisableNosync
-returns-in_ok-line-in-DisableNosync c = rw c.in-DisableNosync.is (outcome_ok (λ x. calls.DisableNosync x) _ _ _ (sym c.in_ok-line-in-DisableNosync.was ∙ c.line-in-DisableNosync.ensures))
+returns-in_ok-line-in-DisableNosync c = rw c.in-DisableNosync.is
+    (outcome_ok (λ x. calls.DisableNosync x) _ _ _ (sym c.in_ok-line-in-DisableNosync.was
+    ∙ c.line-in-DisableNosync.ensures))
 
 pub returns-in_ok-line-in-Enable : goal.returns-in_ok-line-in-Enable
 returns-in_ok-line-in-Enable c = rw c.in-Enable.is (outcome_ok (λ x. calls.Enable x) _ _ _ (sym c.in_ok-line-in-Enable.was ∙ c.line-in-Enable.ensures))

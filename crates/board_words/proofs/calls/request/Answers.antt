@@ -17,7 +17,9 @@ returns c =
     let takes = c.number.ensures.takes in
     let found = c.flags.new.self.found in
     let all = step takes flags_form tt ∙ sym c.flags.ensures in
-    let value : CallWords = calls.Request (record { 0 = c.number.result }) (record { shared = c.has.result; oneshot = c.has-2.result; noauto = c.has-3.result }) c.has_one_again-twice.result in
+    let value : CallWords = calls.Request (record { 0 = c.number.result })
+    (record { shared = c.has.result; oneshot = c.has-2.result; noauto = c.has-3.result })
+    c.has_one_again-twice.result in
     c.give.ensures ∙ whole form begun words found value (said.request_words words) c.new-places.ensures.found c.new-places.ensures.words all (λ none.
     let one = none_before_all c.number.new.self flags_form found c.flags.ensures none in
     let dev = next_number 0 words _ _ (c.number.ensures.value one) c.new-places.ensures.words in

@@ -27,7 +27,8 @@ returns c =
       parent = c.parent-parent.result.0;
       twice = c.parent-parent.result.1;
     } in
-    c.give.ensures ∙ whole form begun words found (statements.Domain value) (statements.Domain (said.domain_words words)) c.new-places.ensures.found c.new-places.ensures.words all (λ none.
+    c.give.ensures ∙ whole form begun words found (statements.Domain value)
+    (statements.Domain (said.domain_words words)) c.new-places.ensures.found c.new-places.ensures.words all (λ none.
     let three = none_before_all c.controller_kind-kind.new.self forms.parents_form found c.parent-parent.ensures.found none in
     let two = none_before chip_takes three in
     let one = none_before_all named forms.map_form found (sym after_name) none in

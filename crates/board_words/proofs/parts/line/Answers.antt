@@ -28,7 +28,8 @@ returns c =
       mask = c.options-mask.result;
       twice = c.has_one_again.result;
     } in
-    c.give.ensures ∙ whole form begun words found (statements.Line value) (statements.Line (said.line_words words)) c.new-places.ensures.found c.new-places.ensures.words all (λ none.
+    c.give.ensures ∙ whole form begun words found (statements.Line value) (statements.Line (said.line_words words))
+    c.new-places.ensures.found c.new-places.ensures.words all (λ none.
     let three = none_before_all c.number-hw.new.self forms.line_options found c.options-mask.ensures.found none in
     let two = none_before hw_takes three in
     let one = none_before name_takes two in

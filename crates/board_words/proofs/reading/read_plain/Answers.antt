@@ -19,4 +19,5 @@ pub returns-in-Some-call_word : goal.returns-in-Some-call_word
 returns-in-Some-call_word c =
     let words = words_left c.args.words in
     let call = c.in-Some-call_word.call in
-    rw (c.in-Some-call_word.ensures, said_call call words) (outcome_ok (λ x. statements.Call x) _ _ c.in_ok-call.call (sym c.in_ok-call.was ∙ c.read_call.ensures))
+    rw (c.in-Some-call_word.ensures, said_call call words)
+    (outcome_ok (λ x. statements.Call x) _ _ c.in_ok-call.call (sym c.in_ok-call.was ∙ c.read_call.ensures))

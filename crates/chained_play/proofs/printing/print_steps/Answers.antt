@@ -10,7 +10,8 @@ loop-step-preserved g c =
     let sink = g.O.Sink.written in
     record {
       printing =
-          row_printed (sink c.args.out.now) (sink c.loop-step.out) (sink c.print_step.new.out) c.args.steps.now c.loop-step.steps c.in-Some.step (sym c.in-Some.ensures.first) (step_text c.in-Some.step)
+          row_printed (sink c.args.out.now) (sink c.loop-step.out) (sink c.print_step.new.out) c.args.steps.now
+          c.loop-step.steps c.in-Some.step (sym c.in-Some.ensures.first) (step_text c.in-Some.step)
           refl c.loop-step.invariant.printing c.next.new.self c.in-Some.ensures.rest c.in-Done.ensures.content;
       rows = subst (All HasRow) (sym c.in-Some.ensures.rest) (All-drop HasRow 1 c.loop-step.steps c.loop-step.invariant.rows);
       faults = c.in-Done.ensures.cause ∙ c.loop-step.invariant.faults;
@@ -19,5 +20,6 @@ loop-step-preserved g c =
 pub returns-in-Failed-clause-content : goal.returns-in-Failed-clause-content
 returns-in-Failed-clause-content g c =
     let sink = g.O.Sink.written in
-    row_failed (sink c.args.out.now) (sink c.loop-step.out) (sink c.print_step.new.out) c.args.steps.now c.loop-step.steps c.in-Some.step (sym c.in-Some.ensures.first) (step_text c.in-Some.step)
+    row_failed (sink c.args.out.now) (sink c.loop-step.out) (sink c.print_step.new.out) c.args.steps.now
+    c.loop-step.steps c.in-Some.step (sym c.in-Some.ensures.first) (step_text c.in-Some.step)
     refl c.loop-step.invariant.printing c.in-Failed.ensures.content

@@ -10,24 +10,31 @@ returns-in_default t c = sym (ap (list_any (is_past_path c.args.domains.now)) (d
 
 pub overflow_add-from : goal.overflow_add-from
 overflow_add-from t c =
-    let within : c.args.from < length c.args.path.now = slice_get_within c.args.path.now c.args.from (c.in-Some.place, c.in-Some.number) (sym c.in-Some.ensures) in
+    let within : c.args.from < length c.args.path.now = slice_get_within c.args.path.now c.args.from
+    (c.in-Some.place, c.in-Some.number) (sym c.in-Some.ensures) in
     omega (arith, within, c.requires.few)
 
 pub is_past-requires : goal.is_past-requires
 is_past-requires t c =
-    let within : c.args.from < length c.args.path.now = slice_get_within c.args.path.now c.args.from (c.in-Some.place, c.in-Some.number) (sym c.in-Some.ensures) in
+    let within : c.args.from < length c.args.path.now = slice_get_within c.args.path.now c.args.from
+    (c.in-Some.place, c.in-Some.number) (sym c.in-Some.ensures) in
     (omega (arith, within, c.decreases), c.requires.few)
 
 pub returns-then-is_past_map : goal.returns-then-is_past_map
 returns-then-is_past_map t c =
     let rest = list_any (is_past_path c.args.domains.now) (drop (c.args.from + 1) c.args.path.now) in
-    let this : is_past_path c.args.domains.now (c.in-Some.place, c.in-Some.number) ≡ c.is_past_map.result = sym (c.is_past_map.ensures ∙ ap (λ d. is_past_domain d c.in-Some.number) c.domain_at.ensures) in
+    let this : is_past_path c.args.domains.now (c.in-Some.place, c.in-Some.number)
+    ≡ c.is_past_map.result = sym (c.is_past_map.ensures
+    ∙ ap (λ d. is_past_domain d c.in-Some.number) c.domain_at.ensures) in
     sym (ap (list_any (is_past_path c.args.domains.now)) (drop_at c.args.path.now c.args.from (c.in-Some.place, c.in-Some.number) (sym c.in-Some.ensures))
     ∙ (ap (λ b. b || rest) (this ∙ c.if-is_past_map.true) ∙ sym c.if-is_past_map.true))
 
 pub returns-else-is_past_map : goal.returns-else-is_past_map
 returns-else-is_past_map t c =
     let rest = list_any (is_past_path c.args.domains.now) (drop (c.args.from + 1) c.args.path.now) in
-    let this : is_past_path c.args.domains.now (c.in-Some.place, c.in-Some.number) ≡ c.is_past_map.result = sym (c.is_past_map.ensures ∙ ap (λ d. is_past_domain d c.in-Some.number) c.domain_at.ensures) in
-    c.is_past.ensures ∙ sym (ap (list_any (is_past_path c.args.domains.now)) (drop_at c.args.path.now c.args.from (c.in-Some.place, c.in-Some.number) (sym c.in-Some.ensures))
+    let this : is_past_path c.args.domains.now (c.in-Some.place, c.in-Some.number)
+    ≡ c.is_past_map.result = sym (c.is_past_map.ensures
+    ∙ ap (λ d. is_past_domain d c.in-Some.number) c.domain_at.ensures) in
+    c.is_past.ensures ∙ sym (ap (list_any (is_past_path c.args.domains.now))
+    (drop_at c.args.path.now c.args.from (c.in-Some.place, c.in-Some.number) (sym c.in-Some.ensures))
     ∙ ap (λ b. b || rest) (this ∙ c.if-is_past_map.false))

@@ -10,7 +10,8 @@ kinds_are : (c : goal.After-root_number) → take c.len.result c.kinds_of-kinds.
 kinds_are c = ap (λ n. take n c.kinds_of-kinds.result) c.len.ensures ∙ c.kinds_of-kinds.ensures
 
 are_kinds : (c : goal.After-root_number) → IsPathOfKinds (kinds_on c.args.domains.now c.args.path.now)
-are_kinds c = path_of_kinds c.args.domains.now c.args.path.now c.requires.each (record { there = c.requires.placed.there; way = c.requires.placed.way; masks = c.requires.placed.masks })
+are_kinds c = path_of_kinds c.args.domains.now c.args.path.now c.requires.each
+    (record { there = c.requires.placed.there; way = c.requires.placed.way; masks = c.requires.placed.masks })
 
 pub new-requires-clause-path : goal.new-requires-clause-path
 new-requires-clause-path c = ap is_path_of_kinds (kinds_are c) ∙ (are_kinds c).path

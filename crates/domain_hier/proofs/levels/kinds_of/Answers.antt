@@ -12,7 +12,8 @@ loop-place-preserved c =
     record {
       few = omega (arith, within);
       long = length-set l.kinds l.i c.kind_of.result ∙ l.invariant.long;
-      kinds = kinds_go_on c.args.domains.now c.args.path.now l.kinds l.i (c.in-Some.place, c.in-Some.field-0-1) c.kind_of.result (sym c.in-Some.ensures) (c.kind_of.ensures ∙ ap kind_in c.domain_at.ensures)
+      kinds = kinds_go_on c.args.domains.now c.args.path.now l.kinds l.i (c.in-Some.place, c.in-Some.field-0-1)
+          c.kind_of.result (sym c.in-Some.ensures) (c.kind_of.ensures ∙ ap kind_in c.domain_at.ensures)
           (omega (arith, within, l.invariant.long, c.requires)) l.invariant.kinds;
     }
 

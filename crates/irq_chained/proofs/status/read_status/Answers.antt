@@ -13,4 +13,6 @@ overflow_cast-result g c =
 
 pub returns : goal.returns
 returns g c =
-    word_is_status c.takes.result (board_lines c.args.system.now.lines) (few_seen c.args.system.now.board c.args.system.now.lines c.requires c.is_kept.ensures) (omega (arith, c.takes.type_inv)) c.takes.ensures
+    word_is_status c.takes.result (board_lines c.args.system.now.lines)
+    (few_seen c.args.system.now.board c.args.system.now.lines c.requires c.is_kept.ensures)
+    (omega (arith, c.takes.type_inv)) c.takes.ensures

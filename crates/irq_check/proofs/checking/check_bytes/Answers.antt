@@ -14,7 +14,8 @@ returns-in-Ok-check_log c =
       exact = record {
         board = c.in-Ok.board;
         log = log;
-        states = not_too_long c.args.bytes.now c.if-bytes-gt-LONGEST_INPUT.false ∙ (ap board_and_log c.in-Some.ensures ∙ ap (with_log log) c.in-Ok.ensures.exact);
+        states = not_too_long c.args.bytes.now c.if-bytes-gt-LONGEST_INPUT.false
+            ∙ (ap board_and_log c.in-Some.ensures ∙ ap (with_log log) c.in-Ok.ensures.exact);
         judged = c.in-Ok-check_log.ensures;
       };
     }

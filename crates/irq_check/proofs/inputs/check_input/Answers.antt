@@ -17,5 +17,6 @@ returns-in-Ok-check_bytes-clause-said g c =
 
 pub returns-in-Err-Fault-check_bytes-clause-content : goal.returns-in-Err-Fault-check_bytes-clause-content
 returns-in-Err-Fault-check_bytes-clause-content g c =
-    refused (g.S.Source.left c.args.src.now) (g.S.Source.left c.read_up_to.new.source) c.in-Ok.bytes.items c.in-Err-Fault-check_bytes.fault c.in-Ok.ensures.content
+    refused (g.S.Source.left c.args.src.now) (g.S.Source.left c.read_up_to.new.source) c.in-Ok.bytes.items
+    c.in-Err-Fault-check_bytes.fault c.in-Ok.ensures.content
     (ap checked (sym c.as_slice.ensures.value) ∙ (rw c.in-Err-Fault-check_bytes.field-0-is at c.in-Err-Fault-check_bytes.ensures.exact))

@@ -8,12 +8,18 @@ use Rattle.irq_command.proofs.commands.command.Goals as goal
 
 pub returns-in-Ok-clause-usage : goal.returns-in-Ok-clause-usage
 returns-in-Ok-clause-usage g c = λ none.
-    c.with_words.ensures.usage (subst (λ (words : List (String Global)). AsksNothing (map string_bytes words)) (sym c.as_slice.ensures.value) (nothing_asked c.args.args (map string_bytes c.in-Ok.words.items) c.in-Ok.ensures.words none))
+    c.with_words.ensures.usage (subst (λ (words : List (String Global)). AsksNothing (map string_bytes words))
+    (sym c.as_slice.ensures.value) (nothing_asked c.args.args (map string_bytes c.in-Ok.words.items)
+    c.in-Ok.ensures.words none))
 
 pub returns-in-Ok-clause-unread : goal.returns-in-Ok-clause-unread
 returns-in-Ok-clause-unread g c = λ none.
-    c.with_words.ensures.unread (subst (λ (words : List (String Global)). ReadsNothing (map string_bytes words)) (sym c.as_slice.ensures.value) (nothing_read c.args.args (map string_bytes c.in-Ok.words.items) c.in-Ok.ensures.words none))
+    c.with_words.ensures.unread (subst (λ (words : List (String Global)). ReadsNothing (map string_bytes words))
+    (sym c.as_slice.ensures.value) (nothing_read c.args.args (map string_bytes c.in-Ok.words.items)
+    c.in-Ok.ensures.words none))
 
 pub returns-in-Ok-clause-unasked : goal.returns-in-Ok-clause-unasked
 returns-in-Ok-clause-unasked g c = λ none.
-    c.with_words.ensures.unasked (subst (λ (words : List (String Global)). AsksNothing (map string_bytes words)) (sym c.as_slice.ensures.value) (nothing_asked c.args.args (map string_bytes c.in-Ok.words.items) c.in-Ok.ensures.words none))
+    c.with_words.ensures.unasked (subst (λ (words : List (String Global)). AsksNothing (map string_bytes words))
+    (sym c.as_slice.ensures.value) (nothing_asked c.args.args (map string_bytes c.in-Ok.words.items)
+    c.in-Ok.ensures.words none))

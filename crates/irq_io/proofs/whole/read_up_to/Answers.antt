@@ -12,5 +12,14 @@ returns-in_err-extend_from_slice-in-Got-clause-refused g c =
     let count = c.in-Got.count in
     let all = c.loop-buf.all.items in
     OnErr-always _ c.from_residual.result
-    (TakesAtMost-so_far c.args.most _ _ (all ++ take count c.read.new.buf) (ReadSoFar-more _ _ _ all _ count c.loop-buf.invariant.content c.in-Got.ensures.content)
-    (omega (arith, length-append all (take count c.read.new.buf), length-take count c.read.new.buf, c.in-Got.ensures.bound.1, c.min-room.ensures, c.loop-buf.all.ok.0, length-take {A = ℕ})))
+    (TakesAtMost-so_far c.args.most _ _ (all ++ take count c.read.new.buf)
+    (ReadSoFar-more _ _ _ all _ count c.loop-buf.invariant.content c.in-Got.ensures.content)
+    (omega (
+      arith,
+      length-append all (take count c.read.new.buf),
+      length-take count c.read.new.buf,
+      c.in-Got.ensures.bound.1,
+      c.min-room.ensures,
+      c.loop-buf.all.ok.0,
+      length-take {A = ℕ},
+    )))

@@ -24,8 +24,11 @@ returns-clause-printed g c =
         | in-Done w ↦
             subst (λ out. WritesAll (sink c.args.out.now) (sink out) (layout ++ totals) c.match-laid.end) (sym w.out-is)
             (subst (λ (end : WriteEnd). WritesAll (sink c.args.out.now) (sink w.write_totals-end.new.out) (layout ++ totals) end) (sym w.end-is)
-            (and_then (sink c.args.out.now) (sink c.print_layout-laid.new.out) (sink w.write_totals-end.new.out) layout totals w.write_totals-end.result w.in-Done.ensures.content
-            (subst (λ (hs : List LineHistory). WritesAll (sink c.print_layout-laid.new.out) (sink w.write_totals-end.new.out) (totals_text hs) w.write_totals-end.result) headline.handed_out w.write_totals-end.ensures.content)))
+            (and_then (sink c.args.out.now) (sink c.print_layout-laid.new.out) (sink w.write_totals-end.new.out) layout
+            totals w.write_totals-end.result w.in-Done.ensures.content
+            (subst (λ (hs : List LineHistory). WritesAll (sink c.print_layout-laid.new.out)
+            (sink w.write_totals-end.new.out) (totals_text hs) w.write_totals-end.result) headline.handed_out
+            w.write_totals-end.ensures.content)))
         | in-Failed w ↦
             subst (λ out. WritesAll (sink c.args.out.now) (sink out) (layout ++ totals) c.match-laid.end) (sym w.out-is)
             (subst (λ (end : WriteEnd). WritesAll (sink c.args.out.now) (sink c.print_layout-laid.new.out) (layout ++ totals) end) (sym w.end-is)

@@ -14,11 +14,14 @@ returns-in-Done-print_moves-clause-content g c =
     let moves = c.args.system.now.log in
     then_handed_on (sink c.args.out.now) (sink c.print_moves.new.out) (sink c.hand_on.new.out) (layout ++ moves_text moves) c.hand_on.result
     (and_then (sink c.args.out.now) (sink c.print_layout.new.out) (sink c.print_moves.new.out) layout (moves_text moves) ends.Done c.in-Done.ensures.content
-    (subst (λ (g : List Move). WritesAll (sink c.print_layout.new.out) (sink c.print_moves.new.out) (moves_text g) ends.Done) c.moves.ensures c.in-Done-print_moves.ensures.content))
+    (subst (λ (g : List Move). WritesAll (sink c.print_layout.new.out) (sink c.print_moves.new.out) (moves_text g)
+    ends.Done) c.moves.ensures c.in-Done-print_moves.ensures.content))
     c.hand_on.ensures.content
 
 pub returns-in-Failed-print_moves-clause-content : goal.returns-in-Failed-print_moves-clause-content
 returns-in-Failed-print_moves-clause-content g c =
     let sink = g.O.Sink.written in
-    and_then (sink c.args.out.now) (sink c.print_layout.new.out) (sink c.print_moves.new.out) (layout_rows c.args.board.now) (moves_text c.args.system.now.log) ends.Failed c.in-Done.ensures.content
-    (subst (λ (g : List Move). WritesAll (sink c.print_layout.new.out) (sink c.print_moves.new.out) (moves_text g) ends.Failed) c.moves.ensures c.in-Failed-print_moves.ensures.content)
+    and_then (sink c.args.out.now) (sink c.print_layout.new.out) (sink c.print_moves.new.out)
+    (layout_rows c.args.board.now) (moves_text c.args.system.now.log) ends.Failed c.in-Done.ensures.content
+    (subst (λ (g : List Move). WritesAll (sink c.print_layout.new.out) (sink c.print_moves.new.out) (moves_text g)
+    ends.Failed) c.moves.ensures c.in-Failed-print_moves.ensures.content)

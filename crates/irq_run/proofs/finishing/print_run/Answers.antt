@@ -26,8 +26,11 @@ returns-clause-printed g c =
         | in-Done w ↦
             subst (λ out. WritesAll (sink c.args.out.now) (sink out) (layout ++ rows) c.match-laid.end) (sym w.out-is)
             (subst (λ (end : WriteEnd). WritesAll (sink c.args.out.now) (sink w.write_lines-end.new.out) (layout ++ rows) end) (sym w.end-is)
-            (and_then (sink c.args.out.now) (sink c.print_layout-laid.new.out) (sink w.write_lines-end.new.out) layout rows w.write_lines-end.result w.in-Done.ensures.content
-            (subst (λ (hs : List LineHistory). WritesAll (sink c.print_layout-laid.new.out) (sink w.write_lines-end.new.out) (rows_text c.args.summary hs) w.write_lines-end.result) headline.handed_out w.write_lines-end.ensures.content)))
+            (and_then (sink c.args.out.now) (sink c.print_layout-laid.new.out) (sink w.write_lines-end.new.out) layout
+            rows w.write_lines-end.result w.in-Done.ensures.content
+            (subst (λ (hs : List LineHistory). WritesAll (sink c.print_layout-laid.new.out)
+            (sink w.write_lines-end.new.out) (rows_text c.args.summary hs) w.write_lines-end.result)
+            headline.handed_out w.write_lines-end.ensures.content)))
         | in-Failed w ↦
             subst (λ out. WritesAll (sink c.args.out.now) (sink out) (layout ++ rows) c.match-laid.end) (sym w.out-is)
             (subst (λ (end : WriteEnd). WritesAll (sink c.args.out.now) (sink c.print_layout-laid.new.out) (layout ++ rows) end) (sym w.end-is)

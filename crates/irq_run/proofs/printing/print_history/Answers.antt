@@ -15,7 +15,8 @@ row_of-row-requires g c = all_at IsPrintable c.args.history.now.entries c.loop-i
 pub returns-in-Failed-clause-content : goal.returns-in-Failed-clause-content
 returns-in-Failed-clause-content g c =
     let sink = g.O.Sink.written in
-    items_failed (entry_text c.args.line) (sink c.args.out.now) (sink c.loop-i.out) (sink c.write_all.new.sink) c.args.history.now.entries c.loop-i.i c.in-Some.entry c.row_of-row.result.now
+    items_failed (entry_text c.args.line) (sink c.args.out.now) (sink c.loop-i.out) (sink c.write_all.new.sink)
+    c.args.history.now.entries c.loop-i.i c.in-Some.entry c.row_of-row.result.now
     (sym c.in-Some.ensures) c.row_of-row.ensures c.loop-i.invariant.content c.in-Failed.ensures.content
 
 pub loop-i-preserved : goal.loop-i-preserved
@@ -23,7 +24,8 @@ loop-i-preserved g c =
     let sink = g.O.Sink.written in
     record {
       content =
-          items_done (entry_text c.args.line) (sink c.args.out.now) (sink c.loop-i.out) (sink c.write_all.new.sink) c.args.history.now.entries c.loop-i.i c.in-Some.entry c.row_of-row.result.now
+          items_done (entry_text c.args.line) (sink c.args.out.now) (sink c.loop-i.out) (sink c.write_all.new.sink)
+          c.args.history.now.entries c.loop-i.i c.in-Some.entry c.row_of-row.result.now
           (sym c.in-Some.ensures) c.row_of-row.ensures c.loop-i.invariant.content c.in-Done.ensures.content;
       faults = c.in-Done.ensures.cause ∙ c.loop-i.invariant.faults;
     }
@@ -32,4 +34,5 @@ pub returns-clause-content : goal.returns-clause-content
 returns-clause-content g c =
     let sink = g.O.Sink.written in
     subst (λ (text : List ℕ). WritesAll (sink c.args.out.now) (sink c.loop-i.out) text ends.Done)
-    (ap (flat_map (entry_text c.args.line)) (take_all c.loop-i.i c.args.history.now.entries (omega (arith, c.len-i-end.ensures, c.loop-i-test.false)))) c.loop-i.invariant.content
+    (ap (flat_map (entry_text c.args.line)) (take_all c.loop-i.i c.args.history.now.entries
+    (omega (arith, c.len-i-end.ensures, c.loop-i-test.false)))) c.loop-i.invariant.content

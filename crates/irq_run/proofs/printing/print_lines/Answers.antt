@@ -16,7 +16,8 @@ returns-in-Failed-clause-content g c =
     let sink = g.O.Sink.written in
     let reports = c.args.reports.now.reports in
     subst (λ (text : List ℕ). WritesAll (sink c.args.out.now) (sink c.print_history.new.out) text ends.Failed) (rows_of_reports reports)
-    (items_failed report_rows (sink c.args.out.now) (sink c.loop-i.out) (sink c.print_history.new.out) reports c.loop-i.i c.in-Some.report.now (report_rows c.in-Some.report.now)
+    (items_failed report_rows (sink c.args.out.now) (sink c.loop-i.out) (sink c.print_history.new.out) reports
+    c.loop-i.i c.in-Some.report.now (report_rows c.in-Some.report.now)
     (sym c.in-Some.ensures) refl c.loop-i.invariant.content c.in-Failed.ensures.content)
 
 pub loop-i-preserved : goal.loop-i-preserved
@@ -24,7 +25,8 @@ loop-i-preserved g c =
     let sink = g.O.Sink.written in
     record {
       content =
-          items_done report_rows (sink c.args.out.now) (sink c.loop-i.out) (sink c.print_history.new.out) c.args.reports.now.reports c.loop-i.i c.in-Some.report.now (report_rows c.in-Some.report.now)
+          items_done report_rows (sink c.args.out.now) (sink c.loop-i.out) (sink c.print_history.new.out)
+          c.args.reports.now.reports c.loop-i.i c.in-Some.report.now (report_rows c.in-Some.report.now)
           (sym c.in-Some.ensures) refl c.loop-i.invariant.content c.in-Done.ensures.content;
       faults = c.in-Done.ensures.cause ∙ c.loop-i.invariant.faults;
     }
@@ -34,4 +36,5 @@ returns-clause-content g c =
     let sink = g.O.Sink.written in
     let reports = c.args.reports.now.reports in
     subst (λ (text : List ℕ). WritesAll (sink c.args.out.now) (sink c.loop-i.out) text ends.Done)
-    (ap (flat_map report_rows) (take_all c.loop-i.i reports (omega (arith, c.len-i-end.ensures, c.loop-i-test.false))) ∙ rows_of_reports reports) c.loop-i.invariant.content
+    (ap (flat_map report_rows) (take_all c.loop-i.i reports (omega (arith, c.len-i-end.ensures, c.loop-i-test.false)))
+    ∙ rows_of_reports reports) c.loop-i.invariant.content

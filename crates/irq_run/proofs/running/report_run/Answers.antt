@@ -6,4 +6,5 @@ use Rattle.irq_run.proofs.running.report_run.Goals as goal
 pub returns-in-Full-clause-runs : goal.returns-in-Full-clause-runs
 returns-in-Full-clause-runs g c =
     let out = g.O.Sink.written c.args.out.now in
-    subst (λ (end : RunEnd). RunsBoard c.args.board.now c.args.summary c.report_full.result.reports.reports out out end) (sym c.report_full.ensures.end) c.report_full.ensures.full
+    subst (λ (end : RunEnd). RunsBoard c.args.board.now c.args.summary c.report_full.result.reports.reports out out end)
+    (sym c.report_full.ensures.end) c.report_full.ensures.full

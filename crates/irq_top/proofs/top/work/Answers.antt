@@ -4,16 +4,22 @@ use Rattle.irq_top.proofs.top.work.Goals as goal
 
 pub returns-in-Some-clause-does : goal.returns-in-Some-clause-does
 returns-in-Some-clause-does g c =
-    of_asked (g.S.Source.left c.args.src.now) (g.S.Source.left c.act.new.src) c.act.result.reports.reports (g.O.Sink.written c.args.out.now) (g.O.Sink.written c.act.new.out) c.act.result.ending _ c.in-Some.asked c.in-Some.ensures c.act.ensures.does
+    of_asked (g.S.Source.left c.args.src.now) (g.S.Source.left c.act.new.src) c.act.result.reports.reports
+    (g.O.Sink.written c.args.out.now) (g.O.Sink.written c.act.new.out) c.act.result.ending _ c.in-Some.asked
+    c.in-Some.ensures c.act.ensures.does
 
 pub returns-in-Some-clause-usage : goal.returns-in-Some-clause-usage
 returns-in-Some-clause-usage g c =
-    let no = is_asked (g.S.Source.left c.args.src.now) (g.S.Source.left c.act.new.src) c.act.result.reports.reports (g.O.Sink.written c.args.out.now) (g.O.Sink.written c.act.new.out) c.act.result.ending c.in-Some.asked c.act.ensures.does in
+    let no = is_asked (g.S.Source.left c.args.src.now) (g.S.Source.left c.act.new.src) c.act.result.reports.reports
+    (g.O.Sink.written c.args.out.now) (g.O.Sink.written c.act.new.out) c.act.result.ending c.in-Some.asked
+    c.act.ensures.does in
     (λ is. absurd (no is), λ none. absurd (none c.in-Some.asked c.in-Some.ensures))
 
 pub returns-in-Some-clause-unasked : goal.returns-in-Some-clause-unasked
 returns-in-Some-clause-unasked g c = λ is.
-    absurd (is_asked (g.S.Source.left c.args.src.now) (g.S.Source.left c.act.new.src) c.act.result.reports.reports (g.O.Sink.written c.args.out.now) (g.O.Sink.written c.act.new.out) c.act.result.ending c.in-Some.asked c.act.ensures.does is)
+    absurd (is_asked (g.S.Source.left c.args.src.now) (g.S.Source.left c.act.new.src) c.act.result.reports.reports
+    (g.O.Sink.written c.args.out.now) (g.O.Sink.written c.act.new.out) c.act.result.ending c.in-Some.asked
+    c.act.ensures.does is)
 
 pub returns-in-Some-clause-unread : goal.returns-in-Some-clause-unread
 returns-in-Some-clause-unread g c = λ none. c.act.ensures.unread (none c.in-Some.asked c.in-Some.ensures)

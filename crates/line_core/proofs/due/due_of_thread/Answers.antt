@@ -5,5 +5,6 @@ use Rattle.line_core.proofs.due.due_of_thread.Goals as goal
 
 pub returns : goal.returns
 returns g c =
-    let is : option_map (entry_by c.args.def.now c.args.state.now.state) c.due_of_thread.result ≡ thread_due c.args.state.now.state c.args.dev = c.due_of_thread.ensures c.args.def.now in
+    let is : option_map (entry_by c.args.def.now c.args.state.now.state) c.due_of_thread.result
+    ≡ thread_due c.args.state.now.state c.args.dev = c.due_of_thread.ensures c.args.def.now in
     search rules

@@ -3,5 +3,10 @@ use Rattle.line_lock.proofs.Turning.{take_step}
 use Rattle.line_lock.proofs.steps.ask_turn.Goals as goal
 
 pub compare_exchange-requires : goal.compare_exchange-requires
-compare_exchange-requires g c =
-    (c.requires.table.0, omega arith, take_step g.T.Kept.definition g.T.Kept.entries c.args.lock.now.key c.args.lock.now.table_id.slots c.args.seat.now.id c.args.seat.now.me c.requires.actor.0 c.requires.idle.0 c.requires.idle.1 c.requires.actor.1)
+compare_exchange-requires g c = (
+  c.requires.table.0,
+  omega arith,
+  take_step g.T.Kept.definition g.T.Kept.entries c.args.lock.now.key
+      c.args.lock.now.table_id.slots c.args.seat.now.id c.args.seat.now.me c.requires.actor.0 c.requires.idle.0
+      c.requires.idle.1 c.requires.actor.1,
+)

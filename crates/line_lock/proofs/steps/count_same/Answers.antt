@@ -3,5 +3,10 @@ use Rattle.line_lock.proofs.Turning.{look_step}
 use Rattle.line_lock.proofs.steps.count_same.Goals as goal
 
 pub load-requires : goal.load-requires
-load-requires g c =
-    (c.requires.table.0, omega arith, look_step g.T.Kept.definition g.T.Kept.entries c.args.lock.now.key c.args.lock.now.table_id.slots c.args.seat.now.id c.args.seat.now.me c.requires.actor.0 c.requires.turn.0 c.requires.turn.1 c.requires.actor.1)
+load-requires g c = (
+  c.requires.table.0,
+  omega arith,
+  look_step g.T.Kept.definition g.T.Kept.entries c.args.lock.now.key
+      c.args.lock.now.table_id.slots c.args.seat.now.id c.args.seat.now.me c.requires.actor.0 c.requires.turn.0
+      c.requires.turn.1 c.requires.actor.1,
+)

@@ -10,6 +10,7 @@ pub returns-clause-tried : goal.returns-clause-tried
 returns-clause-tried g c =
     let seen = g.L.IrqLine.seen in
     let old = seen c.args.line.now in
-    let actor : c.actor.result ≡ actor_of old.def.line c.args.entry = c.actor.ensures ∙ ap (λ (d : LineDef). actor_of d.line c.args.entry) c.definition.ensures in
+    let actor : c.actor.result ≡ actor_of old.def.line c.args.entry = c.actor.ensures
+    ∙ ap (λ (d : LineDef). actor_of d.line c.args.entry) c.definition.ensures in
     tried old (seen c.step.new.line) c.args.entry c.in_ok-due.due c.eq.result
     (subst (λ (a : Actor). Heard old a (Ok c.in_ok-due.due) (seen c.step.new.line)) actor c.in_ok-due.ensures.heard) c.eq.ensures

@@ -13,6 +13,8 @@ loop-i-preserved g c =
     let inv = c.loop-i.invariant in
     record {
       def = c.in_ok-adds.ensures.def ∙ inv.def;
-      entries = goes def h c.loop-i.i c.in-Some.entry at (seen c.loop-i.line) (seen c.adds.new.line) c.in_ok-adds.field-0 added inv.def inv.entries c.in_ok-adds.ensures.tried;
-      legal = still_legal def h c.loop-i.i c.in-Some.entry at (seen c.loop-i.line) (seen c.adds.new.line) c.in_ok-adds.field-0 added inv.def inv.entries c.in_ok-adds.ensures.tried inv.legal;
+      entries = goes def h c.loop-i.i c.in-Some.entry at (seen c.loop-i.line) (seen c.adds.new.line)
+          c.in_ok-adds.field-0 added inv.def inv.entries c.in_ok-adds.ensures.tried;
+      legal = still_legal def h c.loop-i.i c.in-Some.entry at (seen c.loop-i.line) (seen c.adds.new.line)
+          c.in_ok-adds.field-0 added inv.def inv.entries c.in_ok-adds.ensures.tried inv.legal;
     }

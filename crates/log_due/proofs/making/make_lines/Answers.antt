@@ -6,7 +6,9 @@ pub make_line-requires : goal.make_line-requires
 make_line-requires g c =
     let b = c.args.board.now in
     let inv = c.loop-i.invariant in
-    makes_for b c.loop-i.defs.items c.loop-i.i c.index_mut.result.now (omega (arith, c.loop-i-test.true, c.len-i-end.ensures, inv.many, ap length c.in_ok-defs.ensures.defs)) inv.many (inv.left c.loop-i.i (omega arith)) c.index_mut.ensures.value
+    makes_for b c.loop-i.defs.items c.loop-i.i c.index_mut.result.now
+    (omega (arith, c.loop-i-test.true, c.len-i-end.ensures, inv.many, ap length c.in_ok-defs.ensures.defs)) inv.many
+    (inv.left c.loop-i.i (omega arith)) c.index_mut.ensures.value
     (g.M.MakesLine.makes c.args.maker.now) c.get.result c.args.layout.now c.requires.makes c.requires.layout c.get.ensures
 
 pub loop-i-preserved : goal.loop-i-preserved
@@ -15,8 +17,11 @@ loop-i-preserved g c =
     let inv = c.loop-i.invariant in
     record {
       made =
-          one_made b c.loop-i.defs.items c.loop-i.i c.index_mut.result.now (omega (arith, c.loop-i-test.true, c.len-i-end.ensures, inv.many, ap length c.in_ok-defs.ensures.defs)) inv.many (inv.left c.loop-i.i (omega arith)) c.index_mut.ensures.value
-          c.loop-i.lines.items c.push.new.self.items c.new.result _ c.get.result c.args.layout.now inv.made c.in_ok-push.ensures.items c.in_ok-line.ensures c.new.ensures c.requires.layout c.get.ensures;
+          one_made b c.loop-i.defs.items c.loop-i.i c.index_mut.result.now
+          (omega (arith, c.loop-i-test.true, c.len-i-end.ensures, inv.many, ap length c.in_ok-defs.ensures.defs))
+          inv.many (inv.left c.loop-i.i (omega arith)) c.index_mut.ensures.value
+          c.loop-i.lines.items c.push.new.self.items c.new.result _ c.get.result c.args.layout.now inv.made
+          c.in_ok-push.ensures.items c.in_ok-line.ensures c.new.ensures c.requires.layout c.get.ensures;
       many = set_length c.loop-i.defs.items c.loop-i.i c.make_line.new.def ∙ inv.many;
       left = left_after b c.loop-i.defs.items c.loop-i.i c.make_line.new.def inv.left;
     }

@@ -5,4 +5,5 @@ use Rattle.log_read.proofs.Taking.{made, both}
 use Rattle.log_read.proofs.entries.end.Goals as goal
 
 pub returns : goal.returns
-returns c = made (λ (p : Bool × (Bool × Note)). entries.End c.args.cpu p.0 p.1.0 p.1.1) (both c.again-again.ensures (both c.unmask-unmask.ensures c.note-note.ensures))
+returns c = made (λ (p : Bool × (Bool × Note)). entries.End c.args.cpu p.0 p.1.0 p.1.1)
+    (both c.again-again.ensures (both c.unmask-unmask.ensures c.note-note.ensures))

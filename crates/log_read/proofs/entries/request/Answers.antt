@@ -8,4 +8,5 @@ use Rattle.log_read.specs.Forms.{dev_no}
 use Rattle.log_read.proofs.entries.request.Goals as goal
 
 pub returns : goal.returns
-returns c = made (λ (p : ℕ × (Flags × (LinkAnswer × Opened))). entries.Request c.args.driver (dev_no p.0) p.1.0 p.1.1.0 p.1.1.1) (both c.number.ensures (both c.flags-flags.ensures c.linked-answer.ensures))
+returns c = made (λ (p : ℕ × (Flags × (LinkAnswer × Opened))). entries.Request c.args.driver (dev_no p.0) p.1.0 p.1.1.0
+    p.1.1.1) (both c.number.ensures (both c.flags-flags.ensures c.linked-answer.ensures))

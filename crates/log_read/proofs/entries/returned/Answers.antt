@@ -6,4 +6,5 @@ use Rattle.log_read.specs.Forms.{dev_no}
 use Rattle.log_read.proofs.entries.returned.Goals as goal
 
 pub returns : goal.returns
-returns c = made (λ (p : ℕ × (Answer × ℕ)). entries.Return c.args.cpu (dev_no p.0) p.1.0 p.1.1) (both c.number.ensures (both c.answer-answer.ensures c.number-served.ensures))
+returns c = made (λ (p : ℕ × (Answer × ℕ)). entries.Return c.args.cpu (dev_no p.0) p.1.0 p.1.1)
+    (both c.number.ensures (both c.answer-answer.ensures c.number-served.ensures))

@@ -7,7 +7,8 @@ pub returns-in_default-clause-log : goal.returns-in_default-clause-log
 returns-in_default-clause-log c =
     let lines = c.args.board.now.lines in
     first_malformed lines (rows_of c.args.bytes.now) c.loop-rest.row c.loop-rest.rest.now [] (entries_of c.loop-rest.logs)
-    (sym c.loop-rest.invariant.left ∙ c.in_default.ensures.rows.0) c.loop-rest.invariant.told (unended_row lines c.loop-rest.rest.now c.in_default.ensures.rows.1)
+    (sym c.loop-rest.invariant.left ∙ c.in_default.ensures.rows.0) c.loop-rest.invariant.told
+    (unended_row lines c.loop-rest.rest.now c.in_default.ensures.rows.1)
 
 pub returns-then-not-branch-clause-log : goal.returns-then-not-branch-clause-log
 returns-then-not-branch-clause-log c =
@@ -26,13 +27,15 @@ loop-rest-preserved c =
     record {
       left = sym (drop_next rows c.loop-rest.row row (rows_of c.in-Some.after.now) at);
       told =
-          tell_next c.args.board.now c.is_board.ensures.board rows c.loop-rest.row row (rows_of c.in-Some.after.now) (entries_of c.loop-rest.logs) (entries_of c.add_row.new.logs) at c.loop-rest.invariant.told
+          tell_next c.args.board.now c.is_board.ensures.board rows c.loop-rest.row row (rows_of c.in-Some.after.now)
+          (entries_of c.loop-rest.logs) (entries_of c.add_row.new.logs) at c.loop-rest.invariant.told
           (judged_fine lines row c.in_ok-add_row.field-0 (entries_of c.loop-rest.logs) (entries_of c.add_row.new.logs) (search rules) c.in_ok-add_row.ensures);
       within = omega (arith, c.loop-rest.invariant.within, c.in-Some.ensures.shorter);
     }
 
 pub returns-clause-log : goal.returns-clause-log
-returns-clause-log c = all_told c.args.board.now.lines c.args.bytes.now c.loop-rest.rest.now c.loop-rest.row c.loop-rest.logs c.loop-rest.invariant.left (search rules) c.loop-rest.invariant.told
+returns-clause-log c = all_told c.args.board.now.lines c.args.bytes.now c.loop-rest.rest.now c.loop-rest.row
+    c.loop-rest.logs c.loop-rest.invariant.left (search rules) c.loop-rest.invariant.told
 
 pub returns-clause-few : goal.returns-clause-few
 returns-clause-few c =

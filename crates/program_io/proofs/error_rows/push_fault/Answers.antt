@@ -14,5 +14,6 @@ returns c =
     let text = fault_text c.args.fault.kind in
     let two = c.push_number.ensures.text ∙ ap (λ xs. xs ++ number) c.push_bytes.ensures in
     let three = c.push_bytes-2.ensures ∙ ap (λ xs. xs ++ codes ": ") two in
-    let four = c.push_bytes-3.ensures ∙ (ap (λ xs. c.push_bytes-2.new.self ++ xs) (c.as_bytes.ensures.value ∙ c.text.ensures.text) ∙ ap (λ xs. xs ++ text) three) in
+    let four = c.push_bytes-3.ensures ∙ (ap (λ xs. c.push_bytes-2.new.self ++ xs)
+    (c.as_bytes.ensures.value ∙ c.text.ensures.text) ∙ ap (λ xs. xs ++ text) three) in
     c.push.ensures ∙ (ap (λ xs. xs ++ 10 ∷ []) four ∙ regroup c.args.row.now (codes "board: line ") number (codes ": ") text (10 ∷ []))

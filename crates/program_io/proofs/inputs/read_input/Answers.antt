@@ -15,6 +15,7 @@ returns-in-Ok-read_board-clause-stated g c =
 
 pub returns-in-Err-Fault-read_board-clause-content : goal.returns-in-Err-Fault-read_board-clause-content
 returns-in-Err-Fault-read_board-clause-content g c =
-    refused (g.S.Source.left c.args.src.now) (g.S.Source.left c.read_up_to.new.source) c.in-Ok.bytes.items c.in-Err-Fault-read_board.fault c.in-Ok.ensures.content
+    refused (g.S.Source.left c.args.src.now) (g.S.Source.left c.read_up_to.new.source) c.in-Ok.bytes.items
+    c.in-Err-Fault-read_board.fault c.in-Ok.ensures.content
     (omega (arith, c.as_slice.ensures.len, ap length c.as_slice.ensures.value, c.in-Ok.ensures.bound))
     (ap board_of_text (sym c.as_slice.ensures.value) ∙ (rw c.in-Err-Fault-read_board.field-0-is at c.in-Err-Fault-read_board.ensures.exact))

@@ -30,5 +30,6 @@ loop-i-preserved g c =
       | else-not-is_noted w ↦
           let yes : c.is_noted.result ≡ true = w.if-not-is_noted.false in
           subst (AreNoted eq c.args.place found (i + 1) old) (sym (ap (λ v. v.items) w.firsts-is))
-          (note_known eq c.args.place found i old mid c.loop-i.invariant l ws c.get-label.ensures (subst (λ t. IsNoted eq t l) c.deref.ensures.value (c.is_noted.ensures.0 yes)))
+          (note_known eq c.args.place found i old mid c.loop-i.invariant l ws c.get-label.ensures
+          (subst (λ t. IsNoted eq t l) c.deref.ensures.value (c.is_noted.ensures.0 yes)))
     ]

@@ -17,7 +17,8 @@ loop-first-preserved g c =
     let i = c.loop-first.first-index in
     let f = c.first-item.result in
     let lt : i < length fs = omega arith in
-    none_more g.L.PartialEq.eq c.args.label fs i f (slice_get_read fs (length fs) i f refl lt c.first-item.is) (sym c.eq.ensures ∙ c.if-eq.false) c.loop-first.invariant
+    none_more g.L.PartialEq.eq c.args.label fs i f (slice_get_read fs (length fs) i f refl lt c.first-item.is)
+    (sym c.eq.ensures ∙ c.if-eq.false) c.loop-first.invariant
 
 pub returns-clause-none : goal.returns-clause-none
 returns-clause-none g c =

@@ -34,7 +34,8 @@ returns-clause-paths g c =
 pub returns-clause-firsts : goal.returns-clause-firsts
 returns-clause-firsts g c =
     let s = c.loop-alloc.searched in
-    firsts (g.S.Space.can c.args.space.now) (g.S.Space.node c.args.space.now) s.looked s.paths c.loop-alloc.invariant.under.paths g.L.PartialEq.eq g.met.L.Eq.laws s.firsts
+    firsts (g.S.Space.can c.args.space.now) (g.S.Space.node c.args.space.now) s.looked s.paths
+    c.loop-alloc.invariant.under.paths g.L.PartialEq.eq g.met.L.Eq.laws s.firsts
     c.loop-alloc.invariant.under.firsts
 
 pub returns-clause-cut : goal.returns-clause-cut

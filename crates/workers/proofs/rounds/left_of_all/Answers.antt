@@ -8,9 +8,15 @@ use Rattle.workers.proofs.rounds.left_of_all.Goals as goal
 
 pub loop-i-preserved : goal.loop-i-preserved
 loop-i-preserved g c =
-    let at : slice_get c.args.jobs.now c.loop-i.i ≡ Some c.index-jobs-i.result = there_or c.args.jobs.now c.loop-i.i c.index-jobs-i.result c.loop-i-test.true ∙ ap (λ (j : JobSeen). Some j) (sym c.index-jobs-i.is) in
+    let at : slice_get c.args.jobs.now c.loop-i.i ≡ Some c.index-jobs-i.result
+    = there_or c.args.jobs.now c.loop-i.i c.index-jobs-i.result c.loop-i-test.true
+    ∙ ap (λ (j : JobSeen). Some j) (sym c.index-jobs-i.is) in
     let its = ap (λ (j : JobSeen). j.left) (sym c.job.view_is) in
     record {
-      all = subst (λ (l : Left). SumsUp c.args.jobs.now (c.loop-i.i + 1) l) (sym c.worse-all.ensures) (sums_more c.args.jobs.now c.loop-i.i c.index-jobs-i.result at c.loop-i.all c.job.inside.left its c.loop-i.invariant.all);
-      busy = subst (λ (l : Left). BusyIsSo c.args.jobs.now (c.loop-i.i + 1) l) (sym c.worse-all.ensures) (busy_more c.args.jobs.now c.loop-i.i c.index-jobs-i.result at c.loop-i.all c.job.inside.left its c.loop-i.invariant.busy);
+      all = subst (λ (l : Left). SumsUp c.args.jobs.now (c.loop-i.i + 1) l) (sym c.worse-all.ensures)
+          (sums_more c.args.jobs.now c.loop-i.i c.index-jobs-i.result at c.loop-i.all c.job.inside.left its
+          c.loop-i.invariant.all);
+      busy = subst (λ (l : Left). BusyIsSo c.args.jobs.now (c.loop-i.i + 1) l) (sym c.worse-all.ensures)
+          (busy_more c.args.jobs.now c.loop-i.i c.index-jobs-i.result at c.loop-i.all c.job.inside.left its
+          c.loop-i.invariant.busy);
     }

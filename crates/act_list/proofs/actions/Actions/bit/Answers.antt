@@ -10,13 +10,16 @@ pub returns-then-action-eq0-clause-oneshot : goal.returns-then-action-eq0-clause
 returns-then-action-eq0-clause-oneshot c =
     let found : Some c.in_ok-action.action ≡ lookup (same_dev c.args.dev) c.self.inside.map.entries = grind (arith, common_steps) in
     let kept = subst (λ (s : ActionsSeen). AreKept s.actions) c.self.view_is c.self.invariant in
-    no_bit c.args.dev c.args.self.now.actions c.in_ok-action.action kept.have (found ∙ ap (λ (s : ActionsSeen). lookup (same_dev c.args.dev) s.actions) c.self.view_is) c.if-action-eq0.true
+    no_bit c.args.dev c.args.self.now.actions c.in_ok-action.action kept.have
+    (found ∙ ap (λ (s : ActionsSeen). lookup (same_dev c.args.dev) s.actions) c.self.view_is) c.if-action-eq0.true
 
 pub returns-clause-oneshot : goal.returns-clause-oneshot
 returns-clause-oneshot c =
     let found : Some c.in_ok-action.action ≡ lookup (same_dev c.args.dev) c.self.inside.map.entries = grind (arith, common_steps) in
     let kept = subst (λ (s : ActionsSeen). AreKept s.actions) c.self.view_is c.self.invariant in
-    (one_bit_there c.args.dev c.args.self.now.actions c.in_ok-action.action kept.have (found ∙ ap (λ (s : ActionsSeen). lookup (same_dev c.args.dev) s.actions) c.self.view_is) c.if-action-eq0.false).0
+    (one_bit_there c.args.dev c.args.self.now.actions c.in_ok-action.action kept.have
+    (found ∙ ap (λ (s : ActionsSeen). lookup (same_dev c.args.dev) s.actions) c.self.view_is)
+    c.if-action-eq0.false).0
 
 pub returns-clause-one : goal.returns-clause-one
 returns-clause-one c =

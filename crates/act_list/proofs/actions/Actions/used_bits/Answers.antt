@@ -6,7 +6,9 @@ use Rattle.act_list.proofs.actions.Actions.used_bits.Goals as goal
 pub loop-i-preserved : goal.loop-i-preserved
 loop-i-preserved c =
     let t = c.args.self.now.actions in
-    ap (λ b. bits_from (bit_or c.loop-i.used b) (drop (c.loop-i.i + 1) t)) c.bit_at-used.ensures ∙ (bits_next t c.loop-i.i c.loop-i.used (omega (arith, c.loop-i-test.true, c.len-i-end.ensures)) ∙ c.loop-i.invariant)
+    ap (λ b. bits_from (bit_or c.loop-i.used b) (drop (c.loop-i.i + 1) t)) c.bit_at-used.ensures
+    ∙ (bits_next t c.loop-i.i c.loop-i.used (omega (arith, c.loop-i-test.true, c.len-i-end.ensures))
+    ∙ c.loop-i.invariant)
 
 pub returns : goal.returns
 returns c =

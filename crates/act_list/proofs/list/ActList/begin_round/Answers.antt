@@ -15,4 +15,5 @@ invariant_of-self c = record {
 pub returns-clause-list : goal.returns-clause-list
 returns-clause-list c =
     let named : List (DevNo × Bool) → ListSeen = λ b. record { actions = c.self.inside.actions.actions; begun = b; rounds = c.self.inside.rounds + 1 } in
-    ap named (next_round (c.self.inside.rounds + 1) c.self.inside.stamps c.self.invariant.stamps) ∙ ap (λ (s : ActListSeen). after_begin_round s.list) c.self.view_is
+    ap named (next_round (c.self.inside.rounds + 1) c.self.inside.stamps c.self.invariant.stamps)
+    ∙ ap (λ (s : ActListSeen). after_begin_round s.list) c.self.view_is

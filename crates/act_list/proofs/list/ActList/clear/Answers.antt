@@ -19,4 +19,5 @@ returns-clause-list c =
     let with_actions : List (DevNo × Action) → ListSeen = λ a. record { actions = a; begun = stamped 1 c.fill.new.self; rounds = 0 } in
     let with_begun : List (DevNo × Bool) → ListSeen = λ b. record { actions = []; begun = b; rounds = 0 } in
     ap with_actions c.clear.ensures.actions
-    ∙ (ap with_begun (ap (stamped 1) c.fill.ensures ∙ none_filled (c.self.inside.rounds + 1) c.self.inside.stamps) ∙ ap (λ (s : ActListSeen). unlinked s.list) c.self.view_is)
+    ∙ (ap with_begun (ap (stamped 1) c.fill.ensures ∙ none_filled (c.self.inside.rounds + 1) c.self.inside.stamps)
+    ∙ ap (λ (s : ActListSeen). unlinked s.list) c.self.view_is)

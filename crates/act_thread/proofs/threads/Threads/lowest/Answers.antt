@@ -7,10 +7,12 @@ use Rattle.act_thread.proofs.threads.Threads.lowest.Goals as goal
 pub returns-in_err-rank : goal.returns-in_err-rank
 returns-in_err-rank c =
     let i = c.self.inside in
-    c.from_residual.ensures ∙ (sym (none_found i.rows i.active i.held i.ranks i.ready i.returned c.args.goes_on c.self.invariant c.in_err-rank.ensures) ∙ ap (lowest_where (could_step c.args.goes_on)) c.self.view_is)
+    c.from_residual.ensures ∙ (sym (none_found i.rows i.active i.held i.ranks i.ready i.returned c.args.goes_on
+    c.self.invariant c.in_err-rank.ensures) ∙ ap (lowest_where (could_step c.args.goes_on)) c.self.view_is)
 
 pub returns : goal.returns
 returns c =
     let i = c.self.inside in
-    one_found i.rows i.active i.held i.ranks i.ready i.returned c.args.goes_on c.self.invariant c.in_ok-rank.rank c.device.result c.in_ok-rank.ensures (λ d rank. (c.device.ensures d).1 rank)
+    one_found i.rows i.active i.held i.ranks i.ready i.returned c.args.goes_on c.self.invariant c.in_ok-rank.rank
+    c.device.result c.in_ok-rank.ensures (λ d rank. (c.device.ensures d).1 rank)
     ∙ ap (lowest_where (could_step c.args.goes_on)) c.self.view_is

@@ -49,7 +49,8 @@ invariant_of-self c =
     let more = length_put i.rows c.args.dev c.args.new in
     let mine = kept.ranked c.args.dev c.args.old there in
     let ready = λ (r : ℕ) (low : r < 256). c.mark.ensures r low ∙ ap (λ b. cond (is_rank r (at i.ranks c.args.dev)) b (holds i.ready r)) c.is_ready.ensures in
-    let returned = λ (r : ℕ) (low : r < 256). c.mark-2.ensures r low ∙ ap (λ b. cond (is_rank r (at i.ranks c.args.dev)) b (holds i.returned r)) c.is_returned.ensures in
+    let returned = λ (r : ℕ) (low : r < 256). c.mark-2.ensures r low
+    ∙ ap (λ b. cond (is_rank r (at i.ranks c.args.dev)) b (holds i.returned r)) c.is_returned.ensures in
     rw c.set.ensures
     (record {
       active = omega (arith, active, kept.active, c.active_part.ensures, c.active_part-2.ensures);
@@ -59,5 +60,6 @@ invariant_of-self c =
       ranking = kept.ranking;
       ranked = ranked_put i.rows i.ranks c.args.dev c.args.old c.args.new there kept.ranked;
       readies = marked_put is_ready i.rows i.ranks i.ready c.mark.new.set c.args.dev c.args.old c.args.new mine.0 kept.ranking there mine.1 kept.readies ready;
-      returns = marked_put is_returned i.rows i.ranks i.returned c.mark-2.new.set c.args.dev c.args.old c.args.new mine.0 kept.ranking there mine.1 kept.returns returned;
+      returns = marked_put is_returned i.rows i.ranks i.returned c.mark-2.new.set c.args.dev c.args.old c.args.new
+          mine.0 kept.ranking there mine.1 kept.returns returned;
     })

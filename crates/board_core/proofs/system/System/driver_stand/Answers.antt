@@ -4,22 +4,29 @@ use Rattle.board_core.proofs.Standing.{driver_nowhere, driver_waits, driver_ther
 use Rattle.board_core.proofs.system.System.driver_stand.Goals as goal
 
 pub place_of-requires : goal.place_of-requires
-place_of-requires g c = rising_drivers c.self.inside.board.now c.is_board.ensures.board c.deref.result.now (c.deref.ensures.value ∙ c.self.invariant.driver_numbers)
+place_of-requires g c = rising_drivers c.self.inside.board.now c.is_board.ensures.board c.deref.result.now
+    (c.deref.ensures.value ∙ c.self.invariant.driver_numbers)
 
 pub returns-in_default : goal.returns-in_default
 returns-in_default g c =
     let s = c.self.inside in
-    driver_nowhere s.board.now c.is_board.ensures.board s.layout (map g.L.IrqLine.seen s.lines.items) s.scripts.items s.order.items _ c.self.invariant c.args.self.now c.self.view_is c.args.driver
+    driver_nowhere s.board.now c.is_board.ensures.board s.layout (map g.L.IrqLine.seen s.lines.items) s.scripts.items
+    s.order.items _ c.self.invariant c.args.self.now c.self.view_is c.args.driver
     (number_nowhere c.deref.result.now s.driver_numbers.items c.args.driver.0 c.place_of.result c.deref.ensures.value c.place_of.ensures c.in_default.is)
 
 pub returns-then-not-is_ready : goal.returns-then-not-is_ready
 returns-then-not-is_ready g c =
     let s = c.self.inside in
-    driver_waits s.board.now c.is_board.ensures.board s.layout (map g.L.IrqLine.seen s.lines.items) s.scripts.items s.order.items _ c.self.invariant c.args.self.now c.self.view_is c.args.driver c.in-Some.j
-    (number_there c.deref.result.now s.driver_numbers.items c.args.driver.0 c.in-Some.j c.place_of.result c.deref.ensures.value c.place_of.ensures c.in-Some.is) (sym c.is_ready.ensures ∙ c.if-not-is_ready.true)
+    driver_waits s.board.now c.is_board.ensures.board s.layout (map g.L.IrqLine.seen s.lines.items) s.scripts.items
+    s.order.items _ c.self.invariant c.args.self.now c.self.view_is c.args.driver c.in-Some.j
+    (number_there c.deref.result.now s.driver_numbers.items c.args.driver.0 c.in-Some.j c.place_of.result
+    c.deref.ensures.value c.place_of.ensures c.in-Some.is) (sym c.is_ready.ensures ∙ c.if-not-is_ready.true)
 
 pub returns-in-Some-call : goal.returns-in-Some-call
 returns-in-Some-call g c =
     let s = c.self.inside in
-    driver_there s.board.now c.is_board.ensures.board s.layout (map g.L.IrqLine.seen s.lines.items) s.scripts.items s.order.items _ c.self.invariant c.args.self.now c.self.view_is c.args.driver c.in-Some.j c.in-Some-call.call _
-    (number_there c.deref.result.now s.driver_numbers.items c.args.driver.0 c.in-Some.j c.place_of.result c.deref.ensures.value c.place_of.ensures c.in-Some.is) (sym c.is_ready.ensures ∙ c.if-not-is_ready.false) c.in-Some-call.ensures refl
+    driver_there s.board.now c.is_board.ensures.board s.layout (map g.L.IrqLine.seen s.lines.items) s.scripts.items
+    s.order.items _ c.self.invariant c.args.self.now c.self.view_is c.args.driver c.in-Some.j c.in-Some-call.call _
+    (number_there c.deref.result.now s.driver_numbers.items c.args.driver.0 c.in-Some.j c.place_of.result
+    c.deref.ensures.value c.place_of.ensures c.in-Some.is) (sym c.is_ready.ensures ∙ c.if-not-is_ready.false)
+    c.in-Some-call.ensures refl

@@ -11,7 +11,9 @@ use Rattle.board_core.proofs.system.System.of_lines.Goals as goal
 pub make_scripts-requires-clause-lines : goal.make_scripts-requires-clause-lines
 make_scripts-requires-clause-lines g c =
     let f = g.L.IrqLine.seen in
-    c.deref-3.ensures.value ∙ (c.in_ok-line_numbers.ensures ∙ (ap (λ xs. numbers_of_lines (map f xs)) c.deref-2.ensures.value ∙ kept_numbers c.args.board.now c.is_board.ensures.board (map f c.args.lines.items) c.requires.kept))
+    c.deref-3.ensures.value ∙ (c.in_ok-line_numbers.ensures
+    ∙ (ap (λ xs. numbers_of_lines (map f xs)) c.deref-2.ensures.value
+    ∙ kept_numbers c.args.board.now c.is_board.ensures.board (map f c.args.lines.items) c.requires.kept))
 
 pub place_scripts-requires-clause-room : goal.place_scripts-requires-clause-room
 place_scripts-requires-clause-room g c =
@@ -31,8 +33,10 @@ pub make_ready-requires-clause-few_scripts : goal.make_ready-requires-clause-few
 make_ready-requires-clause-few_scripts g c =
     let f = g.L.IrqLine.seen in
     let few =
-    placed_few c.args.board.now c.is_board.ensures.board (map f c.args.lines.items) c.requires.kept c.in_ok-scripts.scripts.items c.place_scripts.new.scripts.items c.in_ok-scripts.ensures
-    (subst (λ xs. ArePlaced (board_lines (map f xs)) c.in_ok-scripts.scripts.items c.place_scripts.new.scripts.items) c.deref-5.ensures.value c.in_ok-place_scripts.ensures) in
+    placed_few c.args.board.now c.is_board.ensures.board (map f c.args.lines.items) c.requires.kept
+    c.in_ok-scripts.scripts.items c.place_scripts.new.scripts.items c.in_ok-scripts.ensures
+    (subst (λ xs. ArePlaced (board_lines (map f xs)) c.in_ok-scripts.scripts.items c.place_scripts.new.scripts.items)
+    c.deref-5.ensures.value c.in_ok-place_scripts.ensures) in
     let v = ap (λ xs. length xs) c.deref-8.ensures.value in
     omega (arith, few, v)
 
@@ -41,10 +45,12 @@ invariant_of-result g c =
     let f = g.L.IrqLine.seen in
     let board = c.args.board.now in
     let lines = map f c.args.lines.items in
-    let placed = subst (λ xs. ArePlaced (board_lines (map f xs)) c.in_ok-scripts.scripts.items c.place_scripts.new.scripts.items) c.deref-5.ensures.value c.in_ok-place_scripts.ensures in
+    let placed = subst (λ xs. ArePlaced (board_lines (map f xs)) c.in_ok-scripts.scripts.items
+    c.place_scripts.new.scripts.items) c.deref-5.ensures.value c.in_ok-place_scripts.ensures in
     record {
       system =
-          placed_system board c.is_board.ensures.board lines c.requires.kept c.in_ok-scripts.scripts.items c.place_scripts.new.scripts.items c.in_ok-scripts.ensures placed
+          placed_system board c.is_board.ensures.board lines c.requires.kept c.in_ok-scripts.scripts.items
+          c.place_scripts.new.scripts.items c.in_ok-scripts.ensures placed
           (subst (λ xs. AreSound (map f xs)) c.deref.ensures.value c.are_sound.ensures);
       ready =
           subst (λ xs. IsReadyFor (map f xs) c.place_scripts.new.scripts.items c.in_ok-ready.ready) c.deref-7.ensures.value

@@ -10,7 +10,9 @@ use Rattle.board_core.proofs.system.System.of_new_lines.Goals as goal
 pub make_scripts-requires-clause-lines : goal.make_scripts-requires-clause-lines
 make_scripts-requires-clause-lines g c =
     let f = g.L.IrqLine.seen in
-    c.deref-3.ensures.value ∙ (c.in_ok-line_numbers.ensures ∙ (ap (λ xs. numbers_of_lines (map f xs)) c.deref-2.ensures.value ∙ new_numbers c.args.board.now (map f c.args.lines.items) c.requires.lines))
+    c.deref-3.ensures.value ∙ (c.in_ok-line_numbers.ensures
+    ∙ (ap (λ xs. numbers_of_lines (map f xs)) c.deref-2.ensures.value
+    ∙ new_numbers c.args.board.now (map f c.args.lines.items) c.requires.lines))
 
 pub make_ready-requires-clause-few_lines : goal.make_ready-requires-clause-few_lines
 make_ready-requires-clause-few_lines g c =

@@ -10,7 +10,8 @@ loop-pick-init g c = record { board = refl; layout = refl; underway = fresh c.ar
 
 pub returns-in-Full-clause-play : goal.returns-in-Full-clause-play
 returns-in-Full-clause-play g c =
-    pick_full c.loop-pick.self c.turn.new.self c.args.picks.now c.loop-pick.pick-index _ c.in-Full.line c.in-Full.len c.turn.result c.loop-pick-test.true c.loop-pick.invariant.underway c.in-Full.is c.turn.ensures
+    pick_full c.loop-pick.self c.turn.new.self c.args.picks.now c.loop-pick.pick-index _ c.in-Full.line c.in-Full.len
+    c.turn.result c.loop-pick-test.true c.loop-pick.invariant.underway c.in-Full.is c.turn.ensures
 
 pub loop-pick-preserved : goal.loop-pick-preserved
 loop-pick-preserved g c =
@@ -18,7 +19,8 @@ loop-pick-preserved g c =
       board = turn_same_board c.loop-pick.self c.turn.new.self _ c.turn.result c.turn.ensures ∙ c.loop-pick.invariant.board;
       layout = turn_same_layout c.loop-pick.self c.turn.new.self _ c.turn.result c.turn.ensures ∙ c.loop-pick.invariant.layout;
       underway =
-          pick_done c.loop-pick.self c.turn.new.self c.args.picks.now c.loop-pick.pick-index _ c.turn.result c.loop-pick-test.true c.loop-pick.invariant.underway c.in_default.not-Full c.in_default.not-NoMemory
+          pick_done c.loop-pick.self c.turn.new.self c.args.picks.now c.loop-pick.pick-index _ c.turn.result
+          c.loop-pick-test.true c.loop-pick.invariant.underway c.in_default.not-Full c.in_default.not-NoMemory
           c.turn.ensures;
     }
 
@@ -30,4 +32,6 @@ pub returns-clause-lines : goal.returns-clause-lines
 returns-clause-lines g c =
     let picks = c.args.picks.now in
     c.settle.ensures.lines picks
-    (subst (λ (rest : List Actor). IsUnderway c.loop-pick.self picks rest) (all_dropped picks c.loop-pick.pick-index (omega (arith, c.loop-pick-test.false))) c.loop-pick.invariant.underway)
+    (subst (λ (rest : List Actor). IsUnderway c.loop-pick.self picks rest)
+    (all_dropped picks c.loop-pick.pick-index (omega (arith, c.loop-pick-test.false)))
+    c.loop-pick.invariant.underway)

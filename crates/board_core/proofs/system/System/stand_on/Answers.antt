@@ -7,15 +7,23 @@ use Rattle.board_core.proofs.system.System.stand_on.Goals as goal
 pub place_of-requires : goal.place_of-requires
 place_of-requires g c =
     let s = c.self.inside in
-    rising_lines s.board.now c.is_board.ensures.board c.deref.result.now (c.deref.ensures.value ∙ (c.self.invariant.line_numbers ∙ numbers_kept s.board.now (map g.L.IrqLine.seen s.lines.items) s.scripts.items c.self.invariant.system))
+    rising_lines s.board.now c.is_board.ensures.board c.deref.result.now
+    (c.deref.ensures.value ∙ (c.self.invariant.line_numbers
+    ∙ numbers_kept s.board.now (map g.L.IrqLine.seen s.lines.items) s.scripts.items c.self.invariant.system))
 
 pub returns-in_default : goal.returns-in_default
 returns-in_default g c =
     let s = c.self.inside in
-    line_nowhere s.board.now c.is_board.ensures.board s.layout (map g.L.IrqLine.seen s.lines.items) s.scripts.items s.order.items _ c.self.invariant c.args.self.now c.self.view_is c.args.line (number_nowhere c.deref.result.now s.line_numbers.items c.args.line.0 c.place_of.result c.deref.ensures.value c.place_of.ensures c.in_default.is)
+    line_nowhere s.board.now c.is_board.ensures.board s.layout (map g.L.IrqLine.seen s.lines.items) s.scripts.items
+    s.order.items _ c.self.invariant c.args.self.now c.self.view_is c.args.line
+    (number_nowhere c.deref.result.now s.line_numbers.items c.args.line.0 c.place_of.result c.deref.ensures.value
+    c.place_of.ensures c.in_default.is)
 
 pub returns : goal.returns
 returns g c =
     let s = c.self.inside in
-    line_there s.board.now c.is_board.ensures.board s.layout (map g.L.IrqLine.seen s.lines.items) s.scripts.items s.order.items _ c.self.invariant c.args.self.now c.self.view_is c.args.line c.args.actor c.in-Some.k c.script_place-script.result _
-    (number_there c.deref.result.now s.line_numbers.items c.args.line.0 c.in-Some.k c.place_of.result c.deref.ensures.value c.place_of.ensures c.in-Some.is) c.requires c.script_place-script.ensures refl
+    line_there s.board.now c.is_board.ensures.board s.layout (map g.L.IrqLine.seen s.lines.items) s.scripts.items
+    s.order.items _ c.self.invariant c.args.self.now c.self.view_is c.args.line c.args.actor c.in-Some.k
+    c.script_place-script.result _
+    (number_there c.deref.result.now s.line_numbers.items c.args.line.0 c.in-Some.k c.place_of.result
+    c.deref.ensures.value c.place_of.ensures c.in-Some.is) c.requires c.script_place-script.ensures refl

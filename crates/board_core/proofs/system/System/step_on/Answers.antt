@@ -11,4 +11,5 @@ pub step_stand-requires : goal.step_stand-requires
 step_stand-requires g c = c.in-Some.ensures.0
 
 pub returns : goal.returns
-returns g c = subst (λ (o : Option BoardLine). StepsBy c.args.self.now (due_on o c.args.actor) c.step_stand.result c.step_stand.new.self) c.in-Some.ensures.1 c.step_stand.ensures
+returns g c = subst (λ (o : Option BoardLine). StepsBy c.args.self.now (due_on o c.args.actor) c.step_stand.result
+    c.step_stand.new.self) c.in-Some.ensures.1 c.step_stand.ensures

@@ -7,42 +7,76 @@ use Rattle.board_core.proofs.system.System.step_stand.Goals as goal
 pub index-requires : goal.index-requires
 index-requires g c =
     let s = c.self.inside in
-    let w = within g.L.IrqLine.seen s.lines.items s.board.now c.is_board.ensures.board s.layout s.order.items s.scripts.items _ c.self.invariant c.args.self.now (sym c.self.view_is) c.args.actor c.args.stand c.requires in
+    let w = within g.L.IrqLine.seen s.lines.items s.board.now c.is_board.ensures.board s.layout s.order.items
+    s.scripts.items _ c.self.invariant c.args.self.now (sym c.self.view_is) c.args.actor c.args.stand c.requires in
     omega (arith, w, s.lines.ok.0)
 
 pub step_place-stepped-requires-clause-few : goal.step_place-stepped-requires-clause-few
-step_place-stepped-requires-clause-few g c = let s = c.self.inside in few g.L.IrqLine.seen s.lines.items s.board.now c.is_board.ensures.board s.layout s.order.items s.scripts.items _ c.self.invariant c.args.self.now (sym c.self.view_is) c.args.actor c.args.stand c.requires
+step_place-stepped-requires-clause-few g c = let s = c.self.inside in
+    few g.L.IrqLine.seen s.lines.items s.board.now c.is_board.ensures.board s.layout s.order.items s.scripts.items _
+    c.self.invariant c.args.self.now (sym c.self.view_is) c.args.actor c.args.stand c.requires
 
 pub advance-requires : goal.advance-requires
-advance-requires g c = let s = c.self.inside in script_within g.L.IrqLine.seen s.lines.items s.board.now c.is_board.ensures.board s.layout s.order.items s.scripts.items _ c.self.invariant c.args.self.now (sym c.self.view_is) c.args.actor c.args.stand c.requires
+advance-requires g c = let s = c.self.inside in script_within g.L.IrqLine.seen s.lines.items s.board.now
+    c.is_board.ensures.board s.layout s.order.items s.scripts.items _ c.self.invariant c.args.self.now
+    (sym c.self.view_is) c.args.actor c.args.stand c.requires
 
 pub refresh-requires-clause-line : goal.refresh-requires-clause-line
 refresh-requires-clause-line g c =
     let s = c.self.inside in
-    let w = line_within g.L.IrqLine.seen s.lines.items s.board.now c.is_board.ensures.board s.layout s.order.items s.scripts.items _ c.self.invariant c.args.self.now (sym c.self.view_is) c.args.actor c.args.stand c.requires c.index.result.now c.index.ensures c.definition.result.now c.definition.ensures c.step_place-stepped.result (map g.L.IrqLine.seen c.step_place-stepped.new.lines.items) c.step_place-stepped.new.order.items c.step_place-stepped.ensures in
+    let w = line_within g.L.IrqLine.seen s.lines.items s.board.now c.is_board.ensures.board s.layout s.order.items
+    s.scripts.items _ c.self.invariant c.args.self.now (sym c.self.view_is) c.args.actor c.args.stand c.requires
+    c.index.result.now c.index.ensures c.definition.result.now c.definition.ensures c.step_place-stepped.result
+    (map g.L.IrqLine.seen c.step_place-stepped.new.lines.items) c.step_place-stepped.new.order.items
+    c.step_place-stepped.ensures in
     let n = length-map c.step_place-stepped.new.lines.items g.L.IrqLine.seen in
     let v = ap (λ xs. length xs) c.deref.ensures.value in
     omega (arith, w, n, v)
 
 pub refresh-requires-clause-line_part : goal.refresh-requires-clause-line_part
-refresh-requires-clause-line_part g c = let s = c.self.inside in part_within g.L.IrqLine.seen s.lines.items s.board.now c.is_board.ensures.board s.layout s.order.items s.scripts.items _ c.self.invariant c.args.self.now (sym c.self.view_is) c.args.actor c.args.stand c.requires c.index.result.now c.index.ensures c.definition.result.now c.definition.ensures c.step_place-stepped.result (map g.L.IrqLine.seen c.step_place-stepped.new.lines.items) c.step_place-stepped.new.order.items c.step_place-stepped.ensures
+refresh-requires-clause-line_part g c = let s = c.self.inside in
+    part_within g.L.IrqLine.seen s.lines.items s.board.now c.is_board.ensures.board s.layout s.order.items
+    s.scripts.items _ c.self.invariant c.args.self.now (sym c.self.view_is) c.args.actor c.args.stand c.requires
+    c.index.result.now c.index.ensures c.definition.result.now c.definition.ensures c.step_place-stepped.result
+    (map g.L.IrqLine.seen c.step_place-stepped.new.lines.items) c.step_place-stepped.new.order.items
+    c.step_place-stepped.ensures
 
 pub refresh-requires-clause-script : goal.refresh-requires-clause-script
 refresh-requires-clause-script g c =
     let s = c.self.inside in
-    subst (λ ss. IfSome c.args.stand.script (λ j. j < length ss)) (sym c.deref-2.ensures.value) (scripts_within g.L.IrqLine.seen s.lines.items s.board.now c.is_board.ensures.board s.layout s.order.items s.scripts.items _ c.self.invariant c.args.self.now (sym c.self.view_is) c.args.actor c.args.stand c.requires c.index.result.now c.index.ensures c.definition.result.now c.definition.ensures c.step_place-stepped.result (map g.L.IrqLine.seen c.step_place-stepped.new.lines.items) c.step_place-stepped.new.order.items c.step_place-stepped.ensures c.advance.new.scripts.items c.advance.ensures)
+    subst (λ ss. IfSome c.args.stand.script (λ j. j < length ss)) (sym c.deref-2.ensures.value)
+    (scripts_within g.L.IrqLine.seen s.lines.items s.board.now c.is_board.ensures.board s.layout s.order.items
+    s.scripts.items _ c.self.invariant c.args.self.now (sym c.self.view_is) c.args.actor c.args.stand c.requires
+    c.index.result.now c.index.ensures c.definition.result.now c.definition.ensures c.step_place-stepped.result
+    (map g.L.IrqLine.seen c.step_place-stepped.new.lines.items) c.step_place-stepped.new.order.items
+    c.step_place-stepped.ensures c.advance.new.scripts.items c.advance.ensures)
 
 pub refresh-requires-clause-driver : goal.refresh-requires-clause-driver
-refresh-requires-clause-driver g c = let s = c.self.inside in driver_within g.L.IrqLine.seen s.lines.items s.board.now c.is_board.ensures.board s.layout s.order.items s.scripts.items _ c.self.invariant c.args.self.now (sym c.self.view_is) c.args.actor c.args.stand c.requires c.index.result.now c.index.ensures c.definition.result.now c.definition.ensures c.step_place-stepped.result (map g.L.IrqLine.seen c.step_place-stepped.new.lines.items) c.step_place-stepped.new.order.items c.step_place-stepped.ensures c.advance.new.scripts.items c.advance.ensures
+refresh-requires-clause-driver g c = let s = c.self.inside in
+    driver_within g.L.IrqLine.seen s.lines.items s.board.now c.is_board.ensures.board s.layout s.order.items
+    s.scripts.items _ c.self.invariant c.args.self.now (sym c.self.view_is) c.args.actor c.args.stand c.requires
+    c.index.result.now c.index.ensures c.definition.result.now c.definition.ensures c.step_place-stepped.result
+    (map g.L.IrqLine.seen c.step_place-stepped.new.lines.items) c.step_place-stepped.new.order.items
+    c.step_place-stepped.ensures c.advance.new.scripts.items c.advance.ensures
 
 pub invariant_of-self : goal.invariant_of-self
 invariant_of-self g c =
     let s = c.self.inside in
-    kept_after g.L.IrqLine.seen s.lines.items s.board.now c.is_board.ensures.board s.layout s.order.items s.scripts.items _ c.self.invariant c.args.self.now (sym c.self.view_is) c.args.actor c.args.stand c.requires c.index.result.now c.index.ensures c.definition.result.now c.definition.ensures c.step_place-stepped.result (map g.L.IrqLine.seen c.step_place-stepped.new.lines.items) c.step_place-stepped.new.order.items c.step_place-stepped.ensures c.advance.new.scripts.items c.advance.ensures c.refresh.new.ready
-    (subst (λ xs. IsRefreshed (map g.L.IrqLine.seen xs) c.advance.new.scripts.items c.args.stand.line c.args.stand.script s.ready c.refresh.new.ready) c.deref.ensures.value
-    (subst (λ ss. IsRefreshed (map g.L.IrqLine.seen c.deref.result.now) ss c.args.stand.line c.args.stand.script s.ready c.refresh.new.ready) c.deref-2.ensures.value c.refresh.ensures))
+    kept_after g.L.IrqLine.seen s.lines.items s.board.now c.is_board.ensures.board s.layout s.order.items
+    s.scripts.items _ c.self.invariant c.args.self.now (sym c.self.view_is) c.args.actor c.args.stand c.requires
+    c.index.result.now c.index.ensures c.definition.result.now c.definition.ensures c.step_place-stepped.result
+    (map g.L.IrqLine.seen c.step_place-stepped.new.lines.items) c.step_place-stepped.new.order.items
+    c.step_place-stepped.ensures c.advance.new.scripts.items c.advance.ensures c.refresh.new.ready
+    (subst (λ xs. IsRefreshed (map g.L.IrqLine.seen xs) c.advance.new.scripts.items c.args.stand.line
+    c.args.stand.script s.ready c.refresh.new.ready) c.deref.ensures.value
+    (subst (λ ss. IsRefreshed (map g.L.IrqLine.seen c.deref.result.now) ss c.args.stand.line c.args.stand.script s.ready
+    c.refresh.new.ready) c.deref-2.ensures.value c.refresh.ensures))
 
 pub returns : goal.returns
 returns g c =
     let s = c.self.inside in
-    steps_so g.L.IrqLine.seen s.lines.items s.board.now c.is_board.ensures.board s.layout s.order.items s.scripts.items _ c.self.invariant c.args.self.now (sym c.self.view_is) c.args.actor c.args.stand c.requires c.index.result.now c.index.ensures c.definition.result.now c.definition.ensures c.step_place-stepped.result (map g.L.IrqLine.seen c.step_place-stepped.new.lines.items) c.step_place-stepped.new.order.items c.step_place-stepped.ensures c.turn_of.result c.turn_of.ensures
+    steps_so g.L.IrqLine.seen s.lines.items s.board.now c.is_board.ensures.board s.layout s.order.items s.scripts.items
+    _ c.self.invariant c.args.self.now (sym c.self.view_is) c.args.actor c.args.stand c.requires c.index.result.now
+    c.index.ensures c.definition.result.now c.definition.ensures c.step_place-stepped.result
+    (map g.L.IrqLine.seen c.step_place-stepped.new.lines.items) c.step_place-stepped.new.order.items
+    c.step_place-stepped.ensures c.turn_of.result c.turn_of.ensures

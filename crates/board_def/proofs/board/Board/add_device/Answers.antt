@@ -12,4 +12,6 @@ push-requires c =
     let b = board_seen c.self.inside in
     let device = c.args.device in
     let after = subst (λ (b : BoardSeen). IsBoard (record b { devices = b.devices ++ device ∷ [] })) (sym c.self.view_is) c.requires.board in
-    device_found device.dev b.devices ∙ no_device device.dev b.devices (each_last (IsDeviceAfter (record b { devices = b.devices ++ device ∷ [] })) b.devices device after.devices).rises
+    device_found device.dev b.devices ∙ no_device device.dev b.devices
+    (each_last (IsDeviceAfter (record b { devices = b.devices ++ device ∷ [] })) b.devices device
+    after.devices).rises

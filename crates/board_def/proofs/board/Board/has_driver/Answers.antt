@@ -7,4 +7,5 @@ use Rattle.board_def.proofs.board.Board.has_driver.Goals as goal
 pub returns : goal.returns
 returns c =
     c.is_some.ensures
-    ∙ (ap is_some c.find.ensures ∙ (driver_found c.args.driver c.self.inside.drivers ∙ ap (λ (b : BoardSeen). has_driver b.drivers c.args.driver) c.self.view_is))
+    ∙ (ap is_some c.find.ensures ∙ (driver_found c.args.driver c.self.inside.drivers
+    ∙ ap (λ (b : BoardSeen). has_driver b.drivers c.args.driver) c.self.view_is))

@@ -14,12 +14,14 @@ no_call = None
 
 pub invariant_of-result : goal.invariant_of-result
 invariant_of-result c =
-    let lines : c.in_ok-lines.lines.items ≡ replicate c.args.lines idle = c.in_ok-lines.ensures.items_if_clones_equal (λ y e. e) ∙ ap (replicate c.args.lines) c.idle.ensures in
+    let lines : c.in_ok-lines.lines.items ≡ replicate c.args.lines idle
+    = c.in_ok-lines.ensures.items_if_clones_equal (λ y e. e) ∙ ap (replicate c.args.lines) c.idle.ensures in
     let drivers : c.in_ok-drivers.drivers.items ≡ replicate c.args.drivers no_call = c.in_ok-drivers.ensures.items_if_clones_equal (λ y e. search rules) in
     record {
       few_lines = omega (arith, ap (λ (s : List LineReadiness). length s) lines ∙ length-replicate c.args.lines idle, c.requires.few_lines);
       few_drivers = omega (arith, ap (λ (s : List (Option CurrentCall)). length s) drivers ∙ length-replicate c.args.drivers no_call, c.requires.few_drivers);
-      threads = λ k small. c.new.ensures k small ∙ fresh_readiness (λ o. thread_on k (thread_of o)) c.in_ok-lines.lines.items c.args.lines k None lines refl refl;
+      threads = λ k small. c.new.ensures k small ∙ fresh_readiness (λ o. thread_on k (thread_of o))
+          c.in_ok-lines.lines.items c.args.lines k None lines refl refl;
       flows = λ n k few small. c.new-2.ensures n k ∙ fresh_readiness (has_flow n) c.in_ok-lines.lines.items c.args.lines k false lines refl refl;
       takes = λ n k few small. c.new-3.ensures n k ∙ fresh_readiness (has_take n) c.in_ok-lines.lines.items c.args.lines k false lines refl refl;
       on_lines = λ k r few small. c.new-4.ensures.lines k r ∙ fresh_call (is_on k) c.in_ok-drivers.drivers.items c.args.drivers r drivers;

@@ -21,11 +21,18 @@ invariant_of-self c =
       few_lines = omega (arith, length-set lines i readiness, c.self.invariant.few_lines);
       few_drivers = c.self.invariant.few_drivers;
       threads = threads_set lines i readiness c.self.inside.threads c.set.new.self inside c.self.invariant.threads c.set.ensures;
-      flows = λ n k few small. lines_set (has_flow n) lines i before readiness (is_of c.self.inside.flows n) (is_of c.put-2.new.self n) inside read (λ j less. c.self.invariant.flows n j few less) (λ j less. c.put-2.ensures n j few less
+      flows = λ n k few small. lines_set (has_flow n) lines i before readiness (is_of c.self.inside.flows n)
+          (is_of c.put-2.new.self n) inside read (λ j less. c.self.invariant.flows n j few less)
+          (λ j less. c.put-2.ensures n j few less
           ∙ ap (cond (is_cpu n readiness.flow && eqb j i) true) (c.put.ensures n j few less)) k small;
-      takes = λ n k few small. lines_set (has_take n) lines i before readiness (is_of c.self.inside.takes n) (is_of c.put-4.new.self n) inside read (λ j less. c.self.invariant.takes n j few less) (λ j less. c.put-4.ensures n j few less
+      takes = λ n k few small. lines_set (has_take n) lines i before readiness (is_of c.self.inside.takes n)
+          (is_of c.put-4.new.self n) inside read (λ j less. c.self.invariant.takes n j few less)
+          (λ j less. c.put-4.ensures n j few less
           ∙ ap (cond (is_cpu n readiness.taker && eqb j i) true) (c.put-3.ensures n j few less)) k small;
       on_lines = c.self.invariant.on_lines;
       waiting = c.self.invariant.waiting;
-      ready = ready_line lines c.self.inside.drivers.items c.self.inside.calls i c.on_line.result c.open.result c.self.inside.ready c.chosen-self-inside.result readiness inside (omega (arith, inside, c.self.invariant.few_lines)) c.self.invariant.on_lines c.self.invariant.waiting c.self.invariant.ready c.on_line.ensures c.open.ensures c.chosen-self-inside.ensures;
+      ready = ready_line lines c.self.inside.drivers.items c.self.inside.calls i c.on_line.result c.open.result
+          c.self.inside.ready c.chosen-self-inside.result readiness inside
+          (omega (arith, inside, c.self.invariant.few_lines)) c.self.invariant.on_lines c.self.invariant.waiting
+          c.self.invariant.ready c.on_line.ensures c.open.ensures c.chosen-self-inside.ensures;
     }

@@ -10,7 +10,8 @@ loop-i-init g c =
     let f = g.L.IrqLine.seen in
     record {
       filled =
-          none_filled c.args.board.now (board_lines (map f c.args.lines.items)) (from_last (map f c.reverse.new.self.items)) c.args.self.reports.reports c.requires.lines
+          none_filled c.args.board.now (board_lines (map f c.args.lines.items))
+          (from_last (map f c.reverse.new.self.items)) c.args.self.reports.reports c.requires.lines
           (turned_lines f c.args.lines.items c.reverse.new.self.items c.reverse.ensures.items) c.requires.room.none_yet;
       spare = omega (arith, c.requires.room.spare);
       histories = omega (arith, c.requires.room.histories);
@@ -18,19 +19,26 @@ loop-i-init g c =
     }
 
 pub unreachable-requires : goal.unreachable-requires
-unreachable-requires g c = is_there c.args.board.now.lines c.loop-i.i (omega (arith, c.lines_len-i-end.ensures, c.loop-i-test.true)) (sym c.line.ensures ∙ c.in_default.is)
+unreachable-requires g c = is_there c.args.board.now.lines c.loop-i.i
+    (omega (arith, c.lines_len-i-end.ensures, c.loop-i-test.true)) (sym c.line.ensures ∙ c.in_default.is)
 
 pub take_history-history-requires : goal.take_history-history-requires
-take_history-history-requires g c = (All-pop IsEmptyHistory c.loop-i.empty.items c.pop.new.self.items (Some c.in-Some-pop.spare) c.in-Some-pop.ensures.items c.loop-i.invariant.empty).1
+take_history-history-requires g c = (All-pop IsEmptyHistory c.loop-i.empty.items c.pop.new.self.items
+    (Some c.in-Some-pop.spare) c.in-Some-pop.ensures.items c.loop-i.invariant.empty).1
 
 pub loop-i-preserved : goal.loop-i-preserved
 loop-i-preserved g c =
     let f = g.L.IrqLine.seen in
     record {
       filled =
-          fill_more c.args.board.now c.is_board.ensures.board (board_lines (map f c.args.lines.items)) c.requires.lines c.loop-i.i c.in-Some.row (sym c.in-Some.ensures) (from_last (map f c.take_history-history.new.lines.items)) c.loop-i.reports.reports
-          c.push.new.self.reports (record { line = c.in-Some.row.line; history = c.take_history-history.result }) (on_ok _ c.push.result c.unwrap.result c.unwrap.ensures c.push.ensures.ok) refl (from_last (map f c.loop-i.lines.items)) c.loop-i.invariant.filled c.take_history-history.ensures;
+          fill_more c.args.board.now c.is_board.ensures.board (board_lines (map f c.args.lines.items)) c.requires.lines
+          c.loop-i.i c.in-Some.row (sym c.in-Some.ensures)
+          (from_last (map f c.take_history-history.new.lines.items)) c.loop-i.reports.reports
+          c.push.new.self.reports (record { line = c.in-Some.row.line; history = c.take_history-history.result })
+          (on_ok _ c.push.result c.unwrap.result c.unwrap.ensures c.push.ensures.ok) refl
+          (from_last (map f c.loop-i.lines.items)) c.loop-i.invariant.filled c.take_history-history.ensures;
       spare = omega arith;
       histories = omega (arith, c.in-Some-pop.ensures.len);
-      empty = (All-pop IsEmptyHistory c.loop-i.empty.items c.pop.new.self.items (Some c.in-Some-pop.spare) c.in-Some-pop.ensures.items c.loop-i.invariant.empty).0;
+      empty = (All-pop IsEmptyHistory c.loop-i.empty.items c.pop.new.self.items (Some c.in-Some-pop.spare)
+          c.in-Some-pop.ensures.items c.loop-i.invariant.empty).0;
     }

@@ -8,9 +8,11 @@ returns-then-word-ne0 c =
     let ws = c.self.inside.words in
     let os = c.other.inside.words in
     let test = λ (r : ℕ). holds ws r || (c.args.with && holds os r) in
-    let back = λ (r : ℕ). ap (λ s. holds s r || (c.args.with && holds c.args.other.now r)) (sym c.self.view_is) ∙ ap (λ s. holds ws r || (c.args.with && holds s r)) (sym c.other.view_is) in
+    let back = λ (r : ℕ). ap (λ s. holds s r || (c.args.with && holds c.args.other.now r)) (sym c.self.view_is)
+    ∙ ap (λ s. holds ws r || (c.args.with && holds s r)) (sym c.other.view_is) in
     let found =
-    found_first test c.joined-word.result c.loop-k.k (omega arith) (omega arith) (omega (arith, c.joined-word.type_inv)) (word_test ws os c.args.with c.joined-word.result c.loop-k.k c.joined-word.ensures)
+    found_first test c.joined-word.result c.loop-k.k (omega arith) (omega arith) (omega (arith, c.joined-word.type_inv))
+    (word_test ws os c.args.with c.joined-word.result c.loop-k.k c.joined-word.ensures)
     c.loop-k.invariant in
     (found.0, back _ ∙ found.1, λ q below. back q ∙ found.2 q below)
 
@@ -22,4 +24,5 @@ loop-k-preserved c =
 pub returns : goal.returns
 returns c = λ r small.
     ap (λ s. holds s r || (c.args.with && holds c.args.other.now r)) (sym c.self.view_is)
-    ∙ (ap (λ s. holds c.self.inside.words r || (c.args.with && holds s r)) (sym c.other.view_is) ∙ c.loop-k.invariant r (omega (arith, small, c.loop-k-test.false)))
+    ∙ (ap (λ s. holds c.self.inside.words r || (c.args.with && holds s r)) (sym c.other.view_is)
+    ∙ c.loop-k.invariant r (omega (arith, small, c.loop-k-test.false)))

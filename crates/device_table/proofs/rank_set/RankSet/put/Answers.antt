@@ -10,7 +10,8 @@ returns-then-to c = λ r small.
     let word = slice_index ws (c.args.rank / 64) in
     let k : c.args.rank % 64 < 64 = omega arith in
     let inside : c.args.rank / 64 < length ws = omega (arith, c.requires) in
-    change_bit ws c.args.rank r true _ inside (ap (λ n. n == 1) (bit_at_set_same w64 word (c.args.rank % 64) k)) (λ i low apart. bit_at_set_other w64 word (c.args.rank % 64) k i apart)
+    change_bit ws c.args.rank r true _ inside (ap (λ n. n == 1) (bit_at_set_same w64 word (c.args.rank % 64) k))
+    (λ i low apart. bit_at_set_other w64 word (c.args.rank % 64) k i apart)
     ∙ (ap (λ b. cond (r == c.args.rank) b (holds ws r)) (sym c.if-to.true) ∙ ap (λ s. cond (r == c.args.rank) c.args.to (holds s r)) c.self.view_is)
 
 pub returns-else-to : goal.returns-else-to
@@ -19,5 +20,6 @@ returns-else-to c = λ r small.
     let word = slice_index ws (c.args.rank / 64) in
     let k : c.args.rank % 64 < 64 = omega arith in
     let inside : c.args.rank / 64 < length ws = omega (arith, c.requires) in
-    change_bit ws c.args.rank r false _ inside (ap (λ n. n == 1) (bit_at_clear_same w64 word (c.args.rank % 64) k)) (λ i low apart. bit_at_clear_other w64 word (c.args.rank % 64) k i low apart)
+    change_bit ws c.args.rank r false _ inside (ap (λ n. n == 1) (bit_at_clear_same w64 word (c.args.rank % 64) k))
+    (λ i low apart. bit_at_clear_other w64 word (c.args.rank % 64) k i low apart)
     ∙ (ap (λ b. cond (r == c.args.rank) b (holds ws r)) (sym c.if-to.false) ∙ ap (λ s. cond (r == c.args.rank) c.args.to (holds s r)) c.self.view_is)

@@ -7,4 +7,6 @@ use Rattle.device_table.proofs.table.DeviceTable.add.Goals as goal
 pub returns : goal.returns
 returns g c =
     c.in_ok-insert.ensures.entries
-    ∙ (insert_entry-new same_dev c.self.inside.rows c.args.dev c.args.row (ap (λ t. at t c.args.dev) c.self.view_is ∙ c.requires) ∙ ap (λ t. t ++ (c.args.dev, c.args.row) ∷ []) c.self.view_is)
+    ∙ (insert_entry-new same_dev c.self.inside.rows c.args.dev c.args.row
+    (ap (λ t. at t c.args.dev) c.self.view_is ∙ c.requires)
+    ∙ ap (λ t. t ++ (c.args.dev, c.args.row) ∷ []) c.self.view_is)

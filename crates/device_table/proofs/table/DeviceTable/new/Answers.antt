@@ -5,7 +5,8 @@ use Rattle.device_table.proofs.table.DeviceTable.new.Goals as goal
 use Rattle.device_table.proofs.table.DeviceTable.new.Goals.{in-Some+in_ok-add, in_default}
 
 pub add-requires : goal.add-requires
-add-requires g c = ap (λ t. at t c.in-Some.device.dev) c.loop-i.invariant ∙ absent_next (λ d. c.args.row) c.args.devices.now c.loop-i.i c.in-Some.device c.requires (sym c.in-Some.ensures)
+add-requires g c = ap (λ t. at t c.in-Some.device.dev) c.loop-i.invariant
+    ∙ absent_next (λ d. c.args.row) c.args.devices.now c.loop-i.i c.in-Some.device c.requires (sym c.in-Some.ensures)
 
 pub loop-i-preserved : goal.loop-i-preserved
 loop-i-preserved g c =
@@ -13,6 +14,7 @@ loop-i-preserved g c =
       | in-Some+in_ok-add w ↦
           let x = w.in-Some.device in
           w.table-is
-          ∙ (w.in_ok-add.ensures ∙ (ap (λ t. t ++ (x.dev, c.args.row) ∷ []) c.loop-i.invariant ∙ table_next (λ d. c.args.row) c.args.devices.now c.loop-i.i x (sym w.in-Some.ensures)))
+          ∙ (w.in_ok-add.ensures ∙ (ap (λ t. t ++ (x.dev, c.args.row) ∷ []) c.loop-i.invariant
+          ∙ table_next (λ d. c.args.row) c.args.devices.now c.loop-i.i x (sym w.in-Some.ensures)))
       | in_default w ↦ none_left c.args.devices.now c.loop-i.i (omega (arith, c.loop-i-test.true, c.len-i-end.ensures)) (sym w.in_default.ensures)
     ]

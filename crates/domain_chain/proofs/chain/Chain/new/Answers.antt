@@ -1,6 +1,7 @@
 use Rattle.std.proofs.Common.{◌-◌, length, sym, ◌∙◌, arith}
 use Rattle.domain_rules.specs.Levels.{root_kind}
-use Rattle.domain_chain.proofs.PathKinds.{has_level, root_is_last, root_is_root, root_after, by_messages, by_its_root, edges_of, open_behind, message_chain, root_chain}
+use Rattle.domain_chain.proofs.PathKinds.{has_level, root_is_last, root_is_root, root_after, by_messages, by_its_root}
+use Rattle.domain_chain.proofs.PathKinds.{edges_of, open_behind, message_chain, root_chain}
 use Rattle.domain_chain.proofs.chain.Chain.new.Goals as goal
 
 pub root_of-root-requires : goal.root_of-root-requires
@@ -18,7 +19,9 @@ pub returns-then-masks_by_message : goal.returns-then-masks_by_message
 returns-then-masks_by_message c =
     let kinds = c.args.kinds.now in
     let m = by_messages kinds c.requires.path c.requires.masks (sym c.masks_by_message.ensures ∙ c.if-masks_by_message.true) in
-    c.made.ensures ∙ message_chain kinds _ _ _ c.args.number c.new.ensures (root_after kinds _ c.requires.path c.root_of-root.ensures) c.unmask.ensures.cell m.0 m.1 (edges_of kinds c.requires.edges m.1)
+    c.made.ensures ∙ message_chain kinds _ _ _ c.args.number c.new.ensures
+    (root_after kinds _ c.requires.path c.root_of-root.ensures) c.unmask.ensures.cell m.0 m.1
+    (edges_of kinds c.requires.edges m.1)
 
 pub returns : goal.returns
 returns c =

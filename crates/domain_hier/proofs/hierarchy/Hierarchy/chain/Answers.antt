@@ -10,5 +10,8 @@ chain_on-requires-clause-each c = subst (λ (ds : List DomainDef). EachAfter IsD
 
 pub chain_on-requires-clause-placed : goal.chain_on-requires-clause-placed
 chain_on-requires-clause-placed c =
-    let here : path_in c.self.inside.paths c.args.virq ≡ Some c.unwrap-path.result = ap (λ (h : HierarchySeen). path_in h.paths c.args.virq) c.self.view_is ∙ (sym c.path.ensures ∙ c.unwrap-path.ensures) in
-    subst (λ (ds : List DomainDef). IsPlaced ds c.unwrap-path.result) (sym c.as_slice.ensures.value) (c.self.invariant.placed c.args.virq c.unwrap-path.result here)
+    let here : path_in c.self.inside.paths c.args.virq
+    ≡ Some c.unwrap-path.result = ap (λ (h : HierarchySeen). path_in h.paths c.args.virq) c.self.view_is
+    ∙ (sym c.path.ensures ∙ c.unwrap-path.ensures) in
+    subst (λ (ds : List DomainDef). IsPlaced ds c.unwrap-path.result) (sym c.as_slice.ensures.value)
+    (c.self.invariant.placed c.args.virq c.unwrap-path.result here)

@@ -17,4 +17,6 @@ give_up_from-requires t c =
     (omega (arith, within, c.decreases), c.requires.few)
 
 pub returns-clause-numbers : goal.returns-clause-numbers
-returns-clause-numbers t c d k = rw (drop_at c.args.path.now c.args.from (c.in-Some.domain, c.in-Some.hw) (sym c.in-Some.ensures)) (gives_up_more (c.in-Some.domain, c.in-Some.hw) (drop (c.args.from + 1) c.args.path.now) d k _ _ _ (c.dispose.ensures.numbers d k) (c.give_up_from.ensures.numbers d k))
+returns-clause-numbers t c d k = rw (drop_at c.args.path.now c.args.from (c.in-Some.domain, c.in-Some.hw)
+    (sym c.in-Some.ensures)) (gives_up_more (c.in-Some.domain, c.in-Some.hw) (drop (c.args.from + 1) c.args.path.now) d
+    k _ _ _ (c.dispose.ensures.numbers d k) (c.give_up_from.ensures.numbers d k))

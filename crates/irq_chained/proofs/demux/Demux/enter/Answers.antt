@@ -8,11 +8,15 @@ use Rattle.irq_chained.proofs.demux.Demux.enter.Goals as goal
 pub invariant_of-self-in-Ok : goal.invariant_of-self-in-Ok
 invariant_of-self-in-Ok g c =
     let s = c.self.inside in
-    enter_kept s.system s.marks.items s.walk _ c.self.invariant c.read_status-status.result c.log_len.result (subst (λ (d : DemuxSeen). open_status (reverse d.log) ≡ None) (sym c.self.view_is) c.requires) c.read_status-status.ensures (not_zero c.read_status-status.result c.if-status-eq0.false) c.log_len.ensures _
+    enter_kept s.system s.marks.items s.walk _ c.self.invariant c.read_status-status.result c.log_len.result
+    (subst (λ (d : DemuxSeen). open_status (reverse d.log) ≡ None) (sym c.self.view_is) c.requires)
+    c.read_status-status.ensures (not_zero c.read_status-status.result c.if-status-eq0.false) c.log_len.ensures _
     (c.ack.ensures.cell ∙ ap (λ (x : Cell). after_ack x) c.mask.ensures.cell) c.push.new.self.items c.in-Ok.ensures.items
 
 pub returns-in-Ok : goal.returns-in-Ok
 returns-in-Ok g c =
     let s = c.self.inside in
-    enter_goes s.system s.marks.items s.walk _ c.self.invariant c.read_status-status.result c.log_len.result (subst (λ (d : DemuxSeen). open_status (reverse d.log) ≡ None) (sym c.self.view_is) c.requires) c.read_status-status.ensures (not_zero c.read_status-status.result c.if-status-eq0.false) c.log_len.ensures _
+    enter_goes s.system s.marks.items s.walk _ c.self.invariant c.read_status-status.result c.log_len.result
+    (subst (λ (d : DemuxSeen). open_status (reverse d.log) ≡ None) (sym c.self.view_is) c.requires)
+    c.read_status-status.ensures (not_zero c.read_status-status.result c.if-status-eq0.false) c.log_len.ensures _
     (c.ack.ensures.cell ∙ ap (λ (x : Cell). after_ack x) c.mask.ensures.cell) c.push.new.self.items c.in-Ok.ensures.items c.args.self.now c.self.view_is

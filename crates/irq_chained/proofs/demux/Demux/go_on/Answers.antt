@@ -17,7 +17,10 @@ pub invariant_of-self : goal.invariant_of-self
 invariant_of-self g c =
     let s = c.self.inside in
     let v = sym c.self.view_is in
-    (flow_turn s.system c.step_on-turn.new.self s.marks.items s.walk _ _ c.self.invariant c.show.ensures (subst (λ (d : DemuxSeen). IsBoard d.board) v c.is_kept.ensures.board) (subst (λ (d : DemuxSeen). AreKept d.board (board_lines d.lines)) v c.is_kept.ensures.kept) c.args.line c.step_on-turn.result
+    (flow_turn s.system c.step_on-turn.new.self s.marks.items s.walk _ _ c.self.invariant c.show.ensures
+    (subst (λ (d : DemuxSeen). IsBoard d.board) v c.is_kept.ensures.board)
+    (subst (λ (d : DemuxSeen). AreKept d.board (board_lines d.lines)) v c.is_kept.ensures.kept) c.args.line
+    c.step_on-turn.result
     (subst (λ (d : DemuxSeen). IsSome (open_status (reverse d.log))) v c.requires.open)
     (subst (λ (d : DemuxSeen). number_of (flow_line (board_lines d.lines) cpu_0) ≡ Some c.args.line) v c.requires.flow) c.step_on-turn.ensures).0
 
@@ -26,6 +29,9 @@ returns g c =
     let s = c.self.inside in
     let v = sym c.self.view_is in
     says _ c.args.self.now _ (actors.Cpu cpu_0) _ c.chain_turn_of.result c.self.view_is c.chain_turn_of.ensures
-    (flow_turn s.system c.step_on-turn.new.self s.marks.items s.walk _ _ c.self.invariant c.show.ensures (subst (λ (d : DemuxSeen). IsBoard d.board) v c.is_kept.ensures.board) (subst (λ (d : DemuxSeen). AreKept d.board (board_lines d.lines)) v c.is_kept.ensures.kept) c.args.line c.step_on-turn.result
+    (flow_turn s.system c.step_on-turn.new.self s.marks.items s.walk _ _ c.self.invariant c.show.ensures
+    (subst (λ (d : DemuxSeen). IsBoard d.board) v c.is_kept.ensures.board)
+    (subst (λ (d : DemuxSeen). AreKept d.board (board_lines d.lines)) v c.is_kept.ensures.kept) c.args.line
+    c.step_on-turn.result
     (subst (λ (d : DemuxSeen). IsSome (open_status (reverse d.log))) v c.requires.open)
     (subst (λ (d : DemuxSeen). number_of (flow_line (board_lines d.lines) cpu_0) ≡ Some c.args.line) v c.requires.flow) c.step_on-turn.ensures).1

@@ -7,10 +7,12 @@ show-requires-clause-level g c = level_cell c.self.inside.system c.self.inside.m
 pub invariant_of-self : goal.invariant_of-self
 invariant_of-self g c =
     let s = c.self.inside in
-    (other_turn s.system c.turn-turn.new.self s.marks.items s.walk _ _ c.self.invariant c.show.ensures c.args.actor c.turn-turn.result c.requires c.turn-turn.ensures).0
+    (other_turn s.system c.turn-turn.new.self s.marks.items s.walk _ _ c.self.invariant c.show.ensures c.args.actor
+    c.turn-turn.result c.requires c.turn-turn.ensures).0
 
 pub returns : goal.returns
 returns g c =
     let s = c.self.inside in
     says _ c.args.self.now _ c.args.actor _ c.chain_turn_of.result c.self.view_is c.chain_turn_of.ensures
-    (other_turn s.system c.turn-turn.new.self s.marks.items s.walk _ _ c.self.invariant c.show.ensures c.args.actor c.turn-turn.result c.requires c.turn-turn.ensures).1
+    (other_turn s.system c.turn-turn.new.self s.marks.items s.walk _ _ c.self.invariant c.show.ensures c.args.actor
+    c.turn-turn.result c.requires c.turn-turn.ensures).1

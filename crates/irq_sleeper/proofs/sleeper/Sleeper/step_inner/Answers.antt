@@ -7,7 +7,8 @@ use Rattle.irq_sleeper.proofs.sleeper.Sleeper.step_inner.Goals as goal
 
 pub returns-in-Some : goal.returns-in-Some
 returns-in-Some g c =
-    let its = subst (λ (x : SleeperSeen). inner_of x.system ≡ move_of x.system c.in-Some.actor) c.self.view_is (inner_some c.self.inside.system c.in-Some.actor c.in-Some.ensures) in
+    let its = subst (λ (x : SleeperSeen). inner_of x.system ≡ move_of x.system c.in-Some.actor) c.self.view_is
+    (inner_some c.self.inside.system c.in-Some.actor c.in-Some.ensures) in
     subst (λ due. StepsBy c.args.self.now due c.step.result c.step.new.self) (sym its) c.step.ensures
 
 pub returns-in-None : goal.returns-in-None

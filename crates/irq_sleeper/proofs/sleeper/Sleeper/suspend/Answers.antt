@@ -12,16 +12,21 @@ loop-self-smaller g c =
 
 pub loop-self-preserved : goal.loop-self-preserved
 loop-self-preserved g c =
-    went c.args.self.now c.loop-self.self c.step_disabling.new.self c.args.picks.now (or_move (last_of c.loop-self.self.system) (inner_of c.loop-self.self.system)) Disabling Disabling c.step_disabling.result
+    went c.args.self.now c.loop-self.self c.step_disabling.new.self c.args.picks.now
+    (or_move (last_of c.loop-self.self.system) (inner_of c.loop-self.self.system)) Disabling Disabling
+    c.step_disabling.result
     c.loop-self.invariant (ok_is c.step_disabling.result c.in-Ok-true.field-0 true c.in-Ok-true.is c.in-Ok-true.field-0-test) c.step_disabling.ensures
     (disabling_next c.loop-self.self c.loop-self.invariant.1.told (sym c.is_disabling.ensures ∙ c.loop-self-test.true)) (λ m. m)
 
 pub returns-in-Err-clause-ends : goal.returns-in-Err-clause-ends
 returns-in-Err-clause-ends g c =
-    stops c.args.self.now c.loop-self.self c.step_disabling.new.self c.args.picks.now (or_move (last_of c.loop-self.self.system) (inner_of c.loop-self.self.system)) Disabling Disabling c.step_disabling.result
+    stops c.args.self.now c.loop-self.self c.step_disabling.new.self c.args.picks.now
+    (or_move (last_of c.loop-self.self.system) (inner_of c.loop-self.self.system)) Disabling Disabling
+    c.step_disabling.result
     c.in-Err.end c.loop-self.invariant c.in-Err.is c.step_disabling.ensures
     (disabling_next c.loop-self.self c.loop-self.invariant.1.told (sym c.is_disabling.ensures ∙ c.loop-self-test.true))
 
 pub returns-clause-goes : goal.returns-clause-goes
 returns-clause-goes g c =
-    falls_asleep c.args.self.now c.loop-self.self c.fall_asleep.new.self c.args.picks.now c.loop-self.invariant (sym c.is_disabling.ensures ∙ c.loop-self-test.false) c.fall_asleep.ensures
+    falls_asleep c.args.self.now c.loop-self.self c.fall_asleep.new.self c.args.picks.now c.loop-self.invariant
+    (sym c.is_disabling.ensures ∙ c.loop-self-test.false) c.fall_asleep.ensures

@@ -6,11 +6,13 @@ use Rattle.irq_sleeper.proofs.walk.SleepWalk.next.Goals.{in-Some+else-at-self, i
 
 pub returns-then-at-self-clause-first : goal.returns-then-at-self-clause-first
 returns-then-at-self-clause-first g c =
-    first_of c.args.self.now _ _ (found_asleep c.self.inside.asleep c.self.inside.wake c.self.inside.at c.in-Some.at c.self.inside.moves c.args.self.now c.in-Some.is c.if-at-self.true c.self.view_is)
+    first_of c.args.self.now _ _ (found_asleep c.self.inside.asleep c.self.inside.wake c.self.inside.at c.in-Some.at
+    c.self.inside.moves c.args.self.now c.in-Some.is c.if-at-self.true c.self.view_is)
 
 pub returns-then-at-self-clause-rest : goal.returns-then-at-self-clause-rest
 returns-then-at-self-clause-rest g c =
-    rest_of c.args.self.now _ _ (found_asleep c.self.inside.asleep c.self.inside.wake c.self.inside.at c.in-Some.at c.self.inside.moves c.args.self.now c.in-Some.is c.if-at-self.true c.self.view_is)
+    rest_of c.args.self.now _ _ (found_asleep c.self.inside.asleep c.self.inside.wake c.self.inside.at c.in-Some.at
+    c.self.inside.moves c.args.self.now c.in-Some.is c.if-at-self.true c.self.view_is)
 
 pub returns-then-wake-self-clause-first : goal.returns-then-wake-self-clause-first
 returns-then-wake-self-clause-first g c =
@@ -18,7 +20,8 @@ returns-then-wake-self-clause-first g c =
       | in-Some+else-at-self w ↦ not_here c.self.inside.asleep w.in-Some.at c.self.inside.at w.in-Some.is w.if-at-self.false
       | in_default w ↦ no_mark c.self.inside.asleep c.self.inside.at w.in_default.not-Some
     ] in
-    first_of c.args.self.now _ _ (found_wake c.self.inside.asleep c.self.inside.wake c.in-Some-wake.wake c.self.inside.at c.self.inside.moves c.args.self.now c.in-Some-wake.is none c.if-wake-self.true c.self.view_is)
+    first_of c.args.self.now _ _ (found_wake c.self.inside.asleep c.self.inside.wake c.in-Some-wake.wake
+    c.self.inside.at c.self.inside.moves c.args.self.now c.in-Some-wake.is none c.if-wake-self.true c.self.view_is)
 
 pub returns-then-wake-self-clause-rest : goal.returns-then-wake-self-clause-rest
 returns-then-wake-self-clause-rest g c =
@@ -26,4 +29,5 @@ returns-then-wake-self-clause-rest g c =
       | in-Some+else-at-self w ↦ not_here c.self.inside.asleep w.in-Some.at c.self.inside.at w.in-Some.is w.if-at-self.false
       | in_default w ↦ no_mark c.self.inside.asleep c.self.inside.at w.in_default.not-Some
     ] in
-    rest_of c.args.self.now _ _ (found_wake c.self.inside.asleep c.self.inside.wake c.in-Some-wake.wake c.self.inside.at c.self.inside.moves c.args.self.now c.in-Some-wake.is none c.if-wake-self.true c.self.view_is)
+    rest_of c.args.self.now _ _ (found_wake c.self.inside.asleep c.self.inside.wake c.in-Some-wake.wake c.self.inside.at
+    c.self.inside.moves c.args.self.now c.in-Some-wake.is none c.if-wake-self.true c.self.view_is)

@@ -8,4 +8,10 @@ use Rattle.line_core.proofs.line.Line.chip.Goals as goal
 pub returns-clause-aimed : goal.returns-clause-aimed
 returns-clause-aimed g c =
     subst (λ (w : WiredSeen). target w.line.def (reverse w.line.entries) ≡ Some (record { 0 = g.C.Chip.aimed c.chip.result.now })) c.self.view_is
-    (aimed_at (record { def = c.self.inside.def; entries = c.self.inside.history.entries; spare = c.self.inside.history.spare }) c.self.inside.state.state c.self.inside.scripts (g.C.Chip.aimed c.chip.result.now) c.self.invariant c.chip.ensures.aimed)
+    (aimed_at (record {
+      def = c.self.inside.def;
+      entries = c.self.inside.history.entries;
+      spare
+          = c.self.inside.history.spare;
+    }) c.self.inside.state.state c.self.inside.scripts
+    (g.C.Chip.aimed c.chip.result.now) c.self.invariant c.chip.ensures.aimed)

@@ -9,4 +9,10 @@ use Rattle.line_core.proofs.line.Line.due.Goals as goal
 pub returns : goal.returns
 returns g c =
     subst (λ (w : WiredSeen). option_map (entry_at w.line) c.due_by.result ≡ next w.line.def w.line.entries c.args.actor) c.self.view_is
-    (due_told (record { def = c.self.inside.def; entries = c.self.inside.history.entries; spare = c.self.inside.history.spare }) c.self.inside.state.state c.self.inside.scripts c.args.actor c.due_by.result c.self.invariant c.due_by.ensures)
+    (due_told (record {
+      def = c.self.inside.def;
+      entries = c.self.inside.history.entries;
+      spare
+          = c.self.inside.history.spare;
+    }) c.self.inside.state.state c.self.inside.scripts c.args.actor c.due_by.result
+    c.self.invariant c.due_by.ensures)

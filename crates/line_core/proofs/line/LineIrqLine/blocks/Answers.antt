@@ -8,4 +8,9 @@ use Rattle.line_core.proofs.line.LineIrqLine.blocks.Goals as goal
 pub returns : goal.returns
 returns g c =
     subst (λ (w : WiredSeen). c.blocks_by.result ≡ blocks_of w.line) c.self.view_is
-    (c.blocks_by.ensures ∙ blocks_told (record { def = c.self.inside.def; entries = c.self.inside.history.entries; spare = c.self.inside.history.spare }) c.self.inside.state.state c.self.inside.scripts c.self.invariant)
+    (c.blocks_by.ensures ∙ blocks_told (record {
+      def = c.self.inside.def;
+      entries = c.self.inside.history.entries;
+      spare
+          = c.self.inside.history.spare;
+    }) c.self.inside.state.state c.self.inside.scripts c.self.invariant)

@@ -9,5 +9,12 @@ use Rattle.line_core.proofs.line.LineIrqLine.lowest_thread.Goals as goal
 pub returns : goal.returns
 returns g c =
     subst (λ (w : WiredSeen). IsLowestThread w.line c.lowest_thread.result) c.self.view_is
-    (subst (λ (o : Option DevNo). IsLowestThread (record { def = c.self.inside.def; entries = c.self.inside.history.entries; spare = c.self.inside.history.spare }) o) (sym c.lowest_thread.ensures)
-    (lowest_told (record { def = c.self.inside.def; entries = c.self.inside.history.entries; spare = c.self.inside.history.spare }) c.self.inside.state.state c.self.inside.scripts c.self.invariant))
+    (subst (λ (o : Option DevNo). IsLowestThread (record
+    { def = c.self.inside.def; entries = c.self.inside.history.entries; spare = c.self.inside.history.spare }) o)
+    (sym c.lowest_thread.ensures)
+    (lowest_told (record {
+      def = c.self.inside.def;
+      entries = c.self.inside.history.entries;
+      spare
+          = c.self.inside.history.spare;
+    }) c.self.inside.state.state c.self.inside.scripts c.self.invariant))

@@ -10,6 +10,7 @@ use Rattle.line_core.proofs.line.LineIrqLine.present.Goals as goal
 pub returns : goal.returns
 returns g c =
     let line : LineSeen = record { def = c.self.inside.def; entries = c.self.inside.history.entries; spare = c.self.inside.history.spare } in
-    let taker : IsTaker line c.taker.result = subst (λ (o : Option CpuNo). IsTaker line o) (sym c.taker.ensures) (taker_told line c.self.inside.state.state c.self.inside.scripts c.self.invariant) in
+    let taker : IsTaker line c.taker.result = subst (λ (o : Option CpuNo). IsTaker line o) (sym c.taker.ensures)
+    (taker_told line c.self.inside.state.state c.self.inside.scripts c.self.invariant) in
     subst (λ (w : WiredSeen). IsTrue c.is_that.result ↔ IsPresented w.line c.args.cpu) c.self.view_is
     (λ h. (taker c.args.cpu).0 (c.is_that.ensures.sound h), λ h. c.is_that.ensures.complete ((taker c.args.cpu).1 h))

@@ -14,7 +14,9 @@ use Rattle.line_core.proofs.line.LineIrqLine.step.Goals as goal
 pub returns-in-Some-unanswered-clause-answer : goal.returns-in-Some-unanswered-clause-answer
 returns-in-Some-unanswered-clause-answer g c =
     let line : LineSeen = record { def = c.self.inside.def; entries = c.self.inside.history.entries; spare = c.self.inside.history.spare } in
-    let due : next line.def line.entries c.args.actor ≡ Some (entry_at line c.in-Some.step) = subst (λ (w : WiredSeen). next w.line.def w.line.entries c.args.actor ≡ Some (entry_at w.line c.in-Some.step)) (sym c.self.view_is) (sym c.due.ensures ∙ ap (option_map (entry_at c.args.self.now.line)) c.in-Some.is) in
+    let due : next line.def line.entries c.args.actor ≡ Some (entry_at line c.in-Some.step)
+    = subst (λ (w : WiredSeen). next w.line.def w.line.entries c.args.actor ≡ Some (entry_at w.line c.in-Some.step))
+    (sym c.self.view_is) (sym c.due.ensures ∙ ap (option_map (entry_at c.args.self.now.line)) c.in-Some.is) in
     let below : length line.entries < line.def.log = search (rules, arith) in
     let run = c.in-Some-unanswered.run' in
     let some = c.in-Some-unanswered.ensures.some in (
@@ -26,7 +28,9 @@ returns-in-Some-unanswered-clause-answer g c =
 pub returns-clause-answer : goal.returns-clause-answer
 returns-clause-answer g c =
     let line : LineSeen = record { def = c.self.inside.def; entries = c.self.inside.history.entries; spare = c.self.inside.history.spare } in
-    let due : next line.def line.entries c.args.actor ≡ Some (entry_at line c.in-Some.step) = subst (λ (w : WiredSeen). next w.line.def w.line.entries c.args.actor ≡ Some (entry_at w.line c.in-Some.step)) (sym c.self.view_is) (sym c.due.ensures ∙ ap (option_map (entry_at c.args.self.now.line)) c.in-Some.is) in
+    let due : next line.def line.entries c.args.actor ≡ Some (entry_at line c.in-Some.step)
+    = subst (λ (w : WiredSeen). next w.line.def w.line.entries c.args.actor ≡ Some (entry_at w.line c.in-Some.step))
+    (sym c.self.view_is) (sym c.due.ensures ∙ ap (option_map (entry_at c.args.self.now.line)) c.in-Some.is) in
     let below : length line.entries < line.def.log = search (rules, arith) in
     let heard : IfSome (run_by line.def c.self.inside.state.state c.in-Some.step) (IsSaidFor c.args.said) = search rules in
     let e = c.in_ok-entry.entry in
@@ -39,5 +43,9 @@ returns-clause-answer g c =
 
 pub returns-in_err-entry-clause-memory : goal.returns-in_err-entry-clause-memory
 returns-in_err-entry-clause-memory g c =
-    let due : next c.args.self.now.line.def c.args.self.now.line.entries c.args.actor ≡ Some (entry_at c.args.self.now.line c.in-Some.step) = sym c.due.ensures ∙ ap (option_map (entry_at c.args.self.now.line)) c.in-Some.is in
-    wants_memory c.args.self.now.line c.args.actor c.from_residual.result (λ room. ap links_next due ∙ wanted (is_linked_request (entry_at c.args.self.now.line c.in-Some.step)) c.add.result c.in_err-entry.was (λ f. c.add.ensures.needless f room))
+    let due : next c.args.self.now.line.def c.args.self.now.line.entries c.args.actor
+    ≡ Some (entry_at c.args.self.now.line c.in-Some.step) = sym c.due.ensures
+    ∙ ap (option_map (entry_at c.args.self.now.line)) c.in-Some.is in
+    wants_memory c.args.self.now.line c.args.actor c.from_residual.result
+    (λ room. ap links_next due ∙ wanted (is_linked_request (entry_at c.args.self.now.line c.in-Some.step))
+    c.add.result c.in_err-entry.was (λ f. c.add.ensures.needless f room))

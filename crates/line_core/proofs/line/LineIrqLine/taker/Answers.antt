@@ -9,5 +9,15 @@ use Rattle.line_core.proofs.line.LineIrqLine.taker.Goals as goal
 pub returns : goal.returns
 returns g c =
     subst (λ (w : WiredSeen). IsTaker w.line c.taker.result) c.self.view_is
-    (subst (λ (o : Option CpuNo). IsTaker (record { def = c.self.inside.def; entries = c.self.inside.history.entries; spare = c.self.inside.history.spare }) o) (sym c.taker.ensures)
-    (taker_told (record { def = c.self.inside.def; entries = c.self.inside.history.entries; spare = c.self.inside.history.spare }) c.self.inside.state.state c.self.inside.scripts c.self.invariant))
+    (subst (λ (o : Option CpuNo). IsTaker (record {
+      def = c.self.inside.def;
+      entries
+          = c.self.inside.history.entries;
+      spare = c.self.inside.history.spare;
+    }) o) (sym c.taker.ensures)
+    (taker_told (record {
+      def = c.self.inside.def;
+      entries = c.self.inside.history.entries;
+      spare
+          = c.self.inside.history.spare;
+    }) c.self.inside.state.state c.self.inside.scripts c.self.invariant))

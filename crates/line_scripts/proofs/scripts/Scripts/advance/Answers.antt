@@ -39,5 +39,8 @@ returns-clause-asks c =
     let some = subst (λ (x : RowSeen). IsSome (call_in x)) row c.requires.due in
     let after = asks_advanced _ c.args.who _ _ c.args.completes at some c.advance.ensures.calls c.advance.ensures.place in
     let ends : asks_left c.self.inside.rows.entries ≡ asks_left c.args.self.now = ap asks_left c.self.view_is in
-    subst (λ (x : RowSeen). asks_left (c.get_mut.follows.lender c.advance.new.self).entries + (if c.args.completes && is_some_ask (call_in x) then 1 else 0) ≡ asks_left c.args.self.now) (sym row)
-    (subst (λ (s : List (DriverNo × RowSeen)). asks_left s + (if c.args.completes && is_some_ask (call_in c.in-Some.row.now) then 1 else 0) ≡ asks_left c.args.self.now) (sym written.0) (after ∙ ends))
+    subst (λ (x : RowSeen). asks_left (c.get_mut.follows.lender c.advance.new.self).entries +
+    (if c.args.completes && is_some_ask (call_in x) then 1 else 0) ≡ asks_left c.args.self.now) (sym row)
+    (subst (λ (s : List (DriverNo × RowSeen)). asks_left s +
+    (if c.args.completes && is_some_ask (call_in c.in-Some.row.now) then 1 else 0) ≡ asks_left c.args.self.now)
+    (sym written.0) (after ∙ ends))

@@ -21,11 +21,13 @@ loop-i-preserved c =
           record {
             rows = λ r.
                 ap (λ s. row_of s r) w.scripts-is
-                ∙ (rows_more c.loop-i.scripts w.add.new.self done who call c.loop-i.invariant.rows added.own added.others r ∙ ap (λ xs. unbegun (calls_by r xs)) (sym more));
+                ∙ (rows_more c.loop-i.scripts w.add.new.self done who call c.loop-i.invariant.rows added.own
+                added.others r ∙ ap (λ xs. unbegun (calls_by r xs)) (sym more));
             asks =
                 ap asks_left w.scripts-is
                 ∙ (added.asks ∙ (ap (λ n. n + (if is_ask_call call then 1 else 0)) c.loop-i.invariant.asks
-                ∙ (sym (count_last (λ (x : DriverNo × Call). is_ask_call x.1) done (who, call)) ∙ ap (λ xs. count_of (λ (x : DriverNo × Call). is_ask_call x.1) xs) (sym more))));
+                ∙ (sym (count_last (λ (x : DriverNo × Call). is_ask_call x.1) done (who, call))
+                ∙ ap (λ xs. count_of (λ (x : DriverNo × Call). is_ask_call x.1) xs) (sym more))));
           }
       | in_default w ↦ some_item c.args.calls.now c.loop-i.i (omega (arith, c.loop-i-test.true, c.len-i-end.ensures)) (sym w.in_default.ensures)
     ]

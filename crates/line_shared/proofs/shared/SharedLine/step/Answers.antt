@@ -18,4 +18,6 @@ returns-clause-steps g c = λ who is.
     let mine : c.args.pass.now.knows.mine ≡ placed_of c.args.self.now.def.line c.args.pass.now.knows.actor line.entries =
     c.hold-held.ensures.mine ∙ ap (λ l. placed_of l.def.line c.args.pass.now.knows.actor line.entries) c.self.view_is in
     let now : c.leave.new.pass.knows ≡ looked c.args.self.now.def.line c.args.pass.now.knows after.entries = search rules in
-    steps c.args.self.now.def who c.args.pass.now.knows c.leave.new.pass.knows line after c.args.said c.step_held-answer.result def is c.step_held-answer.ensures.sound.0 c.hold-held.ensures.begins mine answer c.step_held-answer.ensures.sound.1 now
+    steps c.args.self.now.def who c.args.pass.now.knows c.leave.new.pass.knows line after c.args.said
+    c.step_held-answer.result def is c.step_held-answer.ensures.sound.0 c.hold-held.ensures.begins mine answer
+    c.step_held-answer.ensures.sound.1 now

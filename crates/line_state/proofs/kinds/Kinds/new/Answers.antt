@@ -8,7 +8,9 @@ use Rattle.line_state.proofs.kinds.Kinds.new.Goals.{in-Some+in_ok-add, in_defaul
 
 pub add-requires : goal.add-requires
 add-requires c =
-    ap (λ t. at t c.in-Some.device.dev) c.loop-i.invariant ∙ absent_next (kind_in c.args.def.now.devices) c.args.def.now.devices c.loop-i.i c.in-Some.device c.requires (sym c.in-Some.ensures)
+    ap (λ t. at t c.in-Some.device.dev) c.loop-i.invariant
+    ∙ absent_next (kind_in c.args.def.now.devices) c.args.def.now.devices c.loop-i.i c.in-Some.device c.requires
+    (sym c.in-Some.ensures)
 
 pub loop-i-preserved : goal.loop-i-preserved
 loop-i-preserved c =

@@ -10,5 +10,6 @@ returns-in-1 g c def =
 
 pub returns-in_default : goal.returns-in_default
 returns-in_default g c def =
-    let is : option_map (entry_by def c.args.self.now.state) c.due_freed.result ≡ freed_by c.args.driver c.args.dev c.args.self.now.state = c.due_freed.ensures def in
+    let is : option_map (entry_by def c.args.self.now.state) c.due_freed.result
+    ≡ freed_by c.args.driver c.args.dev c.args.self.now.state = c.due_freed.ensures def in
     search rules

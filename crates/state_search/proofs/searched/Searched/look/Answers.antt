@@ -9,7 +9,8 @@ steps-requires-clause-reached g c =
     let i = c.self.inside.looked in
     let es = c.self.inside.states in
     let few : length c.args.self.now.paths ≤ 100000000 = omega (arith, c.requires.few, c.requires.most) in
-    next_reached g.L.PartialEq.eq (g.S.Space.can c.args.space.now) (g.S.Space.node c.args.space.now) i es es c.self.inside.firsts.items c.self.inside.firsts.items c.clear.new.self c.args.self.now
+    next_reached g.L.PartialEq.eq (g.S.Space.can c.args.space.now) (g.S.Space.node c.args.space.now) i es es
+    c.self.inside.firsts.items c.self.inside.firsts.items c.clear.new.self c.args.self.now
     c.self.view_is c.requires.under c.requires.open c.words.result.now c.words.ensures 100000000 few
 
 pub put_all-requires-clause-earlier : goal.put_all-requires-clause-earlier
@@ -30,8 +31,10 @@ returns-then-not-branch-clause-few g c = omega (arith, paths_len c.put_all.new.s
 pub returns-then-not-branch-clause-under : goal.returns-then-not-branch-clause-under
 returns-then-not-branch-clause-under g c =
     let put = c.in_ok-put_all.ensures.put in
-    looks_cut g.L.PartialEq.eq (g.S.Space.can c.args.space.now) (g.S.Space.node c.args.space.now) c.self.inside.looked c.self.inside.states c.put_all.new.self c.self.inside.firsts.items
-    c.note.new.firsts.items c.steps.new.found c.args.self.now c.self.view_is c.requires.under c.requires.open c.words.result.now c.words.ensures c.in_ok-steps.ensures.steps c.in_ok-note.ensures
+    looks_cut g.L.PartialEq.eq (g.S.Space.can c.args.space.now) (g.S.Space.node c.args.space.now) c.self.inside.looked
+    c.self.inside.states c.put_all.new.self c.self.inside.firsts.items
+    c.note.new.firsts.items c.steps.new.found c.args.self.now c.self.view_is c.requires.under c.requires.open
+    c.words.result.now c.words.ensures c.in_ok-steps.ensures.steps c.in_ok-note.ensures
     put.0 put.1
 
 pub returns-then-not-branch-clause-cut : goal.returns-then-not-branch-clause-cut
@@ -43,6 +46,8 @@ returns-clause-few g c = omega (arith, paths_len c.put_all.new.self, c.in_ok-put
 pub returns-clause-under : goal.returns-clause-under
 returns-clause-under g c =
     let put = c.in_ok-put_all.ensures.put in
-    looks_whole g.L.PartialEq.eq (g.S.Space.can c.args.space.now) (g.S.Space.node c.args.space.now) c.self.inside.looked c.self.inside.states c.put_all.new.self c.self.inside.firsts.items
-    c.note.new.firsts.items c.steps.new.found c.args.self.now c.self.view_is c.requires.under c.requires.open c.words.result.now c.words.ensures c.in_ok-steps.ensures.steps c.in_ok-note.ensures
+    looks_whole g.L.PartialEq.eq (g.S.Space.can c.args.space.now) (g.S.Space.node c.args.space.now) c.self.inside.looked
+    c.self.inside.states c.put_all.new.self c.self.inside.firsts.items
+    c.note.new.firsts.items c.steps.new.found c.args.self.now c.self.view_is c.requires.under c.requires.open
+    c.words.result.now c.words.ensures c.in_ok-steps.ensures.steps c.in_ok-note.ensures
     put.0 put.1 (put.2 c.if-not-branch.false)

@@ -30,6 +30,7 @@ returns g c =
     let k = c.args.place in
     let old = c.loop-came.path.items in
     let lt : k < length (paths_of es) = subst (λ s. k < length s.paths) (sym c.self.view_is) c.requires in
-    let all : path_to es k ≡ old = c.loop-came.invariant.path ∙ (ap (λ t. old ++ t) (path_first es c.loop-came.at c.in_default.ensures.path) ∙ append-nil old) in
+    let all : path_to es k ≡ old = c.loop-came.invariant.path
+    ∙ (ap (λ t. old ++ t) (path_first es c.loop-came.at c.in_default.ensures.path) ∙ append-nil old) in
     ap (λ s. slice_get s.paths k) (sym c.self.view_is)
     ∙ (path_there es k lt ∙ ap Some (all ∙ (sym (reverse-reverse old) ∙ ap reverse (sym c.reverse.ensures.items))))

@@ -12,7 +12,8 @@ added g c =
     let key = c.extend_from_slice.new.self in
     let m = c.self.inside.rows in
     let is : key.items ≡ ws = c.in_ok-extend_from_slice.ensures.items ∙ ap (λ t. t ++ ws) c.in_ok-key.ensures.items in
-    let none = has_none m.entries key.items (λ h. c.requires.new (subst (λ t. IsIn (states_of t) ws) c.self.view_is (subst (IsIn (states_of (rows_of m.entries))) is h))) in
+    let none = has_none m.entries key.items (λ h. c.requires.new
+    (subst (λ t. IsIn (states_of t) ws) c.self.view_is (subst (IsIn (states_of (rows_of m.entries))) is h))) in
     ap rows_of (c.in_ok-insert.ensures.entries ∙ insert_entry-new (λ a b. is_key a.items b) m key c.args.came none)
     ∙ rows_push m.entries key c.args.came ws is
 

@@ -14,7 +14,8 @@ invariant_of-claim c =
     let cpu : c.args.vector.cpu.0 < c.claim.inside.seat.table_id.words = omega (arith, words, cpus, c.self.invariant.each, c.requires.cpu) in
     let number : c.args.vector.number < 64 = omega (arith, vectors, c.self.invariant.small, c.requires.number) in
     subst (λ (t : TableId). IsClaim t.words c.set.new.seat.me) (sym c.set.ensures.table)
-    (claimed c.claim.inside.seat.table_id.words c.claim.inside.seat.me c.set.new.seat.me c.args.vector c.set.result c.claim.invariant cpu number c.set.ensures.claims)
+    (claimed c.claim.inside.seat.table_id.words c.claim.inside.seat.me c.set.new.seat.me c.args.vector c.set.result
+    c.claim.invariant cpu number c.set.ensures.claims)
 
 pub returns : goal.returns
 returns c =

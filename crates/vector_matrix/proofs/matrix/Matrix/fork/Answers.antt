@@ -7,4 +7,5 @@ use Rattle.vector_matrix.proofs.matrix.Matrix.fork.Goals as goal
 pub invariant_of-claim : goal.invariant_of-claim
 invariant_of-claim c =
     subst (λ (t : TableId). IsClaim t.words c.split-seat.new.seat.me) (sym c.split-seat.ensures.table.0)
-    (subst (IsClaim c.claim.inside.seat.table_id.words) (sym c.split-seat.ensures.left) (left_claim c.claim.inside.seat.table_id.words c.claim.inside.seat.me c.claim.invariant))
+    (subst (IsClaim c.claim.inside.seat.table_id.words) (sym c.split-seat.ensures.left)
+    (left_claim c.claim.inside.seat.table_id.words c.claim.inside.seat.me c.claim.invariant))

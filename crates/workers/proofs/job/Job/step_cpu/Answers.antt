@@ -8,12 +8,31 @@ pub returns-in-Moved : goal.returns-in-Moved
 returns-in-Moved g c =
     let s = c.in-Moved.ensures in
     let from = ap (λ (j : JobSeen). j.first) c.self.view_is ∙ ap (λ (j : JobSeen). j.first) s.is in
-    cpu_moved c.args.lines.now c.args.place c.args.self.now c.try_seat-turn.new.self c.requires.seated c.requires.flow c.requires.its c.requires.free c.in-Moved.entry s c.flow_at-flow.result
-    (record { actor = c.self.inside.actor; first = c.self.inside.first; seats = c.self.inside.seats.items; flow = c.flow_after-self-inside.result; at = c.self.inside.at; left = c.self.inside.left })
+    cpu_moved c.args.lines.now c.args.place c.args.self.now c.try_seat-turn.new.self c.requires.seated c.requires.flow
+    c.requires.its c.requires.free c.in-Moved.entry s c.flow_at-flow.result
+    (record {
+      actor = c.self.inside.actor;
+      first = c.self.inside.first;
+      seats = c.self.inside.seats.items;
+      flow
+          = c.flow_after-self-inside.result;
+      at = c.self.inside.at;
+      left = c.self.inside.left;
+    })
     (c.flow_at-flow.ensures s.line (ap (λ (n : ℕ). slice_get c.args.lines.now (n + c.args.place)) from ∙ s.at_line))
-    (ap (λ (f : Option ℕ). record { actor = c.self.inside.actor; first = c.self.inside.first; seats = c.self.inside.seats.items; flow = f; at = c.self.inside.at; left = c.self.inside.left }) c.flow_after-self-inside.ensures
+    (ap (λ (f : Option ℕ). record {
+      actor = c.self.inside.actor;
+      first = c.self.inside.first;
+      seats
+          = c.self.inside.seats.items;
+      flow = f;
+      at = c.self.inside.at;
+      left = c.self.inside.left;
+    })
+    c.flow_after-self-inside.ensures
     ∙ ap (λ (j : JobSeen). record j { flow = flow_after c.flow_at-flow.result c.in-Moved.entry c.args.place j.flow }) c.self.view_is)
 
 pub returns-in_default : goal.returns-in_default
 returns-in_default g c =
-    cpu_rests c.args.lines.now c.args.place c.args.self.now c.try_seat-turn.new.self c.requires.seated c.requires.flow c.requires.its c.requires.free c.try_seat-turn.result c.try_seat-turn.ensures c.in_default.not-Moved
+    cpu_rests c.args.lines.now c.args.place c.args.self.now c.try_seat-turn.new.self c.requires.seated c.requires.flow
+    c.requires.its c.requires.free c.try_seat-turn.result c.try_seat-turn.ensures c.in_default.not-Moved

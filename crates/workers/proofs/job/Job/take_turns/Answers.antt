@@ -3,4 +3,8 @@ use Rattle.workers.proofs.Rounding.{works_first}
 use Rattle.workers.proofs.job.Job.take_turns.Goals as goal
 
 pub loop-steps-init : goal.loop-steps-init
-loop-steps-init g c = record { works = works_first c.args.board.now c.args.lines.now c.args.self.now c.requires.job; room = omega arith; less = λ some. omega (arith, some) }
+loop-steps-init g c = record {
+  works = works_first c.args.board.now c.args.lines.now c.args.self.now c.requires.job;
+  room = omega arith;
+  less = λ some. omega (arith, some);
+}

@@ -11,53 +11,92 @@ use Rattle.workers.proofs.job.Job.try_seat.Goals as goal
 pub overflow_add-k : goal.overflow_add-k
 overflow_add-k g c =
     let a = at_place c.args.lines.now c.args.self.now c.args.place c.requires.seated c.requires.place in
-    let w = in_numbers c.args.lines.now c.lines.inside.lines.items c.args.self.now c.self.inside.first c.args.place c.self.inside.seats.items a c.lines.view_is (ap (λ (j : JobSeen). j.first) c.self.view_is) (ap (λ (j : JobSeen). j.seats) c.self.view_is) c.as_slice-numbers.result.now (c.as_slice-numbers.ensures.value ∙ c.lines.invariant.0) in
+    let w = in_numbers c.args.lines.now c.lines.inside.lines.items c.args.self.now c.self.inside.first c.args.place
+    c.self.inside.seats.items a c.lines.view_is (ap (λ (j : JobSeen). j.first) c.self.view_is)
+    (ap (λ (j : JobSeen). j.seats) c.self.view_is) c.as_slice-numbers.result.now
+    (c.as_slice-numbers.ensures.value ∙ c.lines.invariant.0) in
     search rules
 
 pub offset_bounds-numbers-k : goal.offset_bounds-numbers-k
 offset_bounds-numbers-k g c =
     let a = at_place c.args.lines.now c.args.self.now c.args.place c.requires.seated c.requires.place in
-    let w = in_numbers c.args.lines.now c.lines.inside.lines.items c.args.self.now c.self.inside.first c.args.place c.self.inside.seats.items a c.lines.view_is (ap (λ (j : JobSeen). j.first) c.self.view_is) (ap (λ (j : JobSeen). j.seats) c.self.view_is) c.as_slice-numbers.result.now (c.as_slice-numbers.ensures.value ∙ c.lines.invariant.0) in
+    let w = in_numbers c.args.lines.now c.lines.inside.lines.items c.args.self.now c.self.inside.first c.args.place
+    c.self.inside.seats.items a c.lines.view_is (ap (λ (j : JobSeen). j.first) c.self.view_is)
+    (ap (λ (j : JobSeen). j.seats) c.self.view_is) c.as_slice-numbers.result.now
+    (c.as_slice-numbers.ensures.value ∙ c.lines.invariant.0) in
     search rules
 
 pub bounds-numbers-k : goal.bounds-numbers-k
 bounds-numbers-k g c =
     let a = at_place c.args.lines.now c.args.self.now c.args.place c.requires.seated c.requires.place in
-    in_numbers c.args.lines.now c.lines.inside.lines.items c.args.self.now c.self.inside.first c.args.place c.self.inside.seats.items a c.lines.view_is (ap (λ (j : JobSeen). j.first) c.self.view_is) (ap (λ (j : JobSeen). j.seats) c.self.view_is) c.as_slice-numbers.result.now (c.as_slice-numbers.ensures.value ∙ c.lines.invariant.0)
+    in_numbers c.args.lines.now c.lines.inside.lines.items c.args.self.now c.self.inside.first c.args.place
+    c.self.inside.seats.items a c.lines.view_is (ap (λ (j : JobSeen). j.first) c.self.view_is)
+    (ap (λ (j : JobSeen). j.seats) c.self.view_is) c.as_slice-numbers.result.now
+    (c.as_slice-numbers.ensures.value ∙ c.lines.invariant.0)
 
 pub index-line-requires : goal.index-line-requires
 index-line-requires g c =
     let a = at_place c.args.lines.now c.args.self.now c.args.place c.requires.seated c.requires.place in
-    let w = in_here c.args.lines.now c.lines.inside.lines.items c.args.self.now c.self.inside.first c.args.place c.self.inside.seats.items a c.lines.view_is (ap (λ (j : JobSeen). j.first) c.self.view_is) (ap (λ (j : JobSeen). j.seats) c.self.view_is) in
+    let w = in_here c.args.lines.now c.lines.inside.lines.items c.args.self.now c.self.inside.first c.args.place
+    c.self.inside.seats.items a c.lines.view_is (ap (λ (j : JobSeen). j.first) c.self.view_is)
+    (ap (λ (j : JobSeen). j.seats) c.self.view_is) in
     search rules
 
 pub step-tried-requires : goal.step-tried-requires
 step-tried-requires g c =
     let a = at_place c.args.lines.now c.args.self.now c.args.place c.requires.seated c.requires.place in
-    let l = line_is c.args.lines.now c.lines.inside.lines.items c.args.self.now c.self.inside.first c.args.place c.self.inside.seats.items a c.lines.view_is (ap (λ (j : JobSeen). j.first) c.self.view_is) (ap (λ (j : JobSeen). j.seats) c.self.view_is) c.index-line.result.now c.index-line.ensures in
-    let s = seat_is c.args.lines.now c.lines.inside.lines.items c.args.self.now c.self.inside.first c.args.place c.self.inside.seats.items a c.lines.view_is (ap (λ (j : JobSeen). j.first) c.self.view_is) (ap (λ (j : JobSeen). j.seats) c.self.view_is) c.index_mut-seat.result.now c.index_mut-seat.ensures.value in
+    let l = line_is c.args.lines.now c.lines.inside.lines.items c.args.self.now c.self.inside.first c.args.place
+    c.self.inside.seats.items a c.lines.view_is (ap (λ (j : JobSeen). j.first) c.self.view_is)
+    (ap (λ (j : JobSeen). j.seats) c.self.view_is) c.index-line.result.now c.index-line.ensures in
+    let s = seat_is c.args.lines.now c.lines.inside.lines.items c.args.self.now c.self.inside.first c.args.place
+    c.self.inside.seats.items a c.lines.view_is (ap (λ (j : JobSeen). j.first) c.self.view_is)
+    (ap (λ (j : JobSeen). j.seats) c.self.view_is) c.index_mut-seat.result.now c.index_mut-seat.ensures.value in
     record {
-      line = subst (λ (x : LockSeen). IsPassOf x c.index_mut-seat.result.now.pass) (sym l) (subst (λ (x : SeatSeen). IsPassOf a.line x.pass) (sym s) a.sits.of_line);
+      line = subst (λ (x : LockSeen). IsPassOf x c.index_mut-seat.result.now.pass) (sym l)
+          (subst (λ (x : SeatSeen). IsPassOf a.line x.pass) (sym s) a.sits.of_line);
       idle = subst (λ (x : SeatSeen). x.pass.turn ≡ false) (sym s) a.sits.idle;
       actor = subst (λ (x : SeatSeen). IsSome x.pass.knows.actor) (sym s) (subst (λ (o : Option Actor). IsSome o) (sym a.sits.actor) refl);
-      known = subst (λ (x : SeatSeen). x.rests ≡ true → (who : Actor) → x.pass.knows.actor ≡ Some who → IsIdle c.index-line.result.now.def who x.pass.knows) (sym s)
+      known = subst (λ (x : SeatSeen). x.rests ≡ true → (who : Actor) → x.pass.knows.actor ≡ Some who
+          → IsIdle c.index-line.result.now.def who x.pass.knows) (sym s)
           (subst (λ (x : LockSeen). a.seat.rests ≡ true → (who : Actor) → a.seat.pass.knows.actor ≡ Some who → IsIdle x.def who a.seat.pass.knows) (sym l)
-          (λ still who is. subst (λ (b : Actor). IsIdle a.line.def b a.seat.pass.knows) (let e : c.args.self.now.actor ≡ who = the_same c.args.self.now.actor who (sym a.sits.actor ∙ is) in e) (a.sits.rests still)));
+          (λ still who is. subst (λ (b : Actor). IsIdle a.line.def b a.seat.pass.knows)
+          (let e : c.args.self.now.actor ≡ who = the_same c.args.self.now.actor who (sym a.sits.actor ∙ is) in e)
+          (a.sits.rests still)));
     }
 
 pub returns : goal.returns
 returns g c =
     let a = at_place c.args.lines.now c.args.self.now c.args.place c.requires.seated c.requires.place in
-    let l = line_is c.args.lines.now c.lines.inside.lines.items c.args.self.now c.self.inside.first c.args.place c.self.inside.seats.items a c.lines.view_is (ap (λ (j : JobSeen). j.first) c.self.view_is) (ap (λ (j : JobSeen). j.seats) c.self.view_is) c.index-line.result.now c.index-line.ensures in
-    let s = seat_is c.args.lines.now c.lines.inside.lines.items c.args.self.now c.self.inside.first c.args.place c.self.inside.seats.items a c.lines.view_is (ap (λ (j : JobSeen). j.first) c.self.view_is) (ap (λ (j : JobSeen). j.seats) c.self.view_is) c.index_mut-seat.result.now c.index_mut-seat.ensures.value in
-    let n = number_is c.args.lines.now c.lines.inside.lines.items c.args.self.now c.self.inside.first c.args.place c.self.inside.seats.items a c.lines.view_is (ap (λ (j : JobSeen). j.first) c.self.view_is) (ap (λ (j : JobSeen). j.seats) c.self.view_is) c.as_slice-numbers.result.now (record { 0 = 0 }) (c.as_slice-numbers.ensures.value ∙ c.lines.invariant.0) in
+    let l = line_is c.args.lines.now c.lines.inside.lines.items c.args.self.now c.self.inside.first c.args.place
+    c.self.inside.seats.items a c.lines.view_is (ap (λ (j : JobSeen). j.first) c.self.view_is)
+    (ap (λ (j : JobSeen). j.seats) c.self.view_is) c.index-line.result.now c.index-line.ensures in
+    let s = seat_is c.args.lines.now c.lines.inside.lines.items c.args.self.now c.self.inside.first c.args.place
+    c.self.inside.seats.items a c.lines.view_is (ap (λ (j : JobSeen). j.first) c.self.view_is)
+    (ap (λ (j : JobSeen). j.seats) c.self.view_is) c.index_mut-seat.result.now c.index_mut-seat.ensures.value in
+    let n = number_is c.args.lines.now c.lines.inside.lines.items c.args.self.now c.self.inside.first c.args.place
+    c.self.inside.seats.items a c.lines.view_is (ap (λ (j : JobSeen). j.first) c.self.view_is)
+    (ap (λ (j : JobSeen). j.seats) c.self.view_is) c.as_slice-numbers.result.now (record { 0 = 0 })
+    (c.as_slice-numbers.ensures.value ∙ c.lines.invariant.0) in
     let e = c.step-tried.ensures in
     steps_seat c.args.lines.now c.args.self.now
-    (record { actor = c.self.inside.actor; first = c.self.inside.first; seats = slice_set c.self.inside.seats.items c.args.place c.step-tried.new.self; flow = c.self.inside.flow; at = c.self.inside.at; left = c.self.inside.left })
-    c.args.place a (get_or c.as_slice-numbers.result.now (c.self.inside.first + c.args.place) (record { 0 = 0 })) c.turn_of.result c.step-tried.result c.step-tried.new.self c.turn_of.ensures n
+    (record {
+      actor = c.self.inside.actor;
+      first = c.self.inside.first;
+      seats
+          = slice_set c.self.inside.seats.items c.args.place c.step-tried.new.self;
+      flow = c.self.inside.flow;
+      at
+          = c.self.inside.at;
+      left = c.self.inside.left;
+    })
+    c.args.place a (get_or c.as_slice-numbers.result.now (c.self.inside.first + c.args.place) (record { 0 = 0 }))
+    c.turn_of.result c.step-tried.result c.step-tried.new.self c.turn_of.ensures n
     (ap (λ (j : JobSeen). record j { seats = slice_set j.seats c.args.place c.step-tried.new.self }) c.self.view_is)
     (subst (λ (x : LockSeen). IsPassOf x c.step-tried.new.self.pass) l e.line) e.idle (e.actor ∙ ap (λ (x : SeatSeen). x.pass.knows.actor) s) e.rests
     (λ who. subst (λ (x : SeatSeen). x.pass.knows.actor ≡ Some who → Tries a.line.def who x.pass.knows c.step-tried.result c.step-tried.new.self.pass.knows) s
-    (subst (λ (x : LockSeen). c.index_mut-seat.result.now.pass.knows.actor ≡ Some who → Tries x.def who c.index_mut-seat.result.now.pass.knows c.step-tried.result c.step-tried.new.self.pass.knows) l (e.tries who)))
+    (subst (λ (x : LockSeen). c.index_mut-seat.result.now.pass.knows.actor ≡ Some who
+    → Tries x.def who c.index_mut-seat.result.now.pass.knows c.step-tried.result c.step-tried.new.self.pass.knows) l
+    (e.tries who)))
     (subst (λ (x : SeatSeen). x.rests ≡ false → FlowMoves a.line.def x.pass.knows c.step-tried.result) s
-    (subst (λ (x : LockSeen). c.index_mut-seat.result.now.rests ≡ false → FlowMoves x.def c.index_mut-seat.result.now.pass.knows c.step-tried.result) l e.flows))
+    (subst (λ (x : LockSeen). c.index_mut-seat.result.now.rests ≡ false
+    → FlowMoves x.def c.index_mut-seat.result.now.pass.knows c.step-tried.result) l e.flows))

@@ -8,29 +8,45 @@ use Rattle.workers.proofs.jobs.Jobs.one_round.Goals as goal
 
 pub round-requires-clause-jobs : goal.round-requires-clause-jobs
 round-requires-clause-jobs g c = λ κs lives k d less.
-    round_may c.args.lines.now c.args.self.now c.requires c.self.inside.board.now c.self.inside.jobs.items c.as_mut_slice-jobs.result.now c.as_mut_slice-jobs.result.now c.as_mut_slice-jobs.result.now c.self.inside.firsts.items c.self.view_is c.as_mut_slice-jobs.ensures.value k d less
+    round_may c.args.lines.now c.args.self.now c.requires c.self.inside.board.now c.self.inside.jobs.items
+    c.as_mut_slice-jobs.result.now c.as_mut_slice-jobs.result.now c.as_mut_slice-jobs.result.now
+    c.self.inside.firsts.items c.self.view_is c.as_mut_slice-jobs.ensures.value k d less
 
 pub returns-clause-fit : goal.returns-clause-fit
 returns-clause-fit g c =
     let long : length c.round.new.jobs ≡ length c.as_mut_slice-jobs.result.now = c.round.auto.jobs in
-    round_fit c.args.lines.now c.args.self.now c.requires c.self.inside.board.now c.self.inside.jobs.items c.as_mut_slice-jobs.result.now c.round.new.jobs (take c.self.inside.jobs.len (c.round.new.jobs ++ drop (length c.round.new.jobs) c.self.inside.jobs.items)) c.self.inside.firsts.items c.self.view_is c.as_mut_slice-jobs.ensures.value long c.round.ensures
+    round_fit c.args.lines.now c.args.self.now c.requires c.self.inside.board.now c.self.inside.jobs.items
+    c.as_mut_slice-jobs.result.now c.round.new.jobs
+    (take c.self.inside.jobs.len (c.round.new.jobs ++ drop (length c.round.new.jobs) c.self.inside.jobs.items))
+    c.self.inside.firsts.items c.self.view_is c.as_mut_slice-jobs.ensures.value long c.round.ensures
     (whole_again c.self.inside.jobs.len c.round.new.jobs c.self.inside.jobs.items (let e = c.as_mut_slice-jobs.ensures.len in omega (arith, long, e)))
 
 pub returns-clause-left : goal.returns-clause-left
 returns-clause-left g c =
     let long : length c.round.new.jobs ≡ length c.as_mut_slice-jobs.result.now = c.round.auto.jobs in
-    round_left c.args.lines.now c.args.self.now c.requires c.self.inside.board.now c.self.inside.jobs.items c.as_mut_slice-jobs.result.now c.round.new.jobs (take c.self.inside.jobs.len (c.round.new.jobs ++ drop (length c.round.new.jobs) c.self.inside.jobs.items)) c.self.inside.firsts.items c.self.view_is c.as_mut_slice-jobs.ensures.value long c.round.ensures
+    round_left c.args.lines.now c.args.self.now c.requires c.self.inside.board.now c.self.inside.jobs.items
+    c.as_mut_slice-jobs.result.now c.round.new.jobs
+    (take c.self.inside.jobs.len (c.round.new.jobs ++ drop (length c.round.new.jobs) c.self.inside.jobs.items))
+    c.self.inside.firsts.items c.self.view_is c.as_mut_slice-jobs.ensures.value long c.round.ensures
     (whole_again c.self.inside.jobs.len c.round.new.jobs c.self.inside.jobs.items (let e = c.as_mut_slice-jobs.ensures.len in omega (arith, long, e)))
 
 pub returns-clause-room : goal.returns-clause-room
 returns-clause-room g c =
     let long : length c.round.new.jobs ≡ length c.as_mut_slice-jobs.result.now = c.round.auto.jobs in
-    round_room c.args.lines.now c.args.self.now c.requires c.self.inside.board.now c.self.inside.jobs.items c.as_mut_slice-jobs.result.now c.round.new.jobs (take c.self.inside.jobs.len (c.round.new.jobs ++ drop (length c.round.new.jobs) c.self.inside.jobs.items)) c.self.inside.firsts.items c.self.view_is c.as_mut_slice-jobs.ensures.value long c.round.ensures
+    round_room c.args.lines.now c.args.self.now c.requires c.self.inside.board.now c.self.inside.jobs.items
+    c.as_mut_slice-jobs.result.now c.round.new.jobs
+    (take c.self.inside.jobs.len (c.round.new.jobs ++ drop (length c.round.new.jobs) c.self.inside.jobs.items))
+    c.self.inside.firsts.items c.self.view_is c.as_mut_slice-jobs.ensures.value long c.round.ensures
     (whole_again c.self.inside.jobs.len c.round.new.jobs c.self.inside.jobs.items (let e = c.as_mut_slice-jobs.ensures.len in omega (arith, long, e)))
 
 pub returns-clause-busy : goal.returns-clause-busy
 returns-clause-busy g c = λ is.
     let long : length c.round.new.jobs ≡ length c.as_mut_slice-jobs.result.now = c.round.auto.jobs in
-    round_busy c.args.lines.now c.args.self.now c.requires c.self.inside.board.now c.self.inside.jobs.items c.as_mut_slice-jobs.result.now c.round.new.jobs (take c.self.inside.jobs.len (c.round.new.jobs ++ drop (length c.round.new.jobs) c.self.inside.jobs.items)) c.self.inside.firsts.items c.self.view_is c.as_mut_slice-jobs.ensures.value long c.round.ensures
+    round_busy c.args.lines.now c.args.self.now c.requires c.self.inside.board.now c.self.inside.jobs.items
+    c.as_mut_slice-jobs.result.now c.round.new.jobs
+    (take c.self.inside.jobs.len (c.round.new.jobs ++ drop (length c.round.new.jobs) c.self.inside.jobs.items))
+    c.self.inside.firsts.items c.self.view_is c.as_mut_slice-jobs.ensures.value long c.round.ensures
     (whole_again c.self.inside.jobs.len c.round.new.jobs c.self.inside.jobs.items (let e = c.as_mut_slice-jobs.ensures.len in omega (arith, long, e)))
-    (subst (λ (js : List JobSeen). BusyIsSo js (length js) lefts.Busy) c.as_slice.ensures.value (subst (λ (l : Left). BusyIsSo c.as_slice.result.now (length c.as_slice.result.now) l) is c.left_of_all.ensures.busy))
+    (subst (λ (js : List JobSeen). BusyIsSo js (length js) lefts.Busy) c.as_slice.ensures.value
+    (subst (λ (l : Left). BusyIsSo c.as_slice.result.now (length c.as_slice.result.now) l) is
+    c.left_of_all.ensures.busy))

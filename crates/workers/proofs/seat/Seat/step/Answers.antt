@@ -6,8 +6,11 @@ use Rattle.workers.proofs.seat.Seat.step.Goals as goal
 
 pub returns-clause-tries : goal.returns-clause-tries
 returns-clause-tries g c = λ who.
-    subst (λ (s : SeatSeen). s.pass.knows.actor ≡ Some who → Tries c.args.line.now.def who s.pass.knows c.step_heard-tried.result c.step_heard-tried.new.pass.knows) c.self.view_is
+    subst (λ (s : SeatSeen). s.pass.knows.actor ≡ Some who
+    → Tries c.args.line.now.def who s.pass.knows c.step_heard-tried.result c.step_heard-tried.new.pass.knows)
+    c.self.view_is
     (c.step_heard-tried.ensures.tries who)
 
 pub returns-then-is_still-clause-tries : goal.returns-then-is_still-clause-tries
-returns-then-is_still-clause-tries g c = λ who is. tries_still c.args.line.now.def who c.args.self.now.pass.knows (c.requires.known (c.is_still.ensures c.if-is_still.true) who is)
+returns-then-is_still-clause-tries g c = λ who is. tries_still c.args.line.now.def who c.args.self.now.pass.knows
+    (c.requires.known (c.is_still.ensures c.if-is_still.true) who is)
