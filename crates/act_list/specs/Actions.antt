@@ -1,6 +1,8 @@
 -- The actions of a line: each device that is linked, with its action, in the order in which they
 -- were linked.
-use Rattle.std.specs.Prelude.{◌≡◌, ℕ, ◌+◌, ◌-◌, ◌^◌, ◌<◌, ◌==◌, Bool, true, false, not, ◌&&◌, if◌then◌else◌, nat_lt, bit_and, bit_or, count_ones, Option, Some, None, List, [], ◌∷◌, length}
+use Rattle.std.specs.Prelude.{◌≡◌, ℕ, ◌+◌, ◌-◌, ◌^◌, ◌<◌, ◌==◌, Bool, true, false, not, ◌&&◌}
+use Rattle.std.specs.Prelude.{if◌then◌else◌, nat_lt, bit_and, bit_or, count_ones, Option, Some}
+use Rattle.std.specs.Prelude.{None, List, [], ◌∷◌, length}
 use Rattle.std.specs.Int.{trailing_ones, w64}
 use Rattle.std.specs.List.{list_any}
 use Rattle.irq_base.specs.declared.calls.Flags.{Flags}

@@ -5,7 +5,14 @@ use Rattle.act_list.specs.Stamps.{stamped, AreStamps, AreBegun}
 use Rattle.act_list.specs.declared.list.ActList.TheInside.{Inside}
 
 abbrev pub seen : Inside → ActListSeen
-seen a = record { list = record { actions = a.actions.actions; begun = stamped (a.rounds + 1) a.stamps; rounds = a.rounds }; spare = a.actions.spare }
+seen a = record {
+  list = record {
+    actions = a.actions.actions;
+    begun = stamped (a.rounds + 1) a.stamps;
+    rounds = a.rounds;
+  };
+  spare = a.actions.spare;
+}
 
 -- the stamps are of rounds so far, and all actions before the hint have begun
 pub record IsKept (a : Inside) : Type 0 where

@@ -1,5 +1,6 @@
 -- What is seen of a line's list of actions, and what each call makes of it.
-use Rattle.std.specs.Prelude.{ℕ, ◌+◌, Bool, true, false, if◌then◌else◌, Option, Some, None, unwrap_or, List, [], ◌∷◌, ◌++◌}
+use Rattle.std.specs.Prelude.{ℕ, ◌+◌, Bool, true, false, if◌then◌else◌, Option, Some, None}
+use Rattle.std.specs.Prelude.{unwrap_or, List, [], ◌∷◌, ◌++◌}
 use Rattle.std.specs.Map.{remove_entry}
 use Rattle.irq_base.specs.declared.calls.Flags.{Flags}
 use Rattle.irq_base.specs.declared.devices.DeviceDef.{DeviceDef}

@@ -1,9 +1,14 @@
 //! The linked actions.
-ghost use Rattle.std.specs.Prelude.{◌≡◌, ◌+◌, ◌==◌, ◌<◌, ◌≤◌, ◌++◌, [], ◌∷◌, true, false, not, ◌&&◌, nat_lt, bit_and, count_ones, is_some, length, slice_get, option_map, IfSome, IsOk, OnOk, OnErr};
+ghost use Rattle.std.specs.Prelude.{◌≡◌, ◌+◌, ◌==◌, ◌<◌, ◌≤◌, ◌++◌, [], ◌∷◌, true, false, not};
+ghost use Rattle.std.specs.Prelude.{◌&&◌, nat_lt, bit_and, count_ones, is_some, length};
+ghost use Rattle.std.specs.Prelude.{slice_get, option_map, IfSome, IsOk, OnOk, OnErr};
 ghost use Rattle.std.specs.Map.{lookup, remove_entry};
 ghost use Rattle.irq_model.specs.Kinds.{same_dev};
 ghost use Rattle.irq_model.specs.Next.{flags_differ, is_null};
-ghost use Rattle.act_list.specs.Actions.{has, is_bare, is_only_action, is_mismatch, answer_where, answer_by, bits_of, lowest_free, bit_by, bits_due, bit_in, bit_of, is_oneshot_in, is_full, IsLowestFree, first_of};
+ghost use Rattle.act_list.specs.Actions.{has, is_bare, is_only_action, is_mismatch, answer_where};
+ghost use Rattle.act_list.specs.Actions.{answer_by, bits_of, lowest_free, bit_by, bits_due};
+ghost use Rattle.act_list.specs.Actions.{bit_in, bit_of, is_oneshot_in, is_full, IsLowestFree};
+ghost use Rattle.act_list.specs.Actions.{first_of};
 
 use indexmap::IndexMap;
 use irq_base::{DevNo, Errno, Flags, Kind, LinkAnswer, NoMemory};

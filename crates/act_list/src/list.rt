@@ -1,12 +1,17 @@
 //! The list with its rounds.
-ghost use Rattle.std.specs.Prelude.{◌≡◌, true, is_some, count_ones, ◌==◌, ◌+◌, ◌-◌, ◌<◌, ◌≤◌, ◌^◌, length, take, slice_get, false, [], IsOk, IfOk, OnOk, OnErr, IfSome};
+ghost use Rattle.std.specs.Prelude.{◌≡◌, true, is_some, count_ones, ◌==◌, ◌+◌, ◌-◌, ◌<◌, ◌≤◌};
+ghost use Rattle.std.specs.Prelude.{◌^◌, length, take, slice_get, false, [], IsOk, IfOk, OnOk};
+ghost use Rattle.std.specs.Prelude.{OnErr, IfSome};
 ghost use Rattle.std.specs.Map.{lookup};
 ghost use Rattle.irq_base.specs.declared.entries.LinkAnswer.TheVariants as links;
 ghost use Rattle.irq_model.specs.Kinds.{same_dev};
 ghost use Rattle.irq_model.specs.Valid.{HasDistinctDevices};
 ghost use Rattle.device_table.specs.Rows.{at, all_with};
-ghost use Rattle.act_list.specs.Actions.{has, is_bare, answer_where, answer_by, bit_of, is_oneshot_in, is_full, is_mismatch, IsLowestFree};
-ghost use Rattle.act_list.specs.Lists.{first_list, unlinked, action_by, begun_at, first_left, after_link, after_unlink, after_begin, after_begin_round, unlink_by};
+ghost use Rattle.act_list.specs.Actions.{has, is_bare, answer_where, answer_by, bit_of};
+ghost use Rattle.act_list.specs.Actions.{is_oneshot_in, is_full, is_mismatch, IsLowestFree};
+ghost use Rattle.act_list.specs.Lists.{first_list, unlinked, action_by, begun_at, first_left};
+ghost use Rattle.act_list.specs.Lists.{after_link, after_unlink, after_begin, after_begin_round};
+ghost use Rattle.act_list.specs.Lists.{unlink_by};
 ghost use Rattle.act_list.specs.Stamps.{stamped, AreBegun};
 
 use crate::actions::{Action, Actions};

@@ -6,7 +6,8 @@ use Rattle.irq_base.specs.declared.entries.Entry.TheVariants as entries
 use Rattle.irq_base.specs.declared.numbers.DevNo.{DevNo}
 use Rattle.device_table.specs.Rows.{at, change}
 use Rattle.device_table.specs.Sums.{weigh_all, how_many}
-use Rattle.act_thread.specs.Steps.{is_idle_row, finished_by, active_row, woken_row, begun_row, returned_row, finished_row, done_row}
+use Rattle.act_thread.specs.Steps.{is_idle_row, finished_by, active_row, woken_row, begun_row}
+use Rattle.act_thread.specs.Steps.{returned_row, finished_row, done_row}
 use Rattle.act_thread.specs.declared.rows.Finished.{Finished}
 use Rattle.act_thread.specs.declared.rows.Finished.TheVariants as finishes
 use Rattle.act_thread.specs.declared.rows.ThreadRow.{ThreadRow}

@@ -1,7 +1,9 @@
 //! What is kept of one thread, and what each step makes of it.
 ghost use Rattle.std.specs.Prelude.{◌≡◌};
 ghost use Rattle.device_table.specs.Sums.{one_if};
-ghost use Rattle.act_thread.specs.Steps.{active_row, is_ready, is_returned, is_idle_row, may_begin, may_return, may_end, finished_by, woken_row, begun_row, returned_row, finished_row, done_row};
+ghost use Rattle.act_thread.specs.Steps.{active_row, is_ready, is_returned, is_idle_row};
+ghost use Rattle.act_thread.specs.Steps.{may_begin, may_return, may_end, finished_by, woken_row};
+ghost use Rattle.act_thread.specs.Steps.{begun_row, returned_row, finished_row, done_row};
 
 /// How far the thread is with its run.
 #[derive(Clone, Copy, PartialEq, Eq)]

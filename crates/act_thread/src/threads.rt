@@ -4,7 +4,8 @@ ghost use Rattle.irq_model.specs.Valid.{HasDistinctDevices};
 ghost use Rattle.device_table.specs.Rows.{at, put, change, all_with, lowest_where};
 ghost use Rattle.device_table.specs.Ranks.{IsRanking};
 ghost use Rattle.device_table.specs.RankSets.{holds};
-ghost use Rattle.act_thread.specs.Steps.{woken_row, begun_row, returned_row, finished_row, done_row, could_step, idle_row};
+ghost use Rattle.act_thread.specs.Steps.{woken_row, begun_row, returned_row, finished_row};
+ghost use Rattle.act_thread.specs.Steps.{done_row, could_step, idle_row};
 ghost use Rattle.act_thread.specs.Threads.{active_in, held_in, is_idle_at, finishes_at};
 ghost use Rattle.act_thread.specs.Marked.{is_rank};
 
@@ -185,7 +186,8 @@ impl Threads {
 /// Puts the device's rank into the set, or takes it out.
 fn mark(set: &mut RankSet, ranks: &Ranks, dev: DevNo, to: bool)
     requires { IsRanking ranks.now }
-    ensures { (r : ℕ) → r < 256 → holds set.new r ≡ (if is_rank r (at ranks.now dev) then to else holds set.old r) }
+    ensures { (r : ℕ) → r < 256 → holds set.new r
+        ≡ (if is_rank r (at ranks.now dev) then to else holds set.old r) }
 {
     let Some(rank) = ranks.rank(dev) else {
         return;

@@ -1,5 +1,6 @@
 -- The counts of a device's asks, and what each call makes of them.
-use Rattle.std.specs.Prelude.{◌≡◌, ℕ, ◌+◌, ◌-◌, ◌<◌, ◌≤◌, ◌^◌, Bool, if◌then◌else◌, nat_lt, Option, Some, None, List, length}
+use Rattle.std.specs.Prelude.{◌≡◌, ℕ, ◌+◌, ◌-◌, ◌<◌, ◌≤◌, ◌^◌, Bool, if◌then◌else◌, nat_lt}
+use Rattle.std.specs.Prelude.{Option, Some, None, List, length}
 use Rattle.irq_base.specs.declared.numbers.DevNo.{DevNo}
 use Rattle.device_table.specs.Sums.{how_many}
 use Rattle.ask_counts.specs.declared.rows.AskRow.{AskRow}

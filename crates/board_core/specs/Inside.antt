@@ -19,7 +19,8 @@ seen_of board layout lines order =
 abbrev pub drivers_of : List ScriptSeen → List DriverNo
 drivers_of scripts = map (λ (s : ScriptSeen). s.driver) scripts
 
-pub record IsSystem (board : BoardSeen) (lines : List LineSeen) (scripts : List ScriptSeen) : Type 0 where
+pub record IsSystem (board : BoardSeen) (lines : List LineSeen) (scripts : List ScriptSeen)
+    : Type 0 where
   -- the lines are the board's, each history is legal, and the drivers' calls are made in the order
   -- of their scripts
   pub kept : AreKept board (board_lines lines)
@@ -37,7 +38,8 @@ pub record Parts : Type 0 where
   pub line_numbers : List ℕ
   pub driver_numbers : List ℕ
 
-pub record IsKept (board : BoardSeen) (lines : List LineSeen) (scripts : List ScriptSeen) (order : List ℕ) (parts : Parts) : Type 0 where
+pub record IsKept (board : BoardSeen) (lines : List LineSeen) (scripts : List ScriptSeen)
+    (order : List ℕ) (parts : Parts) : Type 0 where
   pub system : IsSystem board lines scripts
   pub ready : IsReadyFor lines scripts parts.ready
   -- the order tells what came after the entries that the lines had at first

@@ -1,6 +1,7 @@
 -- The log of a system, kept as the order of its lines alone: an entry stands once, in its line's
 -- history. The newest move comes first here.
-use Rattle.std.specs.Prelude.{◌≡◌, ◌==◌, ◌+◌, ◌<◌, ◌≤◌, ℕ, Option, Some, None, List, [], ◌∷◌, All, length, if◌then◌else◌, reverse, slice_get, slice_index, slice_set}
+use Rattle.std.specs.Prelude.{◌≡◌, ◌==◌, ◌+◌, ◌<◌, ◌≤◌, ℕ, Option, Some, None, List, [], ◌∷◌, All}
+use Rattle.std.specs.Prelude.{length, if◌then◌else◌, reverse, slice_get, slice_index, slice_set}
 use Rattle.irq_base.specs.declared.entries.Entry.{Entry}
 use Rattle.irq_base.specs.declared.numbers.LineNo.{LineNo}
 use Rattle.irq_line.specs.Seen.{LineSeen}

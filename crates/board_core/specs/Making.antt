@@ -1,5 +1,6 @@
 -- What a system is made of.
-use Rattle.std.specs.Prelude.{◌≡◌, ℕ, IsSomeAnd, Option, Some, None, List, [], ◌∷◌, ◌++◌, length, map, take, slice_get, slice_set}
+use Rattle.std.specs.Prelude.{◌≡◌, ℕ, IsSomeAnd, Option, Some, None, List, [], ◌∷◌, ◌++◌, length}
+use Rattle.std.specs.Prelude.{map, take, slice_get, slice_set}
 use Rattle.irq_base.specs.declared.lines.LineDef.{LineDef}
 use Rattle.board_def.specs.declared.rows.ScriptCall.{ScriptCall}
 use Rattle.irq_line.specs.Seen.{LineSeen, IsSound}

@@ -1,5 +1,6 @@
 -- Lines by their places, and a step of the one at a place.
-use Rattle.std.specs.Prelude.{◌≡◌, ℕ, IsSome, Option, Some, None, Result, Ok, Err, List, [], ◌∷◌, ◌++◌, slice_get, slice_set}
+use Rattle.std.specs.Prelude.{◌≡◌, ℕ, IsSome, Option, Some, None, Result, Ok, Err, List, [], ◌∷◌}
+use Rattle.std.specs.Prelude.{◌++◌, slice_get, slice_set}
 use Rattle.irq_base.specs.declared.entries.Actor.{Actor}
 use Rattle.irq_base.specs.declared.entries.Entry.{Entry}
 use Rattle.irq_line.specs.Answers.{IsFull}
@@ -21,7 +22,8 @@ IsPlace lines (Some k) line = IsSome line × (slice_get lines k ≡ line)
 
 -- The line at place k, which was `before`, is `after` with one entry more, and the order tells it;
 -- all else is as it was.
-pub record StepsAt (old : List LineSeen) (order : List ℕ) (k : ℕ) (a : Actor) (e : Entry) (new : List LineSeen) (longer : List ℕ) : Type 0 where
+pub record StepsAt (old : List LineSeen) (order : List ℕ) (k : ℕ) (a : Actor) (e : Entry)
+    (new : List LineSeen) (longer : List ℕ) : Type 0 where
   pub before : LineSeen
   pub after : LineSeen
   pub at : slice_get old k ≡ Some before

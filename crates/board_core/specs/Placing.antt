@@ -1,5 +1,6 @@
 -- Scripts that are placed after what their drivers have done on lines that have entries.
-use Rattle.std.specs.Prelude.{◌≡◌, ◌+◌, ◌≤◌, ℕ, max, IsSomeAnd, Option, Some, None, List, [], ◌∷◌, map, length, slice_get}
+use Rattle.std.specs.Prelude.{◌≡◌, ◌+◌, ◌≤◌, ℕ, max, IsSomeAnd, Option, Some, None, List, [], ◌∷◌}
+use Rattle.std.specs.Prelude.{map, length, slice_get}
 use Rattle.std.specs.List.{sum_by}
 use Rattle.irq_base.specs.declared.calls.Call.{Call}
 use Rattle.irq_base.specs.declared.entries.Actor.{Actor}
@@ -35,7 +36,10 @@ most_made r (x ∷ lines) = max (made_on r x) (most_made r lines)
 -- The script after all that its driver has done on the lines. At most one of them has a call of the
 -- driver that has begun, since its calls are made one after another.
 abbrev pub placed : List BoardLine → ScriptSeen → ScriptSeen
-placed lines s = record s { at = s.at + sum_by (completed_on s.driver) lines; made = max s.made (most_made s.driver lines) }
+placed lines s = record s {
+  at = s.at + sum_by (completed_on s.driver) lines;
+  made = max s.made (most_made s.driver lines);
+}
 
 -- each script stands after all that its driver has done
 pub record ArePlaced (lines : List BoardLine) (old new : List ScriptSeen) : Type 0 where

@@ -1,6 +1,7 @@
 -- What the ready actors of a system are: for each line what it tells of itself, for each driver its
 -- current call.
-use Rattle.std.specs.Prelude.{◌≡◌, ℕ, Bool, false, nat_le, IsSomeAnd, Option, Some, None, List, length, slice_get}
+use Rattle.std.specs.Prelude.{◌≡◌, ℕ, Bool, false, nat_le, IsSomeAnd, Option, Some, None, List}
+use Rattle.std.specs.Prelude.{length, slice_get}
 use Rattle.irq_base.specs.declared.numbers.DevNo.{DevNo}
 use Rattle.irq_laws.specs.Blocks.{block_of}
 use Rattle.irq_line.specs.Queries.{IsTaker, IsLowestThread, flow_of, blocks_of}
@@ -27,7 +28,8 @@ call_at (Some placed) made =
 abbrev pub call_of : ScriptSeen → Option CurrentCall
 call_of s = call_at (slice_get s.calls s.at) s.made
 
-pub record IsReadyFor (lines : List LineSeen) (scripts : List ScriptSeen) (ready : ReadySeen) : Type 0 where
+pub record IsReadyFor (lines : List LineSeen) (scripts : List ScriptSeen) (ready : ReadySeen)
+    : Type 0 where
   pub all_lines : length ready.lines ≡ length lines
   pub each_line : (k : ℕ) (x : LineSeen) → slice_get lines k ≡ Some x
       → IsSomeAnd (slice_get ready.lines k) (IsReadinessOf x)

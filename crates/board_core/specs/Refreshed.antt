@@ -1,5 +1,6 @@
 -- Ready actors that are asked one after another.
-use Rattle.std.specs.Prelude.{◌≡◌, ◌<◌, ℕ, IsSomeAnd, Option, Some, None, List, slice_get, slice_set}
+use Rattle.std.specs.Prelude.{◌≡◌, ◌<◌, ℕ, IsSomeAnd, Option, Some, None, List, slice_get}
+use Rattle.std.specs.Prelude.{slice_set}
 use Rattle.irq_line.specs.Seen.{LineSeen}
 use Rattle.board_ready.specs.Seen.{ReadySeen}
 use Rattle.board_ready.specs.declared.parts.CurrentCall.{CurrentCall}
@@ -17,7 +18,8 @@ HasDrivers scripts n ready = (j : ℕ) (s : ScriptSeen) → j < n → slice_get 
     → slice_get ready.drivers j ≡ Some (call_of s)
 
 -- the driver's call is put in
-pub record AsksCall (scripts : List ScriptSeen) (j : ℕ) (old new : List (Option CurrentCall)) : Type 0 where
+pub record AsksCall (scripts : List ScriptSeen) (j : ℕ) (old new : List (Option CurrentCall))
+    : Type 0 where
   pub call : Option CurrentCall
   pub is : (s : ScriptSeen) → slice_get scripts j ≡ Some s → call ≡ call_of s
   pub set : new ≡ slice_set old j call
@@ -29,7 +31,8 @@ AsksScript scripts None old new = new ≡ old
 AsksScript scripts (Some j) old new = AsksCall scripts j old new
 
 -- what the line at place k tells is put in, and the driver's call; all else is as it was
-pub record IsRefreshed (lines : List LineSeen) (scripts : List ScriptSeen) (k : ℕ) (script : Option ℕ) (old new : ReadySeen) : Type 0 where
+pub record IsRefreshed (lines : List LineSeen) (scripts : List ScriptSeen) (k : ℕ)
+    (script : Option ℕ) (old new : ReadySeen) : Type 0 where
   pub told : LineReadiness
   pub is : (x : LineSeen) → slice_get lines k ≡ Some x → IsReadinessOf x told
   pub of_lines : new.lines ≡ slice_set old.lines k told

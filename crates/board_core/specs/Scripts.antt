@@ -1,6 +1,7 @@
 -- The drivers' scripts, cut by driver: the calls on lines that take part, and how far each driver
 -- is.
-use Rattle.std.specs.Prelude.{◌≡◌, ℕ, ◌+◌, min, Bool, ◌&&◌, if◌then◌else◌, IsSomeAnd, Option, Some, None, List, [], ◌∷◌, map, slice_get}
+use Rattle.std.specs.Prelude.{◌≡◌, ℕ, ◌+◌, min, Bool, ◌&&◌, if◌then◌else◌, IsSomeAnd, Option}
+use Rattle.std.specs.Prelude.{Some, None, List, [], ◌∷◌, map, slice_get}
 use Rattle.std.specs.List.{list_any}
 use Rattle.irq_base.specs.declared.entries.Entry.{Entry}
 use Rattle.irq_base.specs.declared.lines.LineDef.{LineDef}
@@ -51,7 +52,8 @@ abbrev pub calls_of : List PlacedCall → List ScriptCall
 calls_of placed = map (λ (x : PlacedCall). x.call) placed
 
 -- a script as it stands on a board of these calls and lines
-pub record IsScript (calls : List ScriptCall) (lines : List BoardLine) (s : ScriptSeen) : Type 0 where
+pub record IsScript (calls : List ScriptCall) (lines : List BoardLine) (s : ScriptSeen)
+    : Type 0 where
   pub cut : calls_of s.calls ≡ cut (map (λ (x : BoardLine). x.def) lines) s.driver calls
   pub places : (i : ℕ) (x : PlacedCall) → slice_get s.calls i ≡ Some x
       → IsSomeAnd (slice_get lines x.place) (λ y. y.def.line ≡ x.call.line)

@@ -14,7 +14,8 @@ use Rattle.board_core.specs.declared.stands.Stand.{Stand}
 
 -- the stand has the places of the actor's line and of its script
 pub record IsAt (s : SystemSeen) (a : Actor) (stand : Stand) : Type 0 where
-  pub line : IsPlace (board_lines s.lines) (Some stand.line) (line_for s.board (board_lines s.lines) a)
+  pub line : IsPlace (board_lines s.lines) (Some stand.line)
+      (line_for s.board (board_lines s.lines) a)
   pub script : IsScriptOf s.board.drivers a stand.script
 
 -- a driver's current call is on the line at place k; a thread and a processor may step anywhere

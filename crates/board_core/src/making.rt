@@ -4,7 +4,8 @@ ghost use Rattle.std.specs.Option.{option_map};
 ghost use Rattle.board_def.specs.Layout.{layout_of};
 ghost use Rattle.domain_rules.specs.declared.layouts.Placement.TheVariants as placements;
 ghost use Rattle.board_play.specs.Lines.{defs_of};
-ghost use Rattle.board_core.specs.Making.{MakesAll, IsNewLine, AreNew, AreCut, AreNewScripts, AreSound, with_call};
+ghost use Rattle.board_core.specs.Making.{MakesAll, IsNewLine, AreNew, AreCut, AreNewScripts};
+ghost use Rattle.board_core.specs.Making.{AreSound, with_call};
 ghost use Rattle.board_core.specs.Numbers.{numbers_of_defs, numbers_of_drivers};
 
 use crate::numbers::place_of;

@@ -4,7 +4,8 @@ ghost use Rattle.irq_model.specs.Legal.{IsDue};
 ghost use Rattle.board_play.specs.Lines.{BoardLine};
 ghost use Rattle.board_core.specs.Inside.{drivers_of};
 ghost use Rattle.board_core.specs.Numbers.{numbers_of_drivers};
-ghost use Rattle.board_core.specs.Placing.{AreJoined, AreOwn, ArePlaced, CanJoin, HaveRoom, IsPlaceOfActor, with_entry};
+ghost use Rattle.board_core.specs.Placing.{AreJoined, AreOwn, ArePlaced, CanJoin, HaveRoom};
+ghost use Rattle.board_core.specs.Placing.{IsPlaceOfActor, with_entry};
 ghost use Rattle.board_core.specs.Seen.{board_line, board_lines};
 
 use crate::making::{empty_scripts, push_call};

@@ -1,5 +1,6 @@
 //! The drivers' scripts, cut by driver.
-ghost use Rattle.std.specs.Prelude.{◌≡◌, ◌+◌, false, ◌<◌, ◌≤◌, Some, [], ◌∷◌, ◌++◌, length, slice_get, OnOk};
+ghost use Rattle.std.specs.Prelude.{◌≡◌, ◌+◌, false, ◌<◌, ◌≤◌, Some, [], ◌∷◌, ◌++◌, length};
+ghost use Rattle.std.specs.Prelude.{slice_get, OnOk};
 ghost use Rattle.board_core.specs.Placing.{joined};
 ghost use Rattle.board_core.specs.Scripts.{advanced, due_at};
 ghost use Rattle.board_core.specs.ReadyFor.{call_of};
@@ -36,7 +37,12 @@ impl Model for Script {
 
     ghost Value = { ScriptSeen };
 
-    ghost view = { λ s. record { driver = s.driver; calls = s.calls.items; at = s.at; made = s.made } };
+    ghost view = { λ s. record {
+      driver = s.driver;
+      calls = s.calls.items;
+      at = s.at;
+      made = s.made;
+    } };
 
     ghost invariant = { λ s. s.made ≤ 2 };
 }

@@ -1,5 +1,6 @@
 //! The lines of a board, and their moves.
-ghost use Rattle.std.specs.Prelude.{◌≡◌, ◌<◌, ◌++◌, ℕ, List, [], IfOk, length, map, reverse, slice_get};
+ghost use Rattle.std.specs.Prelude.{◌≡◌, ◌<◌, ◌++◌, ℕ, List, [], IfOk, length, map, reverse};
+ghost use Rattle.std.specs.Prelude.{slice_get};
 ghost use Rattle.std.specs.Option.{option_map};
 ghost use Rattle.irq_base.specs.declared.entries.Actor.{Actor};
 ghost use Rattle.irq_base.specs.declared.entries.Actor.TheVariants as actors;
@@ -14,7 +15,8 @@ ghost use Rattle.board_core.specs.Making.{AreNew, MakesAll};
 ghost use Rattle.board_core.specs.Playing.{IsFresh, IsUnderway, IsPlay, Ends, Settles};
 ghost use Rattle.board_core.specs.ReadyFor.{has_thread_up_to};
 ghost use Rattle.board_core.specs.Seen.{board_lines};
-ghost use Rattle.board_core.specs.Stands.{CanStepAt, IsAt, IsCurrentOn, IsStand, IsLowestStand, IsScriptPlace, IsStandOn};
+ghost use Rattle.board_core.specs.Stands.{CanStepAt, IsAt, IsCurrentOn, IsStand, IsLowestStand};
+ghost use Rattle.board_core.specs.Stands.{IsScriptPlace, IsStandOn};
 ghost use Rattle.board_core.specs.Turned.{StepsBy};
 ghost use Rattle.board_core.specs.Turns.{Turns, TurnsBy, move_of, lowest_move};
 
@@ -60,7 +62,13 @@ impl<'b, L: IrqLine> Model for System<'b, L> {
 
     ghost view = { λ s. seen_of s.board.now s.layout (map L.seen s.lines.items) s.order.items };
 
-    ghost invariant = { λ s. IsKept s.board.now (map L.seen s.lines.items) s.scripts.items s.order.items (record { ready = s.ready; begun = s.begun; line_numbers = s.line_numbers.items; driver_numbers = s.driver_numbers.items }) };
+    ghost invariant = { λ s. IsKept s.board.now (map L.seen s.lines.items) s.scripts.items
+        s.order.items (record {
+          ready = s.ready;
+          begun = s.begun;
+          line_numbers = s.line_numbers.items;
+          driver_numbers = s.driver_numbers.items;
+        }) };
 }
 
 impl<'b, L: IrqLine> System<'b, L> {

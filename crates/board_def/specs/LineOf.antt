@@ -5,7 +5,8 @@ use Rattle.irq_base.specs.declared.lines.LineDef.{LineDef}
 use Rattle.irq_base.specs.declared.numbers.LineNo.{LineNo}
 use Rattle.irq_base.specs.declared.calls.Call.{Call}
 use Rattle.irq_base.specs.declared.numbers.DriverNo.{DriverNo}
-use Rattle.domain_rules.specs.Levels.{root_kind, trigger_of_root, flow_of_root, keeps, recalls, retriggers}
+use Rattle.domain_rules.specs.Levels.{root_kind, trigger_of_root, flow_of_root, keeps, recalls}
+use Rattle.domain_rules.specs.Levels.{retriggers}
 use Rattle.domain_rules.specs.Paths.{kinds_from}
 use Rattle.board_def.specs.Seen.{BoardSeen}
 use Rattle.board_def.specs.Unnamed.{defs_of}

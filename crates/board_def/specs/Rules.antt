@@ -1,5 +1,7 @@
 -- The rules that a board keeps. Whether a row is allowed depends on the rows before it.
-use Rattle.std.specs.Prelude.{◌≡◌, ℕ, ◌*◌, ◌<◌, ◌≤◌, Bool, true, false, not, ◌&&◌, ◌||◌, ◌==◌, IsSome, Option, Some, None, List, [], ◌∷◌, length, reverse, if◌then◌else◌, All}
+use Rattle.std.specs.Prelude.{◌≡◌, ℕ, ◌*◌, ◌<◌, ◌≤◌, Bool, true, false, not, ◌&&◌, ◌||◌, ◌==◌}
+use Rattle.std.specs.Prelude.{IsSome, Option, Some, None, List, [], ◌∷◌, length, reverse}
+use Rattle.std.specs.Prelude.{if◌then◌else◌, All}
 use Rattle.std.specs.List.{list_any}
 use Rattle.irq_base.specs.Cell.{is_edge_trigger}
 use Rattle.irq_base.specs.Handlers.{has_thread}
@@ -73,7 +75,8 @@ pub record IsLineAfter (b : BoardSeen) (earlier : List LineRow) (row : LineRow) 
 
 -- devices and drivers
 
-pub record IsDeviceAfter (b : BoardSeen) (earlier : List DeviceDef) (device : DeviceDef) : Type 0 where
+pub record IsDeviceAfter (b : BoardSeen) (earlier : List DeviceDef) (device : DeviceDef)
+    : Type 0 where
   pub number : IsNumber device.dev.0
   pub rises : All (λ e. e.dev.0 < device.dev.0) earlier
   pub line : has_line b.lines device.line ≡ true

@@ -1,6 +1,7 @@
 //! A board: what is declared of a machine and its drivers.
 ghost use Rattle.std.specs.Prelude.{◌≡◌, ◌<◌, ◌≤◌, [], ◌∷◌, ◌++◌, length, slice_get, OnOk, OnErr};
-ghost use Rattle.board_def.specs.Find.{place_of_name, place_of_line, last_line, last_device, last_driver};
+ghost use Rattle.board_def.specs.Find.{place_of_name, place_of_line, last_line, last_device};
+ghost use Rattle.board_def.specs.Find.{last_driver};
 ghost use Rattle.board_def.specs.LineOf.{find_line};
 ghost use Rattle.board_def.specs.Rules.{IsBoard, find_device, has_driver};
 
@@ -49,7 +50,18 @@ impl Board {
         requires window { window ≤ 1000000 }
         requires limit { limit < window }
         requires log { (1 ≤ log) × (log ≤ 1000000) }
-        ensures board { result ≡ record { cpus = cpus; window = window; limit = limit; log = log; domains = []; lines = []; devices = []; drivers = []; calls = []; picks = [] } }
+        ensures board { result ≡ record {
+          cpus = cpus;
+          window = window;
+          limit = limit;
+          log = log;
+          domains = [];
+          lines = [];
+          devices = [];
+          drivers = [];
+          calls = [];
+          picks = [];
+        } }
     {
         Board {
             cpus,
@@ -94,7 +106,8 @@ impl Board {
     /// Declares the domain, as the last one. If it is refused, the board is as before.
     pub fn add_domain(&mut self, row: DomainRow) -> Result<(), NoMemory>
         requires board { IsBoard (record self.old { domains = self.old.domains ++ row ∷ [] }) }
-        ensures added { OnOk result (self.new ≡ record self.old { domains = self.old.domains ++ row ∷ [] }) }
+        ensures added { OnOk result (self.new
+            ≡ record self.old { domains = self.old.domains ++ row ∷ [] }) }
         ensures refused { OnErr result (self.new ≡ self.old) }
     {
         self.domains.push(row)
@@ -103,7 +116,8 @@ impl Board {
     /// Declares the line, as the last one. If it is refused, the board is as before.
     pub fn add_line(&mut self, row: LineRow) -> Result<(), NoMemory>
         requires board { IsBoard (record self.old { lines = self.old.lines ++ row ∷ [] }) }
-        ensures added { OnOk result (self.new ≡ record self.old { lines = self.old.lines ++ row ∷ [] }) }
+        ensures added { OnOk result (self.new
+            ≡ record self.old { lines = self.old.lines ++ row ∷ [] }) }
         ensures refused { OnErr result (self.new ≡ self.old) }
     {
         self.lines.push(row)
@@ -112,7 +126,8 @@ impl Board {
     /// Declares the device, as the last one. If it is refused, the board is as before.
     pub fn add_device(&mut self, device: DeviceDef) -> Result<(), NoMemory>
         requires board { IsBoard (record self.old { devices = self.old.devices ++ device ∷ [] }) }
-        ensures added { OnOk result (self.new ≡ record self.old { devices = self.old.devices ++ device ∷ [] }) }
+        ensures added { OnOk result (self.new
+            ≡ record self.old { devices = self.old.devices ++ device ∷ [] }) }
         ensures refused { OnErr result (self.new ≡ self.old) }
     {
         self.devices.push(device)
@@ -121,7 +136,8 @@ impl Board {
     /// Declares the driver, as the last one. If it is refused, the board is as before.
     pub fn add_driver(&mut self, driver: DriverNo) -> Result<(), NoMemory>
         requires board { IsBoard (record self.old { drivers = self.old.drivers ++ driver ∷ [] }) }
-        ensures added { OnOk result (self.new ≡ record self.old { drivers = self.old.drivers ++ driver ∷ [] }) }
+        ensures added { OnOk result (self.new
+            ≡ record self.old { drivers = self.old.drivers ++ driver ∷ [] }) }
         ensures refused { OnErr result (self.new ≡ self.old) }
     {
         self.drivers.push(driver)
@@ -130,7 +146,8 @@ impl Board {
     /// Adds the call at the end of the scripts. If it is refused, the board is as before.
     pub fn add_call(&mut self, call: ScriptCall) -> Result<(), NoMemory>
         requires board { IsBoard (record self.old { calls = self.old.calls ++ call ∷ [] }) }
-        ensures added { OnOk result (self.new ≡ record self.old { calls = self.old.calls ++ call ∷ [] }) }
+        ensures added { OnOk result (self.new
+            ≡ record self.old { calls = self.old.calls ++ call ∷ [] }) }
         ensures refused { OnErr result (self.new ≡ self.old) }
     {
         self.calls.push(call)?;
@@ -140,7 +157,8 @@ impl Board {
     /// Adds the pick, as the last one. If it is refused, the board is as before.
     pub fn add_pick(&mut self, pick: Actor) -> Result<(), NoMemory>
         requires board { IsBoard (record self.old { picks = self.old.picks ++ pick ∷ [] }) }
-        ensures added { OnOk result (self.new ≡ record self.old { picks = self.old.picks ++ pick ∷ [] }) }
+        ensures added { OnOk result (self.new
+            ≡ record self.old { picks = self.old.picks ++ pick ∷ [] }) }
         ensures refused { OnErr result (self.new ≡ self.old) }
     {
         self.picks.push(pick)?;

@@ -46,7 +46,8 @@ impl Board {
     pub fn line_def(&self, alloc: Global, line: LineNo, path: &Path) -> Result<LineDef, NoMemory>
         requires path { IsPathOf self.now line path.now }
         ensures there { IsSome (find_line self.now.lines line) }
-        ensures def { IfOk result (λ def. (row : LineRow) → find_line self.now.lines line ≡ Some row → def ≡ line_of_row self.now row) }
+        ensures def { IfOk result (λ def. (row : LineRow)
+            → find_line self.now.lines line ≡ Some row → def ≡ line_of_row self.now row) }
         ensures valid { IfOk result (λ def. IsValid def) }
     {
         self.is_board();
@@ -76,7 +77,8 @@ impl Board {
 
 // The devices of the line, in the board's order.
 fn devices_of(alloc: Global, board: &Board, line: LineNo) -> Result<DeviceList, NoMemory>
-    ensures { IfOk result (λ devices. devices ≡ filter (λ x. x.line.0 == line.0) board.now.devices) }
+    ensures { IfOk result (λ devices. devices
+        ≡ filter (λ x. x.line.0 == line.0) board.now.devices) }
 {
     let mut devices = DeviceList::new(alloc);
     for i in 0..board.devices_len() {
@@ -91,7 +93,8 @@ fn devices_of(alloc: Global, board: &Board, line: LineNo) -> Result<DeviceList, 
 
 // The calls about the line, in the order of the scripts.
 fn calls_of(alloc: Global, board: &Board, line: LineNo) -> Result<CallList, NoMemory>
-    ensures { IfOk result (λ calls. calls ≡ map with_driver (filter (λ c. c.line.0 == line.0) board.now.calls)) }
+    ensures { IfOk result (λ calls. calls ≡ map with_driver
+        (filter (λ c. c.line.0 == line.0) board.now.calls)) }
 {
     let mut calls = CallList::new(alloc);
     for call in board.calls() {

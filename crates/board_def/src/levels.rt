@@ -1,8 +1,13 @@
 //! What the levels between a line and its processors make of its signal.
-ghost use Rattle.std.specs.Prelude.{◌≡◌, ◌+◌, ◌<◌, ◌≤◌, None, Some, length, is_none, slice_get, ◌&&◌, if◌then◌else◌};
+ghost use Rattle.std.specs.Prelude.{◌≡◌, ◌+◌, ◌<◌, ◌≤◌, None, Some, length, is_none, slice_get};
+ghost use Rattle.std.specs.Prelude.{◌&&◌, if◌then◌else◌};
 ghost use Rattle.board_def.specs.Unnamed.{defs_of};
-ghost use Rattle.domain_rules.specs.Levels.{root_kind, masking_kind, is_some_kind, is_root_kind, masks_kind, keeps_kind, stores_at_root, retriggers_kind, presents_level_kind, trigger_of_root, flow_of_root};
-ghost use Rattle.domain_rules.specs.Paths.{most_levels, way, kinds_from, kinds_on, kind_in, parent_in};
+ghost use Rattle.domain_rules.specs.Levels.{root_kind, masking_kind, is_some_kind, is_root_kind};
+ghost use Rattle.domain_rules.specs.Levels.{masks_kind, keeps_kind, stores_at_root};
+ghost use Rattle.domain_rules.specs.Levels.{retriggers_kind, presents_level_kind};
+ghost use Rattle.domain_rules.specs.Levels.{trigger_of_root, flow_of_root};
+ghost use Rattle.domain_rules.specs.Paths.{most_levels, way, kinds_from, kinds_on, kind_in};
+ghost use Rattle.domain_rules.specs.Paths.{parent_in};
 ghost use Rattle.irq_base.specs.declared.domains.ControllerKind.TheVariants.{Remap};
 
 use crate::board::Board;
@@ -98,7 +103,12 @@ impl Levels {
     /// Passes one more level, after fewer than eight.
     pub fn pass(&mut self, kind: ControllerKind)
         requires { self.old.count < 8 }
-        ensures { self.new ≡ record { root = kind; masking = if is_none self.old.masking && masks_kind kind then Some kind else self.old.masking; count = self.old.count + 1 } }
+        ensures { self.new ≡ record {
+          root = kind;
+          masking = if is_none self.old.masking && masks_kind kind then Some kind else
+              self.old.masking;
+          count = self.old.count + 1;
+        } }
     {
         self.root = kind;
         if self.masking.is_none() && masks(kind) {
@@ -175,7 +185,8 @@ pub fn levels_from(board: &Board, from: Option<usize>) -> Levels
 pub fn levels_on(board: &Board, path: &Path) -> Levels
     requires few { length path.now ≤ 8 }
     ensures root { result.root ≡ root_kind (kinds_on (defs_of board.now.domains) path.now) }
-    ensures masking { result.masking ≡ masking_kind (kinds_on (defs_of board.now.domains) path.now) }
+    ensures masking { result.masking ≡ masking_kind
+        (kinds_on (defs_of board.now.domains) path.now) }
 {
     let mut levels = Levels::none();
     while let Some((place, _)) = path.get(levels.count) {

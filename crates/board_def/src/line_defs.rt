@@ -1,5 +1,6 @@
 //! The definitions of all lines of a board at once.
-ghost use Rattle.std.specs.Prelude.{◌≡◌, ◌+◌, ◌∷◌, ◌++◌, [], Some, All, IfOk, OnOk, slice_get, take};
+ghost use Rattle.std.specs.Prelude.{◌≡◌, ◌+◌, ◌∷◌, ◌++◌, [], Some, All, IfOk, OnOk, slice_get};
+ghost use Rattle.std.specs.Prelude.{take};
 ghost use Rattle.irq_model.specs.Valid.{IsValid};
 ghost use Rattle.board_def.specs.LineOf.{line_of_row, line_defs_of, with_driver, with_parts};
 
@@ -66,7 +67,8 @@ fn bare_def(alloc: Global, board: &Board, row: LineRow) -> LineDef
 // Gives each device to its line.
 fn add_devices(defs: &mut Vec<LineDef>, board: &Board) -> Result<(), NoMemory>
     requires { defs.old.items ≡ line_defs_of (with_parts board.now [] []) }
-    ensures { OnOk result (defs.new.items ≡ line_defs_of (with_parts board.now board.now.devices [])) }
+    ensures { OnOk result (defs.new.items ≡ line_defs_of
+        (with_parts board.now board.now.devices [])) }
 {
     for i in 0..board.devices_len() {
         let Some(device) = board.device(i) else {
@@ -99,8 +101,10 @@ fn place_device(
     device: DeviceDef,
 ) -> Result<(), NoMemory>
     requires there { slice_get board.now.devices index ≡ Some device }
-    requires before { defs.old.items ≡ line_defs_of (with_parts board.now (take index board.now.devices) []) }
-    ensures { OnOk result (defs.new.items ≡ line_defs_of (with_parts board.now (take (index + 1) board.now.devices) [])) }
+    requires before { defs.old.items ≡ line_defs_of
+        (with_parts board.now (take index board.now.devices) []) }
+    ensures { OnOk result (defs.new.items ≡ line_defs_of
+        (with_parts board.now (take (index + 1) board.now.devices) [])) }
 {
     board.is_board();
     if let Some(place) = board.place_of_line(device.line) {
@@ -117,8 +121,10 @@ fn place_call(
     call: ScriptCall,
 ) -> Result<(), NoMemory>
     requires there { slice_get board.now.calls index ≡ Some call }
-    requires before { defs.old.items ≡ line_defs_of (with_parts board.now board.now.devices (take index board.now.calls)) }
-    ensures { OnOk result (defs.new.items ≡ line_defs_of (with_parts board.now board.now.devices (take (index + 1) board.now.calls))) }
+    requires before { defs.old.items ≡ line_defs_of
+        (with_parts board.now board.now.devices (take index board.now.calls)) }
+    ensures { OnOk result (defs.new.items ≡ line_defs_of
+        (with_parts board.now board.now.devices (take (index + 1) board.now.calls))) }
 {
     board.is_board();
     if let Some(place) = board.place_of_line(call.line) {
@@ -136,7 +142,8 @@ fn add_device(def: &mut LineDef, device: DeviceDef) -> Result<(), NoMemory>
 
 // Adds the call at the end of the definition's calls.
 fn add_call(def: &mut LineDef, call: ScriptCall) -> Result<(), NoMemory>
-    ensures { OnOk result (def.new ≡ record def.old { calls = def.old.calls ++ with_driver call ∷ [] }) }
+    ensures { OnOk result (def.new ≡ record def.old
+        { calls = def.old.calls ++ with_driver call ∷ [] }) }
 {
     def.calls.push((call.driver, call.call))
 }

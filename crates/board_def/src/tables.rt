@@ -1,5 +1,6 @@
 //! Tables of a board: rows in order, each found by its key.
-ghost use Rattle.std.specs.Prelude.{◌≡◌, None, [], ◌∷◌, ◌++◌, length, position, slice_get, OnOk, OnErr};
+ghost use Rattle.std.specs.Prelude.{◌≡◌, None, [], ◌∷◌, ◌++◌, length, position, slice_get, OnOk};
+ghost use Rattle.std.specs.Prelude.{OnErr};
 ghost use Rattle.board_def.specs.Find.{last_item};
 ghost use Rattle.board_def.specs.Tables.{find_row};
 

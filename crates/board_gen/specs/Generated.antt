@@ -1,5 +1,6 @@
 -- The board that a number generates.
-use Rattle.std.specs.Prelude.{ℕ, ◌+◌, ◌-◌, ◌/◌, ◌%◌, true, false, None, List, [], ◌∷◌, ◌++◌, map, codes}
+use Rattle.std.specs.Prelude.{ℕ, ◌+◌, ◌-◌, ◌/◌, ◌%◌, true, false, None, List, [], ◌∷◌, ◌++◌, map}
+use Rattle.std.specs.Prelude.{codes}
 use Rattle.std.specs.List.{flat_map, range_with_len}
 use Rattle.irq_base.specs.declared.calls.Call.{Call}
 use Rattle.irq_base.specs.declared.calls.Call.TheVariants as calls
@@ -23,7 +24,10 @@ use Rattle.board_gen.specs.Plans.{LinePlan, planned}
 
 -- a root domain of sixteen lines
 abbrev pub root_domain : List ℕ → ControllerKind → DomainRow
-root_domain name kind = record { name = name_of name; def = record { map = maps.Linear 16; kind = kind; parent = None } }
+root_domain name kind = record {
+  name = name_of name;
+  def = record { map = maps.Linear 16; kind = kind; parent = None };
+}
 
 abbrev pub four_domains : List DomainRow
 four_domains = root_domain (codes "latch") levels.Latch ∷ root_domain (codes "plain") levels.Plain
@@ -31,18 +35,40 @@ four_domains = root_domain (codes "latch") levels.Latch ∷ root_domain (codes "
 
 -- two processors, and nothing but the four domains
 abbrev pub bare_machine : BoardSeen
-bare_machine = record { cpus = 2; window = 100000; limit = 99900; log = 65536; domains = four_domains; lines = []; devices = []; drivers = []; calls = []; picks = [] }
+bare_machine = record {
+  cpus = 2;
+  window = 100000;
+  limit = 99900;
+  log = 65536;
+  domains = four_domains;
+  lines = [];
+  devices = [];
+  drivers = [];
+  calls = [];
+  picks = [];
+}
 
 -- ---- a line
 
 -- a line without options: either of the two processors may take it
 abbrev pub line_row : ℕ → ℕ → LineRow
-line_row number domain = record { line = record { 0 = number }; domain = domain; hw = number - 1; unlazy = false; later = false; mask = 3 }
+line_row number domain = record {
+  line = record { 0 = number };
+  domain = domain;
+  hw = number - 1;
+  unlazy = false;
+  later = false;
+  mask = 3;
+}
 
 -- the devices of a line, numbered on from the first
 abbrev pub numbered : ℕ → ℕ → List Kind → List DeviceDef
 numbered line first [] = []
-numbered line first (kind ∷ kinds) = record { dev = record { 0 = first }; line = record { 0 = line }; kind = kind } ∷ numbered line (first + 1) kinds
+numbered line first (kind ∷ kinds) = record {
+  dev = record { 0 = first };
+  line = record { 0 = line };
+  kind = kind;
+} ∷ numbered line (first + 1) kinds
 
 abbrev pub driver_no : ℕ → DriverNo
 driver_no number = record { 0 = number }
@@ -58,11 +84,13 @@ shared_oneshot = record { shared = true; oneshot = true; noauto = false }
 
 -- a request of each device, in order of number
 abbrev pub requests : Script → List ScriptCall
-requests s = map (λ dev. script_call s (calls.Request (record { 0 = dev }) shared_oneshot)) (range_with_len s.first s.devices)
+requests s = map (λ dev. script_call s (calls.Request (record { 0 = dev }) shared_oneshot))
+    (range_with_len s.first s.devices)
 
 -- `count` asks from ask number `place` on, counted from 0; the devices ask in turn
 abbrev pub asks_from : Script → ℕ → ℕ → List ScriptCall
-asks_from s place count = map (λ k. script_call s (calls.Ask (record { 0 = s.first + k % s.devices }))) (range_with_len place count)
+asks_from s place count = map (λ k. script_call s
+    (calls.Ask (record { 0 = s.first + k % s.devices }))) (range_with_len place count)
 
 -- a free of each device, in order of number
 abbrev pub frees : Script → List ScriptCall

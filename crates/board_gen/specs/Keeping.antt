@@ -1,7 +1,8 @@
 -- What a board keeps while it is generated, so that more may be added.
 use Rattle.std.specs.Prelude.{◌≡◌, ℕ, ◌+◌, ◌*◌, ◌<◌, ◌≤◌, true, false, None, length, All}
 use Rattle.irq_base.specs.declared.numbers.DevNo.{DevNo}
-use Rattle.board_def.specs.Rules.{has_line, has_driver, find_device, is_on_line, first_owning, is_of_another}
+use Rattle.board_def.specs.Rules.{has_line, has_driver, find_device, is_on_line, first_owning}
+use Rattle.board_def.specs.Rules.{is_of_another}
 use Rattle.board_def.specs.Seen.{BoardSeen}
 use Rattle.board_gen.specs.declared.scripts.Script.{Script}
 use Rattle.board_gen.specs.Generated.{four_domains}

@@ -1,5 +1,6 @@
 -- What is drawn for each line of a generated board.
-use Rattle.std.specs.Prelude.{ℕ, zero, suc, ◌+◌, ◌==◌, if◌then◌else◌, List, [], ◌∷◌, ◌++◌, length, map}
+use Rattle.std.specs.Prelude.{ℕ, zero, suc, ◌+◌, ◌==◌, if◌then◌else◌, List, [], ◌∷◌, ◌++◌, length}
+use Rattle.std.specs.Prelude.{map}
 use Rattle.std.specs.List.{range_with_len}
 use Rattle.irq_base.specs.declared.devices.Kind.{Kind}
 use Rattle.irq_base.specs.declared.devices.Kind.TheVariants as kinds
@@ -32,7 +33,12 @@ plan_of number first x =
     record {
       domain = draw 1 4 x;
       kinds = kinds_drawn devices (x_after 2 x);
-      script = record { number = number; first = first; devices = devices; asks = 50 + draw (3 + devices) 200 x };
+      script = record {
+        number = number;
+        first = first;
+        devices = devices;
+        asks = 50 + draw (3 + devices) 200 x;
+      };
     }
 
 -- the lines so far, the number of the next device, and x

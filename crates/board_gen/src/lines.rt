@@ -1,5 +1,6 @@
 //! A line of a generated board, with its devices and its driver.
-ghost use Rattle.std.specs.Prelude.{◌≡◌, ◌+◌, ◌<◌, ◌≤◌, [], ◌∷◌, ◌++◌, length, true, All, IfOk, OnOk};
+ghost use Rattle.std.specs.Prelude.{◌≡◌, ◌+◌, ◌<◌, ◌≤◌, [], ◌∷◌, ◌++◌, length, true, All, IfOk};
+ghost use Rattle.std.specs.Prelude.{OnOk};
 ghost use Rattle.board_def.specs.Rules.{has_line};
 ghost use Rattle.board_gen.specs.Drawing.{x_after};
 ghost use Rattle.board_gen.specs.Generated.{line_row, numbered, with_plan};
@@ -26,7 +27,8 @@ pub(crate) fn add_line(
     requires up_to { IsUpTo number first board.old }
     ensures devices { IfOk result (λ devices. devices ≡ device_count draws.old.x) }
     ensures drawn { IfOk result (λ devices. draws.new.x ≡ x_after (3 + devices) draws.old.x) }
-    ensures line { OnOk result (board.new ≡ with_plan board.old (plan_of number first draws.old.x)) }
+    ensures line { OnOk result (board.new ≡ with_plan board.old
+        (plan_of number first draws.old.x)) }
     ensures up_to { IfOk result (λ devices. IsUpTo (number + 1) (first + devices) board.new) }
 {
     let domain = draws.draw(4) as usize;
@@ -54,7 +56,8 @@ fn add_row(board: &mut Board, number: u32, domain: usize) -> Result<(), NoMemory
     requires domains { length board.old.domains ≡ 4 }
     requires count { length board.old.lines + 1 ≡ number }
     requires rises { All (λ e. e.line.0 < number) board.old.lines }
-    ensures { OnOk result (board.new ≡ record board.old { lines = board.old.lines ++ line_row number domain ∷ [] }) }
+    ensures { OnOk result (board.new ≡ record board.old
+        { lines = board.old.lines ++ line_row number domain ∷ [] }) }
 {
     board.is_board();
     board.add_line(LineRow {
@@ -81,7 +84,8 @@ fn add_devices(
     requires count { length board.old.devices + 1 ≡ first }
     requires rises { All (λ e. e.dev.0 < first) board.old.devices }
     ensures drawn { OnOk result (draws.new.x ≡ x_after devices draws.old.x) }
-    ensures devices { OnOk result (board.new ≡ record board.old { devices = board.old.devices ++ numbered line first (kinds_drawn devices draws.old.x) }) }
+    ensures devices { OnOk result (board.new ≡ record board.old
+        { devices = board.old.devices ++ numbered line first (kinds_drawn devices draws.old.x) }) }
     ensures rises { OnOk result (All (λ e. e.dev.0 < first + devices) board.new.devices) }
 {
     for i in 0..devices {

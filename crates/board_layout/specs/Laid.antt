@@ -29,7 +29,8 @@ AllFall (placements.Refused why ∷ layout) = AllFall layout
 
 -- the first `lines` of the board's lines are laid: their placements are the layout's, and the
 -- hierarchy has their paths
-pub record IsLaid (b : BoardSeen) (lines : ℕ) (h : HierarchySeen) (layout : List Placement) : Type 0 where
+pub record IsLaid (b : BoardSeen) (lines : ℕ) (h : HierarchySeen) (layout : List Placement)
+    : Type 0 where
   pub domains : h.domains ≡ defs_of b.domains
   pub paths : h.paths ≡ paths_of layout
   pub falls : AllFall layout

@@ -45,7 +45,8 @@ fn domains_of(alloc: Global, board: &Board) -> Result<Hierarchy, NoMemory>
 fn add_domain(domains: &mut Hierarchy, board: &Board, place: usize) -> Result<(), NoMemory>
     requires within { place < length board.now.domains }
     requires before { domains.old.domains ≡ take place (defs_of board.now.domains) }
-    ensures domains { OnOk result (domains.new.domains ≡ take (place + 1) (defs_of board.now.domains)) }
+    ensures domains { OnOk result (domains.new.domains
+        ≡ take (place + 1) (defs_of board.now.domains)) }
     ensures paths { OnOk result (domains.new.paths ≡ domains.old.paths) }
 {
     board.is_board();
@@ -86,7 +87,8 @@ fn place_line(
     requires few { length earlier.now ≤ 64 }
     requires laid { domains.old.paths ≡ paths_of earlier.now }
     requires falls { AllFall earlier.now }
-    ensures placement { IfOk result (λ p. p ≡ placement_of domains.old.domains earlier.now (leaf_of row)) }
+    ensures placement { IfOk result (λ p. p ≡ placement_of domains.old.domains earlier.now
+        (leaf_of row)) }
     ensures paths { IfOk result (λ p. domains.new.paths ≡ paths_of (earlier.now ++ p ∷ [])) }
     ensures domains { domains.new.domains ≡ domains.old.domains }
 {

@@ -17,7 +17,8 @@ IsCallOn line r c = (c.line ≡ line) × (c.driver ≡ r)
 
 -- The driver's script is made up to a place. On each line the calls before the place are complete,
 -- and no others are; a call that has begun and isn't complete is the one at the place.
-pub record IsUpTo (calls : List ScriptCall) (lines : List BoardLine) (r : DriverNo) (place : ℕ) : Type 0 where
+pub record IsUpTo (calls : List ScriptCall) (lines : List BoardLine) (r : DriverNo) (place : ℕ)
+    : Type 0 where
   pub complete : (i : ℕ) (x : BoardLine) → slice_get lines i ≡ Some x
       → length (complete_by x.def r x.past) ≡ calls_on x.def.line r (take place calls)
   pub begun : (i : ℕ) (x : BoardLine) (c : Call) (n : ℕ) → slice_get lines i ≡ Some x

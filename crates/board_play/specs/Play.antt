@@ -48,7 +48,8 @@ IsChosen board picks (m ∷ g) left =
     × (length (part m.0 g) < board.log)
 
 -- a further move is due, and the history of its line has the greatest length
-pub record IsFullAt (board : BoardSeen) (g : List Move) (left : List Actor) (line : LineNo) : Type 0 where
+pub record IsFullAt (board : BoardSeen) (g : List Move) (left : List Actor) (line : LineNo)
+    : Type 0 where
   pub move : Move
   pub after : List Actor
   pub next : choice board (lines_of board g) left ≡ Some (move, after)

@@ -22,32 +22,52 @@ ghost use Rattle.board_play.specs.Play.{End, Done, Plays};
 /// The board and the picks determine the play: at most one list of moves, with one end, is their
 /// play.
 pub fn play_is_one()
-    ensures law { (board : BoardSeen) (picks : List Actor) (g h : List Move) (a b : End) → Plays board picks g a → Plays board picks h b → (g ≡ h) × (a ≡ b) }
+    ensures law { (board : BoardSeen) (picks : List Actor) (g h : List Move) (a b : End)
+        → Plays board picks g a → Plays board picks h b → (g ≡ h) × (a ≡ b) }
 {}
 
 /// Each line's part of a play is legal, and every move is of a line that takes part.
 pub fn parts_are_legal()
-    ensures law { (board : BoardSeen) (picks : List Actor) (g : List Move) (end : End) → IsBoard board → Plays board picks g end → (i : ℕ) (x : BoardLine) → slice_get (lines_of board g) i ≡ Some x → IsLegalPast x.def x.past }
-    ensures others { (board : BoardSeen) (picks : List Actor) (g : List Move) (end : End) → Plays board picks g end → (line : LineNo) → find_line (lines_of board g) line ≡ None → part line g ≡ [] }
+    ensures law { (board : BoardSeen) (picks : List Actor) (g : List Move) (end : End)
+        → IsBoard board → Plays board picks g end → (i : ℕ) (x : BoardLine)
+        → slice_get (lines_of board g) i ≡ Some x → IsLegalPast x.def x.past }
+    ensures others { (board : BoardSeen) (picks : List Actor) (g : List Move) (end : End)
+        → Plays board picks g end → (line : LineNo) → find_line (lines_of board g) line ≡ None
+        → part line g ≡ [] }
 {}
 
 /// Each history is legal, and the drivers' calls are made in the order of their scripts, over all
 /// lines: every move of an actor keeps this, so it holds of every play.
 pub fn play_keeps()
-    ensures step { (board : BoardSeen) (lines : List BoardLine) (a : Actor) (m : Move) → IsBoard board → AreKept board lines → due_move board lines a ≡ Some m → AreKept board (lines_after m lines) }
-    ensures law { (board : BoardSeen) (picks : List Actor) (g : List Move) (end : End) → IsBoard board → Plays board picks g end → AreKept board (lines_of board g) }
+    ensures step { (board : BoardSeen) (lines : List BoardLine) (a : Actor) (m : Move)
+        → IsBoard board → AreKept board lines → due_move board lines a ≡ Some m
+        → AreKept board (lines_after m lines) }
+    ensures law { (board : BoardSeen) (picks : List Actor) (g : List Move) (end : End)
+        → IsBoard board → Plays board picks g end → AreKept board (lines_of board g) }
 {}
 
 /// No standstill: if none of the board's actors can move, every script is at its end, and each line
 /// is settled.
 pub fn no_standstill()
-    ensures complete { (board : BoardSeen) (lines : List BoardLine) → IsBoard board → AreKept board lines → ((a : Actor) → IsOneOf a (actors_of board) → due_move board lines a ≡ None) → (r : DriverNo) → current_line board.calls lines r ≡ None }
-    ensures settled { (board : BoardSeen) (lines : List BoardLine) → IsBoard board → AreKept board lines → ((a : Actor) → IsOneOf a (actors_of board) → due_move board lines a ≡ None) → (i : ℕ) (x : BoardLine) → slice_get lines i ≡ Some x → IsSettled x.def (reverse x.past) }
+    ensures complete { (board : BoardSeen) (lines : List BoardLine) → IsBoard board
+        → AreKept board lines → ((a : Actor) → IsOneOf a (actors_of board)
+        → due_move board lines a ≡ None) → (r : DriverNo)
+        → current_line board.calls lines r ≡ None }
+    ensures settled { (board : BoardSeen) (lines : List BoardLine) → IsBoard board
+        → AreKept board lines → ((a : Actor) → IsOneOf a (actors_of board)
+        → due_move board lines a ≡ None) → (i : ℕ) (x : BoardLine) → slice_get lines i ≡ Some x
+        → IsSettled x.def (reverse x.past) }
 {}
 
 /// If a play is done, every script is at its end and each line is settled, and so all is delivered.
 pub fn done_is_settled()
-    ensures complete { (board : BoardSeen) (picks : List Actor) (g : List Move) → IsBoard board → Plays board picks g Done → (r : DriverNo) → current_line board.calls (lines_of board g) r ≡ None }
-    ensures settled { (board : BoardSeen) (picks : List Actor) (g : List Move) → IsBoard board → Plays board picks g Done → (i : ℕ) (x : BoardLine) → slice_get (lines_of board g) i ≡ Some x → IsSettled x.def (reverse x.past) }
-    ensures delivered { (board : BoardSeen) (picks : List Actor) (g : List Move) → IsBoard board → Plays board picks g Done → (i : ℕ) (x : BoardLine) → slice_get (lines_of board g) i ≡ Some x → IsDelivered x.def (reverse x.past) }
+    ensures complete { (board : BoardSeen) (picks : List Actor) (g : List Move) → IsBoard board
+        → Plays board picks g Done → (r : DriverNo)
+        → current_line board.calls (lines_of board g) r ≡ None }
+    ensures settled { (board : BoardSeen) (picks : List Actor) (g : List Move) → IsBoard board
+        → Plays board picks g Done → (i : ℕ) (x : BoardLine)
+        → slice_get (lines_of board g) i ≡ Some x → IsSettled x.def (reverse x.past) }
+    ensures delivered { (board : BoardSeen) (picks : List Actor) (g : List Move) → IsBoard board
+        → Plays board picks g Done → (i : ℕ) (x : BoardLine)
+        → slice_get (lines_of board g) i ≡ Some x → IsDelivered x.def (reverse x.past) }
 {}

@@ -1,7 +1,8 @@
 -- What the ready actors keep: their sets say the same as the two lists.
 use Rattle.std.specs.Prelude.{◌≡◌, ℕ, ◌<◌, Option, Some, None, List, slice_get}
 use Rattle.irq_base.specs.declared.numbers.DevNo.{DevNo}
-use Rattle.board_ready.specs.Sets.{has, leaf, is_of, CallsSeen, on_line, word_for, is_on, is_waiting}
+use Rattle.board_ready.specs.Sets.{has, leaf, is_of, CallsSeen, on_line, word_for, is_on}
+use Rattle.board_ready.specs.Sets.{is_waiting}
 use Rattle.board_ready.specs.Ready.{thread_on, has_flow, has_take, current_call, can_go_on}
 use Rattle.board_ready.specs.declared.parts.CurrentCall.{CurrentCall}
 use Rattle.board_ready.specs.declared.parts.LineReadiness.{LineReadiness}

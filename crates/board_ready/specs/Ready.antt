@@ -1,5 +1,6 @@
 -- Who can move, by a search over the lists.
-use Rattle.std.specs.Prelude.{ℕ, ◌+◌, ◌==◌, Bool, false, not, if◌then◌else◌, nat_lt, is_some, unwrap_or, Option, Some, None, List, [], ◌∷◌, length, slice_get}
+use Rattle.std.specs.Prelude.{ℕ, ◌+◌, ◌==◌, Bool, false, not, if◌then◌else◌, nat_lt, is_some}
+use Rattle.std.specs.Prelude.{unwrap_or, Option, Some, None, List, [], ◌∷◌, length, slice_get}
 use Rattle.irq_base.specs.declared.numbers.CpuNo.{CpuNo}
 use Rattle.irq_base.specs.declared.numbers.DevNo.{DevNo}
 use Rattle.board_ready.specs.First.{first_of}
@@ -15,7 +16,12 @@ use Rattle.irq_base.specs.declared.waiting.WaitFor.TheVariants as waits
 
 -- nobody waits on the line, and nothing stands in the way
 abbrev pub idle : LineReadiness
-idle = record { thread = None; flow = None; taker = None; blocks = record { flow = false; threads = false; mutex = false; freed = false } }
+idle = record {
+  thread = None;
+  flow = None;
+  taker = None;
+  blocks = record { flow = false; threads = false; mutex = false; freed = false };
+}
 
 -- of two threads the one whose device has the lower number; with equal numbers the first
 abbrev pub lower : ReadyThread → ReadyThread → ReadyThread

@@ -1,6 +1,7 @@
 //! The drivers by the lines of their current calls, and by what those wait for.
 ghost use Rattle.std.specs.Prelude.{◌≡◌, ℕ, ◌<◌, ◌==◌, ◌&&◌, ◌||◌, not, false, if◌then◌else◌};
-ghost use Rattle.board_ready.specs.Sets.{has, is_on, is_wait, is_waiting, on_line, word_for, may_go_on};
+ghost use Rattle.board_ready.specs.Sets.{has, is_on, is_wait, is_waiting, on_line, word_for};
+ghost use Rattle.board_ready.specs.Sets.{may_go_on};
 ghost use Rattle.irq_base.specs.declared.waiting.WaitFor.{WaitFor};
 
 use crate::bits::with_bit;

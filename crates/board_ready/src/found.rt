@@ -1,5 +1,6 @@
 //! What the searches find, as laws of their definitions.
-ghost use Rattle.std.specs.Prelude.{◌≡◌, ℕ, ◌<◌, ◌≤◌, Bool, true, false, Some, None, List, slice_get};
+ghost use Rattle.std.specs.Prelude.{◌≡◌, ℕ, ◌<◌, ◌≤◌, Bool, true, false, Some, None, List};
+ghost use Rattle.std.specs.Prelude.{slice_get};
 ghost use Rattle.irq_base.specs.declared.numbers.DevNo.{DevNo};
 ghost use Rattle.board_ready.specs.First.{first_of};
 ghost use Rattle.board_ready.specs.Kept.{thread_of};

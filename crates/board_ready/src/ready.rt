@@ -1,6 +1,10 @@
 //! The two lists, and the answers to a search over them.
-ghost use Rattle.std.specs.Prelude.{◌≡◌, ℕ, ◌<◌, ◌≤◌, ◌&&◌, nat_lt, if◌then◌else◌, length, replicate, slice_get, slice_set, None, IfOk, IfSome};
-ghost use Rattle.board_ready.specs.Ready.{idle, lowest, lowest_thread_or_cpu, lowest_cpu, lowest_driver, flow_line, cpu_line, has_take, can_go_on, is_ready, is_driver_ready, has_thread, is_barred, current_call};
+ghost use Rattle.std.specs.Prelude.{◌≡◌, ℕ, ◌<◌, ◌≤◌, ◌&&◌, nat_lt, if◌then◌else◌, length};
+ghost use Rattle.std.specs.Prelude.{replicate, slice_get, slice_set, None, IfOk, IfSome};
+ghost use Rattle.board_ready.specs.Ready.{idle, lowest, lowest_thread_or_cpu, lowest_cpu};
+ghost use Rattle.board_ready.specs.Ready.{lowest_driver, flow_line, cpu_line, has_take};
+ghost use Rattle.board_ready.specs.Ready.{can_go_on, is_ready, is_driver_ready, has_thread};
+ghost use Rattle.board_ready.specs.Ready.{is_barred, current_call};
 ghost use Rattle.board_ready.specs.Sets.{has};
 
 use crate::bits::{chosen, first_bit, with_bit};
@@ -17,7 +21,8 @@ use std::marker::Model;
 /// How many processors there are at most.
 const CPUS: u32 = 32;
 
-/// Who can move: a readiness for each line and the current call of each driver, at most 64 of either.
+/// Who can move: a readiness for each line and the current call of each driver, at most 64 of
+/// either.
 /// Contracts see the two lists.
 #[derive(Drop)]
 pub struct ReadyActors {
@@ -64,7 +69,8 @@ impl ReadyActors {
         })
     }
 
-    /// Replaces the readiness of the line at place `line`. An equal readiness costs one comparison alone.
+    /// Replaces the readiness of the line at place `line`. An equal readiness costs one
+    /// comparison alone.
     #[tactic(auto, using(crate::proofs::Same::readiness_stands))]
     #[inline(always)]
     pub fn set_line(&mut self, line: usize, readiness: LineReadiness)

@@ -8,7 +8,8 @@ use Rattle.irq_base.specs.declared.lines.LineDef.{LineDef}
 use Rattle.irq_base.specs.declared.numbers.LineNo.{LineNo}
 use Rattle.irq_base.specs.declared.reporting.LineReport.{LineReport}
 use Rattle.irq_model.specs.Bounds.{bound}
-use Rattle.irq_model.specs.Laws.{NoOverlap, IsSilentAfterFree, KeepsOneshot, TakesAreCounted, IsSynchronised, IsServedWhenIdle}
+use Rattle.irq_model.specs.Laws.{NoOverlap, IsSilentAfterFree, KeepsOneshot, TakesAreCounted}
+use Rattle.irq_model.specs.Laws.{IsSynchronised, IsServedWhenIdle}
 use Rattle.irq_model.specs.Legal.{IsLegal}
 use Rattle.irq_model.specs.Next.{next}
 use Rattle.irq_model.specs.Owed.{IsCovered, IsDelivered}
@@ -133,7 +134,8 @@ pub record IsFullLine (b : BoardSeen) (entries : Histories) (line : LineNo) (len
 
 -- this happened on the board's lines until an entry was due on one whose history has the greatest
 -- length, `len`
-pub record FullLog (b : BoardSeen) (entries : Histories) (reports : List LineReport) (line : LineNo) (len : ℕ) : Type 0 where
+pub record FullLog (b : BoardSeen) (entries : Histories) (reports : List LineReport)
+    (line : LineNo) (len : ℕ) : Type 0 where
   pub handed_out : map told_by reports ≡ histories_of b entries
   pub mapped : EachMapped b (λ row. KeepsLaws (line_of_row b row) (entries row.line))
   pub refused : EachRefused b (λ row. entries row.line ≡ [])

@@ -13,7 +13,8 @@ abbrev pub AreAtRest : BoardSeen → List BoardLine → Type 0
 AreAtRest b lines = (a : Actor) → IsOneOf a (actors_of b) → due_move b lines a ≡ None
 
 -- an entry of this actor is due on the line, and the line's history has the greatest length, `len`
-pub record HasNoRoom (b : BoardSeen) (lines : List BoardLine) (line : LineNo) (len : ℕ) : Type 0 where
+pub record HasNoRoom (b : BoardSeen) (lines : List BoardLine) (line : LineNo) (len : ℕ)
+    : Type 0 where
   pub actor : Actor
   pub due : IsSome (due_on (find_line lines line) actor)
   pub length : HasLength (find_line lines line) len

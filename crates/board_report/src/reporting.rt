@@ -2,7 +2,8 @@
 ghost use Rattle.std.specs.Prelude.{◌≡◌, ◌≤◌, ◌<◌, ◌+◌, [], IfOk, All, length, map};
 ghost use Rattle.board_core.specs.Seen.{board_lines};
 ghost use Rattle.board_report.specs.Headline.{told_by};
-ghost use Rattle.board_report.specs.Reporting.{AreOfBoard, HasRoom, IsEmptyHistory, TakesFirst, from_last, history_among, is_first};
+ghost use Rattle.board_report.specs.Reporting.{AreOfBoard, HasRoom, IsEmptyHistory, TakesFirst};
+ghost use Rattle.board_report.specs.Reporting.{from_last, history_among, is_first};
 
 use board_def::Board;
 use irq_base::{History, LineNo, LineReport, NoMemory, Reports};

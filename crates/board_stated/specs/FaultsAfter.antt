@@ -1,6 +1,7 @@
 -- What is wrong with a statement after the statements before it, which stand newest first. A fault
 -- in the statement itself comes before all of these.
-use Rattle.std.specs.Prelude.{ℕ, ◌+◌, Bool, true, false, not, ◌||◌, ◌==◌, nat_lt, nat_le, is_none, if◌then◌else◌, Option, Some, None, List, [], ◌∷◌, length}
+use Rattle.std.specs.Prelude.{ℕ, ◌+◌, Bool, true, false, not, ◌||◌, ◌==◌, nat_lt, nat_le, is_none}
+use Rattle.std.specs.Prelude.{if◌then◌else◌, Option, Some, None, List, [], ◌∷◌, length}
 use Rattle.std.specs.List.{list_any}
 use Rattle.std.specs.Option.{option_map_or}
 use Rattle.irq_base.specs.Handlers.{has_thread}
@@ -8,7 +9,8 @@ use Rattle.irq_base.specs.declared.devices.DeviceDef.{DeviceDef}
 use Rattle.irq_base.specs.declared.numbers.DevNo.{DevNo}
 use Rattle.irq_model.specs.Signal.{lowest_in}
 use Rattle.board_def.specs.Find.{place_of_name, last_line, last_device, last_driver}
-use Rattle.board_def.specs.Rules.{has_name, has_line, find_device, has_driver, is_bad_unlazy, is_bad_owner}
+use Rattle.board_def.specs.Rules.{has_name, has_line, find_device, has_driver, is_bad_unlazy}
+use Rattle.board_def.specs.Rules.{is_bad_owner}
 use Rattle.domain_rules.specs.Domains.{is_bad_parent}
 use Rattle.board_def.specs.Seen.{BoardSeen}
 use Rattle.board_def.specs.Unnamed.{defs_of}
@@ -23,8 +25,10 @@ use Rattle.board_words.specs.declared.statements.Picked.TheVariants as picked
 use Rattle.board_words.specs.declared.statements.PickWord.{PickWord}
 use Rattle.board_words.specs.declared.statements.Statement.{Statement}
 use Rattle.board_words.specs.declared.statements.Statement.TheVariants as statements
-use Rattle.board_stated.specs.Sections.{section_of, section_reached, is_header, is_cpus, is_spurious, is_log}
-use Rattle.board_stated.specs.Stated.{board_of, parent_place, place_or_first, driver_writing, call_of_words}
+use Rattle.board_stated.specs.Sections.{section_of, section_reached, is_header, is_cpus}
+use Rattle.board_stated.specs.Sections.{is_spurious, is_log}
+use Rattle.board_stated.specs.Stated.{board_of, parent_place, place_or_first, driver_writing}
+use Rattle.board_stated.specs.Stated.{call_of_words}
 
 -- out of order
 

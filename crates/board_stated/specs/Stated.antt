@@ -29,7 +29,18 @@ use Rattle.board_words.specs.declared.statements.Statement.TheVariants as statem
 
 -- one processor, the default window and limit, the default log limit, and nothing declared
 abbrev pub first_board : BoardSeen
-first_board = record { cpus = 1; window = 100000; limit = 99900; log = 10000; domains = []; lines = []; devices = []; drivers = []; calls = []; picks = [] }
+first_board = record {
+  cpus = 1;
+  window = 100000;
+  limit = 99900;
+  log = 10000;
+  domains = [];
+  lines = [];
+  devices = [];
+  drivers = [];
+  calls = [];
+  picks = [];
+}
 
 abbrev pub place_or_first : Option ℕ → ℕ
 place_or_first (Some place) = place
@@ -40,7 +51,10 @@ parent_place domains (Some name) = place_of_name domains name
 parent_place domains None = None
 
 abbrev pub domain_row : List DomainRow → DomainWords → DomainRow
-domain_row domains d = record { name = d.name; def = record { map = d.map; kind = d.kind; parent = parent_place domains d.parent } }
+domain_row domains d = record {
+  name = d.name;
+  def = record { map = d.map; kind = d.kind; parent = parent_place domains d.parent };
+}
 
 -- the mask of all processors
 abbrev pub all_processors : ℕ → ℕ
@@ -51,7 +65,14 @@ mask_or_all cpus (Some mask) = mask
 mask_or_all cpus None = all_processors cpus
 
 abbrev pub line_row : BoardSeen → LineWords → LineRow
-line_row b l = record { line = l.line; domain = place_or_first (place_of_name b.domains l.domain); hw = l.hw; unlazy = l.unlazy; later = l.later; mask = mask_or_all b.cpus l.mask }
+line_row b l = record {
+  line = l.line;
+  domain = place_or_first (place_of_name b.domains l.domain);
+  hw = l.hw;
+  unlazy = l.unlazy;
+  later = l.later;
+  mask = mask_or_all b.cpus l.mask;
+}
 
 -- the driver whose script is written: the last one declared
 abbrev pub driver_writing : List DriverNo → DriverNo
@@ -88,7 +109,11 @@ call_of_words (words.Affinity line mask) = calls.Affinity mask
 call_of_words (words.Moment line at) = calls.Moment at
 
 abbrev pub script_call : BoardSeen → CallWords → ScriptCall
-script_call b c = record { driver = driver_writing b.drivers; line = line_of_call b.devices c; call = call_of_words c }
+script_call b c = record {
+  driver = driver_writing b.drivers;
+  line = line_of_call b.devices c;
+  call = call_of_words c;
+}
 
 abbrev pub actor_picked : List DeviceDef → Picked → Actor
 actor_picked devices (picked.Thread dev) = actors.Thread (line_of_device devices dev) dev

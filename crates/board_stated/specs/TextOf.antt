@@ -1,5 +1,6 @@
 -- The board of a text, or its first fault.
-use Rattle.std.specs.Prelude.{ℕ, ◌+◌, ◌*◌, Bool, false, not, ◌&&◌, nat_lt, if◌then◌else◌, Option, Some, None, Result, Ok, Err, List, [], ◌∷◌, codes, length}
+use Rattle.std.specs.Prelude.{ℕ, ◌+◌, ◌*◌, Bool, false, not, ◌&&◌, nat_lt, if◌then◌else◌, Option}
+use Rattle.std.specs.Prelude.{Some, None, Result, Ok, Err, List, [], ◌∷◌, codes, length}
 use Rattle.std.specs.List.{list_any}
 use Rattle.board_def.specs.Seen.{BoardSeen}
 use Rattle.board_words.specs.Forms.{is, fault_of_words}

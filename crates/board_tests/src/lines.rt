@@ -47,7 +47,10 @@ const REQUEST: Call = Call::Request {
 
 /// Two lines of messages: virq 1 has vector 0, and virq 2 vector 1.
 fn near_vectors(alloc: Global) -> Result<Hierarchy, NoMemory>
-    ensures { IfOk result (λ h. h ≡ record { domains = VECTOR ∷ NEAR ∷ []; paths = Some ((1, 39) ∷ (0, 0) ∷ []) ∷ Some ((1, 40) ∷ (0, 1) ∷ []) ∷ [] }) }
+    ensures { IfOk result (λ h. h ≡ record {
+      domains = VECTOR ∷ NEAR ∷ [];
+      paths = Some ((1, 39) ∷ (0, 0) ∷ []) ∷ Some ((1, 40) ∷ (0, 1) ∷ []) ∷ [];
+    }) }
 {
     let mut domains = Hierarchy::new(alloc);
     domains.add_domain(VECTOR)?;
@@ -64,7 +67,8 @@ fn near_vectors(alloc: Global) -> Result<Hierarchy, NoMemory>
 /// The definition of a line of messages, which processor 1 of two takes; a driver makes its device
 /// ask.
 fn definition(alloc: Global) -> Result<LineDef, NoMemory>
-    ensures { IfOk result (λ def. cell_of_line def ≡ fresh_cell triggers.Edge true false true false) }
+    ensures { IfOk result (λ def. cell_of_line def
+        ≡ fresh_cell triggers.Edge true false true false) }
 {
     let mut devices = DeviceList::new(alloc);
     devices.push(DEVICE)?;

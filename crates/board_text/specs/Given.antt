@@ -5,7 +5,9 @@ use Rattle.board_words.specs.declared.faults.FaultKind.{FaultKind}
 use Rattle.board_words.specs.declared.statements.Statement.{Statement}
 use Rattle.board_words.specs.declared.statements.StatementRefused.{StatementRefused}
 use Rattle.board_words.specs.declared.statements.StatementRefused.TheVariants as lines
-use Rattle.board_stated.specs.TextOf.{fault_of_line, with_line, first_fault, with_lines, whole, board_unless, fault_of_lines, longest_text, statements_of, board_of_text}
+use Rattle.board_stated.specs.TextOf.{fault_of_line, with_line, first_fault, with_lines, whole}
+use Rattle.board_stated.specs.TextOf.{board_unless, fault_of_lines, longest_text, statements_of}
+use Rattle.board_stated.specs.TextOf.{board_of_text}
 use Rattle.board_words.specs.TextLines.{text_lines}
 use Rattle.board_words.specs.declared.faults.BoardFault.{BoardFault}
 use Rattle.board_text.specs.Kept.{Keeps}

@@ -5,7 +5,8 @@ use Rattle.board_def.specs.Seen.{BoardSeen}
 use Rattle.board_words.specs.declared.statements.Statement.{Statement}
 use Rattle.board_words.specs.declared.statements.Statement.TheVariants as statements
 use Rattle.board_stated.specs.FaultsAfter.{is_empty}
-use Rattle.board_stated.specs.Sections.{section_reached, has_moments, is_header, is_cpus, is_spurious, is_log}
+use Rattle.board_stated.specs.Sections.{section_reached, has_moments, is_header, is_cpus}
+use Rattle.board_stated.specs.Sections.{is_spurious, is_log}
 use Rattle.board_stated.specs.Sound.{IsSound, draft_of}
 use Rattle.board_stated.specs.Stated.{board_of, with_statement}
 use Rattle.board_text.specs.Owned.{Owns}

@@ -2,7 +2,9 @@
 ghost use Rattle.std.specs.Prelude.{◌≡◌, ◌≤◌, ◌++◌, OnOk, replicate};
 ghost use Rattle.std.specs.List.{flat_map};
 ghost use Rattle.board_def.specs.Rules.{IsBoard};
-ghost use Rattle.board_stated.specs.Stated.{domain_row, line_row, script_call, call_of_words, line_of_call, line_of_device, line_or_none, actor_picked, actors_picked, mask_or_all};
+ghost use Rattle.board_stated.specs.Stated.{domain_row, line_row, script_call, call_of_words};
+ghost use Rattle.board_stated.specs.Stated.{line_of_call, line_of_device, line_or_none};
+ghost use Rattle.board_stated.specs.Stated.{actor_picked, actors_picked, mask_or_all};
 ghost use Rattle.board_text.specs.Kept.{drafted};
 
 use crate::faults::{domain_place, driver_writing, parent_place};

@@ -2,7 +2,11 @@
 ghost use Rattle.std.specs.Prelude.{◌≡◌, ◌<◌, not, nat_lt, ◌+◌, is_none, is_some};
 ghost use Rattle.std.specs.List.{list_any};
 ghost use Rattle.board_def.specs.Rules.{has_name, has_line, has_driver};
-ghost use Rattle.board_stated.specs.FaultsAfter.{is_misplaced, is_not_there, names_nothing, picks_nothing, has_no_device, has_bad_parent, has_bad_unlazy, has_bad_mask, is_mask_empty, is_one_too_many, count_of_picks, is_parent_missing};
+ghost use Rattle.board_stated.specs.FaultsAfter.{is_misplaced, is_not_there, names_nothing};
+ghost use Rattle.board_stated.specs.FaultsAfter.{picks_nothing, has_no_device, has_bad_parent};
+ghost use Rattle.board_stated.specs.FaultsAfter.{has_bad_unlazy, has_bad_mask, is_mask_empty};
+ghost use Rattle.board_stated.specs.FaultsAfter.{is_one_too_many, count_of_picks};
+ghost use Rattle.board_stated.specs.FaultsAfter.{is_parent_missing};
 ghost use Rattle.board_def.specs.Find.{place_of_name};
 ghost use Rattle.board_stated.specs.Stated.{driver_writing, parent_place, place_or_first};
 

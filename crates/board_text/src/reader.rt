@@ -1,7 +1,8 @@
 //! The reader: the board that the statements so far state, and what the reader keeps of them to
 //! judge the next one.
 ghost use Rattle.std.specs.Prelude.{◌≡◌, List, [], ◌∷◌, ◌&&◌, not, OnOk};
-ghost use Rattle.board_stated.specs.FaultsAfter.{is_empty, is_out_of_order, is_twice, has_bad_owner, has_flag_twice, fault_after};
+ghost use Rattle.board_stated.specs.FaultsAfter.{is_empty, is_out_of_order, is_twice};
+ghost use Rattle.board_stated.specs.FaultsAfter.{has_bad_owner, has_flag_twice, fault_after};
 ghost use Rattle.board_stated.specs.Stated.{board_of, with_statement};
 ghost use Rattle.board_stated.specs.TextOf.{begins_with_board};
 ghost use Rattle.board_words.specs.Seen.{words_left};

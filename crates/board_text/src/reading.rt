@@ -2,7 +2,8 @@
 ghost use Rattle.std.specs.Prelude.{◌≡◌, ◌≤◌, length};
 ghost use Rattle.std.specs.List.{list_any};
 ghost use Rattle.board_words.specs.TextLines.{text_lines};
-ghost use Rattle.board_stated.specs.TextOf.{board_of_text, has_words, fault_without_statement, whole};
+ghost use Rattle.board_stated.specs.TextOf.{board_of_text, has_words, fault_without_statement};
+ghost use Rattle.board_stated.specs.TextOf.{whole};
 ghost use Rattle.board_text.specs.Given.{Gives, ReadsLines, ReadsText};
 
 use crate::reader::Reader;

@@ -1,6 +1,7 @@
 -- The forms of the statements. A form has places, and each word takes the next place. It lists what
 -- is wrong: a word that doesn't fit its place, a place without a word, words that are left over.
-use Rattle.std.specs.Prelude.{ℕ, ◌-◌, Bool, not, ◌&&◌, is_some, if◌then◌else◌, Option, List, [], ◌∷◌, ◌++◌, codes}
+use Rattle.std.specs.Prelude.{ℕ, ◌-◌, Bool, not, ◌&&◌, is_some, if◌then◌else◌, Option, List, []}
+use Rattle.std.specs.Prelude.{◌∷◌, ◌++◌, codes}
 use Rattle.std.specs.List.{list_any, flat_map}
 use Rattle.std.specs.Str.{bytes_eq}
 use Rattle.board_def.specs.Names.{is_name}

@@ -1,5 +1,6 @@
 -- What a statement without a fault in itself says.
-use Rattle.std.specs.Prelude.{ℕ, ◌+◌, Bool, true, false, ◌||◌, nat_lt, if◌then◌else◌, Option, Some, None, List, [], ◌∷◌, codes, drop, get_or}
+use Rattle.std.specs.Prelude.{ℕ, ◌+◌, Bool, true, false, ◌||◌, nat_lt, if◌then◌else◌, Option}
+use Rattle.std.specs.Prelude.{Some, None, List, [], ◌∷◌, codes, drop, get_or}
 use Rattle.std.specs.List.{list_any}
 use Rattle.irq_base.specs.declared.devices.Kind.{Kind}
 use Rattle.irq_base.specs.declared.devices.Kind.TheVariants as kinds
@@ -111,7 +112,11 @@ line_words words =
 abbrev pub request_words : List (List ℕ) → CallWords
 request_words words =
     let flags = drop 1 words in
-    calls.Request (dev_at 0 words) (record { shared = stands (codes "shared") flags; oneshot = stands (codes "oneshot") flags; noauto = stands (codes "noauto") flags })
+    calls.Request (dev_at 0 words) (record {
+      shared = stands (codes "shared") flags;
+      oneshot = stands (codes "oneshot") flags;
+      noauto = stands (codes "noauto") flags;
+    })
     (stands_again (codes "shared") flags
     || (stands_again (codes "oneshot") flags || stands_again (codes "noauto") flags))
 

@@ -11,7 +11,8 @@ use irq_base::{ControllerKind, Kind};
 /// The kind of level that the word names.
 pub(crate) fn controller_kind(word: &[u8]) -> Option<ControllerKind>
     ensures { MatchOption result (list_any (is word.now) level_kinds ≡ false)
-        (λ kind. (list_any (is word.now) level_kinds ≡ true) × (kind ≡ said.controller_kind word.now)) }
+        (λ kind. (list_any (is word.now) level_kinds ≡ true)
+        × (kind ≡ said.controller_kind word.now)) }
 {
     if is(word, b"latch") {
         return Some(ControllerKind::Latch);

@@ -1,11 +1,13 @@
 //! The places of a statement's form.
-ghost use Rattle.std.specs.Prelude.{◌≡◌, ℕ, ◌<◌, false, Some, None, [], ◌∷◌, codes, length, drop, get_or};
+ghost use Rattle.std.specs.Prelude.{◌≡◌, ℕ, ◌<◌, false, Some, None, [], ◌∷◌, codes, length, drop};
+ghost use Rattle.std.specs.Prelude.{get_or};
 ghost use Rattle.std.specs.List.{flat_map};
 ghost use Rattle.std.specs.Option.{option_or};
 ghost use Rattle.board_def.specs.declared.names.Name.{Name};
 ghost use Rattle.board_words.specs.Faults.{rank, earlier, first_in_order};
 ghost use Rattle.board_words.specs.Forms as forms;
-ghost use Rattle.board_words.specs.Places.{both, in_all, outcome, Takes, map_kind, after_map, option_texts};
+ghost use Rattle.board_words.specs.Places.{both, in_all, outcome, Takes, map_kind, after_map};
+ghost use Rattle.board_words.specs.Places.{option_texts};
 ghost use Rattle.board_words.specs.Seen.{words_left, are_none};
 ghost use Rattle.board_words.specs.Statements as said;
 
@@ -168,7 +170,12 @@ impl<'a> Places<'a> {
     /// The parent of a level, if one is named, and whether more stands after it.
     pub(crate) fn parent(&mut self) -> (Option<Name>, bool)
         ensures found { self.new.found ≡ in_all self.old forms.parents_form }
-        ensures value { self.new.found ≡ None → result ≡ (said.parent_name (words_left self.old.words), said.has_more_parents (words_left self.old.words)) }
+        ensures value { self.new.found ≡ None
+            → result ≡ (
+              said.parent_name (words_left self.old.words),
+              said.has_more_parents
+                  (words_left self.old.words),
+            ) }
     {
         if self.words.is_empty() {
             return (None, false);

@@ -1,9 +1,12 @@
 //! How numbers, names and picks are spelled.
-ghost use Rattle.std.specs.Prelude.{◌≡◌, ℕ, Some, None, ◌&&◌, nat_le, nat_lt, if◌then◌else◌, length};
+ghost use Rattle.std.specs.Prelude.{◌≡◌, ℕ, Some, None, ◌&&◌, nat_le, nat_lt, if◌then◌else◌};
+ghost use Rattle.std.specs.Prelude.{length};
 ghost use Rattle.std.specs.List.{list_all, position};
 ghost use Rattle.std.specs.Option.{option_copied};
 ghost use Rattle.board_def.specs.Names.{is_digit, is_letter, is_name_byte, is_name, name_of};
-ghost use Rattle.board_words.specs.Spelling.{value_of, is_decimal, begins_with_zero, is_star, number_between, before_star, after_star, times_of, picked_of, pick_of};
+ghost use Rattle.board_words.specs.Spelling.{value_of, is_decimal, begins_with_zero, is_star};
+ghost use Rattle.board_words.specs.Spelling.{number_between, before_star, after_star, times_of};
+ghost use Rattle.board_words.specs.Spelling.{picked_of, pick_of};
 
 use crate::statements::{PickWord, Picked};
 use board_def::{LONGEST_NAME, Name};

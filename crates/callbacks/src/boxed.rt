@@ -17,14 +17,16 @@ pub type Handling = Box<dyn Fn(DeviceDef, Part, u32) -> Answer + Sync>;
 pub struct Boxed {
     handling: Handling,
     ghost callable: { Handling.IsAlwaysCallable handling },
-    ghost by_kind: { (d : DeviceDef) (p : Part) (n : ℕ) (a : Answer) → Handling.post handling d p n a → a ≡ answer_of d.kind p n },
+    ghost by_kind: { (d : DeviceDef) (p : Part) (n : ℕ) (a : Answer)
+        → Handling.post handling d p n a → a ≡ answer_of d.kind p n },
 }
 
 impl Boxed {
     /// Keeps the function.
     pub fn new(handling: Handling) -> Boxed
         requires callable { Handling.IsAlwaysCallable handling }
-        requires by_kind { (d : DeviceDef) (p : Part) (n : ℕ) (a : Answer) → Handling.post handling d p n a → a ≡ answer_of d.kind p n }
+        requires by_kind { (d : DeviceDef) (p : Part) (n : ℕ) (a : Answer)
+            → Handling.post handling d p n a → a ≡ answer_of d.kind p n }
     {
         Boxed { handling }
     }

@@ -30,7 +30,10 @@ impl<H: Handler> Callbacks<H> {
     /// `action->thread_fn`, `irq_thread_fn` of `kernel/irq/manage.c`), and has its answer. It takes
     /// no memory.
     pub fn call(&self, run: Run) -> Said
-        ensures { result ≡ record { run = run; answer = answer_of run.def.kind run.part run.unserved } }
+        ensures { result ≡ record {
+          run = run;
+          answer = answer_of run.def.kind run.part run.unserved;
+        } }
     {
         let answer = self.handler.answer(run.def, run.part, run.unserved);
         Said::new(run, answer)

@@ -50,7 +50,8 @@ impl Said {
     /// What the handler answered, which is what its device answers.
     pub fn answer(&self) -> Answer
         ensures answer { result ≡ self.now.answer }
-        ensures by_kind { result ≡ answer_of self.now.run.def.kind self.now.run.part self.now.run.unserved }
+        ensures by_kind { result ≡ answer_of self.now.run.def.kind self.now.run.part
+            self.now.run.unserved }
     {
         self.answer
     }

@@ -19,7 +19,8 @@ abbrev pub entries_of : BoardSeen → List ChainEntry → Histories
 entries_of b g = entries_in (lines_in b (reverse g))
 
 -- the board was played to its end, with these steps
-pub record ChainHeadline (b : BoardSeen) (g : List ChainEntry) (reports : List LineReport) : Type 0 where
+pub record ChainHeadline (b : BoardSeen) (g : List ChainEntry) (reports : List LineReport)
+    : Type 0 where
   pub fits : is_for_chain b ≡ true
   -- these steps, and no others, are the play of the board by the chain's order with its picks
   pub play : IsPlayed (chain_order b) b.picks (reverse g) Done
@@ -29,7 +30,8 @@ pub record ChainHeadline (b : BoardSeen) (g : List ChainEntry) (reports : List L
   pub lines : Headline b (entries_of b g) reports
 
 -- the board was played until an entry was due on a child whose history has the greatest length
-pub record ChainFull (b : BoardSeen) (g : List ChainEntry) (reports : List LineReport) (line : LineNo) (len : ℕ) : Type 0 where
+pub record ChainFull (b : BoardSeen) (g : List ChainEntry) (reports : List LineReport)
+    (line : LineNo) (len : ℕ) : Type 0 where
   pub fits : is_for_chain b ≡ true
   pub play : IsPlayed (chain_order b) b.picks (reverse g) (Full line)
   pub signals : KeepsSignals b g

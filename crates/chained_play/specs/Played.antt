@@ -18,7 +18,8 @@ use Rattle.chained_play.specs.Rows.{chain_text}
 
 -- The board was played to its end, and the reports hand out this play. It was printed: all of it,
 -- or after a fault a beginning of it.
-pub record IsPrinted (b : BoardSeen) (reports : List LineReport) (before now : Option (List ℕ)) (end : WriteEnd) : Type 0 where
+pub record IsPrinted (b : BoardSeen) (reports : List LineReport) (before now : Option (List ℕ))
+    (end : WriteEnd) : Type 0 where
   pub log : List ChainEntry
   pub headline : ChainHeadline b log reports
   pub prints : WritesAll before now (chain_text b log) end

@@ -1,4 +1,5 @@
-//! A board is played behind one demultiplexer and printed: its lines are laid over their domains and
+//! A board is played behind one demultiplexer and printed: its lines are laid over their domains
+//! and
 //! made by a maker, they are played by the chain's order, the play is printed row by row, and each
 //! line's history is handed out in a report.
 //!

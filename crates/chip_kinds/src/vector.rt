@@ -1,6 +1,7 @@
 //! The vector level.
 ghost use Rattle.std.specs.Prelude.{◌≡◌, true, false};
-ghost use Rattle.irq_base.specs.Cell.{fresh_cell, after_edge, after_unmask, after_ack, after_retrigger, can_retrigger, signals};
+ghost use Rattle.irq_base.specs.Cell.{fresh_cell, after_edge, after_unmask, after_ack};
+ghost use Rattle.irq_base.specs.Cell.{after_retrigger, can_retrigger, signals};
 ghost use Rattle.irq_base.specs.declared.lines.Trigger.TheVariants as triggers;
 ghost use Rattle.chip_kinds.specs.Vector.{vector_cell};
 
@@ -25,7 +26,8 @@ impl Model for VectorChip {
 impl VectorChip {
     /// A vector level to which nothing has been done. It is open from the start.
     pub fn new() -> VectorChip
-        ensures { vector_cell result ≡ after_unmask (fresh_cell triggers.Edge false false true false) }
+        ensures { vector_cell result ≡ after_unmask
+            (fresh_cell triggers.Edge false false true false) }
     {
         VectorChip { sent: false }
     }

@@ -1,6 +1,7 @@
 //! The level of one message.
 ghost use Rattle.std.specs.Prelude.{◌≡◌, true, false, not};
-ghost use Rattle.chip_msi.specs.Messages.{LevelSeen, level_after_edge, level_after_mask, level_after_unmask};
+ghost use Rattle.chip_msi.specs.Messages.{LevelSeen, level_after_edge, level_after_mask};
+ghost use Rattle.chip_msi.specs.Messages.{level_after_unmask};
 
 use std::marker::Model;
 

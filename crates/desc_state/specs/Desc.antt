@@ -1,6 +1,8 @@
 -- The state of a line's descriptor, and what each call makes of it and of the line's signal cell.
-use Rattle.std.specs.Prelude.{◌+◌, ◌-◌, ◌==◌, Bool, true, false, not, ◌||◌, ◌&&◌, if◌then◌else◌, nat_lt, None}
-use Rattle.irq_base.specs.Cell.{Cell, is_edge_trigger, after_mask, after_unmask, after_retrigger, can_retrigger}
+use Rattle.std.specs.Prelude.{◌+◌, ◌-◌, ◌==◌, Bool, true, false, not, ◌||◌, ◌&&◌, if◌then◌else◌}
+use Rattle.std.specs.Prelude.{nat_lt, None}
+use Rattle.irq_base.specs.Cell.{Cell, is_edge_trigger, after_mask, after_unmask, after_retrigger}
+use Rattle.irq_base.specs.Cell.{can_retrigger}
 use Rattle.irq_base.specs.declared.entries.EnableAnswer.{EnableAnswer}
 use Rattle.irq_base.specs.declared.entries.EnableAnswer.TheVariants as enables
 use Rattle.irq_base.specs.declared.entries.Resend.{Resend}
@@ -14,7 +16,17 @@ DescSeen = DescMarks
 
 -- a line to which nothing was done
 abbrev pub fresh_desc : Bool → DescSeen
-fresh_desc unlazy = record { unlazy = unlazy; depth = 1; started = false; masked = true; pending = false; oneshot = false; spurious = false; soft = false; flow = None }
+fresh_desc unlazy = record {
+  unlazy = unlazy;
+  depth = 1;
+  started = false;
+  masked = true;
+  pending = false;
+  oneshot = false;
+  spurious = false;
+  soft = false;
+  flow = None;
+}
 
 abbrev pub is_disabled : DescSeen → Bool
 is_disabled d = nat_lt 0 d.depth
@@ -50,7 +62,13 @@ is_chip_resend resends.Soft = false
 
 -- the line is started, and what was pending is sent again (`irq_startup`, `kernel/irq/chip.c`)
 abbrev pub started_up : Resend → DescSeen → DescSeen
-started_up resend d = record d { depth = 0; started = true; masked = false; pending = false; soft = is_soft_resend resend || d.soft }
+started_up resend d = record d {
+  depth = 0;
+  started = true;
+  masked = false;
+  pending = false;
+  soft = is_soft_resend resend || d.soft;
+}
 
 abbrev pub cell_started : Resend → Cell → Cell
 cell_started resend c =

@@ -1,7 +1,9 @@
 //! The descriptor.
 ghost use Rattle.std.specs.Prelude.{◌≡◌, ℕ, ◌+◌, ◌-◌, ◌<◌, ◌≤◌, ◌^◌, true, false};
 ghost use Rattle.irq_base.specs.Cell.{after_mask, after_unmask};
-ghost use Rattle.desc_state.specs.Desc.{fresh_desc, is_disabled, disabled, killed, masked_if, resend_by, started_up, cell_started, shut_down, enable_by, enabled, cell_enabled};
+ghost use Rattle.desc_state.specs.Desc.{fresh_desc, is_disabled, disabled, killed, masked_if};
+ghost use Rattle.desc_state.specs.Desc.{resend_by, started_up, cell_started, shut_down};
+ghost use Rattle.desc_state.specs.Desc.{enable_by, enabled, cell_enabled};
 
 use crate::marks::DescMarks;
 use irq_base::{Chip, CpuNo, EnableAnswer, Resend, Trigger};
@@ -26,7 +28,17 @@ impl Model for Desc {
 
     ghost Value = { DescSeen };
 
-    ghost view = { λ d. record { unlazy = d.unlazy; depth = d.depth; started = d.started; masked = d.masked; pending = d.pending; oneshot = d.oneshot; spurious = d.spurious; soft = d.soft; flow = d.flow } };
+    ghost view = { λ d. record {
+      unlazy = d.unlazy;
+      depth = d.depth;
+      started = d.started;
+      masked = d.masked;
+      pending = d.pending;
+      oneshot = d.oneshot;
+      spurious = d.spurious;
+      soft = d.soft;
+      flow = d.flow;
+    } };
 }
 
 impl Desc {

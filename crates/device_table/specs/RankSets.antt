@@ -1,5 +1,6 @@
 -- Sets of ranks, as words of 64 bits.
-use Rattle.std.specs.Prelude.{◌≡◌, ℕ, ◌/◌, ◌%◌, ◌<◌, ◌==◌, Bool, true, false, Option, Some, None, List, slice_index}
+use Rattle.std.specs.Prelude.{◌≡◌, ℕ, ◌/◌, ◌%◌, ◌<◌, ◌==◌, Bool, true, false, Option, Some, None}
+use Rattle.std.specs.Prelude.{List, slice_index}
 use Rattle.std.specs.Int.{bit_at}
 
 -- the rank is in the set

@@ -1,6 +1,7 @@
 -- A table of the devices of a line: their numbers with their values, in the order of the
 -- definition.
-use Rattle.std.specs.Prelude.{◌≡◌, Bool, false, if◌then◌else◌, nat_lt, Option, Some, None, is_some, List, [], ◌∷◌}
+use Rattle.std.specs.Prelude.{◌≡◌, Bool, false, if◌then◌else◌, nat_lt, Option, Some, None}
+use Rattle.std.specs.Prelude.{is_some, List, [], ◌∷◌}
 use Rattle.std.specs.Map.{lookup, set_value}
 use Rattle.irq_base.specs.declared.devices.DeviceDef.{DeviceDef}
 use Rattle.irq_base.specs.declared.numbers.DevNo.{DevNo}

@@ -1,6 +1,7 @@
 -- The chip of a path: its root and, if a level of messages masks, that level before it. Each other
 -- level passes everything on and is open for good.
-use Rattle.std.specs.Prelude.{◌≡◌, ℕ, Bool, true, false, not, ◌&&◌, if◌then◌else◌, IfSome, Option, Some, None, List, [], ◌∷◌}
+use Rattle.std.specs.Prelude.{◌≡◌, ℕ, Bool, true, false, not, ◌&&◌, if◌then◌else◌, IfSome, Option}
+use Rattle.std.specs.Prelude.{Some, None, List, [], ◌∷◌}
 use Rattle.std.specs.List.{list_any}
 use Rattle.std.specs.Option.{option_map}
 use Rattle.irq_base.specs.Cell.{Cell, is_edge_cell, fresh_cell}
@@ -9,7 +10,8 @@ use Rattle.irq_base.specs.declared.domains.ControllerKind.{ControllerKind}
 use Rattle.chip_msi.specs.Messages.{LevelSeen, message_of}
 use Rattle.chip_msi.specs.declared.message.Message.{Message}
 use Rattle.domain_rules.specs.Domains.{is_msi}
-use Rattle.domain_rules.specs.Levels.{is_root_kind, keeps_kind, stores_at_root, retriggers_kind, serves_kind, trigger_of_root}
+use Rattle.domain_rules.specs.Levels.{is_root_kind, keeps_kind, stores_at_root, retriggers_kind}
+use Rattle.domain_rules.specs.Levels.{serves_kind, trigger_of_root}
 
 -- the kinds of a path's levels, leaf first: children, and a root at the end
 abbrev pub is_path_of_kinds : List ControllerKind → Bool
@@ -23,7 +25,8 @@ has_messages kinds = list_any is_msi kinds
 
 -- a root of this kind by itself, before anything was done to it
 abbrev pub root_cell : ControllerKind → Cell
-root_cell kind = fresh_cell (trigger_of_root kind) (keeps_kind kind) (stores_at_root kind) (retriggers_kind kind) (serves_kind kind)
+root_cell kind = fresh_cell (trigger_of_root kind) (keeps_kind kind) (stores_at_root kind)
+    (retriggers_kind kind) (serves_kind kind)
 
 -- The cell of a level of messages, if there is one, with the root's. The level of messages, if
 -- there is one, masks and stores in the root's place, and what was sent to the root isn't taken

@@ -1,7 +1,10 @@
 //! The chip of a path.
-ghost use Rattle.std.specs.Prelude.{◌≡◌, ◌≤◌, ℕ, Bool, true, false, ◌&&◌, is_some, length, if◌then◌else◌};
+ghost use Rattle.std.specs.Prelude.{◌≡◌, ◌≤◌, ℕ, Bool, true, false, ◌&&◌, is_some, length};
+ghost use Rattle.std.specs.Prelude.{if◌then◌else◌};
 ghost use Rattle.chip_msi.specs.Messages.{LevelSeen};
-ghost use Rattle.domain_chain.specs.Chains.{ChainSeen, is_path_of_kinds, has_messages, fresh_chain, chain_cell, IsOpenBehind, number_sent, message_by, some_if, wiring_of};
+ghost use Rattle.domain_chain.specs.Chains.{ChainSeen, is_path_of_kinds, has_messages};
+ghost use Rattle.domain_chain.specs.Chains.{fresh_chain, chain_cell, IsOpenBehind, number_sent};
+ghost use Rattle.domain_chain.specs.Chains.{message_by, some_if, wiring_of};
 ghost use Rattle.domain_rules.specs.Levels.{masking_kind, root_kind, presents_level_kind, cell_of};
 
 use crate::roots::{masks_by_message, root_of};
@@ -29,9 +32,16 @@ impl Model for Chain {
 
     ghost Value = { ChainSeen };
 
-    ghost view = { λ c. record { cell = chain_cell c.message (⟦<Cell as Chip>⟧.cell c.root); active = c.active; aimed = c.target.0; levels = c.levels; number = number_sent c.message c.number } };
+    ghost view = { λ c. record {
+      cell = chain_cell c.message (⟦<Cell as Chip>⟧.cell c.root);
+      active = c.active;
+      aimed = c.target.0;
+      levels = c.levels;
+      number = number_sent c.message c.number;
+    } };
 
-    ghost invariant = { λ c. IsOpenBehind c.message (⟦<Cell as Chip>⟧.cell c.root) × (c.target.0 < 32) };
+    ghost invariant = { λ c. IsOpenBehind c.message (⟦<Cell as Chip>⟧.cell c.root)
+        × (c.target.0 < 32) };
 }
 
 impl Chain {
@@ -42,8 +52,10 @@ impl Chain {
         requires few { length kinds.now ≤ 8 }
         requires path { is_path_of_kinds kinds.now ≡ true }
         requires masks { is_some (masking_kind kinds.now) ≡ true }
-        requires edges { has_messages kinds.now && presents_level_kind (root_kind kinds.now) ≡ false }
-        ensures { result ≡ fresh_chain (cell_of kinds.now) (length kinds.now) (some_if (has_messages kinds.now) number) }
+        requires edges { has_messages kinds.now && presents_level_kind (root_kind kinds.now)
+            ≡ false }
+        ensures { result ≡ fresh_chain (cell_of kinds.now) (length kinds.now)
+            (some_if (has_messages kinds.now) number) }
     {
         let levels = kinds.len() as u32;
         let mut root = root_of(kinds[kinds.len() - 1]);
@@ -57,7 +69,8 @@ impl Chain {
     // The chip of the root and, if there is one, of the level of messages before it.
     fn made(message: Option<MsiLevel>, root: Cell, levels: u32, number: u32) -> Chain
         requires { IsOpenBehind message (⟦<Cell as Chip>⟧.cell root) }
-        ensures { result ≡ fresh_chain (chain_cell message (⟦<Cell as Chip>⟧.cell root)) levels (number_sent message number) }
+        ensures { result ≡ fresh_chain (chain_cell message (⟦<Cell as Chip>⟧.cell root)) levels
+            (number_sent message number) }
     {
         Chain {
             message,

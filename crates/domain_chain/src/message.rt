@@ -28,7 +28,8 @@ impl MsiChip {
     /// The chip of one message, which carries `number`. Its mask is closed, it isn't active, and it
     /// is aimed at processor 0.
     pub fn new(number: u32) -> MsiChip
-        ensures { result ≡ fresh_chain (fresh_cell triggers.Edge true false false false) 2 (Some number) }
+        ensures { result ≡ fresh_chain (fresh_cell triggers.Edge true false false false) 2
+            (Some number) }
     {
         MsiChip {
             chain: Chain::new(&[ControllerKind::Msi, ControllerKind::Plain], number),

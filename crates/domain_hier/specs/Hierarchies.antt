@@ -1,7 +1,8 @@
 -- Hierarchies of domains: what is seen of one, and what an allocation answers and leaves. Which
 -- path a line gets, and why it is refused, is decided by the rules of layouts, over the paths in
 -- use (`irq_domain_alloc_irqs_locked`, `irq_domain_insert_irq`, `kernel/irq/irqdomain.c`).
-use Rattle.std.specs.Prelude.{◌≡◌, ℕ, ◌-◌, ◌<◌, Bool, true, false, IfSome, is_some, Option, Some, None, List, [], ◌∷◌, length, map, slice_get}
+use Rattle.std.specs.Prelude.{◌≡◌, ℕ, ◌-◌, ◌<◌, Bool, true, false, IfSome, is_some, Option, Some}
+use Rattle.std.specs.Prelude.{None, List, [], ◌∷◌, length, map, slice_get}
 use Rattle.irq_base.specs.declared.domains.DomainDef.{DomainDef}
 use Rattle.domain_maps.specs.Numbers.{virq_at, sizes, size_of_kind, is_on}
 use Rattle.domain_maps.specs.declared.map.DomainMap.{DomainMap}
@@ -62,7 +63,8 @@ root_number path = number_in (slice_get path (length path - 1))
 -- together
 abbrev pub chain_of : List DomainDef → List (ℕ × ℕ) → ChainSeen
 chain_of domains path =
-    let kinds = kinds_on domains path in fresh_chain (cell_of kinds) (length path) (some_if (has_messages kinds) (root_number path))
+    let kinds = kinds_on domains path in fresh_chain (cell_of kinds) (length path)
+    (some_if (has_messages kinds) (root_number path))
 
 -- ---- what each hierarchy keeps
 
@@ -80,7 +82,8 @@ pub record IsPlaced (domains : List DomainDef) (path : List (ℕ × ℕ)) : Type
   pub way : map (λ level. level.0) path ≡ way most_levels domains (first_place path)
   pub masks : is_some (masking_kind (kinds_on domains path)) ≡ true
 
-pub record IsHierarchy (domains : List DomainDef) (maps : List DomainMap) (paths : List (Option (List (ℕ × ℕ)))) : Type 0 where
+pub record IsHierarchy (domains : List DomainDef) (maps : List DomainMap)
+    (paths : List (Option (List (ℕ × ℕ)))) : Type 0 where
   pub each : EachAfter IsDomainAfter domains
   pub sizes : sizes maps ≡ map (λ def. size_of_kind def.map) domains
   -- each domain's map is exactly what the paths in use say

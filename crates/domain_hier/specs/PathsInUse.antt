@@ -1,6 +1,7 @@
 -- The finite map from the virqs in use to their paths, as a list: at place i stands the path of
 -- virq i + 1, if that virq is in use (virq 0 never is).
-use Rattle.std.specs.Prelude.{ℕ, zero, suc, ◌+◌, if◌then◌else◌, is_some, Option, Some, None, List, [], ◌∷◌, slice_index_or, slice_set, map}
+use Rattle.std.specs.Prelude.{ℕ, zero, suc, ◌+◌, if◌then◌else◌, is_some, Option, Some, None, List}
+use Rattle.std.specs.Prelude.{[], ◌∷◌, slice_index_or, slice_set, map}
 use Rattle.domain_rules.specs.Layout.{lowest_unused}
 use Rattle.domain_rules.specs.declared.layouts.Placement.{Placement}
 use Rattle.domain_rules.specs.declared.layouts.Placement.TheVariants as placements

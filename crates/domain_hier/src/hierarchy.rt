@@ -1,12 +1,16 @@
 //! The hierarchy.
-ghost use Rattle.std.specs.Prelude.{◌≡◌, ◌≤◌, ◌<◌, ◌+◌, ◌++◌, ℕ, true, [], ◌∷◌, Some, None, is_some, IfOk, IfSome, OnOk, OnErr, length, slice_get, if◌then◌else◌};
+ghost use Rattle.std.specs.Prelude.{◌≡◌, ◌≤◌, ◌<◌, ◌+◌, ◌++◌, ℕ, true, [], ◌∷◌, Some, None};
+ghost use Rattle.std.specs.Prelude.{is_some, IfOk, IfSome, OnOk, OnErr, length, slice_get};
+ghost use Rattle.std.specs.Prelude.{if◌then◌else◌};
 ghost use Rattle.revmap.specs.declared.map.DisposeAnswer.TheVariants as disposed;
 ghost use Rattle.domain_maps.specs.Numbers.{virq_at, sizes, with_path, HasRoom};
 ghost use Rattle.domain_rules.specs.Domains.{IsDomainAfter};
 ghost use Rattle.domain_rules.specs.Layout.{path_of, lowest_unused};
 ghost use Rattle.domain_rules.specs.Paths.{way};
-ghost use Rattle.domain_hier.specs.Hierarchies.{HierarchySeen, IsAnswered, alloc_answer, after_alloc, chain_of};
-ghost use Rattle.domain_hier.specs.PathsInUse.{path_in, first_free, lowest_virq, placed, freed, in_use, lowest_levels};
+ghost use Rattle.domain_hier.specs.Hierarchies.{HierarchySeen, IsAnswered, alloc_answer};
+ghost use Rattle.domain_hier.specs.Hierarchies.{after_alloc, chain_of};
+ghost use Rattle.domain_hier.specs.PathsInUse.{path_in, first_free, lowest_virq, placed, freed};
+ghost use Rattle.domain_hier.specs.PathsInUse.{in_use, lowest_levels};
 
 use crate::answers::AllocAnswer;
 use crate::levels::{can_mask, chain_on, domain_at, is_past, parent_of};
@@ -58,7 +62,8 @@ impl Hierarchy {
     pub fn add_domain(&mut self, def: DomainDef) -> Result<usize, NoMemory>
         requires { IsDomainAfter self.old.domains def }
         ensures place { IfOk result (λ place. place ≡ length self.old.domains) }
-        ensures ok { OnOk result (self.new ≡ record self.old { domains = self.old.domains ++ def ∷ [] }) }
+        ensures ok { OnOk result (self.new ≡ record self.old
+            { domains = self.old.domains ++ def ∷ [] }) }
         ensures err { OnErr result (self.new ≡ self.old) }
     {
         let place = self.domains.len();
@@ -99,7 +104,8 @@ impl Hierarchy {
     /// Gives up the numbers of all levels of the virq's path (`irq_domain_free_irqs`,
     /// `kernel/irq/irqdomain.c`).
     pub fn free(&mut self, virq: u32) -> DisposeAnswer
-        ensures answer { result ≡ (if is_some (path_in self.old.paths virq) then disposed.Ok else disposed.NotThere) }
+        ensures answer { result ≡ (if is_some (path_in self.old.paths virq) then disposed.Ok else
+            disposed.NotThere) }
         ensures after { self.new ≡ record self.old { paths = freed self.old.paths virq } }
         ensures count { length (in_use self.new.paths) ≤ length (in_use self.old.paths) }
     {
@@ -125,7 +131,8 @@ impl Hierarchy {
     /// The chip of the virq's whole path, to which nothing has been done. The virq is in use.
     pub fn chain(&self, virq: u32) -> Chain
         requires { is_some (path_in self.now.paths virq) ≡ true }
-        ensures { IfSome (path_in self.now.paths virq) (λ path. result ≡ chain_of self.now.domains path) }
+        ensures { IfSome (path_in self.now.paths virq)
+            (λ path. result ≡ chain_of self.now.domains path) }
     {
         let path = self.path(virq).unwrap();
         chain_on(self.domains.as_slice(), &path)
@@ -149,7 +156,8 @@ impl Hierarchy {
         requires room { length path.old + left ≤ 8 }
         requires there { IfSome at (λ place. place < length self.now.domains) }
         requires few { length (in_use self.now.paths) < 4294967295 }
-        ensures { path.new ≡ path.old ++ lowest_levels (in_use self.now.paths) (way left self.now.domains at) }
+        ensures { path.new ≡ path.old ++ lowest_levels (in_use self.now.paths)
+            (way left self.now.domains at) }
     {
         let Some(place) = at else {
             return;
@@ -178,8 +186,11 @@ fn write(maps: &mut DomainMaps, paths: &mut PathTable, path: Path) -> Result<u32
     requires room { HasRoom maps.old path }
     requires virq { first_free paths.old < 4294967295 }
     ensures virq { IfOk result (λ virq. virq ≡ lowest_virq paths.old) }
-    ensures ok { OnOk result ((domain hw : ℕ) → virq_at maps.new domain hw ≡ with_path path (lowest_virq paths.old) (virq_at maps.old) domain hw) }
-    ensures err { OnErr result ((domain hw : ℕ) → virq_at maps.new domain hw ≡ virq_at maps.old domain hw) }
+    ensures ok { OnOk result ((domain hw : ℕ)
+        → virq_at maps.new domain hw ≡ with_path path (lowest_virq paths.old) (virq_at maps.old)
+        domain hw) }
+    ensures err { OnErr result ((domain hw : ℕ)
+        → virq_at maps.new domain hw ≡ virq_at maps.old domain hw) }
     ensures sizes { sizes maps.new ≡ sizes maps.old }
     ensures placed { OnOk result (paths.new ≡ placed paths.old path) }
     ensures kept { OnErr result (paths.new ≡ paths.old) }

@@ -37,7 +37,8 @@ pub(crate) fn parent_of(def: Option<DomainDef>) -> Option<usize>
 
 /// Whether one of the levels from a domain to its root, at most `left` of them, can mask.
 pub(crate) fn can_mask(domains: &[DomainDef], left: usize, at: Option<usize>) -> bool
-    ensures { result ≡ is_some (masking_kind (map (λ place. kind_in (slice_get domains.now place)) (way left domains.now at))) }
+    ensures { result ≡ is_some (masking_kind (map (λ place. kind_in (slice_get domains.now place))
+        (way left domains.now at))) }
 {
     let Some(place) = at else {
         return false;

@@ -1,6 +1,7 @@
 -- The reverse maps of a list of domains: the virq at each domain and hardware number, and what it
 -- is to write a whole path into them or to give it up.
-use Rattle.std.specs.Prelude.{◌≡◌, ℕ, Bool, true, false, ◌&&◌, ◌==◌, if◌then◌else◌, Option, Some, None, List, [], ◌∷◌, length, map, slice_get, slice_index_or}
+use Rattle.std.specs.Prelude.{◌≡◌, ℕ, Bool, true, false, ◌&&◌, ◌==◌, if◌then◌else◌, Option, Some}
+use Rattle.std.specs.Prelude.{None, List, [], ◌∷◌, length, map, slice_get, slice_index_or}
 use Rattle.std.specs.List.{list_any}
 use Rattle.irq_base.specs.declared.domains.MapKind.{MapKind}
 use Rattle.irq_base.specs.declared.domains.MapKind.TheVariants as kinds

@@ -1,7 +1,9 @@
 //! The maps of all domains.
-ghost use Rattle.std.specs.Prelude.{◌≡◌, ◌<◌, ◌≤◌, ◌+◌, ◌++◌, ◌&&◌, ℕ, true, [], ◌∷◌, None, Some, length, drop, OnOk, OnErr, if◌then◌else◌};
+ghost use Rattle.std.specs.Prelude.{◌≡◌, ◌<◌, ◌≤◌, ◌+◌, ◌++◌, ◌&&◌, ℕ, true, [], ◌∷◌, None, Some};
+ghost use Rattle.std.specs.Prelude.{length, drop, OnOk, OnErr, if◌then◌else◌};
 ghost use Rattle.revmap.specs.Answers.{IsAssociated, is_associated, IsLowestFree};
-ghost use Rattle.domain_maps.specs.Numbers.{sizes, size_of_kind, virq_at, is_within, is_on, is_level, HasRoom, with_path, without_path};
+ghost use Rattle.domain_maps.specs.Numbers.{sizes, size_of_kind, virq_at, is_within, is_on};
+ghost use Rattle.domain_maps.specs.Numbers.{is_level, HasRoom, with_path, without_path};
 
 use crate::map::DomainMap;
 use irq_base::{MapKind, NoMemory, Path};
@@ -37,7 +39,8 @@ impl DomainMaps {
 
     /// Adds an empty map of this kind at the end. If it is refused, all is as before.
     pub fn push(&mut self, alloc: Global, kind: MapKind) -> Result<(), NoMemory>
-        ensures numbers { OnOk result ((domain hw : ℕ) → virq_at self.new domain hw ≡ virq_at self.old domain hw) }
+        ensures numbers { OnOk result ((domain hw : ℕ)
+            → virq_at self.new domain hw ≡ virq_at self.old domain hw) }
         ensures sizes { OnOk result (sizes self.new ≡ sizes self.old ++ size_of_kind kind ∷ []) }
         ensures err { OnErr result (self.new ≡ self.old) }
     {
@@ -74,8 +77,10 @@ impl DomainMaps {
         requires few { length path.now ≤ 8 }
         requires virq { 0 < virq }
         requires room { HasRoom self.old path.now }
-        ensures ok { OnOk result ((domain hw : ℕ) → virq_at self.new domain hw ≡ with_path path.now virq (virq_at self.old) domain hw) }
-        ensures err { OnErr result ((domain hw : ℕ) → virq_at self.new domain hw ≡ virq_at self.old domain hw) }
+        ensures ok { OnOk result ((domain hw : ℕ)
+            → virq_at self.new domain hw ≡ with_path path.now virq (virq_at self.old) domain hw) }
+        ensures err { OnErr result ((domain hw : ℕ)
+            → virq_at self.new domain hw ≡ virq_at self.old domain hw) }
         ensures sizes { sizes self.new ≡ sizes self.old }
     {
         self.write_from(path, 0, virq)
@@ -85,7 +90,8 @@ impl DomainMaps {
     /// `kernel/irq/irqdomain.c`).
     pub fn give_up(&mut self, path: &Path)
         requires few { length path.now ≤ 8 }
-        ensures numbers { (domain hw : ℕ) → virq_at self.new domain hw ≡ without_path path.now (virq_at self.old) domain hw }
+        ensures numbers { (domain hw : ℕ) → virq_at self.new domain hw
+            ≡ without_path path.now (virq_at self.old) domain hw }
         ensures sizes { sizes self.new ≡ sizes self.old }
     {
         self.give_up_from(path, 0);
@@ -96,8 +102,11 @@ impl DomainMaps {
         requires few { length path.now ≤ 8 }
         requires virq { 0 < virq }
         requires room { HasRoom self.old (drop from path.now) }
-        ensures ok { OnOk result ((domain hw : ℕ) → virq_at self.new domain hw ≡ with_path (drop from path.now) virq (virq_at self.old) domain hw) }
-        ensures err { OnErr result ((domain hw : ℕ) → virq_at self.new domain hw ≡ virq_at self.old domain hw) }
+        ensures ok { OnOk result ((domain hw : ℕ)
+            → virq_at self.new domain hw ≡ with_path (drop from path.now) virq (virq_at self.old)
+            domain hw) }
+        ensures err { OnErr result ((domain hw : ℕ)
+            → virq_at self.new domain hw ≡ virq_at self.old domain hw) }
         ensures sizes { sizes self.new ≡ sizes self.old }
     {
         let Some((domain, hw)) = path.get(from) else {
@@ -116,7 +125,8 @@ impl DomainMaps {
     // Gives up the levels from index `from` on.
     fn give_up_from(&mut self, path: &Path, from: usize)
         requires few { length path.now ≤ 8 }
-        ensures numbers { (domain hw : ℕ) → virq_at self.new domain hw ≡ without_path (drop from path.now) (virq_at self.old) domain hw }
+        ensures numbers { (domain hw : ℕ) → virq_at self.new domain hw
+            ≡ without_path (drop from path.now) (virq_at self.old) domain hw }
         ensures sizes { sizes self.new ≡ sizes self.old }
     {
         let Some((domain, hw)) = path.get(from) else {
@@ -131,7 +141,9 @@ impl DomainMaps {
         requires virq { 0 < virq }
         requires within { is_within (sizes self.old) (domain, hw) ≡ true }
         requires free { virq_at self.old domain hw ≡ None }
-        ensures numbers { (d k : ℕ) → virq_at self.new d k ≡ (if is_associated result && is_level d k (domain, hw) then Some virq else virq_at self.old d k) }
+        ensures numbers { (d k : ℕ) → virq_at self.new d k
+            ≡ (if is_associated result && is_level d k (domain, hw) then Some virq else virq_at
+            self.old d k) }
         ensures sizes { sizes self.new ≡ sizes self.old }
     {
         self.maps[domain].associate(virq, hw)
@@ -139,7 +151,8 @@ impl DomainMaps {
 
     // Gives up one number, if the domain is there.
     fn dispose(&mut self, domain: usize, hw: u32)
-        ensures numbers { (d k : ℕ) → virq_at self.new d k ≡ (if is_level d k (domain, hw) then None else virq_at self.old d k) }
+        ensures numbers { (d k : ℕ) → virq_at self.new d k
+            ≡ (if is_level d k (domain, hw) then None else virq_at self.old d k) }
         ensures sizes { sizes self.new ≡ sizes self.old }
     {
         if domain < self.maps.len() {

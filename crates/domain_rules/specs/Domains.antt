@@ -1,5 +1,6 @@
 -- Which domains there may be. Whether a domain is allowed depends on the domains before it.
-use Rattle.std.specs.Prelude.{◌≡◌, ℕ, ◌<◌, ◌≤◌, Bool, true, false, not, ◌&&◌, ◌||◌, nat_le, IfSome, Option, Some, None, List, length, take, slice_get}
+use Rattle.std.specs.Prelude.{◌≡◌, ℕ, ◌<◌, ◌≤◌, Bool, true, false, not, ◌&&◌, ◌||◌, nat_le}
+use Rattle.std.specs.Prelude.{IfSome, Option, Some, None, List, length, take, slice_get}
 use Rattle.irq_base.specs.declared.domains.DomainDef.{DomainDef}
 use Rattle.irq_base.specs.declared.domains.ControllerKind.{ControllerKind}
 use Rattle.irq_base.specs.declared.domains.ControllerKind.TheVariants as levels

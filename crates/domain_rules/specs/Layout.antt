@@ -3,7 +3,9 @@
 -- which numbers a line gets, and which lines are refused, is ours). A line is asked for by the
 -- place of its domain and its own number there. The lines are laid in the order in which they are
 -- asked for.
-use Rattle.std.specs.Prelude.{ℕ, zero, suc, ◌+◌, Bool, true, false, ◌&&◌, ◌==◌, nat_le, is_none, Option, Some, None, List, [], ◌∷◌, ◌++◌, length, map, slice_get, if◌then◌else◌}
+use Rattle.std.specs.Prelude.{ℕ, zero, suc, ◌+◌, Bool, true, false, ◌&&◌, ◌==◌, nat_le, is_none}
+use Rattle.std.specs.Prelude.{Option, Some, None, List, [], ◌∷◌, ◌++◌, length, map, slice_get}
+use Rattle.std.specs.Prelude.{if◌then◌else◌}
 use Rattle.std.specs.List.{list_any}
 use Rattle.irq_base.specs.declared.domains.DomainDef.{DomainDef}
 use Rattle.irq_base.specs.declared.domains.MapKind.{MapKind}
@@ -56,7 +58,8 @@ above (place ∷ places) = places
 
 -- the line's own number at its domain, and the lowest unused one at each level above
 abbrev pub path_of : List DomainDef → List Placement → ℕ × ℕ → List (ℕ × ℕ)
-path_of domains earlier leaf = leaf ∷ map (λ place. (place, lowest_unused earlier place)) (above (way most_levels domains (Some leaf.0)))
+path_of domains earlier leaf = leaf ∷ map (λ place. (place, lowest_unused earlier place))
+    (above (way most_levels domains (Some leaf.0)))
 
 abbrev pub count_of_mapped : List Placement → ℕ
 count_of_mapped [] = 0

@@ -1,6 +1,7 @@
 -- The levels of interrupt controllers between a line and its processors, and what they make of its
 -- signal.
-use Rattle.std.specs.Prelude.{Bool, true, false, ◌&&◌, if◌then◌else◌, Option, Some, None, List, [], ◌∷◌}
+use Rattle.std.specs.Prelude.{Bool, true, false, ◌&&◌, if◌then◌else◌, Option, Some, None, List}
+use Rattle.std.specs.Prelude.{[], ◌∷◌}
 use Rattle.irq_base.specs.Cell.{Cell, fresh_cell}
 use Rattle.irq_base.specs.declared.domains.ControllerKind.{ControllerKind}
 use Rattle.irq_base.specs.declared.domains.ControllerKind.TheVariants as levels
@@ -96,4 +97,5 @@ serves kinds = serves_kind (root_kind kinds)
 
 -- the cell of the levels together, before anything was done to it
 abbrev pub cell_of : List ControllerKind → Cell
-cell_of kinds = fresh_cell (trigger_of_root (root_kind kinds)) (keeps kinds) (recalls kinds) (retriggers kinds) (serves kinds)
+cell_of kinds = fresh_cell (trigger_of_root (root_kind kinds)) (keeps kinds) (recalls kinds)
+    (retriggers kinds) (serves kinds)

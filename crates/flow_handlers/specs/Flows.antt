@@ -1,6 +1,8 @@
 -- The flow handlers: what a take and an end make of a line's descriptor and of its signal cell.
-use Rattle.std.specs.Prelude.{Bool, true, false, not, ◌||◌, ◌&&◌, if◌then◌else◌, is_some, Some, None}
-use Rattle.irq_base.specs.Cell.{Cell, is_edge_trigger, after_ack, after_mask, after_unmask, after_eoi, after_retrigger}
+use Rattle.std.specs.Prelude.{Bool, true, false, not, ◌||◌, ◌&&◌, if◌then◌else◌, is_some, Some}
+use Rattle.std.specs.Prelude.{None}
+use Rattle.irq_base.specs.Cell.{Cell, is_edge_trigger, after_ack, after_mask, after_unmask}
+use Rattle.irq_base.specs.Cell.{after_eoi, after_retrigger}
 use Rattle.irq_base.specs.declared.entries.TakeAnswer.{TakeAnswer}
 use Rattle.irq_base.specs.declared.entries.TakeAnswer.TheVariants as takes
 use Rattle.irq_base.specs.declared.lines.Trigger.{Trigger}

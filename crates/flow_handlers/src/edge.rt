@@ -1,6 +1,7 @@
 //! The edge flow (`handle_edge_irq`).
 ghost use Rattle.std.specs.Prelude.{◌≡◌};
-ghost use Rattle.flow_handlers.specs.Flows.{answer_by, edge_desc, edge_cell, edge_left, edge_ended, unmasked_if};
+ghost use Rattle.flow_handlers.specs.Flows.{answer_by, edge_desc, edge_cell, edge_left};
+ghost use Rattle.flow_handlers.specs.Flows.{edge_ended, unmasked_if};
 
 use crate::leave_answer::LeaveAnswer;
 use desc_state::Desc;

@@ -3,7 +3,9 @@ ghost use Rattle.std.specs.Prelude.{◌≡◌, true, false, not, ◌&&◌};
 ghost use Rattle.irq_base.specs.Cell.{is_edge_trigger, after_eoi, after_mask};
 ghost use Rattle.irq_base.specs.declared.entries.TakeAnswer.TheVariants as takes;
 ghost use Rattle.irq_base.specs.declared.lines.Trigger.TheVariants as triggers;
-ghost use Rattle.flow_handlers.specs.Flows.{answer_by, eoi_desc, eoi_cell, eoi_edge_cell, eoi_level_cell, eoi_left, eoi_ended, eoi_ended_cell, goes_on, may_open, unmasked_if, retriggered_if};
+ghost use Rattle.flow_handlers.specs.Flows.{answer_by, eoi_desc, eoi_cell, eoi_edge_cell};
+ghost use Rattle.flow_handlers.specs.Flows.{eoi_level_cell, eoi_left, eoi_ended, eoi_ended_cell};
+ghost use Rattle.flow_handlers.specs.Flows.{goes_on, may_open, unmasked_if, retriggered_if};
 
 use crate::leave_answer::LeaveAnswer;
 use desc_state::Desc;
@@ -104,7 +106,8 @@ fn turn_off<C: Chip>(desc: &mut Desc, chip: &mut C) -> TakeAnswer
 /// if an interrupt is pending and the line isn't disabled by now, the chip is made to send it again
 /// (ours); so at depth 0 such a line must come in open.
 pub fn leave<C: Chip>(desc: &mut Desc, chip: &mut C, held: bool, trigger: Trigger) -> LeaveAnswer
-    requires open { is_edge_trigger trigger ≡ true → desc.old.depth ≡ 0 → (C.cell chip.old).masked ≡ false }
+    requires open { is_edge_trigger trigger ≡ true → desc.old.depth ≡ 0
+        → (C.cell chip.old).masked ≡ false }
     ensures left { result ≡ eoi_left trigger held desc.old }
     ensures desc { desc.new ≡ eoi_ended result desc.old }
     ensures cell { C.cell chip.new ≡ eoi_ended_cell result (C.cell chip.old) }
@@ -143,7 +146,10 @@ fn send_again<C: Chip>(desc: &mut Desc, chip: &mut C) -> LeaveAnswer
 
 /// A one-shot line opens if nothing holds it.
 fn open_again<C: Chip>(desc: &mut Desc, chip: &mut C, held: bool) -> LeaveAnswer
-    ensures left { result ≡ record { again = false; unmask = desc.old.oneshot && may_open held desc.old } }
+    ensures left { result ≡ record {
+      again = false;
+      unmask = desc.old.oneshot && may_open held desc.old;
+    } }
     ensures desc { desc.new ≡ record desc.old { masked = desc.old.masked && not result.unmask } }
     ensures cell { C.cell chip.new ≡ unmasked_if result.unmask (C.cell chip.old) }
     ensures active { C.active chip.new ≡ C.active chip.old }

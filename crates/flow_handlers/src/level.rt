@@ -1,6 +1,7 @@
 //! The level flow (`handle_level_irq`).
 ghost use Rattle.std.specs.Prelude.{◌≡◌};
-ghost use Rattle.flow_handlers.specs.Flows.{answer_by, level_desc, level_cell, level_left, level_ended, unmasked_if};
+ghost use Rattle.flow_handlers.specs.Flows.{answer_by, level_desc, level_cell, level_left};
+ghost use Rattle.flow_handlers.specs.Flows.{level_ended, unmasked_if};
 
 use crate::leave_answer::LeaveAnswer;
 use desc_state::Desc;

@@ -1,8 +1,10 @@
 //! Which boards fit, and the board with the moves of its lines.
-ghost use Rattle.std.specs.Prelude.{◌≡◌, ◌+◌, ◌<◌, ◌≤◌, ◌∷◌, ◌++◌, All, IfOk, IsTrue, OnOk, drop, length, option_to_list, slice_index_or};
+ghost use Rattle.std.specs.Prelude.{◌≡◌, ◌+◌, ◌<◌, ◌≤◌, ◌∷◌, ◌++◌, All, IfOk, IsTrue, OnOk, drop};
+ghost use Rattle.std.specs.Prelude.{length, option_to_list, slice_index_or};
 ghost use Rattle.std.specs.List.{list_any};
 ghost use Rattle.board_def.specs.Layout.{layout_of};
-ghost use Rattle.hotplug_plan.specs.Planned.{AreLinesOf, HasCpu, IsForHotplug, move_of, moves_a_line, moves_later, moves_of, planned};
+ghost use Rattle.hotplug_plan.specs.Planned.{AreLinesOf, HasCpu, IsForHotplug, move_of};
+ghost use Rattle.hotplug_plan.specs.Planned.{moves_a_line, moves_later, moves_of, planned};
 
 use board_def::{Board, LineRow, ScriptCall};
 use board_driver::{LineCall, with_last_driver};

@@ -30,7 +30,19 @@ is_edge_cell c = is_edge_trigger c.trigger
 
 -- a cell with these properties, before anything was done to it
 abbrev pub fresh_cell : Trigger → Bool → Bool → Bool → Bool → Cell
-fresh_cell trigger keeps recalls retriggers serves = record { trigger = trigger; keeps = keeps; recalls = recalls; retriggers = retriggers; serves = serves; masked = true; stored = false; sent = false; high = false; in_service = false }
+fresh_cell trigger keeps recalls retriggers serves
+    = record {
+      trigger = trigger;
+      keeps = keeps;
+      recalls = recalls;
+      retriggers = retriggers;
+      serves = serves;
+      masked = true;
+      stored = false;
+      sent = false;
+      high = false;
+      in_service = false;
+    }
 
 -- an edge comes
 abbrev pub after_edge : Cell → Cell

@@ -1,7 +1,8 @@
 -- How an entry stands in one word (ours). From its low end a word has a tag of 5 bits, a code of 8,
 -- a first number of 16 and a second of 32. The tag says which entry it is, the code holds its small
 -- answers.
-use Rattle.std.specs.Prelude.{ℕ, ◌/◌, ◌%◌, ◌<◌, ◌==◌, nat_lt, ◌≡◌, Bool, true, false, ◌&&◌, if◌then◌else◌, List, get_or}
+use Rattle.std.specs.Prelude.{ℕ, ◌/◌, ◌%◌, ◌<◌, ◌==◌, nat_lt, ◌≡◌, Bool, true, false, ◌&&◌}
+use Rattle.std.specs.Prelude.{if◌then◌else◌, List, get_or}
 use Rattle.irq_base.specs.declared.numbers.CpuNo.{CpuNo}
 use Rattle.irq_base.specs.declared.numbers.DevNo.{DevNo}
 use Rattle.irq_base.specs.declared.numbers.DriverNo.{DriverNo}
@@ -10,7 +11,8 @@ use Rattle.irq_base.specs.declared.entries.Entry.{Entry}
 use Rattle.irq_base.specs.declared.entries.Entry.TheVariants as entries
 use Rattle.irq_base.specs.declared.parts.Parts.{Parts}
 use Rattle.irq_base.specs.declared.packed.Packed.{Packed}
-use Rattle.irq_base.specs.Codes.{way_at, take_at, answer_at, note_at, enable_at, opened_at, link_at, unlink_at, affinity_at, flag_at}
+use Rattle.irq_base.specs.Codes.{way_at, take_at, answer_at, note_at, enable_at, opened_at}
+use Rattle.irq_base.specs.Codes.{link_at, unlink_at, affinity_at, flag_at}
 
 abbrev pub cpu_no : ℕ → CpuNo
 cpu_no n = record { 0 = n }
@@ -26,8 +28,10 @@ unfoldable pub cpu_entry : Parts → Entry
 cpu_entry p =
     if p.tag == 0 then entries.Take (cpu_no p.first) (way_at (p.code % 2)) (take_at (p.code / 2))
     else (if p.tag == 1 then entries.Begin (cpu_no p.first) (dev_no p.second)
-    else (if p.tag == 2 then entries.Return (cpu_no (p.code % 32)) (dev_no p.first) (answer_at (p.code / 32)) p.second
-    else entries.End (cpu_no p.first) (flag_at (p.code % 2)) (flag_at (p.code / 2 % 2)) (note_at (p.code / 4))))
+    else (if p.tag == 2 then entries.Return (cpu_no (p.code % 32)) (dev_no p.first)
+    (answer_at (p.code / 32)) p.second
+    else entries.End (cpu_no p.first) (flag_at (p.code % 2)) (flag_at (p.code / 2 % 2))
+    (note_at (p.code / 4))))
 
 -- the entries of threads
 unfoldable pub thread_entry : Parts → Entry
@@ -50,7 +54,8 @@ driver_entry p =
     else (if p.tag == 10 then entries.HardClear (driver_no p.first)
     else (if p.tag == 11 then entries.Synced (driver_no p.first)
     else (if p.tag == 12 then entries.Enable (driver_no p.first) (enable_at p.code)
-    else (if p.tag == 13 then entries.Request (driver_no p.first) (dev_no p.second) (flags_at (p.code % 8)) (link_at (p.code / 8 % 4)) (opened_at (p.code / 32))
+    else (if p.tag == 13 then entries.Request (driver_no p.first) (dev_no p.second)
+    (flags_at (p.code % 8)) (link_at (p.code / 8 % 4)) (opened_at (p.code / 32))
     else (if p.tag == 14
     then entries.Unlink (driver_no p.first) (dev_no p.second) (unlink_at p.code)
     else (if p.tag == 15 then entries.Freed (driver_no p.first) (dev_no p.second)
@@ -86,7 +91,12 @@ entry_of p =
 
 -- the parts of a word
 abbrev pub parts_of : Packed → Parts
-parts_of w = record { tag = w.0 % 32; code = w.0 / 32 % 256; first = w.0 / 32 / 256 % 65536; second = w.0 / 32 / 256 / 65536 % 4294967296 }
+parts_of w = record {
+  tag = w.0 % 32;
+  code = w.0 / 32 % 256;
+  first = w.0 / 32 / 256 % 65536;
+  second = w.0 / 32 / 256 / 65536 % 4294967296;
+}
 
 -- an entry whose numbers don't fit stands in the list of wide entries; its word has the tag 31, and
 -- above the tag the place in that list

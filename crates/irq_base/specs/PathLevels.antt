@@ -3,7 +3,8 @@
 use Rattle.std.specs.Prelude.{◌≡◌, ℕ, ◌+◌, ◌-◌, ◌<◌, ◌≤◌, List, ◌++◌, length, take, drop, slice_set}
 use Rattle.std.proofs.Math.ListN.{replicate}
 use Rattle.std.proofs.Common.{sym, ap, ◌∙◌, arith}
-use Rattle.std.proofs.lemmas.List.{take-append-drop, length-take-le, drop-set-lt, drop-drop, drop-replicate, length-set}
+use Rattle.std.proofs.lemmas.List.{take-append-drop, length-take-le, drop-set-lt, drop-drop}
+use Rattle.std.proofs.lemmas.List.{drop-replicate, length-set}
 use Rattle.irq_base.specs.declared.domains.Path.TheInside.{Inside}
 
 abbrev pub levels_of : Inside → List (ℕ × ℕ)
@@ -31,7 +32,8 @@ of_levels_back p h =
     let back : take p.len p.levels ++ replicate (8 - length (take p.len p.levels)) none ≡ p.levels =
     ap (λ k. take p.len p.levels ++ replicate (8 - k) none) front
     ∙ (ap (λ xs. take p.len p.levels ++ xs) (sym h.rest) ∙ take-append-drop p.len p.levels) in
-    same_parts (take p.len p.levels ++ replicate (8 - length (take p.len p.levels)) none) p.levels (length (take p.len p.levels)) p.len back front
+    same_parts (take p.len p.levels ++ replicate (8 - length (take p.len p.levels)) none) p.levels
+    (length (take p.len p.levels)) p.len back front
 
 -- one more level, at index `len`
 pub IsPath-push : (p : Inside) (level : ℕ × ℕ) → IsPath p → p.len < 8

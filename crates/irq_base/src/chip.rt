@@ -1,7 +1,9 @@
 //! What a line asks of its chips (`struct irq_chip`, `include/linux/irq.h`).
 ghost use Rattle.std.specs.Prelude.{◌≡◌, ℕ, ◌<◌, Bool, true, false};
 ghost use Rattle.irq_base.specs.Wiring.{Wiring};
-ghost use Rattle.irq_base.specs.Cell.{Cell, is_edge_cell, after_edge, after_high, after_mask, after_unmask, after_accept, after_ack, after_eoi, after_retrigger, can_retrigger, signals};
+ghost use Rattle.irq_base.specs.Cell.{Cell, is_edge_cell, after_edge, after_high, after_mask};
+ghost use Rattle.irq_base.specs.Cell.{after_unmask, after_accept, after_ack, after_eoi};
+ghost use Rattle.irq_base.specs.Cell.{after_retrigger, can_retrigger, signals};
 
 use crate::numbers::CpuNo;
 

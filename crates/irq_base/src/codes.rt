@@ -1,7 +1,9 @@
 //! The small answers of an entry as numbers from 0 on, and back. A number too large for its type is
 //! read as the type's last answer.
 ghost use Rattle.std.specs.Prelude.{◌≡◌, ◌<◌, ◌%◌, ◌/◌};
-ghost use Rattle.irq_base.specs.Codes.{way_at, take_at, answer_at, note_at, resend_at, error_at, enable_at, opened_at, link_at, unlink_at, affinity_at, flag_at};
+ghost use Rattle.irq_base.specs.Codes.{way_at, take_at, answer_at, note_at, resend_at, error_at};
+ghost use Rattle.irq_base.specs.Codes.{enable_at, opened_at, link_at, unlink_at, affinity_at};
+ghost use Rattle.irq_base.specs.Codes.{flag_at};
 
 use crate::devices::Answer;
 use crate::entries::{

@@ -1,5 +1,6 @@
 //! The list of a line's entries; room for more can be taken beforehand.
-ghost use Rattle.std.specs.Prelude.{◌≡◌, ℕ, ◌+◌, ◌-◌, ◌<◌, ◌≤◌, ◌==◌, [], ◌∷◌, ◌++◌, length, IfOk, OnOk, OnErr, slice_get, option_map, true};
+ghost use Rattle.std.specs.Prelude.{◌≡◌, ℕ, ◌+◌, ◌-◌, ◌<◌, ◌≤◌, ◌==◌, [], ◌∷◌, ◌++◌, length};
+ghost use Rattle.std.specs.Prelude.{IfOk, OnOk, OnErr, slice_get, option_map, true};
 ghost use Rattle.irq_base.specs.EntryKinds.{kind_of_entry};
 ghost use Rattle.irq_base.specs.Packed.{is_wide, place_of};
 
@@ -28,7 +29,11 @@ impl Model for History {
 
     ghost Value = { HistorySeen };
 
-    ghost view = { λ h. record { entries = map (unpack h.wide.items) h.words.items; spare = min (vec_capacity h.words - vec_len h.words) (vec_capacity h.wide - vec_len h.wide) } };
+    ghost view = { λ h. record {
+      entries = map (unpack h.wide.items) h.words.items;
+      spare = min (vec_capacity h.words - vec_len h.words)
+          (vec_capacity h.wide - vec_len h.wide);
+    } };
 
     ghost invariant = { λ h. All (IsPlaced (length h.wide.items)) h.words.items };
 }

@@ -1,5 +1,6 @@
 //! An entry in one word.
-ghost use Rattle.std.specs.Prelude.{◌≡◌, ℕ, ◌<◌, ◌^◌, Bool, true, false, is_some, IfSome, List, get_or};
+ghost use Rattle.std.specs.Prelude.{◌≡◌, ℕ, ◌<◌, ◌^◌, Bool, true, false, is_some, IfSome, List};
+ghost use Rattle.std.specs.Prelude.{get_or};
 ghost use Rattle.irq_base.specs.EntryKinds.{kind_of_entry};
 ghost use Rattle.irq_base.specs.Packed.{parts_of, is_wide, place_of, unpack, is_narrow, nothing};
 

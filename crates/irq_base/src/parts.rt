@@ -1,9 +1,12 @@
 //! The parts of a packed word, and the entries that they stand for.
-ghost use Rattle.std.specs.Prelude.{◌≡◌, ◌/◌, ◌%◌, ◌<◌, ◌≤◌, ◌&&◌, if◌then◌else◌, true, is_some, IfSome, Some, None};
-ghost use Rattle.irq_base.specs.Codes.{way_at, take_at, answer_at, note_at, link_at, opened_at, flag_at};
+ghost use Rattle.std.specs.Prelude.{◌≡◌, ◌/◌, ◌%◌, ◌<◌, ◌≤◌, ◌&&◌, if◌then◌else◌, true, is_some};
+ghost use Rattle.std.specs.Prelude.{IfSome, Some, None};
+ghost use Rattle.irq_base.specs.Codes.{way_at, take_at, answer_at, note_at, link_at, opened_at};
+ghost use Rattle.irq_base.specs.Codes.{flag_at};
 ghost use Rattle.irq_base.specs.declared.entries.Entry.TheVariants as entries;
 ghost use Rattle.irq_base.specs.EntryKinds.{kind_of_entry};
-ghost use Rattle.irq_base.specs.Packed.{cpu_no, driver_entry, entry_of, is_narrow, is_narrow_cpu, is_narrow_dev, is_narrow_driver, is_of_driver, flags_at};
+ghost use Rattle.irq_base.specs.Packed.{cpu_no, driver_entry, entry_of, is_narrow, is_narrow_cpu};
+ghost use Rattle.irq_base.specs.Packed.{is_narrow_dev, is_narrow_driver, is_of_driver, flags_at};
 
 use crate::calls::Flags;
 use crate::codes::{
@@ -202,7 +205,8 @@ impl Parts {
 
     // The end of a processor's round.
     fn end(self) -> Entry
-        ensures { result ≡ entries.End (cpu_no self.first) (flag_at (self.code % 2)) (flag_at (self.code / 2 % 2)) (note_at (self.code / 4)) }
+        ensures { result ≡ entries.End (cpu_no self.first) (flag_at (self.code % 2))
+            (flag_at (self.code / 2 % 2)) (note_at (self.code / 4)) }
     {
         Entry::End {
             cpu: CpuNo(self.first),
@@ -277,28 +281,32 @@ impl Parts {
 
 // The parts of what a processor does, if its number fits.
 fn of_cpu(tag: u32, code: u32, cpu: CpuNo) -> Option<Parts>
-    ensures { result ≡ (if is_narrow_cpu cpu then Some (record { tag = tag; code = code; first = cpu.0; second = 0 }) else None) }
+    ensures { result ≡ (if is_narrow_cpu cpu then Some
+        (record { tag = tag; code = code; first = cpu.0; second = 0 }) else None) }
 {
     Parts::new(tag, code, cpu.0, 0).only_if(is_narrow_cpu(cpu))
 }
 
 // The parts of what a device's thread does, if the device's number fits.
 fn of_thread(tag: u32, code: u32, dev: DevNo, second: u32) -> Option<Parts>
-    ensures { result ≡ (if is_narrow_dev dev then Some (record { tag = tag; code = code; first = dev.0; second = second }) else None) }
+    ensures { result ≡ (if is_narrow_dev dev then Some
+        (record { tag = tag; code = code; first = dev.0; second = second }) else None) }
 {
     Parts::new(tag, code, dev.0, second).only_if(is_narrow_dev(dev))
 }
 
 // The parts of what a driver does with a device, if their numbers fit.
 fn of_device(tag: u32, code: u32, driver: DriverNo, dev: DevNo) -> Option<Parts>
-    ensures { result ≡ (if (is_narrow_driver driver && is_narrow_dev dev) then Some (record { tag = tag; code = code; first = driver.0; second = dev.0 }) else None) }
+    ensures { result ≡ (if (is_narrow_driver driver && is_narrow_dev dev) then Some
+        (record { tag = tag; code = code; first = driver.0; second = dev.0 }) else None) }
 {
     Parts::new(tag, code, driver.0, dev.0).only_if(is_narrow_driver(driver) && is_narrow_dev(dev))
 }
 
 // The parts of what a driver does with the line, if the driver's number fits.
 fn of_call(tag: u32, code: u32, driver: DriverNo, second: u32) -> Option<Parts>
-    ensures { result ≡ (if is_narrow_driver driver then Some (record { tag = tag; code = code; first = driver.0; second = second }) else None) }
+    ensures { result ≡ (if is_narrow_driver driver then Some
+        (record { tag = tag; code = code; first = driver.0; second = second }) else None) }
 {
     Parts::new(tag, code, driver.0, second).only_if(is_narrow_driver(driver))
 }

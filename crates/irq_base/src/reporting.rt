@@ -1,5 +1,6 @@
 //! The histories that a run of the program hands out.
-ghost use Rattle.std.specs.Prelude.{◌≡◌, ℕ, ◌+◌, ◌-◌, ◌<◌, ◌≤◌, ◌==◌, [], ◌∷◌, ◌++◌, length, IfOk, OnOk, OnErr, IsOk, slice_get, slice_set, Some};
+ghost use Rattle.std.specs.Prelude.{◌≡◌, ℕ, ◌+◌, ◌-◌, ◌<◌, ◌≤◌, ◌==◌, [], ◌∷◌, ◌++◌, length};
+ghost use Rattle.std.specs.Prelude.{IfOk, OnOk, OnErr, IsOk, slice_get, slice_set, Some};
 ghost use Rattle.std.specs.Borrow.{Lends, sem};
 ghost use Rattle.irq_base.specs.contracts.reporting.Logs.{the_row as logs_row};
 ghost use Rattle.irq_base.specs.contracts.histories.History.{the_row as history_row};
@@ -33,7 +34,10 @@ impl Model for Reports {
 
     ghost Value = { ReportsSeen };
 
-    ghost view = { λ r. record { reports = r.reports.items; spare = vec_capacity r.reports - vec_len r.reports } };
+    ghost view = { λ r. record {
+      reports = r.reports.items;
+      spare = vec_capacity r.reports - vec_len r.reports;
+    } };
 }
 
 impl Reports {
@@ -151,7 +155,8 @@ impl Logs {
     /// The history at index `place`, below the length, to be written. All others stay as they are.
     pub fn history_mut(&mut self, place: usize) -> &mut History
         requires { place < length self.old }
-        ensures* writes_back { sem 𝓛 (Lends logs_row history_row self.entry result (slice_set self.old place)) }
+        ensures* writes_back { sem 𝓛 (Lends logs_row history_row self.entry result
+            (slice_set self.old place)) }
         ensures value { slice_get self.old place ≡ Some result.now }
     {
         &mut self.histories[place]

@@ -1,5 +1,6 @@
 -- What is promised of lines behind a demultiplexer: at each moment, and as a chain is left.
-use Rattle.std.specs.Prelude.{◌≡◌, ℕ, true, is_some, IsTrue, ◌||◌, Some, None, List, ◌∷◌, ◌++◌, reverse, slice_get}
+use Rattle.std.specs.Prelude.{◌≡◌, ℕ, true, is_some, IsTrue, ◌||◌, Some, None, List, ◌∷◌, ◌++◌}
+use Rattle.std.specs.Prelude.{reverse, slice_get}
 use Rattle.irq_base.specs.Cell.{signals}
 use Rattle.board_def.specs.Seen.{BoardSeen}
 use Rattle.board_play.specs.Lines.{BoardLine}

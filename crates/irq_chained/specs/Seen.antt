@@ -32,7 +32,8 @@ seen_of system marks parent = record {
   parent = parent;
 }
 
-pub record IsDemux (system : SystemSeen) (marks : List Mark) (walk : Option Walk) (cell : Cell) : Type 0 where
+pub record IsDemux (system : SystemSeen) (marks : List Mark) (walk : Option Walk) (cell : Cell)
+    : Type 0 where
   pub fits : is_for_chain system.board ≡ true
   -- each step was the next one of its actor
   pub legal : IsChainLegal system.board (reverse (merged marks system.log 0))

@@ -1,5 +1,6 @@
 -- What a turn of a demultiplexer comes to, and a play.
-use Rattle.std.specs.Prelude.{◌≡◌, ◌<◌, ℕ, IfSome, IsSomeAnd, Option, Some, None, List, [], ◌∷◌, ◌++◌, length, reverse}
+use Rattle.std.specs.Prelude.{◌≡◌, ◌<◌, ℕ, IfSome, IsSomeAnd, Option, Some, None, List, [], ◌∷◌}
+use Rattle.std.specs.Prelude.{◌++◌, length, reverse}
 use Rattle.irq_base.specs.declared.entries.Actor.{Actor}
 use Rattle.irq_base.specs.declared.entries.Actor.TheVariants as actors
 use Rattle.irq_base.specs.declared.numbers.LineNo.{LineNo}
@@ -25,10 +26,12 @@ lines_now d = lines_in d.board (reverse d.log)
 -- the line that the step moves, if it moves one, has room for it
 abbrev pub HasRoomFor : DemuxSeen → ChainEntry → Type 0
 HasRoomFor d e =
-    IfSome (told e) (λ m. IsSomeAnd (find_line (lines_now d) m.0) (λ x. length x.past < d.board.log))
+    IfSome (told e) (λ m. IsSomeAnd (find_line (lines_now d) m.0)
+    (λ x. length x.past < d.board.log))
 
 -- e was the next step, its line had room for it, and the log now ends with it
-pub record Goes (old : DemuxSeen) (due : Option ChainEntry) (e : ChainEntry) (new : DemuxSeen) : Type 0 where
+pub record Goes (old : DemuxSeen) (due : Option ChainEntry) (e : ChainEntry) (new : DemuxSeen)
+    : Type 0 where
   pub is : due ≡ Some e
   pub room : HasRoomFor old e
   pub board : new.board ≡ old.board
@@ -36,7 +39,8 @@ pub record Goes (old : DemuxSeen) (due : Option ChainEntry) (e : ChainEntry) (ne
   pub log : new.log ≡ old.log ++ e ∷ []
 
 -- an entry of a child is due, and its history has the greatest length, which is answered
-pub record IsFullFor (d : DemuxSeen) (due : Option ChainEntry) (line : LineNo) (len : ℕ) : Type 0 where
+pub record IsFullFor (d : DemuxSeen) (due : Option ChainEntry) (line : LineNo) (len : ℕ)
+    : Type 0 where
   pub step : ChainEntry
   pub is : due ≡ Some step
   pub move : Move

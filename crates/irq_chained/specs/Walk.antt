@@ -1,6 +1,8 @@
 -- The log of a demultiplexer: the moves of the children, which its system keeps, and the places
 -- among them at which enters and exits stand. The oldest comes first here.
-use Rattle.std.specs.Prelude.{◌≡◌, ℕ, ◌+◌, ◌-◌, ◌<◌, ◌≤◌, ◌==◌, Bool, true, not, ◌&&◌, if◌then◌else◌, nat_le, List, [], ◌∷◌, ◌++◌, All, Option, Some, None, drop, length, map, slice_get, take}
+use Rattle.std.specs.Prelude.{◌≡◌, ℕ, ◌+◌, ◌-◌, ◌<◌, ◌≤◌, ◌==◌, Bool, true, not, ◌&&◌}
+use Rattle.std.specs.Prelude.{if◌then◌else◌, nat_le, List, [], ◌∷◌, ◌++◌, All, Option, Some, None}
+use Rattle.std.specs.Prelude.{drop, length, map, slice_get, take}
 use Rattle.board_play.specs.Lines.{BoardLine, Move}
 use Rattle.board_ready.specs.Sets.{has}
 use Rattle.board_core.specs.declared.turns.Turn.{Turn}

@@ -1,5 +1,6 @@
 //! The demultiplexer.
-ghost use Rattle.std.specs.Prelude.{◌≡◌, ◌<◌, true, IfOk, IsSome, IsTrue, List, [], None, Some, reverse, slice_get};
+ghost use Rattle.std.specs.Prelude.{◌≡◌, ◌<◌, true, IfOk, IsSome, IsTrue, List, [], None, Some};
+ghost use Rattle.std.specs.Prelude.{reverse, slice_get};
 ghost use Rattle.irq_base.specs.declared.entries.Actor.{Actor};
 ghost use Rattle.irq_base.specs.declared.entries.Actor.TheVariants as actors;
 ghost use Rattle.board_def.specs.Layout.{layout_of};
@@ -9,10 +10,12 @@ ghost use Rattle.board_play.specs.Order.{due_on, flow_line};
 ghost use Rattle.board_core.specs.Firsts.{is_take_due, number_of};
 ghost use Rattle.board_core.specs.Making.{MakesAll};
 ghost use Rattle.board_core.specs.Seen.{board_lines};
-ghost use Rattle.irq_chained.specs.Chain.{IsChainLegal, child, cpu_0, lines_in, open_status, or_step};
+ghost use Rattle.irq_chained.specs.Chain.{IsChainLegal, child, cpu_0, lines_in, open_status};
+ghost use Rattle.irq_chained.specs.Chain.{or_step};
 ghost use Rattle.irq_chained.specs.Fits.{is_for_chain};
 ghost use Rattle.irq_chained.specs.Parent.{parent_cell};
-ghost use Rattle.irq_chained.specs.Turned.{IsOther, IsPlay, IsUnderway, TurnsBy, lowest_driver_of, lowest_of, next_of, turn_of};
+ghost use Rattle.irq_chained.specs.Turned.{IsOther, IsPlay, IsUnderway, TurnsBy};
+ghost use Rattle.irq_chained.specs.Turned.{lowest_driver_of, lowest_of, next_of, turn_of};
 ghost use Rattle.irq_chained.specs.Walk.{IsWalkOf};
 ghost use Rattle.irq_chained.specs.declared.chain.ChainEntry.TheVariants as steps;
 
@@ -29,7 +32,8 @@ use irq_line::{IrqLine, MakesLine};
 use std::alloc::Global;
 use std::marker::Model;
 
-/// The lines of a board that take part, behind one input of a parent, with the steps that were made.
+/// The lines of a board that take part, behind one input of a parent, with the steps that were
+/// made.
 #[derive(Drop)]
 pub struct Demux<'b, L: IrqLine> {
     system: System<'b, L>,
@@ -45,7 +49,8 @@ impl<'b, L: IrqLine> Model for Demux<'b, L> {
 
     ghost view = { λ d. seen_of d.system d.marks.items (⟦<LevelChip as Chip>⟧.cell d.parent) };
 
-    ghost invariant = { λ d. IsDemux d.system d.marks.items d.walk (⟦<LevelChip as Chip>⟧.cell d.parent) };
+    ghost invariant = { λ d. IsDemux d.system d.marks.items d.walk
+        (⟦<LevelChip as Chip>⟧.cell d.parent) };
 }
 
 impl<'b, L: IrqLine> Demux<'b, L> {
@@ -84,7 +89,8 @@ impl<'b, L: IrqLine> Demux<'b, L> {
         ensures board { IsBoard self.now.board }
         ensures fits { is_for_chain self.now.board ≡ true }
         ensures legal { IsChainLegal self.now.board (reverse self.now.log) }
-        ensures lines { board_lines self.now.lines ≡ lines_in self.now.board (reverse self.now.log) }
+        ensures lines { board_lines self.now.lines
+            ≡ lines_in self.now.board (reverse self.now.log) }
         ensures kept { AreKept self.now.board (board_lines self.now.lines) }
         ensures parent { self.now.parent ≡ parent_cell self.now.board (reverse self.now.log) }
     {

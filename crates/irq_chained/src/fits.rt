@@ -4,7 +4,8 @@ ghost use Rattle.std.specs.List.{list_any};
 ghost use Rattle.irq_model.specs.Lines.{is_in_mask};
 ghost use Rattle.domain_rules.specs.Layout.{count_of_mapped};
 ghost use Rattle.board_def.specs.Layout.{layout_of};
-ghost use Rattle.irq_chained.specs.Fits.{is_affinity_call, is_for_chain, leaves_out, mapped_at, moves_a_line};
+ghost use Rattle.irq_chained.specs.Fits.{is_affinity_call, is_for_chain, leaves_out, mapped_at};
+ghost use Rattle.irq_chained.specs.Fits.{moves_a_line};
 
 use board_def::{Board, Layout, LineRow, Placement, ScriptCall};
 use irq_base::Call;

@@ -14,19 +14,23 @@ ghost use Rattle.irq_chained.specs.declared.chain.ChainEntry.{ChainEntry};
 /// Each step of a play was the next one of the actor that made it.
 #[tactic(auto, using(crate::proofs::Chained::plays_are_legal))]
 pub fn plays_are_legal()
-    ensures law { (b : BoardSeen) (picks : List Actor) (g : List ChainEntry) (left : List Actor) → IsMade (chain_order b) picks g left → IsChainLegal b g }
+    ensures law { (b : BoardSeen) (picks : List Actor) (g : List ChainEntry) (left : List Actor)
+        → IsMade (chain_order b) picks g left → IsChainLegal b g }
 {}
 
 /// No child's signal is lost: at each moment a child with a take due has an open chain or a parent
 /// that signals; and a chain is left only when no child of its status is left.
 #[tactic(auto, using(crate::proofs::Chained::keeps_signals))]
 pub fn keeps_signals()
-    ensures law { (b : BoardSeen) (log : List ChainEntry) → IsChainLegal b (reverse log) → KeepsSignals b log }
+    ensures law { (b : BoardSeen) (log : List ChainEntry) → IsChainLegal b (reverse log)
+        → KeepsSignals b log }
 {}
 
 /// No standstill: an actor that has no step of the chain can't move on its line either. So where
 /// nobody has one, all is settled and delivered, as on any board.
 #[tactic(auto, using(crate::proofs::Resting::rests))]
 pub fn chain_rests()
-    ensures law { (b : BoardSeen) → IsBoard b → is_for_chain b ≡ true → (g : List ChainEntry) → IsChainLegal b g → AreKept b (lines_in b g) → (a : Actor) → chain_next b g a ≡ None → due_move b (lines_in b g) a ≡ None }
+    ensures law { (b : BoardSeen) → IsBoard b → is_for_chain b ≡ true → (g : List ChainEntry)
+        → IsChainLegal b g → AreKept b (lines_in b g) → (a : Actor) → chain_next b g a ≡ None
+        → due_move b (lines_in b g) a ≡ None }
 {}

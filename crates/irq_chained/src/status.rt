@@ -1,5 +1,6 @@
 //! The status of a demultiplexer, and its parent's input.
-ghost use Rattle.std.specs.Prelude.{◌≡◌, ◌<◌, ◌==◌, ℕ, true, false, if◌then◌else◌, IsTrue, Some, slice_get};
+ghost use Rattle.std.specs.Prelude.{◌≡◌, ◌<◌, ◌==◌, ℕ, true, false, if◌then◌else◌, IsTrue, Some};
+ghost use Rattle.std.specs.Prelude.{slice_get};
 ghost use Rattle.irq_base.specs.Cell.{after_high, is_edge_cell};
 ghost use Rattle.board_ready.specs.First.{first_of};
 ghost use Rattle.board_ready.specs.Sets.{has};

@@ -1,5 +1,6 @@
 -- The judgement of an input.
-use Rattle.std.specs.Prelude.{◌≡◌, ℕ, nat_lt, if◌then◌else◌, Option, Some, None, Result, Ok, Err, List, length}
+use Rattle.std.specs.Prelude.{◌≡◌, ℕ, nat_lt, if◌then◌else◌, Option, Some, None, Result, Ok, Err}
+use Rattle.std.specs.Prelude.{List, length}
 use Rattle.board_def.specs.Seen.{BoardSeen}
 use Rattle.board_stated.specs.TextOf.{board_of_text, whole}
 use Rattle.board_words.specs.declared.faults.BoardFault.{BoardFault}

@@ -1,5 +1,6 @@
 -- How a check ends: what was read, and what the output gained.
-use Rattle.std.specs.Prelude.{◌≡◌, ℕ, ◌+◌, Bool, true, false, Option, Some, None, List, [], drop, Result, Ok, Err}
+use Rattle.std.specs.Prelude.{◌≡◌, ℕ, ◌+◌, Bool, true, false, Option, Some, None, List, [], drop}
+use Rattle.std.specs.Prelude.{Result, Ok, Err}
 use Rattle.irq_io.specs.Told.{IsTold}
 use Rattle.irq_io.specs.Whole.{WritesAll}
 use Rattle.irq_io.specs.declared.whole.WriteEnd.TheVariants as writes

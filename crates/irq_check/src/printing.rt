@@ -3,7 +3,8 @@ ghost use Rattle.std.specs.Prelude.{◌≡◌, [], false, true};
 ghost use Rattle.irq_io.specs.Faults.{Counts};
 ghost use Rattle.irq_io.specs.Whole.{HandsOn, KeepsNone, WritesAll, writing_failed};
 ghost use Rattle.irq_check.specs.AnswerText.{answer_text};
-ghost use Rattle.irq_check.specs.Ends.{Reads, SaysOrNot, is_answered, is_printing, is_read_fault_end, is_write_fault_end};
+ghost use Rattle.irq_check.specs.Ends.{Reads, SaysOrNot, is_answered, is_printing};
+ghost use Rattle.irq_check.specs.Ends.{is_read_fault_end, is_write_fault_end};
 
 use crate::answers::{Answer, answer_row};
 use crate::inputs::{InputRefused, check_input};

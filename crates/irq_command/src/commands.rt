@@ -6,7 +6,8 @@ ghost use Rattle.irq_words.specs.declared.Command.{Command};
 ghost use Rattle.program_io.specs.Arguments.{IsNotText};
 ghost use Rattle.program_io.specs.ErrorRows.{Tells};
 ghost use Rattle.irq_top.specs.Commands.{Does, ReadsNothing};
-ghost use Rattle.irq_top.specs.Ending.{error_text, is_printed, is_printing, is_read_fault_end, is_write_fault_end};
+ghost use Rattle.irq_top.specs.Ending.{error_text, is_printed, is_printing, is_read_fault_end};
+ghost use Rattle.irq_top.specs.Ending.{is_write_fault_end};
 ghost use Rattle.irq_command.specs.Arguments.{FormReadsNothing, IsForm, IsNoForm};
 
 use callbacks::{ByKind, Callbacks};

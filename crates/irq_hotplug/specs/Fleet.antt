@@ -1,6 +1,8 @@
 -- All lines, what they are said to do, and what becomes of them as processors go offline and come
 -- online.
-use Rattle.std.specs.Prelude.{ℕ, nat_lt, nat_le, max, Bool, true, false, if◌then◌else◌, Option, Some, None, unwrap_or, option_to_list, List, [], ◌∷◌, ◌++◌, length, replicate, count_by, slice_set}
+use Rattle.std.specs.Prelude.{ℕ, nat_lt, nat_le, max, Bool, true, false, if◌then◌else◌, Option}
+use Rattle.std.specs.Prelude.{Some, None, unwrap_or, option_to_list, List, [], ◌∷◌, ◌++◌, length}
+use Rattle.std.specs.Prelude.{replicate, count_by, slice_set}
 use Rattle.irq_base.specs.declared.lines.LineDef.{LineDef}
 use Rattle.irq_base.specs.declared.numbers.CpuNo.{CpuNo}
 use Rattle.irq_base.specs.declared.numbers.LineNo.{LineNo}

@@ -1,5 +1,6 @@
 -- Where a line is placed: on which processor, and which of its vectors it gets.
-use Rattle.std.specs.Prelude.{ℕ, zero, suc, Bool, true, false, not, ◌&&◌, if◌then◌else◌, Option, Some, None, List, length, slice_index_or}
+use Rattle.std.specs.Prelude.{ℕ, zero, suc, Bool, true, false, not, ◌&&◌, if◌then◌else◌, Option}
+use Rattle.std.specs.Prelude.{Some, None, List, length, slice_index_or}
 use Rattle.std.specs.Option.{option_or}
 use Rattle.irq_model.specs.Lines.{is_in_mask}
 use Rattle.vector_matrix.specs.Vectors.{vector_of}

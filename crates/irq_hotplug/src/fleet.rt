@@ -1,12 +1,14 @@
 //! All lines, each with its vector, on the processors that are online.
-ghost use Rattle.std.specs.Prelude.{◌≡◌, ℕ, ◌≤◌, ◌<◌, [], true, None, All, IfOk, OnErr, OnOk, length, count_by, slice_index, slice_set};
+ghost use Rattle.std.specs.Prelude.{◌≡◌, ℕ, ◌≤◌, ◌<◌, [], true, None, All, IfOk, OnErr, OnOk};
+ghost use Rattle.std.specs.Prelude.{length, count_by, slice_index, slice_set};
 ghost use Rattle.board_def.specs.Layout.{layout_of};
 ghost use Rattle.irq_base.specs.declared.numbers.CpuNo.{CpuNo};
 ghost use Rattle.vector_matrix.specs.Steps.{has};
 ghost use Rattle.vector_matrix.specs.Vectors.{vector_of};
 ghost use Rattle.vector_matrix.specs.declared.view.Vector.{Vector};
 ghost use Rattle.irq_hotplug.specs.Berths.{IsPlaced, stands_at};
-ghost use Rattle.irq_hotplug.specs.Fleet.{after_off, after_on, first_fleet, off_answer, off_refusal, on_answer, placed_fleet, says};
+ghost use Rattle.irq_hotplug.specs.Fleet.{after_off, after_on, first_fleet, off_answer};
+ghost use Rattle.irq_hotplug.specs.Fleet.{off_refusal, on_answer, placed_fleet, says};
 ghost use Rattle.irq_hotplug.specs.Kept.{IsBare, IsSaidOf};
 ghost use Rattle.irq_hotplug.specs.Held.{IsSized};
 ghost use Rattle.std.specs.List.{list_any};

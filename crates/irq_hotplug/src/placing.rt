@@ -1,9 +1,11 @@
 //! Lines are placed anew, all or those of a processor: first each finds a vector, and then, if all
 //! found one, they are settled there.
-ghost use Rattle.std.specs.Prelude.{◌≡◌, ℕ, ◌+◌, ◌≤◌, [], ◌++◌, true, length, All, count_by, if◌then◌else◌, option_to_list};
+ghost use Rattle.std.specs.Prelude.{◌≡◌, ℕ, ◌+◌, ◌≤◌, [], ◌++◌, true, length, All, count_by};
+ghost use Rattle.std.specs.Prelude.{if◌then◌else◌, option_to_list};
 ghost use Rattle.vector_matrix.specs.Vectors.{count_of, is_in};
 ghost use Rattle.vector_matrix.specs.declared.view.Vector.{Vector};
-ghost use Rattle.irq_hotplug.specs.Berths.{IfThere, all_found, all_settled, finds, is_at, settled, stands_at};
+ghost use Rattle.irq_hotplug.specs.Berths.{IfThere, all_found, all_settled, finds, is_at};
+ghost use Rattle.irq_hotplug.specs.Berths.{settled, stands_at};
 ghost use Rattle.irq_hotplug.specs.Held.{held_in, IsSized};
 ghost use Rattle.irq_hotplug.specs.Kept.{HasQueue};
 ghost use Rattle.irq_hotplug.specs.Rows.{all_rows, is_move, rows_for};

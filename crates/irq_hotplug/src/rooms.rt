@@ -1,5 +1,6 @@
 //! A list with spare room.
-ghost use Rattle.std.specs.Prelude.{◌≡◌, ◌+◌, ◌<◌, ◌≤◌, [], ◌∷◌, ◌++◌, IfOk, OnOk, OnErr, drop, length, slice_index_or};
+ghost use Rattle.std.specs.Prelude.{◌≡◌, ◌+◌, ◌<◌, ◌≤◌, [], ◌∷◌, ◌++◌, IfOk, OnOk, OnErr, drop};
+ghost use Rattle.std.specs.Prelude.{length, slice_index_or};
 
 use irq_base::NoMemory;
 use std::alloc::Global;

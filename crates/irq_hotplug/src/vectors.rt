@@ -1,8 +1,10 @@
 //! The vectors that the lines hold.
-ghost use Rattle.std.specs.Prelude.{◌≡◌, ℕ, ◌<◌, ◌≤◌, ◌++◌, [], true, false, None, IfOk, length, slice_index, option_to_list, if◌then◌else◌};
+ghost use Rattle.std.specs.Prelude.{◌≡◌, ℕ, ◌<◌, ◌≤◌, ◌++◌, [], true, false, None, IfOk, length};
+ghost use Rattle.std.specs.Prelude.{slice_index, option_to_list, if◌then◌else◌};
 ghost use Rattle.vector_matrix.specs.Vectors.{is_in, without, vector_of, IsEachOnce};
 ghost use Rattle.vector_matrix.specs.Steps.{has};
-ghost use Rattle.irq_hotplug.specs.Placing.{lowest_free, first_free, is_asked, is_online, place_for};
+ghost use Rattle.irq_hotplug.specs.Placing.{lowest_free, first_free, is_asked, is_online};
+ghost use Rattle.irq_hotplug.specs.Placing.{place_for};
 ghost use Rattle.irq_hotplug.specs.Held.{held_in};
 ghost use Rattle.irq_model.specs.Lines.{is_in_mask};
 ghost use Rattle.irq_base.specs.declared.numbers.CpuNo.{CpuNo};

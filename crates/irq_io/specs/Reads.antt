@@ -1,5 +1,6 @@
 -- What a read answers, and what the source has left after it.
-use Rattle.std.specs.Prelude.{◌≡◌, ℕ, ◌≤◌, Bool, true, false, Option, Some, None, List, [], length, take, drop}
+use Rattle.std.specs.Prelude.{◌≡◌, ℕ, ◌≤◌, Bool, true, false, Option, Some, None, List, []}
+use Rattle.std.specs.Prelude.{length, take, drop}
 use Rattle.irq_io.specs.declared.sources.ReadAnswer.{ReadAnswer}
 use Rattle.irq_io.specs.declared.sources.ReadAnswer.TheVariants as answers
 

@@ -1,5 +1,6 @@
 -- What a reading and a writing in many pieces answer and leave.
-use Rattle.std.specs.Prelude.{◌≡◌, ℕ, Bool, true, false, Option, Some, None, List, [], ◌++◌, ◌≤◌, length, take, drop, Result, Ok, Err}
+use Rattle.std.specs.Prelude.{◌≡◌, ℕ, Bool, true, false, Option, Some, None, List, [], ◌++◌, ◌≤◌}
+use Rattle.std.specs.Prelude.{length, take, drop, Result, Ok, Err}
 use Rattle.irq_io.specs.Told.{IsBeginning}
 use Rattle.irq_io.specs.declared.whole.ReadRefused.{ReadRefused}
 use Rattle.irq_io.specs.declared.whole.ReadRefused.TheVariants as refusals

@@ -1,5 +1,6 @@
 -- What a write and a flush answer, and what the sink holds after them.
-use Rattle.std.specs.Prelude.{◌≡◌, ℕ, ◌≤◌, Bool, true, false, Option, Some, None, List, [], ◌++◌, take}
+use Rattle.std.specs.Prelude.{◌≡◌, ℕ, ◌≤◌, Bool, true, false, Option, Some, None, List, [], ◌++◌}
+use Rattle.std.specs.Prelude.{take}
 use Rattle.irq_io.specs.declared.sinks.WriteAnswer.{WriteAnswer}
 use Rattle.irq_io.specs.declared.sinks.WriteAnswer.TheVariants as writes
 use Rattle.irq_io.specs.declared.sinks.FlushAnswer.{FlushAnswer}

@@ -5,7 +5,8 @@ ghost use Rattle.std.proofs.Common.{sym};
 ghost use Rattle.std.proofs.lemmas.List.{append-nil};
 ghost use Rattle.irq_io.specs.Faults.{Counts, next_count, count_after};
 ghost use Rattle.irq_io.specs.Told.{GrowsTo, Stays};
-ghost use Rattle.irq_io.specs.Writes.{HandsAllOn, IfTook, LeavesNone, TookWithin, Writes, flush_failed, taken_of, write_failed};
+ghost use Rattle.irq_io.specs.Writes.{HandsAllOn, IfTook, LeavesNone, TookWithin, Writes};
+ghost use Rattle.irq_io.specs.Writes.{flush_failed, taken_of, write_failed};
 
 use crate::listed::is_listed;
 use crate::sinks::{FlushAnswer, Sink, WriteAnswer};
@@ -34,7 +35,15 @@ impl Model for MemSink {
 
     ghost Value = { MemSinkSeen };
 
-    ghost view = { λ s. record { content = s.content.items; room = s.room; fails = s.fails.items; flush_fails = s.flush_fails.items; writes = s.writes; flushes = s.flushes; faults = s.faults } };
+    ghost view = { λ s. record {
+      content = s.content.items;
+      room = s.room;
+      fails = s.fails.items;
+      flush_fails = s.flush_fails.items;
+      writes = s.writes;
+      flushes = s.flushes;
+      faults = s.faults;
+    } };
 
     ghost invariant = { λ s. vec_len s.content + s.room ≤ vec_capacity s.content };
 }
@@ -61,7 +70,8 @@ impl MemSink {
         room: usize,
     ) -> Result<MemSink, NoMemory>
         ensures content { IfOk result (λ s. (s.content ≡ []) × (s.room ≡ room)) }
-        ensures settings { IfOk result (λ s. (s.fails ≡ fails.now) × (s.flush_fails ≡ flush_fails.now)) }
+        ensures settings { IfOk result (λ s. (s.fails ≡ fails.now)
+            × (s.flush_fails ≡ flush_fails.now)) }
         ensures counts { IfOk result (λ s. (s.writes ≡ 0) × (s.flushes ≡ 0) × (s.faults ≡ 0)) }
     {
         let content = Vec::with_capacity(alloc, room)?;
@@ -122,7 +132,8 @@ impl Sink for MemSink {
         ensures writes { self.new.writes ≡ next_count self.old.writes }
         ensures room { self.new.room ≡ self.old.room - taken_of result }
         ensures settings { (self.new.fails ≡ self.old.fails)
-            × (self.new.flush_fails ≡ self.old.flush_fails) × (self.new.flushes ≡ self.old.flushes) }
+            × (self.new.flush_fails ≡ self.old.flush_fails)
+            × (self.new.flushes ≡ self.old.flushes) }
     {
         self.writes = self.writes.saturating_add(1);
         if self.room == 0 || is_listed(&self.fails, self.writes) {
@@ -149,7 +160,8 @@ impl Sink for MemSink {
         // The number of flushes stays at the greatest u64 once it is there; no list has this
         // number.
         ensures flushes { self.new.flushes ≡ next_count self.old.flushes }
-        ensures settings { (self.new.fails ≡ self.old.fails) × (self.new.flush_fails ≡ self.old.flush_fails)
+        ensures settings { (self.new.fails ≡ self.old.fails)
+            × (self.new.flush_fails ≡ self.old.flush_fails)
             × (self.new.writes ≡ self.old.writes) × (self.new.room ≡ self.old.room) }
     {
         self.flushes = self.flushes.saturating_add(1);

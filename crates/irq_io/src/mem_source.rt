@@ -29,7 +29,13 @@ impl Model for MemSource {
 
     ghost Value = { MemSourceSeen };
 
-    ghost view = { λ s. record { left = drop s.at s.bytes.items; piece = s.piece; fails = s.fails.items; reads = s.reads; faults = s.faults } };
+    ghost view = { λ s. record {
+      left = drop s.at s.bytes.items;
+      piece = s.piece;
+      fails = s.fails.items;
+      reads = s.reads;
+      faults = s.faults;
+    } };
 
     ghost invariant = { λ s. (s.at ≤ length s.bytes.items) × (1 ≤ s.piece) };
 }
@@ -81,8 +87,10 @@ impl Source for MemSource {
         ensures cause { Counts self.old.faults self.new.faults (read_failed result) }
 
         // It gives as many bytes as `piece`, the buffer and what is left allow.
-        ensures amount { IfGot result (λ n. n ≡ min self.old.piece (min (length buf.old) (length self.old.left))) }
-        ensures fails { (result ≡ ReadAnswer.Failed) ↔ Contains self.old.fails (next_count self.old.reads) }
+        ensures amount { IfGot result (λ n. n
+            ≡ min self.old.piece (min (length buf.old) (length self.old.left))) }
+        ensures fails { (result ≡ ReadAnswer.Failed) ↔ Contains self.old.fails
+            (next_count self.old.reads) }
         ensures faults { self.new.faults ≡ count_after self.old.faults (read_failed result) }
 
         // The number of reads stays at the greatest u64 once it is there; no list has this number.

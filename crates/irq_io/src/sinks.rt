@@ -23,7 +23,8 @@ pub trait Sink {
     ghost use Rattle.std.specs.Prelude.{◌≡◌, ℕ, Option, List, ◌<◌, length};
     ghost use Rattle.irq_io.specs.Faults.{Counts};
     ghost use Rattle.irq_io.specs.Told.{GrowsTo, IsToldBeginning, Stays};
-    ghost use Rattle.irq_io.specs.Writes.{HandsAllOn, LeavesNone, TookWithin, Writes, flush_failed, write_failed};
+    ghost use Rattle.irq_io.specs.Writes.{HandsAllOn, LeavesNone, TookWithin, Writes};
+    ghost use Rattle.irq_io.specs.Writes.{flush_failed, write_failed};
 
     /// The bytes that it took so far, if the sink tells them.
     ghost written: { Self → Option (List ℕ) };

@@ -49,7 +49,8 @@ impl<R: Read> Source for StdSource<R> {
     fn read(&mut self, buf: &mut [u8]) -> ReadAnswer
         requires { 0 < length buf.old }
         ensures bound { GotWithin (length buf.old) result }
-        ensures content { Reads (R.remaining self.old.reader) (R.remaining self.new.reader) buf.new result }
+        ensures content { Reads (R.remaining self.old.reader) (R.remaining self.new.reader)
+            buf.new result }
         ensures cause { Counts self.old.faults self.new.faults (read_failed result) }
 
         ensures faults { self.new.faults ≡ count_after self.old.faults (read_failed result) }

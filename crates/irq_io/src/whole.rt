@@ -53,7 +53,8 @@ pub fn read_up_to<S: Source>(
 ) -> Result<Vec<u8>, ReadRefused>
     requires { 1 ≤ most }
     ensures bound { IfOk result (λ v. vec_len v ≤ most) }
-    ensures content { IfOk result (λ v. TakesUpTo most (S.left source.old) (S.left source.new) v.items) }
+    ensures content { IfOk result (λ v. TakesUpTo most (S.left source.old) (S.left source.new)
+        v.items) }
     ensures refused { OnErr result (TakesAtMost most (S.left source.old) (S.left source.new)) }
     ensures cause { Counts (S.faults source.old) (S.faults source.new) (met_fault result) }
 {

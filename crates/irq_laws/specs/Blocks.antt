@@ -1,5 +1,6 @@
 -- What a driver's call waits for (`kernel/irq/manage.c`), read off the table of steps.
-use Rattle.std.specs.Prelude.{◌≡◌, ℕ, suc, ◌==◌, Bool, false, ◌&&◌, ◌||◌, if◌then◌else◌, IsSome, Some, List, reverse}
+use Rattle.std.specs.Prelude.{◌≡◌, ℕ, suc, ◌==◌, Bool, false, ◌&&◌, ◌||◌, if◌then◌else◌, IsSome}
+use Rattle.std.specs.Prelude.{Some, List, reverse}
 use Rattle.std.specs.List.{list_any}
 use Rattle.irq_base.specs.declared.numbers.DevNo.{DevNo}
 use Rattle.irq_base.specs.declared.numbers.DriverNo.{DriverNo}
@@ -18,7 +19,8 @@ use Rattle.irq_model.specs.Next.{next}
 use Rattle.irq_laws.specs.Kept.{freeing}
 
 -- what a call waits for once it has made n entries: a hard clear for the end of the flow
--- (`__synchronize_hardirq`), a sync for the rest of all threads (`synchronize_irq`), a request and a
+-- (`__synchronize_hardirq`), a sync for the rest of all threads (`synchronize_irq`), a request
+-- and a
 -- free for the request mutex, and a free's end for the rest of the device that is being freed
 -- (`kthread_stop`)
 abbrev pub block_of : Call → ℕ → WaitFor

@@ -10,7 +10,9 @@ use Rattle.irq_base.specs.declared.entries.Way.{Way}
 use Rattle.irq_base.specs.declared.entries.Way.TheVariants as ways
 use Rattle.irq_base.specs.declared.entries.TakeAnswer.{TakeAnswer}
 use Rattle.irq_base.specs.declared.entries.TakeAnswer.TheVariants as takes
-use Rattle.irq_base.specs.Cell.{Cell, fresh_cell, after_edge, after_high, after_mask, after_unmask, after_accept, after_ack, after_eoi, after_retrigger, signals as presents}
+use Rattle.irq_base.specs.Cell.{Cell, fresh_cell, after_edge, after_high, after_mask}
+use Rattle.irq_base.specs.Cell.{after_unmask, after_accept, after_ack, after_eoi, after_retrigger}
+use Rattle.irq_base.specs.Cell.{signals as presents}
 use Rattle.irq_model.specs.Kinds.{is_kill, is_last_unlink, is_start, is_chip_start}
 use Rattle.irq_model.specs.Lines.{is_edge_line, is_level_line, serves}
 use Rattle.irq_model.specs.Links.{is_oneshot}
@@ -38,7 +40,8 @@ cell_with def masked stored sent high in_service =
 
 -- the marks, read off the past
 abbrev pub cell_of : LineDef → List Entry → Cell
-cell_of def past = cell_with def (is_masked def past) (is_stored def past) (is_sent def past) (is_high def past) (serves def && has_flow def past)
+cell_of def past = cell_with def (is_masked def past) (is_stored def past) (is_sent def past)
+    (is_high def past) (serves def && has_flow def past)
 
 -- ---- what an entry does to the cell
 
@@ -106,15 +109,19 @@ driven def (entries.ThreadReturn dev count) past c =
     served def count (entries.ThreadReturn dev count ∷ past) c
 driven def (entries.Take cpu way answer) past c =
     taken def def.flow (is_oneshot past) answer (accepted way c)
-driven def (entries.End cpu again unmask note) past c = ended def def.flow again unmask (masked_if (def.unlazy && is_kill (entries.End cpu again unmask note)) c)
+driven def (entries.End cpu again unmask note) past c
+    = ended def def.flow again unmask (masked_if
+    (def.unlazy && is_kill (entries.End cpu again unmask note)) c)
 driven def (entries.Finish dev kept unmask) past c = unmasked_if unmask c
 driven def (entries.Disable driver) past c = masked_if def.unlazy c
 driven def (entries.Unlink driver dev answer) past c =
     masked_if (is_last_unlink (entries.Unlink driver dev answer)) c
 driven def (entries.Request driver dev flags answer opened) past c =
-    retriggered_if (is_chip_start (entries.Request driver dev flags answer opened)) (unmasked_if (is_start (entries.Request driver dev flags answer opened)) c)
+    retriggered_if (is_chip_start (entries.Request driver dev flags answer opened))
+    (unmasked_if (is_start (entries.Request driver dev flags answer opened)) c)
 driven def (entries.Enable driver answer) past c =
-    retriggered_if (is_chip_start (entries.Enable driver answer)) (unmasked_if (is_start (entries.Enable driver answer)) c)
+    retriggered_if (is_chip_start (entries.Enable driver answer))
+    (unmasked_if (is_start (entries.Enable driver answer)) c)
 driven def _ past c = c
 
 -- the cell after all entries

@@ -1,6 +1,7 @@
 -- What every entry keeps, beside the parts of the reasons: facts of a legal past, whose newest
 -- entry comes first.
-use Rattle.std.specs.Prelude.{◌≡◌, ℕ, suc, ◌+◌, ◌≤◌, Bool, true, false, ◌&&◌, if◌then◌else◌, Option, Some, None, List, [], ◌∷◌, nat_lt, length, drop, slice_get}
+use Rattle.std.specs.Prelude.{◌≡◌, ℕ, suc, ◌+◌, ◌≤◌, Bool, true, false, ◌&&◌, if◌then◌else◌}
+use Rattle.std.specs.Prelude.{Option, Some, None, List, [], ◌∷◌, nat_lt, length, drop, slice_get}
 use Rattle.std.specs.List.{list_any}
 use Rattle.irq_base.specs.declared.numbers.DevNo.{DevNo}
 use Rattle.irq_base.specs.declared.numbers.DriverNo.{DriverNo}
@@ -11,13 +12,18 @@ use Rattle.irq_base.specs.declared.entries.Entry.{Entry}
 use Rattle.irq_base.specs.declared.entries.Entry.TheVariants as entries
 use Rattle.irq_base.specs.declared.entries.UnlinkAnswer.TheVariants as unlinks
 use Rattle.irq_model.specs.Places.{stands, since_place, upto_place, count_of}
-use Rattle.irq_model.specs.Kinds.{same_dev, same_driver, is_freed, is_freed_by, links_dev, is_unlinked_answer}
+use Rattle.irq_model.specs.Kinds.{same_dev, same_driver, is_freed, is_freed_by, links_dev}
+use Rattle.irq_model.specs.Kinds.{is_unlinked_answer}
 use Rattle.irq_model.specs.Lines.{is_device}
 use Rattle.irq_model.specs.Links.{is_linked, is_reset, base, is_deepening, is_lowering}
 use Rattle.irq_model.specs.Rounds.{has_flow, has_begun, at_work}
 use Rattle.irq_model.specs.Due.{calls_by, entries_by, entries_of_call, due_call}
 use Rattle.irq_model.specs.Valid.{requests_dev, frees_dev}
-use Rattle.irq_model.specs.Reason.{is_called, is_being_freed, ClearedIsNotCalled, UnlinkedIsAtRest, UnfinishedIsAtWork, FlagsAgree, EnabledIsStarted, EdgeFlowMaskIsPending, EoiEdgeIsOpen, EdgePendingHasFlow, DroppedIsPending, LevelMaskIsHeld, EoiLevelMaskIsOneshot}
+use Rattle.irq_model.specs.Reason.{is_called, is_being_freed, ClearedIsNotCalled}
+use Rattle.irq_model.specs.Reason.{UnlinkedIsAtRest, UnfinishedIsAtWork, FlagsAgree}
+use Rattle.irq_model.specs.Reason.{EnabledIsStarted, EdgeFlowMaskIsPending, EoiEdgeIsOpen}
+use Rattle.irq_model.specs.Reason.{EdgePendingHasFlow, DroppedIsPending, LevelMaskIsHeld}
+use Rattle.irq_model.specs.Reason.{EoiLevelMaskIsOneshot}
 
 -- a handler is at work exactly if it was called and hasn't returned; it was called in the current
 -- round of the flow
@@ -94,7 +100,8 @@ LinkedIsWanted def past = (d : DevNo) → is_linked past d ≡ true → Wanted d
 
 -- the depth never falls below zero, and a line that isn't disabled is started
 pub record KeepsDepth (def : LineDef) (past : List Entry) : Type 0 where
-  pub exact : count_of is_lowering (since_place is_reset past) ≤ base (upto_place is_reset past) + count_of is_deepening (since_place is_reset past)
+  pub exact : count_of is_lowering (since_place is_reset past) ≤ base (upto_place is_reset past) +
+      count_of is_deepening (since_place is_reset past)
   pub enabled : EnabledIsStarted def past
 
 -- why an edge line is masked, and what is pending then

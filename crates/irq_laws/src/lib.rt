@@ -3,7 +3,8 @@
 //! body, so that crates above can call it or cite its lemma.
 #![tactic(auto)]
 
-ghost use Rattle.std.specs.Prelude.{◌≡◌, ◌⊎◌, ℕ, true, not, List, reverse, IsSome, is_some, Some, None};
+ghost use Rattle.std.specs.Prelude.{◌≡◌, ◌⊎◌, ℕ, true, not, List, reverse, IsSome, is_some, Some};
+ghost use Rattle.std.specs.Prelude.{None};
 ghost use Rattle.irq_base.specs.Who.{actor_of};
 ghost use Rattle.irq_base.specs.declared.calls.Call.{Call};
 ghost use Rattle.irq_base.specs.declared.lines.LineDef.{LineDef};
@@ -16,7 +17,8 @@ ghost use Rattle.irq_base.specs.declared.entries.Actor.TheVariants as actors;
 ghost use Rattle.irq_base.specs.declared.entries.Entry.{Entry};
 ghost use Rattle.irq_model.specs.Due.{due_call};
 ghost use Rattle.irq_model.specs.Kinds.{is_take};
-ghost use Rattle.irq_model.specs.Laws.{NoOverlap, IsSilentAfterFree, KeepsOneshot, TakesAreCounted, IsSynchronised, IsServedWhenIdle};
+ghost use Rattle.irq_model.specs.Laws.{NoOverlap, IsSilentAfterFree, KeepsOneshot};
+ghost use Rattle.irq_model.specs.Laws.{TakesAreCounted, IsSynchronised, IsServedWhenIdle};
 ghost use Rattle.irq_model.specs.Legal.{IsLegal, IsLegalPast};
 ghost use Rattle.irq_model.specs.Owed.{IsCovered, IsDelivered};
 ghost use Rattle.irq_model.specs.Reason.{HasReason, OneIsCalled, OneIsFreed};
@@ -42,20 +44,23 @@ pub fn no_overlap()
 /// Silence after free: no run of a device comes after its free before it is linked again.
 #[tactic(auto, using(crate::proofs::RunLaws::silent_after_free))]
 pub fn silent_after_free()
-    ensures law { (def : LineDef) (h : List Entry) → IsValid def → IsLegal def h → IsSilentAfterFree def h }
+    ensures law { (def : LineDef) (h : List Entry) → IsValid def → IsLegal def h
+        → IsSilentAfterFree def h }
 {}
 
 /// The one-shot promise: when an end or a finish opens a level line, no thread is unfinished.
 #[tactic(auto, using(crate::proofs::RunLaws::keeps_oneshot))]
 pub fn keeps_oneshot()
-    ensures law { (def : LineDef) (h : List Entry) → IsValid def → IsLegal def h → KeepsOneshot def h }
+    ensures law { (def : LineDef) (h : List Entry) → IsValid def → IsLegal def h
+        → KeepsOneshot def h }
 {}
 
 /// Synchronised calls: a hard clear comes only when no handler is at work, the end of a sync only
 /// when no thread is.
 #[tactic(auto, using(crate::proofs::RunLaws::synchronised))]
 pub fn synchronised()
-    ensures law { (def : LineDef) (h : List Entry) → IsValid def → IsLegal def h → IsSynchronised def h }
+    ensures law { (def : LineDef) (h : List Entry) → IsValid def → IsLegal def h
+        → IsSynchronised def h }
 {}
 
 /// A started line with linked devices is masked for a reason: it is disabled, or a flow is in
@@ -83,26 +88,30 @@ pub fn takes_are_counted()
 /// is handled, if an edge is owed, or if the level is high and no thread is unfinished.
 #[tactic(auto, using(crate::proofs::ServedLaws::served_when_idle))]
 pub fn served_when_idle()
-    ensures law { (def : LineDef) (h : List Entry) → IsValid def → IsLegal def h → IsServedWhenIdle def h }
+    ensures law { (def : LineDef) (h : List Entry) → IsValid def → IsLegal def h
+        → IsServedWhenIdle def h }
 {}
 
 /// Some processor of the machine takes the line's interrupts.
 #[tactic(auto, using(crate::proofs::ServedLaws::has_target))]
 pub fn has_target()
-    ensures law { (def : LineDef) (past : List Entry) → IsValid def → IsLegalPast def past → IsSome (target def past) }
+    ensures law { (def : LineDef) (past : List Entry) → IsValid def → IsLegalPast def past
+        → IsSome (target def past) }
 {}
 
 /// No standstill: if no actor may add an entry, every driver's calls are complete.
 #[tactic(auto, using(crate::proofs::RestLaws::no_standstill))]
 pub fn no_standstill()
-    ensures law { (def : LineDef) (h : List Entry) → IsValid def → IsLegal def h → ((a : Actor) → next def h a ≡ None) → IsSettled def h }
+    ensures law { (def : LineDef) (h : List Entry) → IsValid def → IsLegal def h
+        → ((a : Actor) → next def h a ≡ None) → IsSettled def h }
 {}
 
 /// Delivered: at rest no edge is owed on a line that isn't left disabled, and on a level line every
 /// linked device that works has all its asks served.
 #[tactic(auto, using(crate::proofs::RestLaws::settled_is_delivered))]
 pub fn settled_is_delivered()
-    ensures law { (def : LineDef) (h : List Entry) → IsValid def → IsLegal def h → IsSettled def h → IsDelivered def h }
+    ensures law { (def : LineDef) (h : List Entry) → IsValid def → IsLegal def h → IsSettled def h
+        → IsDelivered def h }
 {}
 
 /// A driver's entries are the entries of its calls, in the order of its script, each once.
@@ -114,19 +123,22 @@ pub fn follows_scripts()
 /// The facts that every entry keeps (`Kept`) hold of every legal past, whose newest entry comes
 /// first.
 pub fn kept()
-    ensures law { (def : LineDef) (past : List Entry) → IsValid def → IsLegalPast def past → Kept def past }
+    ensures law { (def : LineDef) (past : List Entry) → IsValid def → IsLegalPast def past
+        → Kept def past }
 {}
 
 /// At most one handler is at work, and it was called in the current round of the flow in progress.
 #[tactic(auto, using(crate::proofs::ReasonLaws::one_is_called))]
 pub fn one_is_called()
-    ensures law { (def : LineDef) (past : List Entry) → IsValid def → IsLegalPast def past → OneIsCalled def past }
+    ensures law { (def : LineDef) (past : List Entry) → IsValid def → IsLegalPast def past
+        → OneIsCalled def past }
 {}
 
 /// At most one device is being freed, and the request mutex is held exactly while one is.
 #[tactic(auto, using(crate::proofs::ReasonLaws::one_is_freed))]
 pub fn one_is_freed()
-    ensures law { (def : LineDef) (past : List Entry) → IsValid def → IsLegalPast def past → OneIsFreed def past }
+    ensures law { (def : LineDef) (past : List Entry) → IsValid def → IsLegalPast def past
+        → OneIsFreed def past }
 {}
 
 /// The cell: let the entries drive the line's signal cell, each by the operations of its flow or
@@ -134,46 +146,62 @@ pub fn one_is_freed()
 /// read off the entries, and the cell presents an interrupt exactly if the line signals one.
 #[tactic(auto, using(crate::proofs::CellKept::is_driven_cell))]
 pub fn driven_cell()
-    ensures law { (def : LineDef) (h : List Entry) → IsValid def → IsLegal def h → IsDrivenCell def h }
+    ensures law { (def : LineDef) (h : List Entry) → IsValid def → IsLegal def h
+        → IsDrivenCell def h }
 {}
 
 /// What is due of an actor is an entry of that actor.
 pub fn due_is_own()
-    ensures law { (def : LineDef) (h : List Entry) (a : Actor) (e : Entry) → next def h a ≡ Some e → actor_of def.line e ≡ a }
+    ensures law { (def : LineDef) (h : List Entry) (a : Actor) (e : Entry) → next def h a ≡ Some e
+        → actor_of def.line e ≡ a }
 {}
 
 /// Only the target ever has a take due, so at most one processor has.
 pub fn one_takes()
-    ensures law { (def : LineDef) (h : List Entry) (c : CpuNo) (e : Entry) → is_take e ≡ true → next def h (actors.Cpu c) ≡ Some e → target def (reverse h) ≡ Some c }
-    ensures one { (def : LineDef) (h : List Entry) (b c : CpuNo) (e f : Entry) → is_take e ≡ true → is_take f ≡ true → next def h (actors.Cpu b) ≡ Some e → next def h (actors.Cpu c) ≡ Some f → b ≡ c }
+    ensures law { (def : LineDef) (h : List Entry) (c : CpuNo) (e : Entry) → is_take e ≡ true
+        → next def h (actors.Cpu c) ≡ Some e → target def (reverse h) ≡ Some c }
+    ensures one { (def : LineDef) (h : List Entry) (b c : CpuNo) (e f : Entry) → is_take e ≡ true
+        → is_take f ≡ true → next def h (actors.Cpu b) ≡ Some e
+        → next def h (actors.Cpu c) ≡ Some f → b ≡ c }
 {}
 
 /// The processor of the flow in progress always has an entry due.
 pub fn flow_moves()
-    ensures law { (def : LineDef) (h : List Entry) (c : CpuNo) → flow def (reverse h) ≡ Some c → IsSome (next def h (actors.Cpu c)) }
+    ensures law { (def : LineDef) (h : List Entry) (c : CpuNo) → flow def (reverse h) ≡ Some c
+        → IsSome (next def h (actors.Cpu c)) }
 {}
 
 /// A driver whose call isn't complete may add its next entry exactly if what it waits for isn't in
 /// the way.
 pub fn call_waits()
-    ensures law { (def : LineDef) (h : List Entry) → IsValid def → IsLegal def h → (r : DriverNo) (c : Call) (n : ℕ) → due_call def r (reverse h) ≡ Some (c, n) → is_some (next def h (actors.Driver r)) ≡ not (stands_in_way def (reverse h) (block_of c n)) }
+    ensures law { (def : LineDef) (h : List Entry) → IsValid def → IsLegal def h
+        → (r : DriverNo) (c : Call) (n : ℕ) → due_call def r (reverse h) ≡ Some (c, n)
+        → is_some (next def h (actors.Driver r))
+        ≡ not (stands_in_way def (reverse h) (block_of c n)) }
 {}
 
 /// No standstill among drivers: if no thread and no processor may add an entry, a driver whose
 /// calls aren't complete may, or the driver of the free that is under way may.
 pub fn drivers_move()
-    ensures law { (def : LineDef) (h : List Entry) → IsValid def → IsLegal def h → ((line : LineNo) (d : DevNo) → next def h (actors.Thread line d) ≡ None) → ((c : CpuNo) → next def h (actors.Cpu c) ≡ None) → (r : DriverNo) → IsSome (due_call def r (reverse h)) → IsSome (next def h (actors.Driver r)) ⊎ FreeMoves def h }
+    ensures law { (def : LineDef) (h : List Entry) → IsValid def → IsLegal def h
+        → ((line : LineNo) (d : DevNo) → next def h (actors.Thread line d) ≡ None)
+        → ((c : CpuNo) → next def h (actors.Cpu c) ≡ None) → (r : DriverNo)
+        → IsSome (due_call def r (reverse h))
+        → IsSome (next def h (actors.Driver r)) ⊎ FreeMoves def h }
 {}
 
 /// Quiet: on a settled line no flow is in progress, each handler that was called has returned, no
 /// thread is to run or in a run, and no free is under way.
 pub fn settled_is_quiet()
-    ensures law { (def : LineDef) (h : List Entry) → IsValid def → IsLegal def h → IsSettled def h → IsQuiet def h }
+    ensures law { (def : LineDef) (h : List Entry) → IsValid def → IsLegal def h → IsSettled def h
+        → IsQuiet def h }
 {}
 
 /// The log limit is no rule: with another limit the same is due of every actor after every history,
 /// so the same histories are legal.
 pub fn log_is_no_rule()
-    ensures law { (def : LineDef) (n : ℕ) (h : List Entry) (a : Actor) → next (with_log def n) h a ≡ next def h a }
-    ensures legal { (def : LineDef) (n : ℕ) (h : List Entry) → IsLegal def h → IsLegal (with_log def n) h }
+    ensures law { (def : LineDef) (n : ℕ) (h : List Entry) (a : Actor)
+        → next (with_log def n) h a ≡ next def h a }
+    ensures legal { (def : LineDef) (n : ℕ) (h : List Entry) → IsLegal def h
+        → IsLegal (with_log def n) h }
 {}

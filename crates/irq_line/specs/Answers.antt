@@ -2,7 +2,8 @@
 --
 -- The conditions of the four answers other than `NoMemory` exclude one another, and one of them
 -- always holds. So, but for `NoMemory`, each answer comes exactly if its condition holds.
-use Rattle.std.specs.Prelude.{◌≡◌, ◌+◌, ◌<◌, ◌≤◌, ℕ, Option, Some, None, IsSome, IfSome, Result, Ok, Err, [], ◌∷◌, ◌++◌, length}
+use Rattle.std.specs.Prelude.{◌≡◌, ◌+◌, ◌<◌, ◌≤◌, ℕ, Option, Some, None, IsSome, IfSome, Result}
+use Rattle.std.specs.Prelude.{Ok, Err, [], ◌∷◌, ◌++◌, length}
 use Rattle.irq_base.specs.Who.{actor_of}
 use Rattle.irq_base.specs.declared.devices.Run.{Run}
 use Rattle.irq_base.specs.declared.entries.Actor.{Actor}
@@ -27,7 +28,8 @@ IsDueOf line actor = IsSome (next line.def line.entries actor)
 
 -- The entry is the one that is due of the actor; if it ends a run, the run's answer was handed in.
 -- It stands at the history's end, which had room for it. At most one of the free places is gone.
-pub record AddsEntry (old : LineSeen) (who : Actor) (said : Option SaidSeen) (entry : Entry) (new : LineSeen) : Type 0 where
+pub record AddsEntry (old : LineSeen) (who : Actor) (said : Option SaidSeen) (entry : Entry)
+    (new : LineSeen) : Type 0 where
   pub due : next old.def old.entries who ≡ Some entry
   pub actor : actor_of old.def.line entry ≡ who
   pub heard : IfSome (run_of old.def old.entries who) (IsSaidFor said)
@@ -37,7 +39,8 @@ pub record AddsEntry (old : LineSeen) (who : Actor) (said : Option SaidSeen) (en
   pub spare : old.spare ≤ new.spare + 1
 
 -- The entry that is due ends this run, and what was handed in isn't its answer.
-pub record WantsRun (old : LineSeen) (who : Actor) (said : Option SaidSeen) (run : Run) : Type 0 where
+pub record WantsRun (old : LineSeen) (who : Actor) (said : Option SaidSeen) (run : Run)
+    : Type 0 where
   pub due : run_of old.def old.entries who ≡ Some run
   pub unheard : IsSaidFor said run → ⊥
   pub below : length old.entries < old.def.log

@@ -1,5 +1,6 @@
 -- What a step answers and leaves, with the handlers of the line's devices at hand.
-use Rattle.std.specs.Prelude.{◌≡◌, ◌+◌, ◌<◌, ◌≤◌, Option, Some, None, Result, Ok, Err, [], ◌∷◌, ◌++◌, length}
+use Rattle.std.specs.Prelude.{◌≡◌, ◌+◌, ◌<◌, ◌≤◌, Option, Some, None, Result, Ok, Err, [], ◌∷◌}
+use Rattle.std.specs.Prelude.{◌++◌, length}
 use Rattle.irq_base.specs.Who.{actor_of}
 use Rattle.irq_base.specs.declared.entries.Actor.{Actor}
 use Rattle.irq_base.specs.declared.entries.Entry.{Entry}
@@ -9,7 +10,8 @@ use Rattle.irq_line.specs.Seen.{LineSeen}
 use Rattle.irq_line.specs.declared.answers.StepRefused.{StepRefused}
 use Rattle.irq_line.specs.declared.answers.StepRefused.TheVariants as refusals
 
--- The entry that is due of the actor stands at the history's end, which had room for it. At most one
+-- The entry that is due of the actor stands at the history's end, which had room for it. At most
+-- one
 -- of the free places is gone.
 pub record Adds (old : LineSeen) (who : Actor) (entry : Entry) (new : LineSeen) : Type 0 where
   pub due : next old.def old.entries who ≡ Some entry

@@ -1,5 +1,6 @@
 -- What is asked of a line after each step, so that nobody goes over all its actors.
-use Rattle.std.specs.Prelude.{◌≡◌, ◌≤◌, ◌↔◌, Bool, false, IsTrue, IsSome, Option, Some, None, List, reverse}
+use Rattle.std.specs.Prelude.{◌≡◌, ◌≤◌, ◌↔◌, Bool, false, IsTrue, IsSome, Option, Some, None}
+use Rattle.std.specs.Prelude.{List, reverse}
 use Rattle.irq_base.specs.declared.numbers.CpuNo.{CpuNo}
 use Rattle.irq_base.specs.declared.numbers.DevNo.{DevNo}
 use Rattle.irq_base.specs.declared.entries.Actor.TheVariants as actors
@@ -43,7 +44,12 @@ IsLowestThread line (Some lowest) =
 
 -- what drivers' calls wait for
 abbrev pub blocks_at : LineDef → List Entry → Blocks
-blocks_at def past = record { flow = has_flow def past; threads = are_threads_at_work def past; mutex = holds_mutex past; freed = is_freed_at_work def past }
+blocks_at def past = record {
+  flow = has_flow def past;
+  threads = are_threads_at_work def past;
+  mutex = holds_mutex past;
+  freed = is_freed_at_work def past;
+}
 
 abbrev pub blocks_of : LineSeen → Blocks
 blocks_of line = blocks_at line.def (reverse line.entries)

@@ -18,8 +18,18 @@ device_of def dev = record { dev = dev; line = def.line; kind = kind_of def dev 
 -- a return ends a run of the device's handler, a thread's return a run of its thread; with the run
 -- stands how many asks were unserved as it began
 abbrev pub run_ended : LineDef → List Entry → Entry → Option Run
-run_ended def past (entries.Return cpu dev answer served) = Some (record { def = device_of def dev; part = parts.Primary; unserved = asks_of_handler def dev past })
-run_ended def past (entries.ThreadReturn dev served) = Some (record { def = device_of def dev; part = parts.Thread; unserved = asks_of_thread def dev past })
+run_ended def past (entries.Return cpu dev answer served)
+    = Some (record {
+      def = device_of def dev;
+      part = parts.Primary;
+      unserved = asks_of_handler def dev past;
+    })
+run_ended def past (entries.ThreadReturn dev served)
+    = Some (record {
+      def = device_of def dev;
+      part = parts.Thread;
+      unserved = asks_of_thread def dev past;
+    })
 run_ended def past _ = None
 
 abbrev pub run_of_entry : LineDef → List Entry → Option Entry → Option Run

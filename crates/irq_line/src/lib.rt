@@ -34,7 +34,8 @@ pub use makes::MakesLine;
 /// But for `NoMemory` a step has one answer: the conditions of the others exclude one another.
 #[tactic(auto, using(crate::proofs::OneAnswer::one_answer))]
 pub fn step_has_one_answer()
-    ensures law { (old : LineSeen) (who : Actor) (said : Option SaidSeen) (a b : Result Stepped StepRefused) (new other : LineSeen)
+    ensures law { (old : LineSeen) (who : Actor) (said : Option SaidSeen)
+        (a b : Result Stepped StepRefused) (new other : LineSeen)
         → Answers old who said a new → Answers old who said b other
         → (a ≡ Err refusals.NoMemory → ⊥) → (b ≡ Err refusals.NoMemory → ⊥) → a ≡ b }
 {}
@@ -46,7 +47,9 @@ pub fn step_has_one_answer()
 pub fn calls_wait_for_blocks()
     ensures law { (line : LineSeen) (r : DriverNo) (c : Call) (n : ℕ) → IsSound line
         → due_call line.def r (reverse line.entries) ≡ Some (c, n)
-        → (next line.def line.entries (actors.Driver r) ≡ None) ↔ IsTrue (is_blocked (block_of c n) (blocks_of line)) }
-    ensures complete { (line : LineSeen) (r : DriverNo) → due_call line.def r (reverse line.entries) ≡ None
+        → (next line.def line.entries (actors.Driver r) ≡ None) ↔ IsTrue
+        (is_blocked (block_of c n) (blocks_of line)) }
+    ensures complete { (line : LineSeen) (r : DriverNo)
+        → due_call line.def r (reverse line.entries) ≡ None
         → next line.def line.entries (actors.Driver r) ≡ None }
 {}

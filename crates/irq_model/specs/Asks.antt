@@ -29,7 +29,8 @@ ends_serving kinds.Stuck d e = false
 -- if no serving run has returned
 abbrev pub unserved_by : Kind → DevNo → List Entry → ℕ
 unserved_by kind d past =
-    count_of (is_ask d) (since (ends_serving kind d) past) + count_of (is_ask d) (since (begins_serving kind d) (before (ends_serving kind d) past))
+    count_of (is_ask d) (since (ends_serving kind d) past) + count_of (is_ask d)
+    (since (begins_serving kind d) (before (ends_serving kind d) past))
 
 abbrev pub unserved_asks : LineDef → DevNo → List Entry → ℕ
 unserved_asks def d past = unserved_by (kind_of def d) d past

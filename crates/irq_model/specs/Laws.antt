@@ -1,5 +1,6 @@
 -- The laws of every legal history: sentences about each entry and the entries before it.
-use Rattle.std.specs.Prelude.{◌≡◌, ◌+◌, ◌≤◌, Bool, true, false, ◌||◌, ◌&&◌, Some, List, ◌∷◌, reverse}
+use Rattle.std.specs.Prelude.{◌≡◌, ◌+◌, ◌≤◌, Bool, true, false, ◌||◌, ◌&&◌, Some, List, ◌∷◌}
+use Rattle.std.specs.Prelude.{reverse}
 use Rattle.irq_base.specs.declared.numbers.CpuNo.{CpuNo}
 use Rattle.irq_base.specs.declared.numbers.DevNo.{DevNo}
 use Rattle.irq_base.specs.declared.lines.LineDef.{LineDef}
@@ -9,7 +10,10 @@ use Rattle.irq_base.specs.declared.entries.Entry.TheVariants as entries
 use Rattle.irq_base.specs.declared.entries.TakeAnswer.TheVariants as takes
 use Rattle.irq_base.specs.declared.entries.Way.{Way}
 use Rattle.irq_model.specs.Places.{EachEntry, stands, count_of}
-use Rattle.irq_model.specs.Kinds.{is_any_ask, is_begin, is_return, is_thread_begin, is_thread_return, is_finish, is_done, is_freed, links_dev, is_reopening, is_line_take, is_resend_take, is_chip_start, is_soft_start, is_again, is_hard_clear, is_synced}
+use Rattle.irq_model.specs.Kinds.{is_any_ask, is_begin, is_return, is_thread_begin}
+use Rattle.irq_model.specs.Kinds.{is_thread_return, is_finish, is_done, is_freed, links_dev}
+use Rattle.irq_model.specs.Kinds.{is_reopening, is_line_take, is_resend_take, is_chip_start}
+use Rattle.irq_model.specs.Kinds.{is_soft_start, is_again, is_hard_clear, is_synced}
 use Rattle.irq_model.specs.Lines.{is_edge_line, is_level_line, is_eoi_flow}
 use Rattle.irq_model.specs.Links.{depth}
 use Rattle.irq_model.specs.Asks.{is_high}
@@ -50,7 +54,8 @@ KeepsOneshot def h =
 -- takes are counted: an edge line takes no more interrupts than came
 pub record TakesAreCounted (def : LineDef) (h : List Entry) : Type 0 where
   pub line : is_edge_line def ≡ true → count_of is_line_take (reverse h)
-      ≤ count_of is_any_ask (reverse h) + count_of is_chip_start (reverse h) + count_of (λ e. is_eoi_flow def.flow && is_again e) (reverse h)
+      ≤ count_of is_any_ask (reverse h) + count_of is_chip_start (reverse h) + count_of
+      (λ e. is_eoi_flow def.flow && is_again e) (reverse h)
   pub resend : is_edge_line def ≡ true
       → count_of is_resend_take (reverse h) ≤ count_of is_soft_start (reverse h)
 

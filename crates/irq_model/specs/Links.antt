@@ -1,13 +1,16 @@
 -- Which devices are linked, and how deep the line is disabled (`__setup_irq`, `__free_irq`,
 -- `__disable_irq` and `__enable_irq` of `kernel/irq/manage.c`; `desc->action`, `desc->depth`).
-use Rattle.std.specs.Prelude.{ℕ, ◌+◌, ◌-◌, Bool, true, false, ◌&&◌, ◌||◌, if◌then◌else◌, not, Option, Some, List, [], ◌∷◌, ◌++◌, filter, nat_lt}
+use Rattle.std.specs.Prelude.{ℕ, ◌+◌, ◌-◌, Bool, true, false, ◌&&◌, ◌||◌, if◌then◌else◌, not}
+use Rattle.std.specs.Prelude.{Option, Some, List, [], ◌∷◌, ◌++◌, filter, nat_lt}
 use Rattle.irq_base.specs.declared.numbers.DevNo.{DevNo}
 use Rattle.irq_base.specs.declared.calls.Flags.{Flags}
 use Rattle.irq_base.specs.declared.entries.Entry.{Entry}
 use Rattle.irq_base.specs.declared.entries.Entry.TheVariants as entries
 use Rattle.irq_base.specs.declared.entries.LinkAnswer.TheVariants as links
 use Rattle.irq_model.specs.Places.{stands, since_place, upto_place, count_of, last_of}
-use Rattle.irq_model.specs.Kinds.{same_dev, links_dev, unlinks_dev, is_linked_request, is_last_unlink, is_start, is_kill, is_disable, opened_of, is_lowering_opened}
+use Rattle.irq_model.specs.Kinds.{same_dev, links_dev, unlinks_dev, is_linked_request}
+use Rattle.irq_model.specs.Kinds.{is_last_unlink, is_start, is_kill, is_disable, opened_of}
+use Rattle.irq_model.specs.Kinds.{is_lowering_opened}
 
 -- d was linked, and not unlinked since
 abbrev pub is_linked : List Entry → DevNo → Bool
@@ -55,7 +58,8 @@ is_lowering e = is_lowering_opened (opened_of e)
 
 -- the base, plus the disables and kills since the last reset, less the lowerings
 abbrev pub depth : List Entry → ℕ
-depth past = (base (upto_place is_reset past) + count_of is_deepening (since_place is_reset past)) - count_of is_lowering (since_place is_reset past)
+depth past = (base (upto_place is_reset past) + count_of is_deepening (since_place is_reset past))
+    - count_of is_lowering (since_place is_reset past)
 
 abbrev pub is_disabled : List Entry → Bool
 is_disabled past = nat_lt 0 (depth past)

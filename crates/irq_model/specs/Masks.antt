@@ -6,7 +6,8 @@ use Rattle.irq_base.specs.declared.lines.FlowKind.TheVariants as flows
 use Rattle.irq_base.specs.declared.lines.LineDef.{LineDef}
 use Rattle.irq_base.specs.declared.entries.Entry.{Entry}
 use Rattle.irq_model.specs.Places.{since_place}
-use Rattle.irq_model.specs.Kinds.{is_take, is_handle, is_busy, is_off, is_disable, is_kill, is_last_unlink, is_start, is_reopening}
+use Rattle.irq_model.specs.Kinds.{is_take, is_handle, is_busy, is_off, is_disable, is_kill}
+use Rattle.irq_model.specs.Kinds.{is_last_unlink, is_start, is_reopening}
 use Rattle.irq_model.specs.Lines.{is_level_line}
 use Rattle.irq_model.specs.Links.{is_oneshot}
 

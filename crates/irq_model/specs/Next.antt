@@ -1,5 +1,6 @@
 -- The table of steps: the one entry that an actor may add. Each row is a definition.
-use Rattle.std.specs.Prelude.{ℕ, Bool, true, false, not, ◌||◌, ◌&&◌, ◌==◌, if◌then◌else◌, Option, Some, None, is_some, List, [], ◌∷◌, nat_lt, length, reverse}
+use Rattle.std.specs.Prelude.{ℕ, Bool, true, false, not, ◌||◌, ◌&&◌, ◌==◌, if◌then◌else◌, Option}
+use Rattle.std.specs.Prelude.{Some, None, is_some, List, [], ◌∷◌, nat_lt, length, reverse}
 use Rattle.std.specs.List.{list_any}
 use Rattle.irq_base.specs.declared.numbers.CpuNo.{CpuNo}
 use Rattle.irq_base.specs.declared.numbers.DevNo.{DevNo}
@@ -36,15 +37,18 @@ use Rattle.irq_base.specs.declared.entries.AffinityAnswer.{AffinityAnswer}
 use Rattle.irq_base.specs.declared.entries.AffinityAnswer.TheVariants as moves
 use Rattle.irq_base.specs.Handlers.{answer_of}
 use Rattle.irq_model.specs.Places.{since, before}
-use Rattle.irq_model.specs.Kinds.{same_line, same_dev, is_begin, is_thread_begin, is_thread_return, is_finish, is_kill, opened_by_enable}
+use Rattle.irq_model.specs.Kinds.{same_line, same_dev, is_begin, is_thread_begin}
+use Rattle.irq_model.specs.Kinds.{is_thread_return, is_finish, is_kill, opened_by_enable}
 use Rattle.irq_model.specs.Lines.{is_edge_line, kind_of}
-use Rattle.irq_model.specs.Links.{linked, is_linked, is_empty, is_none_linked, depth, is_disabled, is_oneshot, linking_flags, has_spurious_mark}
+use Rattle.irq_model.specs.Links.{linked, is_linked, is_empty, is_none_linked, depth, is_disabled}
+use Rattle.irq_model.specs.Links.{is_oneshot, linking_flags, has_spurious_mark}
 use Rattle.irq_model.specs.Asks.{unserved_asks}
 use Rattle.irq_model.specs.Masks.{is_masked}
 use Rattle.irq_model.specs.Rounds.{flow, has_flow, is_cpu, first_left, at_work}
 use Rattle.irq_model.specs.Waiting.{is_pending, is_soft}
 use Rattle.irq_model.specs.Signal.{signals, target, lowest_in}
-use Rattle.irq_model.specs.Threads.{is_woken, is_running, is_some_unfinished, is_other_unfinished, active_count}
+use Rattle.irq_model.specs.Threads.{is_woken, is_running, is_some_unfinished, is_other_unfinished}
+use Rattle.irq_model.specs.Threads.{active_count}
 use Rattle.irq_model.specs.Due.{due_call, holds_mutex}
 use Rattle.irq_model.specs.Spurious.{note_of}
 
@@ -90,7 +94,8 @@ served_by_handler _ unserved = 0
 
 abbrev pub return_of : LineDef → CpuNo → DevNo → List Entry → Entry
 return_of def c d past =
-    entries.Return c d (answer_of (kind_of def d) parts.Primary (asks_of_handler def d past)) (served_by_handler (kind_of def d) (asks_of_handler def d past))
+    entries.Return c d (answer_of (kind_of def d) parts.Primary (asks_of_handler def d past))
+    (served_by_handler (kind_of def d) (asks_of_handler def d past))
 
 -- disabled already, or by this very note
 abbrev pub is_off_now : List Entry → Note → Bool

@@ -1,6 +1,7 @@
 -- Places of a list of entries. The newest entry comes first here, so that "the last ..", "since
 -- ..", "with no .. after it" are read off from the front, and one more entry is one more head.
-use Rattle.std.specs.Prelude.{ℕ, ◌+◌, Bool, false, not, ◌||◌, ◌&&◌, if◌then◌else◌, Option, Some, None, List, [], ◌∷◌}
+use Rattle.std.specs.Prelude.{ℕ, ◌+◌, Bool, false, not, ◌||◌, ◌&&◌, if◌then◌else◌, Option, Some}
+use Rattle.std.specs.Prelude.{None, List, [], ◌∷◌}
 
 module _ {A : Type 0} where
   -- the entries after the last one that is p; all if none is

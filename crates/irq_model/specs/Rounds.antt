@@ -1,6 +1,7 @@
 -- The flow in progress and its rounds (`handle_irq_event`, `IRQD_IRQ_INPROGRESS` of
 -- `kernel/irq/handle.c` and `chip.c`).
-use Rattle.std.specs.Prelude.{Bool, false, not, ◌||◌, ◌&&◌, if◌then◌else◌, Option, Some, None, is_some, List, [], ◌∷◌}
+use Rattle.std.specs.Prelude.{Bool, false, not, ◌||◌, ◌&&◌, if◌then◌else◌, Option, Some, None}
+use Rattle.std.specs.Prelude.{is_some, List, [], ◌∷◌}
 use Rattle.std.specs.List.{list_any}
 use Rattle.irq_base.specs.declared.numbers.CpuNo.{CpuNo}
 use Rattle.irq_base.specs.declared.numbers.DevNo.{DevNo}
@@ -8,7 +9,8 @@ use Rattle.irq_base.specs.declared.lines.LineDef.{LineDef}
 use Rattle.irq_base.specs.declared.entries.Entry.{Entry}
 use Rattle.irq_base.specs.declared.entries.Entry.TheVariants as entries
 use Rattle.irq_model.specs.Places.{since, last_of}
-use Rattle.irq_model.specs.Kinds.{same_cpu, is_handle, is_again, is_leave, is_begin, is_begin_or_return}
+use Rattle.irq_model.specs.Kinds.{same_cpu, is_handle, is_again, is_leave, is_begin}
+use Rattle.irq_model.specs.Kinds.{is_begin_or_return}
 use Rattle.irq_model.specs.Lines.{is_eoi_flow}
 use Rattle.irq_model.specs.Links.{is_linked}
 

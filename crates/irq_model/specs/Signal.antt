@@ -1,6 +1,7 @@
 -- What the line presents to the processors, and which processor takes it (`irq_set_affinity` of
 -- `kernel/irq/manage.c`, `irq_move_masked_irq` of `migration.c`).
-use Rattle.std.specs.Prelude.{ℕ, suc, zero, ◌+◌, Bool, true, false, not, ◌&&◌, if◌then◌else◌, Option, Some, None, List, ◌∷◌}
+use Rattle.std.specs.Prelude.{ℕ, suc, zero, ◌+◌, Bool, true, false, not, ◌&&◌, if◌then◌else◌}
+use Rattle.std.specs.Prelude.{Option, Some, None, List, ◌∷◌}
 use Rattle.std.specs.List.{list_any}
 use Rattle.irq_base.specs.declared.numbers.CpuNo.{CpuNo}
 use Rattle.irq_base.specs.declared.lines.LineDef.{LineDef}

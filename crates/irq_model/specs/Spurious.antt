@@ -1,7 +1,8 @@
 -- The rule on spurious interrupts (`note_interrupt`, `kernel/irq/spurious.c`). As in Linux, its
 -- counts are carried along, entry by entry; no other definition of the model is such a fold. Times
 -- are the moments that drivers hand in.
-use Rattle.std.specs.Prelude.{ℕ, ◌+◌, ◌-◌, max, Bool, true, false, not, ◌&&◌, ◌==◌, if◌then◌else◌, List, [], ◌∷◌, nat_lt}
+use Rattle.std.specs.Prelude.{ℕ, ◌+◌, ◌-◌, max, Bool, true, false, not, ◌&&◌, ◌==◌, if◌then◌else◌}
+use Rattle.std.specs.Prelude.{List, [], ◌∷◌, nat_lt}
 use Rattle.std.specs.List.{list_any}
 use Rattle.irq_base.specs.declared.lines.LineDef.{LineDef}
 use Rattle.irq_base.specs.declared.entries.Entry.{Entry}
@@ -28,7 +29,14 @@ pub record Counts : Type 0 where
   pub last_unhandled : ℕ
 
 abbrev pub no_counts : Counts
-no_counts = record { irq_count = 0; irqs_unhandled = 0; threads_handled = 0; deferred = false; last = 0; last_unhandled = 0 }
+no_counts = record {
+  irq_count = 0;
+  irqs_unhandled = 0;
+  threads_handled = 0;
+  deferred = false;
+  last = 0;
+  last_unhandled = 0;
+}
 
 pub record Noted : Type 0 where
   pub note : Note

@@ -6,7 +6,8 @@ use Rattle.irq_base.specs.declared.numbers.DevNo.{DevNo}
 use Rattle.irq_base.specs.declared.lines.LineDef.{LineDef}
 use Rattle.irq_base.specs.declared.entries.Entry.{Entry}
 use Rattle.irq_model.specs.Places.{stands, since, count_of}
-use Rattle.irq_model.specs.Kinds.{same_dev, wakes, is_thread_begin, is_done, is_cleared_finish, links_dev}
+use Rattle.irq_model.specs.Kinds.{same_dev, wakes, is_thread_begin, is_done, is_cleared_finish}
+use Rattle.irq_model.specs.Kinds.{links_dev}
 use Rattle.irq_model.specs.Links.{linking_flags}
 
 -- the thread is to run: a return that woke it has no beginning of its run after it
@@ -32,4 +33,5 @@ is_other_unfinished def past d =
 
 -- how many threads are woken, and how many are in a run
 abbrev pub active_count : LineDef → List Entry → ℕ
-active_count def past = count_of (λ x. is_woken past x.dev) def.devices + count_of (λ x. is_running past x.dev) def.devices
+active_count def past = count_of (λ x. is_woken past x.dev) def.devices + count_of
+    (λ x. is_running past x.dev) def.devices

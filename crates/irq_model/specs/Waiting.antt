@@ -4,7 +4,8 @@ use Rattle.std.specs.Prelude.{Bool, ◌||◌, ◌&&◌, List}
 use Rattle.irq_base.specs.declared.lines.LineDef.{LineDef}
 use Rattle.irq_base.specs.declared.entries.Entry.{Entry}
 use Rattle.irq_model.specs.Places.{stands}
-use Rattle.irq_model.specs.Kinds.{is_handle, is_busy, is_off, is_again, is_start, is_soft_start, is_resend_take}
+use Rattle.irq_model.specs.Kinds.{is_handle, is_busy, is_off, is_again, is_start, is_soft_start}
+use Rattle.irq_model.specs.Kinds.{is_resend_take}
 use Rattle.irq_model.specs.Lines.{is_edge_line}
 
 -- a take that leaves the interrupt pending: answered Off, or on an edge line answered Busy

@@ -1,6 +1,7 @@
 -- The headline: what holds of the histories of a board's lines when its play has come to its end,
 -- and of the reports that hand them out. What holds of one line is board_report's headline; here
--- stands whose play it is. The moves of a play and the entries of a history stand oldest first here;
+-- stands whose play it is. The moves of a play and the entries of a history stand oldest first
+-- here;
 -- `Plays` has the newest move first.
 use Rattle.std.specs.Prelude.{◌≡◌, ℕ, IsSome, List, [], length, map, reverse}
 use Rattle.irq_base.specs.declared.entries.Actor.{Actor}
@@ -11,7 +12,8 @@ use Rattle.board_def.specs.Seen.{BoardSeen}
 use Rattle.board_def.specs.declared.rows.LineRow.{LineRow}
 use Rattle.board_play.specs.Lines.{Move, lines_of, part}
 use Rattle.board_play.specs.Play.{Done, Full, IsChosen, Plays, choice}
-use Rattle.board_report.specs.Headline.{EachMapped, EachRefused, IsAmple, KeepsLaws, LineHeadline, LineHistory, told_by}
+use Rattle.board_report.specs.Headline.{EachMapped, EachRefused, IsAmple, KeepsLaws, LineHeadline}
+use Rattle.board_report.specs.Headline.{LineHistory, told_by}
 
 -- the line's number, with its entries among the moves
 abbrev pub history_of : List Move → LineRow → LineHistory
@@ -33,7 +35,8 @@ pub record Headline (b : BoardSeen) (g : List Move) (reports : List LineReport) 
 
 -- the board was played until an entry was due on a line whose history has the greatest length,
 -- `len`
-pub record FullLog (b : BoardSeen) (g : List Move) (reports : List LineReport) (line : LineNo) (len : ℕ) : Type 0 where
+pub record FullLog (b : BoardSeen) (g : List Move) (reports : List LineReport) (line : LineNo)
+    (len : ℕ) : Type 0 where
   pub play : Plays b b.picks (reverse g) (Full line)
   pub handed_out : map told_by reports ≡ histories_of b g
   pub mapped : EachMapped b (λ row. KeepsLaws (line_of_row b row) (part row.line g))

@@ -18,7 +18,8 @@ use Rattle.irq_play.specs.declared.ending.Wanted.TheVariants as wants
 
 -- The board was played to its end, and the reports hand out this play. Its report was printed: all
 -- of it, or after a fault a beginning of it.
-pub record IsPrinted (b : BoardSeen) (summary : Bool) (reports : List LineReport) (before now : Option (List ℕ)) (end : WriteEnd) : Type 0 where
+pub record IsPrinted (b : BoardSeen) (summary : Bool) (reports : List LineReport)
+    (before now : Option (List ℕ)) (end : WriteEnd) : Type 0 where
   pub moves : List Move
   pub headline : Headline b moves reports
   pub prints : WritesAll before now (report_text b summary moves) end

@@ -1,7 +1,8 @@
 -- The board that sleeps: a driver of the system's own, behind all others, disables each line that
 -- takes part, and then enables each (`suspend_device_irqs`, `resume_device_irqs`,
 -- `kernel/irq/pm.c`).
-use Rattle.std.specs.Prelude.{Bool, false, not, ◌&&◌, nat_lt, nat_le, Option, Some, None, List, ◌++◌, length, map}
+use Rattle.std.specs.Prelude.{Bool, false, not, ◌&&◌, nat_lt, nat_le, Option, Some, None, List}
+use Rattle.std.specs.Prelude.{◌++◌, length, map}
 use Rattle.std.specs.List.{list_all, list_any}
 use Rattle.irq_base.specs.declared.calls.Call.TheVariants as calls
 use Rattle.irq_base.specs.declared.numbers.LineNo.{LineNo}

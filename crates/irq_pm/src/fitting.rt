@@ -1,7 +1,9 @@
 //! Which boards can sleep, and the board that does.
 ghost use Rattle.std.specs.Prelude.{◌≡◌, ◌&&◌, ◌∷◌, ◌++◌, [], if◌then◌else◌, true, IfOk, OnOk, map};
 ghost use Rattle.board_def.specs.Layout.{layout_of};
-ghost use Rattle.irq_pm.specs.SleptBoard.{can_all_wake, can_wake, has_room_for_sleep, is_for_sleep, is_mapped_at, live_rows, sleep_script, slept, wakes_row};
+ghost use Rattle.irq_pm.specs.SleptBoard.{can_all_wake, can_wake, has_room_for_sleep};
+ghost use Rattle.irq_pm.specs.SleptBoard.{is_for_sleep, is_mapped_at, live_rows, sleep_script};
+ghost use Rattle.irq_pm.specs.SleptBoard.{slept, wakes_row};
 
 use board_def::{Board, Layout, LineRow, Placement};
 use board_driver::{LineCall, with_last_driver};

@@ -17,7 +17,8 @@ use Rattle.irq_run.specs.declared.ending.RunEnd.TheVariants as ends
 
 -- The board was run to its end, and the reports hand out this run. Its report was printed: all of
 -- it, or after a fault a beginning of it.
-pub record IsPrinted (b : BoardSeen) (summary : Bool) (reports : List LineReport) (before now : Option (List ℕ)) (end : WriteEnd) : Type 0 where
+pub record IsPrinted (b : BoardSeen) (summary : Bool) (reports : List LineReport)
+    (before now : Option (List ℕ)) (end : WriteEnd) : Type 0 where
   pub entries : Histories
   pub headline : Headline b entries reports
   pub prints : WritesAll before now (run_text b summary (histories_of b entries)) end

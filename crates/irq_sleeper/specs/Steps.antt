@@ -1,5 +1,6 @@
 -- What a step of a sleep comes to, and what a sleep has come to.
-use Rattle.std.specs.Prelude.{◌≡◌, ◌≤◌, ℕ, Bool, true, false, ◌⊎◌, IfSome, Option, Some, None, Result, Ok, Err, List, [], ◌∷◌, length, reverse}
+use Rattle.std.specs.Prelude.{◌≡◌, ◌≤◌, ℕ, Bool, true, false, ◌⊎◌, IfSome, Option, Some, None}
+use Rattle.std.specs.Prelude.{Result, Ok, Err, List, [], ◌∷◌, length, reverse}
 use Rattle.irq_base.specs.declared.entries.Actor.{Actor}
 use Rattle.irq_base.specs.declared.numbers.LineNo.{LineNo}
 use Rattle.board_core.specs.Playing.{IsFresh as IsFreshSystem}
@@ -12,7 +13,8 @@ use Rattle.board_core.specs.declared.turns.PlayEnd.TheVariants as ends
 use Rattle.board_play.specs.Lines.{Move, lines_of, part}
 use Rattle.board_play.specs.Play.{Done, Full}
 use Rattle.play_orders.specs.Orders.{IsMade}
-use Rattle.irq_pm.specs.Phases.{Phase, Picking, Disabling, Asleep, Enabling, Going, ask_move, inner_move, last_move, sleep_next, sleep_order}
+use Rattle.irq_pm.specs.Phases.{Phase, Picking, Disabling, Asleep, Enabling, Going, ask_move}
+use Rattle.irq_pm.specs.Phases.{inner_move, last_move, sleep_next, sleep_order}
 use Rattle.irq_sleeper.specs.Seen.{SleeperSeen, log_of}
 use Rattle.irq_pm.specs.SleepLog.{moves_of}
 use Rattle.irq_pm.specs.Slept.{Sleeps}
@@ -28,7 +30,8 @@ pub record IsFresh (s : SleeperSeen) : Type 0 where
 
 -- ---- one step
 
--- the moves that may be due: of the system's driver, of the lowest thread or processor, of the lowest
+-- the moves that may be due: of the system's driver, of the lowest thread or processor, of the
+-- lowest
 -- driver that asks
 abbrev pub last_of : SystemSeen → Option Move
 last_of s = last_move s.board (board_lines s.lines)
@@ -90,7 +93,8 @@ IsSleep s picks (ends.Full line len) =
     Sleeps s.system.board s.watch.armed picks (reverse (log_of s)) (Full line)
     × (length (part line (reverse s.system.log)) ≡ len)
 IsSleep s picks ends.NoMemory =
-    (at : Phase) × IsMade (sleep_order s.system.board s.watch.armed) (Picking picks) (reverse (log_of s)) at
+    (at : Phase) × IsMade (sleep_order s.system.board s.watch.armed) (Picking picks)
+    (reverse (log_of s)) at
 
 -- the lines are as the moves leave them, and the log has the moves
 pub record IsTold (s : SleeperSeen) : Type 0 where
@@ -102,8 +106,10 @@ abbrev pub AreMarked : Phase → SleeperSeen → Type 0
 AreMarked (Picking picks) s = (s.asleep ≡ None) × (s.wake ≡ None)
 AreMarked Disabling s = (s.asleep ≡ None) × (s.wake ≡ None)
 AreMarked Asleep s = IfSome s.asleep (λ k. k ≤ length s.system.log) × (s.wake ≡ None)
-AreMarked Enabling s = IfSome s.asleep (λ k. k ≤ length s.system.log) × IfSome s.wake (λ w. w.at ≤ length s.system.log)
-AreMarked Going s = IfSome s.asleep (λ k. k ≤ length s.system.log) × IfSome s.wake (λ w. w.at ≤ length s.system.log)
+AreMarked Enabling s = IfSome s.asleep (λ k. k ≤ length s.system.log)
+    × IfSome s.wake (λ w. w.at ≤ length s.system.log)
+AreMarked Going s = IfSome s.asleep (λ k. k ≤ length s.system.log)
+    × IfSome s.wake (λ w. w.at ≤ length s.system.log)
 
 -- each step so far was the next one, and the sleep stands in a phase with the same next step as
 -- this one
@@ -112,7 +118,8 @@ pub record IsUnderway (s : SleeperSeen) (picks : List Actor) (at : Phase) : Type
   pub marks : AreMarked at s
   pub watch : Watches s.watch (reverse s.system.log)
   pub phase : Phase
-  pub made : IsMade (sleep_order s.system.board s.watch.armed) (Picking picks) (reverse (log_of s)) phase
+  pub made : IsMade (sleep_order s.system.board s.watch.armed) (Picking picks)
+      (reverse (log_of s)) phase
   pub next : sleep_next s.system.board s.watch.armed (reverse s.system.log) phase
       ≡ sleep_next s.system.board s.watch.armed (reverse s.system.log) at
 

@@ -13,5 +13,6 @@ pub record WatchSeen : Type 0 where
 
 -- so they are after these moves, the newest first
 pub record Watches (w : WatchSeen) (g : List Move) : Type 0 where
-  pub disabled : (line : LineNo) → is_among line w.disabled ≡ (is_among line w.armed && was_disabled line g)
+  pub disabled : (line : LineNo) → is_among line w.disabled
+      ≡ (is_among line w.armed && was_disabled line g)
   pub woken : w.woken ≡ woken_by w.armed g

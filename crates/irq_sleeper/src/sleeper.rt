@@ -6,9 +6,12 @@ ghost use Rattle.board_core.specs.Turns.{move_of, lowest_move};
 ghost use Rattle.board_def.specs.Layout.{layout_of};
 ghost use Rattle.board_driver.specs.Longer.{last_driver};
 ghost use Rattle.board_play.specs.Play.{or_move};
-ghost use Rattle.irq_pm.specs.Phases.{Disabling, Asleep, Enabling, Going, asks_next, due_of, first_asking, is_disable_due};
+ghost use Rattle.irq_pm.specs.Phases.{Disabling, Asleep, Enabling, Going, asks_next, due_of};
+ghost use Rattle.irq_pm.specs.Phases.{first_asking, is_disable_due};
 ghost use Rattle.irq_sleeper.specs.Seen.{log_of};
-ghost use Rattle.irq_sleeper.specs.Steps.{EndsIn, GoesTo, Heeds, IsAsleep, IsFresh, IsSleep, IsTold, IsUnderway, IsWoken, Stays, StepsBy, ask_of, inner_of, last_of};
+ghost use Rattle.irq_sleeper.specs.Steps.{EndsIn, GoesTo, Heeds, IsAsleep, IsFresh, IsSleep};
+ghost use Rattle.irq_sleeper.specs.Steps.{IsTold, IsUnderway, IsWoken, Stays, StepsBy, ask_of};
+ghost use Rattle.irq_sleeper.specs.Steps.{inner_of, last_of};
 
 use crate::marks::WakeMark;
 use crate::walk::SleepWalk;
@@ -36,7 +39,12 @@ impl<'b, L: IrqLine> Model for Sleeper<'b, L> {
 
     ghost Value = { SleeperSeen };
 
-    ghost view = { λ s. record { system = s.system; watch = s.watch; asleep = s.asleep; wake = s.wake } };
+    ghost view = { λ s. record {
+      system = s.system;
+      watch = s.watch;
+      asleep = s.asleep;
+      wake = s.wake;
+    } };
 }
 
 impl<'b, L: IrqLine> Sleeper<'b, L> {
@@ -231,7 +239,8 @@ impl<'b, L: IrqLine> Sleeper<'b, L> {
     /// One step of the system's driver, or where it waits of the lowest thread or processor that
     /// can move.
     fn step_disabling<H: Handler>(&mut self, handlers: &Callbacks<H>) -> Result<bool, PlayEnd>
-        ensures { StepsBy self.old (or_move (last_of self.old.system) (inner_of self.old.system)) result self.new }
+        ensures { StepsBy self.old (or_move (last_of self.old.system) (inner_of self.old.system))
+            result self.new }
     {
         if self.step(Actor::Driver(SYSTEM), handlers)? {
             return Ok(true);
@@ -242,7 +251,8 @@ impl<'b, L: IrqLine> Sleeper<'b, L> {
     /// One step of the lowest thread or processor that can move, or else of the lowest driver of a
     /// device that asks.
     fn step_asleep<H: Handler>(&mut self, handlers: &Callbacks<H>) -> Result<bool, PlayEnd>
-        ensures { StepsBy self.old (or_move (inner_of self.old.system) (ask_of self.old.system)) result self.new }
+        ensures { StepsBy self.old (or_move (inner_of self.old.system) (ask_of self.old.system))
+            result self.new }
     {
         if self.step_inner(handlers)? {
             return Ok(true);

@@ -29,7 +29,11 @@ impl<'a> Model for Watch<'a> {
 
     ghost Value = { WatchSeen };
 
-    ghost view = { λ w. record { armed = w.armed.now; disabled = w.disabled.items; woken = w.woken } };
+    ghost view = { λ w. record {
+      armed = w.armed.now;
+      disabled = w.disabled.items;
+      woken = w.woken;
+    } };
 }
 
 impl<'a> Watch<'a> {

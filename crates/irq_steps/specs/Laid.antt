@@ -1,5 +1,6 @@
 -- A driver's entries laid beside its calls, by the place of the due call.
-use Rattle.std.specs.Prelude.{◌≡◌, ℕ, zero, suc, ◌<◌, ◌≤◌, Option, Some, None, List, [], ◌∷◌, length, drop}
+use Rattle.std.specs.Prelude.{◌≡◌, ℕ, zero, suc, ◌<◌, ◌≤◌, Option, Some, None, List, [], ◌∷◌}
+use Rattle.std.specs.Prelude.{length, drop}
 use Rattle.irq_base.specs.declared.calls.Call.{Call}
 use Rattle.irq_base.specs.declared.entries.Entry.{Entry}
 use Rattle.irq_model.specs.Due.{entries_of_call}

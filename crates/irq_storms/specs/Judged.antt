@@ -1,6 +1,7 @@
 -- What the rule on spurious interrupts makes of an end, and what its open window still allows
 -- (`note_interrupt`, `kernel/irq/spurious.c`).
-use Rattle.std.specs.Prelude.{ℕ, ◌+◌, ◌-◌, ◌*◌, Bool, true, false, not, ◌||◌, ◌&&◌, ◌==◌, if◌then◌else◌, List, [], ◌∷◌, nat_lt}
+use Rattle.std.specs.Prelude.{ℕ, ◌+◌, ◌-◌, ◌*◌, Bool, true, false, not, ◌||◌, ◌&&◌, ◌==◌}
+use Rattle.std.specs.Prelude.{if◌then◌else◌, List, [], ◌∷◌, nat_lt}
 use Rattle.irq_base.specs.declared.lines.LineDef.{LineDef}
 use Rattle.irq_base.specs.declared.entries.Entry.{Entry}
 use Rattle.irq_model.specs.Places.{stands, count_of}
@@ -37,7 +38,8 @@ judged_as wake handled deferred same =
 -- the judgement of an end that comes now
 abbrev pub judgement : LineDef → List Entry → Judgement
 judgement def past =
-    let c = counts_of def past in judged_as (round_wakes def past) (round_handles def past) c.deferred (c.threads_handled == c.last)
+    let c = counts_of def past in judged_as (round_wakes def past) (round_handles def past)
+    c.deferred (c.threads_handled == c.last)
 
 -- tests of a judgement
 abbrev pub is_handled_judgement : Judgement → Bool
@@ -89,7 +91,8 @@ breaks def past = handled_ends def past + count_of is_renewal past
 -- that served since the last look
 abbrev pub serving_marks : LineDef → List Entry → ℕ
 serving_marks def past =
-    one_if (has_flow def past && round_handles def past) + one_if (not ((counts_of def past).threads_handled == (counts_of def past).last))
+    one_if (has_flow def past && round_handles def past) + one_if
+    (not ((counts_of def past).threads_handled == (counts_of def past).last))
 
 -- ---- what the open window allows
 

@@ -5,7 +5,9 @@ use Rattle.irq_base.specs.declared.numbers.DevNo.{DevNo}
 use Rattle.irq_base.specs.declared.lines.LineDef.{LineDef}
 use Rattle.irq_base.specs.declared.entries.Entry.{Entry}
 use Rattle.irq_model.specs.Places.{stands, count_of}
-use Rattle.irq_model.specs.Kinds.{wakes, is_thread_begin, is_thread_return, is_finish, is_done, is_take, is_busy, is_off, is_again, is_any_ask, is_ask, is_kill, is_start}
+use Rattle.irq_model.specs.Kinds.{wakes, is_thread_begin, is_thread_return, is_finish, is_done}
+use Rattle.irq_model.specs.Kinds.{is_take, is_busy, is_off, is_again, is_any_ask, is_ask, is_kill}
+use Rattle.irq_model.specs.Kinds.{is_start}
 use Rattle.irq_model.specs.Lines.{is_edge_line, is_level_line, is_level_flow, is_eoi_flow}
 use Rattle.irq_model.specs.Links.{is_disabled}
 use Rattle.irq_model.specs.Asks.{unserved_asks}
@@ -14,13 +16,16 @@ use Rattle.irq_model.specs.Rounds.{begins_round, has_flow}
 use Rattle.irq_model.specs.Waiting.{is_pending}
 use Rattle.irq_model.specs.Spurious.{counts_of}
 use Rattle.irq_model.specs.Bounds.{ask_calls, other_calls}
-use Rattle.irq_storms.specs.Tests.{is_any_begin, is_any_return, is_end, is_any_serving, serves_of, asks_served, all_served, total, is_by_any_driver, is_renewal}
-use Rattle.irq_storms.specs.Judged.{one_if, handled_ends, nothing_ends, deferred_ends, clearing_ends, breaks, serving_marks, allowed}
+use Rattle.irq_storms.specs.Tests.{is_any_begin, is_any_return, is_end, is_any_serving, serves_of}
+use Rattle.irq_storms.specs.Tests.{asks_served, all_served, total, is_by_any_driver, is_renewal}
+use Rattle.irq_storms.specs.Judged.{one_if, handled_ends, nothing_ends, deferred_ends}
+use Rattle.irq_storms.specs.Judged.{clearing_ends, breaks, serving_marks, allowed}
 
 -- runs are counted: a round calls each device's handler once at most, and has one end at most; a
 -- thread runs no more often than returns woke it
 pub record RunsAreCounted (def : LineDef) (h : List Entry) : Type 0 where
-  pub begins : count_of is_any_begin (reverse h) ≤ length def.devices * count_of (begins_round def) (reverse h)
+  pub begins : count_of is_any_begin (reverse h) ≤ length def.devices * count_of
+      (begins_round def) (reverse h)
   pub returns : count_of is_any_return (reverse h) ≤ count_of is_any_begin (reverse h)
   pub ends : count_of is_end (reverse h) ≤ count_of (begins_round def) (reverse h)
   pub thread_begins : (d : DevNo)
@@ -45,8 +50,10 @@ pub record AsksAreCounted (def : LineDef) (h : List Entry) : Type 0 where
   pub exact : (d : DevNo)
       → total (asks_served d) (reverse h) + unserved_asks def d (reverse h)
       ≡ count_of (is_ask d) (reverse h)
-  pub runs : (d : DevNo) → count_of (serves_of d) (reverse h) + unserved_asks def d (reverse h) ≤ count_of (is_ask d) (reverse h)
-  pub all : total all_served (reverse h) + total (λ x. unserved_asks def x.dev (reverse h)) def.devices ≡ count_of is_any_ask (reverse h)
+  pub runs : (d : DevNo) → count_of (serves_of d) (reverse h) + unserved_asks def d (reverse h) ≤
+      count_of (is_ask d) (reverse h)
+  pub all : total all_served (reverse h) + total (λ x. unserved_asks def x.dev (reverse h))
+      def.devices ≡ count_of is_any_ask (reverse h)
   pub all_runs : count_of is_any_serving (reverse h) ≤ count_of is_any_ask (reverse h)
 
 -- an edge line is counted: an end that goes on has a take of its own that was answered Busy, so
@@ -77,7 +84,8 @@ pub record IsLevelCounted (def : LineDef) (past : List Entry) : Type 0 where
   pub handled : handled_ends def past + serving_marks def past ≤ count_of is_any_serving past
   -- only an end whose round both woke a thread and handled gives the deferred mark up, and it is
   -- judged handled
-  pub deferred : deferred_ends def past ≤ clearing_ends def past + one_if (counts_of def past).deferred
+  pub deferred : deferred_ends def past ≤ clearing_ends def past + one_if
+      (counts_of def past).deferred
   pub clearing : clearing_ends def past ≤ handled_ends def past
   pub shut : stands is_kill is_start past ≡ true → IsShut def past
   -- between two breaks, before the first and after the last, at most two windows of ends are judged

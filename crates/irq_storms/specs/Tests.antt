@@ -1,9 +1,11 @@
 -- Tests of entries, whichever device or driver they are of, and what runs serve.
-use Rattle.std.specs.Prelude.{ℕ, ◌+◌, Bool, true, false, ◌||◌, ◌&&◌, if◌then◌else◌, nat_lt, List, [], ◌∷◌}
+use Rattle.std.specs.Prelude.{ℕ, ◌+◌, Bool, true, false, ◌||◌, ◌&&◌, if◌then◌else◌, nat_lt, List}
+use Rattle.std.specs.Prelude.{[], ◌∷◌}
 use Rattle.irq_base.specs.declared.numbers.DevNo.{DevNo}
 use Rattle.irq_base.specs.declared.entries.Entry.{Entry}
 use Rattle.irq_base.specs.declared.entries.Entry.TheVariants as entries
-use Rattle.irq_model.specs.Kinds.{same_dev, is_handled, returns_handled, is_start, is_linked_request}
+use Rattle.irq_model.specs.Kinds.{same_dev, is_handled, returns_handled, is_start}
+use Rattle.irq_model.specs.Kinds.{is_linked_request}
 
 -- ---- runs
 

@@ -30,15 +30,18 @@ IsReadToEnd None left = Unit {0}
 IsReadToEnd (Some bytes) left = left ≡ Some []
 
 -- the source gave no board
-pub record RefusesInput (told left : Option (List ℕ)) (reports : List LineReport) (refused : InputRefused) : Type 0 where
+pub record RefusesInput (told left : Option (List ℕ)) (reports : List LineReport)
+    (refused : InputRefused) : Type 0 where
   pub read : ReadsBoard told left (Err refused)
   pub reports_are : reports ≡ []
 
 -- what a command does with a board: with these reports, with this output before and now, and with
 -- this ending
-module _ (OnBoard : BoardSeen → List LineReport → Option (List ℕ) → Option (List ℕ) → Ending → Type 0) where
+module _ (OnBoard : BoardSeen → List LineReport → Option (List ℕ) → Option (List ℕ) → Ending
+    → Type 0) where
   -- the command did it with the board that the source told
-  pub record TakesInput (told left : Option (List ℕ)) (reports : List LineReport) (before now : Option (List ℕ)) (ending : Ending) : Type 0 where
+  pub record TakesInput (told left : Option (List ℕ)) (reports : List LineReport)
+      (before now : Option (List ℕ)) (ending : Ending) : Type 0 where
     pub board : BoardSeen
     pub stated : IsStated told board
     pub read : IsReadToEnd told left
@@ -84,7 +87,8 @@ RunsAs summary b reports before now (endings.NoMemory wants.Making) = reports �
 RunsAs summary b reports before now _ = ⊥
 
 -- the input was checked, with this end, and no history is handed out
-pub record ChecksInput (told left : Option (List ℕ)) (reports : List LineReport) (before now : Option (List ℕ)) (end : CheckEnd) : Type 0 where
+pub record ChecksInput (told left : Option (List ℕ)) (reports : List LineReport)
+    (before now : Option (List ℕ)) (end : CheckEnd) : Type 0 where
   pub reads : Reads told left end
   pub says : SaysOrNot told before now end
   pub reports_are : reports ≡ []

@@ -3,7 +3,8 @@ ghost use Rattle.std.specs.Prelude.{◌≡◌, [], false, true};
 ghost use Rattle.board_gen.specs.Generated.{generated};
 ghost use Rattle.irq_io.specs.Faults.{Counts};
 ghost use Rattle.irq_top.specs.Commands.{Checks, Does, PlaysAs, RunsAs, TakesBoard, reads};
-ghost use Rattle.irq_top.specs.Ending.{is_printed, is_printing, is_read_fault_end, is_write_fault_end};
+ghost use Rattle.irq_top.specs.Ending.{is_printed, is_printing, is_read_fault_end};
+ghost use Rattle.irq_top.specs.Ending.{is_write_fault_end};
 
 use crate::ending::Ending;
 use crate::outcome::Outcome;

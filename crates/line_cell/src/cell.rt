@@ -34,7 +34,8 @@ impl Cell {
     /// can be made to send an edge again; `serves`: a level that was accepted isn't presented again
     /// before its end of interrupt.
     pub fn new(trigger: Trigger, keeps: bool, recalls: bool, retriggers: bool, serves: bool) -> Cell
-        ensures cell { ⟦<Cell as Chip>⟧.cell result ≡ fresh_cell trigger keeps recalls retriggers serves }
+        ensures cell { ⟦<Cell as Chip>⟧.cell result
+            ≡ fresh_cell trigger keeps recalls retriggers serves }
         ensures active { ⟦<Cell as Chip>⟧.active result ≡ false }
         ensures aimed { ⟦<Cell as Chip>⟧.aimed result ≡ 0 }
     {
@@ -100,7 +101,18 @@ impl Cell {
 }
 
 impl Chip for Cell {
-    ghost cell = { λ c. record { trigger = c.trigger; keeps = c.keeps; recalls = c.recalls; retriggers = c.retriggers; serves = c.serves; masked = c.masked; stored = c.stored; sent = c.sent; high = c.high; in_service = c.in_service } };
+    ghost cell = { λ c. record {
+      trigger = c.trigger;
+      keeps = c.keeps;
+      recalls = c.recalls;
+      retriggers = c.retriggers;
+      serves = c.serves;
+      masked = c.masked;
+      stored = c.stored;
+      sent = c.sent;
+      high = c.high;
+      in_service = c.in_service;
+    } };
 
     ghost active = { λ c. c.active };
 

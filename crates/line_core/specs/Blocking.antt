@@ -13,4 +13,9 @@ freed_in t None = false
 freed_in t (Some f) = not (is_idle_at t f.1)
 
 abbrev pub blocks_by : StateSeen → Blocks
-blocks_by s = record { flow = is_some s.desc.flow; threads = nat_lt 0 (active_in s.threads); mutex = is_some s.freeing; freed = freed_in s.threads s.freeing }
+blocks_by s = record {
+  flow = is_some s.desc.flow;
+  threads = nat_lt 0 (active_in s.threads);
+  mutex = is_some s.freeing;
+  freed = freed_in s.threads s.freeing;
+}

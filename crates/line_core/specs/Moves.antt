@@ -11,7 +11,8 @@ use Rattle.line_scripts.specs.Rows.{RowSeen, calls_of, call_of, place_of, within
 use Rattle.line_marks.specs.Scripts.{place_after, within_after}
 
 -- one driver has added an entry, which ends its due call or doesn't
-pub record IsMoved (who : DriverNo) (ends : Bool) (old new : List (DriverNo × RowSeen)) : Type 0 where
+pub record IsMoved (who : DriverNo) (ends : Bool) (old new : List (DriverNo × RowSeen))
+    : Type 0 where
   pub calls : (r : DriverNo) → calls_of new r ≡ calls_of old r
   pub place : place_of new who ≡ place_after ends (place_of old who)
   pub within : within_of new who ≡ within_after ends (within_of old who)

@@ -18,6 +18,8 @@ device_by def s dev = record { dev = dev; line = def.line; kind = kind_at s.kind
 
 -- the run of a handler that a return ends, or of a thread that its return ends, with what it met
 abbrev pub run_by : LineDef → StateSeen → DueStep → Option Run
-run_by def s (steps.Return cpu dev) = Some (record { def = device_by def s dev; part = parts.Primary; unserved = met_by (at s.asks dev) })
-run_by def s (steps.ThreadReturn dev) = Some (record { def = device_by def s dev; part = parts.Thread; unserved = met_in (at s.asks dev) })
+run_by def s (steps.Return cpu dev) = Some (record
+    { def = device_by def s dev; part = parts.Primary; unserved = met_by (at s.asks dev) })
+run_by def s (steps.ThreadReturn dev) = Some (record
+    { def = device_by def s dev; part = parts.Thread; unserved = met_in (at s.asks dev) })
 run_by def s _ = None

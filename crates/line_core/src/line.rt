@@ -1,5 +1,6 @@
 //! The line.
-ghost use Rattle.std.specs.Prelude.{◌≡◌, ◌+◌, ◌<◌, ◌≤◌, [], ◌∷◌, ◌++◌, length, IfOk, IsOk, OnOk, OnErr, IsTrue, Some, option_map, true, false, reverse};
+ghost use Rattle.std.specs.Prelude.{◌≡◌, ◌+◌, ◌<◌, ◌≤◌, [], ◌∷◌, ◌++◌, length, IfOk, IsOk, OnOk};
+ghost use Rattle.std.specs.Prelude.{OnErr, IsTrue, Some, option_map, true, false, reverse};
 ghost use Rattle.irq_base.specs.Cell.{fresh_cell};
 ghost use Rattle.irq_model.specs.Kinds.{is_linked_request};
 ghost use Rattle.irq_model.specs.Lines.{serves};
@@ -42,7 +43,14 @@ impl<C: Chip> Model for Line<C> {
 
     ghost Value = { WiredSeen };
 
-    ghost view = { λ l. record { line = record { def = l.def; entries = l.history.entries; spare = l.history.spare }; wiring = l.state.wiring } };
+    ghost view = { λ l. record {
+      line = record {
+        def = l.def;
+        entries = l.history.entries;
+        spare = l.history.spare;
+      };
+      wiring = l.state.wiring;
+    } };
 
     ghost invariant = { λ l. IsLine l.def l.history.entries l.state.state l.scripts };
 }

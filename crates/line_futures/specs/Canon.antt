@@ -1,5 +1,6 @@
 -- What a line's future depends on, of all that the line keeps: its canonical state.
-use Rattle.std.specs.Prelude.{ℕ, ◌==◌, Bool, false, not, ◌||◌, ◌&&◌, if◌then◌else◌, is_some, Option, Some, None, List, [], ◌∷◌}
+use Rattle.std.specs.Prelude.{ℕ, ◌==◌, Bool, false, not, ◌||◌, ◌&&◌, if◌then◌else◌, is_some}
+use Rattle.std.specs.Prelude.{Option, Some, None, List, [], ◌∷◌}
 use Rattle.irq_base.specs.declared.calls.Flags.{Flags}
 use Rattle.irq_base.specs.declared.devices.Kind.{Kind}
 use Rattle.irq_base.specs.declared.numbers.DevNo.{DevNo}
@@ -60,14 +61,16 @@ canon_row serving handler thread r = record {
   met_by_thread = kept_if thread r.met_by_thread;
 }
 
-abbrev pub canon_asks : (DevNo → Bool) → (DevNo → Bool) → (DevNo → Bool) → List (DevNo × AskRow) → List (DevNo × AskRow)
+abbrev pub canon_asks : (DevNo → Bool) → (DevNo → Bool) → (DevNo → Bool) → List (DevNo × AskRow)
+    → List (DevNo × AskRow)
 canon_asks serving handler thread [] = []
 canon_asks serving handler thread (e ∷ es) =
     (e.0, canon_row (serving e.0) (handler e.0) (thread e.0) e.1)
     ∷ canon_asks serving handler thread es
 
 abbrev pub serves_at : StateSeen → DevNo → Bool
-serves_at s d = is_serving (kind_at s.kinds d) (is_working s.round.working d) (is_thread_working s.threads d)
+serves_at s d = is_serving (kind_at s.kinds d) (is_working s.round.working d)
+    (is_thread_working s.threads d)
 
 -- what the handlers of a round answered matters until the flow's end
 abbrev pub canon_round : Bool → RoundSeen → RoundSeen

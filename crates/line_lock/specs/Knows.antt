@@ -1,5 +1,6 @@
 -- What a pass knows, and how that changes when passes are forked and met.
-use Rattle.std.specs.Prelude.{◌≡◌, Bool, true, false, not, cond, nat_lt, IfSome, Option, Some, None, List, [], ◌∷◌, ◌++◌, length, filter}
+use Rattle.std.specs.Prelude.{◌≡◌, Bool, true, false, not, cond, nat_lt, IfSome, Option, Some}
+use Rattle.std.specs.Prelude.{None, List, [], ◌∷◌, ◌++◌, length, filter}
 use Rattle.irq_base.specs.declared.numbers.LineNo.{LineNo}
 use Rattle.irq_base.specs.declared.entries.Actor.{Actor}
 use Rattle.irq_base.specs.declared.entries.Entry.{Entry}

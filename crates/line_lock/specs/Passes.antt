@@ -1,5 +1,6 @@
 -- What contracts see of a lock and of a pass.
-use Rattle.std.specs.Prelude.{◌≡◌, ◌⊎◌, ℕ, Bool, true, false, Option, Some, None, List, [], ◌∷◌, ◌++◌, length}
+use Rattle.std.specs.Prelude.{◌≡◌, ◌⊎◌, ℕ, Bool, true, false, Option, Some, None, List, [], ◌∷◌}
+use Rattle.std.specs.Prelude.{◌++◌, length}
 use Rattle.atomic_table.specs.Seated.{TableId}
 use Rattle.atomic_table.specs.Table.{Me}
 use Rattle.irq_base.specs.Who.{actor_of}
@@ -45,7 +46,8 @@ pub record IsHolding {T : Type 0} (me : Me (Option T) View) (held : ℕ) : Type 
   pub mine : me.0.knows.mine ≡ placed_of me.0.def.line me.0.knows.actor me.0.held
 
 -- What every pass keeps.
-pub record IsPass {T : Type 0} (me : Me (Option T) View) (who : Option Actor) (seen held : ℕ) : Type 0 where
+pub record IsPass {T : Type 0} (me : Me (Option T) View) (who : Option Actor) (seen held : ℕ)
+    : Type 0 where
   pub there : me.0.spent ≡ false
   pub known : IsKnown me.0.def.line me.0.knows
   pub actor : who ≡ me.0.knows.actor

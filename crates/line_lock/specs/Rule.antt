@@ -1,6 +1,7 @@
 -- The rule of the counted lock: what holds between any two steps of its two words, the turn and the
 -- count, of the slot with the value, and of all passes.
-use Rattle.std.specs.Prelude.{◌≡◌, ◌≢◌, ◌⊎◌, ℕ, true, false, IfSome, Option, Some, None, List, [], ◌∷◌, length}
+use Rattle.std.specs.Prelude.{◌≡◌, ◌≢◌, ◌⊎◌, ℕ, true, false, IfSome, Option, Some, None, List, []}
+use Rattle.std.specs.Prelude.{◌∷◌, length}
 use mathlib.Core.Option.{some, none}
 use lib.ListN.{get_elem?}
 use Rattle.atomic_table.specs.Table.{State}
@@ -51,7 +52,30 @@ met_view v w = record v { knows = met v.knows w.knows; last = Some (v.knows, w.k
 
 -- a pass's view after the pass was met; its definition tells nothing
 abbrev pub spent_view : View
-spent_view = record { def = record { line = record { 0 = 0 }; flow = flows.Edge; trigger = triggers.Edge; keeps = false; recalls = false; retriggers = false; unlazy = false; later = false; mask = 0; cpus = 0; window = 0; limit = 0; log = 0; devices = []; calls = [] }; knows = nothing_known; turn = false; held = []; spent = true; last = None }
+spent_view = record {
+  def = record {
+    line = record { 0 = 0 };
+    flow = flows.Edge;
+    trigger = triggers.Edge;
+    keeps = false;
+    recalls = false;
+    retriggers = false;
+    unlazy = false;
+    later = false;
+    mask = 0;
+    cpus = 0;
+    window = 0;
+    limit = 0;
+    log = 0;
+    devices = [];
+    calls = [];
+  };
+  knows = nothing_known;
+  turn = false;
+  held = [];
+  spent = true;
+  last = None;
+}
 
 -- The passes fit the history, and each actor has one pass.
 pub record Passes (key : LineDef) (history : List Entry) (views : List View) : Type 0 where
@@ -82,7 +106,8 @@ pub record Passes (key : LineDef) (history : List Entry) (views : List View) : T
 
 module _ {T : Type 0} (def_of : T → LineDef) (entries_of : T → List Entry) where
   -- Nobody has the turn: the word is 0, and the value is at home.
-  pub record IsFree (key : LineDef) (history : List Entry) (s : State (Option T) View) : Type 0 where
+  pub record IsFree (key : LineDef) (history : List Entry) (s : State (Option T) View)
+      : Type 0 where
     -- the count is the length of the history
     pub words : s.words ≡ 0 ∷ length history ∷ []
     pub value : T

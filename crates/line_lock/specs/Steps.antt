@@ -1,5 +1,6 @@
 -- What each step on a word tells the pass that makes it.
-use Rattle.std.specs.Prelude.{◌≡◌, ◌≢◌, ℕ, ◌≤◌, true, false, Option, Some, IfSome, List, [], ◌∷◌, ◌++◌, length}
+use Rattle.std.specs.Prelude.{◌≡◌, ◌≢◌, ℕ, ◌≤◌, true, false, Option, Some, IfSome, List, [], ◌∷◌}
+use Rattle.std.specs.Prelude.{◌++◌, length}
 use Rattle.atomic_table.specs.Table.{Me}
 use Rattle.irq_base.specs.Who.{actor_of}
 use Rattle.irq_base.specs.declared.entries.Actor.{Actor}
@@ -34,7 +35,8 @@ module _ {T : Type 0} (def_of : T → LineDef) (entries_of : T → List Entry) w
     pub then : after ≡ (holding before.0 (entries_of value), (0, Some value) ∷ [])
 
   -- the pass asked for the turn: it has the turn, or all is as before
-  pub data Takes (before : Me (Option T) View) (found : ℕ) (after : Me (Option T) View) : Type 0 where
+  pub data Takes (before : Me (Option T) View) (found : ℕ) (after : Me (Option T) View)
+      : Type 0 where
     got : found ≡ 0 → Took before after → Takes before found after
     busy : found ≢ 0 → after ≡ before → Takes before found after
 

@@ -1,7 +1,9 @@
 //! The lock.
-ghost use Rattle.std.specs.Prelude.{◌≡◌, ◌≤◌, true, false, [], ◌∷◌, Some, None, IsSome, IsNone, IfOk, IfErr, length};
+ghost use Rattle.std.specs.Prelude.{◌≡◌, ◌≤◌, true, false, [], ◌∷◌, Some, None, IsSome, IsNone};
+ghost use Rattle.std.specs.Prelude.{IfOk, IfErr, length};
 ghost use Rattle.irq_base.specs.Who.{actor_of};
-ghost use Rattle.line_lock.specs.Knows.{BeginsWith, nothing_known, is_among, forked, newcomer, looked, Meets};
+ghost use Rattle.line_lock.specs.Knows.{BeginsWith, nothing_known, is_among, forked, newcomer};
+ghost use Rattle.line_lock.specs.Knows.{looked, Meets};
 ghost use Rattle.line_lock.specs.Passes.{IsPassOf, Extends};
 ghost use Rattle.line_lock.specs.Placed.{placed_of};
 
@@ -36,7 +38,8 @@ impl<T: Kept> Model for CountedLock<T> {
 
     ghost view = { λ l. record { table = l.table.shared.table_id; def = l.table.shared.key } };
 
-    ghost invariant = { λ l. (l.table.shared.table_id.words ≡ 2) × (l.table.shared.table_id.slots ≡ 1) };
+    ghost invariant = { λ l. (l.table.shared.table_id.words ≡ 2)
+        × (l.table.shared.table_id.slots ≡ 1) };
 }
 
 impl<T: Kept> CountedLock<T> {

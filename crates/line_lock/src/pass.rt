@@ -27,7 +27,13 @@ impl<T: Kept> Model for Pass<T> {
 
     ghost Value = { PassSeen };
 
-    ghost view = { λ p. record { table = p.seat.table_id; def = p.seat.me.0.def; knows = p.seat.me.0.knows; turn = p.seat.me.0.turn; held = p.seat.me.0.held } };
+    ghost view = { λ p. record {
+      table = p.seat.table_id;
+      def = p.seat.me.0.def;
+      knows = p.seat.me.0.knows;
+      turn = p.seat.me.0.turn;
+      held = p.seat.me.0.held;
+    } };
 
     ghost invariant = { λ p. IsPass p.seat.me p.actor p.front p.held };
 }

@@ -1,9 +1,11 @@
 //! The steps that a pass makes on the two words and the slot.
-ghost use Rattle.std.specs.Prelude.{◌≡◌, ◌≤◌, length, IsTrue, IsFalse, MatchBool, Some, None, true, false, [], ◌∷◌};
+ghost use Rattle.std.specs.Prelude.{◌≡◌, ◌≤◌, length, IsTrue, IsFalse, MatchBool, Some, None};
+ghost use Rattle.std.specs.Prelude.{true, false, [], ◌∷◌};
 ghost use Rattle.line_lock.specs.Knows.{is_among};
 ghost use Rattle.line_lock.specs.Rule.{left_view, right_view, met_view};
 ghost use Rattle.line_lock.specs.Passes.{IsMore};
-ghost use Rattle.line_lock.specs.Steps.{holding, counted, idle, Suits, Took, Looks, Raises, Gives, Learns, Added, Ready};
+ghost use Rattle.line_lock.specs.Steps.{holding, counted, idle, Suits, Took, Looks, Raises};
+ghost use Rattle.line_lock.specs.Steps.{Gives, Learns, Added, Ready};
 
 use crate::kept::Kept;
 use crate::view::View;

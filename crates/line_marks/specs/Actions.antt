@@ -13,7 +13,8 @@ use Rattle.irq_model.specs.Links.{linked, linking_flags}
 use Rattle.irq_model.specs.Places.{count_of}
 use Rattle.irq_model.specs.Rounds.{begins_round, has_begun}
 use Rattle.device_table.specs.Rows.{table_by}
-use Rattle.act_list.specs.Lists.{ListSeen, action_by, after_link, after_unlink, after_begin, after_begin_round}
+use Rattle.act_list.specs.Lists.{ListSeen, action_by, after_link, after_unlink, after_begin}
+use Rattle.act_list.specs.Lists.{after_begin_round}
 use Rattle.act_list.specs.declared.actions.Action.{Action}
 
 -- the devices with the flags of their last requests that were linked

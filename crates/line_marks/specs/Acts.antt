@@ -21,7 +21,9 @@ use Rattle.act_list.specs.Lists.{after_link, after_begin_round}
 use Rattle.affinity.specs.Seen.{after_move}
 use Rattle.spurious.specs.Seen.{after_note, after_reset}
 use Rattle.desc_state.specs.Desc.{DescSeen, killed, shut_down, started_up, cell_started, masked_if}
-use Rattle.flow_handlers.specs.Flows.{level_desc, level_cell, level_left, level_ended, edge_desc, edge_cell, edge_left, edge_ended, eoi_desc, eoi_cell, eoi_left, eoi_ended, eoi_ended_cell, unmasked_if}
+use Rattle.flow_handlers.specs.Flows.{level_desc, level_cell, level_left, level_ended, edge_desc}
+use Rattle.flow_handlers.specs.Flows.{edge_cell, edge_left, edge_ended, eoi_desc, eoi_cell}
+use Rattle.flow_handlers.specs.Flows.{eoi_left, eoi_ended, eoi_ended_cell, unmasked_if}
 use Rattle.flow_handlers.specs.declared.leave_answer.LeaveAnswer.{LeaveAnswer}
 use Rattle.line_marks.specs.Aim.{aimed_by}
 use Rattle.line_marks.specs.State.{StateSeen, high_in}
@@ -45,11 +47,17 @@ entered def flows.Level answer cpu s =
     record s { desc = level_desc answer cpu s.desc; cell = level_cell s.cell }
 entered def flows.Edge answer cpu s =
     record s { desc = edge_desc answer cpu s.desc; cell = edge_cell answer s.cell }
-entered def flows.Eoi answer cpu s = record s { desc = eoi_desc def.trigger answer cpu s.desc; cell = eoi_cell def.trigger s.desc.oneshot answer s.cell }
+entered def flows.Eoi answer cpu s = record s {
+  desc = eoi_desc def.trigger answer cpu s.desc;
+  cell = eoi_cell def.trigger s.desc.oneshot answer s.cell;
+}
 
 -- a round begins
 abbrev pub round_begun : StateSeen → StateSeen
-round_begun s = record s { round = record s.round { wakes = false; handles = false }; list = after_begin_round s.list }
+round_begun s = record s {
+  round = record s.round { wakes = false; handles = false };
+  list = after_begin_round s.list;
+}
 
 abbrev pub handling_from : TakeAnswer → StateSeen → StateSeen
 handling_from takes.Handle s = round_begun s
@@ -86,11 +94,17 @@ left_by def flows.Edge held d = edge_left d
 left_by def flows.Eoi held d = eoi_left def.trigger held d
 
 abbrev pub left_at : LineDef → FlowKind → Bool → StateSeen → StateSeen
-left_at def flows.Level held s = record s { desc = level_ended held s.desc; cell = unmasked_if (level_left held s.desc).unmask s.cell }
+left_at def flows.Level held s = record s {
+  desc = level_ended held s.desc;
+  cell = unmasked_if (level_left held s.desc).unmask s.cell;
+}
 left_at def flows.Edge held s =
     record s { desc = edge_ended s.desc; cell = unmasked_if (edge_left s.desc).unmask s.cell }
 left_at def flows.Eoi held s =
-    record s { desc = eoi_ended (eoi_left def.trigger held s.desc) s.desc; cell = eoi_ended_cell (eoi_left def.trigger held s.desc) s.cell }
+    record s {
+      desc = eoi_ended (eoi_left def.trigger held s.desc) s.desc;
+      cell = eoi_ended_cell (eoi_left def.trigger held s.desc) s.cell;
+    }
 
 -- a flow that goes on begins a new round; on the fast-EOI flow each end is the flow's last
 abbrev pub gone_on : LineDef → Bool → StateSeen → StateSeen

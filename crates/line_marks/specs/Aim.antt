@@ -20,7 +20,12 @@ waiting_of (_ ∷ past) = waiting_of past
 
 -- the mask in force, and a mask that waits
 abbrev pub aim_of : LineDef → List Entry → AimSeen
-aim_of def past = record { cpus = def.cpus; later = def.later; mask = mask_in_force def past; waiting = waiting_of past }
+aim_of def past = record {
+  cpus = def.cpus;
+  later = def.later;
+  mask = mask_in_force def past;
+  waiting = waiting_of past;
+}
 
 -- a change is put in force or waits; a take puts what waits in force (`irq_move_masked_irq`,
 -- `kernel/irq/migration.c`)

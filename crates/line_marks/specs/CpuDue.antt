@@ -36,7 +36,8 @@ met_by None = 0
 met_by (Some r) = r.met_by_handler
 
 abbrev pub return_by : StateSeen → CpuNo → DevNo → ℕ → Entry
-return_by s c d met = entries.Return c d (answer_of (kind_at s.kinds d) parts.Primary met) (served_by_handler (kind_at s.kinds d) met)
+return_by s c d met = entries.Return c d (answer_of (kind_at s.kinds d) parts.Primary met)
+    (served_by_handler (kind_at s.kinds d) met)
 
 -- the note of the round
 abbrev pub note_by : StateSeen → Note

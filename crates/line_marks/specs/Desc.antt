@@ -4,9 +4,12 @@ use Rattle.irq_base.specs.declared.entries.Entry.{Entry}
 use Rattle.irq_base.specs.declared.lines.FlowKind.{FlowKind}
 use Rattle.irq_base.specs.declared.lines.FlowKind.TheVariants as flows
 use Rattle.irq_base.specs.declared.lines.LineDef.{LineDef}
-use Rattle.irq_model.specs.Kinds.{is_take, is_busy, is_off, is_handle, is_leave, is_again, is_disable, is_kill, is_last_unlink, is_start, is_linked_request, is_soft_start, is_resend_take}
+use Rattle.irq_model.specs.Kinds.{is_take, is_busy, is_off, is_handle, is_leave, is_again}
+use Rattle.irq_model.specs.Kinds.{is_disable, is_kill, is_last_unlink, is_start}
+use Rattle.irq_model.specs.Kinds.{is_linked_request, is_soft_start, is_resend_take}
 use Rattle.irq_model.specs.Lines.{is_edge_line, is_level_line, is_eoi_flow}
-use Rattle.irq_model.specs.Links.{depth, is_started, is_oneshot, has_spurious_mark, flags_in, is_deepening, is_lowering}
+use Rattle.irq_model.specs.Links.{depth, is_started, is_oneshot, has_spurious_mark, flags_in}
+use Rattle.irq_model.specs.Links.{is_deepening, is_lowering}
 use Rattle.irq_model.specs.Masks.{is_masked, unmasks}
 use Rattle.irq_model.specs.Rounds.{flow, cpu_of_handle}
 use Rattle.desc_state.specs.Desc.{DescSeen}

@@ -1,5 +1,6 @@
 -- The entry that is due of a thread, read off the state of the line.
-use Rattle.std.specs.Prelude.{ℕ, ◌-◌, Bool, not, ◌&&◌, if◌then◌else◌, nat_lt, is_some, Option, Some, None}
+use Rattle.std.specs.Prelude.{ℕ, ◌-◌, Bool, not, ◌&&◌, if◌then◌else◌, nat_lt, is_some, Option}
+use Rattle.std.specs.Prelude.{Some, None}
 use Rattle.irq_base.specs.declared.entries.Entry.{Entry}
 use Rattle.irq_base.specs.declared.entries.Entry.TheVariants as entries
 use Rattle.irq_base.specs.declared.numbers.DevNo.{DevNo}

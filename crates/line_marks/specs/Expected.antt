@@ -44,7 +44,8 @@ abbrev pub IsExpected : LineDef → Entry → StateSeen → Type 0
 IsExpected def (entries.Ask driver dev) s = HasRoom (at s.asks dev)
 IsExpected def (entries.Take cpu way answer) s = (answer ≡ take_by s) × HasRounds s
 IsExpected def (entries.End cpu again unmask note) s =
-    (entries.End cpu again unmask note ≡ end_with cpu (note_by s) (left_by def def.flow (is_held s) (killed_if (note_by s) s.desc)))
+    (entries.End cpu again unmask note ≡ end_with cpu (note_by s)
+    (left_by def def.flow (is_held s) (killed_if (note_by s) s.desc)))
     × HasRounds s × HasDepth s × IsOpen def s
 IsExpected def (entries.ThreadReturn dev served) s = s.counts.counts.threads_handled < 2 ^ 32 - 1
 IsExpected def (entries.Disable driver) s = HasDepth s

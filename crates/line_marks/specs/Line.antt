@@ -12,7 +12,8 @@ use Rattle.line_marks.specs.State.{StateSeen, state_of}
 
 -- the definition is valid, the history legal and not too long, and the state and the drivers'
 -- places are the history's
-pub record IsLine (def : LineDef) (entries : List Entry) (s : StateSeen) (scripts : List (DriverNo × RowSeen)) : Type 0 where
+pub record IsLine (def : LineDef) (entries : List Entry) (s : StateSeen)
+    (scripts : List (DriverNo × RowSeen)) : Type 0 where
   pub valid : IsValid def
   pub legal : IsLegal def entries
   pub state : s ≡ state_of def (reverse entries)

@@ -13,7 +13,8 @@ use Rattle.irq_model.specs.Lines.{is_edge_line, is_level_line, serves}
 use Rattle.irq_model.specs.Signal.{lowest_in}
 use Rattle.irq_model.specs.Spurious.{no_counts}
 use Rattle.irq_model.specs.Up.{is_up}
-use Rattle.irq_laws.specs.Driven.{cell_after, accepted, taken, ended, masked_if, unmasked_if, retriggered_if}
+use Rattle.irq_laws.specs.Driven.{cell_after, accepted, taken, ended, masked_if, unmasked_if}
+use Rattle.irq_laws.specs.Driven.{retriggered_if}
 use Rattle.irq_laws.specs.Kept.{freeing}
 use Rattle.device_table.specs.Rows.{all_with}
 use Rattle.device_table.specs.Sums.{how_many}
@@ -104,15 +105,19 @@ driven_by def (entries.ThreadReturn dev count) d high c =
     if is_level_line def && nat_lt 0 count then after_high high c else c
 driven_by def (entries.Take cpu way answer) d high c =
     taken def def.flow d.oneshot answer (accepted way c)
-driven_by def (entries.End cpu again unmask note) d high c = ended def def.flow again unmask (masked_if (is_kill (entries.End cpu again unmask note) && d.unlazy) c)
+driven_by def (entries.End cpu again unmask note) d high c
+    = ended def def.flow again unmask (masked_if
+    (is_kill (entries.End cpu again unmask note) && d.unlazy) c)
 driven_by def (entries.Finish dev kept unmask) d high c = unmasked_if unmask c
 driven_by def (entries.Disable driver) d high c = masked_if d.unlazy c
 driven_by def (entries.Unlink driver dev answer) d high c =
     masked_if (is_last_unlink (entries.Unlink driver dev answer)) c
 driven_by def (entries.Request driver dev flags answer opened) d high c =
-    retriggered_if (is_chip_start (entries.Request driver dev flags answer opened)) (unmasked_if (is_start (entries.Request driver dev flags answer opened)) c)
+    retriggered_if (is_chip_start (entries.Request driver dev flags answer opened))
+    (unmasked_if (is_start (entries.Request driver dev flags answer opened)) c)
 driven_by def (entries.Enable driver answer) d high c =
-    retriggered_if (is_chip_start (entries.Enable driver answer)) (unmasked_if (is_start (entries.Enable driver answer)) c)
+    retriggered_if (is_chip_start (entries.Enable driver answer))
+    (unmasked_if (is_start (entries.Enable driver answer)) c)
 driven_by def _ d high c = c
 
 -- what an entry makes of each part

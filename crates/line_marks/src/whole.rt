@@ -16,7 +16,8 @@ ghost use Rattle.line_marks.specs.Bounded.{IsFew, HasSpace};
 ghost use Rattle.line_marks.specs.Desc.{desc_of};
 ghost use Rattle.line_marks.specs.Expected.{IsOpen};
 ghost use Rattle.line_marks.specs.Kinds.{kinds_of};
-ghost use Rattle.line_marks.specs.State.{IsOf, first_state, state_of, state_after, high_in, driven_by};
+ghost use Rattle.line_marks.specs.State.{IsOf, first_state, state_of, state_after, high_in};
+ghost use Rattle.line_marks.specs.State.{driven_by};
 
 /// The state after one more entry is what the entry makes of the state before it.
 #[tactic(auto, using(crate::proofs::StateFollows::state_follows))]

@@ -1,5 +1,6 @@
 -- The scripts of a line: a row for each driver that has calls on it.
-use Rattle.std.specs.Prelude.{ℕ, ◌+◌, Bool, false, Option, Some, None, List, [], ◌∷◌, drop, unwrap_or, slice_get}
+use Rattle.std.specs.Prelude.{ℕ, ◌+◌, Bool, false, Option, Some, None, List, [], ◌∷◌, drop}
+use Rattle.std.specs.Prelude.{unwrap_or, slice_get}
 use Rattle.std.specs.Map.{lookup, set_value}
 use Rattle.irq_base.specs.declared.calls.Call.{Call}
 use Rattle.irq_base.specs.declared.numbers.DriverNo.{DriverNo}
@@ -35,7 +36,8 @@ abbrev pub within_of : List (DriverNo × RowSeen) → DriverNo → ℕ
 within_of s r = (row_of s r).within
 
 -- the driver's row, if it is there, with another place
-abbrev pub placed : DriverNo → ℕ → ℕ → List (DriverNo × RowSeen) → Option RowSeen → List (DriverNo × RowSeen)
+abbrev pub placed : DriverNo → ℕ → ℕ → List (DriverNo × RowSeen) → Option RowSeen
+    → List (DriverNo × RowSeen)
 placed r place within s None = s
 placed r place within s (Some x) =
     set_value (same_driver r) s (record x { place = place; within = within })

@@ -1,12 +1,14 @@
 //! The scripts of all drivers on the line.
-ghost use Rattle.std.specs.Prelude.{◌≡◌, ℕ, ◌+◌, ◌<◌, ◌^◌, ◌++◌, [], ◌∷◌, false, ◌&&◌, IsSome, OnOk, IfOk, if◌then◌else◌};
+ghost use Rattle.std.specs.Prelude.{◌≡◌, ℕ, ◌+◌, ◌<◌, ◌^◌, ◌++◌, [], ◌∷◌, false, ◌&&◌, IsSome};
+ghost use Rattle.std.specs.Prelude.{OnOk, IfOk, if◌then◌else◌};
 ghost use Rattle.irq_base.specs.declared.numbers.DriverNo.{DriverNo};
 ghost use Rattle.irq_model.specs.Bounds.{is_ask_call};
 ghost use Rattle.irq_model.specs.Due.{calls_by};
 ghost use Rattle.irq_model.specs.Kinds.{same_driver};
 ghost use Rattle.irq_model.specs.Places.{count_of};
 ghost use Rattle.irq_steps.specs.Laid.{with_count};
-ghost use Rattle.line_scripts.specs.Rows.{row_of, calls_of, place_of, within_of, call_of, asks_left, is_some_ask, gone_to};
+ghost use Rattle.line_scripts.specs.Rows.{row_of, calls_of, place_of, within_of, call_of};
+ghost use Rattle.line_scripts.specs.Rows.{asks_left, is_some_ask, gone_to};
 
 use crate::row::Row;
 use indexmap::IndexMap;

@@ -20,4 +20,5 @@ IsNotWithin def e n = (h : List Entry) → IsLegalPast def (e ∷ h) → n < len
 
 -- after the past a legal history goes on until the line is settled
 abbrev pub ComesToRest : LineDef → List Entry → Type 0
-ComesToRest def past = (k : List Entry) × IsLegalPast def (k ++ past) × IsSettled def (reverse (k ++ past))
+ComesToRest def past = (k : List Entry) × IsLegalPast def (k ++ past)
+    × IsSettled def (reverse (k ++ past))

@@ -24,7 +24,8 @@ Gains old history (Ok stepped.NotYet) new = (new.seen ≡ history) × (new.mine 
 Gains old history (Err refused) new = (new.seen ≡ history) × (new.mine ≡ old.mine)
 
 -- One hold of the line by the pass, whose actor is `who`.
-pub record Steps (whole : LineDef) (who : Actor) (old : Known) (said : Option SaidSeen) (result : Result Stepped StepRefused) (new : Known) : Type 0 where
+pub record Steps (whole : LineDef) (who : Actor) (old : Known) (said : Option SaidSeen)
+    (result : Result Stepped StepRefused) (new : Known) : Type 0 where
   -- the line as it was at this hold, and as it is afterwards
   pub line : LineSeen
   pub after : LineSeen

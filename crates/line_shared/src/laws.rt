@@ -1,5 +1,6 @@
 //! What the holder of a pass may conclude. Each law is the clause of a function that does nothing.
-ghost use Rattle.std.specs.Prelude.{◌≡◌, false, true, Some, List, ◌∷◌, ◌++◌, All, Contains, reverse};
+ghost use Rattle.std.specs.Prelude.{◌≡◌, false, true, Some, List, ◌∷◌, ◌++◌, All, Contains};
+ghost use Rattle.std.specs.Prelude.{reverse};
 ghost use Rattle.std.specs.List.{list_any};
 ghost use Rattle.irq_base.specs.declared.entries.Actor.{Actor};
 ghost use Rattle.irq_base.specs.declared.entries.Entry.{Entry};

@@ -38,7 +38,8 @@ is_cleared _ = false
 
 -- a finish that gives the thread's bit up opens the line, if no thread holds it then
 abbrev pub opens_by : StateSeen → DevNo → Bool
-opens_by s d = is_cleared (finishes_at s.threads d) && may_open (nat_lt 0 (held_in (change finished_row s.threads d))) s.desc
+opens_by s d = is_cleared (finishes_at s.threads d) && may_open
+    (nat_lt 0 (held_in (change finished_row s.threads d))) s.desc
 
 abbrev pub finish_by : StateSeen → DevNo → Entry
 finish_by s d = entries.Finish d (is_kept (finishes_at s.threads d)) (opens_by s d)
@@ -59,7 +60,8 @@ entry_by def s (steps.HardClear driver) = entries.HardClear driver
 entry_by def s (steps.Synced driver) = entries.Synced driver
 entry_by def s (steps.Enable driver) =
     entries.Enable driver (enable_by (not (is_bare s.list.actions)) def.trigger s.desc s.cell)
-entry_by def s (steps.Request driver dev flags) = request_to def driver dev flags s (answer_by (kind_at s.kinds dev) flags s.list.actions)
+entry_by def s (steps.Request driver dev flags)
+    = request_to def driver dev flags s (answer_by (kind_at s.kinds dev) flags s.list.actions)
 entry_by def s (steps.Unlink driver dev) =
     entries.Unlink driver dev (unlink_by dev s.list.actions)
 entry_by def s (steps.Freed driver dev) = entries.Freed driver dev

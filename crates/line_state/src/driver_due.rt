@@ -3,7 +3,8 @@ ghost use Rattle.std.specs.Prelude.{◌≡◌, ◌==◌, if◌then◌else◌, is
 ghost use Rattle.irq_base.specs.declared.entries.Entry.TheVariants as entries;
 ghost use Rattle.irq_base.specs.declared.lines.LineDef.{LineDef};
 ghost use Rattle.act_list.specs.Actions.{answer_by};
-ghost use Rattle.line_marks.specs.DriversDue.{request_to, clear_by, synced_by, freed_by, free_by, driver_due};
+ghost use Rattle.line_marks.specs.DriversDue.{request_to, clear_by, synced_by, freed_by, free_by};
+ghost use Rattle.line_marks.specs.DriversDue.{driver_due};
 ghost use Rattle.line_marks.specs.Kinds.{kind_at};
 ghost use Rattle.line_state.specs.Entries.{entry_by};
 

@@ -29,7 +29,8 @@ impl<C: Chip> LineState<C> {
     /// `enable_irq`.
     pub(crate) fn enable(&mut self, def: &LineDef, driver: DriverNo) -> Entry
         ensures entry { result ≡ entries.Enable driver
-            (enable_by (not (is_bare self.old.state.list.actions)) def.now.trigger self.old.state.desc self.old.state.cell) }
+            (enable_by (not (is_bare self.old.state.list.actions)) def.now.trigger
+            self.old.state.desc self.old.state.cell) }
         ensures state { self.new.state ≡ state_after def.now result self.old.state }
         ensures wiring { self.new.wiring ≡ self.old.wiring }
     {

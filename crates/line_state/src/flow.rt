@@ -6,7 +6,8 @@ ghost use Rattle.irq_base.specs.declared.lines.FlowKind.TheVariants as flows;
 ghost use Rattle.irq_base.specs.declared.lines.LineDef.{LineDef};
 ghost use Rattle.irq_model.specs.Valid.{IsValid};
 ghost use Rattle.flow_handlers.specs.Flows.{edge_left};
-ghost use Rattle.line_marks.specs.Acts.{arrived, moved, entered, handling_from, round_begun, noted_at, killed_by, left_by, left_at, gone_on};
+ghost use Rattle.line_marks.specs.Acts.{arrived, moved, entered, handling_from, round_begun};
+ghost use Rattle.line_marks.specs.Acts.{noted_at, killed_by, left_by, left_at, gone_on};
 ghost use Rattle.line_marks.specs.Aim.{aimed_by};
 ghost use Rattle.line_marks.specs.CpuDue.{is_held, take_by, note_by, end_by};
 ghost use Rattle.line_marks.specs.Expected.{HasRounds, HasDepth, IsOpen};
@@ -81,7 +82,8 @@ impl<C: Chip> LineState<C> {
     #[tactic(auto, using(crate::proofs::Targets::target_below))]
     pub(crate) fn aim_chip(&mut self)
         requires { self.old.state.aim.cpus ≤ 32 }
-        ensures state { self.new.state ≡ record self.old.state { aimed = aimed_by self.old.state.aim } }
+        ensures state { self.new.state ≡ record self.old.state
+            { aimed = aimed_by self.old.state.aim } }
         ensures wiring { self.new.wiring ≡ self.old.wiring }
     {
         self.chip.aim(self.aim.target());
@@ -160,7 +162,8 @@ impl<C: Chip> LineState<C> {
         requires open { IsOpen def.now self.old.state }
         ensures left { result
             ≡ left_by def.now def.now.flow (is_held self.old.state) self.old.state.desc }
-        ensures state { self.new.state ≡ gone_on def.now result.again (left_at def.now def.now.flow (is_held self.old.state) self.old.state) }
+        ensures state { self.new.state ≡ gone_on def.now result.again
+            (left_at def.now def.now.flow (is_held self.old.state) self.old.state) }
         ensures wiring { self.new.wiring ≡ self.old.wiring }
     {
         let held = self.is_held();

@@ -27,7 +27,8 @@ impl<C: Chip> LineState<C> {
         flags: Flags,
     ) -> Entry
         requires absent { has dev self.old.state.list.actions ≡ false }
-        requires room { is_linked_answer (answer_by (kind_at self.old.state.kinds dev) flags self.old.state.list.actions) ≡ true
+        requires room { is_linked_answer (answer_by (kind_at self.old.state.kinds dev) flags
+            self.old.state.list.actions) ≡ true
             → 1 ≤ self.old.spare }
         ensures entry { result ≡ request_to def.now driver dev flags self.old.state
             (answer_by (kind_at self.old.state.kinds dev) flags self.old.state.list.actions) }
@@ -53,7 +54,8 @@ impl<C: Chip> LineState<C> {
     /// The action is linked, or refused.
     fn link(&mut self, dev: DevNo, flags: Flags) -> LinkAnswer
         requires absent { has dev self.old.state.list.actions ≡ false }
-        requires room { is_linked_answer (answer_by (kind_at self.old.state.kinds dev) flags self.old.state.list.actions) ≡ true
+        requires room { is_linked_answer (answer_by (kind_at self.old.state.kinds dev) flags
+            self.old.state.list.actions) ≡ true
             → 1 ≤ self.old.spare }
         ensures answer { result
             ≡ answer_by (kind_at self.old.state.kinds dev) flags self.old.state.list.actions }
@@ -73,9 +75,12 @@ impl<C: Chip> LineState<C> {
     /// goes, and the window of the rule on spurious interrupts begins anew. The first action starts
     /// the line; a further one gives a line that a storm disabled another chance.
     fn set_up(&mut self, trigger: Trigger, first: bool, flags: Flags) -> Opened
-        ensures opened { result ≡ (if first then (if flags.noauto then opens.No else opens.Started (resend_by trigger self.old.state.desc self.old.state.cell))
+        ensures opened { result ≡ (if first then
+            (if flags.noauto then opens.No else opens.Started
+            (resend_by trigger self.old.state.desc self.old.state.cell))
             else (if self.old.state.desc.spurious then opened_by_enable (enable_by (not first) trigger self.old.state.desc self.old.state.cell) else opens.No)) }
-        ensures state { self.new.state ≡ opened_to first result (activated_if first (taken_over flags self.old.state)) }
+        ensures state { self.new.state ≡ opened_to first result
+            (activated_if first (taken_over flags self.old.state)) }
         ensures wiring { self.new.wiring ≡ self.old.wiring }
     {
         let spurious = self.desc.spurious();
@@ -94,7 +99,8 @@ impl<C: Chip> LineState<C> {
     fn open_first(&mut self, trigger: Trigger, noauto: bool) -> Opened
         ensures opened { result ≡ (if noauto then opens.No
             else opens.Started (resend_by trigger self.old.state.desc self.old.state.cell)) }
-        ensures state { self.new.state ≡ opened_to true result (record self.old.state { active = true }) }
+        ensures state { self.new.state ≡ opened_to true result
+            (record self.old.state { active = true }) }
         ensures wiring { self.new.wiring ≡ self.old.wiring }
     {
         self.chip.activate();
@@ -108,7 +114,8 @@ impl<C: Chip> LineState<C> {
 
     /// A line that a storm disabled is enabled (the end of `__setup_irq`).
     fn open_again(&mut self, trigger: Trigger, spurious: bool) -> Opened
-        ensures opened { result ≡ (if spurious then opened_by_enable (enable_by true trigger self.old.state.desc self.old.state.cell)
+        ensures opened { result ≡ (if spurious then opened_by_enable
+            (enable_by true trigger self.old.state.desc self.old.state.cell)
             else opens.No) }
         ensures state { self.new.state ≡ opened_to false result self.old.state }
         ensures wiring { self.new.wiring ≡ self.old.wiring }

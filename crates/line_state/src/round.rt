@@ -20,7 +20,12 @@ impl Model for Round {
 
     ghost Value = { RoundSeen };
 
-    ghost view = { λ r. record { working = r.working; wakes = r.wakes; handles = r.handles; moment = r.moment } };
+    ghost view = { λ r. record {
+      working = r.working;
+      wakes = r.wakes;
+      handles = r.handles;
+      moment = r.moment;
+    } };
 }
 
 impl Round {
@@ -81,7 +86,11 @@ impl Round {
 
     /// It returns.
     pub(crate) fn returned(&mut self, answer: Answer)
-        ensures { self.new ≡ record self.old { working = None; wakes = is_wake answer || self.old.wakes; handles = is_handled answer || self.old.handles } }
+        ensures { self.new ≡ record self.old {
+          working = None;
+          wakes = is_wake answer || self.old.wakes;
+          handles = is_handled answer || self.old.handles;
+        } }
     {
         self.working = None;
         match answer {

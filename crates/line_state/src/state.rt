@@ -44,7 +44,24 @@ impl<C: Chip> Model for LineState<C> {
 
     ghost Value = { LineStateSeen };
 
-    ghost view = { λ s. record { state = record { desc = s.desc; cell = C.cell s.chip; active = C.active s.chip; aimed = C.aimed s.chip; aim = s.aim; list = s.actions.list; threads = s.threads; asks = s.asks; kinds = s.kinds; round = s.round; counts = s.counts; freeing = s.freeing }; spare = s.actions.spare; wiring = C.wiring s.chip } };
+    ghost view = { λ s. record {
+      state = record {
+        desc = s.desc;
+        cell = C.cell s.chip;
+        active = C.active s.chip;
+        aimed = C.aimed s.chip;
+        aim = s.aim;
+        list = s.actions.list;
+        threads = s.threads;
+        asks = s.asks;
+        kinds = s.kinds;
+        round = s.round;
+        counts = s.counts;
+        freeing = s.freeing;
+      };
+      spare = s.actions.spare;
+      wiring = C.wiring s.chip;
+    } };
 }
 
 impl<C: Chip + Drop> LineState<C> {

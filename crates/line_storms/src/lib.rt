@@ -19,7 +19,9 @@ use irq_line::{IrqLine, StepRefused, Stepped};
 /// whatever is handed in, the answer isn't `Full`. A caller that calls this before a step knows
 /// that the refusal doesn't come.
 pub fn next_step_is_not_full<L: IrqLine>(line: &L)
-    ensures not_full { bound (L.seen line.now).def ≤ (L.seen line.now).def.log → (actor : Actor) (said : Option SaidSeen) (len : ℕ) (new : LineSeen) → Answers (L.seen line.now) actor said (Err (refusals.Full len)) new → ⊥ }
+    ensures not_full { bound (L.seen line.now).def ≤ (L.seen line.now).def.log
+        → (actor : Actor) (said : Option SaidSeen) (len : ℕ) (new : LineSeen)
+        → Answers (L.seen line.now) actor said (Err (refusals.Full len)) new → ⊥ }
 {
     line.is_sound();
 }
@@ -37,9 +39,11 @@ pub fn step_within_bound<L: IrqLine>(
 ) -> Result<Stepped, NoMemory>
     requires ample { bound (L.seen line.old).def ≤ (L.seen line.old).def.log }
     ensures def { (L.seen line.new).def ≡ (L.seen line.old).def }
-    ensures answer { IfOk result (λ answer. Answers (L.seen line.old) actor said (Ok answer) (L.seen line.new)) }
+    ensures answer { IfOk result (λ answer. Answers (L.seen line.old) actor said (Ok answer)
+        (L.seen line.new)) }
     ensures refused { OnErr result (L.seen line.new ≡ L.seen line.old) }
-    ensures memory { OnErr result (1 ≤ (L.seen line.old).spare → L.may_want (next (L.seen line.old).def (L.seen line.old).entries actor)) }
+    ensures memory { OnErr result (1 ≤ (L.seen line.old).spare
+        → L.may_want (next (L.seen line.old).def (L.seen line.old).entries actor)) }
 {
     next_step_is_not_full(line);
     match line.step(actor, said) {

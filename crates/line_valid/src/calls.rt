@@ -2,7 +2,8 @@
 ghost use Rattle.std.specs.Prelude.{◌≡◌, ◌+◌, ◌<◌, ◌∷◌, drop, length};
 ghost use Rattle.std.specs.List.{list_all};
 ghost use Rattle.irq_model.specs.Valid.{requests_dev, frees_dev, names_one_of};
-ghost use Rattle.line_valid.specs.Deciding.{links_dev, shares, agrees, has_one_owner, is_freed_first, is_freed_after, is_freed_between};
+ghost use Rattle.line_valid.specs.Deciding.{links_dev, shares, agrees, has_one_owner};
+ghost use Rattle.line_valid.specs.Deciding.{is_freed_first, is_freed_after, is_freed_between};
 
 use crate::devices::is_there;
 use irq_base::{Call, CallList, DevNo, DeviceList, DriverNo, LineDef};

@@ -1,5 +1,6 @@
 -- Logs whose rows are those of the entries that were due.
-use Rattle.std.specs.Prelude.{◌≡◌, ◌⊎◌, ℕ, ◌<◌, Bool, true, false, Option, Some, None, IfSome, List, [], ◌∷◌, ◌++◌, Ok, codes, length, reverse, slice_get}
+use Rattle.std.specs.Prelude.{◌≡◌, ◌⊎◌, ℕ, ◌<◌, Bool, true, false, Option, Some, None, IfSome}
+use Rattle.std.specs.Prelude.{List, [], ◌∷◌, ◌++◌, Ok, codes, length, reverse, slice_get}
 use Rattle.board_def.specs.Layout.{layout_of}
 use Rattle.board_def.specs.LineOf.{line_of_row}
 use Rattle.board_def.specs.Seen.{BoardSeen}
@@ -49,7 +50,8 @@ TakesRow row number true _ _ = ⊥
 TakesRow row number false _ _ = Unit {0}
 
 -- the board's line has these entries, each of which was due; one that takes no part has none
-abbrev pub HasEntries : BoardSeen → LineRow → Option Placement → Option LineSeen → List Entry → Type 0
+abbrev pub HasEntries : BoardSeen → LineRow → Option Placement → Option LineSeen → List Entry
+    → Type 0
 HasEntries b row (Some (placements.Mapped virq path)) (Some line) entries =
     IsLegal (line_of_row b row) entries × (line.def ≡ with_log (line_of_row b row) most)
     × (line.entries ≡ entries)
@@ -58,7 +60,8 @@ HasEntries b row _ (Some line) entries = ⊥
 HasEntries b row _ None entries = entries ≡ []
 
 -- the lines, one for each line of the board, have the entries that are said
-pub record HaveAll (b : BoardSeen) (said : List LineEntry) (lines : List (Option LineSeen)) : Type 0 where
+pub record HaveAll (b : BoardSeen) (said : List LineEntry) (lines : List (Option LineSeen))
+    : Type 0 where
   pub many : length lines ≡ length b.lines
   pub each : (i : ℕ) (row : LineRow) (line : Option LineSeen) → slice_get b.lines i ≡ Some row
       → slice_get lines i ≡ Some line

@@ -1,5 +1,6 @@
 -- What a row adds to the histories.
-use Rattle.std.specs.Prelude.{◌≡◌, ◌⊎◌, ℕ, Bool, true, false, Some, List, [], ◌∷◌, ◌++◌, get_or, slice_get, slice_set}
+use Rattle.std.specs.Prelude.{◌≡◌, ◌⊎◌, ℕ, Bool, true, false, Some, List, [], ◌∷◌, ◌++◌, get_or}
+use Rattle.std.specs.Prelude.{slice_get, slice_set}
 use Rattle.board_def.specs.declared.rows.LineRow.{LineRow}
 use Rattle.irq_base.specs.declared.entries.Entry.{Entry}
 use Rattle.irq_base.specs.declared.numbers.LineNo.{LineNo}

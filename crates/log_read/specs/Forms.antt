@@ -24,7 +24,10 @@ use Rattle.irq_base.specs.declared.numbers.DevNo.{DevNo}
 use Rattle.irq_base.specs.declared.numbers.DriverNo.{DriverNo}
 use Rattle.log_text.specs.EntryWords.{entry_words}
 use Rattle.log_text.specs.Formed.{IsSmall, IsWritable}
-use Rattle.log_text.specs.Words.{way_word, take_word, answer_word, loop_word, mask_word, note_word, bit_word, resend_word, error_word, flags_word, unlink_word, enable_words, opened_words, link_words, affinity_words}
+use Rattle.log_text.specs.Words.{way_word, take_word, answer_word, loop_word, mask_word}
+use Rattle.log_text.specs.Words.{note_word, bit_word, resend_word, error_word, flags_word}
+use Rattle.log_text.specs.Words.{unlink_word, enable_words, opened_words, link_words}
+use Rattle.log_text.specs.Words.{affinity_words}
 use Rattle.log_read.specs.Left.{left_of}
 use Rattle.log_read.specs.Takes.{TakesAs, Takes, Any, one, number_words, Both, then, text_words}
 use Rattle.log_read.specs.Who.{who_of}
@@ -97,20 +100,26 @@ TakesMoving movings.Refused old new answer =
 -- entries, by their verb
 
 abbrev pub TakesCpu : CpuNo → CpuVerb → Words → Words → Entry → Type 0
-TakesCpu cpu cpu_verbs.Take old new e = TakesAs (Both Any Any) (then (one way_word) (one take_word)) (λ p. entries.Take cpu p.0 p.1) old new e
+TakesCpu cpu cpu_verbs.Take old new e = TakesAs (Both Any Any)
+    (then (one way_word) (one take_word)) (λ p. entries.Take cpu p.0 p.1) old new e
 TakesCpu cpu cpu_verbs.Begin old new e =
     TakesAs IsSmall number_words (λ n. entries.Begin cpu (dev_no n)) old new e
 TakesCpu cpu cpu_verbs.Return old new e =
-    TakesAs (Both IsSmall (Both Any IsSmall)) (then number_words (then (one answer_word) number_words)) (λ p. entries.Return cpu (dev_no p.0) p.1.0 p.1.1) old new e
+    TakesAs (Both IsSmall (Both Any IsSmall))
+    (then number_words (then (one answer_word) number_words))
+    (λ p. entries.Return cpu (dev_no p.0) p.1.0 p.1.1) old new e
 TakesCpu cpu cpu_verbs.End old new e =
-    TakesAs (Both Any (Both Any Any)) (then (one loop_word) (then (one mask_word) (one note_word))) (λ p. entries.End cpu p.0 p.1.0 p.1.1) old new e
+    TakesAs (Both Any (Both Any Any)) (then (one loop_word)
+    (then (one mask_word) (one note_word))) (λ p. entries.End cpu p.0 p.1.0 p.1.1) old new e
 
 abbrev pub TakesThread : DevNo → ThreadVerb → Words → Words → Entry → Type 0
 TakesThread dev thread_verbs.Begin old new e =
     TakesAs Any no_words (λ u. entries.ThreadBegin dev) old new e
 TakesThread dev thread_verbs.Return old new e =
     TakesAs IsSmall number_words (λ n. entries.ThreadReturn dev n) old new e
-TakesThread dev thread_verbs.Finish old new e = TakesAs (Both Any Any) (then (one bit_word) (one mask_word)) (λ p. entries.Finish dev p.0 p.1) old new e
+TakesThread dev thread_verbs.Finish old new e
+    = TakesAs (Both Any Any) (then (one bit_word) (one mask_word))
+    (λ p. entries.Finish dev p.0 p.1) old new e
 TakesThread dev thread_verbs.Done old new e = TakesAs Any no_words (λ u. entries.Done dev) old new e
 
 abbrev pub TakesDriver : DriverNo → DriverVerb → Words → Words → Entry → Type 0
@@ -125,13 +134,16 @@ TakesDriver driver driver_verbs.Synced old new e =
 TakesDriver driver driver_verbs.Enable old new e =
     TakesAs Any enable_words (λ answer. entries.Enable driver answer) old new e
 TakesDriver driver driver_verbs.Request old new e =
-    TakesAs (Both IsSmall (Both Any IsLink)) (then number_words (then (one flags_word) link_said)) (λ p. entries.Request driver (dev_no p.0) p.1.0 p.1.1.0 p.1.1.1) old new e
+    TakesAs (Both IsSmall (Both Any IsLink)) (then number_words (then (one flags_word) link_said))
+    (λ p. entries.Request driver (dev_no p.0) p.1.0 p.1.1.0 p.1.1.1) old new e
 TakesDriver driver driver_verbs.Unlink old new e =
-    TakesAs (Both IsSmall Any) (then number_words (one unlink_word)) (λ p. entries.Unlink driver (dev_no p.0) p.1) old new e
+    TakesAs (Both IsSmall Any) (then number_words (one unlink_word))
+    (λ p. entries.Unlink driver (dev_no p.0) p.1) old new e
 TakesDriver driver driver_verbs.Freed old new e =
     TakesAs IsSmall number_words (λ n. entries.Freed driver (dev_no n)) old new e
 TakesDriver driver driver_verbs.Affinity old new e =
-    TakesAs (Both IsSmall IsMoved) (then number_words affinity_words) (λ p. entries.Affinity driver p.0 p.1) old new e
+    TakesAs (Both IsSmall IsMoved) (then number_words affinity_words)
+    (λ p. entries.Affinity driver p.0 p.1) old new e
 TakesDriver driver driver_verbs.Moment old new e =
     TakesAs IsSmall number_words (λ n. entries.Moment driver n) old new e
 

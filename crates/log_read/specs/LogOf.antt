@@ -1,5 +1,7 @@
 -- What a log's text says, and what is wrong with a text that isn't a log.
-use Rattle.std.specs.Prelude.{◌≡◌, ◌⊎◌, ℕ, ◌-◌, ◌≤◌, ◌==◌, Bool, true, false, not, ◌&&◌, if◌then◌else◌, Some, List, [], ◌∷◌, map, take, slice_get, All, Result, Ok, Err}
+use Rattle.std.specs.Prelude.{◌≡◌, ◌⊎◌, ℕ, ◌-◌, ◌≤◌, ◌==◌, Bool, true, false, not, ◌&&◌}
+use Rattle.std.specs.Prelude.{if◌then◌else◌, Some, List, [], ◌∷◌, map, take, slice_get, All}
+use Rattle.std.specs.Prelude.{Result, Ok, Err}
 use Rattle.std.specs.List.{filter, AllZip}
 use Rattle.board_def.specs.Rules.{has_line}
 use Rattle.board_def.specs.declared.rows.LineRow.{LineRow}
@@ -61,13 +63,15 @@ entries_on said line = map (λ x. x.1) (filter (λ x. x.0.0 == line.0) said)
 
 -- The rows say these histories, one for each line in the board's order: each row that isn't passed
 -- over is the row of an entry, and a line's history has the entries of its rows, in their order.
-pub record Tell (lines : List LineRow) (rows : List (List ℕ)) (histories : List (List Entry)) : Type 0 where
+pub record Tell (lines : List LineRow) (rows : List (List ℕ)) (histories : List (List Entry))
+    : Type 0 where
   pub said : List LineEntry
   pub each : AllZip (IsRowOn lines) (saying rows) said
   pub are : histories ≡ map (λ row. entries_on said row.line) lines
 
 -- the row with this number, counted from 1, is the first with which something is wrong
-pub record IsFirstMalformed (lines : List LineRow) (rows : List (List ℕ)) (number : ℕ) : Type 0 where
+pub record IsFirstMalformed (lines : List LineRow) (rows : List (List ℕ)) (number : ℕ)
+    : Type 0 where
   pub counted : 1 ≤ number
   pub before : All (IsRow lines) (take (number - 1) rows)
   pub malformed : (row : List ℕ) × (slice_get rows (number - 1) ≡ Some row) × (IsRow lines row → ⊥)

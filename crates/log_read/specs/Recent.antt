@@ -6,4 +6,5 @@ use Rattle.log_read.specs.declared.recent.RecentRow.{RecentRow}
 -- it is the row of its line and entry, if there is one
 abbrev pub IsKept : Option RecentRow → Type 0
 IsKept None = Unit {0}
-IsKept (Some row) = (row.len ≤ 64) × IsRowOf (take row.len row.bytes ++ codes "\n") row.line row.entry
+IsKept (Some row) = (row.len ≤ 64) × IsRowOf (take row.len row.bytes ++ codes "\n") row.line
+    row.entry

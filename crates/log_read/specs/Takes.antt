@@ -5,7 +5,8 @@ use Rattle.log_read.specs.declared.words.Words.{Words}
 
 -- `write` says how a value is written, `Fits` which values can be; `y` was read, which is `make` of
 -- the value.
-pub record TakesAs {X Y : Type 0} (Fits : X → Type 0) (write : X → List (List ℕ)) (make : X → Y) (old new : Words) (y : Y) : Type 0 where
+pub record TakesAs {X Y : Type 0} (Fits : X → Type 0) (write : X → List (List ℕ)) (make : X → Y)
+    (old new : Words) (y : Y) : Type 0 where
   -- the value that was read is written so, and the words behind it are left
   pub sound : (rest : List (List ℕ)) → left_of new ≡ Some rest
       → (x : X) × Fits x × (y ≡ make x) × (left_of old ≡ Some (write x ++ rest))

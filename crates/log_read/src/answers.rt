@@ -1,6 +1,8 @@
 //! The words for what an entry answers.
 ghost use Rattle.std.specs.Prelude.{◌≡◌};
-ghost use Rattle.log_text.specs.Words.{way_word, take_word, answer_word, loop_word, mask_word, note_word, bit_word, resend_word, error_word, flags_word, unlink_word};
+ghost use Rattle.log_text.specs.Words.{way_word, take_word, answer_word, loop_word, mask_word};
+ghost use Rattle.log_text.specs.Words.{note_word, bit_word, resend_word, error_word, flags_word};
+ghost use Rattle.log_text.specs.Words.{unlink_word};
 ghost use Rattle.log_read.specs.Takes.{Any, Reads, Takes, one};
 
 use crate::words::Words;

@@ -1,6 +1,7 @@
 //! The words for the kinds of entries, and the first words of answers, which tell what follows.
 ghost use Rattle.std.specs.Prelude.{◌≡◌};
-ghost use Rattle.log_read.specs.Kinds.{cpu_verb_word, thread_verb_word, driver_verb_word, opening_word, linking_word, moving_word};
+ghost use Rattle.log_read.specs.Kinds.{cpu_verb_word, thread_verb_word, driver_verb_word};
+ghost use Rattle.log_read.specs.Kinds.{opening_word, linking_word, moving_word};
 ghost use Rattle.log_read.specs.Takes.{Any, Reads, Takes, one};
 
 use crate::words::Words;

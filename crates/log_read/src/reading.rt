@@ -1,9 +1,12 @@
 //! The text of a log.
-ghost use Rattle.std.specs.Prelude.{◌≡◌, ℕ, ◌+◌, ◌<◌, ◌≤◌, true, false, [], ◌∷◌, ◌++◌, length, map, codes, get_or, slice_get, slice_set, IfOk, OnOk, OnErr, Some, MatchOption, All};
+ghost use Rattle.std.specs.Prelude.{◌≡◌, ℕ, ◌+◌, ◌<◌, ◌≤◌, true, false, [], ◌∷◌, ◌++◌, length};
+ghost use Rattle.std.specs.Prelude.{map, codes, get_or, slice_get, slice_set, IfOk, OnOk, OnErr};
+ghost use Rattle.std.specs.Prelude.{Some, MatchOption, All};
 ghost use Rattle.std.specs.List.{position};
 ghost use Rattle.board_def.specs.Rules.{has_line};
 ghost use Rattle.board_def.specs.declared.rows.LineRow.{LineRow};
-ghost use Rattle.log_read.specs.LogOf.{rows_of, is_whole, is_feed, is_passed_over, entries_of, IsLogOf, IsRow};
+ghost use Rattle.log_read.specs.LogOf.{rows_of, is_whole, is_feed, is_passed_over, entries_of};
+ghost use Rattle.log_read.specs.LogOf.{IsLogOf, IsRow};
 ghost use Rattle.log_read.specs.Adding.{Adds, IsPlaceOf, Judges};
 
 use crate::recent::RecentRows;

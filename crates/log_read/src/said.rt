@@ -1,7 +1,8 @@
 //! Answers of more than one word.
 ghost use Rattle.std.specs.Prelude.{◌≡◌};
 ghost use Rattle.log_text.specs.Words.{opened_words, enable_words, affinity_words};
-ghost use Rattle.log_read.specs.Forms.{TakesOpening, TakesEnabling, TakesLinking, TakesMoving, IsLink, IsMoved, link_said};
+ghost use Rattle.log_read.specs.Forms.{TakesOpening, TakesEnabling, TakesLinking, TakesMoving};
+ghost use Rattle.log_read.specs.Forms.{IsLink, IsMoved, link_said};
 ghost use Rattle.log_read.specs.Takes.{Takes, TakesAs};
 
 use crate::answers::{error, resend};

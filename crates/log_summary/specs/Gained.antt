@@ -1,5 +1,6 @@
 -- The counts of a history under way.
-use Rattle.std.specs.Prelude.{◌≡◌, ℕ, ◌+◌, Bool, if◌then◌else◌, List, [], ◌∷◌, count_by, sum_by, codes, decimal}
+use Rattle.std.specs.Prelude.{◌≡◌, ℕ, ◌+◌, Bool, if◌then◌else◌, List, [], ◌∷◌, count_by, sum_by}
+use Rattle.std.specs.Prelude.{codes, decimal}
 use Rattle.irq_base.specs.declared.entries.Entry.{Entry}
 use Rattle.irq_base.specs.declared.kinds.EntryKind.{EntryKind}
 use Rattle.irq_base.specs.declared.kinds.EntryKind.TheVariants as kinds

@@ -5,7 +5,8 @@ use Rattle.irq_base.specs.declared.entries.Entry.TheVariants as entries
 use Rattle.irq_base.specs.declared.entries.LinkAnswer.{LinkAnswer}
 use Rattle.irq_base.specs.declared.entries.Opened.{Opened}
 use Rattle.irq_model.specs.Places.{since_place, upto_place, count_of}
-use Rattle.irq_model.specs.Kinds.{is_linked_request, is_linked_answer, is_last_unlink, is_start, is_started_opened, is_lowering_opened, is_unlinked_answer}
+use Rattle.irq_model.specs.Kinds.{is_linked_request, is_linked_answer, is_last_unlink, is_start}
+use Rattle.irq_model.specs.Kinds.{is_started_opened, is_lowering_opened, is_unlinked_answer}
 use Rattle.irq_model.specs.Links.{is_none_linked, is_reset, base, is_deepening, is_lowering}
 use Rattle.log_summary.specs.Gained.{one_if}
 use Rattle.log_summary.specs.declared.standing.Standing.{Standing}

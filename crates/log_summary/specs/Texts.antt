@@ -1,5 +1,6 @@
 -- The rows of a summary, as bytes.
-use Rattle.std.specs.Prelude.{ℕ, if◌then◌else◌, List, [], ◌∷◌, length, reverse, count_by, sum_by, codes, decimal}
+use Rattle.std.specs.Prelude.{ℕ, if◌then◌else◌, List, [], ◌∷◌, length, reverse, count_by, sum_by}
+use Rattle.std.specs.Prelude.{codes, decimal}
 use Rattle.irq_base.specs.declared.numbers.LineNo.{LineNo}
 use Rattle.irq_base.specs.declared.entries.Entry.{Entry}
 use Rattle.irq_model.specs.Kinds.{is_any_ask, is_take}

@@ -84,7 +84,8 @@ impl Standing {
 
     /// The word for it.
     pub(crate) fn word(&self) -> &'static [u8]
-        ensures word { (past : List Entry) → StandsAfter past self.now → result.now ≡ state_word past }
+        ensures word { (past : List Entry) → StandsAfter past self.now
+            → result.now ≡ state_word past }
         ensures short { length result.now ≤ 8 }
     {
         if !self.linked {

@@ -1,5 +1,6 @@
 //! The row of a line's summary, and the row of the total.
-ghost use Rattle.std.specs.Prelude.{◌≡◌, ◌+◌, ◌<◌, ◌≤◌, Some, [], ◌∷◌, ◌++◌, length, slice_get, reverse, codes, decimal};
+ghost use Rattle.std.specs.Prelude.{◌≡◌, ◌+◌, ◌<◌, ◌≤◌, Some, [], ◌∷◌, ◌++◌, length, slice_get};
+ghost use Rattle.std.specs.Prelude.{reverse, codes, decimal};
 ghost use Rattle.log_text.specs.Spaced.{spaced};
 ghost use Rattle.log_summary.specs.Gained.{AreCountsOf, count_words};
 ghost use Rattle.log_summary.specs.Lasts.{TellsLasts};

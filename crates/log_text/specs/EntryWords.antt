@@ -6,7 +6,10 @@ use Rattle.irq_base.specs.declared.entries.Errno.TheVariants as errnos
 use Rattle.irq_base.specs.declared.entries.Opened.TheVariants as openings
 use Rattle.irq_base.specs.declared.entries.LinkAnswer.TheVariants as links
 use Rattle.irq_base.specs.declared.entries.AffinityAnswer.TheVariants as affinities
-use Rattle.log_text.specs.Words.{driver_word, cpu_word, thread_word, way_word, take_word, answer_word, loop_word, mask_word, note_word, bit_word, flags_word, enable_words, link_words, unlink_word, affinity_words}
+use Rattle.log_text.specs.Words.{driver_word, cpu_word, thread_word, way_word, take_word}
+use Rattle.log_text.specs.Words.{answer_word, loop_word, mask_word, note_word, bit_word}
+use Rattle.log_text.specs.Words.{flags_word, enable_words, link_words, unlink_word}
+use Rattle.log_text.specs.Words.{affinity_words}
 
 -- who made the entry, what it is, and what it says
 abbrev pub entry_words : Entry → List (List ℕ)

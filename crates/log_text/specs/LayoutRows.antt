@@ -1,5 +1,6 @@
 -- The rows of a layout, as bytes.
-use Rattle.std.specs.Prelude.{ℕ, Option, Some, None, List, [], ◌∷◌, ◌++◌, length, ◌≤◌, map, codes, decimal, slice_get}
+use Rattle.std.specs.Prelude.{ℕ, Option, Some, None, List, [], ◌∷◌, ◌++◌, length, ◌≤◌, map, codes}
+use Rattle.std.specs.Prelude.{decimal, slice_get}
 use Rattle.std.specs.List.{flat_map, range_with_len}
 use Rattle.irq_base.specs.declared.numbers.LineNo.{LineNo}
 use Rattle.board_def.specs.Layout.{layout_of}

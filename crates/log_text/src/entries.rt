@@ -1,6 +1,7 @@
 //! The row of an entry.
 ghost use Rattle.std.specs.Prelude.{◌≡◌, ◌≤◌, [], ◌∷◌, ◌++◌, length, codes};
-ghost use Rattle.log_text.specs.Words.{driver_word, cpu_word, thread_word, resend_word, error_word, opened_words};
+ghost use Rattle.log_text.specs.Words.{driver_word, cpu_word, thread_word, resend_word};
+ghost use Rattle.log_text.specs.Words.{error_word, opened_words};
 ghost use Rattle.log_text.specs.EntryWords.{entry_words, IsByDriver, IsPrintable};
 ghost use Rattle.log_text.specs.Rows.{entry_text};
 ghost use Rattle.log_text.specs.Spaced.{spaced};
@@ -227,7 +228,8 @@ fn push_request(
     opened: Opened,
 )
     requires { length row.old ≤ 10 }
-    ensures text { row.new ≡ row.old ++ spaced (entry_words (Entry.Request driver dev flags answer opened)) }
+    ensures text { row.new ≡ row.old ++ spaced
+        (entry_words (Entry.Request driver dev flags answer opened)) }
     ensures short { length row.new ≤ 100 }
 {
     push_driver_verb(row, driver, b"request");

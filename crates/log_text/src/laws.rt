@@ -9,13 +9,15 @@ ghost use Rattle.log_text.specs.Rows.{history_text};
 /// do, then their rows differ.
 
 pub fn rows_tell_entries()
-    ensures law { (row : List ℕ) (line other : LineNo) (e f : Entry) → IsRowOf row line e → IsRowOf row other f → (line ≡ other) × (e ≡ f) }
+    ensures law { (row : List ℕ) (line other : LineNo) (e f : Entry) → IsRowOf row line e
+        → IsRowOf row other f → (line ≡ other) × (e ≡ f) }
 {}
 
 /// The text of a line's history tells the history: if two histories of entries that can be written
 /// differ, then their texts differ.
 #[tactic(auto, using(crate::proofs::RowLaws::all_texts_tell))]
 pub fn texts_tell_histories()
-    ensures law { (line : LineNo) (es fs : List Entry) → IsSmall line.0 → All IsWritable es → All IsWritable fs
+    ensures law { (line : LineNo) (es fs : List Entry) → IsSmall line.0 → All IsWritable es
+        → All IsWritable fs
         → history_text line es ≡ history_text line fs → es ≡ fs }
 {}

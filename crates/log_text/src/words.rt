@@ -2,7 +2,9 @@
 //! refused.
 ghost use Rattle.std.specs.Prelude.{◌≡◌, ◌≤◌, length};
 ghost use Rattle.log_text.specs.LayoutRows.{unmapped_word};
-ghost use Rattle.log_text.specs.Words.{way_word, take_word, answer_word, loop_word, mask_word, note_word, bit_word, resend_word, error_word, flags_word, unlink_word};
+ghost use Rattle.log_text.specs.Words.{way_word, take_word, answer_word, loop_word, mask_word};
+ghost use Rattle.log_text.specs.Words.{note_word, bit_word, resend_word, error_word, flags_word};
+ghost use Rattle.log_text.specs.Words.{unlink_word};
 
 use board_def::Unmapped;
 use irq_base::{Answer, Errno, Flags, Note, Resend, TakeAnswer, UnlinkAnswer, Way};

@@ -15,14 +15,16 @@ pub type Notifying = Box<dyn Fn(LineNo, CpuNo, u32) -> u32 + Sync>;
 pub struct BoxedNotifier {
     notifying: Notifying,
     ghost callable: { Notifying.IsAlwaysCallable notifying },
-    ghost by_processor: { (l : LineNo) (c : CpuNo) (n : ℕ) (q : ℕ) → Notifying.post notifying l c n q → 1 ≤ n → q ≡ c.0 % n },
+    ghost by_processor: { (l : LineNo) (c : CpuNo) (n : ℕ) (q : ℕ)
+        → Notifying.post notifying l c n q → 1 ≤ n → q ≡ c.0 % n },
 }
 
 impl BoxedNotifier {
     /// Keeps the function.
     pub fn new(notifying: Notifying) -> BoxedNotifier
         requires callable { Notifying.IsAlwaysCallable notifying }
-        requires by_processor { (l : LineNo) (c : CpuNo) (n : ℕ) (q : ℕ) → Notifying.post notifying l c n q → 1 ≤ n → q ≡ c.0 % n }
+        requires by_processor { (l : LineNo) (c : CpuNo) (n : ℕ) (q : ℕ)
+            → Notifying.post notifying l c n q → 1 ≤ n → q ≡ c.0 % n }
     {
         BoxedNotifier { notifying }
     }

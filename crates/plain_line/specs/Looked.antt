@@ -1,5 +1,6 @@
 -- What was looked up in the history is what the queries of a line ask for.
-use Rattle.std.specs.Prelude.{◌≡◌, ◌≤◌, ◌↔◌, Bool, true, false, IsTrue, is_some, if◌then◌else◌, nat_le, Option, Some, None, List}
+use Rattle.std.specs.Prelude.{◌≡◌, ◌≤◌, ◌↔◌, Bool, true, false, IsTrue, is_some, if◌then◌else◌}
+use Rattle.std.specs.Prelude.{nat_le, Option, Some, None, List}
 use Rattle.irq_base.specs.declared.numbers.CpuNo.{CpuNo}
 use Rattle.irq_base.specs.declared.numbers.DevNo.{DevNo}
 use Rattle.irq_base.specs.declared.entries.Actor.TheVariants as actors

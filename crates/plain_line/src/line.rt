@@ -1,5 +1,6 @@
 //! The line.
-ghost use Rattle.std.specs.Prelude.{◌≡◌, ◌+◌, ◌<◌, ◌≤◌, [], ◌∷◌, ◌++◌, length, IfOk, OnOk, OnErr, IsTrue, Some, reverse};
+ghost use Rattle.std.specs.Prelude.{◌≡◌, ◌+◌, ◌<◌, ◌≤◌, [], ◌∷◌, ◌++◌, length, IfOk, OnOk, OnErr};
+ghost use Rattle.std.specs.Prelude.{IsTrue, Some, reverse};
 ghost use Rattle.irq_model.specs.Legal.{IsDue};
 ghost use Rattle.irq_model.specs.Valid.{IsValid};
 ghost use Rattle.plain_line.specs.Line.{IsPlain};
@@ -29,7 +30,11 @@ impl Model for PlainLine {
 
     ghost Value = { LineSeen };
 
-    ghost view = { λ l. record { def = l.def; entries = l.history.entries; spare = l.history.spare } };
+    ghost view = { λ l. record {
+      def = l.def;
+      entries = l.history.entries;
+      spare = l.history.spare;
+    } };
 
     ghost invariant = { λ l. IsPlain l.def l.history.entries l.looked };
 }

@@ -25,7 +25,8 @@ pub(crate) fn unanswered(
     said: &Option<Said>,
 ) -> Option<Run>
     requires { length past.now ≤ 100000000 }
-    ensures some { IfSome result (λ run. (run_ended def.now past.now entry ≡ Some run) × (IsSaidFor said.now run → ⊥)) }
+    ensures some { IfSome result (λ run. (run_ended def.now past.now entry ≡ Some run)
+        × (IsSaidFor said.now run → ⊥)) }
     ensures none { result ≡ None → IfSome (run_ended def.now past.now entry) (IsSaidFor said.now) }
 {
     let run = run_ended(def, past, entry)?;

@@ -3,7 +3,12 @@ use Rattle.std.specs.Prelude.{Bool, not, ◌&&◌, ◌||◌}
 use Rattle.irq_base.specs.Cell.{is_edge_trigger}
 use Rattle.irq_base.specs.declared.entries.Entry.{Entry}
 use Rattle.irq_model.specs.Asks.{begins_serving, ends_serving}
-use Rattle.irq_model.specs.Kinds.{is_ask, is_begin, is_begin_or_return, returns_wake, returns_handled, wakes, is_thread_begin, is_thread_return, is_finish, is_cleared_finish, is_done, is_take, is_resend_take, is_handle, is_busy, is_off, is_again, is_leave, is_kill, is_linked_request, links_dev, unlinks_dev, is_soft_start, is_freed, is_freed_by}
+use Rattle.irq_model.specs.Kinds.{is_ask, is_begin, is_begin_or_return, returns_wake}
+use Rattle.irq_model.specs.Kinds.{returns_handled, wakes, is_thread_begin, is_thread_return}
+use Rattle.irq_model.specs.Kinds.{is_finish, is_cleared_finish, is_done, is_take, is_resend_take}
+use Rattle.irq_model.specs.Kinds.{is_handle, is_busy, is_off, is_again, is_leave, is_kill}
+use Rattle.irq_model.specs.Kinds.{is_linked_request, links_dev, unlinks_dev, is_soft_start}
+use Rattle.irq_model.specs.Kinds.{is_freed, is_freed_by}
 use Rattle.irq_model.specs.Lines.{is_eoi_flow}
 use Rattle.irq_model.specs.Links.{is_deepening, is_lowering}
 use Rattle.irq_model.specs.Waiting.{clears_pending}
@@ -26,7 +31,8 @@ passes (tests.ClearedFinish d) = is_cleared_finish d
 passes (tests.Done d) = is_done d
 passes tests.Take = is_take
 passes tests.ResendTake = is_resend_take
-passes (tests.HandleOrClose flow) = λ e. is_handle e || (is_leave e || (is_eoi_flow flow && is_again e))
+passes (tests.HandleOrClose flow) = λ e. is_handle e ||
+    (is_leave e || (is_eoi_flow flow && is_again e))
 passes (tests.BeginsRound flow) = λ e. is_handle e || (is_again e && not (is_eoi_flow flow))
 passes (tests.SetsPending trigger) = λ e. is_off e || (is_edge_trigger trigger && is_busy e)
 passes tests.ClearsPending = clears_pending

@@ -3,7 +3,8 @@ ghost use Rattle.std.specs.Prelude.{◌≡◌, ◌+◌, ◌<◌, ◌∷◌, leng
 ghost use Rattle.std.specs.List.{list_any};
 ghost use Rattle.irq_model.specs.Kinds.{is_freed_by};
 ghost use Rattle.irq_model.specs.Reason.{is_being_freed};
-ghost use Rattle.irq_model.specs.Due.{calls_by, entries_by, begins_not_there, entries_of_call, due_of, due_call, is_being_freed_at, holds_mutex};
+ghost use Rattle.irq_model.specs.Due.{calls_by, entries_by, begins_not_there, entries_of_call};
+ghost use Rattle.irq_model.specs.Due.{due_of, due_call, is_being_freed_at, holds_mutex};
 
 use crate::entry_tests::EntryTest;
 use crate::kinds::is_by_driver;

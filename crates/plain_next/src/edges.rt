@@ -1,6 +1,7 @@
 //! The edges of an edge line: where each edge is, by its place in the history.
 ghost use Rattle.std.specs.Prelude.{◌≡◌, ◌<◌, ◌&&◌, ◌||◌, not, take, drop, length, IfOk};
-ghost use Rattle.irq_model.specs.Edges.{is_edge, was_open, is_sent_edge, is_taken, is_alive, is_sent};
+ghost use Rattle.irq_model.specs.Edges.{is_edge, was_open, is_sent_edge, is_taken, is_alive};
+ghost use Rattle.irq_model.specs.Edges.{is_sent};
 ghost use Rattle.plain_next.specs.MaskTable.{IsMaskTable};
 
 use crate::kinds::{is_again, is_any_ask, is_chip_start, is_take};

@@ -1,6 +1,14 @@
 //! Tests on one entry.
 ghost use Rattle.std.specs.Prelude.{◌≡◌};
-ghost use Rattle.irq_model.specs.Kinds.{is_any_ask, is_ask, is_begin, is_return, is_begin_or_return, returns_wake, returns_handled, wakes, is_thread_begin, is_thread_return, is_finish, is_cleared_finish, is_done, is_take, is_resend_take, is_handle, is_busy, is_off, is_again, is_leave, is_kill, is_reopening, is_linked_request, links_dev, unlinks_dev, is_last_unlink, opened_by_enable, opened_of, is_start, is_chip_start, is_soft_start, is_disable, is_by_driver, is_freed, is_freed_by};
+ghost use Rattle.irq_model.specs.Kinds.{is_any_ask, is_ask, is_begin, is_return};
+ghost use Rattle.irq_model.specs.Kinds.{is_begin_or_return, returns_wake, returns_handled, wakes};
+ghost use Rattle.irq_model.specs.Kinds.{is_thread_begin, is_thread_return, is_finish};
+ghost use Rattle.irq_model.specs.Kinds.{is_cleared_finish, is_done, is_take, is_resend_take};
+ghost use Rattle.irq_model.specs.Kinds.{is_handle, is_busy, is_off, is_again, is_leave, is_kill};
+ghost use Rattle.irq_model.specs.Kinds.{is_reopening, is_linked_request, links_dev, unlinks_dev};
+ghost use Rattle.irq_model.specs.Kinds.{is_last_unlink, opened_by_enable, opened_of, is_start};
+ghost use Rattle.irq_model.specs.Kinds.{is_chip_start, is_soft_start, is_disable, is_by_driver};
+ghost use Rattle.irq_model.specs.Kinds.{is_freed, is_freed_by};
 ghost use Rattle.irq_model.specs.Links.{is_deepening, is_lowering};
 
 use irq_base::{

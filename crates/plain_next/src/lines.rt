@@ -4,7 +4,8 @@ ghost use Rattle.std.specs.List.{list_any};
 ghost use Rattle.irq_base.specs.declared.numbers.DevNo.{DevNo};
 ghost use Rattle.irq_model.specs.Places.{count_of};
 ghost use Rattle.plain_next.specs.Tests.{Computes};
-ghost use Rattle.irq_model.specs.Lines.{is_edge_line, is_level_line, is_eoi_flow, serves, kind_in, kind_of, is_in_mask};
+ghost use Rattle.irq_model.specs.Lines.{is_edge_line, is_level_line, is_eoi_flow, serves};
+ghost use Rattle.irq_model.specs.Lines.{kind_in, kind_of, is_in_mask};
 
 use irq_base::{DevNo, DeviceDef, DeviceList, FlowKind, Kind, LineDef, Trigger};
 

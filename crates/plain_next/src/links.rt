@@ -1,9 +1,12 @@
 //! Which devices are linked, and how deep the line is disabled.
-ghost use Rattle.std.specs.Prelude.{◌≡◌, ◌≤◌, List, [], ◌∷◌, ◌++◌, take, drop, length, filter, not, IfOk, OnOk};
+ghost use Rattle.std.specs.Prelude.{◌≡◌, ◌≤◌, List, [], ◌∷◌, ◌++◌, take, drop, length, filter};
+ghost use Rattle.std.specs.Prelude.{not, IfOk, OnOk};
 ghost use Rattle.irq_base.specs.declared.entries.Entry.{Entry};
 ghost use Rattle.irq_model.specs.Places.{since_place, upto_place};
 ghost use Rattle.irq_model.specs.Kinds.{same_dev};
-ghost use Rattle.irq_model.specs.Links.{is_linked, requested, linked, is_none_linked, is_reset, base, depth, is_disabled, flags_in, linking_flags, is_oneshot, has_spurious_mark};
+ghost use Rattle.irq_model.specs.Links.{is_linked, requested, linked, is_none_linked, is_reset};
+ghost use Rattle.irq_model.specs.Links.{base, depth, is_disabled, flags_in, linking_flags};
+ghost use Rattle.irq_model.specs.Links.{is_oneshot, has_spurious_mark};
 
 use crate::entry_tests::EntryTest;
 use crate::kinds::{is_last_unlink, is_linked_request, is_start};

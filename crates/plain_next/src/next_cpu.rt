@@ -2,7 +2,9 @@
 ghost use Rattle.std.specs.Prelude.{◌≡◌, ◌≤◌, length, IfOk};
 ghost use Rattle.irq_base.specs.Handlers.{answer_of};
 ghost use Rattle.irq_model.specs.Rounds.{is_cpu};
-ghost use Rattle.irq_model.specs.Next.{asks_of_handler, served_by_handler, return_of, is_off_now, end_edge, end_level, end_by_flow, end_of, begin_or_end, next_in_flow, take_answer, next_take, next_of_cpu};
+ghost use Rattle.irq_model.specs.Next.{asks_of_handler, served_by_handler, return_of, is_off_now};
+ghost use Rattle.irq_model.specs.Next.{end_edge, end_level, end_by_flow, end_of, begin_or_end};
+ghost use Rattle.irq_model.specs.Next.{next_in_flow, take_answer, next_take, next_of_cpu};
 
 use crate::asks::unserved_asks;
 use crate::entry_tests::EntryTest;

@@ -1,7 +1,11 @@
 //! The rows of the table for drivers.
 ghost use Rattle.std.specs.Prelude.{◌≡◌, ◌≤◌, length, IfOk, Some};
 ghost use Rattle.std.specs.List.{list_any};
-ghost use Rattle.irq_model.specs.Next.{resend_of, enable_answer, flags_differ, same_flag, link_answer, opened_by_request, request_of, is_only, unlink_answer, affinity_answer, hard_clear_of, synced_of, freed_of, next_of_sync, next_of_disable, next_of_free, next_of_request, next_of_call};
+ghost use Rattle.irq_model.specs.Next.{resend_of, enable_answer, flags_differ, same_flag};
+ghost use Rattle.irq_model.specs.Next.{link_answer, opened_by_request, request_of, is_only};
+ghost use Rattle.irq_model.specs.Next.{unlink_answer, affinity_answer, hard_clear_of, synced_of};
+ghost use Rattle.irq_model.specs.Next.{freed_of, next_of_sync, next_of_disable, next_of_free};
+ghost use Rattle.irq_model.specs.Next.{next_of_request, next_of_call};
 ghost use Rattle.irq_model.specs.Due.{due_call};
 ghost use Rattle.irq_model.specs.Links.{linking_flags};
 

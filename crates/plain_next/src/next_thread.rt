@@ -3,7 +3,8 @@ ghost use Rattle.std.specs.Prelude.{◌≡◌, ◌≤◌, length, IfOk};
 ghost use Rattle.std.specs.List.{list_any};
 ghost use Rattle.irq_model.specs.Places.{since};
 ghost use Rattle.irq_model.specs.Kinds.{is_finish, is_thread_begin, is_thread_return};
-ghost use Rattle.irq_model.specs.Next.{asks_of_thread, finish_unmasks, finish_or_done, next_of_thread};
+ghost use Rattle.irq_model.specs.Next.{asks_of_thread, finish_unmasks, finish_or_done};
+ghost use Rattle.irq_model.specs.Next.{next_of_thread};
 
 use crate::asks::unserved_asks;
 use crate::entry_tests::EntryTest;

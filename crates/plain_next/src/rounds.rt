@@ -1,6 +1,7 @@
 //! The flow in progress and its rounds.
 ghost use Rattle.std.specs.Prelude.{◌≡◌};
-ghost use Rattle.irq_model.specs.Rounds.{cpu_of_handle, flow, has_flow, round, has_begun, first_left, dev_of_begin, at_work};
+ghost use Rattle.irq_model.specs.Rounds.{cpu_of_handle, flow, has_flow, round, has_begun};
+ghost use Rattle.irq_model.specs.Rounds.{first_left, dev_of_begin, at_work};
 
 use crate::entry_tests::EntryTest;
 use crate::places::{has, last_of, since};

@@ -2,7 +2,8 @@
 ghost use Rattle.std.specs.Prelude.{◌≡◌, ◌≤◌, length, IfOk};
 ghost use Rattle.std.specs.List.{list_any};
 ghost use Rattle.irq_model.specs.Kinds.{is_take};
-ghost use Rattle.irq_model.specs.Signal.{signals, puts_in_force, mask_of, mask_in_force, lowest_in, target};
+ghost use Rattle.irq_model.specs.Signal.{signals, puts_in_force, mask_of, mask_in_force};
+ghost use Rattle.irq_model.specs.Signal.{lowest_in, target};
 
 use crate::asks::is_high;
 use crate::edges::is_sent;

@@ -1,6 +1,8 @@
 //! The rule on spurious interrupts.
 ghost use Rattle.std.specs.Prelude.{◌≡◌, ◌≤◌, ◌∷◌, length};
-ghost use Rattle.irq_model.specs.Spurious.{counted, unhandled, judged, judged_by_threads, noted, now, round_wakes, round_handles, noted_end, counts_of, note_of};
+ghost use Rattle.irq_model.specs.Spurious.{counted, unhandled, judged, judged_by_threads, noted};
+ghost use Rattle.irq_model.specs.Spurious.{now, round_wakes, round_handles, noted_end, counts_of};
+ghost use Rattle.irq_model.specs.Spurious.{note_of};
 
 use crate::entry_tests::EntryTest;
 use crate::places::has;
@@ -30,9 +32,23 @@ impl Model for SpuriousCounts {
 
     ghost Value = { Counts };
 
-    ghost view = { λ c. record { irq_count = c.irq_count; irqs_unhandled = c.irqs_unhandled; threads_handled = c.threads_handled; deferred = c.deferred; last = c.last; last_unhandled = c.last_unhandled } };
+    ghost view = { λ c. record {
+      irq_count = c.irq_count;
+      irqs_unhandled = c.irqs_unhandled;
+      threads_handled = c.threads_handled;
+      deferred = c.deferred;
+      last = c.last;
+      last_unhandled = c.last_unhandled;
+    } };
 
-    ghost inverse = { λ c. record { irq_count = c.irq_count; irqs_unhandled = c.irqs_unhandled; threads_handled = c.threads_handled; deferred = c.deferred; last = c.last; last_unhandled = c.last_unhandled } };
+    ghost inverse = { λ c. record {
+      irq_count = c.irq_count;
+      irqs_unhandled = c.irqs_unhandled;
+      threads_handled = c.threads_handled;
+      deferred = c.deferred;
+      last = c.last;
+      last_unhandled = c.last_unhandled;
+    } };
 }
 
 /// The note of an end, and what the line keeps after it.

@@ -1,6 +1,7 @@
 //! What the threads of a line's devices do.
 ghost use Rattle.std.specs.Prelude.{◌≡◌, ◌≤◌, length};
-ghost use Rattle.irq_model.specs.Threads.{is_woken, is_running, is_unfinished, is_some_unfinished, is_other_unfinished, active_count};
+ghost use Rattle.irq_model.specs.Threads.{is_woken, is_running, is_unfinished};
+ghost use Rattle.irq_model.specs.Threads.{is_some_unfinished, is_other_unfinished, active_count};
 
 use crate::entry_tests::EntryTest;
 use crate::lines::{any_device, count_devices};

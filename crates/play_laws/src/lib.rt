@@ -15,11 +15,13 @@ ghost use Rattle.play_laws.specs.Actors.{actors_of, IsOneOf};
 
 /// Only the line's own actors ever have a due entry.
 pub fn others_rest()
-    ensures law { (def : LineDef) (h : List Entry) (a : Actor) → IsValid def → IsLegal def h → (IsOneOf a (actors_of def) → ⊥) → next def h a ≡ None }
+    ensures law { (def : LineDef) (h : List Entry) (a : Actor) → IsValid def → IsLegal def h
+        → (IsOneOf a (actors_of def) → ⊥) → next def h a ≡ None }
 {}
 
 /// No standstill: if after a legal history none of the line's own actors has a due entry, the line
 /// is settled.
 pub fn rest_is_settled()
-    ensures law { (def : LineDef) (h : List Entry) → IsValid def → IsLegal def h → ((a : Actor) → IsOneOf a (actors_of def) → next def h a ≡ None) → IsSettled def h }
+    ensures law { (def : LineDef) (h : List Entry) → IsValid def → IsLegal def h
+        → ((a : Actor) → IsOneOf a (actors_of def) → next def h a ≡ None) → IsSettled def h }
 {}

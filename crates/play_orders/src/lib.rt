@@ -14,11 +14,13 @@ ghost use Rattle.play_orders.specs.Orders.{Order, IsPlayed, picks_then_lowest};
 /// A stated order has one play from where it begins: at most one list of steps and one end are its
 /// play. `S`: where the order stands, as a phase or the picks that are left; `E`: a step.
 pub fn ordered_play_is_one<S, E>()
-    ensures law { (o : Order S E) (first : S) (g h : List E) (a b : End) → IsPlayed o first g a → IsPlayed o first h b → (g ≡ h) × (a ≡ b) }
+    ensures law { (o : Order S E) (first : S) (g h : List E) (a b : End) → IsPlayed o first g a
+        → IsPlayed o first h b → (g ≡ h) × (a ≡ b) }
 {}
 
 /// The play of a board is the one by this order: each pick that can move, and then always the
 /// lowest actor that can.
 pub fn boards_play_is_ordered()
-    ensures law { (board : BoardSeen) (picks : List Actor) (g : List Move) (end : End) → Plays board picks g end ↔ IsPlayed (picks_then_lowest board) picks g end }
+    ensures law { (board : BoardSeen) (picks : List Actor) (g : List Move) (end : End)
+        → Plays board picks g end ↔ IsPlayed (picks_then_lowest board) picks g end }
 {}

@@ -19,7 +19,8 @@ full_row line len =
 
 -- The error sink gained the row, and keeps nothing back; or its count of faults rose, and it gained
 -- a beginning of the row.
-pub record Tells (row : List ℕ) (written_before written_now : Option (List ℕ)) (kept_now : List ℕ) (faults_before faults_now : ℕ) : Type 0 where
+pub record Tells (row : List ℕ) (written_before written_now : Option (List ℕ)) (kept_now : List ℕ)
+    (faults_before faults_now : ℕ) : Type 0 where
   pub end : WriteEnd
   pub content : WritesAll written_before written_now row end
   pub emptied : KeepsNone kept_now end

@@ -1,5 +1,6 @@
 -- What reading a board answers.
-use Rattle.std.specs.Prelude.{◌≡◌, ℕ, ◌+◌, ◌≤◌, Bool, true, false, Option, Some, None, List, [], length, drop, Result, Ok, Err}
+use Rattle.std.specs.Prelude.{◌≡◌, ℕ, ◌+◌, ◌≤◌, Bool, true, false, Option, Some, None, List, []}
+use Rattle.std.specs.Prelude.{length, drop, Result, Ok, Err}
 use Rattle.board_def.specs.Seen.{BoardSeen}
 use Rattle.board_stated.specs.TextOf.{board_of_text, longest_text}
 use Rattle.board_words.specs.declared.faults.BoardFault.{BoardFault}

@@ -1,7 +1,8 @@
 -- Reverse maps: which call is refused, and what each makes of the map (`irq_domain_associate` and
 -- `irq_domain_clear_mapping` of `kernel/irq/irqdomain.c`; neither looks whether the number is
 -- mapped, so what is refused is ours). A map is seen as the virq at each hardware number.
-use Rattle.std.specs.Prelude.{◌≡◌, ◌<◌, ◌^◌, ℕ, Bool, true, false, ◌&&◌, ◌==◌, if◌then◌else◌, nat_lt, is_some, Option, Some, None, List}
+use Rattle.std.specs.Prelude.{◌≡◌, ◌<◌, ◌^◌, ℕ, Bool, true, false, ◌&&◌, ◌==◌, if◌then◌else◌}
+use Rattle.std.specs.Prelude.{nat_lt, is_some, Option, Some, None, List}
 use Rattle.std.specs.Ordering.{nat_cmp}
 use Rattle.std.specs.BTreeMap.{is_at}
 use Rattle.std.specs.Map.{lookup}

@@ -1,6 +1,7 @@
 //! What is asked of a reverse map.
 ghost use Rattle.std.specs.Prelude.{◌≡◌, ℕ, ◌<◌, Option};
-ghost use Rattle.revmap.specs.Answers.{IsAssociated, dispose_answer, after_associate, after_dispose, IsLowestFree};
+ghost use Rattle.revmap.specs.Answers.{IsAssociated, dispose_answer, after_associate};
+ghost use Rattle.revmap.specs.Answers.{after_dispose, IsLowestFree};
 
 /// What an association answers.
 #[derive(Clone, Copy, Debug, PartialEq, Eq)]

@@ -10,7 +10,8 @@ use Rattle.irq_base.specs.declared.entries.Actor.TheVariants as actors
 use Rattle.irq_base.specs.declared.entries.Entry.{Entry}
 use Rattle.irq_base.specs.declared.entries.Entry.TheVariants as entries
 use Rattle.irq_model.specs.Places.{stands, since, before}
-use Rattle.irq_model.specs.Kinds.{same_driver, is_any_ask, is_disable, is_linked_request, is_unlinked_answer}
+use Rattle.irq_model.specs.Kinds.{same_driver, is_any_ask, is_disable, is_linked_request}
+use Rattle.irq_model.specs.Kinds.{is_unlinked_answer}
 
 -- ---- the sleeper's entries
 

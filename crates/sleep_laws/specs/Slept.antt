@@ -17,7 +17,8 @@ use Rattle.irq_model.specs.Threads.{is_woken, is_running}
 use Rattle.irq_model.specs.Owed.{is_owed}
 use Rattle.irq_model.specs.Reason.{is_called}
 use Rattle.irq_model.specs.Laws.{IsHandledNext}
-use Rattle.sleep_laws.specs.Sleeping.{is_enable_by, since_disable, before_disable, is_suspended, is_asleep, is_left_alone}
+use Rattle.sleep_laws.specs.Sleeping.{is_enable_by, since_disable, before_disable, is_suspended}
+use Rattle.sleep_laws.specs.Sleeping.{is_asleep, is_left_alone}
 
 -- ---- while it sleeps
 

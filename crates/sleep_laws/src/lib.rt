@@ -24,23 +24,32 @@ ghost use Rattle.sleep_laws.specs.Slept.{SleepsSoundly, ResumesAsItWas};
 /// While a line sleeps it is disabled and at rest: no handler is called, no thread begins a run,
 /// and what is taken is left pending.
 pub fn sleeps_soundly()
-    ensures law { (def : LineDef) (r : DriverNo) (h : List Entry) → IsValid def → IsLegal def h → SleepsSoundly def r h }
+    ensures law { (def : LineDef) (r : DriverNo) (h : List Entry) → IsValid def → IsLegal def h
+        → SleepsSoundly def r h }
 {}
 
 /// The enable finds the line as the disable left it: as deep as before, unless the rule on spurious
 /// interrupts killed it, and what came meanwhile is handled next.
 pub fn resumes_as_it_was()
-    ensures law { (def : LineDef) (r : DriverNo) (h : List Entry) → IsValid def → IsLegal def h → ResumesAsItWas def r h }
+    ensures law { (def : LineDef) (r : DriverNo) (h : List Entry) → IsValid def → IsLegal def h
+        → ResumesAsItWas def r h }
 {}
 
 /// A driver whose calls on the line are one disable and one enable disturbs nothing between the
 /// two, so a line is left alone as long as the other drivers only ask.
 pub fn left_alone()
-    ensures law { (def : LineDef) (r : DriverNo) (h : List Entry) → IsLegal def h → calls_by r def.calls ≡ calls.Disable ∷ calls.Enable ∷ [] → is_suspended r (reverse h) ≡ true → others_only_ask r (reverse h) ≡ true → is_left_alone r (reverse h) ≡ true }
+    ensures law { (def : LineDef) (r : DriverNo) (h : List Entry) → IsLegal def h
+        → calls_by r def.calls ≡ calls.Disable ∷ calls.Enable ∷ []
+        → is_suspended r (reverse h) ≡ true → others_only_ask r (reverse h) ≡ true
+        → is_left_alone r (reverse h) ≡ true }
 {}
 
 /// Falling asleep never gets stuck: once no thread and no processor of the line may add an entry, a
 /// driver whose disable isn't complete may.
 pub fn falls_asleep()
-    ensures law { (def : LineDef) (h : List Entry) (r : DriverNo) (n : ℕ) → ((line : LineNo) (d : DevNo) → next def h (actors.Thread line d) ≡ None) → ((c : CpuNo) → next def h (actors.Cpu c) ≡ None) → due_call def r (reverse h) ≡ Some (calls.Disable, n) → IsSome (next def h (actors.Driver r)) }
+    ensures law { (def : LineDef) (h : List Entry) (r : DriverNo) (n : ℕ)
+        → ((line : LineNo) (d : DevNo) → next def h (actors.Thread line d) ≡ None)
+        → ((c : CpuNo) → next def h (actors.Cpu c) ≡ None)
+        → due_call def r (reverse h) ≡ Some (calls.Disable, n)
+        → IsSome (next def h (actors.Driver r)) }
 {}

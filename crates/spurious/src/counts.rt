@@ -24,7 +24,11 @@ impl Model for Counts {
 
     ghost use Rattle.spurious.specs.Tallies.{rule_counts, IsWithin};
 
-    ghost view = { λ c. record { window = c.window; limit = c.limit; counts = rule_counts c.tally } };
+    ghost view = { λ c. record {
+      window = c.window;
+      limit = c.limit;
+      counts = rule_counts c.tally;
+    } };
 
     ghost invariant = { λ c. IsWithin c.window c.tally };
 }
@@ -65,8 +69,10 @@ impl Counts {
         self.tally
     }
 
-    /// Notes a round that ends at the moment `now`, in milliseconds (`note_interrupt`). `wake`: some
-    /// handler of the round woke its thread; `handled`: some handler of it handled the interrupt. If
+    /// Notes a round that ends at the moment `now`, in milliseconds (`note_interrupt`). `wake`:
+    /// some
+    /// handler of the round woke its thread; `handled`: some handler of it handled the interrupt.
+    /// If
     /// the note is Killed, the caller is to disable the line.
     pub fn note(&mut self, now: u32, wake: bool, handled: bool) -> Note
         ensures note { result ≡ (noted_at now wake handled self.old).note }

@@ -1,6 +1,7 @@
 -- A space, and what a search through it found. A path is its labels, the newest first. `can` says
 -- which labels may come after a path, `node` which numbers the state has to which the path leads.
-use Rattle.std.specs.Prelude.{◌≡◌, ◌≤◌, ◌<◌, ℕ, Option, Some, None, List, [], ◌∷◌, ◌++◌, length, map, take, get_or, slice_get, All, Contains}
+use Rattle.std.specs.Prelude.{◌≡◌, ◌≤◌, ◌<◌, ℕ, Option, Some, None, List, [], ◌∷◌, ◌++◌, length}
+use Rattle.std.specs.Prelude.{map, take, get_or, slice_get, All, Contains}
 use Rattle.state_search.specs.declared.states.Came.{Came}
 
 module _ {L : Type 0} where

@@ -15,7 +15,12 @@ pub record SearchSeen (L : Type 0) : Type 0 where
 
 module _ {L : Type 0} where
   abbrev pub search_seen : List (List ℕ × Option (Came L)) → List (First L) → ℕ → SearchSeen L
-  search_seen es fs looked = record { paths = paths_of es; states = states_of es; firsts = fs; looked = looked }
+  search_seen es fs looked = record {
+    paths = paths_of es;
+    states = states_of es;
+    firsts = fs;
+    looked = looked;
+  }
 
   -- the length of the path to the first state that wasn't looked at, if there is one
   abbrev pub cut_of : SearchSeen L → Option ℕ

@@ -1,5 +1,6 @@
 -- What holds while a search goes on.
-use Rattle.std.specs.Prelude.{◌≡◌, ◌≤◌, ◌<◌, ◌+◌, ℕ, Bool, Some, List, [], ◌∷◌, length, map, slice_get}
+use Rattle.std.specs.Prelude.{◌≡◌, ◌≤◌, ◌<◌, ◌+◌, ℕ, Bool, Some, List, [], ◌∷◌, length, map}
+use Rattle.std.specs.Prelude.{slice_get}
 use Rattle.state_search.specs.declared.firsts.First.{First}
 use Rattle.state_search.specs.Firsts.{IsNotedAt, AreApart}
 use Rattle.state_search.specs.Paths.{IsPath}
@@ -20,24 +21,31 @@ module _ {L : Type 0} where
       pub start : slice_get paths 0 ≡ Some []
       pub paths_are : (k : ℕ) (p : List L) → slice_get paths k ≡ Some p → IsPath can p
       pub short : (k : ℕ) (p : List L) → slice_get paths k ≡ Some p → length p ≤ k
-      pub apart : (j k : ℕ) (p q : List L) → slice_get paths j ≡ Some p → slice_get paths k ≡ Some q → node p ≡ node q → j ≡ k
-      pub rising : (j k : ℕ) (p q : List L) → j ≤ k → slice_get paths j ≡ Some p → slice_get paths k ≡ Some q → length p ≤ length q
+      pub apart : (j k : ℕ) (p q : List L) → slice_get paths j ≡ Some p
+          → slice_get paths k ≡ Some q → node p ≡ node q → j ≡ k
+      pub rising : (j k : ℕ) (p q : List L) → j ≤ k → slice_get paths j ≡ Some p
+          → slice_get paths k ≡ Some q → length p ≤ length q
       -- each path is at most one longer than the path of the next state to be looked at
-      pub near : (k : ℕ) (p q : List L) → slice_get paths looked ≡ Some p → slice_get paths k ≡ Some q → length q ≤ length p + 1
+      pub near : (k : ℕ) (p q : List L) → slice_get paths looked ≡ Some p
+          → slice_get paths k ≡ Some q → length q ≤ length p + 1
       -- the states that come after those that were looked at are there
       pub closed : (j : ℕ) (p : List L) → j < looked → slice_get paths j ≡ Some p
           → (g : List L) (l : L) → IsPath can g → node g ≡ node p → can l g
-          → (k : ℕ) × (q : List L) × (slice_get paths k ≡ Some q) × (node q ≡ node (l ∷ g)) × (length q ≤ length p + 1)
+          → (k : ℕ) × (q : List L) × (slice_get paths k ≡ Some q) × (node q ≡ node (l ∷ g))
+          × (length q ≤ length p + 1)
 
   module _ (eq : L → L → Bool) (can : L → List L → Type 0) (node : List L → List ℕ) where
     -- the labels that come after the first `looked` are noted
-    pub record AreNotedUnder (looked : ℕ) (paths : List (List L)) (fs : List (First L)) : Type 0 where
+    pub record AreNotedUnder (looked : ℕ) (paths : List (List L)) (fs : List (First L))
+        : Type 0 where
       pub noted : (j : ℕ) (p : List L) → j < looked → slice_get paths j ≡ Some p
-          → (g : List L) (l : L) → IsPath can g → node g ≡ node p → can l g → IsNotedAt eq fs l (λ n. n ≤ j)
+          → (g : List L) (l : L) → IsPath can g → node g ≡ node p → can l g
+          → IsNotedAt eq fs l (λ n. n ≤ j)
       pub each : (m : ℕ) (f : First L) → slice_get fs m ≡ Some f
           → (p : List L) × (slice_get paths f.place ≡ Some p) × can f.label p × (f.place ≤ looked)
       pub apart : AreApart eq fs
-      pub rising : (j k : ℕ) (a b : First L) → j ≤ k → slice_get fs j ≡ Some a → slice_get fs k ≡ Some b → a.place ≤ b.place
+      pub rising : (j k : ℕ) (a b : First L) → j ≤ k → slice_get fs j ≡ Some a
+          → slice_get fs k ≡ Some b → a.place ≤ b.place
 
     pub record IsUnder (s : SearchSeen L) : Type 0 where
       pub paths : AreUnder can node s.looked s.paths

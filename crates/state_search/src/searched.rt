@@ -1,5 +1,6 @@
 //! What a search found.
-ghost use Rattle.std.specs.Prelude.{◌≡◌, ◌≤◌, ◌<◌, ℕ, ◌+◌, [], true, false, IfOk, IfSome, IfNone, OnOk, IsTrue, ◌↔◌, length, reverse, slice_get, Some};
+ghost use Rattle.std.specs.Prelude.{◌≡◌, ◌≤◌, ◌<◌, ℕ, ◌+◌, [], true, false, IfOk, IfSome, IfNone};
+ghost use Rattle.std.specs.Prelude.{OnOk, IsTrue, ◌↔◌, length, reverse, slice_get, Some};
 ghost use Rattle.std.specs.Option.{option_map};
 ghost use Rattle.state_search.specs.Firsts.{IsNoted, IsNotedAt};
 ghost use Rattle.state_search.specs.Seen.{cut_of};

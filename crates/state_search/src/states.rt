@@ -1,5 +1,6 @@
 //! The states that were found.
-ghost use Rattle.std.specs.Prelude.{◌≡◌, ◌<◌, ◌≤◌, ℕ, true, false, [], ◌∷◌, ◌++◌, ◌↔◌, IsTrue, IfSome, IfOk, OnOk, length, slice_get, Some};
+ghost use Rattle.std.specs.Prelude.{◌≡◌, ◌<◌, ◌≤◌, ℕ, true, false, [], ◌∷◌, ◌++◌, ◌↔◌, IsTrue};
+ghost use Rattle.std.specs.Prelude.{IfSome, IfOk, OnOk, length, slice_get, Some};
 ghost use Rattle.state_search.specs.Growing.{IsIn, IsPut, ArePut};
 ghost use Rattle.state_search.specs.Paths.{path_by, paths_of, states_of};
 
@@ -69,7 +70,8 @@ impl<L: Copy> States<L> {
     pub(crate) fn came(&self, place: usize) -> Option<Came<L>>
         requires { place < length self.now }
         ensures earlier { IfSome result (λ came. came.from < place) }
-        ensures path { slice_get (paths_of self.now) place ≡ Some (path_by (paths_of self.now) result) }
+        ensures path { slice_get (paths_of self.now) place
+            ≡ Some (path_by (paths_of self.now) result) }
     {
         match self.rows.get_index(place) {
             Some((_, came)) => *came,

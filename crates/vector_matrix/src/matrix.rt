@@ -1,7 +1,9 @@
 //! The matrix.
-ghost use Rattle.std.specs.Prelude.{◌≡◌, ℕ, ◌+◌, ◌-◌, ◌<◌, ◌≤◌, true, false, ◌||◌, MatchBool, IfOk, [], ◌∷◌, ◌++◌, length, slice_index};
+ghost use Rattle.std.specs.Prelude.{◌≡◌, ℕ, ◌+◌, ◌-◌, ◌<◌, ◌≤◌, true, false, ◌||◌, MatchBool};
+ghost use Rattle.std.specs.Prelude.{IfOk, [], ◌∷◌, ◌++◌, length, slice_index};
 ghost use Rattle.std.specs.Mem.Slots.{slots_items, slots_len, IsFull};
-ghost use Rattle.vector_matrix.specs.Claims.{IsClaimOf, IsWhole, new_claim, gained, passed, IfGot, Gains, FindsTaken};
+ghost use Rattle.vector_matrix.specs.Claims.{IsClaimOf, IsWhole, new_claim, gained, passed};
+ghost use Rattle.vector_matrix.specs.Claims.{IfGot, Gains, FindsTaken};
 ghost use Rattle.vector_matrix.specs.Steps.{has};
 ghost use Rattle.vector_matrix.specs.Vectors.{vector_of, is_in, without, others_below};
 

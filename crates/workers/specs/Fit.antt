@@ -1,5 +1,7 @@
 -- What it means that jobs fit their lines. Each part is a fact about one job.
-use Rattle.std.specs.Prelude.{◌≡◌, ℕ, ◌+◌, Bool, true, false, ◌≤◌, ◌&&◌, nat_le, nat_lt, IsSomeAnd, Option, Some, None, List, ◌++◌, map, filter, reverse, length, slice_get}
+use Rattle.std.specs.Prelude.{◌≡◌, ℕ, ◌+◌, Bool, true, false, ◌≤◌, ◌&&◌, nat_le, nat_lt}
+use Rattle.std.specs.Prelude.{IsSomeAnd, Option, Some, None, List, ◌++◌, map, filter, reverse}
+use Rattle.std.specs.Prelude.{length, slice_get}
 use Rattle.std.specs.List.{list_any}
 use Rattle.irq_base.specs.Handlers.{has_thread}
 use Rattle.irq_base.specs.declared.devices.DeviceDef.{DeviceDef}
@@ -99,7 +101,8 @@ has_worker lines x =
     has_thread x.kind && list_any (λ (l : LockSeen). same_line x.line l.def.line) lines
 
 abbrev pub workers_of : BoardSeen → List LockSeen → List Actor
-workers_of board lines = map (λ (x : DeviceDef). actors.Thread x.line x.dev) (filter (has_worker lines) board.devices) ++ (cpus_of board ++ drivers_of board)
+workers_of board lines = map (λ (x : DeviceDef). actors.Thread x.line x.dev)
+    (filter (has_worker lines) board.devices) ++ (cpus_of board ++ drivers_of board)
 
 -- the job has a pass of the line at place k
 abbrev pub works_on : ℕ → JobSeen → Bool
@@ -118,7 +121,8 @@ pub record IsFirst (line : LockSeen) (whom : List Actor) (p : PassSeen) : Type 0
   pub out : p.knows.out ≡ whom
 
 -- each line has one first pass
-pub record AreFirsts (lines : List LockSeen) (jobs : List JobSeen) (firsts : List PassSeen) : Type 0 where
+pub record AreFirsts (lines : List LockSeen) (jobs : List JobSeen) (firsts : List PassSeen)
+    : Type 0 where
   pub as_many : length firsts ≡ length lines
   pub each : (k : ℕ) (p : PassSeen) → slice_get firsts k ≡ Some p
       → IsSomeAnd (slice_get lines k) (λ l. IsFirst l (actors_on k jobs) p)

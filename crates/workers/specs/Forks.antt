@@ -1,5 +1,6 @@
 -- How first passes change when an actor gets its passes.
-use Rattle.std.specs.Prelude.{◌≡◌, ℕ, ◌+◌, Bool, true, false, ◌&&◌, nat_le, nat_lt, Some, None, List, [], ◌∷◌, ◌++◌, map, length, slice_get}
+use Rattle.std.specs.Prelude.{◌≡◌, ℕ, ◌+◌, Bool, true, false, ◌&&◌, nat_le, nat_lt, Some, None}
+use Rattle.std.specs.Prelude.{List, [], ◌∷◌, ◌++◌, map, length, slice_get}
 use Rattle.irq_base.specs.declared.entries.Actor.{Actor}
 use Rattle.irq_base.specs.declared.entries.Actor.TheVariants as actors
 use Rattle.board_def.specs.Seen.{BoardSeen}
@@ -38,7 +39,8 @@ abbrev pub is_within : ℕ → ℕ → ℕ → Bool
 is_within first end k = nat_le first k && nat_lt k end
 
 -- one seat for each line from index `first` up to, not including, `end`
-pub record Forks (lines : List LockSeen) (first end : ℕ) (who : Actor) (old new : List PassSeen) (seats : List SeatSeen) : Type 0 where
+pub record Forks (lines : List LockSeen) (first end : ℕ) (who : Actor) (old new : List PassSeen)
+    (seats : List SeatSeen) : Type 0 where
   pub as_many : length new ≡ length old
   pub count : first + length seats ≡ end
   pub each : (i : ℕ) (s : SeatSeen) → slice_get seats i ≡ Some s

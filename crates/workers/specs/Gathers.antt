@@ -1,5 +1,6 @@
 -- How first passes change when the jobs' passes come back.
-use Rattle.std.specs.Prelude.{◌≡◌, ℕ, ◌+◌, ◌<◌, ◌⊎◌, false, true, IsSomeAnd, Some, None, List, [], map, length, slice_get, reverse}
+use Rattle.std.specs.Prelude.{◌≡◌, ℕ, ◌+◌, ◌<◌, ◌⊎◌, false, true, IsSomeAnd, Some, None, List, []}
+use Rattle.std.specs.Prelude.{map, length, slice_get, reverse}
 use Rattle.irq_base.specs.declared.entries.Actor.{Actor}
 use Rattle.irq_base.specs.declared.entries.Actor.TheVariants as actors
 use Rattle.irq_base.specs.declared.numbers.DriverNo.{DriverNo}
@@ -32,7 +33,8 @@ pub record AreHome (lines : List LockSeen) (firsts : List PassSeen) : Type 0 whe
       → IsSomeAnd (slice_get lines k) (λ l. IsHome l p)
 
 -- the first pass met the job's pass of its line
-pub record HasMetOne (lines : List LockSeen) (j : JobSeen) (k : ℕ) (old new : PassSeen) : Type 0 where
+pub record HasMetOne (lines : List LockSeen) (j : JobSeen) (k : ℕ) (old new : PassSeen)
+    : Type 0 where
   pub line : LockSeen
   pub place : ℕ
   pub seat : SeatSeen
@@ -75,7 +77,8 @@ pub record AreOut (jobs : List JobSeen) (k : ℕ) (p : PassSeen) : Type 0 where
 -- While these jobs are left: each job is right; an actor that is out has one of them; and a driver
 -- without a job is back, and its entries in what the first passes have seen are its script's calls
 -- up to some place.
-pub record Gathers (board : BoardSeen) (lines : List LockSeen) (jobs : List JobSeen) (firsts : List PassSeen) : Type 0 where
+pub record Gathers (board : BoardSeen) (lines : List LockSeen) (jobs : List JobSeen)
+    (firsts : List PassSeen) : Type 0 where
   pub each : (i : ℕ) (j : JobSeen) → slice_get jobs i ≡ Some j → IsJob board lines j
   pub out : (k : ℕ) (p : PassSeen) → slice_get firsts k ≡ Some p → AreOut jobs k p
   pub drivers : (r : DriverNo) → has_driver board.drivers r ≡ true

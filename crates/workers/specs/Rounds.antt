@@ -1,5 +1,6 @@
 -- What turns, workers and rounds leave of jobs.
-use Rattle.std.specs.Prelude.{◌≡◌, ℕ, ◌<◌, ◌≤◌, ◌⊎◌, Some, List, length, slice_get, slice_index_or, nat_lt, if◌then◌else◌}
+use Rattle.std.specs.Prelude.{◌≡◌, ℕ, ◌<◌, ◌≤◌, ◌⊎◌, Some, List, length, slice_get}
+use Rattle.std.specs.Prelude.{slice_index_or, nat_lt, if◌then◌else◌}
 use Rattle.irq_base.specs.declared.entries.Actor.{Actor}
 use Rattle.irq_base.specs.declared.entries.Actor.TheVariants as actors
 use Rattle.irq_base.specs.declared.numbers.LineNo.{LineNo}
@@ -37,7 +38,8 @@ ComesTo board j turns.NotYet = IsAtRest board j j.actor
 ComesTo board j (turns.Full line len) = IsFullOn j line len
 ComesTo board j _ = Unit {0}
 
-pub record TurnsJob (board : BoardSeen) (lines : List LockSeen) (turn : Turn) (old new : JobSeen) : Type 0 where
+pub record TurnsJob (board : BoardSeen) (lines : List LockSeen) (turn : Turn) (old new : JobSeen)
+    : Type 0 where
   pub works : WorksOn board lines old new
   pub came : ComesTo board new turn
   pub room : RoomAfter turn old new

@@ -1,5 +1,6 @@
 -- What a try of a worker on one line comes to.
-use Rattle.std.specs.Prelude.{◌≡◌, ◌<◌, Bool, true, false, IsSome, Option, Some, None, Result, Ok, Err, List, [], ◌∷◌, ◌++◌, length}
+use Rattle.std.specs.Prelude.{◌≡◌, ◌<◌, Bool, true, false, IsSome, Option, Some, None, Result, Ok}
+use Rattle.std.specs.Prelude.{Err, List, [], ◌∷◌, ◌++◌, length}
 use Rattle.irq_base.specs.declared.entries.Actor.{Actor}
 use Rattle.irq_base.specs.declared.entries.Entry.{Entry}
 use Rattle.irq_base.specs.declared.lines.LineDef.{LineDef}
@@ -13,7 +14,8 @@ use Rattle.line_lock.specs.declared.view.Known.{Known}
 -- The entry was due of the actor after some history. That history began with what the pass had
 -- seen, and the actor's entries in it were those that the pass knew as its own. The entry stands at
 -- the end of what is seen now, and is one of the pass's own.
-pub record Gains (def : LineDef) (who : Actor) (old : Known) (e : Entry) (new : Known) : Type 0 where
+pub record Gains (def : LineDef) (who : Actor) (old : Known) (e : Entry) (new : Known)
+    : Type 0 where
   pub history : List Entry
   pub onto : BeginsWith history old.seen
   pub own : old.mine ≡ placed def.line who history
@@ -40,7 +42,8 @@ CameTo def who old (Err (refusals.Full len)) new =
 CameTo def who old (Err refusals.NoMemory) new = new.mine ≡ old.mine
 
 -- what is seen afterwards begins with what was seen, and the answer is right
-pub record Tries (def : LineDef) (who : Actor) (old : Known) (result : Result (Option Entry) StepRefused) (new : Known) : Type 0 where
+pub record Tries (def : LineDef) (who : Actor) (old : Known)
+    (result : Result (Option Entry) StepRefused) (new : Known) : Type 0 where
   pub begins : BeginsWith new.seen old.seen
   pub came : CameTo def who old result new
 

@@ -1,5 +1,7 @@
 -- What a worker's turn comes to.
-use Rattle.std.specs.Prelude.{◌≡◌, ℕ, ◌+◌, ◌≤◌, ◌⊎◌, Bool, true, false, ◌&&◌, ◌||◌, Option, Some, None, Result, Ok, Err, List, length, slice_get, slice_set, if◌then◌else◌}
+use Rattle.std.specs.Prelude.{◌≡◌, ℕ, ◌+◌, ◌≤◌, ◌⊎◌, Bool, true, false, ◌&&◌, ◌||◌, Option, Some}
+use Rattle.std.specs.Prelude.{None, Result, Ok, Err, List, length, slice_get, slice_set}
+use Rattle.std.specs.Prelude.{if◌then◌else◌}
 use Rattle.irq_base.specs.declared.entries.Actor.TheVariants as actors
 use Rattle.irq_base.specs.declared.entries.Entry.{Entry}
 use Rattle.irq_base.specs.declared.lines.FlowKind.{FlowKind}
@@ -35,7 +37,8 @@ FlowMoves def k tried = (c : CpuNo) → k.actor ≡ Some (actors.Cpu c) → IsIn
     → tried ≡ Ok None → ⊥
 
 -- a try with the pass at index `place`: the pass is right afterwards, and all else is as it was
-pub record StepsSeat (lines : List LockSeen) (place : ℕ) (turn : Turn) (old new : JobSeen) : Type 0 where
+pub record StepsSeat (lines : List LockSeen) (place : ℕ) (turn : Turn) (old new : JobSeen)
+    : Type 0 where
   pub line : LockSeen
   pub seat : SeatSeen
   pub after : SeatSeen
@@ -83,7 +86,8 @@ FullIsSo j _ = Unit {0}
 -- a processor's try: it has a flow on at most one line; if nothing was due, the seat says so, and
 -- the flow is as it was; the other passes are as they were; on the line of its flow something was
 -- due
-pub record StepsCpu (lines : List LockSeen) (place : ℕ) (turn : Turn) (old new : JobSeen) : Type 0 where
+pub record StepsCpu (lines : List LockSeen) (place : ℕ) (turn : Turn) (old new : JobSeen)
+    : Type 0 where
   pub keeps : KeepsSeats lines old new
   pub flow : HasOneFlow new
   pub its : HasItsFlow new
@@ -109,7 +113,8 @@ pub record TurnsCpu (lines : List LockSeen) (turn : Turn) (old new : JobSeen) : 
 -- ---- drivers
 
 -- the job is the driver's, and its entries are its script's calls up to its place
-pub record IsDriven (board : BoardSeen) (lines : List LockSeen) (r : DriverNo) (j : JobSeen) : Type 0 where
+pub record IsDriven (board : BoardSeen) (lines : List LockSeen) (r : DriverNo) (j : JobSeen)
+    : Type 0 where
   pub actor : j.actor ≡ actors.Driver r
   pub seated : AreSeated lines j
   pub first : j.first ≡ 0
@@ -130,7 +135,8 @@ pub record WaitsAt (board : BoardSeen) (j : JobSeen) (r : DriverNo) : Type 0 whe
 
 -- a driver's turn: its entries are its script's calls up to its place; if nothing was due, it is
 -- past all calls, or waits at one
-pub record TurnsDriver (board : BoardSeen) (lines : List LockSeen) (r : DriverNo) (turn : Turn) (old new : JobSeen) : Type 0 where
+pub record TurnsDriver (board : BoardSeen) (lines : List LockSeen) (r : DriverNo) (turn : Turn)
+    (old new : JobSeen) : Type 0 where
   pub keeps : KeepsSeats lines old new
   pub up_to : IsUpTo board.calls (own_lines new.seats) r new.at
   pub within : new.at ≤ length board.calls

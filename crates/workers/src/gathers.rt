@@ -1,11 +1,13 @@
 //! The lines come back out of the threads' hands.
-ghost use Rattle.std.specs.Prelude.{◌≡◌, ℕ, None, Some, [], IfOk, IsSomeAnd, length, map, slice_get};
+ghost use Rattle.std.specs.Prelude.{◌≡◌, ℕ, None, Some, [], IfOk, IsSomeAnd, length, map};
+ghost use Rattle.std.specs.Prelude.{slice_get};
 ghost use Rattle.irq_line.specs.Seen.{LineSeen};
 ghost use Rattle.board_def.specs.Seen.{BoardSeen};
 ghost use Rattle.board_play.specs.Kept.{AreKept};
 ghost use Rattle.line_lock.specs.Passes.{LockSeen, PassSeen};
 ghost use Rattle.workers.specs.Fit.{AreSeated, Fit};
-ghost use Rattle.workers.specs.Gathers.{AreHome, IsHome, Gathers, IsMet, AreFinal, AreSound, board_lines, seen_lines};
+ghost use Rattle.workers.specs.Gathers.{AreHome, IsHome, Gathers, IsMet, AreFinal, AreSound};
+ghost use Rattle.workers.specs.Gathers.{board_lines, seen_lines};
 ghost use Rattle.workers.specs.Seen.{JobSeen};
 
 use crate::job::Job;

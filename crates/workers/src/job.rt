@@ -39,5 +39,12 @@ impl<L: IrqLine> Model for Job<L> {
 
     ghost Value = { JobSeen };
 
-    ghost view = { λ j. record { actor = j.actor; first = j.first; seats = j.seats.items; flow = j.flow; at = j.at; left = j.left } };
+    ghost view = { λ j. record {
+      actor = j.actor;
+      first = j.first;
+      seats = j.seats.items;
+      flow = j.flow;
+      at = j.at;
+      left = j.left;
+    } };
 }

@@ -1,5 +1,6 @@
 //! The jobs of all workers.
-ghost use Rattle.std.specs.Prelude.{◌≡◌, ℕ, false, ◌++◌, ◌∷◌, [], Some, None, IfOk, OnOk, length, map, slice_get};
+ghost use Rattle.std.specs.Prelude.{◌≡◌, ℕ, false, ◌++◌, ◌∷◌, [], Some, None, IfOk, OnOk, length};
+ghost use Rattle.std.specs.Prelude.{map, slice_get};
 ghost use Rattle.irq_base.specs.declared.entries.Actor.{Actor};
 ghost use Rattle.irq_line.specs.Seen.{LineSeen};
 ghost use Rattle.board_play.specs.Lines.{defs_of};
@@ -33,7 +34,11 @@ impl<'b, L: IrqLine> Model for Jobs<'b, L> {
 
     ghost Value = { JobsSeen };
 
-    ghost view = { λ s. record { board = s.board.now; jobs = s.jobs.items; firsts = s.firsts.items } };
+    ghost view = { λ s. record {
+      board = s.board.now;
+      jobs = s.jobs.items;
+      firsts = s.firsts.items;
+    } };
 }
 
 /// Shares each line, and gives a pass of it to each of its devices' threads, to each processor and

@@ -26,7 +26,8 @@ impl<L: IrqLine> Model for SharedLines<L> {
 
     ghost view = { λ s. s.lines.items };
 
-    ghost invariant = { λ s. (s.numbers.items ≡ numbers_of s.lines.items) × (s.flows.items ≡ flows_of s.lines.items) };
+    ghost invariant = { λ s. (s.numbers.items ≡ numbers_of s.lines.items)
+        × (s.flows.items ≡ flows_of s.lines.items) };
 }
 
 impl<L: IrqLine> SharedLines<L> {

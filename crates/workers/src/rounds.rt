@@ -3,7 +3,8 @@ ghost use Rattle.std.specs.Prelude.{◌≡◌, ◌<◌, ◌≤◌, ℕ, Some, Al
 ghost use Rattle.workers.specs.Fit.{Fit, IsJob};
 ghost use Rattle.workers.specs.Forks.{AreBoards};
 ghost use Rattle.workers.specs.Room.{RoomLeft, room_of_jobs};
-ghost use Rattle.workers.specs.Rounds.{BusyIsSo, EachLeftSo, Ends, KeepsJobs, SumsUp, worse, LeftIsSo, TurnsJob, WorksJob, WorksOn};
+ghost use Rattle.workers.specs.Rounds.{BusyIsSo, EachLeftSo, Ends, KeepsJobs, SumsUp, worse};
+ghost use Rattle.workers.specs.Rounds.{LeftIsSo, TurnsJob, WorksJob, WorksOn};
 ghost use Rattle.workers.specs.Seen.{JobSeen};
 ghost use Rattle.workers.specs.declared.job.Left.TheVariants as lefts;
 

@@ -1,7 +1,8 @@
 //! A worker's turns.
 ghost use Rattle.std.specs.Prelude.{◌≡◌, ◌<◌, ℕ, true, Some, length, slice_get};
 ghost use Rattle.workers.specs.Fit.{AreSeated, HasOneFlow, HasItsFlow};
-ghost use Rattle.workers.specs.Turns.{StepsSeat, StepsCpu, TurnsCpu, turn_of, flow_after, is_not_yet};
+ghost use Rattle.workers.specs.Turns.{StepsSeat, StepsCpu, TurnsCpu, turn_of, flow_after};
+ghost use Rattle.workers.specs.Turns.{is_not_yet};
 
 use crate::job::Job;
 use crate::lines::SharedLines;
