@@ -22,6 +22,9 @@ rank faults.BadMask = 13
 rank faults.BadOwner = 14
 rank faults.TooMany = 15
 rank faults.LogTooLarge = 16
+rank faults.NotForChain = 17
+rank faults.NotForHotplug = 18
+rank faults.NotForSleep = 19
 
 abbrev pub earlier : FaultKind → Option FaultKind → Option FaultKind
 earlier kind None = Some kind

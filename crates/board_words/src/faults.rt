@@ -44,13 +44,20 @@ pub enum FaultKind {
     TooMany,
     /// The log limit times the number of lines is above 4,000,000.
     LogTooLarge,
+    /// The board can't be played behind one demultiplexer. This fault and the two after it are a
+    /// command's: no board's text has them, and they are told after every fault of the text.
+    NotForChain,
+    /// The board can't be played with processors that go offline.
+    NotForHotplug,
+    /// The board can't be put to sleep.
+    NotForSleep,
 }
 
 impl FaultKind {
-    /// What the row of a fault calls it, in at most 13 letters and spaces.
+    /// What the row of a fault calls it, in at most 15 letters and spaces.
     pub fn text(self) -> &'static str
         ensures text { result.now ≡ fault_text self }
-        ensures short { length result.now ≤ 13 }
+        ensures short { length result.now ≤ 15 }
     {
         match self {
             FaultKind::TooLong => "too long",
@@ -70,6 +77,9 @@ impl FaultKind {
             FaultKind::BadOwner => "bad owner",
             FaultKind::TooMany => "too many",
             FaultKind::LogTooLarge => "log too large",
+            FaultKind::NotForChain => "not for a chain",
+            FaultKind::NotForHotplug => "not for hotplug",
+            FaultKind::NotForSleep => "not for sleep",
         }
     }
 }
