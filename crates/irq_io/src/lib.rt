@@ -4,8 +4,8 @@
 //! A `Source` gives bytes and a `Sink` takes them. Each counts its faults: the count rises exactly
 //! with an answer `Failed`. So whoever lends a source or a sink to a call sees afterwards whether
 //! it failed in that call. Those in memory tell their content to contracts; those over std's `Read`
-//! and `Write` tell what the reader or writer tells. A write may hand on less than it took; after a
-//! flush that is `Done` all is handed on.
+//! and `Write` tell what the reader or writer tells. A write may keep back what it took; after a
+//! flush that is `Done` nothing is kept back.
 #![tactic(auto)]
 
 mod listed;

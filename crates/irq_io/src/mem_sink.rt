@@ -1,11 +1,9 @@
 //! A sink in memory, whose writes and flushes fail as they are told to.
 ghost use Rattle.std.specs.Prelude.{◌≡◌, Some, [], ◌-◌, ◌<◌, ◌↔◌, ◌⊎◌, min, length, IfOk};
 ghost use Rattle.std.specs.List.{Contains};
-ghost use Rattle.std.proofs.Common.{sym};
-ghost use Rattle.std.proofs.lemmas.List.{append-nil};
 ghost use Rattle.irq_io.specs.Faults.{Counts, next_count, count_after};
-ghost use Rattle.irq_io.specs.Told.{GrowsTo, Stays};
-ghost use Rattle.irq_io.specs.Writes.{HandsAllOn, IfTook, LeavesNone, TookWithin, Writes};
+ghost use Rattle.irq_io.specs.Told.{Stays};
+ghost use Rattle.irq_io.specs.Writes.{IfTook, LeavesNone, TookWithin, Writes};
 ghost use Rattle.irq_io.specs.Writes.{flush_failed, taken_of, write_failed};
 
 use crate::listed::is_listed;
@@ -15,8 +13,8 @@ use std::alloc::Global;
 use std::marker::Model;
 
 /// A sink into memory, which takes bytes while it has room. The writes whose numbers are in `fails`
-/// fail, and the flushes whose numbers are in `flush_fails`; both are counted from 1. What it took
-/// it has handed on. Contracts see `content`, the `room` that is left, both lists, and how many
+/// fail, and the flushes whose numbers are in `flush_fails`; both are counted from 1. It keeps
+/// nothing back. Contracts see `content`, the `room` that is left, both lists, and how many
 /// `writes`, `flushes` and `faults` there were.
 #[derive(Drop)]
 pub struct MemSink {
@@ -106,19 +104,14 @@ impl MemSink {
 impl Sink for MemSink {
     ghost written = { λ s. Some s.content };
 
-    ghost handed_on = { λ s. Some s.content };
-
     ghost kept = { λ s. [] };
 
     ghost faults = { λ s. s.faults };
-
-    ghost in_order = { λ s. ([], sym (append-nil s.content)) };
 
     fn write(&mut self, bytes: &[u8]) -> WriteAnswer
         requires { 0 < length bytes.now }
         ensures bound { TookWithin (length bytes.now) result }
         ensures content { Writes (Some self.old.content) (Some self.new.content) bytes.now result }
-        ensures handed { GrowsTo (Some self.old.content) (Some self.new.content) }
         ensures cause { Counts self.old.faults self.new.faults (write_failed result) }
 
         // It takes all bytes, or as many as fit. A write fails if its number is listed, or there is
@@ -148,8 +141,6 @@ impl Sink for MemSink {
 
     fn flush(&mut self) -> FlushAnswer
         ensures content { Stays (Some self.old.content) (Some self.new.content) }
-        ensures handed { GrowsTo (Some self.old.content) (Some self.new.content) }
-        ensures all { HandsAllOn (Some self.new.content) (Some self.new.content) result }
         ensures emptied { LeavesNone [] result }
         ensures cause { Counts self.old.faults self.new.faults (flush_failed result) }
 

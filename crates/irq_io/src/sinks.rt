@@ -22,15 +22,12 @@ pub enum FlushAnswer {
 pub trait Sink {
     ghost use Rattle.std.specs.Prelude.{◌≡◌, ℕ, Option, List, ◌<◌, length};
     ghost use Rattle.irq_io.specs.Faults.{Counts};
-    ghost use Rattle.irq_io.specs.Told.{GrowsTo, IsToldBeginning, Stays};
-    ghost use Rattle.irq_io.specs.Writes.{HandsAllOn, LeavesNone, TookWithin, Writes};
+    ghost use Rattle.irq_io.specs.Told.{Stays};
+    ghost use Rattle.irq_io.specs.Writes.{LeavesNone, TookWithin, Writes};
     ghost use Rattle.irq_io.specs.Writes.{flush_failed, write_failed};
 
     /// The bytes that it took so far, if the sink tells them.
     ghost written: { Self → Option (List ℕ) };
-
-    /// The bytes that it has handed on, if the sink tells them.
-    ghost handed_on: { Self → Option (List ℕ) };
 
     /// The bytes that it keeps back in a buffer of its own.
     ghost kept: { Self → List ℕ };
@@ -39,22 +36,16 @@ pub trait Sink {
     ghost faults: { Self → ℕ };
 
     /// Takes some bytes from the front of the given ones, which must not be empty. How many of them
-    /// it hands on is left open.
+    /// it keeps back is left open.
     fn write(&mut self, bytes: &[u8]) -> WriteAnswer
         requires { 0 < length bytes.now }
         ensures bound { TookWithin (length bytes.now) result }
         ensures content { Writes (written self.old) (written self.new) bytes.now result }
-        ensures handed { GrowsTo (handed_on self.old) (handed_on self.new) }
         ensures cause { Counts (faults self.old) (faults self.new) (write_failed result) };
 
     /// Hands on all that was taken.
     fn flush(&mut self) -> FlushAnswer
         ensures content { Stays (written self.old) (written self.new) }
-        ensures handed { GrowsTo (handed_on self.old) (handed_on self.new) }
-        ensures all { HandsAllOn (handed_on self.new) (written self.new) result }
         ensures emptied { LeavesNone (kept self.new) result }
         ensures cause { Counts (faults self.old) (faults self.new) (flush_failed result) };
-
-    /// What was handed on is a beginning of what was written; a sink tells both, or neither.
-    ghost in_order: { (s : Self) → IsToldBeginning (handed_on s) (written s) };
 }

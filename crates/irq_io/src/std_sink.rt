@@ -2,8 +2,8 @@
 ghost use Rattle.std.specs.Prelude.{◌≡◌, ◌<◌, length};
 ghost use Rattle.std.specs.Io.Buffered.{writer_buffer, writer_contents, writer_inner};
 ghost use Rattle.irq_io.specs.Faults.{Counts, count_after};
-ghost use Rattle.irq_io.specs.Told.{GrowsTo, Stays, begins_itself};
-ghost use Rattle.irq_io.specs.Writes.{HandsAllOn, LeavesNone, TookWithin, Writes, flush_failed};
+ghost use Rattle.irq_io.specs.Told.{Stays};
+ghost use Rattle.irq_io.specs.Writes.{LeavesNone, TookWithin, Writes, flush_failed};
 ghost use Rattle.irq_io.specs.Writes.{write_failed};
 
 use crate::sinks::{FlushAnswer, Sink, WriteAnswer};
@@ -59,21 +59,15 @@ impl<W: Write + Drop> StdSink<W> {
 impl<W: Write + Drop> Sink for StdSink<W> {
     ghost written = { λ s. writer_contents W.contents s.writer };
 
-    ghost handed_on = { λ s. writer_contents W.contents s.writer };
-
     ghost kept = { λ s. writer_buffer s.writer };
 
     ghost faults = { λ s. s.faults };
-
-    ghost in_order = { λ s. begins_itself (writer_contents W.contents s.writer) };
 
     fn write(&mut self, bytes: &[u8]) -> WriteAnswer
         requires { 0 < length bytes.now }
         ensures bound { TookWithin (length bytes.now) result }
         ensures content { Writes (writer_contents W.contents self.old.writer)
             (writer_contents W.contents self.new.writer) bytes.now result }
-        ensures handed { GrowsTo (writer_contents W.contents self.old.writer)
-            (writer_contents W.contents self.new.writer) }
         ensures cause { Counts self.old.faults self.new.faults (write_failed result) }
 
         ensures faults { self.new.faults ≡ count_after self.old.faults (write_failed result) }
@@ -90,10 +84,6 @@ impl<W: Write + Drop> Sink for StdSink<W> {
     fn flush(&mut self) -> FlushAnswer
         ensures content { Stays (writer_contents W.contents self.old.writer)
             (writer_contents W.contents self.new.writer) }
-        ensures handed { GrowsTo (writer_contents W.contents self.old.writer)
-            (writer_contents W.contents self.new.writer) }
-        ensures all { HandsAllOn (writer_contents W.contents self.new.writer)
-            (writer_contents W.contents self.new.writer) result }
         ensures emptied { LeavesNone (writer_buffer self.new.writer) result }
         ensures cause { Counts self.old.faults self.new.faults (flush_failed result) }
 

@@ -1,7 +1,6 @@
 //! Reading up to a bound, and writing to the end, in as many pieces as it takes.
 ghost use Rattle.std.specs.Prelude.{◌≡◌, ◌≤◌, [], IfOk, OnErr, vec_len};
 ghost use Rattle.irq_io.specs.Faults.{Counts};
-ghost use Rattle.irq_io.specs.Told.{GrowsTo};
 ghost use Rattle.irq_io.specs.Whole.{TakesAtMost, TakesUpTo, WritesAll, met_fault, writing_failed};
 
 use crate::sinks::{Sink, WriteAnswer};
@@ -78,7 +77,6 @@ pub fn read_up_to<S: Source>(
 pub fn write_all<O: Sink>(sink: &mut O, bytes: &[u8]) -> WriteEnd
     ensures nothing { bytes.now ≡ [] → (result ≡ WriteEnd.Done) × (sink.new ≡ sink.old) }
     ensures content { WritesAll (O.written sink.old) (O.written sink.new) bytes.now result }
-    ensures handed { GrowsTo (O.handed_on sink.old) (O.handed_on sink.new) }
     ensures cause { Counts (O.faults sink.old) (O.faults sink.new) (writing_failed result) }
 {
     let mut done = 0;

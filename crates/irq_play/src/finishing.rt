@@ -6,7 +6,7 @@ ghost use Rattle.board_report.specs.Reporting.{HasRoom};
 ghost use Rattle.board_report.specs.Summable.{IsSummable};
 ghost use Rattle.board_report.specs.Totals.{totals_text};
 ghost use Rattle.irq_io.specs.Faults.{Counts};
-ghost use Rattle.irq_io.specs.Whole.{HandsOn, KeepsNone, WritesAll, writing_failed};
+ghost use Rattle.irq_io.specs.Whole.{KeepsNone, WritesAll, writing_failed};
 ghost use Rattle.irq_play.specs.Played.{IsPlayed, IsPrinted};
 ghost use Rattle.irq_play.specs.Printing.{HasRow};
 ghost use Rattle.irq_play.specs.Report.{report_text};
@@ -32,7 +32,6 @@ pub(crate) fn print_play<O: Sink, L: IrqLine>(
     requires room { HasRoom (length board.now.lines) room }
     ensures printed { IsPrinted board.now false result.reports.reports (O.written out.old)
         (O.written out.new) result.end }
-    ensures handed { HandsOn (O.handed_on out.new) (O.written out.new) result.end }
     ensures emptied { KeepsNone (O.kept out.new) result.end }
     ensures cause { Counts (O.faults out.old) (O.faults out.new) (writing_failed result.end) }
 {
@@ -52,7 +51,6 @@ pub(crate) fn print_summary<O: Sink, L: IrqLine>(
     requires room { HasRoom (length board.now.lines) room }
     ensures printed { IsPrinted board.now true result.reports.reports (O.written out.old)
         (O.written out.new) result.end }
-    ensures handed { HandsOn (O.handed_on out.new) (O.written out.new) result.end }
     ensures emptied { KeepsNone (O.kept out.new) result.end }
     ensures cause { Counts (O.faults out.old) (O.faults out.new) (writing_failed result.end) }
 {
@@ -72,7 +70,6 @@ fn write_play<O: Sink, L: IrqLine>(board: &Board, system: &System<'_, L>, out: &
     requires rows { All HasRow system.now.log }
     ensures content { WritesAll (O.written out.old) (O.written out.new)
         (report_text board.now false system.now.log) result }
-    ensures handed { HandsOn (O.handed_on out.new) (O.written out.new) result }
     ensures emptied { KeepsNone (O.kept out.new) result }
     ensures cause { Counts (O.faults out.old) (O.faults out.new) (writing_failed result) }
 {
@@ -93,7 +90,6 @@ fn write_totals<O: Sink>(row: &mut TextRow, reports: &Reports, out: &mut O) -> W
     requires summable { All IsSummable reports.now.reports }
     ensures content { WritesAll (O.written out.old) (O.written out.new)
         (totals_text (map told_by reports.now.reports)) result }
-    ensures handed { HandsOn (O.handed_on out.new) (O.written out.new) result }
     ensures emptied { KeepsNone (O.kept out.new) result }
     ensures cause { Counts (O.faults out.old) (O.faults out.new) (writing_failed result) }
 {

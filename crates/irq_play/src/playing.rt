@@ -53,7 +53,6 @@ pub fn play_and_print<O: Sink, M: MakesDomainLine, H: Handler>(
 ) -> PlayedBoard
     ensures plays { PlaysBoard board.now summary result.reports.reports (O.written out.old)
         (O.written out.new) result.end }
-    ensures handed_on { result.end ≡ PlayedEnd.Done → O.handed_on out.new ≡ O.written out.new }
     ensures emptied { result.end ≡ PlayedEnd.Done → O.kept out.new ≡ [] }
     ensures write_fault { Counts (O.faults out.old) (O.faults out.new) (is_write_fault result.end) }
     ensures silent { is_printing result.end ≡ false → out.new ≡ out.old }
@@ -94,7 +93,6 @@ fn report_play<O: Sink, L: IrqLine>(
     requires room { HasRoom (length board.now.lines) played.room }
     ensures plays { PlaysBoard board.now summary result.reports.reports (O.written out.old)
         (O.written out.new) result.end }
-    ensures handed_on { result.end ≡ PlayedEnd.Done → O.handed_on out.new ≡ O.written out.new }
     ensures emptied { result.end ≡ PlayedEnd.Done → O.kept out.new ≡ [] }
     ensures write_fault { Counts (O.faults out.old) (O.faults out.new) (is_write_fault result.end) }
     ensures silent { is_printing result.end ≡ false → out.new ≡ out.old }
@@ -126,7 +124,6 @@ fn print_done<O: Sink, L: IrqLine>(
     ensures printing { IsTrue (is_printing result.end) }
     ensures plays { PlaysBoard board.now summary result.reports.reports (O.written out.old)
         (O.written out.new) result.end }
-    ensures handed_on { result.end ≡ PlayedEnd.Done → O.handed_on out.new ≡ O.written out.new }
     ensures emptied { result.end ≡ PlayedEnd.Done → O.kept out.new ≡ [] }
     ensures write_fault { Counts (O.faults out.old) (O.faults out.new) (is_write_fault result.end) }
 {

@@ -1,12 +1,12 @@
--- The lines of a system to which nothing has happened.
+-- The lines of a board to which nothing has happened.
 use Rattle.std.proofs.Common.{◌≡◌, ℕ, zero, suc, Some, List, [], ◌∷◌, map, reverse, slice_get, refl, sym, ap, ◌∙◌, subst}
 use Rattle.std.proofs.lemmas.List.{reverse-reverse}
 use Rattle.irq_base.specs.declared.entries.Entry.{Entry}
 use Rattle.irq_base.specs.declared.lines.LineDef.{LineDef}
 use Rattle.irq_line.specs.Seen.{LineSeen}
 use Rattle.irq_laws.proofs.Chosen.{the_same}
-use Rattle.board_core.specs.Playing.{IsFresh}
-use Rattle.board_core.specs.Seen.{SystemSeen, board_line, board_lines}
+use Rattle.board_core.specs.Making.{AreNew}
+use Rattle.board_core.specs.Seen.{board_line, board_lines}
 use Rattle.board_def.specs.Seen.{BoardSeen}
 use Rattle.board_play.specs.Lines.{BoardLine, defs_of, lines_of}
 use Rattle.board_play.proofs.Members.{defs_at, past_at}
@@ -20,16 +20,13 @@ stands_so [] i x at = cc
 stands_so (y ∷ ys) zero x at = ap (λ (z : LineSeen). Some (board_line z)) (the_same y x at)
 stands_so (y ∷ ys) (suc i) x at = stands_so ys i x at
 
-module _ (b : BoardSeen) (s : SystemSeen) (of_board : s.board ≡ b) (f : IsFresh s) (lines : List LineSeen) (are : lines ≡ s.lines) where
-  as_new : board_lines lines ≡ lines_of b []
-  as_new = ap (λ (ls : List LineSeen). board_lines ls) are ∙ (f.lines ∙ ap (λ (c : BoardSeen). lines_of c []) of_board)
-
+module _ (b : BoardSeen) (lines : List LineSeen) (new : AreNew b lines) where
   pub new_defs : map (λ (x : LineSeen). x.def) lines ≡ defs_of b
-  new_defs = same_defs lines ∙ (ap (λ (ls : List BoardLine). map (λ (x : BoardLine). x.def) ls) as_new ∙ defs_at (defs_of b) [])
+  new_defs = same_defs lines ∙ (ap (λ (ls : List BoardLine). map (λ (x : BoardLine). x.def) ls) new ∙ defs_at (defs_of b) [])
 
   pub new_empty : (i : ℕ) (x : LineSeen) → slice_get lines i ≡ Some x → x.entries ≡ []
   new_empty i x at =
       let there : slice_get (lines_of b []) i ≡ Some (board_line x)
-      = subst (λ (ls : List BoardLine). slice_get ls i ≡ Some (board_line x)) as_new (stands_so lines i x at) in
+      = subst (λ (ls : List BoardLine). slice_get ls i ≡ Some (board_line x)) new (stands_so lines i x at) in
       let none : reverse x.entries ≡ [] = past_at (defs_of b) [] i (board_line x) there in
       sym (reverse-reverse x.entries) ∙ ap (λ (es : List Entry). reverse es) none

@@ -5,7 +5,7 @@ ghost use Rattle.board_report.specs.Reporting.{HasRoom};
 ghost use Rattle.board_report.specs.Rows.{HasRows};
 ghost use Rattle.board_report.specs.Summable.{IsSummable};
 ghost use Rattle.irq_io.specs.Faults.{Counts};
-ghost use Rattle.irq_io.specs.Whole.{HandsOn, KeepsNone, WritesAll, writing_failed};
+ghost use Rattle.irq_io.specs.Whole.{KeepsNone, WritesAll, writing_failed};
 ghost use Rattle.irq_run.specs.Ran.{IsPrinted, IsRun};
 ghost use Rattle.irq_run.specs.Report.{rows_text};
 
@@ -31,7 +31,6 @@ pub(crate) fn print_run<O: Sink, L: IrqLine>(
     requires room { HasRoom (length board.now.lines) room }
     ensures printed { IsPrinted board.now summary result.reports.reports (O.written out.old)
         (O.written out.new) result.end }
-    ensures handed { HandsOn (O.handed_on out.new) (O.written out.new) result.end }
     ensures emptied { KeepsNone (O.kept out.new) result.end }
     ensures cause { Counts (O.faults out.old) (O.faults out.new) (writing_failed result.end) }
 {
@@ -58,7 +57,6 @@ fn write_lines<O: Sink>(
     requires rows { All HasRows reports.now.reports }
     ensures content { WritesAll (O.written out.old) (O.written out.new)
         (rows_text summary (map told_by reports.now.reports)) result }
-    ensures handed { HandsOn (O.handed_on out.new) (O.written out.new) result }
     ensures emptied { KeepsNone (O.kept out.new) result }
     ensures cause { Counts (O.faults out.old) (O.faults out.new) (writing_failed result) }
 {

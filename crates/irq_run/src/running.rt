@@ -9,7 +9,7 @@ ghost use Rattle.workers.specs.Fit.{Fit};
 
 use crate::ending::RunEnd;
 use crate::finishing::print_run;
-use board_core::{PlayEnd, System};
+use board_core::{PlayEnd, System, make_lines};
 use board_def::{Board, Layout};
 use board_layout::lay;
 use board_report::{ReportRoom, hand_out};
@@ -57,7 +57,6 @@ where
     M::Line: Send + Sync,
     ensures runs { RunsBoard board.now summary result.reports.reports (O.written out.old)
         (O.written out.new) result.end }
-    ensures handed_on { result.end ≡ RunEnd.Done → O.handed_on out.new ≡ O.written out.new }
     ensures emptied { result.end ≡ RunEnd.Done → O.kept out.new ≡ [] }
     ensures write_fault { Counts (O.faults out.old) (O.faults out.new) (is_write_fault result.end) }
     ensures silent { is_printing result.end ≡ false → out.new ≡ out.old }
@@ -89,8 +88,8 @@ fn share_board<'b, M: MakesDomainLine>(
 {
     let (domains, layout) = lay(alloc, board)?;
     let maker = OverDomains::of_board(maker, &domains, board);
-    let unused = System::new(alloc, board, layout.try_clone(alloc)?, &maker)?;
-    let (lines, jobs) = share(alloc, board, unused.take_lines())?;
+    let lines = make_lines(alloc, board, &layout, &maker)?;
+    let (lines, jobs) = share(alloc, board, lines)?;
     Ok((layout, lines, jobs))
 }
 
@@ -127,7 +126,6 @@ fn report_run<O: Sink, L: IrqLine>(
     requires { IsRun board.now system end }
     ensures runs { RunsBoard board.now summary result.reports.reports (O.written out.old)
         (O.written out.new) result.end }
-    ensures handed_on { result.end ≡ RunEnd.Done → O.handed_on out.new ≡ O.written out.new }
     ensures emptied { result.end ≡ RunEnd.Done → O.kept out.new ≡ [] }
     ensures write_fault { Counts (O.faults out.old) (O.faults out.new) (is_write_fault result.end) }
     ensures silent { is_printing result.end ≡ false → out.new ≡ out.old }
@@ -155,7 +153,6 @@ fn print_done<O: Sink, L: IrqLine>(
     ensures printing { IsTrue (is_printing result.end) }
     ensures runs { RunsBoard board.now summary result.reports.reports (O.written out.old)
         (O.written out.new) result.end }
-    ensures handed_on { result.end ≡ RunEnd.Done → O.handed_on out.new ≡ O.written out.new }
     ensures emptied { result.end ≡ RunEnd.Done → O.kept out.new ≡ [] }
     ensures write_fault { Counts (O.faults out.old) (O.faults out.new) (is_write_fault result.end) }
 {

@@ -13,7 +13,7 @@ use line_state::{DueStep, LineState};
 
 /// The step that is due by the state, and for a driver by its place in its script.
 #[inline(always)]
-pub(crate) fn due_by<C: Chip>(
+pub fn due_by<C: Chip>(
     def: &LineDef,
     state: &LineState<C>,
     scripts: &Scripts,

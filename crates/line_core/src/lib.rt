@@ -10,12 +10,14 @@
 //! one function to the machine.
 #![tactic(auto)]
 
-mod due;
+pub mod due;
 mod line;
 mod making;
-mod moving;
+pub mod moving;
 mod room;
 mod running;
 
+pub use due::due_by;
 pub use line::Line;
 pub use making::MakesCellLine;
+pub use moving::advance;

@@ -8,7 +8,7 @@ use line_scripts::{Scripts, completes};
 
 /// A driver's entry moves its place.
 #[inline(always)]
-pub(crate) fn advance(scripts: &mut Scripts, actor: Actor, entry: &Entry)
+pub fn advance(scripts: &mut Scripts, actor: Actor, entry: &Entry)
     requires { CanMove actor scripts.old }
     ensures { Moves actor entry.now scripts.old scripts.new }
 {

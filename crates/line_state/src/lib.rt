@@ -16,6 +16,7 @@ pub mod due;
 pub mod flow;
 pub mod kinds;
 pub mod make;
+pub mod parts;
 pub mod requests;
 pub mod round;
 pub mod runs;
@@ -23,4 +24,5 @@ pub mod state;
 pub mod thread_due;
 
 pub use due::DueStep;
+pub use round::Round;
 pub use state::LineState;

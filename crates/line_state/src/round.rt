@@ -8,7 +8,7 @@ use std::marker::Model;
 /// What is kept of the handlers of a round (`__handle_irq_event_percpu`, `kernel/irq/handle.c`),
 /// and the time.
 #[derive(Drop)]
-pub(crate) struct Round {
+pub struct Round {
     working: Option<DevNo>,
     wakes: bool,
     handles: bool,
@@ -29,6 +29,25 @@ impl Model for Round {
 }
 
 impl Round {
+    /// The round of which that is so: the device whose handler is at work, whether some handler of
+    /// it woke its thread, whether some handled the interrupt, and the greatest moment that was
+    /// handed in.
+    pub fn of(working: Option<DevNo>, wakes: bool, handles: bool, moment: u32) -> Round
+        ensures { result ≡ record {
+          working = working;
+          wakes = wakes;
+          handles = handles;
+          moment = moment;
+        } }
+    {
+        Round {
+            working,
+            wakes,
+            handles,
+            moment,
+        }
+    }
+
     /// No handler was called yet, and no moment handed in.
     pub(crate) fn new() -> Round
         ensures { result ≡ record { working = None; wakes = false; handles = false; moment = 0 } }
@@ -42,28 +61,28 @@ impl Round {
     }
 
     /// The device whose handler is at work, if one is.
-    pub(crate) fn working(&self) -> Option<DevNo>
+    pub fn working(&self) -> Option<DevNo>
         ensures { result ≡ self.now.working }
     {
         self.working
     }
 
     /// Whether some handler of the round woke its thread.
-    pub(crate) fn wakes(&self) -> bool
+    pub fn wakes(&self) -> bool
         ensures { result ≡ self.now.wakes }
     {
         self.wakes
     }
 
     /// Whether some handler of the round handled the interrupt.
-    pub(crate) fn handles(&self) -> bool
+    pub fn handles(&self) -> bool
         ensures { result ≡ self.now.handles }
     {
         self.handles
     }
 
     /// The greatest moment that was handed in, in milliseconds.
-    pub(crate) fn moment(&self) -> u32
+    pub fn moment(&self) -> u32
         ensures { result ≡ self.now.moment }
     {
         self.moment

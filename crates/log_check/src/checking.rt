@@ -1,18 +1,17 @@
 //! The histories of all lines.
-ghost use Rattle.std.specs.Prelude.{◌≡◌, ℕ, ◌<◌, ◌≤◌, length, IfOk, All, slice_get, Some};
+ghost use Rattle.std.specs.Prelude.{◌≡◌, ℕ, ◌≤◌, length, IfOk, All};
 ghost use Rattle.irq_base.specs.declared.lines.LineDef.{LineDef};
 ghost use Rattle.irq_model.specs.Valid.{IsValid};
-ghost use Rattle.board_def.specs.Layout.{layout_of, IsPathOf};
-ghost use Rattle.board_def.specs.LineOf.{line_of_row};
-ghost use Rattle.board_def.specs.declared.rows.LineRow.{LineRow};
+ghost use Rattle.board_def.specs.Layout.{layout_of};
+ghost use Rattle.board_def.specs.LineOf.{line_defs_of};
 ghost use Rattle.log_check.specs.Judged.{Judged};
 ghost use Rattle.log_check.specs.Verdicts.{IsVerdict, JudgedAt};
 
 use crate::judging::judge;
-use board_def::{Board, LineRow};
+use board_def::Board;
 use board_layout::lay;
 use domain_rules::{Layout, Placement};
-use irq_base::{History, LineNo, Logs, NoMemory, Path};
+use irq_base::{History, LineDef, LineNo, Logs, NoMemory};
 use irq_line::{IrqLine, MakesLine};
 use std::alloc::Global;
 
@@ -49,11 +48,12 @@ pub fn check<L: IrqLine, M: MakesLine<L>>(
     ensures { IfOk result (λ verdict. IsVerdict board.now logs.now verdict) }
 {
     let (_, layout) = lay(alloc, board)?;
+    let defs = board.line_defs(alloc)?;
     for i in 0..board.lines_len() {
         let Some(row) = board.line(i) else {
             unreachable!();
         };
-        if let Some(entry) = judge_at::<L, M>(alloc, board, &layout, logs, maker, i)? {
+        if let Some(entry) = judge_at::<L, M>(alloc, board, &defs, &layout, logs, maker, i)? {
             return Ok(Verdict::Unlawful {
                 line: row.line,
                 entry,
@@ -67,28 +67,30 @@ pub fn check<L: IrqLine, M: MakesLine<L>>(
 fn judge_at<L: IrqLine, M: MakesLine<L>>(
     alloc: Global,
     board: &Board,
+    defs: &[LineDef],
     layout: &Layout,
     logs: &Logs,
     maker: &M,
     place: usize,
 ) -> Result<Option<u32>, NoMemory>
     requires makes { (virq : ℕ) (def : LineDef) → IsValid def → M.makes maker.now virq def }
+    requires defs { defs.now ≡ line_defs_of board.now }
+    requires valid { All IsValid defs.now }
     requires layout { layout.now ≡ layout_of board.now }
     requires few { All (λ h. length h.entries ≤ 100000000) logs.now }
     ensures { IfOk result (λ first. JudgedAt board.now logs.now place first) }
 {
-    let (Some(row), Some(placement), Some(history)) = (
-        board.line(place),
-        layout.get(place),
-        logs.get(place),
-    ) else {
+    let (Some(placement), Some(history)) = (layout.get(place), logs.get(place)) else {
         // there is no such line
         return Ok(None);
     };
+    if place >= defs.len() {
+        return Ok(None);
+    }
     match placement {
-        Placement::Mapped { virq, path } => judge_mapped::<L, M>(
-            alloc, board, row, virq, &path, history, maker,
-        ),
+        Placement::Mapped { virq, .. } => {
+            judge_mapped::<L, M>(alloc, &defs[place], virq, history, maker)
+        }
         Placement::Refused(_) => Ok(if history.is_empty() { None } else { Some(1) }),
     }
 }
@@ -96,21 +98,17 @@ fn judge_at<L: IrqLine, M: MakesLine<L>>(
 /// Judges the history of a line that takes part.
 fn judge_mapped<L: IrqLine, M: MakesLine<L>>(
     alloc: Global,
-    board: &Board,
-    row: LineRow,
+    def: &LineDef,
     virq: u32,
-    path: &Path,
     history: &History,
     maker: &M,
 ) -> Result<Option<u32>, NoMemory>
     requires makes { (virq : ℕ) (def : LineDef) → IsValid def → M.makes maker.now virq def }
-    requires row { (i : ℕ) × (slice_get board.now.lines i ≡ Some row) }
-    requires path { IsPathOf board.now row.line path.now }
+    requires valid { IsValid def.now }
     requires few { length history.now.entries ≤ 100000000 }
-    ensures { IfOk result (λ first. Judged (line_of_row board.now row) history.now.entries first) }
+    ensures { IfOk result (λ first. Judged def.now history.now.entries first) }
 {
-    board.is_board();
-    let mut def = board.line_def(alloc, row.line, path)?;
+    let mut def = def.try_clone(alloc)?;
     def.log = MOST_ENTRIES;
     let mut line = maker.make(alloc, virq, &def)?;
     judge(&mut line, history)

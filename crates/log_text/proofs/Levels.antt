@@ -1,12 +1,14 @@
 -- The levels of a board's paths, and their names.
 use Rattle.std.proofs.Common.{◌≡◌, ℕ, zero, suc, ◌≤◌, ◌<◌, Bool, true, false, ◌&&◌, Option, Some, None, List, [], ◌∷◌}
-use Rattle.std.proofs.Common.{◌++◌, length, slice_get, codes, decimal, refl, sym, ap, ◌∙◌, append_assoc, arith}
+use Rattle.std.proofs.Common.{◌++◌, length, slice_get, codes, decimal, refl, sym, ap, subst, ◌∙◌, append_assoc, arith}
 use Rattle.std.specs.List.{list_all}
 use Rattle.std.proofs.lemmas.Bool.{ltb-true}
-use Rattle.board_def.proofs.Paths.{has_path}
 use Rattle.board_def.specs.Layout.{layout_of}
 use Rattle.board_def.specs.Unnamed.{defs_of, leaf_of, leaves_of}
-use Rattle.domain_rules.proofs.Placed.{laid_all}
+use Rattle.std.specs.Option.{option_map}
+use Rattle.std.proofs.lemmas.Option.{slice_get-map}
+use Rattle.domain_rules.proofs.Placed.{laid, laid_all, placed_path, path_short}
+use Rattle.domain_rules.specs.Layout.{path_of}
 use Rattle.std.proofs.lemmas.List.{length-map}
 use Rattle.board_def.specs.Names.{is_letter, is_name, is_name_byte, name_bytes}
 use Rattle.board_def.specs.Rules.{IsBoard}
@@ -39,7 +41,13 @@ layout_length b layout is = ap length is ∙ (laid_all (defs_of b.domains) [] (l
 -- a line's path has at most eight levels
 placed_short : (b : BoardSeen) (i : ℕ) (row : LineRow) (placement : Placement) → IsBoard b
     → slice_get b.lines i ≡ Some row → slice_get (layout_of b) i ≡ Some placement → IsShort placement
-placed_short b i row (placements.Mapped virq path) board at is = (has_path b row.line path board (i, row, virq, at, refl, is)).few
+placed_short b i row (placements.Mapped virq path) board at is =
+    let defs = defs_of b.domains in
+    let leaf : slice_get (leaves_of b.lines) i ≡ Some (leaf_of row)
+    = slice_get-map leaf_of b.lines i ∙ ap (option_map leaf_of) at in
+    let before = laid defs [] (leaves_of b.lines) i (leaf_of row) (placements.Mapped virq path) leaf is in
+    let own : path_of defs before.0 (leaf_of row) ≡ path = placed_path defs before.0 (leaf_of row) virq path before.1 in
+    subst (λ (path : List (ℕ × ℕ)). length path ≤ 8) own (path_short defs before.0 (leaf_of row))
 placed_short b i row (placements.Refused why) board at is = tt
 
 at_layout : (b : BoardSeen) (layout : List Placement) (i : ℕ) (placement : Placement) → layout ≡ layout_of b

@@ -1,6 +1,5 @@
 use Rattle.std.proofs.Common.{arith, ◌∙◌, length, drop, ◌-◌}
 use Rattle.std.proofs.lemmas.List.{length-take, length-drop, take_rest}
-use Rattle.irq_io.proofs.Beginning.{GrowsTo-trans}
 use Rattle.irq_io.proofs.Pieces.{WritesAll-failed, WritesAll-more}
 use Rattle.irq_io.proofs.whole.write_all.Goals as goal
 
@@ -13,7 +12,6 @@ loop-done-preserved g c =
     record {
       within = omega (arith, write.bound.1, length-take (length bytes - done) (drop done bytes), length-drop done bytes, before.within);
       content = WritesAll-more _ _ _ bytes done c.in-Took.count before.content (rw (take_rest bytes done) at write.content);
-      handed = GrowsTo-trans _ _ _ before.handed write.handed;
       same = write.cause ∙ before.same;
       nothing = λ none. absurd (omega (arith, write.bound.0));
     }

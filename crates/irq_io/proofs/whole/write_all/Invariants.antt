@@ -1,5 +1,4 @@
 use Rattle.std.proofs.Common.{length, ◌-◌, ◌≡◌, ◌≤◌, take}
-use Rattle.irq_io.specs.Told.{GrowsTo}
 use Rattle.irq_io.specs.Whole.{WritesAll}
 use Rattle.irq_io.specs.declared.whole.WriteEnd.TheVariants as ends
 use Rattle.irq_io.proofs.whole.write_all.Given as goal
@@ -8,7 +7,6 @@ abbrev pub invariant-loop-done : goal.invariant-loop-done
 invariant-loop-done g l = record {
   within : l.done ≤ length l.bytes;
   content : WritesAll (g.O.Sink.written l.fn.sink) (g.O.Sink.written l.sink) (take l.done l.bytes) ends.Done;
-  handed : GrowsTo (g.O.Sink.handed_on l.fn.sink) (g.O.Sink.handed_on l.sink);
   same : g.O.Sink.faults l.sink ≡ g.O.Sink.faults l.fn.sink;
   nothing : l.done ≡ 0 → l.sink ≡ l.fn.sink;
 }
