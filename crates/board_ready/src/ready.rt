@@ -22,8 +22,7 @@ use std::marker::Model;
 const CPUS: u32 = 32;
 
 /// Who can move: a readiness for each line and the current call of each driver, at most 64 of
-/// either.
-/// Contracts see the two lists.
+/// either. Contracts see the two lists.
 #[derive(Drop)]
 pub struct ReadyActors {
     lines: Vec<LineReadiness>,
@@ -69,8 +68,8 @@ impl ReadyActors {
         })
     }
 
-    /// Replaces the readiness of the line at place `line`. An equal readiness costs one
-    /// comparison alone.
+    /// Replaces the readiness of the line at place `line`. An equal readiness costs one comparison
+    /// alone.
     #[tactic(auto, using(crate::proofs::Same::readiness_stands))]
     #[inline(always)]
     pub fn set_line(&mut self, line: usize, readiness: LineReadiness)

@@ -1,7 +1,6 @@
 //! A board is played behind one demultiplexer and printed: its lines are laid over their domains
-//! and
-//! made by a maker, they are played by the chain's order, the play is printed row by row, and each
-//! line's history is handed out in a report.
+//! and made by a maker, they are played by the chain's order, the play is printed row by row, and
+//! each line's history is handed out in a report.
 //!
 //! What is promised stands in `specs/Headline.antt`, to be read top down; what is printed in
 //! `specs/Rows.antt`; how both come together in `specs/Played.antt`.

@@ -20,8 +20,7 @@ parent_after (steps.Child line entry) cell = cell
 parent_after (steps.Exit cpu) cell = after_unmask cell
 
 -- A chained handler's input is open from the start (`__irq_do_set_handler` starts it at once);
--- after
--- each step the input shows whether a child has a take due.
+-- after each step the input shows whether a child has a take due.
 abbrev pub parent_cell : BoardSeen → List ChainEntry → Cell
 parent_cell b [] = after_high (is_asked (lines_in b []))
     (after_unmask (fresh_cell triggers.Level false false false false))

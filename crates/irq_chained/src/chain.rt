@@ -5,9 +5,8 @@ use irq_base::{CpuNo, Entry, LineNo};
 #[derive(Clone, Copy, PartialEq, Eq)]
 pub enum ChainEntry {
     /// The processor enters a chain (`chained_irq_enter`): the parent is masked and acknowledged,
-    /// and
-    /// the status is read. Bit k of the status is set if the child at place k, of the lines that
-    /// take part, has a take due.
+    /// and the status is read. Bit k of the status is set if the child at place k, of the lines
+    /// that take part, has a take due.
     Enter { cpu: CpuNo, status: u32 },
     /// An entry of a child, by whatever actor.
     Child { line: LineNo, entry: Entry },

@@ -10,8 +10,7 @@ use irq_line::IrqLine;
 use std::marker::Model;
 
 /// The steps of a log, the oldest first. Contracts see the list of the steps that are left. It
-/// lends
-/// values alone, and takes no memory.
+/// lends values alone, and takes no memory.
 #[derive(Drop)]
 pub struct ChainWalk<'s, L: IrqLine> {
     marks: &'s [Mark],

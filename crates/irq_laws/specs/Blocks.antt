@@ -19,9 +19,8 @@ use Rattle.irq_model.specs.Next.{next}
 use Rattle.irq_laws.specs.Kept.{freeing}
 
 -- what a call waits for once it has made n entries: a hard clear for the end of the flow
--- (`__synchronize_hardirq`), a sync for the rest of all threads (`synchronize_irq`), a request
--- and a
--- free for the request mutex, and a free's end for the rest of the device that is being freed
+-- (`__synchronize_hardirq`), a sync for the rest of all threads (`synchronize_irq`), a request and
+-- a free for the request mutex, and a free's end for the rest of the device that is being freed
 -- (`kthread_stop`)
 abbrev pub block_of : Call → ℕ → WaitFor
 block_of (calls.Request dev flags) n = waits.Mutex

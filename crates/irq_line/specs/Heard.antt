@@ -11,8 +11,7 @@ use Rattle.irq_line.specs.declared.answers.StepRefused.{StepRefused}
 use Rattle.irq_line.specs.declared.answers.StepRefused.TheVariants as refusals
 
 -- The entry that is due of the actor stands at the history's end, which had room for it. At most
--- one
--- of the free places is gone.
+-- one of the free places is gone.
 pub record Adds (old : LineSeen) (who : Actor) (entry : Entry) (new : LineSeen) : Type 0 where
   pub due : next old.def old.entries who ≡ Some entry
   pub actor : actor_of old.def.line entry ≡ who

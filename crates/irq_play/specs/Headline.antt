@@ -1,8 +1,7 @@
 -- The headline: what holds of the histories of a board's lines when its play has come to its end,
 -- and of the reports that hand them out. What holds of one line is board_report's headline; here
 -- stands whose play it is. The moves of a play and the entries of a history stand oldest first
--- here;
--- `Plays` has the newest move first.
+-- here; `Plays` has the newest move first.
 use Rattle.std.specs.Prelude.{◌≡◌, ℕ, IsSome, List, [], length, map, reverse}
 use Rattle.irq_base.specs.declared.entries.Actor.{Actor}
 use Rattle.irq_base.specs.declared.numbers.LineNo.{LineNo}

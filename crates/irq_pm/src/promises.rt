@@ -1,7 +1,6 @@
 //! What holds of every sleep, as sentences over the definitions alone. Each is the clause of a
 //! function with an empty body, so that crates above can call it or cite its lemma. `b` is the
-//! board
-//! without the system's driver; its sleep is a play of `slept b`.
+//! board without the system's driver; its sleep is a play of `slept b`.
 ghost use Rattle.std.specs.Prelude.{◌≡◌, ℕ, false, List, None, Some, slice_get};
 ghost use Rattle.board_def.specs.Rules.{IsBoard, has_driver};
 ghost use Rattle.board_def.specs.Seen.{BoardSeen};
@@ -35,9 +34,8 @@ pub fn sleep_keeps_lines()
 {}
 
 /// While a line sleeps no handler is called, no thread begins a run, and it is disabled; a line
-/// that
-/// was open, and that no end has killed, is open right after its enable. The wake names the line of
-/// the first interrupt that wakes.
+/// that was open, and that no end has killed, is open right after its enable. The wake names the
+/// line of the first interrupt that wakes.
 pub fn sleeps_through()
     ensures lines { (b : BoardSeen) (armed : List LineNo) (g : List SleepEntry) (end : End)
         → IsBoard b → IsBoard (slept b) → has_driver b.drivers last_driver ≡ false

@@ -31,8 +31,7 @@ pub record IsFresh (s : SleeperSeen) : Type 0 where
 -- ---- one step
 
 -- the moves that may be due: of the system's driver, of the lowest thread or processor, of the
--- lowest
--- driver that asks
+-- lowest driver that asks
 abbrev pub last_of : SystemSeen → Option Move
 last_of s = last_move s.board (board_lines s.lines)
 

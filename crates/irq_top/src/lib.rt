@@ -4,8 +4,8 @@
 //! `irq_main` does what the words ask for: it runs a board by threads, plays one, checks a log, or
 //! plays a board that is made from a number. What each command does, ending by ending, is said by
 //! `Does` of `specs/Commands.antt`; what is promised of a run is
-//! `board_report/specs/Headline.antt`,
-//! of a play `irq_play/specs/Headline.antt`, and of a check `irq_check/specs/Checked.antt`.
+//! `board_report/specs/Headline.antt`, of a play `irq_play/specs/Headline.antt`, and of a check
+//! `irq_check/specs/Checked.antt`.
 #![tactic(auto)]
 
 mod commands;

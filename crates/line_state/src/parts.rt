@@ -92,7 +92,8 @@ impl<C: Chip> LineState<C> {
         self.aim = aim;
     }
 
-    /// Puts another row in place of the device's thread's; nothing for a device that the line lacks.
+    /// Puts another row in place of the device's thread's; nothing for a device that the line
+    /// lacks.
     pub fn put_thread(&mut self, dev: DevNo, row: ThreadRow)
         ensures { self.new ≡ record self.old {
           state = record self.old.state {
