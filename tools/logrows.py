@@ -7,8 +7,11 @@ from collections import namedtuple
 
 COLUMNS = (
     "row", "line", "actor", "entry", "dev", "way", "answer", "served", "loop", "mask_change", "note", "bit",
-    "flags", "error", "opened", "resend", "mask", "at",
+    "flags", "error", "opened", "resend", "mask", "at", "status",
 )
+
+# The line that a row of a chain names: none, since no line has the number 0.
+CHAIN = 0
 
 # The words after the entry's name, by entry, as docs/LOG.md has them.
 PLAIN = {
@@ -27,7 +30,12 @@ PLAIN = {
     ("d", "unlink"): ("dev", "answer"),
     ("d", "freed"): ("dev",),
     ("d", "moment"): ("at",),
+    ("c", "enter"): ("status",),
+    ("c", "exit"): (),
 }
+
+# The first words of rows with `#` that tell what became of the whole machine. Others are the layout, or a comment.
+OF_MACHINE = {"asleep", "wake", "vector", "off", "on"}
 
 Row = namedtuple("Row", ("number", "line", "actor", "entry", "fields"))
 
@@ -45,6 +53,8 @@ def read_row(number, text):
         raise BadRow(f"row {number}: {text!r}")
     line, actor, entry, rest = words[0], words[1], words[2], words[3:]
     try:
+        if (int(line) == CHAIN) != (entry in ("enter", "exit")):
+            raise ValueError(line)
         fields = dict(fields_of(actor, entry, rest))
         return Row(number, int(line), actor, entry, fields)
     except (KeyError, ValueError, IndexError):
@@ -87,6 +97,13 @@ def read_rows(lines):
         row = read_row(number, text.rstrip("\n"))
         if row is not None:
             yield row
+
+
+def read_marks(lines):
+    """The number and the words of each row with `#` that tells of the whole machine, in order."""
+    for number, text in enumerate(lines, 1):
+        if text.startswith("# ") and (words := text.split()[1:])[:1] and words[0] in OF_MACHINE:
+            yield number, words
 
 
 def split_input(lines):

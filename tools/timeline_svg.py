@@ -5,9 +5,11 @@ from xml.sax.saxutils import escape
 LEFT, TOP, LANE, BAND, GAP = 96, 46, 26, 13, 10
 COLOURS = {
     "flow": "#c7d2fe", "handler": "#4f46e5", "thread": "#059669", "until done": "#a7f3d0",
-    "depth": "#f59e0b", "masked": "#9ca3af", "pending": "#ef4444",
+    "depth": "#f59e0b", "masked": "#9ca3af", "pending": "#ef4444", "chain": "#fbcfe8", "asleep": "#bae6fd",
 }
-BARS = ("flow", "handler", "thread", "until done")
+BARS = ("flow", "handler", "thread", "until done", "chain", "asleep")
+# The bars that aren't of a line; the legend has them if the log does.
+OF_ALL_LINES = ("chain", "asleep")
 BANDS = ("depth", "masked", "pending")
 SHADES = ("#f9fafb", "#f3f4f6")
 ACTORS = {"t": "thread", "c": "processor", "d": "driver"}
@@ -22,7 +24,7 @@ class Picture:
     def __init__(self, last):
         self.last = last
         self.step = max(NARROWEST, min(WIDEST, (PAGE - LEFT) // (last + 1)))
-        self.shapes, self.bottom = [], TOP
+        self.shapes, self.bottom, self.legend = [], TOP, LEGEND
 
     def across(self, number):
         return LEFT + number * self.step
@@ -42,7 +44,7 @@ class Picture:
 
     def whole(self):
         """The file."""
-        wide, high = max(self.across(self.last + 2), LEGEND), self.bottom + GAP
+        wide, high = max(self.across(self.last + 2), self.legend), self.bottom + GAP
         head = (
             f'<svg xmlns="http://www.w3.org/2000/svg" width="{wide}" height="{high}" viewBox="0 0 {wide} {high}" '
             f'font-family="sans-serif" font-size="11">\n<rect width="{wide}" height="{high}" fill="#ffffff"/>\n'
@@ -50,12 +52,27 @@ class Picture:
         return head + "\n".join(self.shapes) + "\n</svg>\n"
 
 
-def legend(picture):
+def label_of(lane):
+    """What stands before a lane: an actor's is named as in a row, others by their word."""
+    return f"{ACTORS[lane[0]]} {lane[1:]}" if lane[1:].isdigit() else lane
+
+
+def said_of(name, line, dev):
+    """What a bar shows, in words."""
+    if name in OF_ALL_LINES:
+        return f"{name}, status {dev & 0xFFFFFFFF}" if name == "chain" else name
+    return f"{name} of line {line}" + (f", device {dev}" if dev else "")
+
+
+def legend(picture, absent):
     x = LEFT
     for name, colour in COLOURS.items():
+        if name in absent:
+            continue
         picture.shapes.append(f'<rect x="{x}" y="8" width="12" height="12" fill="{colour}"/>')
         picture.text(x + 16, 18, name)
         x += 28 + 7 * len(name)
+    picture.legend = max(LEGEND, x)
 
 
 def grid(picture, bottom):
@@ -68,14 +85,16 @@ def grid(picture, bottom):
 
 def lane_of(picture, actor, top, bars, rows):
     """One actor: its bars, the inner ones above the outer, and a mark a row, which says it."""
-    picture.text(8, top + 16, f"{ACTORS[actor[0]]} {actor[1:]}")
+    picture.text(8, top + 16, label_of(actor))
     for kind, name in enumerate(BARS):
-        inset = 3 if name == "flow" else 6
+        inset = 3 if name == "flow" or name in OF_ALL_LINES else 6
         for begin, end, line, dev in bars.get(kind, ()):
-            what = f"{name} of line {line}" + (f", device {dev}" if dev else "")
+            what = said_of(name, line, dev)
             picture.box(begin, end, top + inset, LANE - 2 * inset, COLOURS[name], f"{what}: rows {begin} to {end}")
             if name == "handler" and (end - begin) * picture.step > 56:
                 picture.text(picture.across(begin) + 4, top + 17, f"device {dev}", "#ffffff")
+            if name in OF_ALL_LINES and (end - begin) * picture.step > 7 * len(what):
+                picture.text(picture.across(begin) + 4, top + 15, what)
     for number, row in rows:
         x = picture.across(number)
         picture.shapes.append(
@@ -104,7 +123,7 @@ def ground(picture, lanes, high):
 def svg(rows, lanes, bands, last, order):
     """The picture of a log: a lane an actor, in this order, then three bands a line."""
     picture = Picture(last)
-    legend(picture)
+    legend(picture, [it for it in OF_ALL_LINES if BARS.index(it) not in {kind for _, kind in lanes.bars}])
     actors, lines = sorted(lanes.names, key=order), sorted(bands.states)
     picture.bottom = TOP + LANE * len(actors) + (GAP + len(BANDS) * BAND) * len(lines)
     ground(picture, len(actors), picture.bottom)
