@@ -72,19 +72,6 @@ impl<C: Chip> LineState<C> {
         self.desc = desc;
     }
 
-    /// Puts another chip in place of this one.
-    pub fn put_chip(&mut self, chip: C)
-        ensures state { self.new.state ≡ record self.old.state {
-          cell = C.cell chip;
-          active = C.active chip;
-          aimed = C.aimed chip;
-        } }
-        ensures spare { self.new.spare ≡ self.old.spare }
-        ensures wiring { self.new.wiring ≡ C.wiring chip }
-    {
-        self.chip = chip;
-    }
-
     /// Puts another affinity in place of this one. The chip stays aimed as it is.
     pub fn put_aim(&mut self, aim: Aim)
         ensures { self.new ≡ record self.old { state = record self.old.state { aim = aim } } }
@@ -177,5 +164,20 @@ impl<C: Chip> LineState<C> {
         } }
     {
         self.actions.begin(dev);
+    }
+}
+
+impl<C: Chip + Drop> LineState<C> {
+    /// Puts another chip in place of this one.
+    pub fn put_chip(&mut self, chip: C)
+        ensures state { self.new.state ≡ record self.old.state {
+          cell = C.cell chip;
+          active = C.active chip;
+          aimed = C.aimed chip;
+        } }
+        ensures spare { self.new.spare ≡ self.old.spare }
+        ensures wiring { self.new.wiring ≡ C.wiring chip }
+    {
+        self.chip = chip;
     }
 }
