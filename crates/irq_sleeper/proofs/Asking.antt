@@ -1,5 +1,5 @@
 -- The search for a driver that asks.
-use Rattle.std.proofs.Common.{◌≡◌, ℕ, zero, suc, ◌+◌, Bool, true, false, cond, Option, Some, None, List, [], ◌∷◌, drop, slice_get, refl, sym, ap, ◌∙◌, arith}
+use Rattle.std.proofs.Common.{◌≡◌, ℕ, zero, suc, ◌+◌, Bool, true, false, cond, Some, List, [], ◌∷◌, drop, slice_get, sym, ap, ◌∙◌, arith}
 use Rattle.irq_base.specs.declared.numbers.DriverNo.{DriverNo}
 use Rattle.irq_laws.proofs.Chosen.{the_same}
 use Rattle.board_def.specs.Seen.{BoardSeen}

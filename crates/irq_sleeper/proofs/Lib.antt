@@ -2,3 +2,4 @@ pub mod Marking
 pub mod Underway
 pub mod Phased
 pub mod Asking
+pub mod Taking

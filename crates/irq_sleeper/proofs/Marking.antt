@@ -1,10 +1,9 @@
 -- The log, with its marks, when a move is added, when a mark is set, and when it is walked.
-use Rattle.std.proofs.Common.{◌≡◌, ℕ, zero, suc, ◌+◌, ◌<◌, ◌≤◌, ◌==◌, Bool, true, false, cond, IfSome, Option, Some}
-use Rattle.std.proofs.Common.{None, List, [], ◌∷◌, ◌++◌, length, reverse, drop, slice_get, refl, sym, ap, ap₂, ◌∙◌}
+use Rattle.std.proofs.Common.{◌≡◌, ℕ, ◌+◌, ◌<◌, ◌≤◌, ◌==◌, Bool, true, false, cond, IfSome, Option, Some}
+use Rattle.std.proofs.Common.{None, List, [], ◌∷◌, ◌++◌, length, drop, slice_get, refl, sym, ap, ap₂, ◌∙◌}
 use Rattle.std.proofs.Common.{subst, arith}
 use Rattle.std.proofs.lemmas.Bool.Decides.{nat_tests}
-use Rattle.std.proofs.lemmas.List.{append-nil, append_assoc, reverse-append}
-use Rattle.irq_base.specs.declared.numbers.LineNo.{LineNo}
+use Rattle.std.proofs.lemmas.List.{append-nil, append_assoc}
 use Rattle.irq_laws.proofs.Chosen.{the_same}
 use Rattle.board_play.specs.Lines.{Move}
 use Rattle.irq_sleeper.specs.Seen.{asleep_at, wake_at, marks_at, marked}

@@ -1,5 +1,5 @@
 -- A sleep, phase by phase.
-use Rattle.std.proofs.Common.{◌≡◌, ◌⊎◌, inl, inr, ℕ, ◌+◌, ◌<◌, ◌≤◌, Bool, true, false, cond, IfSome, Option, Some, None}
+use Rattle.std.proofs.Common.{◌≡◌, ℕ, ◌+◌, ◌<◌, ◌≤◌, Bool, true, false, cond, Option, Some, None}
 use Rattle.std.proofs.Common.{Result, Ok, Err, List, [], ◌∷◌, ◌++◌, length, reverse, get_or, drop, refl, sym, ap, ◌∙◌}
 use Rattle.std.proofs.Common.{subst, arith, add-one}
 use Rattle.std.proofs.Math.Seq.{drop-cons}
@@ -9,21 +9,20 @@ use Rattle.irq_base.specs.declared.entries.Actor.TheVariants as actors
 use Rattle.irq_base.specs.declared.numbers.LineNo.{LineNo}
 use Rattle.board_def.specs.Seen.{BoardSeen}
 use Rattle.board_driver.specs.Longer.{last_driver}
-use Rattle.board_play.specs.Lines.{BoardLine, Move, lines_of}
-use Rattle.board_play.specs.Order.{actors_of}
-use Rattle.board_play.specs.Play.{first_move, or_move}
-use Rattle.board_core.specs.Seen.{SystemSeen, board_lines}
+use Rattle.board_play.specs.Lines.{BoardLine, Move}
+use Rattle.board_play.specs.Play.{or_move}
+use Rattle.board_core.specs.Seen.{board_lines}
 use Rattle.board_core.specs.Turns.{move_of, lowest_move}
 use Rattle.board_core.specs.declared.turns.PlayEnd.{PlayEnd}
 use Rattle.board_core.specs.declared.turns.PlayEnd.TheVariants as ends
 use Rattle.board_core.proofs.Searches.{all_dropped}
 use Rattle.play_orders.specs.Orders.{IsMade}
 use Rattle.irq_pm.specs.Phases.{Phase, Picking, Disabling, Asleep, Enabling, Going, is_disable_due, due_of, disabling}
-use Rattle.irq_pm.specs.Phases.{sleeping, going, last_move, inner_move, ask_move, or_next, picked, step_in, sleep_next}
+use Rattle.irq_pm.specs.Phases.{sleeping, going, last_move, or_next, picked, step_in, sleep_next}
 use Rattle.irq_pm.specs.Phases.{sleep_order}
 use Rattle.irq_sleeper.specs.Seen.{SleeperSeen, log_of, marked}
 use Rattle.irq_pm.specs.SleepLog.{moves_of}
-use Rattle.irq_sleeper.specs.Steps.{IsFresh, Watched, StepsBy, IsSleep, IsTold, AreMarked, IsUnderway, IsAsleep}
+use Rattle.irq_sleeper.specs.Steps.{IsFresh, Watched, StepsBy, IsTold, AreMarked, IsUnderway, IsAsleep}
 use Rattle.irq_sleeper.specs.Steps.{IsWoken, Stays, GoesTo, EndsIn, last_of, inner_of, ask_of}
 use Rattle.irq_pm.specs.Waking.{woken_by}
 use Rattle.irq_pm.specs.declared.entries.SleepEntry.{SleepEntry}

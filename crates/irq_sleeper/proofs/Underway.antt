@@ -1,24 +1,19 @@
 -- A sleep, step by step.
-use Rattle.std.proofs.Common.{◌≡◌, ◌⊎◌, inl, inr, ℕ, ◌+◌, ◌-◌, ◌<◌, ◌≤◌, Bool, true, false, ◌&&◌, cond, IfSome}
-use Rattle.std.proofs.Common.{IsSomeAnd, Option, Some, None, Result, Ok, Err, List, [], ◌∷◌, ◌++◌, length, reverse}
-use Rattle.std.proofs.Common.{get_or, drop, refl, sym, ap, ◌∙◌, subst, arith, add-one}
-use Rattle.std.proofs.Math.Seq.{drop-cons}
+use Rattle.std.proofs.Common.{◌≡◌, ℕ, ◌+◌, ◌-◌, ◌<◌, ◌≤◌, Bool, true, false, not, ◌&&◌, cond, IfSome}
+use Rattle.std.proofs.Common.{IsSome, IsSomeAnd, Option, Some, None, Result, Ok, Err, List, [], ◌∷◌, ◌++◌, length, reverse}
+use Rattle.std.proofs.Common.{refl, sym, ap, ◌∙◌, subst, arith}
 use Rattle.std.proofs.lemmas.List.{reverse-append, length_push}
 use Rattle.irq_base.specs.declared.entries.Actor.{Actor}
-use Rattle.irq_base.specs.declared.entries.Actor.TheVariants as actors
-use Rattle.irq_base.specs.declared.entries.Entry.{Entry}
 use Rattle.irq_base.specs.declared.numbers.LineNo.{LineNo}
 use Rattle.irq_model.specs.Kinds.{same_line}
 use Rattle.irq_steps.proofs.Same.{line_from_same, same_self_line}
 use Rattle.irq_laws.proofs.Lists.{both_ways}
 use Rattle.board_def.specs.Seen.{BoardSeen}
 use Rattle.board_play.specs.Lines.{BoardLine, Move, part, defs_of, lines_of, lines_after, find_line}
-use Rattle.board_play.specs.Order.{due_move, threads_of, cpus_of}
-use Rattle.board_play.specs.Play.{Done, Full, first_move, or_move}
+use Rattle.board_play.specs.Order.{threads_of, cpus_of}
 use Rattle.board_play.proofs.Moving.{lines_more}
 use Rattle.board_core.specs.Firsts.{IsFirstOf}
 use Rattle.board_core.specs.Seen.{SystemSeen, board_lines}
-use Rattle.board_core.specs.Turned.{StepsBy as StepsBySystem}
 use Rattle.board_core.specs.Turns.{move_of, Moves, IsFullFor, TurnsBy, Turns, lowest_move}
 use Rattle.board_core.specs.declared.turns.PlayEnd.{PlayEnd}
 use Rattle.board_core.specs.declared.turns.PlayEnd.TheVariants as ends
@@ -27,19 +22,16 @@ use Rattle.board_core.specs.declared.turns.Turn.TheVariants as turns
 use Rattle.board_core.proofs.Movers.{first_there, none_there, some_of}
 use Rattle.board_core.proofs.Underway.{part_in}
 use Rattle.play_orders.specs.Orders.{IsMade, moves_in}
-use Rattle.irq_pm.specs.Phases.{Phase, Picking, Disabling, Asleep, Enabling, Going, Next, asks_next, first_asking}
-use Rattle.irq_pm.specs.Phases.{move_of_driver, is_disable_due, due_of, disabling, sleeping, going, last_move}
-use Rattle.irq_pm.specs.Phases.{inner_move, ask_move, or_next, picked, step_in, sleep_next, sleep_order}
+use Rattle.irq_pm.specs.Phases.{Phase, Picking, Disabling, Asleep, Enabling, Going, Next}
+use Rattle.irq_pm.specs.Phases.{sleep_next, sleep_order}
 use Rattle.irq_sleeper.specs.Seen.{SleeperSeen, log_of, marked}
-use Rattle.irq_pm.specs.SleepLog.{told, moves_of}
-use Rattle.irq_pm.specs.Slept.{Sleeps}
-use Rattle.irq_sleeper.specs.Steps.{IsFresh, Made, Watched, StepsBy, Heeded, Heeds, IsSleep, IsTold, AreMarked, IsUnderway, Stays, last_of, inner_of, ask_of}
+use Rattle.irq_pm.specs.SleepLog.{moves_of}
+use Rattle.irq_sleeper.specs.Steps.{IsFresh, Made, Watched, StepsBy, Heeded, Heeds, IsSleep, IsTold, AreMarked, IsUnderway, Stays, inner_of}
 use Rattle.irq_pm.specs.Waking.{woken_by, is_among, was_disabled}
-use Rattle.irq_sleeper.specs.Watching.{WatchSeen, Watches}
+use Rattle.irq_sleeper.specs.Watching.{Watches}
 use Rattle.irq_pm.specs.declared.entries.SleepEntry.{SleepEntry}
-use Rattle.irq_pm.specs.declared.entries.SleepEntry.TheVariants as sleeps
 use Rattle.irq_sleeper.specs.declared.marks.WakeMark.{WakeMark}
-use Rattle.irq_sleeper.proofs.Marking.{IsWithin, IsWakeWithin, marked_more, asleep_set, wake_set}
+use Rattle.irq_sleeper.proofs.Marking.{IsWithin, IsWakeWithin, marked_more}
 use Rattle.irq_pm.proofs.Order.{step_of}
 use Rattle.irq_pm.proofs.Through.{moves_are}
 
@@ -63,9 +55,9 @@ fresh s picks f =
       };
       marks = (f.asleep, f.wake);
       watch = record {
-        disabled = λ line. ap (λ (ls : List LineNo). is_among line ls) f.disabled
-            ∙ (no_one (is_among line s.watch.armed) ∙ ap
-            (λ (g : List Move). is_among line s.watch.armed && was_disabled line g) (sym none_yet));
+        awake = λ line. ap (λ (ls : List LineNo). is_among line ls) f.awake
+            ∙ (all_awake (is_among line s.watch.armed) ∙ ap
+            (λ (g : List Move). is_among line s.watch.armed && not (was_disabled line g)) (sym none_yet));
         woken = f.woken ∙ ap (λ (g : List Move). woken_by s.watch.armed g) (sym none_yet);
       };
       phase = Picking picks;
@@ -73,9 +65,9 @@ fresh s picks f =
       next = refl;
     }
   where
-    no_one : (b : Bool) → false ≡ (b && false)
-    no_one true = refl
-    no_one false = refl
+    all_awake : (b : Bool) → b ≡ (b && true)
+    all_awake true = refl
+    all_awake false = refl
 
 -- ---- one step
 
@@ -223,17 +215,11 @@ filled s picks at after due line len u full next =
       told,
     )
 
--- memory was refused, perhaps after a move
-pub refused : (old new : SleeperSeen) (picks : List Actor) (at after : Phase) (due : Option Move)
-    → IsUnderway old picks at → (new ≡ old) ⊎ Made old due new
-    → ((x : Move) → due ≡ Some x → next_of old at ≡ Some (step_of x, after)) → IsSleep new picks ends.NoMemory
-refused old new picks at after due u (inl same) next = subst (λ (s : SleeperSeen). IsSleep s picks ends.NoMemory) (sym same) (u.phase, u.made)
-refused old new picks at after due u (inr m) next = (after, made_more old new picks due at after u m next)
-
-pub refused_told : (old new : SleeperSeen) (picks : List Actor) (at : Phase) (due : Option Move)
-    → IsUnderway old picks at → (new ≡ old) ⊎ Made old due new → IsTold new
-refused_told old new picks at due u (inl same) = subst (λ (s : SleeperSeen). IsTold s) (sym same) u.told
-refused_told old new picks at due u (inr m) = told_more old new due at u.marks u.told m
+-- memory was refused
+pub refused : (old new : SleeperSeen) (picks : List Actor) (at : Phase) → IsUnderway old picks at
+    → IsSome (lowest_move old.system) × (new ≡ old) → IsTold new × IsSleep new picks ends.NoMemory
+refused old new picks at u r = subst (λ (s : SleeperSeen). IsTold s × IsSleep s picks ends.NoMemory) (sym r.1)
+    (u.told, (u.phase, u.made, r.0))
 
 -- ---- a step that ends the sleep
 
@@ -246,7 +232,7 @@ pub stopped : (old new : SleeperSeen) (picks : List Actor) (at after : Phase) (d
 stopped old new picks at after due (ends.Full line len) u steps next
     = subst (λ (s : SleeperSeen). EndsAs picks s (ends.Full line len)) (sym steps.1)
     (u.told, filled old picks at after due line len u steps.0 next)
-stopped old new picks at after due ends.NoMemory u steps next = (refused_told old new picks at due u steps, refused old new picks at after due u steps next)
+stopped old new picks at after due ends.NoMemory u steps next = refused old new picks at u steps
 stopped old new picks at after due ends.Done u steps next = absurd steps
 
 -- ---- board, layout and armed lines stay
@@ -267,7 +253,7 @@ pub steps_stay : (old new : SleeperSeen) (due : Option Move) (r : Result Bool Pl
 steps_stay old new due (Ok true) s = made_stays old new due s.made
 steps_stay old new due (Ok false) s = same_stays old new s.1
 steps_stay old new due (Err (ends.Full line len)) s = same_stays old new s.1
-steps_stay old new due (Err ends.NoMemory) s = elim s [ inl same ↦ same_stays old new same | inr m ↦ made_stays old new due m ]
+steps_stay old new due (Err ends.NoMemory) s = same_stays old new s.1
 steps_stay old new due (Err ends.Done) s = absurd s
 
 -- ---- it ends
@@ -329,17 +315,22 @@ room_falls old new due m =
 
 -- ---- a turn, and what is noted of it
 
-by_system : (old new : SystemSeen) (a : Actor) (turn : Turn) → Turns old a turn new → StepsBySystem old (move_of old a) turn new
+-- what a turn leaves, of whichever actor's move; memory is needed only while somebody can move
+abbrev Turned : SystemSeen → Option Move → Turn → SystemSeen → Type 0
+Turned old due turns.NoMemory new = IsSome (lowest_move old) × (new ≡ old)
+Turned old due turn new = TurnsBy old due turn new
+
+by_system : (old new : SystemSeen) (a : Actor) (turn : Turn) → Turns old a turn new → Turned old (move_of old a) turn new
 by_system old new a (turns.Moved line e) t = t
 by_system old new a turns.NotYet t = t
 by_system old new a (turns.Full line len) t = t
-by_system old new a turns.NoMemory t = t.1
+by_system old new a turns.NoMemory t = (t.0.somebody, t.1)
 
-by_lowest : (old new : SystemSeen) (due : Option Move) (turn : Turn) → TurnsBy old due turn new → StepsBySystem old due turn new
-by_lowest old new due (turns.Moved line e) t = t
-by_lowest old new due turns.NotYet t = t
-by_lowest old new due (turns.Full line len) t = t
-by_lowest old new due turns.NoMemory t = t.1
+by_lowest : (old new : SystemSeen) (turn : Turn) → TurnsBy old (lowest_move old) turn new → Turned old (lowest_move old) turn new
+by_lowest old new (turns.Moved line e) t = t
+by_lowest old new turns.NotYet t = t
+by_lowest old new (turns.Full line len) t = t
+by_lowest old new turns.NoMemory t = t
 
 -- the sleeper whose system has turned
 abbrev pub turned : SleeperSeen → SystemSeen → SleeperSeen
@@ -354,16 +345,16 @@ heeded old system new due m moves h =
     record { move = m; moves = subst (λ (s : SystemSeen). Moves old.system due m s) (sym h.system) moves; armed = h.armed; asleep = h.asleep; wake = h.wake }
 
 steps_by : (old : SleeperSeen) (system : SystemSeen) (new : SleeperSeen) (due : Option Move) (turn : Turn)
-    (r : Result Bool PlayEnd) → StepsBySystem old.system due turn system → Heeds (turned old system) turn r new
+    (r : Result Bool PlayEnd) → Turned old.system due turn system → Heeds (turned old system) turn r new
     → StepsBy old due r new
 steps_by old system new due (turns.Moved line e) (Ok true) t h = record { made = heeded old system new due (line, e) t h.0; watch = h.1 }
-steps_by old system new due (turns.Moved line e) (Err ends.NoMemory) t h = inr (heeded old system new due (line, e) t h)
 steps_by old system new due turns.NotYet (Ok false) t h = (t.0, unturned old system new t.1 h)
 steps_by old system new due (turns.Full line len) (Err (ends.Full other n)) t h =
     (subst (λ (k : ℕ). IsFullFor old.system due other k) h.1 (subst (λ (l : LineNo). IsFullFor old.system due l len) h.0 t.0), unturned old system new t.1 h.2)
-steps_by old system new due turns.NoMemory (Err ends.NoMemory) t h = inl (unturned old system new t h)
+steps_by old system new due turns.NoMemory (Err ends.NoMemory) t h = (t.0, unturned old system new t.1 h)
 steps_by old system new due (turns.Moved line e) (Ok false) t h = absurd h
 steps_by old system new due (turns.Moved line e) (Err (ends.Full other n)) t h = absurd h
+steps_by old system new due (turns.Moved line e) (Err ends.NoMemory) t h = absurd h
 steps_by old system new due (turns.Moved line e) (Err ends.Done) t h = absurd h
 steps_by old system new due turns.NotYet (Ok true) t h = absurd h
 steps_by old system new due turns.NotYet (Err (ends.Full other n)) t h = absurd h
@@ -386,7 +377,7 @@ step_is old system new a turn r t h = steps_by old system new (move_of old.syste
 pub lowest_is : (old : SleeperSeen) (system : SystemSeen) (new : SleeperSeen) (turn : Turn) (r : Result Bool PlayEnd)
     → TurnsBy old.system (lowest_move old.system) turn system → Heeds (turned old system) turn r new
     → StepsBy old (lowest_move old.system) r new
-lowest_is old system new turn r t h = steps_by old system new (lowest_move old.system) turn r (by_lowest old.system system (lowest_move old.system) turn t) h
+lowest_is old system new turn r t h = steps_by old system new (lowest_move old.system) turn r (by_lowest old.system system turn t) h
 
 -- ---- the lowest thread or processor
 

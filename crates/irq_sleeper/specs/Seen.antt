@@ -1,6 +1,5 @@
 -- What is seen of a board that sleeps: its system, the watch, and where the marks stand.
 use Rattle.std.specs.Prelude.{ℕ, ◌+◌, ◌==◌, if◌then◌else◌, Option, Some, None, List, [], ◌∷◌, ◌++◌}
-use Rattle.irq_base.specs.declared.numbers.LineNo.{LineNo}
 use Rattle.board_core.specs.Seen.{SystemSeen}
 use Rattle.board_play.specs.Lines.{Move}
 use Rattle.irq_sleeper.specs.Watching.{WatchSeen}

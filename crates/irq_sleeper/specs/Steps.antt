@@ -1,11 +1,11 @@
 -- What a step of a sleep comes to, and what a sleep has come to.
-use Rattle.std.specs.Prelude.{◌≡◌, ◌≤◌, ℕ, Bool, true, false, ◌⊎◌, IfSome, Option, Some, None}
-use Rattle.std.specs.Prelude.{Result, Ok, Err, List, [], ◌∷◌, length, reverse}
+use Rattle.std.specs.Prelude.{◌≡◌, ◌≤◌, Bool, true, false, IfSome, IsSome, Option, Some, None}
+use Rattle.std.specs.Prelude.{Result, Ok, Err, List, ◌∷◌, length, reverse}
 use Rattle.irq_base.specs.declared.entries.Actor.{Actor}
 use Rattle.irq_base.specs.declared.numbers.LineNo.{LineNo}
 use Rattle.board_core.specs.Playing.{IsFresh as IsFreshSystem}
 use Rattle.board_core.specs.Seen.{SystemSeen, board_lines}
-use Rattle.board_core.specs.Turns.{Moves, IsFullFor}
+use Rattle.board_core.specs.Turns.{Moves, IsFullFor, lowest_move}
 use Rattle.board_core.specs.declared.turns.Turn.{Turn}
 use Rattle.board_core.specs.declared.turns.Turn.TheVariants as turns
 use Rattle.board_core.specs.declared.turns.PlayEnd.{PlayEnd}
@@ -23,7 +23,7 @@ use Rattle.irq_sleeper.specs.Watching.{Watches}
 -- nothing has happened
 pub record IsFresh (s : SleeperSeen) : Type 0 where
   pub system : IsFreshSystem s.system
-  pub disabled : s.watch.disabled ≡ []
+  pub awake : s.watch.awake ≡ s.watch.armed
   pub woken : s.watch.woken ≡ None
   pub asleep : s.asleep ≡ None
   pub wake : s.wake ≡ None
@@ -65,7 +65,6 @@ pub record Heeded (old : SleeperSeen) (new : SleeperSeen) : Type 0 where
 abbrev pub Heeds : SleeperSeen → Turn → Result Bool PlayEnd → SleeperSeen → Type 0
 Heeds old (turns.Moved line e) (Ok true) new = Heeded old new
     × ((g : List Move) → Watches old.watch g → Watches new.watch ((line, e) ∷ g))
-Heeds old (turns.Moved line e) (Err ends.NoMemory) new = Heeded old new
 Heeds old turns.NotYet (Ok false) new = new ≡ old
 Heeds old (turns.Full line len) (Err (ends.Full other n)) new =
     (line ≡ other) × (len ≡ n) × (new ≡ old)
@@ -73,18 +72,18 @@ Heeds old turns.NoMemory (Err ends.NoMemory) new = new ≡ old
 Heeds old _ _ new = ⊥
 
 -- what a step answers and leaves, true if a move was made; `due` is the move to be made, if there
--- is one
+-- is one; memory is needed only while somebody can move
 abbrev pub StepsBy : SleeperSeen → Option Move → Result Bool PlayEnd → SleeperSeen → Type 0
 StepsBy old due (Ok true) new = Watched old due new
 StepsBy old due (Ok false) new = (due ≡ None) × (new ≡ old)
 StepsBy old due (Err (ends.Full line len)) new = IsFullFor old.system due line len × (new ≡ old)
-StepsBy old due (Err ends.NoMemory) new = (new ≡ old) ⊎ Made old due new
+StepsBy old due (Err ends.NoMemory) new = IsSome (lowest_move old.system) × (new ≡ old)
 StepsBy old due (Err ends.Done) new = ⊥
 
 -- ---- a sleep
 
 -- The log is the sleep of the board with these picks, done or full as was answered; a full one says
--- the length. If memory was refused it is the sleep so far.
+-- the length. If memory was refused it is the sleep so far, and somebody can move.
 abbrev pub IsSleep : SleeperSeen → List Actor → PlayEnd → Type 0
 IsSleep s picks ends.Done =
     Sleeps s.system.board s.watch.armed picks (reverse (log_of s)) Done
@@ -93,7 +92,7 @@ IsSleep s picks (ends.Full line len) =
     × (length (part line (reverse s.system.log)) ≡ len)
 IsSleep s picks ends.NoMemory =
     (at : Phase) × IsMade (sleep_order s.system.board s.watch.armed) (Picking picks)
-    (reverse (log_of s)) at
+    (reverse (log_of s)) at × IsSome (lowest_move s.system)
 
 -- the lines are as the moves leave them, and the log has the moves
 pub record IsTold (s : SleeperSeen) : Type 0 where

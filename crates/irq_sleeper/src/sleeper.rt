@@ -65,9 +65,10 @@ impl<'b, L: IrqLine> Sleeper<'b, L> {
         ensures fresh { IfOk result IsFresh }
     {
         let system = System::new(alloc, board, layout, maker)?;
+        let watch = Watch::new(alloc, armed)?;
         Ok(Sleeper {
             system,
-            watch: Watch::new(alloc, armed),
+            watch,
             asleep: None,
             wake: None,
         })
@@ -319,10 +320,10 @@ impl<'b, L: IrqLine> Sleeper<'b, L> {
         ensures { Heeds self.old turn result self.new }
     {
         match turn {
-            Turn::Moved { line, entry } => match self.watch.note(line, entry) {
-                Ok(()) => Ok(true),
-                Err(_) => Err(PlayEnd::NoMemory),
-            },
+            Turn::Moved { line, entry } => {
+                self.watch.note(line, entry);
+                Ok(true)
+            }
             Turn::NotYet => Ok(false),
             Turn::Full { line, len } => Err(PlayEnd::Full { line, len }),
             Turn::NoMemory => Err(PlayEnd::NoMemory),

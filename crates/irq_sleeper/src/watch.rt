@@ -1,8 +1,9 @@
 //! What wakes the machine is known at once.
-ghost use Rattle.std.specs.Prelude.{◌≡◌, [], ◌∷◌, IfOk, List, None, OnOk};
+ghost use Rattle.std.specs.Prelude.{◌≡◌, ◌&&◌, ◌∷◌, not, IfOk, List, None};
 ghost use Rattle.board_driver.specs.Longer.{last_driver};
 ghost use Rattle.board_play.specs.Lines.{Move};
-ghost use Rattle.irq_model.specs.Kinds.{is_off};
+ghost use Rattle.irq_base.specs.declared.numbers.LineNo.{LineNo};
+ghost use Rattle.irq_model.specs.Kinds.{is_off, same_line};
 ghost use Rattle.irq_pm.specs.Waking.{is_among};
 ghost use Rattle.irq_sleeper.specs.Watching.{Watches};
 ghost use Rattle.sleep_laws.specs.Sleeping.{is_disable_by};
@@ -18,8 +19,8 @@ pub(crate) const SYSTEM: DriverNo = DriverNo(65_535);
 #[derive(Drop)]
 pub struct Watch<'a> {
     armed: &'a [LineNo],
-    /// Those that the system's driver has disabled (`IRQD_WAKEUP_ARMED`).
-    disabled: Vec<LineNo>,
+    /// Those that the system's driver hasn't disabled yet; the others are `IRQD_WAKEUP_ARMED`.
+    awake: Vec<LineNo>,
     /// The line that has woken the machine.
     woken: Option<LineNo>,
 }
@@ -31,21 +32,23 @@ impl<'a> Model for Watch<'a> {
 
     ghost view = { λ w. record {
       armed = w.armed.now;
-      disabled = w.disabled.items;
+      awake = w.awake.items;
       woken = w.woken;
     } };
 }
 
 impl<'a> Watch<'a> {
-    /// The watch over the armed lines, before the first move.
-    pub(crate) fn new(alloc: Global, armed: &'a [LineNo]) -> Watch<'a>
-        ensures { result ≡ record { armed = armed.now; disabled = []; woken = None } }
+    /// The watch over the armed lines, before the first move. The only error is `NoMemory`.
+    pub(crate) fn new(alloc: Global, armed: &'a [LineNo]) -> Result<Watch<'a>, NoMemory>
+        ensures { IfOk result
+            (λ w. w ≡ record { armed = armed.now; awake = armed.now; woken = None }) }
     {
-        Watch {
+        let awake = armed.to_vec(alloc)?;
+        Ok(Watch {
             armed,
-            disabled: Vec::new(alloc),
+            awake,
             woken: None,
-        }
+        })
     }
 
     /// The line that has woken the machine.
@@ -55,24 +58,28 @@ impl<'a> Watch<'a> {
         self.woken
     }
 
-    /// Takes note of a move (`irq_pm_check_wakeup`, `kernel/irq/pm.c`). The only error is
-    /// `NoMemory`.
-    pub(crate) fn note(&mut self, line: LineNo, entry: Entry) -> Result<(), NoMemory>
+    /// Takes note of a move (`irq_pm_check_wakeup`, `kernel/irq/pm.c`).
+    pub(crate) fn note(&mut self, line: LineNo, entry: Entry)
         ensures armed { self.new.armed ≡ self.old.armed }
-        ensures watch { OnOk result ((g : List Move) → Watches self.old g
-            → Watches self.new ((line, entry) ∷ g)) }
+        ensures watch { (g : List Move) → Watches self.old g
+            → Watches self.new ((line, entry) ∷ g) }
     {
         if is_system_disable(entry) {
-            if is_among(line, self.armed) {
-                self.disabled.push(line)?;
-            }
+            take_out(&mut self.awake, line);
         } else if is_off(entry) && self.woken.is_none() {
-            if is_among(line, self.disabled.as_slice()) {
+            if is_among(line, self.armed) && !is_among(line, self.awake.as_slice()) {
                 self.woken = Some(line);
             }
         }
-        Ok(())
     }
+}
+
+/// Takes the line out of these.
+fn take_out(lines: &mut Vec<LineNo>, line: LineNo)
+    ensures { (other : LineNo) → is_among other lines.new.items
+        ≡ (is_among other lines.old.items && not (same_line other line)) }
+{
+    lines.retain(|l| *l != line);
 }
 
 /// Whether the system's driver disables the line.
