@@ -1,7 +1,7 @@
 -- Lines, their places, and what they find as they are placed anew.
 use Rattle.std.specs.Prelude.{◌≡◌, ℕ, ◌<◌, ◌==◌, Bool, true, false, not, ◌&&◌, ◌||◌}
 use Rattle.std.specs.Prelude.{if◌then◌else◌, Option, Some, None, is_some, List, [], ◌∷◌, ◌++◌}
-use Rattle.std.specs.Prelude.{length}
+use Rattle.std.specs.Prelude.{◌%◌, length}
 use Rattle.std.specs.List.{list_any}
 use Rattle.irq_base.specs.declared.numbers.CpuNo.{CpuNo}
 use Rattle.irq_base.specs.declared.numbers.LineNo.{LineNo}
@@ -11,6 +11,7 @@ use Rattle.irq_hotplug.specs.Placing.{is_online, place_for}
 use Rattle.irq_hotplug.specs.declared.berths.Berth.{Berth}
 use Rattle.irq_hotplug.specs.declared.berths.Moving.{Moving}
 use Rattle.irq_hotplug.specs.declared.berths.Moving.TheVariants as moving
+use Rattle.irq_hotplug.specs.declared.berths.Place.{Place}
 
 -- the vector is one of the processor's
 abbrev pub is_on : CpuNo → Option Vector → Bool
@@ -78,3 +79,14 @@ IfThere P None = Unit {0}
 
 abbrev pub IsPlaced : ℕ → List Bool → Berth → Type 0
 IsPlaced vectors online b = IfThere (IsOnline vectors online) b.place
+
+-- where the line is with this vector: its queue there is the processor modulo its queues
+abbrev pub place_on : Berth → Option Vector → Option Place
+place_on b (Some v) =
+    Some (record { cpu = v.cpu; vector = v.number; queue = v.cpu.0 % b.queues })
+place_on b None = None
+
+-- where the line with this number is; none if it has no vector, or takes no part
+abbrev pub place_of : List Berth → LineNo → Option Place
+place_of [] line = None
+place_of (b ∷ bs) line = if b.line.0 == line.0 then place_on b b.place else place_of bs line

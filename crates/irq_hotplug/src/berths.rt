@@ -1,6 +1,7 @@
 //! The lines that take part, and where each is.
-ghost use Rattle.std.specs.Prelude.{◌≡◌, ◌&&◌, not, Some, None, is_some, length};
-ghost use Rattle.irq_hotplug.specs.Berths.{is_moved, left_out, settled, is_on};
+ghost use Rattle.std.specs.Prelude.{◌≡◌, ◌≤◌, ◌&&◌, not, All, Some, None, is_some, length};
+ghost use Rattle.irq_hotplug.specs.Berths.{is_moved, is_on, left_out, place_of, place_on, settled};
+ghost use Rattle.irq_hotplug.specs.Kept.{HasQueue};
 
 use crate::rooms::at;
 use irq_base::{CpuNo, LineNo};
@@ -19,6 +20,17 @@ pub struct Berth {
     pub target: Option<CpuNo>,
     /// Its vector; none if no processor had one left.
     pub place: Option<Vector>,
+}
+
+/// Where a line is.
+#[derive(Clone, Copy, PartialEq, Eq)]
+pub struct Place {
+    /// The processor.
+    pub cpu: CpuNo,
+    /// The number of the line's vector there, below the vectors of a processor.
+    pub vector: u32,
+    /// The line's queue that is served there, below its queues.
+    pub queue: u32,
 }
 
 /// Which lines are placed anew.
@@ -86,4 +98,33 @@ pub fn settled(found: Option<Vector>, berth: Berth) -> Berth
         },
         None => berth,
     }
+}
+
+/// Where the line is with this vector.
+fn place_on(berth: &Berth, place: Option<Vector>) -> Option<Place>
+    requires { 1 ≤ berth.now.queues }
+    ensures { result ≡ place_on berth.now place }
+{
+    match place {
+        Some(vector) => Some(Place {
+            cpu: vector.cpu,
+            vector: vector.number,
+            queue: vector.cpu.0 % berth.queues,
+        }),
+        None => None,
+    }
+}
+
+/// Where the line with this number is; none if it has no vector, or takes no part.
+pub fn place_of(berths: &[Berth], line: LineNo) -> Option<Place>
+    requires { All HasQueue berths.now }
+    ensures { result ≡ place_of berths.now line }
+{
+    for i in 0..berths.len() {
+        let berth = at(berths, i);
+        if berth.line == line {
+            return place_on(&berth, berth.place);
+        }
+    }
+    None
 }

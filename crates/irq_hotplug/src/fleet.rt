@@ -6,21 +6,21 @@ ghost use Rattle.irq_base.specs.declared.numbers.CpuNo.{CpuNo};
 ghost use Rattle.vector_matrix.specs.Steps.{has};
 ghost use Rattle.vector_matrix.specs.Vectors.{vector_of};
 ghost use Rattle.vector_matrix.specs.declared.view.Vector.{Vector};
-ghost use Rattle.irq_hotplug.specs.Berths.{IsPlaced, stands_at};
+ghost use Rattle.irq_hotplug.specs.Berths.{IsPlaced, place_of, stands_at};
 ghost use Rattle.irq_hotplug.specs.Fleet.{after_off, after_on, first_fleet, off_answer};
 ghost use Rattle.irq_hotplug.specs.Fleet.{off_refusal, on_answer, placed_fleet, says};
 ghost use Rattle.irq_hotplug.specs.Kept.{IsBare, IsSaidOf};
 ghost use Rattle.irq_hotplug.specs.Held.{IsSized};
 ghost use Rattle.std.specs.List.{list_any};
 
-use crate::berths::{Berth, Moving, left_out};
+use crate::berths::{Berth, Moving, Place, left_out, place_of};
 use crate::lines::berths_of;
 use crate::placing::{find_all, give_all, settle_all};
 use crate::rooms::RoomList;
 use crate::rows::{FleetRow, OffAnswer, OnAnswer};
 use crate::vectors::Vectors;
 use board_def::{Board, Layout};
-use irq_base::{CpuNo, NoMemory};
+use irq_base::{CpuNo, LineNo, NoMemory};
 use notifiers::{Notifier, Notifiers};
 use std::alloc::Global;
 use std::marker::Model;
@@ -127,6 +127,13 @@ impl Fleet {
         ensures { result.now ≡ self.now.said }
     {
         self.said.as_slice()
+    }
+
+    /// Where the line is: none if it is unplaced, refused, or not of the board.
+    pub fn place(&self, line: LineNo) -> Option<Place>
+        ensures { result ≡ place_of self.now.berths line }
+    {
+        place_of(self.berths.as_slice(), line)
     }
 
     /// Takes the vectors apart: a word for each of 32 processors, in which bit v is set exactly if

@@ -16,7 +16,7 @@ mod rooms;
 mod rows;
 mod vectors;
 
-pub use berths::{Berth, Moving};
+pub use berths::{Berth, Moving, Place};
 pub use events::{Event, take_events};
 pub use fleet::Fleet;
 pub use laws::places_first;

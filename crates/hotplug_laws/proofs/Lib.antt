@@ -1,0 +1,7 @@
+mod Settled
+mod Finding
+pub mod Moments
+pub mod Aiming
+mod Moving
+mod Scripts
+pub mod Aims
