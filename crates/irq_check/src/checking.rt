@@ -11,6 +11,7 @@ use board_text::{BoardFault, BoardRefused, FaultKind, read_board};
 use irq_base::NoMemory;
 use line_cell::Cell;
 use line_core::{Line, MakesCellLine};
+use line_makers::{MakesDomainLine, OverDomains};
 use log_check::{Verdict, check};
 use log_due::is_as_due;
 use log_read::{LogRefused, read_log};
@@ -32,13 +33,18 @@ pub enum CheckRefused {
     NoMemory,
 }
 
-/// Judges an input: the text of a board, a row `---` and a log of the board.
+/// Judges an input: the text of a board, a row `---` and a log of the board. Lines do the judging,
+/// and `maker` makes them.
 ///
 /// # Errors
 ///
 /// `Fault` with the first fault: the input has more than `LONGEST_INPUT` bytes; it has no row
 /// `---`; the first fault of the board's text. `NoMemory` if memory was refused.
-pub fn check_bytes(alloc: Global, bytes: &[u8]) -> Result<Answer, CheckRefused>
+pub fn check_bytes<M: MakesDomainLine>(
+    alloc: Global,
+    bytes: &[u8],
+    maker: &M,
+) -> Result<Answer, CheckRefused>
     ensures exact { Checks bytes.now result }
 {
     if bytes.len() > LONGEST_INPUT {
@@ -52,7 +58,7 @@ pub fn check_bytes(alloc: Global, bytes: &[u8]) -> Result<Answer, CheckRefused>
         Err(BoardRefused::Fault(fault)) => return Err(CheckRefused::Fault(fault)),
         Err(BoardRefused::NoMemory) => return Err(CheckRefused::NoMemory),
     };
-    match check_log(alloc, &board, log) {
+    match check_log(alloc, &board, log, maker) {
         Ok(answer) => Ok(answer),
         Err(NoMemory) => Err(CheckRefused::NoMemory),
     }
@@ -68,11 +74,16 @@ fn whole(kind: FaultKind) -> CheckRefused
 /// Judges the text of a log of the board. A log whose rows are all as they were due is gone over
 /// once. Any other is read whole first, and then judged from its histories. The only error is
 /// `NoMemory`.
-fn check_log(alloc: Global, board: &Board, log: &[u8]) -> Result<Answer, NoMemory>
+fn check_log<M: MakesDomainLine>(
+    alloc: Global,
+    board: &Board,
+    log: &[u8],
+    maker: &M,
+) -> Result<Answer, NoMemory>
     requires { length log.now ≤ 67108864 }
     ensures { IfOk result (λ answer. ChecksLog board.now log.now answer) }
 {
-    if is_lawful(alloc, board, log)? {
+    if is_lawful(alloc, board, log, maker)? {
         return Ok(Answer::Lawful);
     }
     let logs = match read_log(alloc, board, log) {
@@ -87,11 +98,17 @@ fn check_log(alloc: Global, board: &Board, log: &[u8]) -> Result<Answer, NoMemor
 }
 
 /// Whether each row of the log is as it was due. The only error is `NoMemory`.
-fn is_lawful(alloc: Global, board: &Board, log: &[u8]) -> Result<bool, NoMemory>
+fn is_lawful<M: MakesDomainLine>(
+    alloc: Global,
+    board: &Board,
+    log: &[u8],
+    maker: &M,
+) -> Result<bool, NoMemory>
     requires { length log.now ≤ 67108864 }
     ensures { IfOk result (λ due. due ≡ true → ChecksLog board.now log.now Answer.Lawful) }
 {
     board.is_board();
-    let (_, layout) = lay(alloc, board)?;
-    is_as_due::<Line<Cell>, MakesCellLine>(alloc, board, &layout, &MakesCellLine, log)
+    let (domains, layout) = lay(alloc, board)?;
+    let maker = OverDomains::of_board(maker, &domains, board);
+    is_as_due::<M::Line, OverDomains<'_, M>>(alloc, board, &layout, &maker, log)
 }

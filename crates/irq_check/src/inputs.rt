@@ -7,6 +7,7 @@ use crate::answers::Answer;
 use crate::checking::{CheckRefused, LONGEST_INPUT, check_bytes};
 use board_text::BoardFault;
 use irq_io::{ReadRefused, Source, read_up_to};
+use line_makers::MakesDomainLine;
 use std::alloc::Global;
 use thiserror::Error;
 
@@ -25,8 +26,13 @@ pub enum InputRefused {
     NoMemory,
 }
 
-/// Reads the source to its end, or one byte past the longest input, and judges what came.
-pub fn check_input<S: Source>(alloc: Global, src: &mut S) -> Result<Answer, InputRefused>
+/// Reads the source to its end, or one byte past the longest input, and judges what came, with
+/// lines of the maker.
+pub fn check_input<S: Source, M: MakesDomainLine>(
+    alloc: Global,
+    src: &mut S,
+    maker: &M,
+) -> Result<Answer, InputRefused>
     ensures content { ReadsInput (S.left src.old) (S.left src.new) result }
     ensures said { IfOk result (λ answer. IsSaid (S.left src.old) answer) }
     ensures cause { Counts (S.faults src.old) (S.faults src.new) (is_read_fault result) }
@@ -36,7 +42,7 @@ pub fn check_input<S: Source>(alloc: Global, src: &mut S) -> Result<Answer, Inpu
         Err(ReadRefused::Fault) => return Err(InputRefused::ReadFault),
         Err(ReadRefused::NoMemory) => return Err(InputRefused::NoMemory),
     };
-    match check_bytes(alloc, bytes.as_slice()) {
+    match check_bytes(alloc, bytes.as_slice(), maker) {
         Ok(answer) => Ok(answer),
         Err(CheckRefused::Fault(fault)) => Err(InputRefused::Fault(fault)),
         Err(CheckRefused::NoMemory) => Err(InputRefused::NoMemory),

@@ -10,6 +10,7 @@ use crate::answers::{Answer, answer_row};
 use crate::inputs::{InputRefused, check_input};
 use board_text::BoardFault;
 use irq_io::{FlushAnswer, Sink, Source, WriteEnd, write_all};
+use line_makers::MakesDomainLine;
 use std::alloc::Global;
 use text_row::TextRow;
 
@@ -28,8 +29,14 @@ pub enum CheckEnd {
     NoMemory,
 }
 
-/// Reads an input from `src`, judges it, and prints the judgement to `out`, in one row.
-pub fn check_and_print<S: Source, O: Sink>(alloc: Global, src: &mut S, out: &mut O) -> CheckEnd
+/// Reads an input from `src`, judges it, and prints the judgement to `out`, in one row. Lines do
+/// the judging, and `maker` makes them.
+pub fn check_and_print<S: Source, O: Sink, M: MakesDomainLine>(
+    alloc: Global,
+    src: &mut S,
+    out: &mut O,
+    maker: &M,
+) -> CheckEnd
     ensures reads { Reads (S.left src.old) (S.left src.new) result }
     ensures read_fault { Counts (S.faults src.old) (S.faults src.new) (is_read_fault_end result) }
     ensures says { SaysOrNot (S.left src.old) (O.written out.old) (O.written out.new) result }
@@ -37,7 +44,7 @@ pub fn check_and_print<S: Source, O: Sink>(alloc: Global, src: &mut S, out: &mut
     ensures write_fault { Counts (O.faults out.old) (O.faults out.new) (is_write_fault_end result) }
     ensures silent { is_printing result ≡ false → out.new ≡ out.old }
 {
-    match check_input(alloc, src) {
+    match check_input(alloc, src, maker) {
         Ok(answer) => match print_answer(out, answer) {
             WriteEnd::Done => CheckEnd::Answered(answer),
             WriteEnd::Failed => CheckEnd::WriteFault,

@@ -192,5 +192,8 @@ fn check<S: Source, O: Sink>(alloc: Global, src: &mut S, out: &mut O) -> Outcome
         (is_write_fault_end result.ending) }
     ensures silent { is_printing result.ending ≡ false → out.new ≡ out.old }
 {
-    Outcome::without_reports(alloc, Ending::from(check_and_print(alloc, src, out)))
+    Outcome::without_reports(
+        alloc,
+        Ending::from(check_and_print(alloc, src, out, &MakesChainLine)),
+    )
 }

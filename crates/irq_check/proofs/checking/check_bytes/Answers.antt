@@ -5,10 +5,10 @@ use Rattle.irq_check.proofs.WholeInput.{not_too_long}
 use Rattle.irq_check.proofs.checking.check_bytes.Goals as goal
 
 pub check_log-requires : goal.check_log-requires
-check_log-requires c = omega (arith, c.if-bytes-gt-LONGEST_INPUT.false, short_log c.args.bytes.now c.in-Some.text.now c.in-Some.log.now c.in-Some.ensures)
+check_log-requires g c = omega (arith, c.if-bytes-gt-LONGEST_INPUT.false, short_log c.args.bytes.now c.in-Some.text.now c.in-Some.log.now c.in-Some.ensures)
 
 pub returns-in-Ok-check_log : goal.returns-in-Ok-check_log
-returns-in-Ok-check_log c =
+returns-in-Ok-check_log g c =
     let log = c.in-Some.log.now in
     record {
       exact = record {
