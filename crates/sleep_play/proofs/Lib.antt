@@ -1,0 +1,3 @@
+mod StepRows
+mod Moved
+mod Finished
