@@ -13,6 +13,7 @@ ghost use Rattle.irq_command.specs.Arguments.{FormReadsNothing, IsForm, IsNoForm
 use callbacks::{ByKind, Callbacks};
 use irq_io::{Sink, Source};
 use irq_top::{Ending, Outcome, Wanted, end_early, irq_main};
+use line_makers::MakesDomainLine;
 use program_io::{ArgumentsRefused, lend, words_of};
 use std::alloc::Global;
 use std::env::Args;
@@ -22,17 +23,20 @@ use std::thread::Threads;
 use workers::NoGate;
 
 /// Does what the arguments say: reads `src`, prints to `out`, and says on `err` what went wrong.
-/// The handlers answer by their devices' kinds, and no gate holds a worker. Unless memory is
-/// refused, arguments that are no command's words end as a fault of usage; so do arguments that
-/// aren't all UTF-8.
-pub fn command<R: Threads + Wait + Sync, S: Source, O: Sink, E: Sink>(
+/// The handlers answer by their devices' kinds, no gate holds a worker, and the maker makes the
+/// lines. Unless memory is refused, arguments that are no command's words end as a fault of usage;
+/// so do arguments that aren't all UTF-8.
+pub fn command<R: Threads + Wait + Sync, S: Source, O: Sink, E: Sink, M: MakesDomainLine>(
     rt: &R,
     alloc: Global,
     args: io::Result<Args>,
     src: &mut S,
     out: &mut O,
     err: &mut E,
+    maker: &M,
 ) -> Outcome
+where
+    M::Line: Send + Sync,
     ensures form { (asked : Command) → IsForm args asked → result.ending ≡ Ending.Usage → ⊥ }
     ensures usage { IsNoForm args
         → (result.ending ≡ Ending.Usage) ⊎ (result.ending ≡ Ending.NoMemory Wanted.Making) }
@@ -56,7 +60,7 @@ pub fn command<R: Threads + Wait + Sync, S: Source, O: Sink, E: Sink>(
     ensures quiet { is_printed result.ending ≡ true → err.new ≡ err.old }
 {
     match words_of(alloc, args) {
-        Ok(words) => with_words(rt, alloc, words.as_slice(), src, out, err),
+        Ok(words) => with_words(rt, alloc, words.as_slice(), src, out, err, maker),
         Err(ArgumentsRefused::NotText) => end_early(alloc, Ending::Usage, err),
         Err(ArgumentsRefused::NoMemory) => {
             end_early(alloc, Ending::NoMemory(Wanted::Making), err)
@@ -65,14 +69,17 @@ pub fn command<R: Threads + Wait + Sync, S: Source, O: Sink, E: Sink>(
 }
 
 /// The top call over these words.
-fn with_words<R: Threads + Wait + Sync, S: Source, O: Sink, E: Sink>(
+fn with_words<R: Threads + Wait + Sync, S: Source, O: Sink, E: Sink, M: MakesDomainLine>(
     rt: &R,
     alloc: Global,
     words: &[String],
     src: &mut S,
     out: &mut O,
     err: &mut E,
+    maker: &M,
 ) -> Outcome
+where
+    M::Line: Send + Sync,
     ensures form { (asked : Command) → Asks (map string_bytes words.now) asked
         → result.ending ≡ Ending.Usage → ⊥ }
     ensures usage { AsksNothing (map string_bytes words.now)
@@ -103,6 +110,7 @@ fn with_words<R: Threads + Wait + Sync, S: Source, O: Sink, E: Sink>(
             err,
             &NoGate,
             &Callbacks::new(ByKind),
+            maker,
         ),
         Err(_) => end_early(alloc, Ending::NoMemory(Wanted::Making), err),
     }

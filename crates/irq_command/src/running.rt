@@ -14,6 +14,7 @@ use crate::commands::command;
 use irq_base::NoMemory;
 use irq_io::{StdSink, StdSource};
 use irq_top::{Ending, Outcome, Wanted, end_early};
+use line_makers::MakesDomainLine;
 use program_io::{with_buffer, without_buffer};
 use std::alloc::Global;
 use std::env::Args;
@@ -38,15 +39,24 @@ pub struct Ended<R: Read + Drop, O: Write + Drop, E: Write + Drop> {
 
 /// Runs the program over its arguments as they come, its input, its output and its error stream.
 /// The output gets a buffer. If the status is 0 or 1, nothing is kept back there, and the writer
-/// has all of the output.
-pub fn run<T: Threads + Wait + Sync, R: Read + Drop, O: Write + Drop, E: Write + Drop>(
+/// has all of the output. The maker makes the lines that are played and run.
+pub fn run<
+    T: Threads + Wait + Sync,
+    R: Read + Drop,
+    O: Write + Drop,
+    E: Write + Drop,
+    M: MakesDomainLine,
+>(
     rt: &T,
     alloc: Global,
     args: io::Result<Args>,
     input: R,
     output: O,
     error: E,
+    maker: &M,
 ) -> Ended<R, O, E>
+where
+    M::Line: Send + Sync,
     ensures status { result.status ≡ status_of result.outcome.ending }
     ensures buffer { result.output ≡ None → result.outcome.ending ≡ Ending.NoMemory Wanted.Making }
     ensures form { (asked : Command) → IsForm args asked
@@ -87,7 +97,7 @@ pub fn run<T: Threads + Wait + Sync, R: Read + Drop, O: Write + Drop, E: Write +
     let mut error = without_buffer(alloc, error);
     match with_buffer(alloc, output) {
         Ok(mut output) => {
-            let outcome = command(rt, alloc, args, &mut input, &mut output, &mut error);
+            let outcome = command(rt, alloc, args, &mut input, &mut output, &mut error, maker);
             Ended {
                 status: outcome.ending.status(),
                 outcome,

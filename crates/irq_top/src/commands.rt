@@ -10,7 +10,6 @@ use crate::ending::Ending;
 use crate::outcome::Outcome;
 use board_def::Board;
 use board_gen::generate;
-use board_lines::MakesChainLine;
 use callbacks::{Callbacks, Handler};
 use irq_base::NoMemory;
 use irq_check::check_and_print;
@@ -18,6 +17,7 @@ use irq_io::{Sink, Source};
 use irq_play::{Wanted, play_and_print};
 use irq_run::run_and_print;
 use irq_words::Command;
+use line_makers::MakesDomainLine;
 use program_io::read_input;
 use std::alloc::Global;
 use std::sync::Wait;
@@ -25,7 +25,14 @@ use std::thread::Threads;
 use workers::Gate;
 
 /// Does what is asked.
-pub(crate) fn act<R: Threads + Wait + Sync, S: Source, O: Sink, G: Gate + Sync, H: Handler + Sync>(
+pub(crate) fn act<
+    R: Threads + Wait + Sync,
+    S: Source,
+    O: Sink,
+    G: Gate + Sync,
+    H: Handler + Sync,
+    M: MakesDomainLine,
+>(
     rt: &R,
     alloc: Global,
     asked: Command,
@@ -33,7 +40,10 @@ pub(crate) fn act<R: Threads + Wait + Sync, S: Source, O: Sink, G: Gate + Sync, 
     out: &mut O,
     gate: &G,
     handlers: &Callbacks<H>,
+    maker: &M,
 ) -> Outcome
+where
+    M::Line: Send + Sync,
     ensures does { Does asked (S.left src.old) (S.left src.new) result.reports.reports
         (O.written out.old) (O.written out.new) result.ending }
     ensures unread { reads asked ≡ false → src.new ≡ src.old }
@@ -45,20 +55,21 @@ pub(crate) fn act<R: Threads + Wait + Sync, S: Source, O: Sink, G: Gate + Sync, 
     ensures silent { is_printing result.ending ≡ false → out.new ≡ out.old }
 {
     match asked {
-        Command::Run { summary } => run(rt, alloc, summary, src, out, gate, handlers),
-        Command::Play { summary } => play(alloc, summary, src, out, handlers),
+        Command::Run { summary } => run(rt, alloc, summary, src, out, gate, handlers, maker),
+        Command::Play { summary } => play(alloc, summary, src, out, handlers, maker),
         Command::Check => check(alloc, src, out),
-        Command::Gen { n } => play_generated(alloc, n, out, handlers),
+        Command::Gen { n } => play_generated(alloc, n, out, handlers, maker),
     }
 }
 
 /// `play`: reads a board, plays it, and prints its log, or a summary.
-fn play<S: Source, O: Sink, H: Handler>(
+fn play<S: Source, O: Sink, H: Handler, M: MakesDomainLine>(
     alloc: Global,
     summary: bool,
     src: &mut S,
     out: &mut O,
     handlers: &Callbacks<H>,
+    maker: &M,
 ) -> Outcome
     ensures plays { TakesBoard (PlaysAs summary) (S.left src.old) (S.left src.new)
         result.reports.reports (O.written out.old) (O.written out.new) result.ending }
@@ -72,14 +83,21 @@ fn play<S: Source, O: Sink, H: Handler>(
     match read_input(alloc, src) {
         Ok(board) => {
             board.is_board();
-            play_board(alloc, &board, summary, out, handlers)
+            play_board(alloc, &board, summary, out, handlers, maker)
         }
         Err(refused) => Outcome::without_reports(alloc, Ending::from(refused)),
     }
 }
 
 /// `run`: reads a board, runs it by threads, and prints its log line by line, or a summary.
-fn run<R: Threads + Wait + Sync, S: Source, O: Sink, G: Gate + Sync, H: Handler + Sync>(
+fn run<
+    R: Threads + Wait + Sync,
+    S: Source,
+    O: Sink,
+    G: Gate + Sync,
+    H: Handler + Sync,
+    M: MakesDomainLine,
+>(
     rt: &R,
     alloc: Global,
     summary: bool,
@@ -87,7 +105,10 @@ fn run<R: Threads + Wait + Sync, S: Source, O: Sink, G: Gate + Sync, H: Handler 
     out: &mut O,
     gate: &G,
     handlers: &Callbacks<H>,
+    maker: &M,
 ) -> Outcome
+where
+    M::Line: Send + Sync,
     ensures runs { TakesBoard (RunsAs summary) (S.left src.old) (S.left src.new)
         result.reports.reports (O.written out.old) (O.written out.new) result.ending }
     ensures read_fault { Counts (S.faults src.old) (S.faults src.new)
@@ -100,14 +121,20 @@ fn run<R: Threads + Wait + Sync, S: Source, O: Sink, G: Gate + Sync, H: Handler 
     match read_input(alloc, src) {
         Ok(board) => {
             board.is_board();
-            run_board(rt, alloc, &board, summary, out, gate, handlers)
+            run_board(rt, alloc, &board, summary, out, gate, handlers, maker)
         }
         Err(refused) => Outcome::without_reports(alloc, Ending::from(refused)),
     }
 }
 
 /// Runs the board by threads, and prints its log line by line, or a summary.
-fn run_board<R: Threads + Wait + Sync, O: Sink, G: Gate + Sync, H: Handler + Sync>(
+fn run_board<
+    R: Threads + Wait + Sync,
+    O: Sink,
+    G: Gate + Sync,
+    H: Handler + Sync,
+    M: MakesDomainLine,
+>(
     rt: &R,
     alloc: Global,
     board: &Board,
@@ -115,7 +142,10 @@ fn run_board<R: Threads + Wait + Sync, O: Sink, G: Gate + Sync, H: Handler + Syn
     out: &mut O,
     gate: &G,
     handlers: &Callbacks<H>,
+    maker: &M,
 ) -> Outcome
+where
+    M::Line: Send + Sync,
     ensures runs { RunsAs summary board.now result.reports.reports (O.written out.old)
         (O.written out.new) result.ending }
     ensures emptied { is_printed result.ending ≡ true → O.kept out.new ≡ [] }
@@ -123,16 +153,7 @@ fn run_board<R: Threads + Wait + Sync, O: Sink, G: Gate + Sync, H: Handler + Syn
         (is_write_fault_end result.ending) }
     ensures silent { is_printing result.ending ≡ false → out.new ≡ out.old }
 {
-    let ran = run_and_print(
-        rt,
-        alloc,
-        board,
-        summary,
-        &MakesChainLine,
-        gate,
-        handlers,
-        out,
-    );
+    let ran = run_and_print(rt, alloc, board, summary, maker, gate, handlers, out);
     Outcome {
         ending: Ending::from(ran.end),
         reports: ran.reports,
@@ -140,11 +161,12 @@ fn run_board<R: Threads + Wait + Sync, O: Sink, G: Gate + Sync, H: Handler + Syn
 }
 
 /// `gen N`: makes the board that the number generates, plays it, and prints its summary.
-fn play_generated<O: Sink, H: Handler>(
+fn play_generated<O: Sink, H: Handler, M: MakesDomainLine>(
     alloc: Global,
     n: u32,
     out: &mut O,
     handlers: &Callbacks<H>,
+    maker: &M,
 ) -> Outcome
     ensures generates { PlaysAs true (generated n) result.reports.reports (O.written out.old)
         (O.written out.new) result.ending }
@@ -154,18 +176,19 @@ fn play_generated<O: Sink, H: Handler>(
     ensures silent { is_printing result.ending ≡ false → out.new ≡ out.old }
 {
     match generate(alloc, n) {
-        Ok(board) => play_board(alloc, &board, true, out, handlers),
+        Ok(board) => play_board(alloc, &board, true, out, handlers, maker),
         Err(NoMemory) => Outcome::without_reports(alloc, Ending::NoMemory(Wanted::Making)),
     }
 }
 
 /// Plays the board, and prints its log, or a summary.
-fn play_board<O: Sink, H: Handler>(
+fn play_board<O: Sink, H: Handler, M: MakesDomainLine>(
     alloc: Global,
     board: &Board,
     summary: bool,
     out: &mut O,
     handlers: &Callbacks<H>,
+    maker: &M,
 ) -> Outcome
     ensures plays { PlaysAs summary board.now result.reports.reports (O.written out.old)
         (O.written out.new) result.ending }
@@ -174,7 +197,7 @@ fn play_board<O: Sink, H: Handler>(
         (is_write_fault_end result.ending) }
     ensures silent { is_printing result.ending ≡ false → out.new ≡ out.old }
 {
-    let played = play_and_print(alloc, board, summary, &MakesChainLine, handlers, out);
+    let played = play_and_print(alloc, board, summary, maker, handlers, out);
     Outcome {
         ending: Ending::from(played.end),
         reports: played.reports,

@@ -15,6 +15,7 @@ use crate::outcome::Outcome;
 use callbacks::{Callbacks, Handler};
 use irq_io::{Sink, Source};
 use irq_words::read_command;
+use line_makers::MakesDomainLine;
 use program_io::tell_row;
 use std::alloc::Global;
 use std::sync::Wait;
@@ -28,8 +29,8 @@ use workers::Gate;
 /// reads a board and a log of it, and prints the judgement of the log; `gen N` makes a board, plays
 /// it, and prints its summary. `run` alone waits, and passes the gate before each turn of a worker:
 /// the other commands are done by functions that don't wait, and so return. Other words are refused
-/// before anything is read. What went wrong is told on `err`, in one row; a fault of `err` itself
-/// changes nothing.
+/// before anything is read. The maker makes the lines that are played and run. What went wrong is
+/// told on `err`, in one row; a fault of `err` itself changes nothing.
 pub fn irq_main<
     R: Threads + Wait + Sync,
     S: Source,
@@ -37,6 +38,7 @@ pub fn irq_main<
     E: Sink,
     G: Gate + Sync,
     H: Handler + Sync,
+    M: MakesDomainLine,
 >(
     rt: &R,
     alloc: Global,
@@ -46,7 +48,10 @@ pub fn irq_main<
     err: &mut E,
     gate: &G,
     handlers: &Callbacks<H>,
+    maker: &M,
 ) -> Outcome
+where
+    M::Line: Send + Sync,
     ensures usage { (result.ending ≡ Ending.Usage) ↔ AsksNothing (map (λ w. w.now) words.now) }
     ensures unasked { result.ending ≡ Ending.Usage → result.reports.reports ≡ [] }
     ensures unread { ReadsNothing (map (λ w. w.now) words.now) → src.new ≡ src.old }
@@ -66,7 +71,7 @@ pub fn irq_main<
         (E.kept err.new) (E.faults err.old) (E.faults err.new) }
     ensures quiet { is_printed result.ending ≡ true → err.new ≡ err.old }
 {
-    let outcome = work(rt, alloc, words, src, out, gate, handlers);
+    let outcome = work(rt, alloc, words, src, out, gate, handlers, maker);
     if !is_printed(outcome.ending) {
         tell(err, outcome.ending);
     }
@@ -74,7 +79,14 @@ pub fn irq_main<
 }
 
 /// All but the row on the error sink.
-fn work<R: Threads + Wait + Sync, S: Source, O: Sink, G: Gate + Sync, H: Handler + Sync>(
+fn work<
+    R: Threads + Wait + Sync,
+    S: Source,
+    O: Sink,
+    G: Gate + Sync,
+    H: Handler + Sync,
+    M: MakesDomainLine,
+>(
     rt: &R,
     alloc: Global,
     words: &[&str],
@@ -82,7 +94,10 @@ fn work<R: Threads + Wait + Sync, S: Source, O: Sink, G: Gate + Sync, H: Handler
     out: &mut O,
     gate: &G,
     handlers: &Callbacks<H>,
+    maker: &M,
 ) -> Outcome
+where
+    M::Line: Send + Sync,
     ensures usage { (result.ending ≡ Ending.Usage) ↔ AsksNothing (map (λ w. w.now) words.now) }
     ensures unasked { result.ending ≡ Ending.Usage → result.reports.reports ≡ [] }
     ensures unread { ReadsNothing (map (λ w. w.now) words.now) → src.new ≡ src.old }
@@ -97,7 +112,7 @@ fn work<R: Threads + Wait + Sync, S: Source, O: Sink, G: Gate + Sync, H: Handler
     ensures silent { is_printing result.ending ≡ false → out.new ≡ out.old }
 {
     match read_command(words) {
-        Some(asked) => act(rt, alloc, asked, src, out, gate, handlers),
+        Some(asked) => act(rt, alloc, asked, src, out, gate, handlers, maker),
         None => Outcome::without_reports(alloc, Ending::Usage),
     }
 }

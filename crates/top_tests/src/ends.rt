@@ -1,5 +1,6 @@
 //! The top call over a source and sinks in memory, one of whose calls fails. The rows are written
 //! by hand.
+use board_lines::MakesChainLine;
 use callbacks::{ByKind, Callbacks};
 use irq_base::{NoMemory, Reports};
 use irq_io::{MemSink, MemSource};
@@ -94,6 +95,7 @@ fn comes_to<R: Threads + Wait + Sync>(
         &mut err,
         &NoGate,
         &handlers,
+        &MakesChainLine,
     );
     let ended = outcome.ending.status() == wanted.status
         && entries_of(&outcome.reports) == wanted.entries;

@@ -1,4 +1,5 @@
 //! The body of `main` over readers and writers of std, and arguments that can't be read.
+use board_lines::MakesChainLine;
 use irq_command::{Ended, command, run};
 use irq_io::{MemSink, MemSource};
 use std::alloc::Global;
@@ -36,7 +37,8 @@ fn arguments_that_are_not_read(rt: HostRuntime) -> Result<(), Fail> {
         let mut src = MemSource::new(alloc, BOARD.as_bytes(), 100, &[])?;
         let (mut out, mut err) = (MemSink::new(alloc, &[], 9)?, MemSink::new(alloc, &[], 100)?);
         let args = Err(Error::from(kind));
-        let outcome = command(&rt, alloc, args, &mut src, &mut out, &mut err);
+        let maker = MakesChainLine;
+        let outcome = command(&rt, alloc, args, &mut src, &mut out, &mut err, &maker);
         assert_eq!(rt; outcome.ending.status(), status);
         assert!(rt; out.written().is_empty() && err.written() == row.as_bytes());
     }
@@ -76,7 +78,7 @@ fn play<T: Threads + Wait + Sync, R: Read + Drop, O: Write + Drop, E: Write + Dr
         args.push(String::from_str(alloc, word)?)?;
     }
     let args: Args = args.into_iter();
-    Ok(run(rt, alloc, Ok(args), input, output, error))
+    Ok(run(rt, alloc, Ok(args), input, output, error, &MakesChainLine))
 }
 
 #[test]

@@ -1,6 +1,7 @@
 //! Boards that are run by threads, under a gate and handlers that hold them, and the reports of a
 //! run whose log is full.
 use crate::meeting::{Meeting, Meets};
+use board_lines::MakesChainLine;
 use callbacks::{ByKind, Callbacks, Handler};
 use irq_base::{
     Actor, Answer, CpuNo, DevNo, DriverNo, Entry, Flags, LineNo, LinkAnswer, NoMemory, Note,
@@ -104,6 +105,7 @@ fn run<R: Threads + Wait + Sync, G: Gate + Sync, H: Handler + Sync>(
         &mut err,
         gate,
         handlers,
+        &MakesChainLine,
     ))
 }
 
