@@ -1,5 +1,5 @@
 -- Arguments that are text, and what their words ask for.
-use Rattle.std.proofs.Common.{◌≡◌, ℕ, Result, Ok, Err, List, subst}
+use Rattle.std.proofs.Common.{ℕ, Ok, Err, List, subst}
 use Rattle.irq_words.specs.Words.{Asks, AsksNothing}
 use Rattle.irq_words.specs.declared.Command.{Command}
 use Rattle.program_io.specs.Arguments.{Arguments, AreText}

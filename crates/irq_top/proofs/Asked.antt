@@ -1,5 +1,5 @@
 -- What was done is what every command does that the words ask for.
-use Rattle.std.proofs.Common.{◌≡◌, ℕ, Bool, true, false, Option, List, subst, sym, ap, ◌∙◌}
+use Rattle.std.proofs.Common.{◌≡◌, ℕ, Option, List, subst}
 use Rattle.irq_base.specs.declared.reporting.LineReport.{LineReport}
 use Rattle.irq_words.specs.Words.{Asks}
 use Rattle.irq_words.specs.declared.Command.{Command}
@@ -7,7 +7,7 @@ use Rattle.irq_words.specs.declared.Command.TheVariants as commands
 use Rattle.irq_words.proofs.OneCommand.{one_command}
 use Rattle.irq_top.specs.declared.ending.Ending.{Ending}
 use Rattle.irq_top.specs.declared.ending.Ending.TheVariants as endings
-use Rattle.irq_top.specs.Commands.{Does, ReadsNothing, reads}
+use Rattle.irq_top.specs.Commands.{Does}
 
 module _ (told left : Option (List ℕ)) (reports : List LineReport) (before now : Option (List ℕ)) where
   pub of_asked : (ending : Ending) (words : List (List ℕ)) (done : Command) → Asks words done
@@ -22,6 +22,7 @@ module _ (told left : Option (List ℕ)) (reports : List LineReport) (before now
   not_usage (commands.Play summary) does = does.done
   not_usage commands.Check does = does
   not_usage (commands.Gen n) does = does
+  not_usage commands.Chained does = does.done
 
   -- what is asked for doesn't end as a fault of usage
   pub is_asked : (ending : Ending) (done : Command) → Does done told left reports before now ending → ending ≡ endings.Usage → ⊥

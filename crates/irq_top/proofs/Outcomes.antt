@@ -1,12 +1,12 @@
 -- What a command does that takes a board.
-use Rattle.std.proofs.Common.{◌≡◌, ◌⊎◌, ℕ, Bool, true, false, inr, Option, Some, None, Ok, List, [], refl}
+use Rattle.std.proofs.Common.{◌≡◌, ℕ, Bool, false, inr, Option, Some, None, Ok, List, [], refl}
 use Rattle.irq_base.specs.declared.reporting.LineReport.{LineReport}
 use Rattle.board_def.specs.Rules.{IsBoard}
 use Rattle.board_def.specs.Seen.{BoardSeen}
 use Rattle.irq_play.specs.declared.ending.Wanted.TheVariants as wants
 use Rattle.irq_top.specs.declared.ending.Ending.{Ending}
 use Rattle.irq_top.specs.declared.ending.Ending.TheVariants as endings
-use Rattle.irq_top.specs.Commands.{IsReadToEnd, PlaysAs, RunsAs, TakesBoard, TakesInput}
+use Rattle.irq_top.specs.Commands.{ChainsAs, IsReadToEnd, PlaysAs, RunsAs, TakesBoard}
 use Rattle.irq_top.specs.Ending.{is_read_fault_end}
 use Rattle.program_io.specs.Reading.{IsStated, ReadsBoard}
 
@@ -69,6 +69,12 @@ plays_are_sane summary = record {
 
 pub runs_are_sane : (summary : Bool) → IsSane (RunsAs summary)
 runs_are_sane summary = record {
+  no_read_fault = λ b reports before now none. none;
+  unmade = λ b reports before now unmade. unmade;
+}
+
+pub chains_are_sane : IsSane ChainsAs
+chains_are_sane = record {
   no_read_fault = λ b reports before now none. none;
   unmade = λ b reports before now unmade. unmade;
 }

@@ -6,11 +6,18 @@ use Rattle.irq_base.specs.declared.reporting.LineReport.{LineReport}
 use Rattle.board_def.specs.Rules.{IsBoard}
 use Rattle.board_def.specs.Seen.{BoardSeen}
 use Rattle.board_gen.specs.Generated.{generated}
+use Rattle.board_stated.specs.TextOf.{whole}
+use Rattle.board_words.specs.declared.faults.BoardFault.{BoardFault}
+use Rattle.board_words.specs.declared.faults.FaultKind.{FaultKind}
+use Rattle.board_words.specs.declared.faults.FaultKind.TheVariants as faults
+use Rattle.chained_play.specs.Played.{ChainsBoard}
+use Rattle.irq_chained.specs.Fits.{is_for_chain}
 use Rattle.irq_check.specs.Ends.{Reads, SaysOrNot}
 use Rattle.irq_check.specs.declared.answers.Answer.TheVariants as answers
 use Rattle.irq_check.specs.declared.printing.CheckEnd.{CheckEnd}
 use Rattle.irq_check.specs.declared.printing.CheckEnd.TheVariants as checks
 use Rattle.irq_play.specs.Played.{PlaysBoard}
+use Rattle.irq_play.specs.declared.ending.PlayedEnd.{PlayedEnd}
 use Rattle.irq_play.specs.declared.ending.PlayedEnd.TheVariants as plays
 use Rattle.irq_play.specs.declared.ending.Wanted.TheVariants as wants
 use Rattle.irq_run.specs.Ran.{RunsBoard}
@@ -60,19 +67,46 @@ module _ (OnBoard : BoardSeen → List LineReport → Option (List ℕ) → Opti
   TakesBoard told left reports before now (endings.NoMemory wants.Making) = reports ≡ []
   TakesBoard told left reports before now ending = TakesInput told left reports before now ending
 
--- a board was played. If all is printed, or after a fault of the output, the headline holds; else
--- it was played until a log was full, or until a step was refused memory
+-- a board was played. If all is printed, or after a fault of the output, the play's headline holds;
+-- else it was played until a log was full, or until a step was refused memory
+module _ (Plays : BoardSeen → List LineReport → Option (List ℕ) → Option (List ℕ) → PlayedEnd
+    → Type 0) where
+  abbrev pub EndsAs : BoardSeen → List LineReport → Option (List ℕ) → Option (List ℕ) → Ending
+      → Type 0
+  EndsAs b reports before now endings.Done = Plays b reports before now plays.Done
+  EndsAs b reports before now endings.WriteFault = Plays b reports before now plays.WriteFault
+  EndsAs b reports before now (endings.LogFull line len) =
+      Plays b reports before now (plays.LogFull line len)
+  EndsAs b reports before now (endings.NoMemory wanted) =
+      Plays b reports before now (plays.NoMemory wanted)
+  EndsAs b reports before now _ = ⊥
+
+-- the board isn't for what is asked: this fault of the whole text says so, and nothing is handed out
+pub record IsRefused (isnt_for : Type 0) (kind : FaultKind) (reports : List LineReport)
+    (fault : BoardFault) : Type 0 where
+  pub because : isnt_for
+  pub fault_is : fault ≡ whole kind
+  pub reports_are : reports ≡ []
+
+-- a board was played, if it is for that; else it is refused
+module _ (IsntFor : BoardSeen → Type 0) (kind : FaultKind)
+    (Plays : BoardSeen → List LineReport → Option (List ℕ) → Option (List ℕ) → PlayedEnd
+    → Type 0) where
+  abbrev pub EndsIfFit : BoardSeen → List LineReport → Option (List ℕ) → Option (List ℕ) → Ending
+      → Type 0
+  EndsIfFit b reports before now (endings.Board fault) =
+      IsRefused (IsntFor b) kind reports fault
+  EndsIfFit b reports before now ending = EndsAs Plays b reports before now ending
+
+-- a board was played by the stated order
 abbrev pub PlaysAs : Bool → BoardSeen → List LineReport → Option (List ℕ) → Option (List ℕ) → Ending
     → Type 0
-PlaysAs summary b reports before now endings.Done =
-    PlaysBoard b summary reports before now plays.Done
-PlaysAs summary b reports before now endings.WriteFault =
-    PlaysBoard b summary reports before now plays.WriteFault
-PlaysAs summary b reports before now (endings.LogFull line len) =
-    PlaysBoard b summary reports before now (plays.LogFull line len)
-PlaysAs summary b reports before now (endings.NoMemory wanted) =
-    PlaysBoard b summary reports before now (plays.NoMemory wanted)
-PlaysAs summary b reports before now _ = ⊥
+PlaysAs summary = EndsAs (λ b. PlaysBoard b summary)
+
+-- a board was played behind one demultiplexer; exactly a board that isn't for a chain is refused
+abbrev pub ChainsAs : BoardSeen → List LineReport → Option (List ℕ) → Option (List ℕ) → Ending
+    → Type 0
+ChainsAs = EndsIfFit (λ b. is_for_chain b ≡ false) faults.NotForChain ChainsBoard
 
 -- a board was run by threads. If all is printed, or after a fault of the output, the headline of a
 -- run holds; else it was run until a log was full
@@ -112,8 +146,9 @@ Checks told left reports before now endings.ReadFault =
 Checks told left reports before now (endings.NoMemory wants.Making) = reports ≡ []
 Checks told left reports before now _ = ⊥
 
--- what each command does. `run` and `play` take a board, and run or play it; `check` judges a log;
--- `gen N` plays the board that the number generates, and prints its summary
+-- what each command does. `run`, `play` and `chained` take a board, and run it, play it, or play it
+-- behind one demultiplexer; `check` judges a log; `gen N` plays the board that the number generates,
+-- and prints its summary
 abbrev pub Does : Command → Option (List ℕ) → Option (List ℕ) → List LineReport → Option (List ℕ)
     → Option (List ℕ) → Ending → Type 0
 Does (commands.Run summary) told left reports before now ending =
@@ -123,11 +158,16 @@ Does (commands.Play summary) told left reports before now ending =
 Does commands.Check told left reports before now ending = Checks told left reports before now ending
 Does (commands.Gen n) told left reports before now ending =
     PlaysAs true (generated n) reports before now ending
+Does commands.Chained told left reports before now ending =
+    TakesBoard ChainsAs told left reports before now ending
 
 -- whether the command reads the source
 abbrev pub reads : Command → Bool
+reads (commands.Run summary) = true
+reads (commands.Play summary) = true
+reads commands.Check = true
 reads (commands.Gen n) = false
-reads _ = true
+reads commands.Chained = true
 
 -- no command that these words ask for reads the source: they ask for none, or for one that doesn't
 abbrev pub ReadsNothing : List (List ℕ) → Type 0

@@ -30,7 +30,7 @@ error_text endings.Done = []
 error_text (endings.Unlawful line entry) = []
 error_text (endings.Malformed row) = []
 error_text endings.Usage =
-    codes "usage: genirq run [--summary] | play [--summary] | check | gen N\n"
+    codes "usage: genirq run [--summary] | play [--summary] | check | gen N | chained\n"
 error_text (endings.Board fault) = fault_row fault
 error_text endings.ReadFault = codes "read fault\n"
 error_text endings.WriteFault = codes "write fault\n"

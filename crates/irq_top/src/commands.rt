@@ -7,6 +7,7 @@ ghost use Rattle.irq_top.specs.Ending.{is_printed, is_printing, is_read_fault_en
 ghost use Rattle.irq_top.specs.Ending.{is_write_fault_end};
 
 use crate::ending::Ending;
+use crate::fitting::chained;
 use crate::outcome::Outcome;
 use board_def::Board;
 use board_gen::generate;
@@ -57,8 +58,9 @@ where
     match asked {
         Command::Run { summary } => run(rt, alloc, summary, src, out, gate, handlers, maker),
         Command::Play { summary } => play(alloc, summary, src, out, handlers, maker),
-        Command::Check => check(alloc, src, out),
+        Command::Check => check(alloc, src, out, maker),
         Command::Gen { n } => play_generated(alloc, n, out, handlers, maker),
+        Command::Chained => chained(alloc, src, out, handlers, maker),
     }
 }
 
@@ -197,15 +199,16 @@ fn play_board<O: Sink, H: Handler, M: MakesDomainLine>(
         (is_write_fault_end result.ending) }
     ensures silent { is_printing result.ending ≡ false → out.new ≡ out.old }
 {
-    let played = play_and_print(alloc, board, summary, maker, handlers, out);
-    Outcome {
-        ending: Ending::from(played.end),
-        reports: played.reports,
-    }
+    Outcome::of_play(play_and_print(alloc, board, summary, maker, handlers, out))
 }
 
 /// `check`: reads a board and a log of it, judges the log, and prints the judgement.
-fn check<S: Source, O: Sink>(alloc: Global, src: &mut S, out: &mut O) -> Outcome
+fn check<S: Source, O: Sink, M: MakesDomainLine>(
+    alloc: Global,
+    src: &mut S,
+    out: &mut O,
+    maker: &M,
+) -> Outcome
     ensures checks { Checks (S.left src.old) (S.left src.new) result.reports.reports
         (O.written out.old) (O.written out.new) result.ending }
     ensures read_fault { Counts (S.faults src.old) (S.faults src.new)
@@ -215,8 +218,6 @@ fn check<S: Source, O: Sink>(alloc: Global, src: &mut S, out: &mut O) -> Outcome
         (is_write_fault_end result.ending) }
     ensures silent { is_printing result.ending ≡ false → out.new ≡ out.old }
 {
-    Outcome::without_reports(
-        alloc,
-        Ending::from(check_and_print(alloc, src, out, &MakesChainLine)),
-    )
+    let end = check_and_print(alloc, src, out, maker);
+    Outcome::without_reports(alloc, Ending::from(end))
 }

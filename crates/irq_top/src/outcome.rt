@@ -1,8 +1,12 @@
 //! What the top call hands out.
 ghost use Rattle.std.specs.Prelude.{◌≡◌, []};
+ghost use Rattle.board_stated.specs.TextOf.{whole};
+ghost use Rattle.irq_top.specs.Ending.{ending_of_play};
 
 use crate::ending::Ending;
+use board_words::{BoardFault, FaultKind};
 use irq_base::Reports;
+use irq_play::PlayedBoard;
 use std::alloc::Global;
 
 /// What the top call hands out: how it ended, and the histories that were taken out of the lines.
@@ -26,5 +30,24 @@ impl Outcome {
             ending,
             reports: Reports::new(alloc),
         }
+    }
+
+    /// What a play hands out.
+    pub(crate) fn of_play(played: PlayedBoard) -> Outcome
+        ensures ending { result.ending ≡ ending_of_play played.end }
+        ensures reports { result.reports ≡ played.reports }
+    {
+        Outcome {
+            ending: Ending::from(played.end),
+            reports: played.reports,
+        }
+    }
+
+    /// An ending at which the board isn't for what is asked: the fault is the whole text's.
+    pub(crate) fn refused(alloc: Global, kind: FaultKind) -> Outcome
+        ensures ending { result.ending ≡ Ending.Board (whole kind) }
+        ensures reports { result.reports.reports ≡ [] }
+    {
+        Outcome::without_reports(alloc, Ending::Board(BoardFault { at: 0, kind }))
     }
 }

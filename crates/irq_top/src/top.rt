@@ -25,12 +25,13 @@ use workers::Gate;
 
 /// Does what the words ask for: `run` reads a board from `src`, runs it by threads with the
 /// handlers, and prints its log to `out`, line by line, or with `--summary` one row for each line;
-/// `play` plays it by the stated order, and prints its log as it was played, or a summary; `check`
+/// `play` plays it by the stated order, and prints its log as it was played, or a summary;
+/// `chained` plays it behind one demultiplexer, and prints the log with enters and exits; `check`
 /// reads a board and a log of it, and prints the judgement of the log; `gen N` makes a board, plays
 /// it, and prints its summary. `run` alone waits, and passes the gate before each turn of a worker:
 /// the other commands are done by functions that don't wait, and so return. Other words are refused
-/// before anything is read. The maker makes the lines that are played and run. What went wrong is
-/// told on `err`, in one row; a fault of `err` itself changes nothing.
+/// before anything is read. The maker makes the lines that are played, run and checked. What went
+/// wrong is told on `err`, in one row; a fault of `err` itself changes nothing.
 pub fn irq_main<
     R: Threads + Wait + Sync,
     S: Source,

@@ -25,7 +25,8 @@ by_first first rest =
     cond (bytes_eq first (codes "run")) (commands.Run (is_some rest))
     (cond (bytes_eq first (codes "play")) (commands.Play (is_some rest))
     (cond (bytes_eq first (codes "check")) commands.Check
-    (commands.Gen (value_of (get_or rest 0 [])))))
+    (cond (bytes_eq first (codes "chained")) commands.Chained
+    (commands.Gen (value_of (get_or rest 0 []))))))
 
 -- the command that words have, if they are a command's
 abbrev read : List (List ℕ) → Command
@@ -38,6 +39,7 @@ read_back (commands.Run true) h = refl
 read_back (commands.Play false) h = refl
 read_back (commands.Play true) h = refl
 read_back commands.Check h = refl
+read_back commands.Chained h = refl
 read_back (commands.Gen n) h = ap commands.Gen (digits_value-decimal own n (omega (arith, h)))
 
 pub one_command : (words : List (List ℕ)) (one other : Command) → Asks words one → Asks words other → one ≡ other

@@ -11,6 +11,7 @@ words_of (commands.Play false) = codes "play" ∷ []
 words_of (commands.Play true) = codes "play" ∷ codes "--summary" ∷ []
 words_of commands.Check = codes "check" ∷ []
 words_of (commands.Gen n) = codes "gen" ∷ decimal n ∷ []
+words_of commands.Chained = codes "chained" ∷ []
 
 -- the command's number, if it has one, takes 32 bits
 abbrev pub IsInRange : Command → Type 0

@@ -21,6 +21,8 @@ pub enum Command {
     Check,
     /// Make the board that the number generates, play it, and print the summary. Nothing is read.
     Gen { n: u32 },
+    /// Read a board and play it behind one demultiplexer.
+    Chained,
 }
 
 /// The command with these words, which follow the program's name; none if no command has them.
@@ -43,6 +45,7 @@ fn read_word(word: &str) -> Option<Command>
         "run" => Some(Command::Run { summary: false }),
         "play" => Some(Command::Play { summary: false }),
         "check" => Some(Command::Check),
+        "chained" => Some(Command::Chained),
         _ => None,
     }
 }

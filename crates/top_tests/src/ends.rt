@@ -84,7 +84,7 @@ fn comes_to<R: Threads + Wait + Sync>(
 ) -> Result<bool, NoMemory> {
     let mut src = MemSource::new(alloc, text, ends.piece.max(1), &[ends.read])?;
     let mut out = MemSink::with_failing_flushes(alloc, &[ends.write], &[ends.flush], ends.room)?;
-    let mut err = MemSink::new(alloc, &[ends.error], 100)?;
+    let mut err = MemSink::new(alloc, &[ends.error], 120)?;
     let handlers = Callbacks::new(ByKind);
     let outcome = irq_main(
         rt,

@@ -21,7 +21,7 @@ const LOG: &str = "# irq 1 virq 1 intc:2
 1 d1 request 1 - linked started no
 ";
 
-const USAGE: &str = "usage: genirq run [--summary] | play [--summary] | check | gen N\n";
+const USAGE: &str = "usage: genirq run [--summary] | play [--summary] | check | gen N | chained\n";
 
 /// An argument that isn't UTF-8, and arguments that there is no memory for: the status, and the row
 /// that is told.
@@ -35,7 +35,7 @@ fn arguments_that_are_not_read(rt: HostRuntime) -> Result<(), Fail> {
     let alloc = rt.alloc();
     for (kind, status, row) in UNREAD {
         let mut src = MemSource::new(alloc, BOARD.as_bytes(), 100, &[])?;
-        let (mut out, mut err) = (MemSink::new(alloc, &[], 9)?, MemSink::new(alloc, &[], 100)?);
+        let (mut out, mut err) = (MemSink::new(alloc, &[], 9)?, MemSink::new(alloc, &[], 120)?);
         let args = Err(Error::from(kind));
         let maker = MakesChainLine;
         let outcome = command(&rt, alloc, args, &mut src, &mut out, &mut err, &maker);

@@ -1,4 +1,3 @@
-use Rattle.std.proofs.Common.{ℕ, refl}
 use Rattle.irq_top.proofs.Asked.{is_asked, of_asked}
 use Rattle.irq_top.proofs.top.work.Goals as goal
 

@@ -1,0 +1,64 @@
+//! The commands that not every board is for.
+ghost use Rattle.std.specs.Prelude.{◌≡◌, [], false, true};
+ghost use Rattle.irq_io.specs.Faults.{Counts};
+ghost use Rattle.irq_top.specs.Commands.{ChainsAs, TakesBoard};
+ghost use Rattle.irq_top.specs.Ending.{is_printed, is_printing, is_read_fault_end};
+ghost use Rattle.irq_top.specs.Ending.{is_write_fault_end};
+
+use crate::ending::Ending;
+use crate::outcome::Outcome;
+use board_def::Board;
+use board_words::FaultKind;
+use callbacks::{Callbacks, Handler};
+use chained_play::{NotForChain, chained_and_print};
+use irq_io::{Sink, Source};
+use line_makers::MakesDomainLine;
+use program_io::read_input;
+use std::alloc::Global;
+
+/// `chained`: reads a board, plays it behind one demultiplexer, and prints its log.
+pub(crate) fn chained<S: Source, O: Sink, H: Handler, M: MakesDomainLine>(
+    alloc: Global,
+    src: &mut S,
+    out: &mut O,
+    handlers: &Callbacks<H>,
+    maker: &M,
+) -> Outcome
+    ensures chains { TakesBoard ChainsAs (S.left src.old) (S.left src.new)
+        result.reports.reports (O.written out.old) (O.written out.new) result.ending }
+    ensures read_fault { Counts (S.faults src.old) (S.faults src.new)
+        (is_read_fault_end result.ending) }
+    ensures emptied { is_printed result.ending ≡ true → O.kept out.new ≡ [] }
+    ensures write_fault { Counts (O.faults out.old) (O.faults out.new)
+        (is_write_fault_end result.ending) }
+    ensures silent { is_printing result.ending ≡ false → out.new ≡ out.old }
+{
+    match read_input(alloc, src) {
+        Ok(board) => {
+            board.is_board();
+            chain_board(alloc, &board, out, handlers, maker)
+        }
+        Err(refused) => Outcome::without_reports(alloc, Ending::from(refused)),
+    }
+}
+
+/// Plays the board behind one demultiplexer, and prints its log.
+fn chain_board<O: Sink, H: Handler, M: MakesDomainLine>(
+    alloc: Global,
+    board: &Board,
+    out: &mut O,
+    handlers: &Callbacks<H>,
+    maker: &M,
+) -> Outcome
+    ensures chains { ChainsAs board.now result.reports.reports (O.written out.old)
+        (O.written out.new) result.ending }
+    ensures emptied { is_printed result.ending ≡ true → O.kept out.new ≡ [] }
+    ensures write_fault { Counts (O.faults out.old) (O.faults out.new)
+        (is_write_fault_end result.ending) }
+    ensures silent { is_printing result.ending ≡ false → out.new ≡ out.old }
+{
+    match chained_and_print(alloc, board, maker, handlers, out) {
+        Ok(played) => Outcome::of_play(played),
+        Err(NotForChain) => Outcome::refused(alloc, FaultKind::NotForChain),
+    }
+}
