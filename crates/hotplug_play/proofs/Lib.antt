@@ -1,0 +1,2 @@
+mod OfBoard
+mod Finished

@@ -1,0 +1,41 @@
+//! The lines of a board with the events behind them, and the board with their moves.
+ghost use Rattle.std.specs.Prelude.{◌≡◌, ◌≤◌, IfOk, length};
+ghost use Rattle.hotplug_plan.specs.Planned.{IsForHotplug};
+ghost use Rattle.hotplug_play.specs.Played.{IsPlanOf};
+
+use board_def::Board;
+use board_layout::lay;
+use hotplug_plan::planned;
+use irq_base::NoMemory;
+use irq_hotplug::{Event, Fleet, take_events};
+use notifiers::{Notifier, Notifiers};
+use std::alloc::Global;
+
+/// Lines with the events behind them, and the board that moves them.
+#[derive(Drop)]
+pub(crate) struct Plan {
+    pub(crate) fleet: Fleet,
+    pub(crate) board: Board,
+}
+
+/// Places the lines of the board, takes the events, and makes the board with the moves. The only
+/// error is `NoMemory`.
+pub(crate) fn make_plan<N: Notifier>(
+    alloc: Global,
+    board: Board,
+    vectors: u32,
+    events: &[Event],
+    notify: &Notifiers<N>,
+) -> Result<Plan, NoMemory>
+    requires fits { IsForHotplug board }
+    requires vectors { (1 ≤ vectors) × (vectors ≤ 64) }
+    requires events { length events.now ≤ 64 }
+    ensures { IfOk result (λ plan. IsPlanOf board vectors events.now plan.fleet plan.board) }
+{
+    board.is_board();
+    let (_domains, layout) = lay(alloc, &board)?;
+    let mut fleet = Fleet::new(alloc, &board, &layout, vectors, notify)?;
+    take_events(alloc, &mut fleet, events, notify)?;
+    let board = planned(alloc, &fleet, board)?;
+    Ok(Plan { fleet, board })
+}

@@ -1,0 +1,156 @@
+//! Plays a board on processors that go offline and come online, and prints it.
+ghost use Rattle.std.specs.Prelude.{◌≡◌, ◌≤◌, ℕ, [], List, IfOk, IsTrue, OnErr, OnOk, false};
+ghost use Rattle.std.specs.Prelude.{length};
+ghost use Rattle.board_def.specs.Seen.{BoardSeen};
+ghost use Rattle.board_report.specs.Reporting.{HasRoom};
+ghost use Rattle.irq_io.specs.Faults.{Counts};
+ghost use Rattle.irq_play.specs.Ends.{is_printing, is_write_fault};
+ghost use Rattle.irq_play.specs.Played.{IsPlayed};
+ghost use Rattle.irq_hotplug.specs.declared.events.Event.{Event};
+ghost use Rattle.hotplug_plan.specs.Planned.{IsForHotplug};
+ghost use Rattle.hotplug_play.specs.Played.{HotplugsBoard, IsPlanOf};
+
+use crate::planning::{Plan, make_plan};
+use crate::printing::write_hotplug;
+use board_core::{PlayEnd, System};
+use board_def::Board;
+use board_report::ReportRoom;
+use callbacks::{Callbacks, Handler};
+use hotplug_plan::fits_hotplug;
+use irq_base::{NoMemory, Reports};
+use irq_hotplug::Event;
+use irq_io::Sink;
+use irq_line::IrqLine;
+use irq_play::{
+    PlayedBoard, PlayedEnd, PlayedSystem, Wanted, play_system, report_cut, report_done, report_full,
+};
+use line_makers::MakesDomainLine;
+use notifiers::{Notifier, Notifiers};
+use std::alloc::Global;
+
+/// The lines of the board can't be placed and moved.
+#[derive(Clone, Copy, PartialEq, Eq)]
+pub struct NotForHotplug;
+
+/// Gives each processor 1 to 64 vectors, places each line of the board, takes the events in order,
+/// and plays the board with the moves that follow by the stated order. Prints the layout, each
+/// placing and each event, and the play. Memory is taken before the first step, and by steps; none
+/// is taken once a row is printed. The only error is a board that has a call that moves a line, a
+/// line that moves later, 64 drivers, driver 65535, or more than 12,224 calls.
+pub fn hotplug_and_print<O: Sink, M: MakesDomainLine, H: Handler, N: Notifier>(
+    alloc: Global,
+    board: Board,
+    vectors: u32,
+    events: &[Event],
+    maker: &M,
+    handlers: &Callbacks<H>,
+    notify: &Notifiers<N>,
+    out: &mut O,
+) -> Result<PlayedBoard, NotForHotplug>
+    requires vectors { (1 ≤ vectors) × (vectors ≤ 64) }
+    requires events { length events.now ≤ 64 }
+    ensures fits { OnOk result (IsForHotplug board) }
+    ensures refused { OnErr result (IsForHotplug board → ⊥) }
+    ensures quiet { OnErr result (out.new ≡ out.old) }
+    ensures plays { IfOk result (λ p. HotplugsBoard board vectors events.now p.reports.reports
+        (O.written out.old) (O.written out.new) p.end) }
+    ensures emptied { IfOk result (λ p. p.end ≡ PlayedEnd.Done → O.kept out.new ≡ []) }
+    ensures write_fault { IfOk result (λ p. Counts (O.faults out.old) (O.faults out.new)
+        (is_write_fault p.end)) }
+    ensures silent { IfOk result (λ p. is_printing p.end ≡ false → out.new ≡ out.old) }
+{
+    if !fits_hotplug(&board) {
+        return Err(NotForHotplug);
+    }
+    let Ok(plan) = make_plan(alloc, board, vectors, events, notify) else {
+        return Ok(unplayed(alloc));
+    };
+    Ok(play_plan(alloc, &plan, maker, handlers, out))
+}
+
+/// Plays the planned board, and prints it.
+fn play_plan<O: Sink, M: MakesDomainLine, H: Handler>(
+    alloc: Global,
+    plan: &Plan,
+    maker: &M,
+    handlers: &Callbacks<H>,
+    out: &mut O,
+) -> PlayedBoard
+    ensures plays { (b : BoardSeen) (vectors : ℕ) (es : List Event)
+        → IsPlanOf b vectors es plan.now.fleet plan.now.board
+        → HotplugsBoard b vectors es result.reports.reports (O.written out.old)
+        (O.written out.new) result.end }
+    ensures emptied { result.end ≡ PlayedEnd.Done → O.kept out.new ≡ [] }
+    ensures write_fault { Counts (O.faults out.old) (O.faults out.new) (is_write_fault result.end) }
+    ensures silent { is_printing result.end ≡ false → out.new ≡ out.old }
+{
+    match play_system(alloc, &plan.board, maker, handlers) {
+        Ok(played) => report_plan(plan, played, out),
+        Err(NoMemory) => unplayed(alloc),
+    }
+}
+
+/// Hands out the reports of a play of the planned board, and prints it if it came to its end.
+fn report_plan<O: Sink, L: IrqLine>(
+    plan: &Plan,
+    played: PlayedSystem<'_, L>,
+    out: &mut O,
+) -> PlayedBoard
+    requires played { IsPlayed plan.now.board played.system played.end }
+    requires room { HasRoom (length plan.now.board.lines) played.room }
+    ensures plays { (b : BoardSeen) (vectors : ℕ) (es : List Event)
+        → IsPlanOf b vectors es plan.now.fleet plan.now.board
+        → HotplugsBoard b vectors es result.reports.reports (O.written out.old)
+        (O.written out.new) result.end }
+    ensures emptied { result.end ≡ PlayedEnd.Done → O.kept out.new ≡ [] }
+    ensures write_fault { Counts (O.faults out.old) (O.faults out.new) (is_write_fault result.end) }
+    ensures silent { is_printing result.end ≡ false → out.new ≡ out.old }
+{
+    let PlayedSystem { system, end, room } = played;
+    match end {
+        PlayEnd::Done => print_done(plan, system, room, out),
+        PlayEnd::Full { line, len } => PlayedBoard {
+            end: PlayedEnd::LogFull { line, len },
+            reports: report_full(&plan.board, system, room, line, len),
+        },
+        PlayEnd::NoMemory => PlayedBoard {
+            end: PlayedEnd::NoMemory(Wanted::Step),
+            reports: report_cut(&plan.board, system, room),
+        },
+    }
+}
+
+/// Prints a play that came to its end, and hands out its reports.
+fn print_done<O: Sink, L: IrqLine>(
+    plan: &Plan,
+    system: System<'_, L>,
+    room: ReportRoom,
+    out: &mut O,
+) -> PlayedBoard
+    requires played { IsPlayed plan.now.board system PlayEnd.Done }
+    requires room { HasRoom (length plan.now.board.lines) room }
+    ensures printing { IsTrue (is_printing result.end) }
+    ensures plays { (b : BoardSeen) (vectors : ℕ) (es : List Event)
+        → IsPlanOf b vectors es plan.now.fleet plan.now.board
+        → HotplugsBoard b vectors es result.reports.reports (O.written out.old)
+        (O.written out.new) result.end }
+    ensures emptied { result.end ≡ PlayedEnd.Done → O.kept out.new ≡ [] }
+    ensures write_fault { Counts (O.faults out.old) (O.faults out.new) (is_write_fault result.end) }
+{
+    let written = write_hotplug(&plan.board, plan.fleet.said(), &system, out);
+    PlayedBoard {
+        end: PlayedEnd::from(written),
+        reports: report_done(&plan.board, system, room),
+    }
+}
+
+/// The result if memory was refused before the play.
+fn unplayed(alloc: Global) -> PlayedBoard
+    ensures end { result.end ≡ PlayedEnd.NoMemory Wanted.Making }
+    ensures reports { result.reports.reports ≡ [] }
+{
+    PlayedBoard {
+        end: PlayedEnd::NoMemory(Wanted::Making),
+        reports: Reports::new(alloc),
+    }
+}
