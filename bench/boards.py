@@ -8,14 +8,15 @@ LONGEST = 1048576
 LATCH = "board 1\nlog 1000000\ndomain intc linear 4 latch\nline 1 intc 2\ndevice 1 1 direct\ndriver 1\nrequest 1\n"
 
 
-def storms(lines, rounds, log=1000000):
-    """Level lines, each with a device that nobody recognises, killed after so many rounds of four entries each."""
+def storms(lines, rounds, log=1000000, at_once=False):
+    """Level lines, each with a device that nobody recognises, killed after so many rounds of four entries each. If at once, all
+    have asked before a processor moves."""
     rows = ["board 1", f"spurious {rounds} {rounds - 1}", f"log {log}", "domain wire linear 64 level"]
     rows += [f"line {i} wire {i}" for i in range(1, lines + 1)]
     rows += [f"device {i} {i} stuck" for i in range(1, lines + 1)]
     for i in range(1, lines + 1):
         rows += [f"driver {i}", f"request {i}", f"ask {i}"]
-    return rows
+    return rows + ["picks " + " ".join(f"d{i}*2" for i in range(1, lines + 1))] * at_once
 
 
 def crowd(rounds):
@@ -69,9 +70,9 @@ def main(folder):
         "three_storms.board": "\n".join(storms(3, 232000)) + "\n",
         "crowd.board": "\n".join(crowd(6200)) + "\n",
         "threads.board": "\n".join(calls()) + "\n",
-        "wide_storms.board": "\n".join(storms(32, 31249, 125000)) + "\n",
+        "wide_storms.board": "\n".join(storms(32, 31249, 125000, True)) + "\n",
         "few_storms.board": "\n".join(storms(4, 1500)) + "\n",
-        "few_wide_storms.board": "\n".join(storms(32, 190, 125000)) + "\n",
+        "few_wide_storms.board": "\n".join(storms(32, 190, 125000, True)) + "\n",
         "few_threads.board": "\n".join(threads(4, 600)) + "\n",
         "few_asks.board": LATCH + "ask 1\n" * 4000,
         "deep.board": "\n".join(deep()) + "\n",
