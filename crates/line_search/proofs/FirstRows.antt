@@ -26,7 +26,7 @@ use Rattle.irq_base.specs.declared.entries.UnlinkAnswer.TheVariants as unlinks
 use Rattle.irq_model.specs.Legal.{IsLegalPast}
 use Rattle.irq_model.specs.Next.{next_past}
 use Rattle.device_table.specs.Sums.{one_if}
-use Rattle.line_search.specs.Node.{node}
+use Rattle.line_words.specs.Node.{node}
 
 abbrev line : LineNo
 line = record { 0 = 1 }

@@ -1,4 +1,3 @@
-pub mod Told
 pub mod Nodes
 pub mod Searching
 pub mod FirstRows

@@ -8,7 +8,7 @@ use Rattle.irq_base.specs.declared.entries.Entry.{Entry}
 use Rattle.irq_base.specs.declared.lines.LineDef.{LineDef}
 use Rattle.irq_base.specs.declared.numbers.DevNo.{DevNo}
 use Rattle.irq_base.specs.declared.numbers.DriverNo.{DriverNo}
-use Rattle.irq_model.specs.Due.{calls_by, entries_by, due_of}
+use Rattle.irq_model.specs.Due.{entries_by, due_of}
 use Rattle.irq_model.specs.Kinds.{same_driver}
 use Rattle.irq_model.specs.Legal.{IsLegalPast}
 use Rattle.irq_model.specs.Lines.{serves}
@@ -34,10 +34,12 @@ use Rattle.line_futures.proofs.Actions.{flags_same}
 use Rattle.line_futures.specs.Canon.{without_bits, is_working, is_thread_working, serves_at, canon_asks, canon}
 use Rattle.line_futures.specs.Futures.{AreAlike}
 use Rattle.line_futures.specs.Places.{place_by, within_by, count_in, SamePlaces}
-use Rattle.line_search.proofs.Told.{one_told, cpu_told, dev_told, mask_told, freeing_told, begun_told, thread_told, ask_told, keys_of, table_told, linked_told}
-use Rattle.line_search.specs.Node.{drivers_in, places_words, node}
-use Rattle.line_search.specs.Words.{cpu_word, dev_word, mask_word, begun_words, thread_words, ask_words, table_words}
-use Rattle.line_search.specs.Words.{linked_words, freeing_words, desc_words, round_words}
+use Rattle.line_words.proofs.Placing.{none_called}
+use Rattle.line_words.proofs.Told.{one_told, cpu_told, dev_told, mask_told, freeing_told, begun_told, thread_told, ask_told, keys_of, table_told, linked_told}
+use Rattle.line_words.specs.Node.{drivers_in, places_words, node}
+use Rattle.line_marks.specs.Aim.{number_of}
+use Rattle.line_words.specs.Words.{dev_number, mask_number, begun_words, thread_words, ask_words, table_words}
+use Rattle.line_words.specs.Words.{linked_words, freeing_words, desc_words, round_words}
 
 -- ---- the descriptor's words, and the round's
 
@@ -64,7 +66,8 @@ desc_told s t a b h = (
     oneshot = one_told _ _ (let e : one_if s.desc.oneshot ≡ one_if t.desc.oneshot = cc in e);
     spurious = one_told _ _ (let e : one_if s.desc.spurious ≡ one_if t.desc.spurious = cc in e);
     soft = one_told _ _ (let e : one_if s.desc.soft ≡ one_if t.desc.soft = cc in e);
-    flow = cpu_told _ _ (let e : cpu_word s.desc.flow ≡ cpu_word t.desc.flow = cc in e);
+    flow = cpu_told _ _ (let e : one_if (is_some s.desc.flow) ≡ one_if (is_some t.desc.flow) = cc in e)
+        (let e : number_of s.desc.flow ≡ number_of t.desc.flow = cc in e);
     stored = one_told _ _ (let e : one_if s.cell.stored ≡ one_if t.cell.stored = cc in e);
     sent = one_told _ _ (let e : one_if s.cell.sent ≡ one_if t.cell.sent = cc in e);
     high = one_told _ _ (let e : one_if s.cell.high ≡ one_if t.cell.high = cc in e);
@@ -89,8 +92,10 @@ round_told : (s t : StateSeen) (a b : List ℕ) → round_words s a ≡ round_wo
 round_told s t a b h = (
   record {
     mask = (let e : s.aim.mask ≡ t.aim.mask = cc in e);
-    waiting = mask_told _ _ (let e : mask_word s.aim.waiting ≡ mask_word t.aim.waiting = cc in e);
-    working = dev_told _ _ (let e : dev_word s.round.working ≡ dev_word t.round.working = cc in e);
+    waiting = mask_told _ _ (let e : one_if (is_some s.aim.waiting) ≡ one_if (is_some t.aim.waiting) = cc in e)
+        (let e : mask_number s.aim.waiting ≡ mask_number t.aim.waiting = cc in e);
+    working = dev_told _ _ (let e : one_if (is_some s.round.working) ≡ one_if (is_some t.round.working) = cc in e)
+        (let e : dev_number s.round.working ≡ dev_number t.round.working = cc in e);
     wakes = one_told _ _ (let e : one_if s.round.wakes ≡ one_if t.round.wakes = cc in e);
     handles = one_told _ _ (let e : one_if s.round.handles ≡ one_if t.round.handles = cc in e);
     moment = (let e : s.round.moment ≡ t.round.moment = cc in e);
@@ -160,30 +165,6 @@ module _ (def : LineDef) (g h : List Entry) where
       ap (λ n. n ∷ within_by def r g ∷ places_words def g rs a) (same r).0
       ∙ (ap (λ n. place_by def r h ∷ n ∷ places_words def g rs a) (same r).1
       ∙ ap (λ (x : List ℕ). place_by def r h ∷ within_by def r h ∷ x) (places_same same rs a))
-
--- a driver that isn't among them has no calls
-none_called : (r : DriverNo) (cs : List (DriverNo × Call)) → list_any (same_driver r) (drivers_in cs) ≡ false → calls_by r cs ≡ []
-none_called r [] none = refl
-none_called r (c ∷ cs) none = by_there (list_any (same_driver c.0) (drivers_in cs)) refl none (none_called r cs)
-  where
-    by_same : (b : Bool) → same_driver r c.0 ≡ b → (b ≡ true → ⊥) → calls_by r cs ≡ [] → cond b (c.1 ∷ calls_by r cs) (calls_by r cs) ≡ []
-    by_same true is other rest = absurd (other refl)
-    by_same false is other rest = rest
-
-    split : (x y : Bool) → (x || y) ≡ false → (x ≡ false) × (y ≡ false)
-    split true y h = cc
-    split false y h = (refl, h)
-
-    by_there : (b : Bool) → list_any (same_driver c.0) (drivers_in cs) ≡ b
-        → list_any (same_driver r) (cond b (drivers_in cs) (c.0 ∷ drivers_in cs)) ≡ false
-        → (list_any (same_driver r) (drivers_in cs) ≡ false → calls_by r cs ≡ []) → calls_by r (c ∷ cs) ≡ []
-    by_there true there n rest =
-        by_same (same_driver r c.0) refl (λ is. let k : list_any (same_driver r) (drivers_in cs)
-        ≡ true = ap (λ (x : DriverNo). list_any (same_driver x) (drivers_in cs)) (driver_from_same r c.0 is)
-        ∙ there in let x : ⊥ = cc (sym n ∙ k) in x) (rest n)
-    by_there false there n rest =
-        let s = split (same_driver r c.0) (list_any (same_driver r) (drivers_in cs)) n in
-        by_same (same_driver r c.0) refl (λ is. let x : ⊥ = cc (sym s.0 ∙ is) in x) (rest s.1)
 
 -- ---- pasts
 

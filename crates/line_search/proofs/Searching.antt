@@ -10,7 +10,7 @@ use Rattle.line_futures.proofs.Futures.{due_alike, alike_after}
 use Rattle.line_futures.specs.Futures.{AreAlike}
 use Rattle.line_search.proofs.Nodes.{node_tells, node_same}
 use Rattle.line_search.specs.Found.{IsShortest, IsNever, IsNotWithin}
-use Rattle.line_search.specs.Node.{node}
+use Rattle.line_words.specs.Node.{node}
 use Rattle.state_search.proofs.Places.{all_at}
 use Rattle.state_search.specs.Firsts.{IsNoted, AreFirsts}
 use Rattle.state_search.specs.Paths.{IsPath, IsBelow, AreSteps, Searches}

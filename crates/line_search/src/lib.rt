@@ -11,7 +11,7 @@ ghost use Rattle.irq_model.specs.Legal.{IsDue, IsLegalPast};
 ghost use Rattle.irq_model.specs.Valid.{IsValid};
 ghost use Rattle.line_futures.specs.Futures.{AreAlike};
 ghost use Rattle.line_search.specs.Found.{IsShortest, IsNever, IsNotWithin, ComesToRest};
-ghost use Rattle.line_search.specs.Node.{node};
+ghost use Rattle.line_words.specs.Node.{node};
 ghost use Rattle.state_search.specs.Firsts.{IsNoted, AreFirsts};
 ghost use Rattle.state_search.specs.Paths.{IsPath, IsBelow, AreSteps, Searches};
 ghost use Rattle.state_search.specs.declared.firsts.First.{First};

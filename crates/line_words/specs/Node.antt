@@ -9,7 +9,7 @@ use Rattle.irq_model.specs.Kinds.{same_driver}
 use Rattle.line_marks.specs.State.{state_of}
 use Rattle.line_futures.specs.Canon.{canon}
 use Rattle.line_futures.specs.Places.{place_by, within_by}
-use Rattle.line_search.specs.Words.{state_words}
+use Rattle.line_words.specs.Words.{state_words}
 
 -- the drivers of the calls, each once
 abbrev pub drivers_in : List (DriverNo × Call) → List DriverNo

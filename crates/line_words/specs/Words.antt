@@ -1,7 +1,6 @@
 -- A canonical state as numbers, one a field. Each word is put before the numbers of what follows.
-use Rattle.std.specs.Prelude.{ℕ, ◌+◌, Bool, Option, Some, None, List, [], ◌∷◌}
+use Rattle.std.specs.Prelude.{ℕ, Bool, is_some, Option, Some, None, List, [], ◌∷◌}
 use Rattle.irq_base.specs.declared.calls.Flags.{Flags}
-use Rattle.irq_base.specs.declared.numbers.CpuNo.{CpuNo}
 use Rattle.irq_base.specs.declared.numbers.DevNo.{DevNo}
 use Rattle.irq_base.specs.declared.numbers.DriverNo.{DriverNo}
 use Rattle.device_table.specs.Sums.{one_if}
@@ -10,20 +9,18 @@ use Rattle.act_thread.specs.declared.rows.Stage.{Stage}
 use Rattle.act_thread.specs.declared.rows.Stage.TheVariants as stages
 use Rattle.act_thread.specs.declared.rows.ThreadRow.{ThreadRow}
 use Rattle.ask_counts.specs.declared.rows.AskRow.{AskRow}
+use Rattle.desc_state.specs.Desc.{DescSeen}
+use Rattle.line_marks.specs.Aim.{number_of}
 use Rattle.line_marks.specs.State.{StateSeen}
 
--- 0 is none
-abbrev pub cpu_word : Option CpuNo → ℕ
-cpu_word None = 0
-cpu_word (Some c) = c.0 + 1
+-- what may be missing is two words: whether it is there, and its number, 0 if it is missing
+abbrev pub dev_number : Option DevNo → ℕ
+dev_number None = 0
+dev_number (Some d) = d.0
 
-abbrev pub dev_word : Option DevNo → ℕ
-dev_word None = 0
-dev_word (Some d) = d.0 + 1
-
-abbrev pub mask_word : Option ℕ → ℕ
-mask_word None = 0
-mask_word (Some mask) = mask + 1
+abbrev pub mask_number : Option ℕ → ℕ
+mask_number None = 0
+mask_number (Some mask) = mask
 
 abbrev pub stage_word : Stage → ℕ
 stage_word stages.Idle = 0
@@ -31,9 +28,16 @@ stage_word stages.Begun = 1
 stage_word stages.Returned = 2
 stage_word stages.Finished = 3
 
+abbrev pub freer_number : Option (DriverNo × DevNo) → ℕ
+freer_number None = 0
+freer_number (Some f) = f.0.0
+
+abbrev pub freed_number : Option (DriverNo × DevNo) → ℕ
+freed_number None = 0
+freed_number (Some f) = f.1.0
+
 abbrev pub freeing_words : Option (DriverNo × DevNo) → List ℕ → List ℕ
-freeing_words None rest = 0 ∷ 0 ∷ rest
-freeing_words (Some (r, d)) rest = (r.0 + 1) ∷ (d.0 + 1) ∷ rest
+freeing_words f rest = one_if (is_some f) ∷ freer_number f ∷ freed_number f ∷ rest
 
 abbrev pub begun_words : Bool → List ℕ → List ℕ
 begun_words b rest = one_if b ∷ rest
@@ -55,17 +59,21 @@ linked_words [] = []
 linked_words (e ∷ es) =
     e.0.0 ∷ one_if e.1.shared ∷ one_if e.1.oneshot ∷ one_if e.1.noauto ∷ linked_words es
 
--- the descriptor, and the chip's marks that don't follow from it
+-- the marks of a descriptor, and those of the chip that don't follow from them
+abbrev pub marks_words : DescSeen → Bool → Bool → Bool → List ℕ → List ℕ
+marks_words d stored sent high rest =
+    d.depth ∷ one_if d.started ∷ one_if d.masked ∷ one_if d.pending ∷ one_if d.oneshot
+    ∷ one_if d.spurious ∷ one_if d.soft ∷ one_if (is_some d.flow) ∷ number_of d.flow
+    ∷ one_if stored ∷ one_if sent ∷ one_if high ∷ rest
+
 abbrev pub desc_words : StateSeen → List ℕ → List ℕ
-desc_words s rest =
-    s.desc.depth ∷ one_if s.desc.started ∷ one_if s.desc.masked ∷ one_if s.desc.pending
-    ∷ one_if s.desc.oneshot ∷ one_if s.desc.spurious ∷ one_if s.desc.soft ∷ cpu_word s.desc.flow
-    ∷ one_if s.cell.stored ∷ one_if s.cell.sent ∷ one_if s.cell.high ∷ rest
+desc_words s rest = marks_words s.desc s.cell.stored s.cell.sent s.cell.high rest
 
 -- the affinity, the round and the counts of the rule on spurious interrupts
 abbrev pub round_words : StateSeen → List ℕ → List ℕ
 round_words s rest =
-    s.aim.mask ∷ mask_word s.aim.waiting ∷ dev_word s.round.working ∷ one_if s.round.wakes
+    s.aim.mask ∷ one_if (is_some s.aim.waiting) ∷ mask_number s.aim.waiting
+    ∷ one_if (is_some s.round.working) ∷ dev_number s.round.working ∷ one_if s.round.wakes
     ∷ one_if s.round.handles ∷ s.round.moment ∷ s.counts.counts.irq_count
     ∷ s.counts.counts.irqs_unhandled ∷ s.counts.counts.threads_handled
     ∷ one_if s.counts.counts.deferred ∷ s.counts.counts.last_unhandled ∷ rest

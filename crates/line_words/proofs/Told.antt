@@ -1,5 +1,5 @@
 -- Two lists of words that are equal are words of equal parts.
-use Rattle.std.proofs.Common.{◌≡◌, ℕ, ◌+◌, Bool, true, false, Option, Some, None, List, [], ◌∷◌, refl, ap, ◌∙◌, arith}
+use Rattle.std.proofs.Common.{◌≡◌, ℕ, Bool, true, false, is_some, Option, Some, None, List, [], ◌∷◌, refl, ap, ◌∙◌, arith}
 use Rattle.irq_base.specs.declared.calls.Flags.{Flags}
 use Rattle.irq_base.specs.declared.numbers.CpuNo.{CpuNo}
 use Rattle.irq_base.specs.declared.numbers.DevNo.{DevNo}
@@ -9,7 +9,8 @@ use Rattle.act_thread.specs.declared.rows.Stage.{Stage}
 use Rattle.act_thread.specs.declared.rows.Stage.TheVariants as stages
 use Rattle.act_thread.specs.declared.rows.ThreadRow.{ThreadRow}
 use Rattle.ask_counts.specs.declared.rows.AskRow.{AskRow}
-use Rattle.line_search.specs.Words.{cpu_word, dev_word, mask_word, stage_word, freeing_words, begun_words, thread_words, ask_words, table_words, linked_words}
+use Rattle.line_marks.specs.Aim.{number_of}
+use Rattle.line_words.specs.Words.{dev_number, mask_number, stage_word, freeing_words, begun_words, thread_words, ask_words, table_words, linked_words}
 
 pub one_told : (a b : Bool) → one_if a ≡ one_if b → a ≡ b
 one_told true true h = refl
@@ -17,23 +18,24 @@ one_told true false h = absurd (omega (arith, h))
 one_told false true h = absurd (omega (arith, h))
 one_told false false h = refl
 
-pub cpu_told : (a b : Option CpuNo) → cpu_word a ≡ cpu_word b → a ≡ b
-cpu_told None None h = refl
-cpu_told None (Some d) h = absurd (omega (arith, h))
-cpu_told (Some c) None h = absurd (omega (arith, h))
-cpu_told (Some c) (Some d) h = let e : c.0 ≡ d.0 = omega (arith, h) in ap (λ n. Some (record { 0 = n })) e
+-- whether it is there, and its number
+pub cpu_told : (a b : Option CpuNo) → one_if (is_some a) ≡ one_if (is_some b) → number_of a ≡ number_of b → a ≡ b
+cpu_told None None h k = refl
+cpu_told None (Some d) h k = absurd (omega (arith, h))
+cpu_told (Some c) None h k = absurd (omega (arith, h))
+cpu_told (Some c) (Some d) h k = ap (λ n. Some (record { 0 = n })) k
 
-pub dev_told : (a b : Option DevNo) → dev_word a ≡ dev_word b → a ≡ b
-dev_told None None h = refl
-dev_told None (Some d) h = absurd (omega (arith, h))
-dev_told (Some c) None h = absurd (omega (arith, h))
-dev_told (Some c) (Some d) h = let e : c.0 ≡ d.0 = omega (arith, h) in ap (λ n. Some (record { 0 = n })) e
+pub dev_told : (a b : Option DevNo) → one_if (is_some a) ≡ one_if (is_some b) → dev_number a ≡ dev_number b → a ≡ b
+dev_told None None h k = refl
+dev_told None (Some d) h k = absurd (omega (arith, h))
+dev_told (Some c) None h k = absurd (omega (arith, h))
+dev_told (Some c) (Some d) h k = ap (λ n. Some (record { 0 = n })) k
 
-pub mask_told : (a b : Option ℕ) → mask_word a ≡ mask_word b → a ≡ b
-mask_told None None h = refl
-mask_told None (Some d) h = absurd (omega (arith, h))
-mask_told (Some c) None h = absurd (omega (arith, h))
-mask_told (Some c) (Some d) h = let e : c ≡ d = omega (arith, h) in ap Some e
+pub mask_told : (a b : Option ℕ) → one_if (is_some a) ≡ one_if (is_some b) → mask_number a ≡ mask_number b → a ≡ b
+mask_told None None h k = refl
+mask_told None (Some d) h k = absurd (omega (arith, h))
+mask_told (Some c) None h k = absurd (omega (arith, h))
+mask_told (Some c) (Some d) h k = ap Some k
 
 stage_told : (a b : Stage) → stage_word a ≡ stage_word b → a ≡ b
 stage_told stages.Idle stages.Idle h = refl
@@ -59,13 +61,11 @@ Tells {R} words = (r q : R) (a b : List ℕ) → words r a ≡ words q b → (r 
 
 pub freeing_told : Tells freeing_words
 freeing_told None None a b h = (refl, (let e : a ≡ b = cc in e))
-freeing_told None (Some (r, d)) a b h = let e : 0 ≡ r.0 + 1 = cc in absurd (omega (arith, e))
-freeing_told (Some (r, d)) None a b h = let e : r.0 + 1 ≡ 0 = cc in absurd (omega (arith, e))
+freeing_told None (Some f) a b h = let e : one_if false ≡ one_if true = cc in absurd (omega (arith, e))
+freeing_told (Some f) None a b h = let e : one_if true ≡ one_if false = cc in absurd (omega (arith, e))
 freeing_told (Some (r, d)) (Some (s, f)) a b h =
-    let p : r.0 + 1 ≡ s.0 + 1 = cc in
-    let q : d.0 + 1 ≡ f.0 + 1 = cc in
-    let i : r.0 ≡ s.0 = omega (arith, p) in
-    let j : d.0 ≡ f.0 = omega (arith, q) in
+    let i : r.0 ≡ s.0 = cc in
+    let j : d.0 ≡ f.0 = cc in
     let dev : ℕ → DevNo = λ n. record { 0 = n } in
     let driver : ℕ → DriverNo = λ n. record { 0 = n } in
     (ap (λ n. Some (driver n, d)) i ∙ ap (λ n. Some (s, dev n)) j, (let e : a ≡ b = cc in e))

@@ -1,0 +1,10 @@
+pub mod Told
+pub mod Tables
+pub mod Looking
+pub mod Loops
+pub mod Whole
+pub mod Putting
+pub mod Shaped
+pub mod Links
+pub mod Placing
+pub mod Past

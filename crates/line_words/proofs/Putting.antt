@@ -1,0 +1,160 @@
+-- Rows that are put by the numbers of a table make that table.
+use Rattle.std.proofs.Common.{◌≡◌, ℕ, suc, ◌+◌, ◌*◌, ◌==◌, Bool, true, false, ◌||◌, cond, is_some, Option, Some, None, List, []}
+use Rattle.std.proofs.Common.{◌∷◌, drop, length, refl, sym, ap, ◌∙◌, arith}
+use Rattle.std.proofs.lemmas.List.{drop-drop}
+use Rattle.std.specs.List.{list_any}
+use Rattle.irq_base.specs.declared.calls.Flags.{Flags}
+use Rattle.irq_base.specs.declared.devices.DeviceDef.{DeviceDef}
+use Rattle.irq_base.specs.declared.numbers.CpuNo.{CpuNo}
+use Rattle.irq_base.specs.declared.numbers.DevNo.{DevNo}
+use Rattle.irq_base.specs.declared.numbers.DriverNo.{DriverNo}
+use Rattle.irq_model.specs.Kinds.{same_dev}
+use Rattle.irq_model.specs.Lines.{is_device}
+use Rattle.irq_model.specs.Valid.{HasDistinctDevices}
+use Rattle.irq_steps.proofs.Same.{same_self, same_both}
+use Rattle.device_table.specs.Rows.{at, change, changed, table_by}
+use Rattle.device_table.specs.Sums.{one_if}
+use Rattle.act_thread.specs.declared.rows.Stage.{Stage}
+use Rattle.act_thread.specs.declared.rows.Stage.TheVariants as stages
+use Rattle.act_thread.specs.declared.rows.ThreadRow.{ThreadRow}
+use Rattle.ask_counts.specs.declared.rows.AskRow.{AskRow}
+use Rattle.line_marks.specs.Aim.{number_of}
+use Rattle.line_words.specs.Reading.{stage_in, thread_in, ask_in, put_rows, mark_if, mark_rows, linked_in, bit_at}
+use Rattle.line_words.specs.Words.{stage_word, thread_words, ask_words, begun_words, table_words, linked_words, dev_number, mask_number}
+use Rattle.line_words.specs.Words.{freer_number, freed_number}
+
+-- ---- single numbers
+
+pub bit_is : (b : Bool) → (one_if b == 1) ≡ b
+bit_is true = refl
+bit_is false = refl
+
+pub cpu_is : (o : Option CpuNo) → cond (one_if (is_some o) == 1) (Some (record { 0 = number_of o })) None ≡ o
+cpu_is None = refl
+cpu_is (Some c) = refl
+
+pub dev_is : (o : Option DevNo) → cond (one_if (is_some o) == 1) (Some (record { 0 = dev_number o })) None ≡ o
+dev_is None = refl
+dev_is (Some d) = refl
+
+pub mask_is : (o : Option ℕ) → cond (one_if (is_some o) == 1) (Some (mask_number o)) None ≡ o
+mask_is None = refl
+mask_is (Some m) = refl
+
+pub freeing_is : (o : Option (DriverNo × DevNo))
+    → cond (one_if (is_some o) == 1) (Some (record { 0 = freer_number o }, record { 0 = freed_number o })) None ≡ o
+freeing_is None = refl
+freeing_is (Some f) = refl
+
+stage_is : (s : Stage) → stage_in (stage_word s) ≡ s
+stage_is stages.Idle = refl
+stage_is stages.Begun = refl
+stage_is stages.Returned = refl
+stage_is stages.Finished = refl
+
+pub thread_is : (r : ThreadRow) (rest : List ℕ) → thread_in (thread_words r rest) ≡ r
+thread_is r rest =
+    (let e : ◌≡◌ {A = ThreadRow} (record { woken = one_if r.woken == 1; stage = stage_in (stage_word r.stage); held = one_if r.held == 1 }) r
+    = rw (bit_is r.woken, stage_is r.stage, bit_is r.held) refl in e)
+
+pub ask_is : (r : AskRow) (rest : List ℕ) → ask_in (ask_words r rest) ≡ r
+ask_is r rest = refl
+
+flags_by : (f : Flags) → ◌≡◌ {A = Flags} (record { shared = one_if f.shared == 1; oneshot = one_if f.oneshot == 1; noauto = one_if f.noauto == 1 }) f
+flags_by f = rw (bit_is f.shared, bit_is f.oneshot, bit_is f.noauto) refl
+
+pub linked_is : (t : List (DevNo × Flags)) → linked_in (linked_words t) ≡ t
+linked_is [] = refl
+linked_is (e ∷ es) =
+    ap (λ (f : Flags). (e.0, f) ∷ linked_in (linked_words es)) (flags_by e.1) ∙ ap (λ (l : List (DevNo × Flags)). e ∷ l) (linked_is es)
+
+-- ---- what stands behind a table
+
+module _ {R : Type 0} (words : R → List ℕ → List ℕ) (width : ℕ) (wide : (r : R) (rest : List ℕ) → drop width (words r rest) ≡ rest)
+    (times : (n : ℕ) → width * suc n ≡ width + width * n) (f : DevNo → R) where
+  pub behind_table : (xs : List DeviceDef) (rest : List ℕ) → drop (width * length xs) (table_words words (table_by f xs) rest) ≡ rest
+  behind_table [] rest = ap (λ n. drop n rest) (let e : width * 0 ≡ 0 = omega arith in e)
+  behind_table (x ∷ xs) rest =
+      ap (λ n. drop n (words (f x.dev) (table_words words (table_by f xs) rest))) (times (length xs))
+      ∙ (sym (drop-drop (width * length xs) width (words (f x.dev) (table_words words (table_by f xs) rest)))
+      ∙ (ap (λ (m : List ℕ). drop (width * length xs) m) (wide (f x.dev) (table_words words (table_by f xs) rest))
+      ∙ behind_table xs rest))
+
+-- ---- rows that are put
+
+module _ {R : Type 0} where
+  -- the first row is another device's
+  change_behind : (h : R → R) (e : DevNo × R) (t : List (DevNo × R)) (d : DevNo) → same_dev d e.0 ≡ false → change h (e ∷ t) d ≡ e ∷ change h t d
+  change_behind h e t d other = rw other (by_found (at t d))
+    where
+      by_found : (o : Option R) → changed h (e ∷ t) d o ≡ e ∷ changed h t d o
+      by_found None = refl
+      by_found (Some r) = rw other refl
+
+  change_first : (h : R → R) (d : DevNo) (r : R) (t : List (DevNo × R)) → change h ((d, r) ∷ t) d ≡ (d, h r) ∷ t
+  change_first h d r t = rw (same_self d) (rw (same_self d) refl)
+
+  module _ (row : List ℕ → R) (width : ℕ) where
+    put_behind : (xs : List DeviceDef) (ws : List ℕ) (d : DevNo) (r : R) (t : List (DevNo × R)) → list_any (is_device d) xs ≡ false
+        → put_rows row width xs ws ((d, r) ∷ t) ≡ (d, r) ∷ put_rows row width xs ws t
+    put_behind [] ws d r t none = refl
+    put_behind (x ∷ xs) ws d r t none =
+        by_test (same_dev d x.dev) refl none (λ n. put_behind xs (drop width ws) d r (change (λ _. row ws) t x.dev) n)
+      where
+        by_test : (b : Bool) → same_dev d x.dev ≡ b → (b || list_any (is_device d) xs) ≡ false
+            → (list_any (is_device d) xs ≡ false → put_rows row width xs (drop width ws) ((d, r) ∷ change (λ _. row ws) t x.dev)
+            ≡ (d, r) ∷ put_rows row width xs (drop width ws) (change (λ _. row ws) t x.dev))
+            → put_rows row width (x ∷ xs) ws ((d, r) ∷ t) ≡ (d, r) ∷ put_rows row width (x ∷ xs) ws t
+        by_test true is n rest = cc
+        by_test false is n rest =
+            ap (λ (u : List (DevNo × R)). put_rows row width xs (drop width ws) u)
+            (change_behind (λ _. row ws) (d, r) t x.dev (same_both x.dev d ∙ is))
+            ∙ rest n
+
+    module _ (words : R → List ℕ → List ℕ) (wide : (r : R) (rest : List ℕ) → drop width (words r rest) ≡ rest)
+        (reads : (r : R) (rest : List ℕ) → row (words r rest) ≡ r) (f g : DevNo → R) where
+      pub put_is : (xs : List DeviceDef) (rest : List ℕ) → HasDistinctDevices xs
+          → put_rows row width xs (table_words words (table_by f xs) rest) (table_by g xs) ≡ table_by f xs
+      put_is [] rest own = refl
+      put_is (x ∷ xs) rest own =
+          let left = table_words words (table_by f xs) rest in
+          ap (λ (u : List (DevNo × R)). put_rows row width xs (drop width (words (f x.dev) left)) u)
+          (change_first (λ _. row (words (f x.dev) left)) x.dev (g x.dev) (table_by g xs))
+          ∙ (ap (λ (m : List ℕ). put_rows row width xs m ((x.dev, row (words (f x.dev) left)) ∷ table_by g xs)) (wide (f x.dev) left)
+          ∙ (ap (λ (r : R). put_rows row width xs left ((x.dev, r) ∷ table_by g xs)) (reads (f x.dev) left)
+          ∙ (put_behind xs left x.dev (f x.dev) (table_by g xs) own.0
+          ∙ ap (λ (t : List (DevNo × R)). (x.dev, f x.dev) ∷ t) (put_is xs rest own.1))))
+
+-- ---- marks
+
+mark_behind : (xs : List DeviceDef) (ws : List ℕ) (d : DevNo) (r : Bool) (t : List (DevNo × Bool)) → list_any (is_device d) xs ≡ false
+    → mark_rows xs ws ((d, r) ∷ t) ≡ (d, r) ∷ mark_rows xs ws t
+mark_behind [] ws d r t none = refl
+mark_behind (x ∷ xs) ws d r t none =
+    by_test (same_dev d x.dev) refl none (λ n. mark_behind xs (drop 1 ws) d r (mark_if (bit_at ws 0) t x.dev) n)
+  where
+    by_bit : (b : Bool) → same_dev x.dev d ≡ false → mark_if b ((d, r) ∷ t) x.dev ≡ (d, r) ∷ mark_if b t x.dev
+    by_bit true other = change_behind (λ _. true) (d, r) t x.dev other
+    by_bit false other = refl
+
+    by_test : (b : Bool) → same_dev d x.dev ≡ b → (b || list_any (is_device d) xs) ≡ false
+        → (list_any (is_device d) xs ≡ false → mark_rows xs (drop 1 ws) ((d, r) ∷ mark_if (bit_at ws 0) t x.dev)
+        ≡ (d, r) ∷ mark_rows xs (drop 1 ws) (mark_if (bit_at ws 0) t x.dev))
+        → mark_rows (x ∷ xs) ws ((d, r) ∷ t) ≡ (d, r) ∷ mark_rows (x ∷ xs) ws t
+    by_test true is n rest = cc
+    by_test false is n rest =
+        ap (λ (u : List (DevNo × Bool)). mark_rows xs (drop 1 ws) u) (by_bit (bit_at ws 0) (same_both x.dev d ∙ is))
+        ∙ rest n
+
+mark_first : (b : Bool) (d : DevNo) (t : List (DevNo × Bool)) → mark_if (one_if b == 1) ((d, false) ∷ t) d ≡ (d, b) ∷ t
+mark_first true d t = change_first (λ _. true) d false t
+mark_first false d t = refl
+
+pub marks_are : (f : DevNo → Bool) (xs : List DeviceDef) (rest : List ℕ) → HasDistinctDevices xs
+    → mark_rows xs (table_words begun_words (table_by f xs) rest) (table_by (λ _. false) xs) ≡ table_by f xs
+marks_are f [] rest own = refl
+marks_are f (x ∷ xs) rest own =
+    let left = table_words begun_words (table_by f xs) rest in
+    ap (λ (u : List (DevNo × Bool)). mark_rows xs left u) (mark_first (f x.dev) x.dev (table_by (λ _. false) xs))
+    ∙ (mark_behind xs left x.dev (f x.dev) (table_by (λ _. false) xs) own.0
+    ∙ ap (λ (t : List (DevNo × Bool)). (x.dev, f x.dev) ∷ t) (marks_are f xs rest own.1))

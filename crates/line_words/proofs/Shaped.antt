@@ -1,0 +1,226 @@
+-- What is read off the numbers of a canonical state is the state.
+use Rattle.std.proofs.Common.{◌≡◌, ℕ, ◌*◌, ◌==◌, Bool, false, ◌&&◌, is_some, List, [], ◌∷◌, ◌++◌, drop, length, refl, sym, ap, ◌∙◌, arith}
+use Rattle.std.proofs.lemmas.List.{append_assoc, append-nil}
+use Rattle.irq_base.specs.declared.calls.Flags.{Flags}
+use Rattle.irq_base.specs.declared.lines.LineDef.{LineDef}
+use Rattle.irq_base.specs.declared.numbers.DevNo.{DevNo}
+use Rattle.irq_base.specs.declared.numbers.DriverNo.{DriverNo}
+use Rattle.irq_model.specs.Lines.{serves}
+use Rattle.irq_model.specs.Spurious.{Counts}
+use Rattle.irq_model.specs.Valid.{IsValid}
+use Rattle.irq_laws.specs.Driven.{cell_with}
+use Rattle.device_table.specs.Rows.{table_by}
+use Rattle.device_table.specs.Sums.{one_if}
+use Rattle.act_list.specs.Lists.{ListSeen, flags_of, action_by}
+use Rattle.act_list.specs.declared.actions.Action.{Action}
+use Rattle.act_thread.specs.Steps.{idle_row}
+use Rattle.act_thread.specs.declared.rows.ThreadRow.{ThreadRow}
+use Rattle.affinity.specs.Seen.{AimSeen}
+use Rattle.ask_counts.specs.Rows.{no_asks}
+use Rattle.ask_counts.specs.declared.rows.AskRow.{AskRow}
+use Rattle.desc_state.specs.Desc.{DescSeen}
+use Rattle.spurious.specs.Seen.{CountsSeen}
+use Rattle.line_marks.specs.Kinds.{kinds_of}
+use Rattle.line_marks.specs.Rounds.{RoundSeen}
+use Rattle.line_marks.specs.State.{StateSeen, first_state}
+use Rattle.line_futures.specs.Canon.{without_bits}
+use Rattle.line_words.proofs.Putting.{bit_is, cpu_is, dev_is, mask_is, freeing_is, thread_is, ask_is, linked_is, behind_table, put_is, marks_are}
+use Rattle.line_words.specs.Again.{unbitted}
+use Rattle.line_words.specs.Reading.{with_fixed, with_rows, with_linked, linked_from, linked_in, link_all, marks_from, threads_from, asks_from, places_from}
+use Rattle.line_words.specs.Reading.{desc_in, cell_in, aim_in, round_in, counts_in, mark_rows, put_rows, thread_in, ask_in}
+use Rattle.line_words.specs.Words.{state_words, table_words, begun_words, thread_words, ask_words, linked_words}
+
+-- the state is a canonical one of the line: these are its tables, and these devices are linked
+pub record IsShaped (def : LineDef) (f : DevNo → Bool) (g : DevNo → ThreadRow) (h : DevNo → AskRow) (fl : List (DevNo × Flags)) (s : StateSeen)
+    : Type 0 where
+  pub unlazy : s.desc.unlazy ≡ def.unlazy
+  pub cell : s.cell ≡ cell_with def s.desc.masked s.cell.stored s.cell.sent s.cell.high (serves def && is_some s.desc.flow)
+  pub active : s.active ≡ false
+  pub aimed : s.aimed ≡ 0
+  pub cpus : s.aim.cpus ≡ def.cpus
+  pub later : s.aim.later ≡ def.later
+  pub actions : s.list.actions ≡ without_bits fl
+  pub begun : s.list.begun ≡ table_by f def.devices
+  pub rounds : s.list.rounds ≡ 0
+  pub threads : s.threads ≡ table_by g def.devices
+  pub asks : s.asks ≡ table_by h def.devices
+  pub kinds : s.kinds ≡ kinds_of def
+  pub window : s.counts.window ≡ def.window
+  pub limit : s.counts.limit ≡ def.limit
+  pub last : s.counts.counts.last ≡ 0
+
+state_by : (a b : StateSeen) → a.desc ≡ b.desc → a.cell ≡ b.cell → a.active ≡ b.active → a.aimed ≡ b.aimed → a.aim ≡ b.aim → a.list ≡ b.list
+    → a.threads ≡ b.threads → a.asks ≡ b.asks → a.kinds ≡ b.kinds → a.round ≡ b.round → a.counts ≡ b.counts → a.freeing ≡ b.freeing → a ≡ b
+state_by a b c d e f g h i j k l m n =
+    (let x : ◌≡◌ {A = StateSeen} (record {
+      desc = a.desc;
+      cell = a.cell;
+      active = a.active;
+      aimed = a.aimed;
+      aim = a.aim;
+      list = a.list;
+      threads = a.threads;
+      asks = a.asks;
+      kinds = a.kinds;
+      round = a.round;
+      counts = a.counts;
+      freeing = a.freeing;
+    }) b = rw (c, d, e, f, g, h, i, j, k, l, m, n) refl in x)
+
+desc_by : (d e : DescSeen) → d.unlazy ≡ e.unlazy → d.depth ≡ e.depth → d.started ≡ e.started → d.masked ≡ e.masked
+    → d.pending ≡ e.pending → d.oneshot ≡ e.oneshot → d.spurious ≡ e.spurious → d.soft ≡ e.soft → d.flow ≡ e.flow → d ≡ e
+desc_by d e a b c f g h i j k =
+    (let x : ◌≡◌ {A = DescSeen} (record {
+      unlazy = d.unlazy;
+      depth = d.depth;
+      started = d.started;
+      masked = d.masked;
+      pending = d.pending;
+      oneshot = d.oneshot;
+      spurious = d.spurious;
+      soft = d.soft;
+      flow = d.flow;
+    }) e = rw (a, b, c, f, g, h, i, j, k) refl in x)
+
+aim_by : (a b : AimSeen) → a.cpus ≡ b.cpus → a.later ≡ b.later → a.mask ≡ b.mask → a.waiting ≡ b.waiting → a ≡ b
+aim_by a b c d e f = (let x : ◌≡◌ {A = AimSeen} (record { cpus = a.cpus; later = a.later; mask = a.mask; waiting = a.waiting }) b = rw (c, d, e, f) refl in x)
+
+list_by : (a b : ListSeen) → a.actions ≡ b.actions → a.begun ≡ b.begun → a.rounds ≡ b.rounds → a ≡ b
+list_by a b c d e = (let x : ◌≡◌ {A = ListSeen} (record { actions = a.actions; begun = a.begun; rounds = a.rounds }) b = rw (c, d, e) refl in x)
+
+round_by : (a b : RoundSeen) → a.working ≡ b.working → a.wakes ≡ b.wakes → a.handles ≡ b.handles → a.moment ≡ b.moment → a ≡ b
+round_by a b c d e f =
+    (let x : ◌≡◌ {A = RoundSeen} (record { working = a.working; wakes = a.wakes; handles = a.handles; moment = a.moment }) b = rw (c, d, e, f) refl in x)
+
+tally_by : (a b : Counts) → a.irq_count ≡ b.irq_count → a.irqs_unhandled ≡ b.irqs_unhandled → a.threads_handled ≡ b.threads_handled
+    → a.deferred ≡ b.deferred → a.last ≡ b.last → a.last_unhandled ≡ b.last_unhandled → a ≡ b
+tally_by a b c d e f g h =
+    (let x : ◌≡◌ {A = Counts} (record {
+      irq_count = a.irq_count;
+      irqs_unhandled = a.irqs_unhandled;
+      threads_handled = a.threads_handled;
+      deferred = a.deferred;
+      last = a.last;
+      last_unhandled = a.last_unhandled;
+    }) b = rw (c, d, e, f, g, h) refl in x)
+
+counts_by : (a b : CountsSeen) → a.window ≡ b.window → a.limit ≡ b.limit → a.counts ≡ b.counts → a ≡ b
+counts_by a b c d e = (let x : ◌≡◌ {A = CountsSeen} (record { window = a.window; limit = a.limit; counts = a.counts }) b = rw (c, d, e) refl in x)
+
+-- the flags of what is linked, one after another
+pub flags_more : (t : List (DevNo × Action)) (d : DevNo) (a : Action) → flags_of (t ++ (d, a) ∷ []) ≡ flags_of t ++ (d, a.flags) ∷ []
+flags_more [] d a = refl
+flags_more (e ∷ es) d a = ap (λ (l : List (DevNo × Flags)). (e.0, e.1.flags) ∷ l) (flags_more es d a)
+
+pub flags_linked : (fl : List (DevNo × Flags)) (t : List (DevNo × Action)) → flags_of (link_all fl t) ≡ flags_of t ++ fl
+flags_linked [] t = sym (append-nil (flags_of t))
+flags_linked (e ∷ es) t =
+    flags_linked es (t ++ (e.0, action_by e.1 t) ∷ [])
+    ∙ (ap (λ (l : List (DevNo × Flags)). l ++ es) (flags_more t e.0 (action_by e.1 t)) ∙ append_assoc (flags_of t) (e ∷ []) es)
+
+module _ (def : LineDef) (valid : IsValid def) (rs : List DriverNo) (f : DevNo → Bool) (g : DevNo → ThreadRow) (h : DevNo → AskRow)
+    (fl : List (DevNo × Flags)) (s : StateSeen) (shaped : IsShaped def f g h fl s) (places : List ℕ → List ℕ)
+    (behind : (rest : List ℕ) → drop (2 * length rs) (places rest) ≡ rest) where
+  abbrev pub ws : List ℕ
+  ws = state_words s places
+
+  abbrev linked : List ℕ
+  linked = linked_words (flags_of s.list.actions)
+
+  abbrev asks_words : List ℕ
+  asks_words = table_words ask_words (table_by h def.devices) (places (linked_words (flags_of s.list.actions)))
+
+  abbrev threads_words : List ℕ
+  threads_words = table_words thread_words (table_by g def.devices)
+      (table_words ask_words (table_by h def.devices) (places (linked_words (flags_of s.list.actions))))
+
+  -- the tables' numbers, where they are looked for
+  marks_there : marks_from ws ≡ table_words begun_words (table_by f def.devices) threads_words
+  marks_there = ap (λ (t : List (DevNo × Bool)). table_words begun_words t
+      (table_words thread_words s.threads (table_words ask_words s.asks (places linked)))) shaped.begun
+      ∙ (ap (λ (t : List (DevNo × ThreadRow)). table_words begun_words (table_by f def.devices)
+          (table_words thread_words t (table_words ask_words s.asks (places linked)))) shaped.threads
+      ∙ ap (λ (t : List (DevNo × AskRow)). table_words begun_words (table_by f def.devices)
+          (table_words thread_words (table_by g def.devices) (table_words ask_words t (places linked)))) shaped.asks)
+
+  threads_there : threads_from def ws ≡ threads_words
+  threads_there =
+      ap (λ (m : List ℕ). drop (length def.devices) m) marks_there
+      ∙ (ap (λ n. drop n (table_words begun_words (table_by f def.devices) threads_words))
+          (let e : length def.devices ≡ 1 * length def.devices = omega arith in e)
+      ∙ behind_table begun_words 1 (λ r rest. refl) (λ n. omega arith) f def.devices threads_words)
+
+  asks_there : asks_from def ws ≡ asks_words
+  asks_there =
+      ap (λ (m : List ℕ). drop (3 * length def.devices) m) threads_there
+      ∙ behind_table thread_words 3 (λ r rest. refl) (λ n. omega arith) g def.devices asks_words
+
+  pub places_there : places_from def ws ≡ places linked
+  places_there =
+      ap (λ (m : List ℕ). drop (4 * length def.devices) m) asks_there
+      ∙ behind_table ask_words 4 (λ r rest. refl) (λ n. omega arith) h def.devices (places linked)
+
+  pub linked_there : linked_in (linked_from def rs ws) ≡ fl
+  linked_there =
+      ap (λ (m : List ℕ). linked_in (drop (2 * length rs) m)) places_there
+      ∙ (ap linked_in (behind linked) ∙ (linked_is (flags_of s.list.actions)
+      ∙ (ap flags_of shaped.actions ∙ flags_bare fl)))
+    where
+      flags_bare : (xs : List (DevNo × Flags)) → flags_of (without_bits xs) ≡ xs
+      flags_bare [] = refl
+      flags_bare (e ∷ es) = ap (λ (l : List (DevNo × Flags)). e ∷ l) (flags_bare es)
+
+  abbrev pub read_state : StateSeen
+  read_state = with_linked (linked_from def rs ws) (with_rows def ws (with_fixed def ws (first_state def)))
+
+  desc_is : desc_in def ws ≡ s.desc
+  desc_is = desc_by (desc_in def ws) s.desc (sym shaped.unlazy) refl (bit_is s.desc.started) (bit_is s.desc.masked) (bit_is s.desc.pending)
+      (bit_is s.desc.oneshot) (bit_is s.desc.spurious) (bit_is s.desc.soft) (cpu_is s.desc.flow)
+
+  cell_is : cell_in def ws ≡ s.cell
+  cell_is =
+      ap (λ b. cell_with def b (one_if s.cell.stored == 1) (one_if s.cell.sent == 1) (one_if s.cell.high == 1)
+          (serves def && (one_if (is_some s.desc.flow) == 1))) (bit_is s.desc.masked)
+      ∙ (ap (λ b. cell_with def s.desc.masked b (one_if s.cell.sent == 1) (one_if s.cell.high == 1)
+          (serves def && (one_if (is_some s.desc.flow) == 1))) (bit_is s.cell.stored)
+      ∙ (ap (λ b. cell_with def s.desc.masked s.cell.stored b (one_if s.cell.high == 1)
+          (serves def && (one_if (is_some s.desc.flow) == 1))) (bit_is s.cell.sent)
+      ∙ (ap (λ b. cell_with def s.desc.masked s.cell.stored s.cell.sent b (serves def && (one_if (is_some s.desc.flow) == 1))) (bit_is s.cell.high)
+      ∙ (ap (λ b. cell_with def s.desc.masked s.cell.stored s.cell.sent s.cell.high (serves def && b)) (bit_is (is_some s.desc.flow))
+      ∙ sym shaped.cell))))
+
+  pub aim_is : aim_in def ws ≡ s.aim
+  aim_is = aim_by (aim_in def ws) s.aim (sym shaped.cpus) (sym shaped.later) refl (mask_is s.aim.waiting)
+
+  round_is : round_in ws ≡ s.round
+  round_is = round_by (round_in ws) s.round (dev_is s.round.working) (bit_is s.round.wakes) (bit_is s.round.handles) refl
+
+  counts_are : ◌≡◌ {A = CountsSeen} (record { window = def.window; limit = def.limit; counts = counts_in ws }) s.counts
+  counts_are = counts_by (record { window = def.window; limit = def.limit; counts = counts_in ws }) s.counts (sym shaped.window) (sym shaped.limit)
+      (tally_by (counts_in ws) s.counts.counts refl refl refl (bit_is s.counts.counts.deferred) (sym shaped.last) refl)
+
+  begun_is : mark_rows def.devices (marks_from ws) (table_by (λ _. false) def.devices) ≡ s.list.begun
+  begun_is = ap (λ (m : List ℕ). mark_rows def.devices m (table_by (λ _. false) def.devices)) marks_there
+      ∙ (marks_are f def.devices threads_words valid.distinct ∙ sym shaped.begun)
+
+  threads_are : put_rows thread_in 3 def.devices (threads_from def ws) (table_by (λ _. idle_row) def.devices) ≡ s.threads
+  threads_are = ap (λ (m : List ℕ). put_rows thread_in 3 def.devices m (table_by (λ _. idle_row) def.devices)) threads_there
+      ∙ (put_is thread_in 3 thread_words (λ r rest. refl) thread_is g (λ _. idle_row) def.devices asks_words valid.distinct ∙ sym shaped.threads)
+
+  asks_are : put_rows ask_in 4 def.devices (asks_from def ws) (table_by (λ _. no_asks) def.devices) ≡ s.asks
+  asks_are = ap (λ (m : List ℕ). put_rows ask_in 4 def.devices m (table_by (λ _. no_asks) def.devices)) asks_there
+      ∙ (put_is ask_in 4 ask_words (λ r rest. refl) ask_is h (λ _. no_asks) def.devices (places linked) valid.distinct ∙ sym shaped.asks)
+
+  actions_are : without_bits (flags_of (link_all (linked_in (linked_from def rs ws)) [])) ≡ s.list.actions
+  actions_are = ap (λ (l : List (DevNo × Flags)). without_bits (flags_of (link_all l []))) linked_there
+      ∙ (ap without_bits (flags_linked fl []) ∙ sym shaped.actions)
+
+  pub read_is : unbitted (with_linked (linked_from def rs ws) (with_rows def ws (with_fixed def ws (first_state def)))) ≡ s
+  read_is = state_by (unbitted (with_linked (linked_from def rs ws) (with_rows def ws (with_fixed def ws (first_state def))))) s
+      desc_is cell_is (sym shaped.active) (sym shaped.aimed) aim_is
+      (list_by (record {
+        actions = without_bits (flags_of (link_all (linked_in (linked_from def rs ws)) []));
+        begun = mark_rows def.devices (marks_from ws) (table_by (λ _. false) def.devices);
+        rounds = 0;
+      }) s.list actions_are begun_is (sym shaped.rounds))
+      threads_are asks_are (sym shaped.kinds) round_is counts_are (freeing_is s.freeing)

@@ -1,0 +1,6 @@
+pub mod Words
+pub mod Told
+pub mod Node
+pub mod Reading
+pub mod Again
+pub mod Scripts

@@ -1,0 +1,192 @@
+-- A state as it is read off numbers.
+use Rattle.std.specs.Prelude.{ℕ, ◌+◌, ◌*◌, ◌==◌, Bool, true, false, if◌then◌else◌, Option, Some}
+use Rattle.std.specs.Prelude.{None, ◌&&◌, List, [], ◌∷◌, ◌++◌, drop, length, slice_get, unwrap_or}
+use Rattle.irq_base.specs.Cell.{Cell}
+use Rattle.irq_base.specs.declared.calls.Flags.{Flags}
+use Rattle.irq_base.specs.declared.devices.DeviceDef.{DeviceDef}
+use Rattle.irq_base.specs.declared.lines.LineDef.{LineDef}
+use Rattle.irq_base.specs.declared.numbers.CpuNo.{CpuNo}
+use Rattle.irq_base.specs.declared.numbers.DevNo.{DevNo}
+use Rattle.irq_base.specs.declared.numbers.DriverNo.{DriverNo}
+use Rattle.irq_model.specs.Lines.{serves}
+use Rattle.irq_model.specs.Spurious.{Counts}
+use Rattle.irq_laws.specs.Driven.{cell_with}
+use Rattle.device_table.specs.Rows.{change}
+use Rattle.act_list.specs.Lists.{action_by}
+use Rattle.act_list.specs.declared.actions.Action.{Action}
+use Rattle.act_thread.specs.declared.rows.Stage.{Stage}
+use Rattle.act_thread.specs.declared.rows.Stage.TheVariants as stages
+use Rattle.act_thread.specs.declared.rows.ThreadRow.{ThreadRow}
+use Rattle.affinity.specs.Seen.{AimSeen}
+use Rattle.ask_counts.specs.declared.rows.AskRow.{AskRow}
+use Rattle.desc_state.specs.Desc.{DescSeen}
+use Rattle.line_scripts.specs.Rows.{RowSeen, gone_to}
+use Rattle.line_marks.specs.Rounds.{RoundSeen}
+use Rattle.line_marks.specs.State.{StateSeen}
+
+-- the number at the place, 0 behind the last
+abbrev pub word_at : List ℕ → ℕ → ℕ
+word_at ws i = unwrap_or (slice_get ws i) 0
+
+abbrev pub bit_at : List ℕ → ℕ → Bool
+bit_at ws i = word_at ws i == 1
+
+abbrev pub cpu_at : List ℕ → ℕ → Option CpuNo
+cpu_at ws i = if bit_at ws i then Some (record { 0 = word_at ws (i + 1) }) else None
+
+abbrev pub dev_at : List ℕ → ℕ → Option DevNo
+dev_at ws i = if bit_at ws i then Some (record { 0 = word_at ws (i + 1) }) else None
+
+abbrev pub mask_at : List ℕ → ℕ → Option ℕ
+mask_at ws i = if bit_at ws i then Some (word_at ws (i + 1)) else None
+
+-- ---- the parts that have a fixed place
+
+abbrev pub desc_in : LineDef → List ℕ → DescSeen
+desc_in def ws = record {
+  unlazy = def.unlazy;
+  depth = word_at ws 0;
+  started = bit_at ws 1;
+  masked = bit_at ws 2;
+  pending = bit_at ws 3;
+  oneshot = bit_at ws 4;
+  spurious = bit_at ws 5;
+  soft = bit_at ws 6;
+  flow = cpu_at ws 7;
+}
+
+-- the mask is the descriptor's, and an interrupt is in service while a flow is in progress
+abbrev pub cell_in : LineDef → List ℕ → Cell
+cell_in def ws =
+    cell_with def (bit_at ws 2) (bit_at ws 9) (bit_at ws 10) (bit_at ws 11)
+    (serves def && bit_at ws 7)
+
+abbrev pub aim_in : LineDef → List ℕ → AimSeen
+aim_in def ws = record {
+  cpus = def.cpus;
+  later = def.later;
+  mask = word_at ws 12;
+  waiting = mask_at ws 13;
+}
+
+abbrev pub round_in : List ℕ → RoundSeen
+round_in ws = record {
+  working = dev_at ws 15;
+  wakes = bit_at ws 17;
+  handles = bit_at ws 18;
+  moment = word_at ws 19;
+}
+
+abbrev pub counts_in : List ℕ → Counts
+counts_in ws = record {
+  irq_count = word_at ws 20;
+  irqs_unhandled = word_at ws 21;
+  threads_handled = word_at ws 22;
+  deferred = bit_at ws 23;
+  last = 0;
+  last_unhandled = word_at ws 24;
+}
+
+abbrev pub freeing_in : List ℕ → Option (DriverNo × DevNo)
+freeing_in ws =
+    if bit_at ws 25 then Some (record { 0 = word_at ws 26 }, record { 0 = word_at ws 27 }) else None
+
+-- how many numbers have a fixed place
+abbrev pub fixed : ℕ
+fixed = 28
+
+-- the state with these parts in place of its own; the chip is neither active nor aimed
+abbrev pub with_fixed : LineDef → List ℕ → StateSeen → StateSeen
+with_fixed def ws s = record s {
+  desc = desc_in def ws;
+  cell = cell_in def ws;
+  active = false;
+  aimed = 0;
+  aim = aim_in def ws;
+  round = round_in ws;
+  counts = record { window = def.window; limit = def.limit; counts = counts_in ws };
+  freeing = freeing_in ws;
+}
+
+-- ---- the tables
+
+abbrev pub stage_in : ℕ → Stage
+stage_in n =
+    if n == 1 then stages.Begun else (if n == 2 then stages.Returned
+    else (if n == 3 then stages.Finished else stages.Idle))
+
+abbrev pub thread_in : List ℕ → ThreadRow
+thread_in ws =
+    record { woken = bit_at ws 0; stage = stage_in (word_at ws 1); held = bit_at ws 2 }
+
+abbrev pub ask_in : List ℕ → AskRow
+ask_in ws = record {
+  unserved = word_at ws 0;
+  fresh = word_at ws 1;
+  met_by_handler = word_at ws 2;
+  met_by_thread = word_at ws 3;
+}
+
+-- the row of each device is put; a row has that many numbers
+abbrev pub put_rows : {R : Type 0} → (List ℕ → R) → ℕ → List DeviceDef → List ℕ → List (DevNo × R)
+    → List (DevNo × R)
+put_rows row width [] ws t = t
+put_rows row width (x ∷ xs) ws t =
+    put_rows row width xs (drop width ws) (change (λ _. row ws) t x.dev)
+
+abbrev pub mark_if : Bool → List (DevNo × Bool) → DevNo → List (DevNo × Bool)
+mark_if b t d = if b then change (λ _. true) t d else t
+
+-- the devices whose handlers were called are marked
+abbrev pub mark_rows : List DeviceDef → List ℕ → List (DevNo × Bool) → List (DevNo × Bool)
+mark_rows [] ws t = t
+mark_rows (x ∷ xs) ws t = mark_rows xs (drop 1 ws) (mark_if (bit_at ws 0) t x.dev)
+
+-- ---- the linked devices
+
+abbrev pub flags_in : ℕ → ℕ → ℕ → Flags
+flags_in s o n = record { shared = s == 1; oneshot = o == 1; noauto = n == 1 }
+
+abbrev pub linked_in : List ℕ → List (DevNo × Flags)
+linked_in (d ∷ s ∷ o ∷ n ∷ ws) = (record { 0 = d }, flags_in s o n) ∷ linked_in ws
+linked_in _ = []
+
+-- they are linked one after another
+abbrev pub link_all : List (DevNo × Flags) → List (DevNo × Action) → List (DevNo × Action)
+link_all [] t = t
+link_all (e ∷ es) t = link_all es (t ++ (e.0, action_by e.1 t) ∷ [])
+
+-- ---- the whole
+
+-- each driver goes to its place
+abbrev pub go_all : List DriverNo → List ℕ → List (DriverNo × RowSeen) → List (DriverNo × RowSeen)
+go_all [] ws s = s
+go_all (r ∷ rs) ws s = go_all rs (drop 2 ws) (gone_to r (word_at ws 0) (word_at ws 1) s)
+
+abbrev pub marks_from : List ℕ → List ℕ
+marks_from ws = drop fixed ws
+
+abbrev pub threads_from : LineDef → List ℕ → List ℕ
+threads_from def ws = drop (length def.devices) (marks_from ws)
+
+abbrev pub asks_from : LineDef → List ℕ → List ℕ
+asks_from def ws = drop (3 * length def.devices) (threads_from def ws)
+
+abbrev pub places_from : LineDef → List ℕ → List ℕ
+places_from def ws = drop (4 * length def.devices) (asks_from def ws)
+
+abbrev pub linked_from : LineDef → List DriverNo → List ℕ → List ℕ
+linked_from def rs ws = drop (2 * length rs) (places_from def ws)
+
+-- the tables of the state with these rows in place of their own
+abbrev pub with_rows : LineDef → List ℕ → StateSeen → StateSeen
+with_rows def ws s = record s {
+  list = record s.list { begun = mark_rows def.devices (marks_from ws) s.list.begun };
+  threads = put_rows thread_in 3 def.devices (threads_from def ws) s.threads;
+  asks = put_rows ask_in 4 def.devices (asks_from def ws) s.asks;
+}
+
+abbrev pub with_linked : List ℕ → StateSeen → StateSeen
+with_linked ws s = record s {
+  list = record s.list { actions = link_all (linked_in ws) s.list.actions };
+}

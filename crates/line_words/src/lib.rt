@@ -1,0 +1,20 @@
+//! The state of a line as numbers, one a field, and back. Two legal histories have the same numbers
+//! exactly if the future can't tell them apart, so a search through the states of a line compares
+//! numbers.
+//!
+//! `write` writes the numbers of a state and of the drivers' places, and `read` makes the state of
+//! them again and takes the drivers to their places.
+#![tactic(auto)]
+
+pub mod laws;
+mod linking;
+mod parts;
+mod places;
+mod reading;
+mod rows;
+mod telling;
+mod words;
+mod writing;
+
+pub use reading::read;
+pub use writing::write;

@@ -1,0 +1,93 @@
+//! The state that numbers tell.
+ghost use Rattle.std.specs.Prelude.{◌≡◌, ◌≤◌, List, length, IfOk, OnOk};
+ghost use Rattle.irq_base.specs.declared.entries.Entry.{Entry};
+ghost use Rattle.irq_base.specs.declared.numbers.DriverNo.{DriverNo};
+ghost use Rattle.irq_model.specs.Legal.{IsLegalPast};
+ghost use Rattle.irq_model.specs.Valid.{IsValid};
+ghost use Rattle.line_futures.specs.Canon.{canon};
+ghost use Rattle.line_marks.specs.Scripts.{IsAt};
+ghost use Rattle.line_marks.specs.State.{first_state, state_of};
+ghost use Rattle.line_scripts.specs.Rows.{place_of, within_of};
+ghost use Rattle.line_words.specs.Again.{unbitted, Fits};
+ghost use Rattle.line_words.specs.Node.{node, drivers_in};
+ghost use Rattle.line_words.specs.Reading.{with_fixed, with_rows, with_linked, go_all, linked_from};
+ghost use Rattle.line_words.specs.Reading.{places_from};
+ghost use Rattle.line_words.specs.Scripts.{AreScripts};
+
+use crate::linking::link;
+use crate::parts::put_parts;
+use crate::places::go_all;
+use crate::rows::put_tables;
+use crate::words::serves;
+use irq_base::{DriverNo, LineDef, NoMemory};
+use line_cell::Cell;
+use line_scripts::Scripts;
+use line_state::LineState;
+use std::alloc::Global;
+
+/// A state of a line of that definition to which nothing has happened. The only error is
+/// `NoMemory`.
+fn fresh(alloc: Global, def: &LineDef) -> Result<LineState<Cell>, NoMemory>
+    requires { IsValid def.now }
+    ensures { IfOk result (λ s. s.state ≡ first_state def.now) }
+{
+    let cell = Cell::new(
+        def.trigger,
+        def.keeps,
+        def.recalls,
+        def.retriggers,
+        serves(def),
+    );
+    LineState::new(alloc, def, cell)
+}
+
+/// The state as it is read off the numbers, whatever history they are of.
+fn made(
+    alloc: Global,
+    def: &LineDef,
+    drivers: &[DriverNo],
+    scripts: &mut Scripts,
+    words: &[u32],
+) -> Result<LineState<Cell>, NoMemory>
+    requires valid { IsValid def.now }
+    requires fits { Fits def.now drivers.now words.now }
+    ensures state { IfOk result (λ s. s.state
+        ≡ with_linked (linked_from def.now drivers.now words.now)
+        (with_rows def.now words.now (with_fixed def.now words.now (first_state def.now)))) }
+    ensures scripts { OnOk result
+        (scripts.new ≡ go_all drivers.now (places_from def.now words.now) scripts.old) }
+{
+    let mut state = fresh(alloc, def)?;
+    put_parts(&mut state, def, words);
+    let places = put_tables(&mut state, def, words);
+    let linked = go_all(scripts, drivers, places);
+    link(&mut state, linked)?;
+    Ok(state)
+}
+
+/// The state of a line after a legal history with these numbers, as far as the future depends on
+/// it: its canonical state, in which each one-shot action has a thread bit again. The drivers go to
+/// their places. `drivers` are those that have calls on the line, in the order of the numbers. The
+/// only error is `NoMemory`.
+pub fn read(
+    alloc: Global,
+    def: &LineDef,
+    drivers: &[DriverNo],
+    scripts: &mut Scripts,
+    words: &[u32],
+) -> Result<LineState<Cell>, NoMemory>
+    requires valid { IsValid def.now }
+    requires drivers { drivers.now ≡ drivers_in def.now.calls }
+    requires scripts { AreScripts def.now scripts.old }
+    requires past { (past : List Entry) × IsLegalPast def.now past
+        × (words.now ≡ node def.now past) × (length past ≤ 100000000) }
+    ensures state { IfOk result (λ s. (past : List Entry) → IsLegalPast def.now past
+        → words.now ≡ node def.now past
+        → unbitted s.state ≡ canon (state_of def.now past)) }
+    ensures scripts { OnOk result (AreScripts def.now scripts.new) }
+    ensures places { OnOk result ((past : List Entry) → IsLegalPast def.now past
+        → words.now ≡ node def.now past
+        → (r : DriverNo) → IsAt def.now past r (place_of scripts.new r) (within_of scripts.new r)) }
+{
+    made(alloc, def, drivers, scripts, words)
+}
