@@ -1,13 +1,22 @@
 -- What a command does that takes a board.
-use Rattle.std.proofs.Common.{◌≡◌, ℕ, Bool, false, inr, Option, Some, None, Ok, List, [], refl}
+use Rattle.std.proofs.Common.{◌≡◌, ℕ, Bool, false, inr, Option, Some, None, Ok, List, [], refl, sym, subst}
+use Rattle.irq_base.specs.declared.numbers.LineNo.{LineNo}
 use Rattle.irq_base.specs.declared.reporting.LineReport.{LineReport}
+use Rattle.board_words.specs.declared.faults.FaultKind.{FaultKind}
+use Rattle.board_words.specs.declared.faults.FaultKind.TheVariants as faults
+use Rattle.chained_play.specs.Played.{ChainsBoard}
+use Rattle.irq_chained.specs.Fits.{is_for_chain}
+use Rattle.irq_pm.specs.SleptBoard.{is_for_sleep}
+use Rattle.irq_play.specs.declared.ending.PlayedEnd.{PlayedEnd}
+use Rattle.irq_play.specs.declared.ending.PlayedEnd.TheVariants as plays
+use Rattle.sleep_play.specs.Played.{SleepsBoard}
 use Rattle.board_def.specs.Rules.{IsBoard}
 use Rattle.board_def.specs.Seen.{BoardSeen}
 use Rattle.irq_play.specs.declared.ending.Wanted.TheVariants as wants
 use Rattle.irq_top.specs.declared.ending.Ending.{Ending}
 use Rattle.irq_top.specs.declared.ending.Ending.TheVariants as endings
-use Rattle.irq_top.specs.Commands.{ChainsAs, IsReadToEnd, PlaysAs, RunsAs, TakesBoard}
-use Rattle.irq_top.specs.Ending.{is_read_fault_end}
+use Rattle.irq_top.specs.Commands.{ChainsAs, EndsIfFit, IsReadToEnd, PlaysAs, RunsAs, SleepsAs, TakesBoard}
+use Rattle.irq_top.specs.Ending.{ending_of_play, is_read_fault_end}
 use Rattle.program_io.specs.Reading.{IsStated, ReadsBoard}
 
 read_to_end : (told left : Option (List ℕ)) (b : BoardSeen) → ReadsBoard told left (Ok b) → IsReadToEnd told left
@@ -73,8 +82,31 @@ runs_are_sane summary = record {
   unmade = λ b reports before now unmade. unmade;
 }
 
+-- the call ends as the play did
+module _ (IsntFor : BoardSeen → Type 0) (kind : FaultKind)
+    (Plays : BoardSeen → List LineReport → Option (List ℕ) → Option (List ℕ) → PlayedEnd → Type 0) (b : BoardSeen) (before now : Option (List ℕ)) where
+  by_end : (reports : List LineReport) (end : PlayedEnd) → Plays b reports before now end → EndsIfFit IsntFor kind Plays b reports before now (ending_of_play end)
+  by_end reports plays.Done played = played
+  by_end reports plays.WriteFault played = played
+  by_end reports (plays.LogFull line len) played = played
+  by_end reports (plays.NoMemory wanted) played = played
+
+  pub ends_as_played : (reports told : List LineReport) (end : PlayedEnd) (ending : Ending) → ending ≡ ending_of_play end
+      → told ≡ reports → Plays b reports before now end → EndsIfFit IsntFor kind Plays b told before now ending
+  ends_as_played reports told end ending is handed played =
+      subst (λ (e : Ending). EndsIfFit IsntFor kind Plays b told before now e) (sym is)
+      (subst (λ (rs : List LineReport). EndsIfFit IsntFor kind Plays b rs before now (ending_of_play end)) (sym handed)
+      (by_end reports end played))
+
+-- a play that not every board is for, if it has no reports where it wanted memory to be made
+fitting_is_sane : (IsntFor : BoardSeen → Type 0) (kind : FaultKind)
+    (Plays : BoardSeen → List LineReport → Option (List ℕ) → Option (List ℕ) → PlayedEnd → Type 0)
+    → ((b : BoardSeen) (reports : List LineReport) (before now : Option (List ℕ)) → Plays b reports before now (plays.NoMemory wants.Making) → reports ≡ [])
+    → IsSane (EndsIfFit IsntFor kind Plays)
+fitting_is_sane IsntFor kind Plays unmade = record { no_read_fault = λ b reports before now none. none; unmade = unmade }
+
 pub chains_are_sane : IsSane ChainsAs
-chains_are_sane = record {
-  no_read_fault = λ b reports before now none. none;
-  unmade = λ b reports before now unmade. unmade;
-}
+chains_are_sane = fitting_is_sane (λ b. is_for_chain b ≡ false) faults.NotForChain ChainsBoard (λ b reports before now unmade. unmade)
+
+pub sleeps_are_sane : (armed : List LineNo) → IsSane (SleepsAs armed)
+sleeps_are_sane armed = fitting_is_sane (λ b. is_for_sleep b armed ≡ false) faults.NotForSleep (λ b. SleepsBoard b armed) (λ b reports before now unmade. unmade)

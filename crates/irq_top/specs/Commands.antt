@@ -2,6 +2,7 @@
 -- what it has left of them; `before` and `now` are what the output has; `reports` are the histories
 -- that are handed out.
 use Rattle.std.specs.Prelude.{◌≡◌, ◌⊎◌, ℕ, Bool, true, false, Option, Some, None, Err, List, []}
+use Rattle.irq_base.specs.declared.numbers.LineNo.{LineNo}
 use Rattle.irq_base.specs.declared.reporting.LineReport.{LineReport}
 use Rattle.board_def.specs.Rules.{IsBoard}
 use Rattle.board_def.specs.Seen.{BoardSeen}
@@ -17,6 +18,8 @@ use Rattle.irq_check.specs.declared.answers.Answer.TheVariants as answers
 use Rattle.irq_check.specs.declared.printing.CheckEnd.{CheckEnd}
 use Rattle.irq_check.specs.declared.printing.CheckEnd.TheVariants as checks
 use Rattle.irq_play.specs.Played.{PlaysBoard}
+use Rattle.irq_pm.specs.SleptBoard.{is_for_sleep}
+use Rattle.sleep_play.specs.Played.{SleepsBoard}
 use Rattle.irq_play.specs.declared.ending.PlayedEnd.{PlayedEnd}
 use Rattle.irq_play.specs.declared.ending.PlayedEnd.TheVariants as plays
 use Rattle.irq_play.specs.declared.ending.Wanted.TheVariants as wants
@@ -108,6 +111,13 @@ abbrev pub ChainsAs : BoardSeen → List LineReport → Option (List ℕ) → Op
     → Type 0
 ChainsAs = EndsIfFit (λ b. is_for_chain b ≡ false) faults.NotForChain ChainsBoard
 
+-- a board was played with a sleep, from which the armed lines wake it; exactly a board that isn't
+-- for it, with these lines, is refused
+abbrev pub SleepsAs : List LineNo → BoardSeen → List LineReport → Option (List ℕ)
+    → Option (List ℕ) → Ending → Type 0
+SleepsAs armed = EndsIfFit (λ b. is_for_sleep b armed ≡ false) faults.NotForSleep
+    (λ b. SleepsBoard b armed)
+
 -- a board was run by threads. If all is printed, or after a fault of the output, the headline of a
 -- run holds; else it was run until a log was full
 abbrev pub RunsAs : Bool → BoardSeen → List LineReport → Option (List ℕ) → Option (List ℕ) → Ending
@@ -146,9 +156,9 @@ Checks told left reports before now endings.ReadFault =
 Checks told left reports before now (endings.NoMemory wants.Making) = reports ≡ []
 Checks told left reports before now _ = ⊥
 
--- what each command does. `run`, `play` and `chained` take a board, and run it, play it, or play it
--- behind one demultiplexer; `check` judges a log; `gen N` plays the board that the number generates,
--- and prints its summary
+-- what each command does. `run`, `play`, `chained` and `sleep` take a board, and run it, play it,
+-- play it behind one demultiplexer, or play it with a sleep; `check` judges a log; `gen N` plays the
+-- board that the number generates, and prints its summary
 abbrev pub Does : Command → Option (List ℕ) → Option (List ℕ) → List LineReport → Option (List ℕ)
     → Option (List ℕ) → Ending → Type 0
 Does (commands.Run summary) told left reports before now ending =
@@ -160,6 +170,8 @@ Does (commands.Gen n) told left reports before now ending =
     PlaysAs true (generated n) reports before now ending
 Does commands.Chained told left reports before now ending =
     TakesBoard ChainsAs told left reports before now ending
+Does (commands.Sleep armed) told left reports before now ending =
+    TakesBoard (SleepsAs armed) told left reports before now ending
 
 -- whether the command reads the source
 abbrev pub reads : Command → Bool
@@ -168,6 +180,7 @@ reads (commands.Play summary) = true
 reads commands.Check = true
 reads (commands.Gen n) = false
 reads commands.Chained = true
+reads (commands.Sleep armed) = true
 
 -- no command that these words ask for reads the source: they ask for none, or for one that doesn't
 abbrev pub ReadsNothing : List (List ℕ) → Type 0

@@ -1,5 +1,5 @@
 -- How the top call ends, by its ending: the exit status, and the row on the error sink.
-use Rattle.std.specs.Prelude.{ℕ, Bool, true, false, List, [], codes}
+use Rattle.std.specs.Prelude.{ℕ, Bool, true, false, List, [], ◌++◌, codes}
 use Rattle.program_io.specs.ErrorRows.{fault_row, full_row}
 use Rattle.program_io.specs.declared.inputs.InputRefused.{InputRefused}
 use Rattle.program_io.specs.declared.inputs.InputRefused.TheVariants as refusals
@@ -30,7 +30,8 @@ error_text endings.Done = []
 error_text (endings.Unlawful line entry) = []
 error_text (endings.Malformed row) = []
 error_text endings.Usage =
-    codes "usage: genirq run [--summary] | play [--summary] | check | gen N | chained\n"
+    codes "usage: genirq run [--summary] | play [--summary] | check | gen N"
+    ++ codes " | chained | sleep LINE...\n"
 error_text (endings.Board fault) = fault_row fault
 error_text endings.ReadFault = codes "read fault\n"
 error_text endings.WriteFault = codes "write fault\n"

@@ -7,7 +7,7 @@ ghost use Rattle.irq_top.specs.Ending.{is_printed, is_printing, is_read_fault_en
 ghost use Rattle.irq_top.specs.Ending.{is_write_fault_end};
 
 use crate::ending::Ending;
-use crate::fitting::chained;
+use crate::fitting::{chained, sleep};
 use crate::outcome::Outcome;
 use board_def::Board;
 use board_gen::generate;
@@ -61,6 +61,7 @@ where
         Command::Check => check(alloc, src, out, maker),
         Command::Gen { n } => play_generated(alloc, n, out, handlers, maker),
         Command::Chained => chained(alloc, src, out, handlers, maker),
+        Command::Sleep { armed } => sleep(alloc, armed.as_slice(), src, out, handlers, maker),
     }
 }
 

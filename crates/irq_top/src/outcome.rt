@@ -35,7 +35,7 @@ impl Outcome {
     /// What a play hands out.
     pub(crate) fn of_play(played: PlayedBoard) -> Outcome
         ensures ending { result.ending ≡ ending_of_play played.end }
-        ensures reports { result.reports ≡ played.reports }
+        ensures reports { result.reports.reports ≡ played.reports.reports }
     {
         Outcome {
             ending: Ending::from(played.end),

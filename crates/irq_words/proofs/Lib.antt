@@ -1,1 +1,4 @@
+pub mod Items
+pub mod LineWords
 pub mod OneCommand
+pub mod Ranges

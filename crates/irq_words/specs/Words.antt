@@ -1,5 +1,7 @@
 -- The words of each command.
-use Rattle.std.specs.Prelude.{◌≡◌, ℕ, ◌<◌, ◌^◌, true, false, List, [], ◌∷◌, codes, decimal}
+use Rattle.std.specs.Prelude.{◌≡◌, ℕ, ◌<◌, ◌^◌, true, false, Option, MatchOption}
+use Rattle.std.specs.Prelude.{List, [], ◌∷◌, codes, decimal, map}
+use Rattle.irq_words.specs.Lines.{AreArmed, line_word}
 use Rattle.irq_words.specs.declared.Command.{Command}
 use Rattle.irq_words.specs.declared.Command.TheVariants as commands
 
@@ -12,13 +14,15 @@ words_of (commands.Play true) = codes "play" ∷ codes "--summary" ∷ []
 words_of commands.Check = codes "check" ∷ []
 words_of (commands.Gen n) = codes "gen" ∷ decimal n ∷ []
 words_of commands.Chained = codes "chained" ∷ []
+words_of (commands.Sleep armed) = codes "sleep" ∷ map line_word armed
 
--- the command's number, if it has one, takes 32 bits
+-- the command's number takes 32 bits; at most 64 lines are armed, and their numbers rise
 abbrev pub IsInRange : Command → Type 0
 IsInRange (commands.Gen n) = n < 2 ^ 32
+IsInRange (commands.Sleep armed) = AreArmed armed
 IsInRange _ = Unit {0}
 
--- the words are the command's, and its number takes 32 bits
+-- the words are the command's, and its number and lists are in range
 pub record Asks (words : List (List ℕ)) (command : Command) : Type 0 where
   pub in_range : IsInRange command
   pub words_are : words ≡ words_of command
@@ -26,3 +30,7 @@ pub record Asks (words : List (List ℕ)) (command : Command) : Type 0 where
 -- no command has these words
 abbrev pub AsksNothing : List (List ℕ) → Type 0
 AsksNothing words = (command : Command) → Asks words command → ⊥
+
+-- the command that has these words; none if no command has them
+abbrev pub Finds : List (List ℕ) → Option Command → Type 0
+Finds words found = MatchOption found (AsksNothing words) (Asks words)

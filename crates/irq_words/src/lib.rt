@@ -4,13 +4,19 @@
 //! the command of some words.
 #![tactic(auto)]
 
-ghost use Rattle.std.specs.Prelude.{◌≡◌, ◌∷◌, ℕ, List, [], codes, MatchOption, map};
-ghost use Rattle.irq_words.specs.Words.{Asks, AsksNothing};
+ghost use Rattle.std.specs.Prelude.{◌≡◌, ◌∷◌, ℕ, List, codes, map};
+ghost use Rattle.irq_words.specs.Words.{Asks, Finds};
 
-use log_read::number_of;
+mod few;
+mod lines;
+mod numbers;
+
+use crate::lines::read_lines;
+use crate::numbers::number_in;
+pub use few::Few;
+use irq_base::LineNo;
 
 /// What the program can be asked for.
-#[derive(Clone, Copy, PartialEq, Eq)]
 pub enum Command {
     /// Read a board and run it by threads. `summary`: print a row for each line in place of the
     /// entries.
@@ -21,76 +27,84 @@ pub enum Command {
     Check,
     /// Make the board that the number generates, play it, and print the summary. Nothing is read.
     Gen { n: u32 },
-    /// Read a board and play it behind one demultiplexer.
+    /// Read a board, and play it with all its lines behind one demultiplexer.
     Chained,
+    /// Read a board, and play it with a sleep in it, in which interrupts of the armed lines wake
+    /// the machine.
+    Sleep { armed: Few<LineNo> },
 }
 
 /// The command with these words, which follow the program's name; none if no command has them.
 pub fn read_command(words: &[&str]) -> Option<Command>
-    ensures { MatchOption result (AsksNothing (map (λ w. w.now) words.now))
-        (Asks (map (λ w. w.now) words.now)) }
+    ensures { Finds (map (λ w. w.now) words.now) result }
+{
+    let (name, words) = words.split_first()?;
+    match *name {
+        "run" => read_run(words),
+        "play" => read_play(words),
+        "check" => read_check(words),
+        "gen" => read_gen(words),
+        "chained" => read_chained(words),
+        "sleep" => read_sleep(words),
+        _ => None,
+    }
+}
+
+fn read_run(words: &[&str]) -> Option<Command>
+    ensures { Finds (codes "run" ∷ map (λ w. w.now) words.now) result }
 {
     match words {
-        [word] => read_word(word),
-        [word, option] => read_words(word, option),
+        [] => Some(Command::Run { summary: false }),
+        ["--summary"] => Some(Command::Run { summary: true }),
         _ => None,
     }
 }
 
-/// The command of one word.
-fn read_word(word: &str) -> Option<Command>
-    ensures { MatchOption result (AsksNothing (word.now ∷ [])) (Asks (word.now ∷ [])) }
+fn read_play(words: &[&str]) -> Option<Command>
+    ensures { Finds (codes "play" ∷ map (λ w. w.now) words.now) result }
 {
-    match word {
-        "run" => Some(Command::Run { summary: false }),
-        "play" => Some(Command::Play { summary: false }),
-        "check" => Some(Command::Check),
-        "chained" => Some(Command::Chained),
+    match words {
+        [] => Some(Command::Play { summary: false }),
+        ["--summary"] => Some(Command::Play { summary: true }),
         _ => None,
     }
 }
 
-/// The command of two words.
-fn read_words(word: &str, option: &str) -> Option<Command>
-    ensures { MatchOption result (AsksNothing (word.now ∷ option.now ∷ []))
-        (Asks (word.now ∷ option.now ∷ [])) }
+fn read_check(words: &[&str]) -> Option<Command>
+    ensures { Finds (codes "check" ∷ map (λ w. w.now) words.now) result }
 {
-    match word {
-        "run" => run_summarised(option),
-        "play" => play_summarised(option),
-        "gen" => generated(option),
-        _ => None,
-    }
-}
-
-fn run_summarised(option: &str) -> Option<Command>
-    ensures { MatchOption result (AsksNothing (codes "run" ∷ option.now ∷ []))
-        (Asks (codes "run" ∷ option.now ∷ [])) }
-{
-    if option == "--summary" {
-        Some(Command::Run { summary: true })
+    if words.is_empty() {
+        Some(Command::Check)
     } else {
         None
     }
 }
 
-fn play_summarised(option: &str) -> Option<Command>
-    ensures { MatchOption result (AsksNothing (codes "play" ∷ option.now ∷ []))
-        (Asks (codes "play" ∷ option.now ∷ [])) }
+fn read_gen(words: &[&str]) -> Option<Command>
+    ensures { Finds (codes "gen" ∷ map (λ w. w.now) words.now) result }
 {
-    if option == "--summary" {
-        Some(Command::Play { summary: true })
-    } else {
-        None
-    }
-}
-
-fn generated(number: &str) -> Option<Command>
-    ensures { MatchOption result (AsksNothing (codes "gen" ∷ number.now ∷ []))
-        (Asks (codes "gen" ∷ number.now ∷ [])) }
-{
-    let n = number_of(number.as_bytes())?;
+    let [number] = words else {
+        return None;
+    };
+    let n = number_in(number.as_bytes(), 0, u32::MAX)?;
     Some(Command::Gen { n })
+}
+
+fn read_chained(words: &[&str]) -> Option<Command>
+    ensures { Finds (codes "chained" ∷ map (λ w. w.now) words.now) result }
+{
+    if words.is_empty() {
+        Some(Command::Chained)
+    } else {
+        None
+    }
+}
+
+fn read_sleep(words: &[&str]) -> Option<Command>
+    ensures { Finds (codes "sleep" ∷ map (λ w. w.now) words.now) result }
+{
+    let armed = read_lines(words)?;
+    Some(Command::Sleep { armed })
 }
 
 /// Words ask for one command at most.

@@ -21,7 +21,8 @@ const LOG: &str = "# irq 1 virq 1 intc:2
 1 d1 request 1 - linked started no
 ";
 
-const USAGE: &str = "usage: genirq run [--summary] | play [--summary] | check | gen N | chained\n";
+const USAGE: &str =
+    "usage: genirq run [--summary] | play [--summary] | check | gen N | chained | sleep LINE...\n";
 
 /// An argument that isn't UTF-8, and arguments that there is no memory for: the status, and the row
 /// that is told.
