@@ -7,25 +7,9 @@ use Rattle.std.specs.Str.{bytes_eq}
 use Rattle.std.proofs.Math.Seq.{take-add, take-append_seam, drop-append_seam}
 use Rattle.std.proofs.lemmas.List.{append-nil, length-drop, drop-drop}
 use Rattle.std.proofs.lemmas.Slice.Eq.{bytes_eq-Decides}
-use Rattle.log_read.specs.LogOf.{is_feed, is_whole, onto_first, rows_of}
+use Rattle.log_read.proofs.RowCutting.{first_joined, joined}
+use Rattle.log_read.specs.LogOf.{is_whole, rows_of}
 use Rattle.irq_check.specs.Parts.{is_dashes, onto_board, parts_of, split_at_dashes}
-
--- the rows of a text, one after another, are the text
-
-onto_joined : (b : ℕ) (rows : List (List ℕ)) → concat (onto_first b rows) ≡ b ∷ concat rows
-onto_joined b [] = refl
-onto_joined b (row ∷ rows) = refl
-
-joined_if : (t : Bool) (b : ℕ) (bs : List ℕ) → concat (rows_of bs) ≡ bs → concat (cond t ((b ∷ []) ∷ rows_of bs) (onto_first b (rows_of bs))) ≡ b ∷ bs
-joined_if true b bs h = ap (λ (xs : List ℕ). b ∷ xs) h
-joined_if false b bs h = onto_joined b (rows_of bs) ∙ ap (λ (xs : List ℕ). b ∷ xs) h
-
-joined : (text : List ℕ) → concat (rows_of text) ≡ text
-joined [] = refl
-joined (b ∷ bs) = joined_if (is_feed b) b bs (joined bs)
-
-first_joined : (text row after : List ℕ) → rows_of text ≡ row ∷ rows_of after → text ≡ row ++ after
-first_joined text row after is = sym (joined text) ∙ (ap concat is ∙ ap (λ (xs : List ℕ). row ++ xs) (joined after))
 
 -- a row more before the parts
 

@@ -6,49 +6,39 @@ use Rattle.board_def.specs.declared.rows.LineRow.{LineRow}
 use Rattle.board_words.specs.declared.faults.BoardFault.{BoardFault}
 use Rattle.irq_base.specs.Seen.{HistorySeen}
 use Rattle.irq_base.specs.declared.entries.Entry.{Entry}
-use Rattle.log_check.specs.declared.checking.Verdict.{Verdict}
-use Rattle.log_check.specs.declared.checking.Verdict.TheVariants as verdicts
+use Rattle.log_check.specs.Verdicts.{ChecksLog, HasVerdict}
+use Rattle.log_check.specs.declared.verdict.Verdict.{Verdict}
+use Rattle.log_check.specs.declared.verdict.Verdict.TheVariants as verdicts
 use Rattle.log_read.specs.LogOf.{Tell, entries_of, entries_on, rows_of}
-use Rattle.irq_check.specs.declared.answers.Answer.{Answer}
-use Rattle.irq_check.specs.declared.answers.Answer.TheVariants as answers
-use Rattle.irq_check.specs.Checked.{ChecksLog, HasVerdict, IsChecked, checked}
+use Rattle.log_read.proofs.Telling.{as_many}
+use Rattle.irq_check.specs.Checked.{IsChecked, checked}
 use Rattle.irq_check.proofs.OneLog.{not_malformed, one_history, one_row}
 use Rattle.irq_check.proofs.OneVerdict.{one_verdict}
 
-abbrev answer_of : Verdict → Answer
-answer_of verdicts.Lawful = answers.Lawful
-answer_of (verdicts.Unlawful line entry) = answers.Unlawful line entry
-
--- one history a line
-as_many : (lines : List LineRow) (rows : List (List ℕ)) (logs : List HistorySeen) → Tell lines rows (entries_of logs) → length logs ≡ length lines
-as_many lines rows logs told =
-    sym (length-map logs (λ (h : HistorySeen). h.entries))
-    ∙ (ap (λ (ess : List (List Entry)). length ess) told.are ∙ length-map lines (λ (row : LineRow). entries_on told.said row.line))
-
 module _ (b : BoardSeen) (log : List ℕ) where
-  same_verdict : (v w : Verdict) → HasVerdict b log v → HasVerdict b log w → answer_of v ≡ answer_of w
+  same_verdict : (v w : Verdict) → HasVerdict b log v → HasVerdict b log w → v ≡ w
   same_verdict v w p q =
-      ap (λ (u : Verdict). answer_of u)
-      (one_verdict b p.0 q.0 (as_many b.lines (rows_of log) p.0 p.1) (one_history b.lines (rows_of log) (entries_of p.0) (entries_of q.0) p.1 q.1) v w p.2 q.2)
+      one_verdict b p.0 q.0 (as_many b.lines (rows_of log) p.0 p.1) (one_history b.lines (rows_of log) (entries_of p.0) (entries_of q.0) p.1 q.1)
+      v w p.2 q.2
 
-  not_both : (v : Verdict) (row : ℕ) → HasVerdict b log v → ChecksLog b log (answers.Malformed row) → ⊥
+  not_both : (v : Verdict) (row : ℕ) → HasVerdict b log v → ChecksLog b log (verdicts.Malformed row) → ⊥
   not_both v row p bad = not_malformed b.lines (rows_of log) (entries_of p.0) row p.1 bad
 
-  pub one_answer : (one other : Answer) → ChecksLog b log one → ChecksLog b log other → one ≡ other
-  one_answer answers.Lawful answers.Lawful p q = refl
-  one_answer answers.Lawful (answers.Unlawful k n) p q = same_verdict verdicts.Lawful (verdicts.Unlawful k n) p q
-  one_answer answers.Lawful (answers.Malformed row) p q = absurd (not_both verdicts.Lawful row p q)
-  one_answer (answers.Unlawful l m) answers.Lawful p q = same_verdict (verdicts.Unlawful l m) verdicts.Lawful p q
-  one_answer (answers.Unlawful l m) (answers.Unlawful k n) p q = same_verdict (verdicts.Unlawful l m) (verdicts.Unlawful k n) p q
-  one_answer (answers.Unlawful l m) (answers.Malformed row) p q = absurd (not_both (verdicts.Unlawful l m) row p q)
-  one_answer (answers.Malformed row) answers.Lawful p q = absurd (not_both verdicts.Lawful row q p)
-  one_answer (answers.Malformed row) (answers.Unlawful k n) p q = absurd (not_both (verdicts.Unlawful k n) row q p)
-  one_answer (answers.Malformed row) (answers.Malformed too) p q = ap (λ n. answers.Malformed n) (one_row b.lines (rows_of log) row too p q)
+  pub one_answer : (one other : Verdict) → ChecksLog b log one → ChecksLog b log other → one ≡ other
+  one_answer verdicts.Lawful verdicts.Lawful p q = refl
+  one_answer verdicts.Lawful (verdicts.Unlawful k n) p q = same_verdict verdicts.Lawful (verdicts.Unlawful k n) p q
+  one_answer verdicts.Lawful (verdicts.Malformed row) p q = absurd (not_both verdicts.Lawful row p q)
+  one_answer (verdicts.Unlawful l m) verdicts.Lawful p q = same_verdict (verdicts.Unlawful l m) verdicts.Lawful p q
+  one_answer (verdicts.Unlawful l m) (verdicts.Unlawful k n) p q = same_verdict (verdicts.Unlawful l m) (verdicts.Unlawful k n) p q
+  one_answer (verdicts.Unlawful l m) (verdicts.Malformed row) p q = absurd (not_both (verdicts.Unlawful l m) row p q)
+  one_answer (verdicts.Malformed row) verdicts.Lawful p q = absurd (not_both verdicts.Lawful row q p)
+  one_answer (verdicts.Malformed row) (verdicts.Unlawful k n) p q = absurd (not_both (verdicts.Unlawful k n) row q p)
+  one_answer (verdicts.Malformed row) (verdicts.Malformed too) p q = ap (λ n. verdicts.Malformed n) (one_row b.lines (rows_of log) row too p q)
 
 same_ok : (p q : BoardSeen × List ℕ) → ◌≡◌ {A = Result (BoardSeen × List ℕ) BoardFault} (Ok p) (Ok q) → p ≡ q
 same_ok p q is = cc
 
-pub one_input : (input : List ℕ) (one other : Answer) → IsChecked input one → IsChecked input other → one ≡ other
+pub one_input : (input : List ℕ) (one other : Verdict) → IsChecked input one → IsChecked input other → one ≡ other
 one_input input one other p q =
     let same : (p.board, p.log) ≡ (q.board, q.log) = same_ok (p.board, p.log) (q.board, q.log) (sym p.states ∙ q.states) in
     one_answer q.board q.log one other (subst (λ (pair : BoardSeen × List ℕ). ChecksLog pair.0 pair.1 one) same p.judged) q.judged
@@ -56,5 +46,5 @@ one_input input one other p q =
 ok_or_not : (p : BoardSeen × List ℕ) (fault : BoardFault) → ◌≡◌ {A = Result (BoardSeen × List ℕ) BoardFault} (Ok p) (Err fault) → ⊥
 ok_or_not p fault is = cc
 
-pub no_fault : (input : List ℕ) (answer : Answer) (fault : BoardFault) → IsChecked input answer → checked input ≡ Err fault → ⊥
+pub no_fault : (input : List ℕ) (answer : Verdict) (fault : BoardFault) → IsChecked input answer → checked input ≡ Err fault → ⊥
 no_fault input answer fault p bad = ok_or_not (p.board, p.log) fault (sym p.states ∙ bad)

@@ -20,8 +20,8 @@ use Rattle.board_def.specs.Unnamed.{defs_of, leaf_of, leaves_of}
 use Rattle.board_def.specs.declared.rows.LineRow.{LineRow}
 use Rattle.log_check.specs.Judged.{IsFirstUndue}
 use Rattle.log_check.specs.Verdicts.{IsVerdict, JudgedAt, JudgedLine}
-use Rattle.log_check.specs.declared.checking.Verdict.{Verdict}
-use Rattle.log_check.specs.declared.checking.Verdict.TheVariants as verdicts
+use Rattle.log_check.specs.declared.verdict.Verdict.{Verdict}
+use Rattle.log_check.specs.declared.verdict.Verdict.TheVariants as verdicts
 use Rattle.log_read.specs.LogOf.{entries_of}
 use Rattle.irq_check.proofs.OneLog.{get_take, neither_below}
 
@@ -152,6 +152,9 @@ module _ (b : BoardSeen) (x y : List HistorySeen) (each : length x ≡ length b.
   one_verdict verdicts.Lawful verdicts.Lawful p q = refl
   one_verdict verdicts.Lawful (verdicts.Unlawful k n) p q =
       let within = slice_get_within b.lines q.0 q.1 q.2 in absurd (right_here q.0 n within (p q.0 within) q.4)
+  one_verdict verdicts.Lawful (verdicts.Malformed row) p q = absurd q
+  one_verdict (verdicts.Unlawful l m) (verdicts.Malformed row) p q = absurd q
+  one_verdict (verdicts.Malformed row) w p q = absurd p
   one_verdict (verdicts.Unlawful l m) verdicts.Lawful p q =
       let within = slice_get_within b.lines p.0 p.1 p.2 in absurd (wrong_here p.0 m within p.4 (q p.0 within))
   one_verdict (verdicts.Unlawful l m) (verdicts.Unlawful k n) p q =

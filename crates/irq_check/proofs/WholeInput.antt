@@ -13,8 +13,8 @@ use Rattle.board_words.specs.declared.faults.FaultKind.TheVariants as faults
 use Rattle.irq_check.specs.Checked.{IsChecked, board_and_log, checked, longest_input}
 use Rattle.irq_check.specs.Ends.{IsSaid, ReadsInput, left_after}
 use Rattle.irq_check.specs.Parts.{parts_of}
-use Rattle.irq_check.specs.declared.answers.Answer.{Answer}
-use Rattle.irq_check.specs.declared.inputs.InputRefused.TheVariants as refusals
+use Rattle.log_check.specs.declared.verdict.Verdict.{Verdict}
+use Rattle.program_io.specs.declared.inputs.InputRefused.TheVariants as refusals
 
 is_longer : (bytes : List ℕ) → longest_input < length bytes → nat_lt longest_input (length bytes) ≡ true
 is_longer bytes h = grind (arith, nat_tests)
@@ -61,7 +61,7 @@ of_all : (bytes text : List ℕ) (r : Result (BoardSeen × List ℕ) BoardFault)
 of_all bytes text r cut states = sym (cut_states bytes) ∙ (ap checked (sym cut) ∙ states)
 
 -- the whole is judged as what was read of it
-whole_is : (bytes text : List ℕ) (answer : Answer) → text ≡ take (longest_input + 1) bytes → IsChecked text answer → IsChecked bytes answer
+whole_is : (bytes text : List ℕ) (answer : Verdict) → text ≡ take (longest_input + 1) bytes → IsChecked text answer → IsChecked bytes answer
 whole_is bytes text answer cut is = record {
   board = is.board;
   log = is.log;
@@ -70,7 +70,7 @@ whole_is bytes text answer cut is = record {
   judged = is.judged;
 }
 
-pub content : (before now : Option (List ℕ)) (text : List ℕ) (answer : Answer)
+pub content : (before now : Option (List ℕ)) (text : List ℕ) (answer : Verdict)
     → TakesUpTo (longest_input + 1) before now text → IsChecked text answer → ReadsInput before now (Ok answer)
 content None now text answer read is = tt
 content (Some bytes) now text answer read is =
@@ -83,7 +83,7 @@ pub refused : (before now : Option (List ℕ)) (text : List ℕ) (fault : BoardF
 refused None now text fault read states = tt
 refused (Some bytes) now text fault read states = (of_all bytes text (Err fault) read.0 states, read.1)
 
-pub said : (before now : Option (List ℕ)) (text : List ℕ) (answer : Answer)
+pub said : (before now : Option (List ℕ)) (text : List ℕ) (answer : Verdict)
     → TakesUpTo (longest_input + 1) before now text → IsChecked text answer → IsSaid before answer
 said None now text answer read is = record { input = text; as_told = tt; checked = is }
 said (Some bytes) now text answer read is = record { input = bytes; as_told = refl; checked = whole_is bytes text answer read.0 is }

@@ -5,16 +5,10 @@ use Rattle.board_def.specs.Seen.{BoardSeen}
 use Rattle.board_stated.specs.TextOf.{board_of_text, whole}
 use Rattle.board_words.specs.declared.faults.BoardFault.{BoardFault}
 use Rattle.board_words.specs.declared.faults.FaultKind.TheVariants as faults
-use Rattle.irq_base.specs.Seen.{HistorySeen}
-use Rattle.log_check.specs.Verdicts.{IsVerdict}
-use Rattle.log_check.specs.declared.checking.Verdict.{Verdict}
-use Rattle.log_check.specs.declared.checking.Verdict.TheVariants as verdicts
-use Rattle.log_read.specs.LogOf.{IsLogOf}
-use Rattle.log_read.specs.declared.reading.LogRefused.TheVariants as refusals
-use Rattle.irq_check.specs.declared.answers.Answer.{Answer}
-use Rattle.irq_check.specs.declared.answers.Answer.TheVariants as answers
-use Rattle.irq_check.specs.declared.checking.CheckRefused.{CheckRefused}
-use Rattle.irq_check.specs.declared.checking.CheckRefused.TheVariants as checks
+use Rattle.log_check.specs.Verdicts.{ChecksLog}
+use Rattle.log_check.specs.declared.verdict.Verdict.{Verdict}
+use Rattle.board_text.specs.declared.reading.BoardRefused.{BoardRefused}
+use Rattle.board_text.specs.declared.reading.BoardRefused.TheVariants as refusals
 use Rattle.irq_check.specs.Parts.{parts_of}
 
 -- the most bytes of an input
@@ -37,27 +31,15 @@ checked input =
     if nat_lt longest_input (length input) then Err (whole faults.TooLong)
     else board_and_log (parts_of input)
 
--- the text of the log says these histories, and this is the verdict on them
-abbrev pub HasVerdict : BoardSeen → List ℕ → Verdict → Type 0
-HasVerdict b log verdict =
-    (logs : List HistorySeen) × IsLogOf b.lines log (Ok logs) × IsVerdict b logs verdict
-
--- the judgement of the text of a log: this row is the first malformed one; or there is none, and
--- the histories are judged
-abbrev pub ChecksLog : BoardSeen → List ℕ → Answer → Type 0
-ChecksLog b log answers.Lawful = HasVerdict b log verdicts.Lawful
-ChecksLog b log (answers.Unlawful line entry) = HasVerdict b log (verdicts.Unlawful line entry)
-ChecksLog b log (answers.Malformed row) = IsLogOf b.lines log (Err (refusals.Malformed row))
-
 -- the input states a board and a log of it, and this is the judgement of the log
-pub record IsChecked (input : List ℕ) (answer : Answer) : Type 0 where
+pub record IsChecked (input : List ℕ) (answer : Verdict) : Type 0 where
   pub board : BoardSeen
   pub log : List ℕ
   pub states : checked input ≡ Ok (board, log)
   pub judged : ChecksLog board log answer
 
 -- the answer to an input: its judgement, or its first fault; memory may be refused
-abbrev pub Checks : List ℕ → Result Answer CheckRefused → Type 0
+abbrev pub Checks : List ℕ → Result Verdict BoardRefused → Type 0
 Checks input (Ok answer) = IsChecked input answer
-Checks input (Err (checks.Fault fault)) = checked input ≡ Err fault
-Checks input (Err checks.NoMemory) = Unit {0}
+Checks input (Err (refusals.Fault fault)) = checked input ≡ Err fault
+Checks input (Err refusals.NoMemory) = Unit {0}

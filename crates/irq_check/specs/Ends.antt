@@ -4,9 +4,9 @@ use Rattle.std.specs.Prelude.{Result, Ok, Err}
 use Rattle.irq_io.specs.Told.{IsTold}
 use Rattle.irq_io.specs.Whole.{WritesAll}
 use Rattle.irq_io.specs.declared.whole.WriteEnd.TheVariants as writes
-use Rattle.irq_check.specs.declared.answers.Answer.{Answer}
-use Rattle.irq_check.specs.declared.inputs.InputRefused.{InputRefused}
-use Rattle.irq_check.specs.declared.inputs.InputRefused.TheVariants as refusals
+use Rattle.log_check.specs.declared.verdict.Verdict.{Verdict}
+use Rattle.program_io.specs.declared.inputs.InputRefused.{InputRefused}
+use Rattle.program_io.specs.declared.inputs.InputRefused.TheVariants as refusals
 use Rattle.irq_check.specs.declared.printing.CheckEnd.{CheckEnd}
 use Rattle.irq_check.specs.declared.printing.CheckEnd.TheVariants as ends
 use Rattle.irq_check.specs.AnswerText.{answer_text}
@@ -18,20 +18,20 @@ abbrev pub left_after : List ℕ → List ℕ
 left_after bytes = drop (longest_input + 1) bytes
 
 -- the answer is the judgement of an input, and the input is what the source told
-pub record IsSaid (told : Option (List ℕ)) (answer : Answer) : Type 0 where
+pub record IsSaid (told : Option (List ℕ)) (answer : Verdict) : Type 0 where
   pub input : List ℕ
   pub as_told : IsTold told input
   pub checked : IsChecked input answer
 
 -- whether reading an input met a read fault
-abbrev pub is_read_fault : Result Answer InputRefused → Bool
+abbrev pub is_read_fault : Result Verdict InputRefused → Bool
 is_read_fault (Err refusals.ReadFault) = true
 is_read_fault _ = false
 
 -- if the source tells what is left: the bytes were read to their end, and the answer is their
 -- judgement; or they were read to their end or one byte past the longest input, and the answer is
 -- their fault
-abbrev pub ReadsInput : Option (List ℕ) → Option (List ℕ) → Result Answer InputRefused → Type 0
+abbrev pub ReadsInput : Option (List ℕ) → Option (List ℕ) → Result Verdict InputRefused → Type 0
 ReadsInput (Some bytes) now (Ok answer) = IsChecked bytes answer × (now ≡ Some [])
 ReadsInput (Some bytes) now (Err (refusals.Fault fault)) =
     (checked bytes ≡ Err fault) × (now ≡ Some (left_after bytes))
@@ -41,7 +41,7 @@ ReadsInput _ _ _ = Unit {0}
 abbrev pub Reads : Option (List ℕ) → Option (List ℕ) → CheckEnd → Type 0
 Reads (Some bytes) now (ends.Answered answer) = IsChecked bytes answer × (now ≡ Some [])
 Reads (Some bytes) now ends.WriteFault =
-    ((answer : Answer) × IsChecked bytes answer) × (now ≡ Some [])
+    ((answer : Verdict) × IsChecked bytes answer) × (now ≡ Some [])
 Reads (Some bytes) now (ends.Fault fault) =
     (checked bytes ≡ Err fault) × (now ≡ Some (left_after bytes))
 Reads _ _ _ = Unit {0}
@@ -52,7 +52,7 @@ abbrev pub SaysOrNot : Option (List ℕ) → Option (List ℕ) → Option (List 
 SaysOrNot told before now (ends.Answered answer) =
     IsSaid told answer × WritesAll before now (answer_text answer) writes.Done
 SaysOrNot told before now ends.WriteFault =
-    (answer : Answer) × IsSaid told answer × WritesAll before now (answer_text answer) writes.Failed
+    (answer : Verdict) × IsSaid told answer × WritesAll before now (answer_text answer) writes.Failed
 SaysOrNot told before now _ = Unit {0}
 
 abbrev pub is_answered : CheckEnd → Bool

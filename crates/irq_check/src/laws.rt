@@ -2,16 +2,17 @@
 ghost use Rattle.std.specs.Prelude.{◌≡◌, ℕ, List, Err};
 ghost use Rattle.board_def.specs.Seen.{BoardSeen};
 ghost use Rattle.board_words.specs.declared.faults.BoardFault.{BoardFault};
-ghost use Rattle.irq_check.specs.declared.answers.Answer.{Answer};
-ghost use Rattle.irq_check.specs.Checked.{ChecksLog, IsChecked, checked};
+ghost use Rattle.irq_check.specs.Checked.{IsChecked, checked};
+ghost use Rattle.log_check.specs.Verdicts.{ChecksLog};
+ghost use Rattle.log_check.specs.declared.verdict.Verdict.{Verdict};
 
 /// Judgements exclude one another: at most one is right of the text of a log, with its place. The
 /// same holds of an input, and no judgement is right of an input that has a fault.
 pub fn answer_is_one()
-    ensures of_log { (board : BoardSeen) (log : List ℕ) (one other : Answer)
+    ensures of_log { (board : BoardSeen) (log : List ℕ) (one other : Verdict)
         → ChecksLog board log one → ChecksLog board log other → one ≡ other }
-    ensures of_input { (input : List ℕ) (one other : Answer)
+    ensures of_input { (input : List ℕ) (one other : Verdict)
         → IsChecked input one → IsChecked input other → one ≡ other }
-    ensures no_fault { (input : List ℕ) (answer : Answer) (fault : BoardFault)
-        → IsChecked input answer → checked input ≡ Err fault → ⊥ }
+    ensures no_fault { (input : List ℕ) (verdict : Verdict) (fault : BoardFault)
+        → IsChecked input verdict → checked input ≡ Err fault → ⊥ }
 {}

@@ -14,9 +14,10 @@ mod laws;
 pub mod parts;
 pub mod printing;
 
-pub use answers::{Answer, answer_row};
-pub use checking::{CheckRefused, LONGEST_INPUT, check_bytes};
-pub use inputs::InputRefused;
+pub use answers::answer_row;
+pub use checking::{LONGEST_INPUT, check_bytes};
+pub use inputs::check_input;
 pub use laws::answer_is_one;
+pub use log_check::Verdict;
 pub use parts::cut_input;
 pub use printing::{CheckEnd, check_and_print};

@@ -6,11 +6,13 @@ ghost use Rattle.irq_check.specs.AnswerText.{answer_text};
 ghost use Rattle.irq_check.specs.Ends.{Reads, SaysOrNot, is_answered, is_printing};
 ghost use Rattle.irq_check.specs.Ends.{is_read_fault_end, is_write_fault_end};
 
-use crate::answers::{Answer, answer_row};
-use crate::inputs::{InputRefused, check_input};
+use crate::answers::answer_row;
+use crate::inputs::check_input;
 use board_text::BoardFault;
 use irq_io::{FlushAnswer, Sink, Source, WriteEnd, write_all};
 use line_makers::MakesDomainLine;
+use log_check::Verdict;
+use program_io::InputRefused;
 use std::alloc::Global;
 use text_row::TextRow;
 
@@ -18,7 +20,7 @@ use text_row::TextRow;
 #[derive(Clone, Copy, PartialEq, Eq)]
 pub enum CheckEnd {
     /// The input was judged, and all of the answer's row is printed.
-    Answered(Answer),
+    Answered(Verdict),
     /// The input has this as its first fault.
     Fault(BoardFault),
     /// A read failed.
@@ -45,8 +47,8 @@ pub fn check_and_print<S: Source, O: Sink, M: MakesDomainLine>(
     ensures silent { is_printing result ≡ false → out.new ≡ out.old }
 {
     match check_input(alloc, src, maker) {
-        Ok(answer) => match print_answer(out, answer) {
-            WriteEnd::Done => CheckEnd::Answered(answer),
+        Ok(verdict) => match print_answer(out, verdict) {
+            WriteEnd::Done => CheckEnd::Answered(verdict),
             WriteEnd::Failed => CheckEnd::WriteFault,
         },
         Err(InputRefused::Fault(fault)) => CheckEnd::Fault(fault),
@@ -56,14 +58,14 @@ pub fn check_and_print<S: Source, O: Sink, M: MakesDomainLine>(
 }
 
 /// Prints the answer's row, and hands it on.
-fn print_answer<O: Sink>(out: &mut O, answer: Answer) -> WriteEnd
+fn print_answer<O: Sink>(out: &mut O, verdict: Verdict) -> WriteEnd
     ensures content { WritesAll (O.written out.old) (O.written out.new)
-        (answer_text answer) result }
+        (answer_text verdict) result }
     ensures emptied { KeepsNone (O.kept out.new) result }
     ensures cause { Counts (O.faults out.old) (O.faults out.new) (writing_failed result) }
 {
     let mut row = TextRow::new();
-    answer_row(&mut row, answer);
+    answer_row(&mut row, verdict);
     match write_all(out, row.bytes()) {
         WriteEnd::Done => {}
         WriteEnd::Failed => return WriteEnd::Failed,

@@ -14,7 +14,7 @@ use Rattle.board_words.specs.declared.faults.FaultKind.TheVariants as faults
 use Rattle.chained_play.specs.Played.{ChainsBoard}
 use Rattle.irq_chained.specs.Fits.{is_for_chain}
 use Rattle.irq_check.specs.Ends.{Reads, SaysOrNot}
-use Rattle.irq_check.specs.declared.answers.Answer.TheVariants as answers
+use Rattle.log_check.specs.declared.verdict.Verdict.TheVariants as verdicts
 use Rattle.irq_check.specs.declared.printing.CheckEnd.{CheckEnd}
 use Rattle.irq_check.specs.declared.printing.CheckEnd.TheVariants as checks
 use Rattle.irq_play.specs.Played.{PlaysBoard}
@@ -142,11 +142,11 @@ pub record ChecksInput (told left : Option (List ℕ)) (reports : List LineRepor
 abbrev pub Checks : Option (List ℕ) → Option (List ℕ) → List LineReport → Option (List ℕ)
     → Option (List ℕ) → Ending → Type 0
 Checks told left reports before now endings.Done =
-    ChecksInput told left reports before now (checks.Answered answers.Lawful)
+    ChecksInput told left reports before now (checks.Answered verdicts.Lawful)
 Checks told left reports before now (endings.Unlawful line entry) =
-    ChecksInput told left reports before now (checks.Answered (answers.Unlawful line entry))
+    ChecksInput told left reports before now (checks.Answered (verdicts.Unlawful line entry))
 Checks told left reports before now (endings.Malformed row) =
-    ChecksInput told left reports before now (checks.Answered (answers.Malformed row))
+    ChecksInput told left reports before now (checks.Answered (verdicts.Malformed row))
 Checks told left reports before now endings.WriteFault =
     ChecksInput told left reports before now checks.WriteFault
 Checks told left reports before now (endings.Board fault) =

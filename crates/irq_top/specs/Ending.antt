@@ -3,7 +3,7 @@ use Rattle.std.specs.Prelude.{ℕ, Bool, true, false, List, [], ◌++◌, codes}
 use Rattle.program_io.specs.ErrorRows.{fault_row, full_row}
 use Rattle.program_io.specs.declared.inputs.InputRefused.{InputRefused}
 use Rattle.program_io.specs.declared.inputs.InputRefused.TheVariants as refusals
-use Rattle.irq_check.specs.declared.answers.Answer.TheVariants as answers
+use Rattle.log_check.specs.declared.verdict.Verdict.TheVariants as verdicts
 use Rattle.irq_check.specs.declared.printing.CheckEnd.{CheckEnd}
 use Rattle.irq_check.specs.declared.printing.CheckEnd.TheVariants as checks
 use Rattle.irq_play.specs.declared.ending.PlayedEnd.{PlayedEnd}
@@ -56,9 +56,9 @@ ending_of_run (runs.LogFull line len) = endings.LogFull line len
 ending_of_run runs.NoMemory = endings.NoMemory wants.Making
 
 abbrev pub ending_of_check : CheckEnd → Ending
-ending_of_check (checks.Answered answers.Lawful) = endings.Done
-ending_of_check (checks.Answered (answers.Unlawful line entry)) = endings.Unlawful line entry
-ending_of_check (checks.Answered (answers.Malformed row)) = endings.Malformed row
+ending_of_check (checks.Answered verdicts.Lawful) = endings.Done
+ending_of_check (checks.Answered (verdicts.Unlawful line entry)) = endings.Unlawful line entry
+ending_of_check (checks.Answered (verdicts.Malformed row)) = endings.Malformed row
 ending_of_check (checks.Fault fault) = endings.Board fault
 ending_of_check checks.ReadFault = endings.ReadFault
 ending_of_check checks.WriteFault = endings.WriteFault

@@ -4,7 +4,7 @@ ghost use Rattle.irq_top.specs.Ending.{status_of};
 
 use board_text::BoardFault;
 use irq_base::LineNo;
-use irq_check::{Answer, CheckEnd};
+use irq_check::{CheckEnd, Verdict};
 use irq_play::{PlayedEnd, Wanted};
 use irq_run::RunEnd;
 use program_io::InputRefused;
@@ -107,12 +107,12 @@ impl From<CheckEnd> for Ending {
 
     fn from(end: CheckEnd) -> Ending {
         match end {
-            CheckEnd::Answered(Answer::Lawful) => Ending::Done,
-            CheckEnd::Answered(Answer::Unlawful { line, entry }) => Ending::Unlawful {
+            CheckEnd::Answered(Verdict::Lawful) => Ending::Done,
+            CheckEnd::Answered(Verdict::Unlawful { line, entry }) => Ending::Unlawful {
                 line,
                 entry,
             },
-            CheckEnd::Answered(Answer::Malformed { row }) => Ending::Malformed { row },
+            CheckEnd::Answered(Verdict::Malformed { row }) => Ending::Malformed { row },
             CheckEnd::Fault(fault) => Ending::Board(fault),
             CheckEnd::ReadFault => Ending::ReadFault,
             CheckEnd::WriteFault => Ending::WriteFault,

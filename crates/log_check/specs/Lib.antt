@@ -1,2 +1,5 @@
 pub mod Judged
 pub mod Verdicts
+pub mod JudgeSeen
+pub mod Heads
+pub mod Judging

@@ -1,5 +1,5 @@
--- The verdict on the histories of a board's lines.
-use Rattle.std.specs.Prelude.{◌≡◌, ℕ, ◌≤◌, ◌<◌, Option, Some, None, List, [], length, slice_get}
+-- The verdict on the histories of a board's lines, and on the text of a log.
+use Rattle.std.specs.Prelude.{◌≡◌, ℕ, ◌≤◌, ◌<◌, Option, Some, None, List, [], length, slice_get, Ok, Err}
 use Rattle.board_def.specs.Layout.{layout_of}
 use Rattle.board_def.specs.LineOf.{line_of_row}
 use Rattle.board_def.specs.Seen.{BoardSeen}
@@ -9,8 +9,10 @@ use Rattle.board_def.specs.declared.rows.LineRow.{LineRow}
 use Rattle.irq_base.specs.Seen.{HistorySeen}
 use Rattle.irq_base.specs.declared.entries.Entry.{Entry}
 use Rattle.log_check.specs.Judged.{Judged}
-use Rattle.log_check.specs.declared.checking.Verdict.{Verdict}
-use Rattle.log_check.specs.declared.checking.Verdict.TheVariants as verdicts
+use Rattle.log_check.specs.declared.verdict.Verdict.{Verdict}
+use Rattle.log_check.specs.declared.verdict.Verdict.TheVariants as verdicts
+use Rattle.log_read.specs.LogOf.{IsLogOf}
+use Rattle.log_read.specs.declared.reading.LogRefused.TheVariants as refusals
 
 -- a line that takes no part may have no entry: if it has any, its first is the first that isn't due
 abbrev pub JudgedEmpty : List Entry → Option ℕ → Type 0
@@ -37,3 +39,16 @@ IsVerdict b logs verdicts.Lawful = (i : ℕ) → i < length b.lines → JudgedAt
 IsVerdict b logs (verdicts.Unlawful line number) =
     (i : ℕ) × (row : LineRow) × (slice_get b.lines i ≡ Some row) × (row.line ≡ line)
     × JudgedAt b logs i (Some number) × ((j : ℕ) → j < i → JudgedAt b logs j None)
+IsVerdict b logs (verdicts.Malformed row) = ⊥
+
+-- the text of the log says these histories, and this is the verdict on them
+abbrev pub HasVerdict : BoardSeen → List ℕ → Verdict → Type 0
+HasVerdict b log verdict =
+    (logs : List HistorySeen) × IsLogOf b.lines log (Ok logs) × IsVerdict b logs verdict
+
+-- the verdict on the text of a log: this row is the first malformed one; or there is none, and the
+-- histories are judged
+abbrev pub ChecksLog : BoardSeen → List ℕ → Verdict → Type 0
+ChecksLog b log verdicts.Lawful = HasVerdict b log verdicts.Lawful
+ChecksLog b log (verdicts.Unlawful line entry) = HasVerdict b log (verdicts.Unlawful line entry)
+ChecksLog b log (verdicts.Malformed row) = IsLogOf b.lines log (Err (refusals.Malformed row))

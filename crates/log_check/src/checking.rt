@@ -1,115 +1,117 @@
-//! The histories of all lines.
-ghost use Rattle.std.specs.Prelude.{◌≡◌, ℕ, ◌≤◌, length, IfOk, All};
-ghost use Rattle.irq_base.specs.declared.lines.LineDef.{LineDef};
-ghost use Rattle.irq_model.specs.Valid.{IsValid};
+//! The text of a log is judged.
+ghost use Rattle.std.specs.Prelude.{◌≡◌, ◌≤◌, true, length, IfOk};
+ghost use Rattle.std.specs.Option.{option_map};
 ghost use Rattle.board_def.specs.Layout.{layout_of};
-ghost use Rattle.board_def.specs.LineOf.{line_defs_of};
-ghost use Rattle.log_check.specs.Judged.{Judged};
-ghost use Rattle.log_check.specs.Verdicts.{IsVerdict, JudgedAt};
+ghost use Rattle.log_check.specs.Judging.{Concludes, HaveRoom, JudgesFirst, MakesEach, PassesOver};
+ghost use Rattle.log_check.specs.Verdicts.{ChecksLog};
+ghost use Rattle.log_read.specs.LogOf.{begins_with_hash};
 
-use crate::judging::judge;
-use board_def::Board;
-use board_layout::lay;
-use domain_rules::{Layout, Placement};
-use irq_base::{History, LineDef, LineNo, Logs, NoMemory};
+use crate::heads::read_head;
+use crate::line_judge::LineJudge;
+use crate::making::make_judges;
+use crate::verdict::Verdict;
+use board_def::{Board, Layout};
+use irq_base::NoMemory;
 use irq_line::{IrqLine, MakesLine};
+use kept_rows::KeptRows;
+use log_read::{cut_row, place_of};
 use std::alloc::Global;
 
-/// The most entries of a line that is judged. The board's own limit doesn't bound a log that is
-/// judged: how long a history may grow is no rule of what is due.
-const MOST_ENTRIES: u32 = 100_000_000;
-
-/// The verdict on a board's logs.
-#[derive(Clone, Copy, PartialEq, Eq)]
-pub enum Verdict {
-    /// Each entry was due of its actor after the entries before it on its line, and a line that
-    /// takes no part has no entries.
-    Lawful,
-    /// The first entry of this line, counted from 1, that isn't due; no line before it has such an
-    /// entry.
-    Unlawful { line: LineNo, entry: u32 },
-}
-
-/// Judges logs: one history for each line of the board, in its order. Lines do the judging: `L` is
-/// any type of lines, and `maker` makes one for each line that takes part.
+/// Judges the text of a log of the board, row by row. Lines do the judging: `L` is any type of
+/// lines, and `maker` makes one for each line that takes part.
 ///
 /// # Errors
 ///
 /// `NoMemory` if memory was needed and refused.
-pub fn check<L: IrqLine, M: MakesLine<L>>(
+pub fn check_log<L: IrqLine, M: MakesLine<L>>(
     alloc: Global,
     board: &Board,
-    logs: &Logs,
+    layout: &Layout,
     maker: &M,
+    log: &[u8],
 ) -> Result<Verdict, NoMemory>
-    requires makes { (virq : ℕ) (def : LineDef) → IsValid def → M.makes maker.now virq def }
-    requires each { length logs.now ≡ length board.now.lines }
-    requires few { All (λ h. length h.entries ≤ 100000000) logs.now }
-    ensures { IfOk result (λ verdict. IsVerdict board.now logs.now verdict) }
+    requires layout { layout.now ≡ layout_of board.now }
+    requires makes { MakesEach (M.makes maker.now) board.now }
+    requires few { length log.now ≤ 67108864 }
+    ensures { IfOk result (λ verdict. ChecksLog board.now log.now verdict) }
 {
-    let (_, layout) = lay(alloc, board)?;
-    let defs = board.line_defs(alloc)?;
-    for i in 0..board.lines_len() {
-        let Some(row) = board.line(i) else {
-            unreachable!();
+    board.is_board();
+    let mut judges = make_judges::<L, M>(alloc, board, layout, maker)?;
+    let mut kept = KeptRows::new();
+    let mut rest = log;
+    let mut row: u32 = 0;
+    while !rest.is_empty() {
+        row += 1;
+        let Some(after) = judge_first(&mut judges, board, &mut kept, rest)? else {
+            return Ok(Verdict::Malformed { row });
         };
-        if let Some(entry) = judge_at::<L, M>(alloc, board, &defs, &layout, logs, maker, i)? {
-            return Ok(Verdict::Unlawful {
-                line: row.line,
-                entry,
-            });
-        }
+        rest = after;
     }
-    Ok(Verdict::Lawful)
+    Ok(verdict_of(&judges, board))
 }
 
-/// Judges the history of the board's line at index `place`.
-fn judge_at<L: IrqLine, M: MakesLine<L>>(
-    alloc: Global,
+/// Judges the first row of a text that isn't empty. Answers what follows it; none if something is
+/// wrong with the row.
+fn judge_first<'t, L: IrqLine>(
+    judges: &mut Vec<LineJudge<L>>,
     board: &Board,
-    defs: &[LineDef],
-    layout: &Layout,
-    logs: &Logs,
-    maker: &M,
-    place: usize,
-) -> Result<Option<u32>, NoMemory>
-    requires makes { (virq : ℕ) (def : LineDef) → IsValid def → M.makes maker.now virq def }
-    requires defs { defs.now ≡ line_defs_of board.now }
-    requires valid { All IsValid defs.now }
-    requires layout { layout.now ≡ layout_of board.now }
-    requires few { All (λ h. length h.entries ≤ 100000000) logs.now }
-    ensures { IfOk result (λ first. JudgedAt board.now logs.now place first) }
+    kept: &mut KeptRows,
+    text: &'t [u8],
+) -> Result<Option<&'t [u8]>, NoMemory>
+    requires some { 1 ≤ length text.now }
+    requires many { length judges.old.items ≡ length board.now.lines }
+    requires room { HaveRoom judges.old.items }
+    ensures { IfOk result (λ after. JudgesFirst board.now text.now (option_map (λ t. t.now) after)
+        judges.old.items judges.new.items) }
 {
-    let (Some(placement), Some(history)) = (layout.get(place), logs.get(place)) else {
-        // there is no such line
+    board.is_board();
+    if begins_with_hash(text) {
+        return Ok(pass_over(text));
+    }
+    let Some((line, actor)) = read_head(text) else {
         return Ok(None);
     };
-    if place >= defs.len() {
+    let Some(place) = place_of(board, line) else {
         return Ok(None);
-    }
-    match placement {
-        Placement::Mapped { virq, .. } => {
-            judge_mapped::<L, M>(alloc, &defs[place], virq, history, maker)
-        }
-        Placement::Refused(_) => Ok(if history.is_empty() { None } else { Some(1) }),
+    };
+    judges[place].take(kept, line, actor, text)
+}
+
+fn begins_with_hash(text: &[u8]) -> bool
+    ensures { result ≡ begins_with_hash text.now }
+{
+    match text.first() {
+        Some(byte) => *byte == b'#',
+        None => false,
     }
 }
 
-/// Judges the history of a line that takes part.
-fn judge_mapped<L: IrqLine, M: MakesLine<L>>(
-    alloc: Global,
-    def: &LineDef,
-    virq: u32,
-    history: &History,
-    maker: &M,
-) -> Result<Option<u32>, NoMemory>
-    requires makes { (virq : ℕ) (def : LineDef) → IsValid def → M.makes maker.now virq def }
-    requires valid { IsValid def.now }
-    requires few { length history.now.entries ≤ 100000000 }
-    ensures { IfOk result (λ first. Judged def.now history.now.entries first) }
+/// What follows the first row of a text that begins with `#`; none if the row has no line feed.
+fn pass_over(text: &[u8]) -> Option<&[u8]>
+    requires some { 1 ≤ length text.now }
+    requires hash { begins_with_hash text.now ≡ true }
+    ensures { PassesOver text.now (option_map (λ t. t.now) result) }
 {
-    let mut def = def.try_clone(alloc)?;
-    def.log = MOST_ENTRIES;
-    let mut line = maker.make(alloc, virq, &def)?;
-    judge(&mut line, history)
+    let (_, after) = cut_row(text)?;
+    Some(after)
+}
+
+/// The verdict of the judges, if each row is a row of a log: the first of them in the board's order
+/// that has met an entry that wasn't due.
+fn verdict_of<L: IrqLine>(judges: &[LineJudge<L>], board: &Board) -> Verdict
+    ensures { Concludes board.now judges.now result }
+{
+    for i in 0..judges.len() {
+        let Some(entry) = judges[i].first() else {
+            continue;
+        };
+        let Some(row) = board.line(i) else {
+            continue;
+        };
+        return Verdict::Unlawful {
+            line: row.line,
+            entry,
+        };
+    }
+    Verdict::Lawful
 }

@@ -42,7 +42,7 @@ fn adds<L: IrqLine>(line: &mut L, entry: Entry) -> Result<bool, NoMemory>
 
 /// `step_heard` on a line whose history isn't full. The handler of the device's kind answers.
 #[inline(always)]
-fn step<L: IrqLine>(line: &mut L, actor: Actor) -> Result<Option<Entry>, NoMemory>
+pub(crate) fn step<L: IrqLine>(line: &mut L, actor: Actor) -> Result<Option<Entry>, NoMemory>
     requires { length (L.seen line.old).entries < (L.seen line.old).def.log }
     ensures def { (L.seen line.new).def ≡ (L.seen line.old).def }
     ensures heard { IfOk result

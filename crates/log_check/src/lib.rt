@@ -1,13 +1,20 @@
-//! Logs are judged: whether the history of each line of a board is legal, and which entry is the
-//! first that isn't due.
+//! Logs are judged: whether each row of a text is the row of an entry, whether the history of each
+//! line of a board is legal, and which entry is the first that isn't due.
 //!
-//! A line of the board's definition is asked for the step of each entry's own actor, and the entry
-//! that it adds is compared with the one of the log. Any lines may judge, as long as they meet the
-//! contract of lines.
+//! A log is gone over once. Of a row its line and who made its entry are read; the line makes the
+//! step of that actor, and the row of the entry that it adds is compared with what stands there.
+//! Only a row that differs is read whole. So no history is kept but the lines' own. Any lines may
+//! judge, as long as they meet the contract of lines. `judge` does the same for a history that is
+//! there.
 #![tactic(auto)]
 
 pub mod checking;
+mod heads;
 pub mod judging;
+mod line_judge;
+mod making;
+pub mod verdict;
 
-pub use checking::{Verdict, check};
+pub use checking::check_log;
 pub use judging::judge;
+pub use verdict::Verdict;

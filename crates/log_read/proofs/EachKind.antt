@@ -1,5 +1,5 @@
 -- Entries, kind by kind: each is read exactly as it is written.
-use Rattle.std.proofs.Common.{◌≡◌, ℕ, ◌<◌, Bool, true, false, Option, Some, None, List, [], ◌∷◌, ◌++◌, codes, decimal, refl, sym, ap, subst, ◌∙◌}
+use Rattle.std.proofs.Common.{◌≡◌, ℕ, Bool, true, false, Some, List, ◌∷◌, ◌++◌, decimal, refl, sym, ap, subst, ◌∙◌}
 use Rattle.std.proofs.lemmas.Bool.{false≢true}
 use Rattle.irq_base.specs.declared.entries.AffinityAnswer.{AffinityAnswer}
 use Rattle.irq_base.specs.declared.entries.AffinityAnswer.TheVariants as affinities
@@ -20,7 +20,7 @@ use Rattle.log_read.proofs.Taking.{under}
 use Rattle.log_read.specs.Forms.{dev_no, TakesCpu, TakesThread, TakesDriver, IsLink, IsMoved, IsBy, behind}
 use Rattle.log_read.specs.Kinds.{cpu_verb_word, thread_verb_word, driver_verb_word}
 use Rattle.log_read.specs.Left.{left_of}
-use Rattle.log_read.specs.Takes.{TakesAs, Takes, Any, one}
+use Rattle.log_read.specs.Takes.{TakesAs, Takes, one}
 use Rattle.log_read.specs.Who.{who_word, IsWho, who_of}
 use Rattle.log_read.specs.declared.kinds.CpuVerb.{CpuVerb}
 use Rattle.log_read.specs.declared.kinds.CpuVerb.TheVariants as cpu_verbs

@@ -3,6 +3,7 @@ mod Taking
 mod Digits
 mod Saying
 mod EachKind
-mod RowCutting
-mod Telling
+pub mod RowCutting
+pub mod Telling
 mod Places
+mod Placing

@@ -1,13 +1,13 @@
 -- A text is cut at its line feeds, and a row is read between them.
-use Rattle.std.proofs.Common.{◌≡◌, ℕ, zero, suc, ◌+◌, ◌<◌, ◌≤◌, Bool, true, false, not, ◌&&◌, cond, eqb, ltb, List, []}
-use Rattle.std.proofs.Common.{◌∷◌, ◌++◌, length, take, drop, codes, decimal, Option, Some, None, refl, sym, ap, subst}
+use Rattle.std.proofs.Common.{◌≡◌, ℕ, suc, ◌+◌, ◌≤◌, Bool, true, false, not, ◌&&◌, cond, eqb, ltb, List, []}
+use Rattle.std.proofs.Common.{◌∷◌, ◌++◌, length, take, drop, codes, decimal, Some, None, refl, sym, ap, subst}
 use Rattle.std.proofs.Common.{◌∙◌, arith}
-use Rattle.std.specs.List.{position, position_or_len, slice_get, join_with_byte}
-use Rattle.std.proofs.lemmas.Bool.{lt-ltb, le-ltb, ltb-false, ltb-true, false≢true, eqb-true}
+use Rattle.std.specs.List.{concat, position, position_or_len, slice_get, join_with_byte}
+use Rattle.std.proofs.lemmas.Bool.{ltb-false, eqb-true}
 use Rattle.std.proofs.lemmas.Bool.Decides.{nat_tests}
 use Rattle.std.proofs.lemmas.List.{append-nil, append_cancel_right}
 use Rattle.std.proofs.lemmas.List.Splits.{join_with_byte-slice_split}
-use Rattle.std.proofs.lemmas.Option.{none-some, same_Some}
+use Rattle.std.proofs.lemmas.Option.{same_Some}
 use Rattle.irq_base.specs.declared.entries.Entry.{Entry}
 use Rattle.irq_base.specs.declared.numbers.LineNo.{LineNo}
 use Rattle.log_text.proofs.Splitting.{row_words, row_back}
@@ -15,7 +15,7 @@ use Rattle.log_text.specs.EntryWords.{entry_words}
 use Rattle.log_text.specs.Formed.{IsSmall, IsWritable, IsRowOf}
 use Rattle.log_read.proofs.Taking.{both}
 use Rattle.log_read.specs.Left.{left_of, words_of}
-use Rattle.log_read.specs.LogOf.{is_feed, rows_of, onto_first, is_whole, begins_with_hash, is_passed_over}
+use Rattle.log_read.specs.LogOf.{is_feed, rows_of, onto_first, is_whole, is_passed_over}
 use Rattle.log_read.specs.Takes.{TakesAs, number_words}
 use Rattle.log_read.specs.declared.words.Words.{Words}
 
@@ -92,6 +92,26 @@ no_feed text some h =
           ∷ rows_of (drop (position_or_len is_feed text + 1) text)) (alone text)) none ∙ alone_some text some),
       unended text (ltb-false (position_or_len is_feed text) (length text) none),
     )
+
+-- the rows of a text, one after another, are the text
+
+onto_joined : (b : ℕ) (rows : List (List ℕ)) → concat (onto_first b rows) ≡ b ∷ concat rows
+onto_joined b [] = refl
+onto_joined b (row ∷ rows) = refl
+
+joined_if : (t : Bool) (b : ℕ) (bs : List ℕ) → concat (rows_of bs) ≡ bs → concat (cond t ((b ∷ []) ∷ rows_of bs) (onto_first b (rows_of bs))) ≡ b ∷ bs
+joined_if true b bs h = ap (λ (xs : List ℕ). b ∷ xs) h
+joined_if false b bs h = onto_joined b (rows_of bs) ∙ ap (λ (xs : List ℕ). b ∷ xs) h
+
+pub joined : (text : List ℕ) → concat (rows_of text) ≡ text
+joined [] = refl
+joined (b ∷ bs) = joined_if (is_feed b) b bs (joined bs)
+
+pub front_joined : (text row : List ℕ) (rows : List (List ℕ)) → rows_of text ≡ row ∷ rows → text ≡ row ++ concat rows
+front_joined text row rows is = sym (joined text) ∙ ap concat is
+
+pub first_joined : (text row after : List ℕ) → rows_of text ≡ row ∷ rows_of after → text ≡ row ++ after
+first_joined text row after is = front_joined text row (rows_of after) is ∙ ap (λ (xs : List ℕ). row ++ xs) (joined after)
 
 -- rows that are passed over
 

@@ -1,5 +1,5 @@
 -- Answers of more than one word.
-use Rattle.std.proofs.Common.{◌≡◌, ℕ, Option, Some, None, List, [], ◌∷◌, ◌++◌, refl, sym, codes, ap, subst, ◌∙◌}
+use Rattle.std.proofs.Common.{◌≡◌, ℕ, Some, List, ◌∷◌, ◌++◌, refl, sym, codes, ap, subst, ◌∙◌}
 use Rattle.std.proofs.lemmas.Option.{none-some}
 use Rattle.irq_base.specs.declared.entries.AffinityAnswer.{AffinityAnswer}
 use Rattle.irq_base.specs.declared.entries.AffinityAnswer.TheVariants as affinities
@@ -10,7 +10,7 @@ use Rattle.irq_base.specs.declared.entries.LinkAnswer.{LinkAnswer}
 use Rattle.irq_base.specs.declared.entries.LinkAnswer.TheVariants as links
 use Rattle.irq_base.specs.declared.entries.Opened.{Opened}
 use Rattle.irq_base.specs.declared.entries.Opened.TheVariants as opens
-use Rattle.log_text.specs.Words.{resend_word, error_word, opened_words, enable_words, link_words, affinity_words}
+use Rattle.log_text.specs.Words.{resend_word, error_word, opened_words, enable_words, affinity_words}
 use Rattle.log_read.proofs.Taking.{under}
 use Rattle.log_read.specs.Forms.{TakesOpening, TakesEnabling, TakesLinking, TakesMoving, IsLink, IsMoved, link_said}
 use Rattle.log_read.specs.Kinds.{opening_word, linking_word, moving_word}

@@ -1,14 +1,14 @@
 -- The rows so far, and the histories that they say.
-use Rattle.std.proofs.Common.{◌≡◌, ℕ, zero, suc, ◌+◌, ◌-◌, ◌<◌, ◌≤◌, ◌⊎◌, inl, inr, Bool, true, false, not, ◌&&◌, ◌||◌}
-use Rattle.std.proofs.Common.{cond, eqb, List, [], ◌∷◌, ◌++◌, length, map, take, drop, get_or, codes, Option, Some}
-use Rattle.std.proofs.Common.{None, refl, sym, ap, subst, ◌∙◌, arith}
-use Rattle.std.specs.List.{join_with_byte, slice_get, filter, AllZip, All, list_any}
+use Rattle.std.proofs.Common.{◌≡◌, ℕ, zero, suc, ◌+◌, ◌-◌, ◌<◌, ◌≤◌, ◌⊎◌, inl, inr, Bool, true, false, not, ◌||◌}
+use Rattle.std.proofs.Common.{cond, eqb, List, [], ◌∷◌, ◌++◌, length, map, take, drop, get_or, Some}
+use Rattle.std.proofs.Common.{refl, sym, ap, subst, ◌∙◌, arith}
+use Rattle.std.specs.List.{join_with_byte, slice_get, filter, AllZip, All}
 use Rattle.std.specs.Prelude.{slice_set}
 use Rattle.std.proofs.lemmas.Bool.{false≢true, and_parts, ne_eqb, cases_lt}
 use Rattle.std.proofs.lemmas.Bool.Decides.{nat_tests}
 use Rattle.std.proofs.lemmas.List.{append-nil, map-append, length-map, take-append-drop}
 use Rattle.std.proofs.lemmas.List.Elements.{filter-append, All-nil, All-cons, All-head, All-tail, All-same}
-use Rattle.std.proofs.lemmas.Option.{none-some, same_Some, slice_get_within}
+use Rattle.std.proofs.lemmas.Option.{same_Some, slice_get_within}
 use Rattle.board_def.specs.Rules.{IsBoard, has_line}
 use Rattle.board_def.specs.Seen.{BoardSeen}
 use Rattle.board_def.specs.declared.rows.LineRow.{LineRow}
@@ -58,7 +58,7 @@ drop_suc (y ∷ ys) (suc n) x tail h = drop_suc ys n x tail h
 pub drop_next : {X : Type 0} (xs : List X) (n : ℕ) (x : X) (tail : List X) → drop n xs ≡ x ∷ tail → drop (n + 1) xs ≡ tail
 drop_next xs n x tail h = let e : n + 1 ≡ suc n = omega arith in ap (λ m. drop m xs) e ∙ drop_suc xs n x tail h
 
-take_next : {X : Type 0} (xs : List X) (n : ℕ) (x : X) (tail : List X) → drop n xs ≡ x ∷ tail → take (n + 1) xs ≡ take n xs ++ x ∷ []
+pub take_next : {X : Type 0} (xs : List X) (n : ℕ) (x : X) (tail : List X) → drop n xs ≡ x ∷ tail → take (n + 1) xs ≡ take n xs ++ x ∷ []
 take_next xs n x tail h = let e : n + 1 ≡ suc n = omega arith in ap (λ m. take m xs) e ∙ take_suc xs n x tail h
 
 -- a board's lines
@@ -68,7 +68,7 @@ rising b i j x y board atx aty less =
     at_place (λ (e : LineRow). e.line.0 < y.line.0) (take j b.lines) i x (board.lines j y aty).rises (get_take b.lines i j less ∙ atx)
 
 -- no other line has its number
-other_line : (b : BoardSeen) (i place : ℕ) (x row : LineRow) → IsBoard b → slice_get b.lines i ≡ Some x
+pub other_line : (b : BoardSeen) (i place : ℕ) (x row : LineRow) → IsBoard b → slice_get b.lines i ≡ Some x
     → slice_get b.lines place ≡ Some row → (i ≡ place → ⊥) → eqb row.line.0 x.line.0 ≡ false
 other_line b i place x row board atx at differ = by (order i place)
   where
@@ -83,13 +83,6 @@ other_line b i place x row board atx at differ = by (order i place)
 
 abbrev line_no : ℕ → LineNo
 line_no n = record { 0 = n }
-
-pub absent : (lines : List LineRow) (line : LineNo) → ((j : ℕ) (row : LineRow) → slice_get lines j ≡ Some row
-    → row.line ≡ line → ⊥) → has_line lines line ≡ false
-absent [] line none = refl
-absent (row ∷ rows) line none =
-    ap (λ t. t || has_line rows line) (ne_eqb row.line.0 line.0 (λ same. none 0 row refl (ap (λ n. line_no n) same)))
-    ∙ absent rows line (λ j r at. none (suc j) r at)
 
 pub present : (lines : List LineRow) (line : LineNo) (place : ℕ) → IsPlaceOf lines line place → has_line lines line ≡ true
 present [] line place at = cc
@@ -132,20 +125,20 @@ adds [] place e h new at is = cc
 adds (x ∷ xs) zero e h new at is = ap (λ es. es ∷ entries_of xs) (is ∙ ap (λ (y : HistorySeen). y.entries ++ e ∷ []) (sym (same_Some x h at)))
 adds (x ∷ xs) (suc place) e h new at is = ap (λ ess. x.entries ∷ ess) (adds xs place e h new at is)
 
-more_on : (said : List LineEntry) (s : LineEntry) (line : LineNo) → entries_on (said ++ s ∷ []) line ≡ entries_on said line ++ entries_on (s ∷ []) line
+pub more_on : (said : List LineEntry) (s : LineEntry) (line : LineNo) → entries_on (said ++ s ∷ []) line ≡ entries_on said line ++ entries_on (s ∷ []) line
 more_on said s line =
     ap (λ (xs : List LineEntry). map (λ (x : LineEntry). x.1) xs) (filter-append (λ (x : LineEntry). eqb x.0.0 line.0) said (s ∷ []))
     ∙ map-append (λ (x : LineEntry). x.1) (filter (λ (x : LineEntry). eqb x.0.0 line.0) said) (filter (λ (x : LineEntry). eqb x.0.0 line.0) (s ∷ []))
 
-on_own : (s : LineEntry) (line : LineNo) → eqb s.0.0 line.0 ≡ true → entries_on (s ∷ []) line ≡ s.1 ∷ []
+pub on_own : (s : LineEntry) (line : LineNo) → eqb s.0.0 line.0 ≡ true → entries_on (s ∷ []) line ≡ s.1 ∷ []
 on_own s line h = ap (λ t. map (λ (x : LineEntry). x.1) (cond t (s ∷ []) [])) h
 
-on_other : (s : LineEntry) (line : LineNo) → eqb s.0.0 line.0 ≡ false → entries_on (s ∷ []) line ≡ []
+pub on_other : (s : LineEntry) (line : LineNo) → eqb s.0.0 line.0 ≡ false → entries_on (s ∷ []) line ≡ []
 on_other s line h = ap (λ t. map (λ (x : LineEntry). x.1) (cond t (s ∷ []) [])) h
 
 -- what the rows tell
 
-zip_push : {A B : Type 0} (R : A → B → Type 0) (xs : List A) (ys : List B) (x : A) (y : B) → AllZip R xs ys → R x y → AllZip R (xs ++ x ∷ []) (ys ++ y ∷ [])
+pub zip_push : {A B : Type 0} (R : A → B → Type 0) (xs : List A) (ys : List B) (x : A) (y : B) → AllZip R xs ys → R x y → AllZip R (xs ++ x ∷ []) (ys ++ y ∷ [])
 zip_push R [] [] x y all r = (r, tt)
 zip_push R [] (z ∷ ys) x y all r = absurd all
 zip_push R (z ∷ xs) [] x y all r = absurd all
@@ -244,11 +237,11 @@ short_if : (t : Bool) (s : LineEntry) (rest : List LineEntry) (n : ℕ) → leng
 short_if true s rest n h = omega (arith, h)
 short_if false s rest n h = omega (arith, h)
 
-short_on : (said : List LineEntry) (line : LineNo) → length (entries_on said line) ≤ length said
+pub short_on : (said : List LineEntry) (line : LineNo) → length (entries_on said line) ≤ length said
 short_on [] line = omega arith
 short_on (s ∷ said) line = short_if (eqb s.0.0 line.0) s (filter (λ (x : LineEntry). eqb x.0.0 line.0) said) (length said) (short_on said line)
 
-zip_short : {A B : Type 0} (R : A → B → Type 0) (xs : List A) (ys : List B) → AllZip R xs ys → length ys ≤ length xs
+pub zip_short : {A B : Type 0} (R : A → B → Type 0) (xs : List A) (ys : List B) → AllZip R xs ys → length ys ≤ length xs
 zip_short R [] [] all = omega arith
 zip_short R [] (y ∷ ys) all = absurd all
 zip_short R (x ∷ xs) [] all = absurd all
@@ -258,7 +251,7 @@ few_if : (t : Bool) (row : List ℕ) (rest : List (List ℕ)) (n : ℕ) → leng
 few_if true row rest n h = omega (arith, h)
 few_if false row rest n h = omega (arith, h)
 
-few_saying : (rows : List (List ℕ)) → length (saying rows) ≤ length rows
+pub few_saying : (rows : List (List ℕ)) → length (saying rows) ≤ length rows
 few_saying [] = omega arith
 few_saying (row ∷ rows) = few_if (not (is_passed_over row)) row (saying rows) (length rows) (few_saying rows)
 
@@ -339,7 +332,7 @@ judged_fine lines row false old new h judged = absurd (false≢true h)
 
 -- no row is left
 
-all_taken : {X : Type 0} (xs : List X) (n : ℕ) → drop n xs ≡ [] → take n xs ≡ xs
+pub all_taken : {X : Type 0} (xs : List X) (n : ℕ) → drop n xs ≡ [] → take n xs ≡ xs
 all_taken xs n h = sym (append-nil (take n xs)) ∙ (ap (λ (ys : List _). take n xs ++ ys) (sym h) ∙ take-append-drop n xs)
 
 pub all_told : (lines : List LineRow) (text rest : List ℕ) (n : ℕ) (logs : List HistorySeen) → rows_of rest ≡ drop n (rows_of text) → length rest ≡ 0

@@ -1,24 +1,16 @@
 -- What follows the verb of a row, verb by verb; and what follows the first word of an answer.
-use Rattle.std.specs.Prelude.{◌≡◌, ℕ, Bool, None, List, [], ◌∷◌, ◌++◌, codes, drop}
-use Rattle.irq_base.specs.declared.calls.Flags.{Flags}
-use Rattle.irq_base.specs.declared.devices.Answer.{Answer}
+use Rattle.std.specs.Prelude.{◌≡◌, ℕ, None, List, [], codes, drop}
 use Rattle.irq_base.specs.declared.entries.AffinityAnswer.{AffinityAnswer}
 use Rattle.irq_base.specs.declared.entries.AffinityAnswer.TheVariants as affinities
 use Rattle.irq_base.specs.declared.entries.EnableAnswer.{EnableAnswer}
 use Rattle.irq_base.specs.declared.entries.EnableAnswer.TheVariants as enables
 use Rattle.irq_base.specs.declared.entries.Entry.{Entry}
 use Rattle.irq_base.specs.declared.entries.Entry.TheVariants as entries
-use Rattle.irq_base.specs.declared.entries.Errno.{Errno}
 use Rattle.irq_base.specs.declared.entries.Errno.TheVariants as errnos
 use Rattle.irq_base.specs.declared.entries.LinkAnswer.{LinkAnswer}
 use Rattle.irq_base.specs.declared.entries.LinkAnswer.TheVariants as links
-use Rattle.irq_base.specs.declared.entries.Note.{Note}
 use Rattle.irq_base.specs.declared.entries.Opened.{Opened}
 use Rattle.irq_base.specs.declared.entries.Opened.TheVariants as opens
-use Rattle.irq_base.specs.declared.entries.Resend.{Resend}
-use Rattle.irq_base.specs.declared.entries.TakeAnswer.{TakeAnswer}
-use Rattle.irq_base.specs.declared.entries.UnlinkAnswer.{UnlinkAnswer}
-use Rattle.irq_base.specs.declared.entries.Way.{Way}
 use Rattle.irq_base.specs.declared.numbers.CpuNo.{CpuNo}
 use Rattle.irq_base.specs.declared.numbers.DevNo.{DevNo}
 use Rattle.irq_base.specs.declared.numbers.DriverNo.{DriverNo}
@@ -29,7 +21,7 @@ use Rattle.log_text.specs.Words.{note_word, bit_word, resend_word, error_word, f
 use Rattle.log_text.specs.Words.{unlink_word, enable_words, opened_words, link_words}
 use Rattle.log_text.specs.Words.{affinity_words}
 use Rattle.log_read.specs.Left.{left_of}
-use Rattle.log_read.specs.Takes.{TakesAs, Takes, Any, one, number_words, Both, then, text_words}
+use Rattle.log_read.specs.Takes.{TakesAs, Any, one, number_words, Both, then, text_words}
 use Rattle.log_read.specs.Who.{who_of}
 use Rattle.log_read.specs.declared.kinds.CpuVerb.{CpuVerb}
 use Rattle.log_read.specs.declared.kinds.CpuVerb.TheVariants as cpu_verbs

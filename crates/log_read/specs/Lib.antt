@@ -5,4 +5,3 @@ pub mod Who
 pub mod Forms
 pub mod LogOf
 pub mod Adding
-pub mod Recent

@@ -2,9 +2,8 @@
 //! malformed row is named.
 //!
 //! A row is read word by word, and each piece is read exactly as it is written. So exactly the rows
-//! of entries are read, whatever their numbers. The rows that were read last are kept with what
-//! they say: a row that comes again is compared, and not read again. A text of n bytes takes time
-//! in the order of n times the lines of the board, and memory for the histories alone.
+//! of entries are read, whatever their numbers. A text of n bytes takes time in the order of n, and
+//! memory for the histories alone.
 #![tactic(auto)]
 
 mod answers;
@@ -12,10 +11,10 @@ mod entries;
 mod kinds;
 mod numbers;
 pub mod reading;
-pub mod recent;
-mod rows;
+pub mod rows;
 mod said;
 mod words;
 
 pub use numbers::number_of;
-pub use reading::{LogRefused, cut_row, read_log};
+pub use reading::{LogRefused, cut_row, place_of, read_log};
+pub use rows::read_row;

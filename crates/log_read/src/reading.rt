@@ -9,7 +9,7 @@ ghost use Rattle.log_read.specs.LogOf.{rows_of, is_whole, is_feed, is_passed_ove
 ghost use Rattle.log_read.specs.LogOf.{IsLogOf, IsRow};
 ghost use Rattle.log_read.specs.Adding.{Adds, IsPlaceOf, Judges};
 
-use crate::recent::RecentRows;
+use crate::rows::read_row;
 use board_def::Board;
 use irq_base::{Entry, History, LineNo, Logs, NoMemory};
 use memchr::memchr;
@@ -40,8 +40,7 @@ impl From<NoMemory> for LogRefused {
 }
 
 /// Reads the text of a log: one history for each line of the board, in its order. Rows that begin
-/// with `#` are passed over. The time is in the order of the bytes times the lines of the board,
-/// and memory is taken for the histories alone.
+/// with `#` are passed over. Memory is taken for the histories alone.
 ///
 /// # Errors
 ///
@@ -56,7 +55,6 @@ pub fn read_log(alloc: Global, board: &Board, bytes: &[u8]) -> Result<Logs, LogR
 {
     board.is_board();
     let mut logs = empty_logs(alloc, board)?;
-    let mut recent = RecentRows::new();
     let mut rest = bytes;
     let mut row: u32 = 0;
     while !rest.is_empty() {
@@ -64,7 +62,7 @@ pub fn read_log(alloc: Global, board: &Board, bytes: &[u8]) -> Result<Logs, LogR
         let Some((text, after)) = cut_row(rest) else {
             return Err(LogRefused::Malformed { row });
         };
-        if !add_row(&mut logs, board, &mut recent, text)? {
+        if !add_row(&mut logs, board, text)? {
             return Err(LogRefused::Malformed { row });
         }
         rest = after;
@@ -108,12 +106,7 @@ fn line_feed(text: &[u8]) -> Option<usize>
 
 /// Reads a row, which stands here without its line feed, and adds its entry to its line's history.
 /// Answers whether nothing is wrong with it.
-fn add_row(
-    logs: &mut Logs,
-    board: &Board,
-    recent: &mut RecentRows,
-    row: &[u8],
-) -> Result<bool, NoMemory>
+fn add_row(logs: &mut Logs, board: &Board, row: &[u8]) -> Result<bool, NoMemory>
     requires { length logs.old ≡ length board.now.lines }
     ensures { IfOk result
         (λ fine. Judges board.now.lines (row.now ++ codes "\n") fine (entries_of logs.old)
@@ -122,7 +115,7 @@ fn add_row(
     if begins_with_hash(row) {
         return Ok(true);
     }
-    let Some((line, entry)) = recent.read(row) else {
+    let Some((line, entry)) = read_row(row) else {
         return Ok(false);
     };
     let Some(place) = place_of(board, line) else {
@@ -141,19 +134,19 @@ fn begins_with_hash(row: &[u8]) -> bool
     }
 }
 
-/// The place of the line among the board's lines.
-fn place_of(board: &Board, line: LineNo) -> Option<usize>
+/// The place of the line among the board's lines, counted from 0; none if the board has no such
+/// line. Lines are mostly numbered from 1 on.
+pub fn place_of(board: &Board, line: LineNo) -> Option<usize>
     ensures { MatchOption result (has_line board.now.lines line ≡ false)
         (λ place. IsPlaceOf board.now.lines line place) }
 {
-    for i in 0..board.lines_len() {
-        if let Some(row) = board.line(i)
-            && row.line == line
-        {
-            return Some(i);
-        }
+    let likely = line.0.saturating_sub(1) as usize;
+    if let Some(row) = board.line(likely)
+        && row.line == line
+    {
+        return Some(likely);
     }
-    None
+    board.place_of_line(line)
 }
 
 /// Adds the entry to the history at index `place`.

@@ -10,7 +10,7 @@ use crate::words::Words;
 use irq_base::{Entry, LineNo};
 
 /// The line and the entry of a row without its line feed; none if it isn't the row of an entry.
-pub(crate) fn read_row(row: &[u8]) -> Option<(LineNo, Entry)>
+pub fn read_row(row: &[u8]) -> Option<(LineNo, Entry)>
     ensures { MatchOption result
         ((line : LineNo) (e : Entry) → IsRowOf (row.now ++ codes "\n") line e → ⊥)
         (λ read. IsRowOf (row.now ++ codes "\n") read.0 read.1) }

@@ -1,4 +1,4 @@
-use Rattle.std.proofs.Common.{ℕ, Bool}
+use Rattle.std.proofs.Common.{ℕ}
 use Rattle.irq_base.specs.declared.calls.Flags.{Flags}
 use Rattle.irq_base.specs.declared.entries.LinkAnswer.{LinkAnswer}
 use Rattle.irq_base.specs.declared.entries.Opened.{Opened}

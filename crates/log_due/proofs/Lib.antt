@@ -1,3 +1,0 @@
-mod Printable
-mod Rows
-mod Lines
