@@ -1,0 +1,102 @@
+//! Each placing is told to the kept notifier, once.
+ghost use Rattle.std.specs.Prelude.{◌≡◌, ◌≤◌, ◌%◌};
+
+use board_lines::MakesChainLine;
+use board_text::read_board;
+use callbacks::{ByKind, Callbacks};
+use hotplug_play::hotplug_and_print;
+use irq_base::{CpuNo, LineNo};
+use irq_hotplug::Event;
+use irq_io::MemSink;
+use irq_play::PlayedEnd;
+use notifiers::{BoxedNotifier, Notifiers};
+use std::alloc::{AllocError, Global};
+use std::sync::Arc;
+use std::sync::atomic::{AtomicU64, Ordering};
+use std::test::Fail;
+
+/// Line 1 prefers processor 1, and line 2 takes any.
+const BOARD: &[u8] = b"board 1
+cpus 2
+domain intc linear 4 latch
+line 1 intc 2 mask 2
+line 2 intc 3
+device 1 1 direct
+device 2 2 direct
+driver 1
+request 1
+ask 1
+";
+
+/// Two vectors a processor: line 1 goes to processor 0 with processor 1, and both lines go to
+/// processor 1 with processor 0. The five placings are five calls.
+const EVENTS: [Event; 4] = [
+    Event::Off(CpuNo(1)),
+    Event::Off(CpuNo(0)),
+    Event::On(CpuNo(1)),
+    Event::Off(CpuNo(0)),
+];
+
+const PRINTED: &[u8] = b"# irq 1 virq 1 intc:2
+# irq 2 virq 2 intc:3
+# vector 1 1 0 0
+# vector 2 0 0 0
+# off 1 ok
+# vector 1 0 1 0
+# off 0 refused last
+# on 1 ok
+# off 0 ok
+# vector 1 1 0 0
+# vector 2 1 1 0
+1 d1 request 1 - linked started no
+1 d1 ask 1
+1 c1 take line handle
+1 c1 begin 1
+1 c1 return 1 handled 1
+1 c1 end leave asis quiet
+1 d65535 affinity 1 now
+1 d65535 affinity 2 now
+2 d65535 affinity 2 now
+";
+
+/// A notifier that counts how often it is called.
+fn counting(alloc: Global, calls: Arc<AtomicU64>) -> Result<BoxedNotifier, AllocError> {
+    let notifying = Box::new(
+        alloc,
+        move |_line: LineNo, cpu: CpuNo, queues: u32| -> u32
+            ensures { 1 ≤ queues → result ≡ cpu.0 % queues }
+        {
+            calls.fetch_add(1, Ordering::SeqCst);
+            if queues == 0 { 0 } else { cpu.0 % queues }
+        },
+    )?;
+    Ok(BoxedNotifier::new(notifying))
+}
+
+#[test]
+fn each_placing_is_told_once(rt: HostRuntime) -> Result<(), Fail> {
+    let calls = Arc::new(rt.alloc(), AtomicU64::new(0))?;
+    let notify = Notifiers::new(counting(rt.alloc(), Arc::try_clone(&calls)?)?);
+    let Ok(board) = read_board(rt.alloc(), BOARD) else {
+        panic!(rt; "the board has a fault")
+    };
+    let handlers = Callbacks::new(ByKind);
+    let mut out = MemSink::new(rt.alloc(), &[], 1000)?;
+    let played = hotplug_and_print(
+        rt.alloc(),
+        board,
+        2,
+        &EVENTS,
+        &MakesChainLine,
+        &handlers,
+        &notify,
+        &mut out,
+    );
+    let Ok(played) = played else {
+        panic!(rt; "the board fits")
+    };
+    assert!(rt; played.end == PlayedEnd::Done && played.reports.len() == 2);
+    assert!(rt; out.written() == PRINTED);
+    assert_eq!(rt; calls.load(Ordering::SeqCst), 5);
+    Ok(())
+}
