@@ -166,6 +166,7 @@ module _ (b : BoardSeen) (d : DemuxSeen) (s : Stands b d) (lines : List LineSeen
     fits = s.fits;
     left = p.play.0;
     so_far = subst (λ (c : BoardSeen). IsMade (chain_order c) b.picks (reverse d.log) p.play.0) p.board p.play.1;
+    further = subst (λ (c : BoardSeen). IsSome ((chain_order c).next (reverse d.log) p.play.0)) p.board p.play.2;
     signals = keeps_signals b d.log s.legal;
     lines = subst (λ (ls : List BoardLine). SoFar b (entries_in ls) reports) are h;
   }

@@ -1,6 +1,6 @@
 -- What holds of a board's play behind one demultiplexer, and of the reports that hand it out. The
 -- steps of a log stand oldest first here; the play's definitions have the newest first.
-use Rattle.std.specs.Prelude.{◌≡◌, ℕ, true, List, reverse}
+use Rattle.std.specs.Prelude.{◌≡◌, ℕ, true, IsSome, List, reverse}
 use Rattle.irq_base.specs.declared.entries.Actor.{Actor}
 use Rattle.irq_base.specs.declared.numbers.LineNo.{LineNo}
 use Rattle.irq_base.specs.declared.reporting.LineReport.{LineReport}
@@ -37,10 +37,12 @@ pub record ChainFull (b : BoardSeen) (g : List ChainEntry) (reports : List LineR
   pub signals : KeepsSignals b g
   pub lines : FullLog b (entries_of b g) reports line len
 
--- the board was played until a step was refused memory; `left` are the picks that are left
+-- the board was played until a step was refused memory; `left` are the picks that are left, and a
+-- further step is due
 pub record ChainCut (b : BoardSeen) (g : List ChainEntry) (reports : List LineReport) : Type 0 where
   pub fits : is_for_chain b ≡ true
   pub left : List Actor
   pub so_far : IsMade (chain_order b) b.picks (reverse g) left
+  pub further : IsSome ((chain_order b).next (reverse g) left)
   pub signals : KeepsSignals b g
   pub lines : SoFar b (entries_of b g) reports

@@ -5,6 +5,7 @@ pub mod Chained
 pub mod Stepping
 pub mod Resting
 pub mod Lowest
+pub mod Further
 pub mod Room
 pub mod Playing
 pub mod Turning

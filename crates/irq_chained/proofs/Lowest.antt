@@ -41,7 +41,7 @@ module _ {E : Type 0} (can : Actor → Option E) where
   or_some None other h = cc
   or_some (Some e) other h = refl
 
-  first_append : (xs ys : List Actor) → first_step can (xs ++ ys) ≡ or_step (first_step can xs) (first_step can ys)
+  pub first_append : (xs ys : List Actor) → first_step can (xs ++ ys) ≡ or_step (first_step can xs) (first_step can ys)
   first_append [] ys = refl
   first_append (a ∷ xs) ys = by_first (can a) (first_append xs ys)
     where
@@ -97,7 +97,7 @@ no_others b g (suc c) (suc n) some =
     not_zero : (c : ℕ) → (suc c == 0) ≡ false
     not_zero c = grind (arith, nat_tests)
 
-first_cpu : (b : BoardSeen) (g : List ChainEntry) → 1 ≤ b.cpus → first_step (chain_next b g) (cpus_of b) ≡ chain_next b g (actors.Cpu cpu_0)
+pub first_cpu : (b : BoardSeen) (g : List ChainEntry) → 1 ≤ b.cpus → first_step (chain_next b g) (cpus_of b) ≡ chain_next b g (actors.Cpu cpu_0)
 first_cpu b g some = by_count b.cpus some
   where
     by_count : (n : ℕ) → 1 ≤ n → first_step (chain_next b g) (map (λ (n : ℕ). actors.Cpu (record { 0 = n })) (count_up 0 n)) ≡ chain_next b g (actors.Cpu cpu_0)

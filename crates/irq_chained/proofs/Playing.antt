@@ -1,5 +1,5 @@
 -- A play of a demultiplexer, step by step, and that it ends.
-use Rattle.std.proofs.Common.{◌≡◌, ℕ, ◌+◌, ◌*◌, ◌<◌, ◌≤◌, ◌==◌, Bool, true, false, cond, IfSome, IsSomeAnd, Option}
+use Rattle.std.proofs.Common.{◌≡◌, ℕ, ◌+◌, ◌*◌, ◌<◌, ◌≤◌, ◌==◌, Bool, true, false, cond, IfSome, IsSome, IsSomeAnd, is_some, Option}
 use Rattle.std.proofs.Common.{Some, None, List, [], ◌∷◌, length, reverse, get_or, drop, refl, sym, ap, ◌∙◌, subst}
 use Rattle.std.proofs.Common.{arith, add-one}
 use Rattle.std.proofs.Math.Seq.{drop-cons}
@@ -30,6 +30,7 @@ use Rattle.irq_chained.specs.declared.chain.ChainEntry.TheVariants as steps
 use Rattle.irq_chained.specs.declared.chain.ChainTurn.{ChainTurn}
 use Rattle.irq_chained.specs.declared.chain.ChainTurn.TheVariants as turns
 use Rattle.irq_chained.proofs.Chained.{first_is_some, own_step, same_children}
+use Rattle.irq_chained.proofs.Further.{some_choice}
 use Rattle.irq_chained.proofs.Resting.{exits_walked}
 use Rattle.irq_chained.proofs.Room.{room, room_less}
 use Rattle.irq_chained.proofs.StatusBits.{some_asks, status_has}
@@ -141,8 +142,11 @@ pick_full old new picks i x line len turn within u same t =
 pub refused : (old new : DemuxSeen) (picks rest : List Actor) (due : Option ChainEntry) (turn : ChainTurn)
     → IsUnderway old picks rest → turn ≡ turns.NoMemory → TurnsBy old due turn new → IsPlay new picks ends.NoMemory
 refused old new picks rest due turn u same t =
-    let is : new ≡ old = subst (λ (y : ChainTurn). TurnsBy old due y new) same t in
-    subst (λ (d : DemuxSeen). IsPlay d picks ends.NoMemory) (sym is) (u.left, u.made)
+    let wanted : IsSome (lowest_of old) × (new ≡ old) = subst (λ (y : ChainTurn). TurnsBy old due y new) same t in
+    let can = chain_next old.board (reverse old.log) in
+    let next : IsSome (choice_of old u.left) = ap (λ (o : Option (ChainEntry × List Actor)). is_some o) u.next
+    ∙ some_choice can (actors_of old.board) rest wanted.0 in
+    subst (λ (d : DemuxSeen). IsPlay d picks ends.NoMemory) (sym wanted.1) (u.left, u.made, next)
 
 -- ---- the lowest
 
@@ -173,13 +177,13 @@ pub same_board : (old new : DemuxSeen) (due : Option ChainEntry) (turn : ChainTu
 same_board old new due (turns.Moved e) t = t.board
 same_board old new due turns.NotYet t = ap (λ (d : DemuxSeen). d.board) t.1
 same_board old new due (turns.Full line len) t = ap (λ (d : DemuxSeen). d.board) t.1
-same_board old new due turns.NoMemory t = ap (λ (d : DemuxSeen). d.board) t
+same_board old new due turns.NoMemory t = ap (λ (d : DemuxSeen). d.board) t.1
 
 pub same_layout : (old new : DemuxSeen) (due : Option ChainEntry) (turn : ChainTurn) → TurnsBy old due turn new → new.layout ≡ old.layout
 same_layout old new due (turns.Moved e) t = t.layout
 same_layout old new due turns.NotYet t = ap (λ (d : DemuxSeen). d.layout) t.1
 same_layout old new due (turns.Full line len) t = ap (λ (d : DemuxSeen). d.layout) t.1
-same_layout old new due turns.NoMemory t = ap (λ (d : DemuxSeen). d.layout) t
+same_layout old new due turns.NoMemory t = ap (λ (d : DemuxSeen). d.layout) t.1
 
 -- ---- it ends: an enter and an exit use up no room, but never follow one another at once
 

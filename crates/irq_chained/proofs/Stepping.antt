@@ -1,6 +1,6 @@
 -- One step of a demultiplexer: a move of a child, an enter, an exit.
 use Rattle.std.proofs.Common.{◌≡◌, ℕ, zero, suc, ◌+◌, ◌<◌, ◌≤◌, ◌==◌, Bool, true, false, ◌&&◌, ◌||◌, cond, is_some}
-use Rattle.std.proofs.Common.{IsSomeAnd, Option, Some, None, List, [], ◌∷◌, ◌++◌, map, length, reverse, slice_get, refl}
+use Rattle.std.proofs.Common.{IsSome, IsSomeAnd, Option, Some, None, List, [], ◌∷◌, ◌++◌, map, length, reverse, slice_get, refl}
 use Rattle.std.proofs.Common.{sym, ap, ◌∙◌, subst, arith, eqb-true}
 use Rattle.std.proofs.lemmas.Bool.Decides.{nat_tests}
 use Rattle.std.proofs.lemmas.List.{reverse-append, length-append}
@@ -30,7 +30,7 @@ use Rattle.irq_chained.specs.Chain.{IsChainLegal, chain_next, child, children, c
 use Rattle.irq_chained.specs.Fits.{is_for_chain}
 use Rattle.irq_chained.specs.Parent.{is_asked, parent_after, parent_cell}
 use Rattle.irq_chained.specs.Seen.{DemuxSeen, IsDemux, seen_of}
-use Rattle.irq_chained.specs.Turned.{Goes, HasRoomFor, IsFullFor, TurnsBy, turn_of}
+use Rattle.irq_chained.specs.Turned.{Goes, HasRoomFor, IsFullFor, TurnsBy, lowest_of, turn_of}
 use Rattle.irq_chained.specs.Walk.{AreWithin, IsWalkOf, IsWithTaken, mark_of, merged}
 use Rattle.irq_chained.specs.declared.chain.ChainEntry.{ChainEntry}
 use Rattle.irq_chained.specs.declared.chain.ChainEntry.TheVariants as steps
@@ -171,13 +171,14 @@ module _ (s t : SystemSeen) (ms : List Mark) (walk after : Option Walk) (parent 
   }
 
   -- a step that was asked of the system
-  pub child_turn : (turn : Turn) → StepsBy s (due_on o a) turn t → WalkGoes s ms turn t after
+  pub child_turn : (turn : Turn) → (turn ≡ moves.NoMemory → IsSome (lowest_of (seen_of s ms parent)))
+      → StepsBy s (due_on o a) turn t → WalkGoes s ms turn t after
       → IsDemux t ms after now × TurnsBy (seen_of s ms parent) (chain_next s.board g a) (turn_of turn)
       (seen_of t ms now)
-  child_turn (moves.Moved line e) by walks = (child_kept line e by walks, child_goes line e by)
-  child_turn moves.NotYet by walks = let n = same by.1 walks in (n.0, (next ∙ ap (λ (m : Option Move). child m) by.0, n.1))
-  child_turn (moves.Full line len) by walks = let n = same by.1 walks in (n.0, (full line len by.0, n.1))
-  child_turn moves.NoMemory by walks = same by walks
+  child_turn (moves.Moved line e) wanted by walks = (child_kept line e by walks, child_goes line e by)
+  child_turn moves.NotYet wanted by walks = let n = same by.1 walks in (n.0, (next ∙ ap (λ (m : Option Move). child m) by.0, n.1))
+  child_turn (moves.Full line len) wanted by walks = let n = same by.1 walks in (n.0, (full line len by.0, n.1))
+  child_turn moves.NoMemory wanted by walks = let n = same by walks in (n.0, (wanted refl, n.1))
 
 -- ---- an enter, and an exit
 

@@ -1,5 +1,5 @@
 -- What the calls of a demultiplexer answer and leave.
-use Rattle.std.proofs.Common.{◌≡◌, ℕ, ◌<◌, ◌≤◌, ◌==◌, ◌++◌, Bool, true, false, ◌&&◌, cond, IsSome, IsTrue, Option, Some}
+use Rattle.std.proofs.Common.{◌≡◌, ℕ, ◌<◌, ◌≤◌, ◌==◌, ◌++◌, Bool, true, false, ◌&&◌, cond, IsSome, IsTrue, is_some, Option, Some}
 use Rattle.std.proofs.Common.{None, List, [], ◌∷◌, map, length, get_or, slice_get, refl, sym, ap, ◌∙◌, subst, arith}
 use Rattle.std.proofs.Common.{eqb-true}
 use Rattle.std.proofs.lemmas.Nat.Bits.{bit_at-zero}
@@ -46,7 +46,7 @@ use Rattle.board_core.specs.declared.turns.Turn.TheVariants as moves
 use Rattle.irq_chained.specs.Chain.{chain_next, child, cpu_0, first_left, in_chain, is_left, lines_in, of_cpu_0, open_status, or_exit, status_of, to_enter}
 use Rattle.irq_chained.specs.Parent.{is_asked}
 use Rattle.irq_chained.specs.Seen.{DemuxSeen, IsDemux, seen_of}
-use Rattle.irq_chained.specs.Turned.{Goes, IsOther, TurnsBy, next_of, turn_of}
+use Rattle.irq_chained.specs.Turned.{Goes, IsOther, TurnsBy, lowest_of, next_of, turn_of}
 use Rattle.irq_chained.specs.Walk.{IsWalkAfter, IsWalkOf, is_in_words}
 use Rattle.irq_chained.specs.declared.chain.ChainEntry.{ChainEntry}
 use Rattle.irq_chained.specs.declared.chain.ChainEntry.TheVariants as steps
@@ -55,12 +55,17 @@ use Rattle.irq_chained.specs.declared.marks.Mark.{Mark}
 use Rattle.irq_chained.specs.declared.marks.Marked.TheVariants as marks
 use Rattle.irq_chained.specs.declared.marks.Walk.{Walk}
 use Rattle.irq_chained.proofs.Chained.{due_own, take_is_due}
+use Rattle.irq_chained.proofs.Further.{some_of_0, somebody}
 use Rattle.irq_chained.proofs.Lowest.{other_next}
 use Rattle.irq_chained.proofs.StatusBits.{left_place}
 use Rattle.irq_chained.proofs.Stepping.{WalkGoes, child_turn, lines_are, mark_goes, mark_kept, parent_level, steps_of, walk_stays, walk_takes}
 
 pub level_cell : (s : SystemSeen) (ms : List Mark) (walk : Option Walk) (parent : Cell) → IsDemux s ms walk parent → is_edge_cell parent ≡ false
 level_cell s ms walk parent d = ap (λ (c : Cell). is_edge_cell c) (parent_level s ms walk parent d)
+
+-- processor 0 has this step
+some_step : (seen : DemuxSeen) → IsBoard seen.board → (e : ChainEntry) → next_of seen (actors.Cpu cpu_0) ≡ Some e → IsSome (lowest_of seen)
+some_step seen isb e is = some_of_0 seen isb (ap (λ (o : Option ChainEntry). is_some o) is)
 
 -- the same, said of what is seen
 pub says : (seen view new : DemuxSeen) (a : Actor) (turn answer : ChainTurn) → seen ≡ view → answer ≡ turn
@@ -110,12 +115,16 @@ flow_is_no_take d c past None = by_left (first_dev d past (linked past))
     by_left None = end_is_no_take d c past
     by_left (Some dev) = refl
 
+-- in a flow of the processor an entry is due
+in_flow_due : (x : BoardLine) (c : CpuNo) → is_cpu c (flow x.def x.past) ≡ true
+    → due_on (Some x) (actors.Cpu c) ≡ Some (x.def.line, next_in_flow x.def c x.past (at_work x.past))
+in_flow_due x c on = ap (λ (b : Bool). move_on x.def.line (cond b (Some (next_in_flow x.def c x.past (at_work x.past))) (next_take x.def c x.past))) on
+
 in_flow_is_no_take : (x : BoardLine) (c : CpuNo) (m : Move) → is_cpu c (flow x.def x.past) ≡ true
     → due_on (Some x) (actors.Cpu c) ≡ Some m → is_take m.1 ≡ false
 in_flow_is_no_take x c m on due =
     let made : Move = (x.def.line, next_in_flow x.def c x.past (at_work x.past)) in
-    let is : Some made ≡ Some m = sym (ap (λ (b : Bool). move_on x.def.line
-    (cond b (Some (next_in_flow x.def c x.past (at_work x.past))) (next_take x.def c x.past))) on) ∙ due in
+    let is : Some made ≡ Some m = sym (in_flow_due x c on) ∙ due in
     subst (λ (n : Move). is_take n.1 ≡ false) (the_same made m is) (flow_is_no_take x.def c x.past (at_work x.past))
 
 flow_line_on : (lines : List BoardLine) (c : CpuNo) (x : BoardLine) → flow_line lines c ≡ Some x → is_cpu c (flow x.def x.past) ≡ true
@@ -141,11 +150,17 @@ module _ (s t : SystemSeen) (ms : List Mark) (walk : Option Walk) (parent now : 
 
   -- ---- a step of a thread or a driver
 
-  pub other_turn : (a : Actor) (turn : Turn) → IsOther a → Turns s a turn t
+  pub other_turn : IsBoard s.board → AreKept s.board (board_lines s.lines) → (a : Actor) (turn : Turn) → IsOther a
+      → Turns s a turn t
       → IsDemux t ms walk now × TurnsBy seen (next_of seen a) (turn_of turn) (seen_of t ms now)
-  other_turn a turn other by = child_turn s t ms walk walk parent now a (line_for s.board (board_lines s.lines) a) d
-      (other_next s ms walk parent d a other) shows turn (steps_by turn by) (walks turn by)
+  other_turn isb kept a turn other by = child_turn s t ms walk walk parent now a (line_for s.board (board_lines s.lines) a) d
+      (other_next s ms walk parent d a other) shows turn (wanted turn by) (steps_by turn by) (walks turn by)
     where
+      wanted : (turn : Turn) → Turns s a turn t → turn ≡ moves.NoMemory → IsSome (lowest_of seen)
+      wanted turn by is =
+          let w = subst (λ (x : Turn). Turns s a x t) is by in
+          somebody s ms walk parent d isb kept w.0.somebody
+
       steps_by : (turn : Turn) → Turns s a turn t → StepsBy s (move_of s a) turn t
       steps_by (moves.Moved line e) by = by
       steps_by moves.NotYet by = by
@@ -184,7 +199,10 @@ module _ (s t : SystemSeen) (ms : List Mark) (walk : Option Walk) (parent now : 
           ap (λ (o : Option ℕ). of_cpu_0 g (lines_in s.board g) o) st.1
           ∙ (ap (λ (ls : List BoardLine). in_chain g ls st.0 (flow_line ls cpu_0)) (lines_are s ms walk parent d)
           ∙ (ap (λ (o : Option BoardLine). in_chain g lines st.0 o) is ∙ sym (ap (λ (o : Option BoardLine). child (due_on o (actors.Cpu cpu_0))) found))) in
-          child_turn s t ms walk walk parent now (actors.Cpu cpu_0) (find_line lines line) d next shows turn by
+          child_turn s t ms walk walk parent now (actors.Cpu cpu_0) (find_line lines line) d next shows turn
+          (λ refused. some_step seen isb _
+          (next ∙ (ap (λ (o : Option BoardLine). child (due_on o (actors.Cpu cpu_0))) found
+          ∙ ap (λ (o : Option Move). child o) (in_flow_due x cpu_0 (flow_line_on lines cpu_0 x is))))) by
           (walks x (flow_line_on lines cpu_0 x is) found turn by)
         where
           walks : (x : BoardLine) → is_cpu cpu_0 (flow x.def x.past) ≡ true → find_line lines line ≡ Some x
@@ -243,7 +261,8 @@ module _ (s t : SystemSeen) (ms : List Mark) (walk : Option Walk) (parent now : 
           let found : find_line lines line ≡ slice_get lines place = ap (λ (l : LineNo). find_line lines l) (sym its)
           ∙ (find_there lines (apart_kept s.board isb lines kept) place y at ∙ sym at) in
           child_turn s t ms walk (Some after) parent now (actors.Cpu cpu_0) (find_line lines line) d
-          (next ∙ sym (ap (λ (o : Option BoardLine). child (due_on o (actors.Cpu cpu_0))) found)) shows turn by
+          (next ∙ sym (ap (λ (o : Option BoardLine). child (due_on o (actors.Cpu cpu_0))) found)) shows turn
+          (λ refused. some_step seen isb _ (next ∙ ap (λ (o : Option Move). child o) (take_is_due (slice_get lines place) due).1)) by
           (walks y at its found turn taken by)
 
 pub not_zero : (n : ℕ) → (n ≡ 0 → ⊥) → (n == 0) ≡ false
@@ -257,6 +276,16 @@ module _ (s : SystemSeen) (ms : List Mark) (walk : Option Walk) (parent : Cell) 
   abbrev so_far : List ChainEntry
   so_far = steps_of s ms
 
+  -- ---- a mark for which memory was refused
+
+  pub unmarked : IsBoard s.board → (e : ChainEntry) → chain_next s.board so_far (actors.Cpu cpu_0) ≡ Some e
+      → (all : List Mark) → all ≡ ms → (view : DemuxSeen) → seen_of s ms parent ≡ view
+      → IsSome (lowest_of view) × (seen_of s all parent ≡ view)
+  unmarked isb e next all is view v = (
+    subst (λ (x : DemuxSeen). IsSome (lowest_of x)) v (some_of_0 (seen_of s ms parent) isb (ap (λ (o : Option ChainEntry). is_some o) next)),
+    ap (λ (l : List Mark). seen_of s l parent) is ∙ v,
+  )
+
   -- ---- an enter
 
   enters : (status : ℕ) → open_status so_far ≡ None → status ≡ status_of (board_lines s.lines) → chain_next s.board so_far (actors.Cpu cpu_0) ≡ to_enter status
@@ -269,6 +298,10 @@ module _ (s : SystemSeen) (ms : List Mark) (walk : Option Walk) (parent : Cell) 
       → (status == 0) ≡ true → chain_next s.board so_far (actors.Cpu cpu_0) ≡ None
   not_entered status closed is none = enters status closed is ∙ ap (λ (b : Bool). cond b None (Some (steps.Enter cpu_0 status))) none
 
+  pub enter_next : (status : ℕ) → open_status so_far ≡ None → status ≡ status_of (board_lines s.lines)
+      → (status == 0) ≡ false → chain_next s.board so_far (actors.Cpu cpu_0) ≡ Some (steps.Enter cpu_0 status)
+  enter_next status closed is some = enters status closed is ∙ ap (λ (b : Bool). cond b None (Some (steps.Enter cpu_0 status))) some
+
   module _ (status before : ℕ) (closed : open_status so_far ≡ None) (is : status ≡ status_of (board_lines s.lines))
       (some : (status == 0) ≡ false) (stands : before ≡ length s.log) where
     abbrev enter_mark : Mark
@@ -277,15 +310,15 @@ module _ (s : SystemSeen) (ms : List Mark) (walk : Option Walk) (parent : Cell) 
     abbrev enter_walk : Walk
     enter_walk = record { status = status; taken = 0 }
 
-    enter_next : chain_next s.board so_far (actors.Cpu cpu_0) ≡ Some (steps.Enter cpu_0 status)
-    enter_next = enters status closed is ∙ ap (λ (b : Bool). cond b None (Some (steps.Enter cpu_0 status))) some
+    is_next : chain_next s.board so_far (actors.Cpu cpu_0) ≡ Some (steps.Enter cpu_0 status)
+    is_next = enter_next status closed is some
 
     enter_walks : IsWalkOf (board_lines s.lines) (steps.Enter cpu_0 status ∷ so_far) (Some enter_walk)
     enter_walks = (refl, λ k x at. ap (λ (n : ℕ). n == 1) (bit_at-zero k))
 
     pub enter_kept : (now : Cell) → now ≡ after_ack (after_mask parent) → (all : List Mark) → all ≡ ms ++ enter_mark ∷ [] → IsDemux s all (Some enter_walk) now
     enter_kept now shows all is = subst (λ (l : List Mark). IsDemux s l (Some enter_walk) now) (sym is)
-        (mark_kept s ms walk (Some enter_walk) parent now enter_mark d enter_next stands enter_walks shows)
+        (mark_kept s ms walk (Some enter_walk) parent now enter_mark d is_next stands enter_walks shows)
 
     pub enter_goes : (now : Cell) → now ≡ after_ack (after_mask parent) → (all : List Mark)
         → all ≡ ms ++ enter_mark ∷ [] → (view : DemuxSeen) → seen_of s ms parent ≡ view
@@ -294,7 +327,7 @@ module _ (s : SystemSeen) (ms : List Mark) (walk : Option Walk) (parent : Cell) 
         subst (λ (x : DemuxSeen). Goes x (next_of x (actors.Cpu cpu_0)) (steps.Enter cpu_0 status) (seen_of s all now)) v
         (subst (λ (l : List Mark). Goes (seen_of s ms parent) (chain_next s.board so_far (actors.Cpu cpu_0))
         (steps.Enter cpu_0 status) (seen_of s l now)) (sym is)
-        (mark_goes s ms walk (Some enter_walk) parent now enter_mark d enter_next stands enter_walks shows))
+        (mark_goes s ms walk (Some enter_walk) parent now enter_mark d is_next stands enter_walks shows))
 
   -- ---- an exit
 

@@ -1,6 +1,6 @@
 -- What a turn of a demultiplexer comes to, and a play.
-use Rattle.std.specs.Prelude.{◌≡◌, ◌<◌, ℕ, IfSome, IsSomeAnd, Option, Some, None, List, [], ◌∷◌}
-use Rattle.std.specs.Prelude.{◌++◌, length, reverse}
+use Rattle.std.specs.Prelude.{◌≡◌, ◌<◌, ℕ, IfSome, IsSome, IsSomeAnd, Option, Some, None, List}
+use Rattle.std.specs.Prelude.{[], ◌∷◌, ◌++◌, length, reverse}
 use Rattle.irq_base.specs.declared.entries.Actor.{Actor}
 use Rattle.irq_base.specs.declared.entries.Actor.TheVariants as actors
 use Rattle.irq_base.specs.declared.numbers.LineNo.{LineNo}
@@ -49,12 +49,24 @@ pub record IsFullFor (d : DemuxSeen) (due : Option ChainEntry) (line : LineNo) (
   pub length : length (part line (children (reverse d.log))) ≡ len
   pub log : len ≡ d.board.log
 
--- what a turn answers and leaves; `due` is the step to be made, if there is one
+-- the actor's next step
+abbrev pub next_of : DemuxSeen → Actor → Option ChainEntry
+next_of d a = chain_next d.board (reverse d.log) a
+
+-- the step of the lowest actor that has one
+abbrev pub lowest_of : DemuxSeen → Option ChainEntry
+lowest_of d = first_step (chain_next d.board (reverse d.log)) (actors_of d.board)
+
+abbrev pub lowest_driver_of : DemuxSeen → Option ChainEntry
+lowest_driver_of d = first_step (chain_next d.board (reverse d.log)) (drivers_of d.board)
+
+-- what a turn answers and leaves; `due` is the step to be made, if there is one; memory is needed
+-- only while somebody has a step
 abbrev pub TurnsBy : DemuxSeen → Option ChainEntry → ChainTurn → DemuxSeen → Type 0
 TurnsBy old due (turns.Moved e) new = Goes old due e new
 TurnsBy old due turns.NotYet new = (due ≡ None) × (new ≡ old)
 TurnsBy old due (turns.Full line len) new = IsFullFor old due line len × (new ≡ old)
-TurnsBy old due turns.NoMemory new = new ≡ old
+TurnsBy old due turns.NoMemory new = IsSome (lowest_of old) × (new ≡ old)
 
 -- a thread, or a driver
 abbrev pub IsOther : Actor → Type 0
@@ -69,17 +81,6 @@ turn_of moves.NotYet = turns.NotYet
 turn_of (moves.Full line len) = turns.Full line len
 turn_of moves.NoMemory = turns.NoMemory
 
--- the actor's next step
-abbrev pub next_of : DemuxSeen → Actor → Option ChainEntry
-next_of d a = chain_next d.board (reverse d.log) a
-
--- the step of the lowest actor that has one
-abbrev pub lowest_of : DemuxSeen → Option ChainEntry
-lowest_of d = first_step (chain_next d.board (reverse d.log)) (actors_of d.board)
-
-abbrev pub lowest_driver_of : DemuxSeen → Option ChainEntry
-lowest_driver_of d = first_step (chain_next d.board (reverse d.log)) (drivers_of d.board)
-
 -- each step so far was the next one; `rest` are the picks that are left, perhaps without some that
 -- have no step
 pub record IsUnderway (d : DemuxSeen) (picks rest : List Actor) : Type 0 where
@@ -89,7 +90,7 @@ pub record IsUnderway (d : DemuxSeen) (picks rest : List Actor) : Type 0 where
       ≡ (chain_order d.board).next (reverse d.log) rest
 
 -- The log is the play of the board by the chain's order, done or full as was answered; a full one
--- says the length. If memory was refused it is the play so far.
+-- says the length. If memory was refused it is the play so far, and a further step is due.
 abbrev pub IsPlay : DemuxSeen → List Actor → PlayEnd → Type 0
 IsPlay d picks ends.Done = IsPlayed (chain_order d.board) picks (reverse d.log) Done
 IsPlay d picks (ends.Full line len) =
@@ -97,3 +98,4 @@ IsPlay d picks (ends.Full line len) =
     × (length (part line (children (reverse d.log))) ≡ len)
 IsPlay d picks ends.NoMemory =
     (left : List Actor) × IsMade (chain_order d.board) picks (reverse d.log) left
+    × IsSome ((chain_order d.board).next (reverse d.log) left)

@@ -150,6 +150,7 @@ impl<'b, L: IrqLine> Demux<'b, L> {
         requires { IsOther actor }
         ensures { TurnsBy self.old (next_of self.old actor) result self.new }
     {
+        self.is_kept();
         let turn = self.system.turn(actor, handlers);
         show(&mut self.parent, &self.system);
         chain_turn_of(turn)
@@ -173,6 +174,7 @@ impl<'b, L: IrqLine> Demux<'b, L> {
         requires { open_status (reverse self.old.log) ≡ None }
         ensures { TurnsBy self.old (next_of self.old (actors.Cpu cpu_0)) result self.new }
     {
+        self.is_kept();
         let status = read_status(&self.system);
         if status == 0 {
             return ChainTurn::NotYet;
@@ -241,6 +243,7 @@ impl<'b, L: IrqLine> Demux<'b, L> {
         requires { next_of self.old (actors.Cpu cpu_0) ≡ Some (steps.Exit cpu_0) }
         ensures { TurnsBy self.old (next_of self.old (actors.Cpu cpu_0)) result self.new }
     {
+        self.is_kept();
         let mark = Mark {
             before: self.system.log_len(),
             what: Marked::Exit,

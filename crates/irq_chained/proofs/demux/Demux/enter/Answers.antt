@@ -1,8 +1,10 @@
 use Rattle.std.proofs.Common.{◌≡◌, ◌∙◌, ap, subst, sym, reverse, None}
 use Rattle.irq_base.specs.Cell.{Cell, after_ack}
-use Rattle.irq_chained.proofs.Turning.{enter_goes, enter_kept, not_zero}
-use Rattle.irq_chained.specs.Chain.{open_status}
+use Rattle.board_def.specs.Rules.{IsBoard}
+use Rattle.irq_chained.proofs.Turning.{enter_goes, enter_kept, enter_next, not_zero, unmarked}
+use Rattle.irq_chained.specs.Chain.{cpu_0, open_status}
 use Rattle.irq_chained.specs.Seen.{DemuxSeen}
+use Rattle.irq_chained.specs.declared.chain.ChainEntry.TheVariants as steps
 use Rattle.irq_chained.proofs.demux.Demux.enter.Goals as goal
 
 pub invariant_of-self-in-Ok : goal.invariant_of-self-in-Ok
@@ -20,3 +22,14 @@ returns-in-Ok g c =
     (subst (λ (d : DemuxSeen). open_status (reverse d.log) ≡ None) (sym c.self.view_is) c.requires)
     c.read_status-status.ensures (not_zero c.read_status-status.result c.if-status-eq0.false) c.log_len.ensures _
     (c.ack.ensures.cell ∙ ap (λ (x : Cell). after_ack x) c.mask.ensures.cell) c.push.new.self.items c.in-Ok.ensures.items c.args.self.now c.self.view_is
+
+pub returns-in-Err : goal.returns-in-Err
+returns-in-Err g c =
+    let s = c.self.inside in
+    let v = sym c.self.view_is in
+    unmarked s.system s.marks.items s.walk _ c.self.invariant (subst (λ (d : DemuxSeen). IsBoard d.board) v c.is_kept.ensures.board)
+    (steps.Enter cpu_0 c.read_status-status.result)
+    (enter_next s.system s.marks.items s.walk _ c.self.invariant c.read_status-status.result
+    (subst (λ (d : DemuxSeen). open_status (reverse d.log) ≡ None) v c.requires)
+    c.read_status-status.ensures (not_zero c.read_status-status.result c.if-status-eq0.false))
+    c.push.new.self.items c.in-Err.ensures.items c.args.self.now c.self.view_is

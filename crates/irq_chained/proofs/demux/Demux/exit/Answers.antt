@@ -1,6 +1,7 @@
 use Rattle.std.proofs.Common.{◌≡◌, subst, sym, Some}
 use Rattle.irq_base.specs.declared.entries.Actor.TheVariants as actors
-use Rattle.irq_chained.proofs.Turning.{exit_goes, exit_kept}
+use Rattle.board_def.specs.Rules.{IsBoard}
+use Rattle.irq_chained.proofs.Turning.{exit_goes, exit_kept, unmarked}
 use Rattle.irq_chained.specs.Chain.{cpu_0}
 use Rattle.irq_chained.specs.Seen.{DemuxSeen}
 use Rattle.irq_chained.specs.Turned.{next_of}
@@ -21,3 +22,12 @@ returns-in-Ok g c =
     (subst (λ (d : DemuxSeen). next_of d (actors.Cpu cpu_0) ≡ Some (steps.Exit cpu_0)) (sym c.self.view_is)
     c.requires) c.log_len.ensures _ c.unmask.ensures.cell c.push.new.self.items c.in-Ok.ensures.items
     c.args.self.now c.self.view_is
+
+pub returns-in-Err : goal.returns-in-Err
+returns-in-Err g c =
+    let s = c.self.inside in
+    let v = sym c.self.view_is in
+    unmarked s.system s.marks.items s.walk _ c.self.invariant (subst (λ (d : DemuxSeen). IsBoard d.board) v c.is_kept.ensures.board)
+    (steps.Exit cpu_0)
+    (subst (λ (d : DemuxSeen). next_of d (actors.Cpu cpu_0) ≡ Some (steps.Exit cpu_0)) v c.requires)
+    c.push.new.self.items c.in-Err.ensures.items c.args.self.now c.self.view_is
