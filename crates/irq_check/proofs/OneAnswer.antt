@@ -1,15 +1,11 @@
 -- A log has one judgement, and so has an input.
-use Rattle.std.proofs.Common.{◌≡◌, ℕ, Result, Ok, Err, List, length, refl, sym, ap, subst, ◌∙◌}
-use Rattle.std.proofs.lemmas.List.{length-map}
+use Rattle.std.proofs.Common.{◌≡◌, ℕ, Result, Ok, Err, List, refl, sym, ap, subst, ◌∙◌}
 use Rattle.board_def.specs.Seen.{BoardSeen}
-use Rattle.board_def.specs.declared.rows.LineRow.{LineRow}
 use Rattle.board_words.specs.declared.faults.BoardFault.{BoardFault}
-use Rattle.irq_base.specs.Seen.{HistorySeen}
-use Rattle.irq_base.specs.declared.entries.Entry.{Entry}
 use Rattle.log_check.specs.Verdicts.{ChecksLog, HasVerdict}
 use Rattle.log_check.specs.declared.verdict.Verdict.{Verdict}
 use Rattle.log_check.specs.declared.verdict.Verdict.TheVariants as verdicts
-use Rattle.log_read.specs.LogOf.{Tell, entries_of, entries_on, rows_of}
+use Rattle.log_read.specs.LogOf.{entries_of, rows_of}
 use Rattle.log_read.proofs.Telling.{as_many}
 use Rattle.irq_check.specs.Checked.{IsChecked, checked}
 use Rattle.irq_check.proofs.OneLog.{not_malformed, one_history, one_row}

@@ -1,7 +1,7 @@
 -- An input isn't longer than what is read, so reading it reaches the end of the source. And if the
 -- bytes that were cut off there are too long, the whole is too.
 use Rattle.std.proofs.Common.{◌≡◌, ℕ, ◌+◌, ◌<◌, ◌≤◌, Bool, true, false, cond, nat_lt, Option, Some, None, Result, Ok}
-use Rattle.std.proofs.Common.{Err, List, [], take, length, refl, sym, ap, subst, ◌∙◌, inl, inr, ◌⊎◌, arith, length-take}
+use Rattle.std.proofs.Common.{Err, List, take, length, refl, sym, ap, ◌∙◌, inl, inr, ◌⊎◌, arith, length-take}
 use Rattle.std.proofs.lemmas.List.{take_all, drop_all}
 use Rattle.std.proofs.lemmas.Bool.{ltb-true}
 use Rattle.std.proofs.lemmas.Bool.Decides.{nat_tests}
@@ -11,7 +11,7 @@ use Rattle.board_stated.specs.TextOf.{whole}
 use Rattle.board_words.specs.declared.faults.BoardFault.{BoardFault}
 use Rattle.board_words.specs.declared.faults.FaultKind.TheVariants as faults
 use Rattle.irq_check.specs.Checked.{IsChecked, board_and_log, checked, longest_input}
-use Rattle.irq_check.specs.Ends.{IsSaid, ReadsInput, left_after}
+use Rattle.irq_check.specs.Ends.{IsSaid, ReadsInput}
 use Rattle.irq_check.specs.Parts.{parts_of}
 use Rattle.log_check.specs.declared.verdict.Verdict.{Verdict}
 use Rattle.program_io.specs.declared.inputs.InputRefused.TheVariants as refusals

@@ -1,5 +1,5 @@
 -- How a check ends: what was read, and what the output gained.
-use Rattle.std.specs.Prelude.{◌≡◌, ℕ, ◌+◌, Bool, true, false, Option, Some, None, List, [], drop}
+use Rattle.std.specs.Prelude.{◌≡◌, ℕ, ◌+◌, Bool, true, false, Option, Some, List, [], drop}
 use Rattle.std.specs.Prelude.{Result, Ok, Err}
 use Rattle.irq_io.specs.Told.{IsTold}
 use Rattle.irq_io.specs.Whole.{WritesAll}
@@ -52,7 +52,8 @@ abbrev pub SaysOrNot : Option (List ℕ) → Option (List ℕ) → Option (List 
 SaysOrNot told before now (ends.Answered answer) =
     IsSaid told answer × WritesAll before now (answer_text answer) writes.Done
 SaysOrNot told before now ends.WriteFault =
-    (answer : Verdict) × IsSaid told answer × WritesAll before now (answer_text answer) writes.Failed
+    (answer : Verdict) × IsSaid told answer
+    × WritesAll before now (answer_text answer) writes.Failed
 SaysOrNot told before now _ = Unit {0}
 
 abbrev pub is_answered : CheckEnd → Bool

@@ -61,7 +61,8 @@ headed line (entries.End cpu again unmask note) after w =
     headed_by line _ 99 cpu.0 (codes "end") after (loop_word again ∷ mask_word unmask ∷ note_word note ∷ []) refl w.small refl
 headed line (entries.ThreadBegin dev) after w = headed_by line _ 116 dev.0 (codes "begin") after [] refl w.small refl
 headed line (entries.ThreadReturn dev served) after w = headed_by line _ 116 dev.0 (codes "return") after (decimal served ∷ []) refl w.small.0 refl
-headed line (entries.Finish dev kept unmask) after w = headed_by line _ 116 dev.0 (codes "finish") after (bit_word kept ∷ mask_word unmask ∷ []) refl w.small refl
+headed line (entries.Finish dev kept unmask) after w = headed_by line _ 116 dev.0 (codes "finish") after
+    (bit_word kept ∷ mask_word unmask ∷ []) refl w.small refl
 headed line (entries.Done dev) after w = headed_by line _ 116 dev.0 (codes "done") after [] refl w.small refl
 headed line (entries.Disable driver) after w = headed_by line _ 100 driver.0 (codes "disable") after [] refl w.small refl
 headed line (entries.HardClear driver) after w = headed_by line _ 100 driver.0 (codes "hardclear") after [] refl w.small refl

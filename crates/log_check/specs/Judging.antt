@@ -1,5 +1,6 @@
 -- How the lines of a board judge the rows of a log.
-use Rattle.std.specs.Prelude.{◌≡◌, ◌⊎◌, ℕ, ◌<◌, ◌≤◌, true, false, Option, Some, None, IfSome, List, [], ◌∷◌}
+use Rattle.std.specs.Prelude.{◌≡◌, ◌⊎◌, ℕ, ◌<◌, ◌≤◌, true, false, Option, Some, None, IfSome}
+use Rattle.std.specs.Prelude.{List, [], ◌∷◌}
 use Rattle.std.specs.Prelude.{◌++◌, length, map, slice_get}
 use Rattle.board_def.specs.Layout.{layout_of}
 use Rattle.board_def.specs.LineOf.{line_of_row}
@@ -41,7 +42,8 @@ abbrev pub Follows : List ℕ → LineNo → Entry → Option (List ℕ) → Typ
 Follows text number e (Some after) = text ≡ entry_text number e ++ after
 Follows text number e None = (after : List ℕ) → text ≡ entry_text number e ++ after → ⊥
 
--- the entry was due of the actor, the line has it, and these bytes follow its row in the text; none:
+-- the entry was due of the actor, the line has it, and these bytes follow its row in the text;
+-- none:
 -- no such row
 abbrev pub Adds : List ℕ → LineNo → Actor → Option (List ℕ) → LineSeen → LineSeen → Type 0
 Adds text number actor (Some after) old new =
@@ -97,7 +99,8 @@ abbrev pub part_at : BoardSeen → LineRow → ℕ → Option LineDef
 part_at b row i = part_of b row (slice_get (layout_of b) i)
 
 -- the judges, one for each line of the board, have judged these entries, each said by a row
-pub record HaveJudged (b : BoardSeen) (said : List LineEntry) (judges : List JudgeSeen) : Type 0 where
+pub record HaveJudged (b : BoardSeen) (said : List LineEntry) (judges : List JudgeSeen)
+    : Type 0 where
   pub many : length judges ≡ length b.lines
   pub each : (i : ℕ) (row : LineRow) (judge : JudgeSeen) → slice_get b.lines i ≡ Some row
       → slice_get judges i ≡ Some judge

@@ -1,5 +1,4 @@
 use Rattle.board_def.specs.LineOf.{line_of_row}
-use Rattle.line_makers.specs.Chips.{HasChips}
 use Rattle.irq_check.proofs.Limits.{limited}
 use Rattle.irq_check.proofs.checking.judge_log.Goals as goal
 

@@ -1,4 +1,4 @@
-use Rattle.std.proofs.Common.{◌≡◌, ℕ, ◌+◌, ◌++◌, List, [], ◌∷◌, length, length-append, sym, ap, subst, ◌∙◌}
+use Rattle.std.proofs.Common.{ℕ, ◌+◌, ◌++◌, [], ◌∷◌, length-append, sym, ap, subst, ◌∙◌}
 use Rattle.irq_check.proofs.Cutting.{IsCutTo, ended_is, row_is_dashes, row_cut}
 use Rattle.irq_check.proofs.parts.cut_input.Goals as goal
 
