@@ -14,6 +14,7 @@ use callbacks::{ByKind, Callbacks};
 use irq_io::{Sink, Source};
 use irq_top::{Ending, Outcome, Wanted, end_early, irq_main};
 use line_makers::MakesDomainLine;
+use notifiers::{ByProcessor, Notifiers};
 use program_io::{ArgumentsRefused, lend, words_of};
 use std::alloc::Global;
 use std::env::Args;
@@ -23,9 +24,9 @@ use std::thread::Threads;
 use workers::NoGate;
 
 /// Does what the arguments say: reads `src`, prints to `out`, and says on `err` what went wrong.
-/// The handlers answer by their devices' kinds, no gate holds a worker, and the maker makes the
-/// lines. Unless memory is refused, arguments that are no command's words end as a fault of usage;
-/// so do arguments that aren't all UTF-8.
+/// The handlers answer by their devices' kinds, the notifiers by the processor, no gate holds a
+/// worker, and the maker makes the lines. Unless memory is refused, arguments that are no command's
+/// words end as a fault of usage; so do arguments that aren't all UTF-8.
 pub fn command<R: Threads + Wait + Sync, S: Source, O: Sink, E: Sink, M: MakesDomainLine>(
     rt: &R,
     alloc: Global,
@@ -111,6 +112,7 @@ where
             &NoGate,
             &Callbacks::new(ByKind),
             maker,
+            &Notifiers::new(ByProcessor),
         ),
         Err(_) => end_early(alloc, Ending::NoMemory(Wanted::Making), err),
     }

@@ -23,6 +23,7 @@ module _ (told left : Option (List ℕ)) (reports : List LineReport) (before now
   not_usage commands.Check does = does
   not_usage (commands.Gen n) does = does
   not_usage commands.Chained does = does.done
+  not_usage (commands.Hotplug vectors events) does = does.done
   not_usage (commands.Sleep armed) does = does.done
 
   -- what is asked for doesn't end as a fault of usage

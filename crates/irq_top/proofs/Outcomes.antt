@@ -5,7 +5,10 @@ use Rattle.irq_base.specs.declared.reporting.LineReport.{LineReport}
 use Rattle.board_words.specs.declared.faults.FaultKind.{FaultKind}
 use Rattle.board_words.specs.declared.faults.FaultKind.TheVariants as faults
 use Rattle.chained_play.specs.Played.{ChainsBoard}
+use Rattle.hotplug_plan.specs.Planned.{IsForHotplug}
+use Rattle.hotplug_play.specs.Played.{HotplugsBoard}
 use Rattle.irq_chained.specs.Fits.{is_for_chain}
+use Rattle.irq_hotplug.specs.declared.events.Event.{Event}
 use Rattle.irq_pm.specs.SleptBoard.{is_for_sleep}
 use Rattle.irq_play.specs.declared.ending.PlayedEnd.{PlayedEnd}
 use Rattle.irq_play.specs.declared.ending.PlayedEnd.TheVariants as plays
@@ -15,7 +18,7 @@ use Rattle.board_def.specs.Seen.{BoardSeen}
 use Rattle.irq_play.specs.declared.ending.Wanted.TheVariants as wants
 use Rattle.irq_top.specs.declared.ending.Ending.{Ending}
 use Rattle.irq_top.specs.declared.ending.Ending.TheVariants as endings
-use Rattle.irq_top.specs.Commands.{ChainsAs, EndsIfFit, IsReadToEnd, PlaysAs, RunsAs, SleepsAs, TakesBoard}
+use Rattle.irq_top.specs.Commands.{ChainsAs, EndsIfFit, HotplugsAs, IsReadToEnd, PlaysAs, RunsAs, SleepsAs, TakesBoard}
 use Rattle.irq_top.specs.Ending.{ending_of_play, is_read_fault_end}
 use Rattle.program_io.specs.Reading.{IsStated, ReadsBoard}
 
@@ -85,7 +88,8 @@ runs_are_sane summary = record {
 -- the call ends as the play did
 module _ (IsntFor : BoardSeen → Type 0) (kind : FaultKind)
     (Plays : BoardSeen → List LineReport → Option (List ℕ) → Option (List ℕ) → PlayedEnd → Type 0) (b : BoardSeen) (before now : Option (List ℕ)) where
-  by_end : (reports : List LineReport) (end : PlayedEnd) → Plays b reports before now end → EndsIfFit IsntFor kind Plays b reports before now (ending_of_play end)
+  by_end : (reports : List LineReport) (end : PlayedEnd) → Plays b reports before now end
+      → EndsIfFit IsntFor kind Plays b reports before now (ending_of_play end)
   by_end reports plays.Done played = played
   by_end reports plays.WriteFault played = played
   by_end reports (plays.LogFull line len) played = played
@@ -108,5 +112,10 @@ fitting_is_sane IsntFor kind Plays unmade = record { no_read_fault = λ b report
 pub chains_are_sane : IsSane ChainsAs
 chains_are_sane = fitting_is_sane (λ b. is_for_chain b ≡ false) faults.NotForChain ChainsBoard (λ b reports before now unmade. unmade)
 
+pub hotplugs_are_sane : (vectors : ℕ) (events : List Event) → IsSane (HotplugsAs vectors events)
+hotplugs_are_sane vectors events =
+    fitting_is_sane (λ b. IsForHotplug b → ⊥) faults.NotForHotplug (λ b. HotplugsBoard b vectors events) (λ b reports before now unmade. unmade)
+
 pub sleeps_are_sane : (armed : List LineNo) → IsSane (SleepsAs armed)
-sleeps_are_sane armed = fitting_is_sane (λ b. is_for_sleep b armed ≡ false) faults.NotForSleep (λ b. SleepsBoard b armed) (λ b reports before now unmade. unmade)
+sleeps_are_sane armed = fitting_is_sane (λ b. is_for_sleep b armed ≡ false) faults.NotForSleep
+    (λ b. SleepsBoard b armed) (λ b reports before now unmade. unmade)

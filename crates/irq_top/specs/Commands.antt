@@ -12,7 +12,10 @@ use Rattle.board_words.specs.declared.faults.BoardFault.{BoardFault}
 use Rattle.board_words.specs.declared.faults.FaultKind.{FaultKind}
 use Rattle.board_words.specs.declared.faults.FaultKind.TheVariants as faults
 use Rattle.chained_play.specs.Played.{ChainsBoard}
+use Rattle.hotplug_plan.specs.Planned.{IsForHotplug}
+use Rattle.hotplug_play.specs.Played.{HotplugsBoard}
 use Rattle.irq_chained.specs.Fits.{is_for_chain}
+use Rattle.irq_hotplug.specs.declared.events.Event.{Event}
 use Rattle.irq_check.specs.Ends.{Reads, SaysOrNot}
 use Rattle.log_check.specs.declared.verdict.Verdict.TheVariants as verdicts
 use Rattle.irq_check.specs.declared.printing.CheckEnd.{CheckEnd}
@@ -84,7 +87,8 @@ module _ (Plays : BoardSeen → List LineReport → Option (List ℕ) → Option
       Plays b reports before now (plays.NoMemory wanted)
   EndsAs b reports before now _ = ⊥
 
--- the board isn't for what is asked: this fault of the whole text says so, and nothing is handed out
+-- the board isn't for what is asked: this fault of the whole text says so, and nothing is handed
+-- out
 pub record IsRefused (isnt_for : Type 0) (kind : FaultKind) (reports : List LineReport)
     (fault : BoardFault) : Type 0 where
   pub because : isnt_for
@@ -110,6 +114,13 @@ PlaysAs summary = EndsAs (λ b. PlaysBoard b summary)
 abbrev pub ChainsAs : BoardSeen → List LineReport → Option (List ℕ) → Option (List ℕ) → Ending
     → Type 0
 ChainsAs = EndsIfFit (λ b. is_for_chain b ≡ false) faults.NotForChain ChainsBoard
+
+-- a board was played with processors that go offline and come back; exactly a board that isn't for
+-- it is refused
+abbrev pub HotplugsAs : ℕ → List Event → BoardSeen → List LineReport → Option (List ℕ)
+    → Option (List ℕ) → Ending → Type 0
+HotplugsAs vectors events = EndsIfFit (λ b. IsForHotplug b → ⊥) faults.NotForHotplug
+    (λ b. HotplugsBoard b vectors events)
 
 -- a board was played with a sleep, from which the armed lines wake it; exactly a board that isn't
 -- for it, with these lines, is refused
@@ -156,9 +167,9 @@ Checks told left reports before now endings.ReadFault =
 Checks told left reports before now (endings.NoMemory wants.Making) = reports ≡ []
 Checks told left reports before now _ = ⊥
 
--- what each command does. `run`, `play`, `chained` and `sleep` take a board, and run it, play it,
--- play it behind one demultiplexer, or play it with a sleep; `check` judges a log; `gen N` plays the
--- board that the number generates, and prints its summary
+-- what each command does. `run`, `play`, `chained`, `hotplug` and `sleep` take a board, and run it,
+-- play it, or play it behind one demultiplexer, with processors that go offline, or with a sleep;
+-- `check` judges a log; `gen N` plays the board that the number generates, and prints its summary
 abbrev pub Does : Command → Option (List ℕ) → Option (List ℕ) → List LineReport → Option (List ℕ)
     → Option (List ℕ) → Ending → Type 0
 Does (commands.Run summary) told left reports before now ending =
@@ -170,6 +181,8 @@ Does (commands.Gen n) told left reports before now ending =
     PlaysAs true (generated n) reports before now ending
 Does commands.Chained told left reports before now ending =
     TakesBoard ChainsAs told left reports before now ending
+Does (commands.Hotplug vectors events) told left reports before now ending =
+    TakesBoard (HotplugsAs vectors events) told left reports before now ending
 Does (commands.Sleep armed) told left reports before now ending =
     TakesBoard (SleepsAs armed) told left reports before now ending
 
@@ -180,6 +193,7 @@ reads (commands.Play summary) = true
 reads commands.Check = true
 reads (commands.Gen n) = false
 reads commands.Chained = true
+reads (commands.Hotplug vectors events) = true
 reads (commands.Sleep armed) = true
 
 -- no command that these words ask for reads the source: they ask for none, or for one that doesn't

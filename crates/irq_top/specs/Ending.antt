@@ -31,7 +31,7 @@ error_text (endings.Unlawful line entry) = []
 error_text (endings.Malformed row) = []
 error_text endings.Usage =
     codes "usage: genirq run [--summary] | play [--summary] | check | gen N"
-    ++ codes " | chained | sleep LINE...\n"
+    ++ codes " | chained | hotplug V EVENT... | sleep LINE...\n"
 error_text (endings.Board fault) = fault_row fault
 error_text endings.ReadFault = codes "read fault\n"
 error_text endings.WriteFault = codes "write fault\n"

@@ -2,12 +2,13 @@
 ghost use Rattle.std.specs.Prelude.{◌≡◌, [], false, true};
 ghost use Rattle.board_gen.specs.Generated.{generated};
 ghost use Rattle.irq_io.specs.Faults.{Counts};
+ghost use Rattle.irq_words.specs.Words.{IsInRange};
 ghost use Rattle.irq_top.specs.Commands.{Checks, Does, PlaysAs, RunsAs, TakesBoard, reads};
 ghost use Rattle.irq_top.specs.Ending.{is_printed, is_printing, is_read_fault_end};
 ghost use Rattle.irq_top.specs.Ending.{is_write_fault_end};
 
 use crate::ending::Ending;
-use crate::fitting::{chained, sleep};
+use crate::fitting::{chained, hotplug, sleep};
 use crate::outcome::Outcome;
 use board_def::Board;
 use board_gen::generate;
@@ -19,6 +20,7 @@ use irq_play::{Wanted, play_and_print};
 use irq_run::run_and_print;
 use irq_words::Command;
 use line_makers::MakesDomainLine;
+use notifiers::{Notifier, Notifiers};
 use program_io::read_input;
 use std::alloc::Global;
 use std::sync::Wait;
@@ -33,6 +35,7 @@ pub(crate) fn act<
     G: Gate + Sync,
     H: Handler + Sync,
     M: MakesDomainLine,
+    N: Notifier,
 >(
     rt: &R,
     alloc: Global,
@@ -42,9 +45,11 @@ pub(crate) fn act<
     gate: &G,
     handlers: &Callbacks<H>,
     maker: &M,
+    notify: &Notifiers<N>,
 ) -> Outcome
 where
     M::Line: Send + Sync,
+    requires { IsInRange asked }
     ensures does { Does asked (S.left src.old) (S.left src.new) result.reports.reports
         (O.written out.old) (O.written out.new) result.ending }
     ensures unread { reads asked ≡ false → src.new ≡ src.old }
@@ -61,6 +66,10 @@ where
         Command::Check => check(alloc, src, out, maker),
         Command::Gen { n } => play_generated(alloc, n, out, handlers, maker),
         Command::Chained => chained(alloc, src, out, handlers, maker),
+        Command::Hotplug { vectors, events } => {
+            let events = events.as_slice();
+            hotplug(alloc, vectors, events, src, out, handlers, maker, notify)
+        }
         Command::Sleep { armed } => sleep(alloc, armed.as_slice(), src, out, handlers, maker),
     }
 }

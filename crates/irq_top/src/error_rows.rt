@@ -16,7 +16,7 @@ pub fn error_row(row: &mut TextRow, ending: Ending)
         Ending::Done | Ending::Unlawful { .. } | Ending::Malformed { .. } => {}
         Ending::Usage => {
             row.push_bytes(b"usage: genirq run [--summary] | play [--summary] | check | gen N");
-            row.push_bytes(b" | chained | sleep LINE...\n");
+            row.push_bytes(b" | chained | hotplug V EVENT... | sleep LINE...\n");
         }
         Ending::Board(fault) => push_fault(row, fault),
         Ending::ReadFault => row.push_bytes(b"read fault\n"),

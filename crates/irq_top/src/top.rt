@@ -16,6 +16,7 @@ use callbacks::{Callbacks, Handler};
 use irq_io::{Sink, Source};
 use irq_words::read_command;
 use line_makers::MakesDomainLine;
+use notifiers::{Notifier, Notifiers};
 use program_io::tell_row;
 use std::alloc::Global;
 use std::sync::Wait;
@@ -26,12 +27,16 @@ use workers::Gate;
 /// Does what the words ask for: `run` reads a board from `src`, runs it by threads with the
 /// handlers, and prints its log to `out`, line by line, or with `--summary` one row for each line;
 /// `play` plays it by the stated order, and prints its log as it was played, or a summary;
-/// `chained` plays it behind one demultiplexer, and prints the log with enters and exits; `check`
-/// reads a board and a log of it, and prints the judgement of the log; `gen N` makes a board, plays
-/// it, and prints its summary. `run` alone waits, and passes the gate before each turn of a worker:
-/// the other commands are done by functions that don't wait, and so return. Other words are refused
-/// before anything is read. The maker makes the lines that are played, run and checked. What went
-/// wrong is told on `err`, in one row; a fault of `err` itself changes nothing.
+/// `chained` plays it behind one demultiplexer, and prints the log with enters and exits; `hotplug`
+/// places its lines on processors that go offline and come online, tells each placing to the
+/// notifiers, and plays it with the moves; `sleep` plays it with a sleep from which the armed lines
+/// wake it; `check` reads a board and a log of it, and prints the judgement of the log; `gen N`
+/// makes a board, plays it, and prints its summary.
+///
+/// `run` alone waits, and passes the gate before each turn of a worker: the other commands are done
+/// by functions that don't wait, and so return. Other words are refused before anything is read.
+/// The maker makes the lines that are played, run and checked. What went wrong is told on `err`, in
+/// one row; a fault of `err` itself changes nothing.
 pub fn irq_main<
     R: Threads + Wait + Sync,
     S: Source,
@@ -40,6 +45,7 @@ pub fn irq_main<
     G: Gate + Sync,
     H: Handler + Sync,
     M: MakesDomainLine,
+    N: Notifier,
 >(
     rt: &R,
     alloc: Global,
@@ -50,6 +56,7 @@ pub fn irq_main<
     gate: &G,
     handlers: &Callbacks<H>,
     maker: &M,
+    notify: &Notifiers<N>,
 ) -> Outcome
 where
     M::Line: Send + Sync,
@@ -72,7 +79,7 @@ where
         (E.kept err.new) (E.faults err.old) (E.faults err.new) }
     ensures quiet { is_printed result.ending ≡ true → err.new ≡ err.old }
 {
-    let outcome = work(rt, alloc, words, src, out, gate, handlers, maker);
+    let outcome = work(rt, alloc, words, src, out, gate, handlers, maker, notify);
     if !is_printed(outcome.ending) {
         tell(err, outcome.ending);
     }
@@ -87,6 +94,7 @@ fn work<
     G: Gate + Sync,
     H: Handler + Sync,
     M: MakesDomainLine,
+    N: Notifier,
 >(
     rt: &R,
     alloc: Global,
@@ -96,6 +104,7 @@ fn work<
     gate: &G,
     handlers: &Callbacks<H>,
     maker: &M,
+    notify: &Notifiers<N>,
 ) -> Outcome
 where
     M::Line: Send + Sync,
@@ -113,7 +122,7 @@ where
     ensures silent { is_printing result.ending ≡ false → out.new ≡ out.old }
 {
     match read_command(words) {
-        Some(asked) => act(rt, alloc, asked, src, out, gate, handlers, maker),
+        Some(asked) => act(rt, alloc, asked, src, out, gate, handlers, maker, notify),
         None => Outcome::without_reports(alloc, Ending::Usage),
     }
 }

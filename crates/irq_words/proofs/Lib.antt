@@ -1,3 +1,4 @@
+pub mod EventWords
 pub mod Items
 pub mod LineWords
 pub mod OneCommand

@@ -7,14 +7,17 @@
 ghost use Rattle.std.specs.Prelude.{◌≡◌, ◌∷◌, ℕ, List, codes, map};
 ghost use Rattle.irq_words.specs.Words.{Asks, Finds};
 
+mod events;
 mod few;
 mod lines;
 mod numbers;
 
+use crate::events::read_events;
 use crate::lines::read_lines;
 use crate::numbers::number_in;
 pub use few::Few;
 use irq_base::LineNo;
+use irq_hotplug::Event;
 
 /// What the program can be asked for.
 pub enum Command {
@@ -29,6 +32,9 @@ pub enum Command {
     Gen { n: u32 },
     /// Read a board, and play it with all its lines behind one demultiplexer.
     Chained,
+    /// Read a board, give its lines vectors of processors, of which each has 1 to 64, take the
+    /// events, at most 64, and play the board with the moves that follow.
+    Hotplug { vectors: u32, events: Few<Event> },
     /// Read a board, and play it with a sleep in it, in which interrupts of the armed lines wake
     /// the machine.
     Sleep { armed: Few<LineNo> },
@@ -45,6 +51,7 @@ pub fn read_command(words: &[&str]) -> Option<Command>
         "check" => read_check(words),
         "gen" => read_gen(words),
         "chained" => read_chained(words),
+        "hotplug" => read_hotplug(words),
         "sleep" => read_sleep(words),
         _ => None,
     }
@@ -98,6 +105,15 @@ fn read_chained(words: &[&str]) -> Option<Command>
     } else {
         None
     }
+}
+
+fn read_hotplug(words: &[&str]) -> Option<Command>
+    ensures { Finds (codes "hotplug" ∷ map (λ w. w.now) words.now) result }
+{
+    let (vectors, words) = words.split_first()?;
+    let vectors = number_in(vectors.as_bytes(), 1, 64)?;
+    let events = read_events(words)?;
+    Some(Command::Hotplug { vectors, events })
 }
 
 fn read_sleep(words: &[&str]) -> Option<Command>

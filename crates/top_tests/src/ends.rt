@@ -5,6 +5,7 @@ use callbacks::{ByKind, Callbacks};
 use irq_base::{NoMemory, Reports};
 use irq_io::{MemSink, MemSource};
 use irq_top::irq_main;
+use notifiers::{ByProcessor, Notifiers};
 use std::alloc::Global;
 use std::sync::Wait;
 use std::test::Fail;
@@ -96,6 +97,7 @@ fn comes_to<R: Threads + Wait + Sync>(
         &NoGate,
         &handlers,
         &MakesChainLine,
+        &Notifiers::new(ByProcessor),
     );
     let ended = outcome.ending.status() == wanted.status
         && entries_of(&outcome.reports) == wanted.entries;

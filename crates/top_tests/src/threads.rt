@@ -9,6 +9,7 @@ use irq_base::{
 };
 use irq_io::{MemSink, MemSource};
 use irq_top::{Outcome, irq_main};
+use notifiers::{ByProcessor, Notifiers};
 use std::alloc::Global;
 use std::sync::Wait;
 use std::test::Fail;
@@ -106,6 +107,7 @@ fn run<R: Threads + Wait + Sync, G: Gate + Sync, H: Handler + Sync>(
         gate,
         handlers,
         &MakesChainLine,
+        &Notifiers::new(ByProcessor),
     ))
 }
 
