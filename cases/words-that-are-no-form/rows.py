@@ -1,0 +1,98 @@
+"""Words that are none of the forms. The input is a board, or a text with a fault, and isn't read."""
+USAGE = "usage: genirq run [--summary] | play [--summary] | check | gen N | chained | hotplug V EVENT... | sleep LINE..."
+NO_FORM = [
+    "",
+    "plays",
+    "Play",
+    "runs",
+    "run 1",
+    "run --summary play",
+    "play play",
+    "play --summary --summary",
+    "--summary play",
+    "check --summary",
+    "check 1",
+    "gen",
+    "gen 07",
+    "gen -1",
+    "gen 1 2",
+    "gen 4294967296",
+    "gen x",
+    "gen 0 --summary",
+    "play now",
+    "player",
+    "chain",
+    "Chained",
+    "chained --summary",
+    "chained x",
+    "chained 1",
+    "chained chained",
+    "play chained",
+    # V is 1 to 64
+    "hotplug",
+    "hotplug 0",
+    "hotplug 65",
+    "hotplug 01",
+    "hotplug x",
+    "hotplug -1",
+    "hotplug +1",
+    "hotplug 4294967297",
+    "hotplug off:0",
+    "hotplug off:0 1",
+    "hotplug 1 1",
+    "hotplug --summary",
+    "hotplug 1 --summary",
+    "hotplug 1 off:0 --summary",
+    # an event is `off:` or `on:`, and 0 to 31
+    "hotplug 1 off",
+    "hotplug 1 off:",
+    "hotplug 1 off: 0",
+    "hotplug 1 off:01",
+    "hotplug 1 off:00",
+    "hotplug 1 off:32",
+    "hotplug 1 off:x",
+    "hotplug 1 off:1x",
+    "hotplug 1 off:4294967297",
+    "hotplug 1 of:1",
+    "hotplug 1 offf:1",
+    "hotplug 1 Off:1",
+    "hotplug 1 on",
+    "hotplug 1 on:",
+    "hotplug 1 on:32",
+    "hotplug 1 on:-1",
+    "hotplug 1 on:01",
+    "hotplug 1 onn:1",
+    "hotplug 1 on:0,off:0",
+    "hotplug 1 on:0 off:0 on",
+    # 65 events
+    "hotplug 1" + 65 * " on:0",
+    # lines are 1 to 65535, and rise
+    "sleep 0",
+    "sleep 65536",
+    "sleep 4294967297",
+    "sleep 01",
+    "sleep -1",
+    "sleep x",
+    "sleep 1,2",
+    "sleep 2 1",
+    "sleep 1 1",
+    "sleep 1 2 2",
+    "sleep 1 3 2",
+    "sleep --summary",
+    "sleep 1 --summary",
+    # 65 lines
+    "sleep " + " ".join(str(line) for line in range(1, 66)),
+]
+# an empty word, alone or behind others
+EMPTY = ["", "play", "chained", "hotplug", "hotplug 1", "sleep", "sleep 1"]
+# over a text with a fault, and over a board that the command isn't for
+OTHER = [
+    ("hotplug 0", "domai|"),
+    ("hotplug 1 off:32", "board 1|driver 65535|"),
+    ("sleep 0", "domai|"),
+    ("sleep 2 1", "board 1|driver 65535|"),
+]
+ROWS = [(it.split(), "board 1|") for it in NO_FORM] + [([*it.split(), ""], "board 1|") for it in EMPTY]
+for words, text in ROWS + [(it.split(), text) for it, text in OTHER]:
+    print(" ".join(["$", *words]))
+    print(f"2 {USAGE} = {text}")
