@@ -111,8 +111,8 @@ module _ (def : LineDef) (past : List Entry) where
         → unbitted (with_linked (linked_from def ds ws) (with_rows def ws (with_fixed def ws (first_state def)))) ≡ canon (state_of def past)
     read_again ds ws d w =
         let P : List DriverNo → Type 0 = λ x. unbitted
-            (with_linked (linked_from def x ws) (with_rows def ws (with_fixed def ws (first_state def))))
-            ≡ canon (state_of def past) in
+        (with_linked (linked_from def x ws) (with_rows def ws (with_fixed def ws (first_state def))))
+        ≡ canon (state_of def past) in
         let Q : List ℕ → Type 0 = λ x. unbitted (with_linked (linked_from def (drivers_in def.calls) x)
         (with_rows def x (with_fixed def x (first_state def)))) ≡ canon (state_of def past) in
         subst P (sym d) (subst Q (sym w) again_here)

@@ -139,15 +139,15 @@ module _ (def : LineDef) (valid : IsValid def) (rs : List DriverNo) (f : DevNo �
   marks_there = ap (λ (t : List (DevNo × Bool)). table_words begun_words t
       (table_words thread_words s.threads (table_words ask_words s.asks (places linked)))) shaped.begun
       ∙ (ap (λ (t : List (DevNo × ThreadRow)). table_words begun_words (table_by f def.devices)
-          (table_words thread_words t (table_words ask_words s.asks (places linked)))) shaped.threads
+      (table_words thread_words t (table_words ask_words s.asks (places linked)))) shaped.threads
       ∙ ap (λ (t : List (DevNo × AskRow)). table_words begun_words (table_by f def.devices)
-          (table_words thread_words (table_by g def.devices) (table_words ask_words t (places linked)))) shaped.asks)
+      (table_words thread_words (table_by g def.devices) (table_words ask_words t (places linked)))) shaped.asks)
 
   threads_there : threads_from def ws ≡ threads_words
   threads_there =
       ap (λ (m : List ℕ). drop (length def.devices) m) marks_there
       ∙ (ap (λ n. drop n (table_words begun_words (table_by f def.devices) threads_words))
-          (let e : length def.devices ≡ 1 * length def.devices = omega arith in e)
+      (let e : length def.devices ≡ 1 * length def.devices = omega arith in e)
       ∙ behind_table begun_words 1 (λ r rest. refl) (λ n. omega arith) f def.devices threads_words)
 
   asks_there : asks_from def ws ≡ asks_words
@@ -180,11 +180,11 @@ module _ (def : LineDef) (valid : IsValid def) (rs : List DriverNo) (f : DevNo �
   cell_is : cell_in def ws ≡ s.cell
   cell_is =
       ap (λ b. cell_with def b (one_if s.cell.stored == 1) (one_if s.cell.sent == 1) (one_if s.cell.high == 1)
-          (serves def && (one_if (is_some s.desc.flow) == 1))) (bit_is s.desc.masked)
+      (serves def && (one_if (is_some s.desc.flow) == 1))) (bit_is s.desc.masked)
       ∙ (ap (λ b. cell_with def s.desc.masked b (one_if s.cell.sent == 1) (one_if s.cell.high == 1)
-          (serves def && (one_if (is_some s.desc.flow) == 1))) (bit_is s.cell.stored)
+      (serves def && (one_if (is_some s.desc.flow) == 1))) (bit_is s.cell.stored)
       ∙ (ap (λ b. cell_with def s.desc.masked s.cell.stored b (one_if s.cell.high == 1)
-          (serves def && (one_if (is_some s.desc.flow) == 1))) (bit_is s.cell.sent)
+      (serves def && (one_if (is_some s.desc.flow) == 1))) (bit_is s.cell.sent)
       ∙ (ap (λ b. cell_with def s.desc.masked s.cell.stored s.cell.sent b (serves def && (one_if (is_some s.desc.flow) == 1))) (bit_is s.cell.high)
       ∙ (ap (λ b. cell_with def s.desc.masked s.cell.stored s.cell.sent s.cell.high (serves def && b)) (bit_is (is_some s.desc.flow))
       ∙ sym shaped.cell))))

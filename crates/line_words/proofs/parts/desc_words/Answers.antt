@@ -10,5 +10,5 @@ returns c =
     let cell = c.marks-cell.ensures.cell ∙ c.chip.ensures.cell in
     let of_cell : DescSeen → Cell → _ = λ d k. marks_words d k.stored k.sent k.high [] in
     c.marks_words.ensures ∙ (ap (λ (d : DescSeen). marks_words d c.marks-cell.result.stored c.marks-cell.result.sent
-        c.marks-cell.result.high []) (c.marks.ensures ∙ c.desc.ensures)
+    c.marks-cell.result.high []) (c.marks.ensures ∙ c.desc.ensures)
     ∙ ap (of_cell s.desc) cell)
