@@ -1,0 +1,8 @@
+pub mod Again
+pub mod Stepped
+pub mod Actors
+pub mod Lists
+pub mod Adding
+pub mod Firsts
+pub mod Pushing
+pub mod Gathering
