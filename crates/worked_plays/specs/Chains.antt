@@ -1,0 +1,341 @@
+-- Boards behind one demultiplexer, each with the rows of its play, worked out by hand.
+use Rattle.std.specs.Prelude.{true, false, List, [], ◌∷◌}
+use Rattle.irq_base.specs.declared.calls.Call.TheVariants as calls
+use Rattle.irq_base.specs.declared.devices.Answer.TheVariants as answers
+use Rattle.irq_base.specs.declared.devices.Kind.TheVariants as kinds
+use Rattle.irq_base.specs.declared.domains.ControllerKind.TheVariants as levels
+use Rattle.irq_base.specs.declared.entries.Actor.TheVariants as actors
+use Rattle.irq_base.specs.declared.entries.EnableAnswer.TheVariants as enables
+use Rattle.irq_base.specs.declared.entries.Entry.TheVariants as entries
+use Rattle.irq_base.specs.declared.entries.LinkAnswer.TheVariants as links
+use Rattle.irq_base.specs.declared.entries.Note.TheVariants as notes
+use Rattle.irq_base.specs.declared.entries.Opened.TheVariants as opens
+use Rattle.irq_base.specs.declared.entries.Resend.TheVariants as resends
+use Rattle.irq_base.specs.declared.entries.TakeAnswer.TheVariants as takes
+use Rattle.irq_base.specs.declared.entries.UnlinkAnswer.TheVariants as unlinks
+use Rattle.irq_base.specs.declared.entries.Way.TheVariants as ways
+use Rattle.board_def.specs.Seen.{BoardSeen}
+use Rattle.worked_plays.specs.Short.{line, cpu, dev, driver, no_flags, oneshot_flag, domain, row}
+use Rattle.worked_plays.specs.Short.{device, call}
+use Rattle.irq_chained.specs.declared.chain.ChainEntry.{ChainEntry}
+use Rattle.irq_chained.specs.declared.chain.ChainEntry.TheVariants as steps
+
+-- one child, taken in its chain; the free comes after the exit
+abbrev pub one_child : BoardSeen
+one_child = record {
+  cpus = 1;
+  window = 100000;
+  limit = 99900;
+  log = 10000;
+  domains = domain 4 levels.Latch ∷ [];
+  lines = row 1 2 ∷ [];
+  devices = device 1 1 kinds.Direct ∷ [];
+  drivers = driver 1 ∷ [];
+  calls = call 1 1 (calls.Request (dev 1) no_flags) ∷
+      call 1 1 (calls.Ask (dev 1)) ∷
+      call 1 1 (calls.Free (dev 1)) ∷
+      [];
+  picks = [];
+}
+
+abbrev pub one_child_rows : List ChainEntry
+one_child_rows =
+    steps.Child (line 1) (entries.Request (driver 1) (dev 1) no_flags links.Linked
+    (opens.Started resends.No))
+    ∷ steps.Child (line 1) (entries.Ask (driver 1) (dev 1))
+    ∷ steps.Enter (cpu 0) 1
+    ∷ steps.Child (line 1) (entries.Take (cpu 0) ways.Line takes.Handle)
+    ∷ steps.Child (line 1) (entries.Begin (cpu 0) (dev 1))
+    ∷ steps.Child (line 1) (entries.Return (cpu 0) (dev 1) answers.Handled 1)
+    ∷ steps.Child (line 1) (entries.End (cpu 0) false false notes.Quiet)
+    ∷ steps.Exit (cpu 0)
+    ∷ steps.Child (line 1) (entries.Unlink (driver 1) (dev 1) (unlinks.Unlinked true))
+    ∷ steps.Child (line 1) (entries.HardClear (driver 1))
+    ∷ steps.Child (line 1) (entries.Freed (driver 1) (dev 1))
+    ∷ []
+
+-- two children in one chain, the lower place first
+abbrev pub two_children : BoardSeen
+two_children = record {
+  cpus = 1;
+  window = 100000;
+  limit = 99900;
+  log = 10000;
+  domains = domain 4 levels.Level ∷ [];
+  lines = row 1 2 ∷ row 2 3 ∷ [];
+  devices = device 1 1 kinds.Direct ∷ device 2 2 kinds.Direct ∷ [];
+  drivers = driver 1 ∷ [];
+  calls = call 1 1 (calls.Request (dev 1) no_flags) ∷
+      call 1 2 (calls.Request (dev 2) no_flags) ∷
+      call 1 2 (calls.Ask (dev 2)) ∷
+      call 1 1 (calls.Ask (dev 1)) ∷
+      [];
+  picks = actors.Driver (driver 1) ∷ actors.Driver (driver 1) ∷ actors.Driver (driver 1)
+      ∷ actors.Driver (driver 1) ∷ [];
+}
+
+abbrev pub two_children_rows : List ChainEntry
+two_children_rows =
+    steps.Child (line 1) (entries.Request (driver 1) (dev 1) no_flags links.Linked
+    (opens.Started resends.No))
+    ∷ steps.Child (line 2) (entries.Request (driver 1) (dev 2) no_flags links.Linked
+    (opens.Started resends.No))
+    ∷ steps.Child (line 2) (entries.Ask (driver 1) (dev 2))
+    ∷ steps.Child (line 1) (entries.Ask (driver 1) (dev 1))
+    ∷ steps.Enter (cpu 0) 3
+    ∷ steps.Child (line 1) (entries.Take (cpu 0) ways.Line takes.Handle)
+    ∷ steps.Child (line 1) (entries.Begin (cpu 0) (dev 1))
+    ∷ steps.Child (line 1) (entries.Return (cpu 0) (dev 1) answers.Handled 1)
+    ∷ steps.Child (line 1) (entries.End (cpu 0) false true notes.Quiet)
+    ∷ steps.Child (line 2) (entries.Take (cpu 0) ways.Line takes.Handle)
+    ∷ steps.Child (line 2) (entries.Begin (cpu 0) (dev 2))
+    ∷ steps.Child (line 2) (entries.Return (cpu 0) (dev 2) answers.Handled 1)
+    ∷ steps.Child (line 2) (entries.End (cpu 0) false true notes.Quiet)
+    ∷ steps.Exit (cpu 0)
+    ∷ []
+
+-- a child asks again while the chain is open, and is taken in the next
+abbrev pub asks_again : BoardSeen
+asks_again = record {
+  cpus = 1;
+  window = 100000;
+  limit = 99900;
+  log = 10000;
+  domains = domain 4 levels.Level ∷ [];
+  lines = row 1 2 ∷ row 2 3 ∷ [];
+  devices = device 1 1 kinds.Direct ∷ device 2 2 kinds.Direct ∷ [];
+  drivers = driver 1 ∷ driver 2 ∷ [];
+  calls = call 1 1 (calls.Request (dev 1) no_flags) ∷
+      call 1 2 (calls.Request (dev 2) no_flags) ∷
+      call 1 1 (calls.Ask (dev 1)) ∷
+      call 1 2 (calls.Ask (dev 2)) ∷
+      call 2 1 (calls.Ask (dev 1)) ∷
+      [];
+  picks = actors.Driver (driver 1) ∷ actors.Driver (driver 1) ∷ actors.Driver (driver 1)
+      ∷ actors.Driver (driver 1) ∷ actors.Cpu (cpu 0) ∷ actors.Cpu (cpu 0) ∷ actors.Cpu (cpu 0)
+      ∷ actors.Cpu (cpu 0) ∷ actors.Cpu (cpu 0) ∷ actors.Driver (driver 2) ∷ [];
+}
+
+abbrev pub asks_again_rows : List ChainEntry
+asks_again_rows =
+    steps.Child (line 1) (entries.Request (driver 1) (dev 1) no_flags links.Linked
+    (opens.Started resends.No))
+    ∷ steps.Child (line 2) (entries.Request (driver 1) (dev 2) no_flags links.Linked
+    (opens.Started resends.No))
+    ∷ steps.Child (line 1) (entries.Ask (driver 1) (dev 1))
+    ∷ steps.Child (line 2) (entries.Ask (driver 1) (dev 2))
+    ∷ steps.Enter (cpu 0) 3
+    ∷ steps.Child (line 1) (entries.Take (cpu 0) ways.Line takes.Handle)
+    ∷ steps.Child (line 1) (entries.Begin (cpu 0) (dev 1))
+    ∷ steps.Child (line 1) (entries.Return (cpu 0) (dev 1) answers.Handled 1)
+    ∷ steps.Child (line 1) (entries.End (cpu 0) false true notes.Quiet)
+    ∷ steps.Child (line 1) (entries.Ask (driver 2) (dev 1))
+    ∷ steps.Child (line 2) (entries.Take (cpu 0) ways.Line takes.Handle)
+    ∷ steps.Child (line 2) (entries.Begin (cpu 0) (dev 2))
+    ∷ steps.Child (line 2) (entries.Return (cpu 0) (dev 2) answers.Handled 1)
+    ∷ steps.Child (line 2) (entries.End (cpu 0) false true notes.Quiet)
+    ∷ steps.Exit (cpu 0)
+    ∷ steps.Enter (cpu 0) 1
+    ∷ steps.Child (line 1) (entries.Take (cpu 0) ways.Line takes.Handle)
+    ∷ steps.Child (line 1) (entries.Begin (cpu 0) (dev 1))
+    ∷ steps.Child (line 1) (entries.Return (cpu 0) (dev 1) answers.Handled 1)
+    ∷ steps.Child (line 1) (entries.End (cpu 0) false true notes.Quiet)
+    ∷ steps.Exit (cpu 0)
+    ∷ []
+
+-- an edge within the handler opens a chain of its own
+abbrev pub edge_within : BoardSeen
+edge_within = record {
+  cpus = 1;
+  window = 100000;
+  limit = 99900;
+  log = 10000;
+  domains = domain 4 levels.Latch ∷ [];
+  lines = row 1 2 ∷ [];
+  devices = device 1 1 kinds.Direct ∷ [];
+  drivers = driver 1 ∷ [];
+  calls = call 1 1 (calls.Request (dev 1) no_flags) ∷
+      call 1 1 (calls.Ask (dev 1)) ∷
+      call 1 1 (calls.Ask (dev 1)) ∷
+      [];
+  picks = actors.Driver (driver 1) ∷ actors.Driver (driver 1) ∷ actors.Cpu (cpu 0)
+      ∷ actors.Cpu (cpu 0) ∷ actors.Cpu (cpu 0) ∷ actors.Driver (driver 1) ∷ [];
+}
+
+abbrev pub edge_within_rows : List ChainEntry
+edge_within_rows =
+    steps.Child (line 1) (entries.Request (driver 1) (dev 1) no_flags links.Linked
+    (opens.Started resends.No))
+    ∷ steps.Child (line 1) (entries.Ask (driver 1) (dev 1))
+    ∷ steps.Enter (cpu 0) 1
+    ∷ steps.Child (line 1) (entries.Take (cpu 0) ways.Line takes.Handle)
+    ∷ steps.Child (line 1) (entries.Begin (cpu 0) (dev 1))
+    ∷ steps.Child (line 1) (entries.Ask (driver 1) (dev 1))
+    ∷ steps.Child (line 1) (entries.Return (cpu 0) (dev 1) answers.Handled 1)
+    ∷ steps.Child (line 1) (entries.End (cpu 0) false false notes.Quiet)
+    ∷ steps.Exit (cpu 0)
+    ∷ steps.Enter (cpu 0) 1
+    ∷ steps.Child (line 1) (entries.Take (cpu 0) ways.Line takes.Handle)
+    ∷ steps.Child (line 1) (entries.Begin (cpu 0) (dev 1))
+    ∷ steps.Child (line 1) (entries.Return (cpu 0) (dev 1) answers.Handled 1)
+    ∷ steps.Child (line 1) (entries.End (cpu 0) false false notes.Quiet)
+    ∷ steps.Exit (cpu 0)
+    ∷ []
+
+-- a level within a handler of a fast eoi controller
+abbrev pub level_within : BoardSeen
+level_within = record {
+  cpus = 1;
+  window = 100000;
+  limit = 99900;
+  log = 10000;
+  domains = domain 4 levels.Eoi ∷ [];
+  lines = row 1 2 ∷ [];
+  devices = device 1 1 kinds.Direct ∷ [];
+  drivers = driver 1 ∷ [];
+  calls = call 1 1 (calls.Request (dev 1) no_flags) ∷
+      call 1 1 (calls.Ask (dev 1)) ∷
+      call 1 1 (calls.Ask (dev 1)) ∷
+      [];
+  picks = actors.Driver (driver 1) ∷ actors.Driver (driver 1) ∷ actors.Cpu (cpu 0)
+      ∷ actors.Cpu (cpu 0) ∷ actors.Cpu (cpu 0) ∷ actors.Driver (driver 1) ∷ [];
+}
+
+abbrev pub level_within_rows : List ChainEntry
+level_within_rows =
+    steps.Child (line 1) (entries.Request (driver 1) (dev 1) no_flags links.Linked
+    (opens.Started resends.No))
+    ∷ steps.Child (line 1) (entries.Ask (driver 1) (dev 1))
+    ∷ steps.Enter (cpu 0) 1
+    ∷ steps.Child (line 1) (entries.Take (cpu 0) ways.Line takes.Handle)
+    ∷ steps.Child (line 1) (entries.Begin (cpu 0) (dev 1))
+    ∷ steps.Child (line 1) (entries.Ask (driver 1) (dev 1))
+    ∷ steps.Child (line 1) (entries.Return (cpu 0) (dev 1) answers.Handled 1)
+    ∷ steps.Child (line 1) (entries.End (cpu 0) false false notes.Quiet)
+    ∷ steps.Exit (cpu 0)
+    ∷ steps.Enter (cpu 0) 1
+    ∷ steps.Child (line 1) (entries.Take (cpu 0) ways.Line takes.Handle)
+    ∷ steps.Child (line 1) (entries.Begin (cpu 0) (dev 1))
+    ∷ steps.Child (line 1) (entries.Return (cpu 0) (dev 1) answers.Handled 1)
+    ∷ steps.Child (line 1) (entries.End (cpu 0) false false notes.Quiet)
+    ∷ steps.Exit (cpu 0)
+    ∷ []
+
+-- a thread steps before the exit
+abbrev pub threads_first : BoardSeen
+threads_first = record {
+  cpus = 1;
+  window = 100000;
+  limit = 99900;
+  log = 10000;
+  domains = domain 4 levels.Level ∷ [];
+  lines = row 1 2 ∷ [];
+  devices = device 1 1 kinds.Null ∷ [];
+  drivers = driver 1 ∷ [];
+  calls = call 1 1 (calls.Request (dev 1) oneshot_flag) ∷
+      call 1 1 (calls.Ask (dev 1)) ∷
+      [];
+  picks = [];
+}
+
+abbrev pub threads_first_rows : List ChainEntry
+threads_first_rows =
+    steps.Child (line 1) (entries.Request (driver 1) (dev 1) oneshot_flag links.Linked
+    (opens.Started resends.No))
+    ∷ steps.Child (line 1) (entries.Ask (driver 1) (dev 1))
+    ∷ steps.Enter (cpu 0) 1
+    ∷ steps.Child (line 1) (entries.Take (cpu 0) ways.Line takes.Handle)
+    ∷ steps.Child (line 1) (entries.Begin (cpu 0) (dev 1))
+    ∷ steps.Child (line 1) (entries.Return (cpu 0) (dev 1) answers.Wake 0)
+    ∷ steps.Child (line 1) (entries.ThreadBegin (dev 1))
+    ∷ steps.Child (line 1) (entries.ThreadReturn (dev 1) 1)
+    ∷ steps.Child (line 1) (entries.End (cpu 0) false false notes.Quiet)
+    ∷ steps.Child (line 1) (entries.Finish (dev 1) false true)
+    ∷ steps.Child (line 1) (entries.Done (dev 1))
+    ∷ steps.Exit (cpu 0)
+    ∷ []
+
+-- an enable that has the software resend raises the parent
+abbrev pub soft_resend : BoardSeen
+soft_resend = record {
+  cpus = 1;
+  window = 100000;
+  limit = 99900;
+  log = 10000;
+  domains = domain 4 levels.Plain ∷ [];
+  lines = row 1 2 ∷ [];
+  devices = device 1 1 kinds.Direct ∷ [];
+  drivers = driver 1 ∷ [];
+  calls = call 1 1 (calls.Request (dev 1) no_flags) ∷
+      call 1 1 calls.DisableNosync ∷
+      call 1 1 (calls.Ask (dev 1)) ∷
+      call 1 1 calls.Enable ∷
+      [];
+  picks = [];
+}
+
+abbrev pub soft_resend_rows : List ChainEntry
+soft_resend_rows =
+    steps.Child (line 1) (entries.Request (driver 1) (dev 1) no_flags links.Linked
+    (opens.Started resends.No))
+    ∷ steps.Child (line 1) (entries.Disable (driver 1))
+    ∷ steps.Child (line 1) (entries.Ask (driver 1) (dev 1))
+    ∷ steps.Enter (cpu 0) 1
+    ∷ steps.Child (line 1) (entries.Take (cpu 0) ways.Line takes.Off)
+    ∷ steps.Exit (cpu 0)
+    ∷ steps.Child (line 1) (entries.Enable (driver 1) (enables.Started resends.Soft))
+    ∷ steps.Enter (cpu 0) 1
+    ∷ steps.Child (line 1) (entries.Take (cpu 0) ways.Resend takes.Handle)
+    ∷ steps.Child (line 1) (entries.Begin (cpu 0) (dev 1))
+    ∷ steps.Child (line 1) (entries.Return (cpu 0) (dev 1) answers.Handled 1)
+    ∷ steps.Child (line 1) (entries.End (cpu 0) false false notes.Quiet)
+    ∷ steps.Exit (cpu 0)
+    ∷ []
+
+-- a sibling of the status is disabled before it is taken
+abbrev pub sibling_disabled : BoardSeen
+sibling_disabled = record {
+  cpus = 1;
+  window = 100000;
+  limit = 99900;
+  log = 10000;
+  domains = domain 4 levels.Level ∷ [];
+  lines = row 1 2 ∷ row 2 3 ∷ [];
+  devices = device 1 1 kinds.Direct ∷ device 2 2 kinds.Direct ∷ [];
+  drivers = driver 1 ∷ [];
+  calls = call 1 1 (calls.Request (dev 1) no_flags) ∷
+      call 1 2 (calls.Request (dev 2) no_flags) ∷
+      call 1 1 (calls.Ask (dev 1)) ∷
+      call 1 2 (calls.Ask (dev 2)) ∷
+      call 1 2 calls.DisableNosync ∷
+      call 1 2 calls.Enable ∷
+      [];
+  picks = actors.Driver (driver 1) ∷ actors.Driver (driver 1) ∷ actors.Driver (driver 1)
+      ∷ actors.Driver (driver 1) ∷ actors.Cpu (cpu 0) ∷ actors.Cpu (cpu 0)
+      ∷ actors.Driver (driver 1) ∷ [];
+}
+
+abbrev pub sibling_disabled_rows : List ChainEntry
+sibling_disabled_rows =
+    steps.Child (line 1) (entries.Request (driver 1) (dev 1) no_flags links.Linked
+    (opens.Started resends.No))
+    ∷ steps.Child (line 2) (entries.Request (driver 1) (dev 2) no_flags links.Linked
+    (opens.Started resends.No))
+    ∷ steps.Child (line 1) (entries.Ask (driver 1) (dev 1))
+    ∷ steps.Child (line 2) (entries.Ask (driver 1) (dev 2))
+    ∷ steps.Enter (cpu 0) 3
+    ∷ steps.Child (line 1) (entries.Take (cpu 0) ways.Line takes.Handle)
+    ∷ steps.Child (line 2) (entries.Disable (driver 1))
+    ∷ steps.Child (line 1) (entries.Begin (cpu 0) (dev 1))
+    ∷ steps.Child (line 1) (entries.Return (cpu 0) (dev 1) answers.Handled 1)
+    ∷ steps.Child (line 1) (entries.End (cpu 0) false true notes.Quiet)
+    ∷ steps.Child (line 2) (entries.Take (cpu 0) ways.Line takes.Off)
+    ∷ steps.Exit (cpu 0)
+    ∷ steps.Child (line 2) (entries.Enable (driver 1) (enables.Started resends.No))
+    ∷ steps.Enter (cpu 0) 2
+    ∷ steps.Child (line 2) (entries.Take (cpu 0) ways.Line takes.Handle)
+    ∷ steps.Child (line 2) (entries.Begin (cpu 0) (dev 2))
+    ∷ steps.Child (line 2) (entries.Return (cpu 0) (dev 2) answers.Handled 1)
+    ∷ steps.Child (line 2) (entries.End (cpu 0) false true notes.Quiet)
+    ∷ steps.Exit (cpu 0)
+    ∷ []

@@ -1,0 +1,4 @@
+pub mod Short
+pub mod Made
+pub mod Chains
+pub mod Sleeps
