@@ -57,6 +57,31 @@ asks_by : (v h t : DevNo → Bool) (f : DevNo → AskRow) (xs : List DeviceDef)
 asks_by v h t f [] = refl
 asks_by v h t f (x ∷ xs) = ap (λ (u : List (DevNo × AskRow)). (x.dev, canon_row (v x.dev) (h x.dev) (t x.dev) (f x.dev)) ∷ u) (asks_by v h t f xs)
 
+-- the greatest limit of a log is as good as any
+pub longer : (def : LineDef) → IsValid def → IsValid (with_log def 100000000)
+longer def valid = record {
+  some_cpu = valid.some_cpu;
+  few_cpus = valid.few_cpus;
+  some_window = valid.some_window;
+  small_window = valid.small_window;
+  limit = valid.limit;
+  some_log = omega arith;
+  small_log = omega arith;
+  few_devices = valid.few_devices;
+  few_calls = valid.few_calls;
+  mask = valid.mask;
+  edge_flow = valid.edge_flow;
+  level_flow = valid.level_flow;
+  unlazy = valid.unlazy;
+  eoi_keeps = valid.eoi_keeps;
+  eoi_retriggers = valid.eoi_retriggers;
+  devices = valid.devices;
+  distinct = valid.distinct;
+  calls = valid.calls;
+  owners = valid.owners;
+  freed = valid.freed;
+}
+
 module _ (def : LineDef) (past : List Entry) where
   abbrev pub begun_of : DevNo → Bool
   begun_of d = is_some (state_of def past).desc.flow && has_begun def past d
@@ -144,42 +169,18 @@ module _ (def : LineDef) (past : List Entry) where
 
     -- ---- the numbers fit
 
-    longer : IsValid (with_log def 100000000)
-    longer = record {
-      some_cpu = valid.some_cpu;
-      few_cpus = valid.few_cpus;
-      some_window = valid.some_window;
-      small_window = valid.small_window;
-      limit = valid.limit;
-      some_log = omega arith;
-      small_log = omega arith;
-      few_devices = valid.few_devices;
-      few_calls = valid.few_calls;
-      mask = valid.mask;
-      edge_flow = valid.edge_flow;
-      level_flow = valid.level_flow;
-      unlazy = valid.unlazy;
-      eoi_keeps = valid.eoi_keeps;
-      eoi_retriggers = valid.eoi_retriggers;
-      devices = valid.devices;
-      distinct = valid.distinct;
-      calls = valid.calls;
-      owners = valid.owners;
-      freed = valid.freed;
-    }
-
     module _ (few : length past ≤ 100000000) where
       linked_fits : CanLinkAll (linked_in (linked_from def (drivers_in def.calls) (node def past))) []
       linked_fits =
           let P : List (DevNo × Flags) → Type 0 = λ x. CanLinkAll x [] in
           subst P (sym (linked_there def valid (drivers_in def.calls) begun_of (thread_of past) asks_of_dev (flags_of (actions_of past))
           (canon (state_of def past)) shaped (places_words def past (drivers_in def.calls)) (behind_places def past (drivers_in def.calls))))
-          (can_link (flags_of (actions_of past)) [] (all_go (with_log def 100000000) longer past legal few))
+          (can_link (flags_of (actions_of past)) [] (all_go (with_log def 100000000) (longer def valid) past legal few))
 
       waiting_fits : HasProcessor def.cpus (mask_at (node def past) 13)
       waiting_fits =
           let P : Option ℕ → Type 0 = λ x. HasProcessor def.cpus x in
-          subst P (sym (mask_is (state_of def past).aim.waiting)) (has_processor (with_log def 100000000) longer past legal few)
+          subst P (sym (mask_is (state_of def past).aim.waiting)) (has_processor (with_log def 100000000) (longer def valid) past legal few)
 
       fits_here : Fits def (drivers_in def.calls) (node def past)
       fits_here = record {

@@ -41,9 +41,9 @@ module _ {L : Type 0} (can : L → List L → Type 0) (node : List L → List �
     pub each : All (λ f. can f.0 g × (node (f.0 ∷ g) ≡ f.1)) found
     pub all : (l : L) → can l g → Contains (map (λ f. f.0) found) l
 
-  -- a path of at most n labels leads to these numbers
+  -- a path of fewer than n labels leads to these numbers
   abbrev pub IsReached : ℕ → List ℕ → Type 0
-  IsReached n words = (g : List L) × IsPath can g × (node g ≡ words) × (length g ≤ n)
+  IsReached n words = (g : List L) × IsPath can g × (node g ≡ words) × (length g < n)
 
   -- There is one path to each state, and no path to it is shorter. The first `looked` states were
   -- looked at for what comes next: all states, or at least all with paths shorter than the cut.

@@ -1,0 +1,207 @@
+-- A state that was read again: what is due of it, and what may be made of it.
+use Rattle.std.proofs.Common.{◌≡◌, ℕ, ◌+◌, ◌-◌, ◌^◌, ◌<◌, ◌≤◌, Bool, true, false, ◌==◌, not, cond, is_some, Option, Some, None, option_map, List, []}
+use Rattle.std.proofs.Common.{◌∷◌, length, refl, sym, ap, subst, ◌∙◌, arith}
+use Rattle.irq_base.specs.declared.calls.Flags.{Flags}
+use Rattle.irq_base.specs.declared.entries.Actor.{Actor}
+use Rattle.irq_base.specs.declared.entries.Entry.{Entry}
+use Rattle.irq_base.specs.declared.entries.Entry.TheVariants as entries
+use Rattle.irq_base.specs.declared.entries.LinkAnswer.{LinkAnswer}
+use Rattle.irq_base.specs.declared.entries.LinkAnswer.TheVariants as links
+use Rattle.irq_base.specs.declared.lines.LineDef.{LineDef}
+use Rattle.irq_base.specs.declared.numbers.CpuNo.{CpuNo}
+use Rattle.irq_base.specs.declared.numbers.DevNo.{DevNo}
+use Rattle.irq_base.specs.declared.numbers.DriverNo.{DriverNo}
+use Rattle.irq_model.specs.Legal.{IsDue, IsLegalPast}
+use Rattle.irq_model.specs.Next.{next_past}
+use Rattle.irq_model.specs.Valid.{IsValid}
+use Rattle.irq_laws.specs.LogLimit.{with_log}
+use Rattle.device_table.proofs.Lowest.{own_by}
+use Rattle.device_table.specs.Rows.{at, HasOwnKeys}
+use Rattle.device_table.specs.Sums.{one_if}
+use Rattle.act_list.specs.Actions.{has, answer_by}
+use Rattle.act_list.specs.Lists.{flags_of}
+use Rattle.act_list.specs.declared.actions.Action.{Action}
+use Rattle.affinity.specs.Seen.{AimSeen}
+use Rattle.ask_counts.specs.Rows.{HasRoom}
+use Rattle.ask_counts.specs.declared.rows.AskRow.{AskRow}
+use Rattle.desc_state.specs.Desc.{DescSeen}
+use Rattle.line_scripts.specs.Rows.{RowSeen, place_of, within_of}
+use Rattle.line_marks.proofs.Bounds.{has_space}
+use Rattle.line_marks.proofs.CellFollows.{is_of, is_open}
+use Rattle.line_marks.proofs.DueIs.{due_is}
+use Rattle.line_marks.proofs.ExpectedOf.{expected}
+use Rattle.line_marks.proofs.StateFollows.{state_follows}
+use Rattle.line_marks.specs.Bounded.{HasSpace}
+use Rattle.line_marks.specs.DriversDue.{request_to}
+use Rattle.line_marks.specs.Expected.{IsExpected, IsOpen}
+use Rattle.line_marks.specs.Kinds.{kind_at}
+use Rattle.line_marks.specs.Next.{due_by}
+use Rattle.line_marks.specs.Scripts.{IsAt}
+use Rattle.line_marks.specs.State.{StateSeen, IsOf, state_of, state_after}
+use Rattle.line_state.specs.Entries.{entry_by, CanMake}
+use Rattle.line_state.specs.Seen.{IsAimOf, taker_of}
+use Rattle.line_state.specs.declared.due.DueStep.{DueStep}
+use Rattle.line_state.specs.declared.due.DueStep.TheVariants as steps
+use Rattle.line_futures.proofs.Actions.{flags_same, has_same}
+use Rattle.line_futures.proofs.CanonDue.{due_same}
+use Rattle.line_futures.proofs.CanonSteps.{canon_after}
+use Rattle.line_futures.proofs.MadeIs.{may_follow}
+use Rattle.line_futures.specs.Canon.{canon, canon_asks, canon_row, kept_if, without_bits, serves_at, is_working, is_thread_working}
+use Rattle.line_futures.specs.Made.{IsMade, MayFollow}
+use Rattle.line_words.proofs.Looking.{asks_at}
+use Rattle.line_words.proofs.Past.{longer, shaped}
+use Rattle.line_words.specs.Again.{unbitted}
+use Rattle.line_words.specs.Scripts.{AreScripts}
+
+-- ---- thread bits decide nothing
+
+unbitted_canon : (t : StateSeen) → canon (unbitted t) ≡ canon t
+unbitted_canon t =
+    ap (λ (l : List (DevNo × Flags)). record (canon t) { list = record (canon t).list { actions = without_bits l } }) (flags_same t.list.actions)
+
+-- what an entry that follows asks for is so of the canonical state, and of one with thread bits
+made_canon : (e : Entry) (s : StateSeen) → IsMade e s → IsMade e (canon s)
+made_canon (entries.Begin cpu dev) s h = h
+made_canon (entries.Return cpu dev answer served) s h = h
+made_canon (entries.End cpu again unmask note) s h = h
+made_canon (entries.ThreadReturn dev served) s h = h
+made_canon _ s h = tt
+
+made_bits : (e : Entry) (t : StateSeen) → IsMade e (unbitted t) → IsMade e t
+made_bits (entries.Begin cpu dev) t h = h
+made_bits (entries.Return cpu dev answer served) t h = h
+made_bits (entries.End cpu again unmask note) t h = h
+made_bits (entries.ThreadReturn dev served) t h = h
+made_bits _ t h = tt
+
+one_few : (b : Bool) → one_if b < 2 ^ 32 - 1
+one_few true = omega arith
+one_few false = omega arith
+
+kept_few : (b : Bool) (n : ℕ) → n < 2 ^ 32 - 1 → kept_if b n < 2 ^ 32 - 1
+kept_few true n h = h
+kept_few false n h = omega arith
+
+requested : (def : LineDef) (t s : StateSeen) (r : DriverNo) (d : DevNo) (flags : Flags) (a : LinkAnswer)
+    → IsExpected def (request_to def r d flags t a) s → has d s.list.actions ≡ false
+requested def t s r d flags links.Linked h = h.0
+requested def t s r d flags (links.Refused error) h = h.0
+
+room_canon : (v h t : Bool) (o : Option AskRow) → HasRoom o → HasRoom (option_map (canon_row v h t) o)
+room_canon v h t None room = tt
+room_canon v h t (Some r) room = (room.0, kept_few v r.fresh room.1)
+
+module _ (def : LineDef) (valid : IsValid def) (g : List Entry) (legal : IsLegalPast def g) (t : StateSeen)
+    (again : unbitted t ≡ canon (state_of def g)) where
+  abbrev s : StateSeen
+  s = state_of def g
+
+  canon_again : canon t ≡ canon (canon (state_of def g))
+  canon_again = sym (unbitted_canon t) ∙ ap canon again
+
+  -- a fact of the canonical state that thread bits don't touch
+  told : (P : StateSeen → Type 0) → P (canon (state_of def g)) → P (unbitted t)
+  told P h = subst P (sym again) h
+
+  pub flow_same : t.desc.flow ≡ (state_of def g).desc.flow
+  flow_same = ap (λ (x : StateSeen). x.desc.flow) again
+
+  pub taker_same : taker_of t ≡ taker_of (state_of def g)
+  taker_same = ap taker_of again
+
+  -- ---- what is due
+
+  module _ (scripts : List (DriverNo × RowSeen)) (are : AreScripts def scripts) (at_places : (r : DriverNo) → IsAt def g r (place_of scripts r) (within_of scripts r)) where
+    pub due_again : (a : Actor) → due_by def t scripts a ≡ next_past def g a
+    due_again a =
+        sym (due_same def t scripts a)
+        ∙ (ap (λ (x : StateSeen). due_by def x scripts a) canon_again
+        ∙ (due_same def (canon (state_of def g)) scripts a
+        ∙ (due_same def (state_of def g) scripts a
+        ∙ sym (due_is def g scripts are.calls at_places a valid legal))))
+
+  -- ---- what the functions of the state ask for
+
+  pub is_of_again : IsOf def t
+  is_of_again =
+      let o = is_of def g valid legal in
+      record {
+        trigger = ap (λ (x : StateSeen). x.cell.trigger) again ∙ o.trigger;
+        retriggers = ap (λ (x : StateSeen). x.cell.retriggers) again ∙ o.retriggers;
+      }
+
+  pub aim_again : IsAimOf def t.aim
+  aim_again = record { cpus = ap (λ (x : StateSeen). x.aim.cpus) again; later = ap (λ (x : StateSeen). x.aim.later) again }
+
+  module _ (short : length g ≤ 100000000) where
+    space : HasSpace (state_of def g)
+    space = has_space (with_log def 100000000) g (longer def valid) short
+
+    room_again : (d : DevNo) → HasRoom (at t.asks d)
+    room_again d =
+        let P : Option AskRow → Type 0 = λ o. HasRoom o in
+        subst P (sym (ap (λ (x : StateSeen). at x.asks d) again
+        ∙ asks_at (serves_at (state_of def g)) (is_working (state_of def g).round.working) (is_thread_working (state_of def g).threads) (state_of def g).asks d))
+        (room_canon (serves_at (state_of def g) d) (is_working (state_of def g).round.working d) (is_thread_working (state_of def g).threads d)
+        (at (state_of def g).asks d) (space.asks d))
+
+    depth_again : t.desc.depth < 2 ^ 32 - 1
+    depth_again = let P : ℕ → Type 0 = λ n. n < 2 ^ 32 - 1 in subst P (sym (ap (λ (x : StateSeen). x.desc.depth) again)) space.depth
+
+    rounds_again : t.list.rounds < 2 ^ 32 - 2
+    rounds_again = let P : ℕ → Type 0 = λ n. n < 2 ^ 32 - 2 in subst P (sym (ap (λ (x : StateSeen). x.list.rounds) again)) (omega arith)
+
+    handled_again : t.counts.counts.threads_handled < 2 ^ 32 - 1
+    handled_again =
+        let P : ℕ → Type 0 = λ n. n < 2 ^ 32 - 1 in
+        subst P (sym (ap (λ (x : StateSeen). x.counts.counts.threads_handled) again))
+        (one_few (not ((state_of def g).counts.counts.threads_handled == (state_of def g).counts.counts.last)))
+
+    open_again : IsOpen def t
+    open_again edge eoi zero =
+        ap (λ (x : StateSeen). x.cell.masked) again
+        ∙ is_open def g valid legal edge eoi (sym (ap (λ (x : StateSeen). x.desc.depth) again) ∙ zero)
+
+    absent_again : (d : DevNo) → has d (state_of def g).list.actions ≡ false → has d t.list.actions ≡ false
+    absent_again d h =
+        sym (has_same d t.list.actions) ∙ (ap (λ (x : StateSeen). has d x.list.actions) again ∙ (has_same d (state_of def g).list.actions ∙ h))
+
+    can_again : (step : DueStep) → IsExpected def (entry_by def t step) (state_of def g) → CanMake def step t
+    can_again (steps.Ask driver dev) x = room_again dev
+    can_again (steps.Take cpu way) x = rounds_again
+    can_again (steps.End cpu) x = (rounds_again, depth_again, open_again)
+    can_again (steps.ThreadReturn dev) x = handled_again
+    can_again (steps.Disable driver) x = depth_again
+    can_again (steps.Request driver dev flags) x =
+        absent_again dev (requested def t (state_of def g) driver dev flags (answer_by (kind_at t.kinds dev) flags t.list.actions) x)
+    can_again _ x = tt
+
+    pub can_due : (step : DueStep) → IsDue def (entry_by def t step) g → CanMake def step t
+    can_due step due = can_again step (expected (with_log def 100000000) g (longer def valid) legal short (entry_by def t step) due)
+
+  -- ---- what an entry makes of it
+
+  module _ (e : Entry) (due : IsDue def e g) where
+    follows : MayFollow e (state_of def g)
+    follows = may_follow def g valid legal e due
+
+    canon_follows : MayFollow e (canon (state_of def g))
+    canon_follows = record {
+      made = made_canon e (state_of def g) follows.made;
+      served = omega arith;
+      own = let P : List (DevNo × AskRow) → Type 0 = λ a. HasOwnKeys a in
+          subst P (sym (shaped def g valid legal).asks) (own_by _ def.devices valid.distinct);
+    }
+
+    again_follows : MayFollow e t
+    again_follows =
+        let f = told (λ (x : StateSeen). MayFollow e x) canon_follows in
+        record { made = made_bits e t f.made; served = f.served; own = f.own }
+
+    pub after_again : canon (state_after def e t) ≡ canon (state_of def (e ∷ g))
+    after_again =
+        sym (canon_after def t e again_follows)
+        ∙ (ap (λ (x : StateSeen). canon (state_after def e x)) canon_again
+        ∙ (canon_after def (canon (state_of def g)) e canon_follows
+        ∙ (canon_after def (state_of def g) e follows
+        ∙ ap canon (sym (state_follows def e g valid (due, legal))))))

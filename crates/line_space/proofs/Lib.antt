@@ -1,0 +1,4 @@
+pub mod Again
+pub mod Stepped
+pub mod Actors
+pub mod Lists

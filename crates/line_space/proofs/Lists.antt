@@ -1,0 +1,69 @@
+-- The entries that are due of several actors.
+use Rattle.std.proofs.Common.{All, Contains, map, ◌≡◌, ◌⊎◌, inl, inr, ℕ, ◌<◌, Option, Some, None, List, [], ◌∷◌, ◌++◌, length, refl, sym, ap, subst, ◌∙◌, arith}
+use Rattle.std.proofs.lemmas.List.{append_assoc}
+use Rattle.std.proofs.lemmas.List.Elements.{Contains-append_left, Contains-append_right, Contains-append_cases, All-append, All-from_recursion}
+use Rattle.irq_base.specs.Who.{actor_of}
+use Rattle.irq_base.specs.declared.entries.Actor.{Actor}
+use Rattle.irq_base.specs.declared.entries.Entry.{Entry}
+use Rattle.irq_base.specs.declared.lines.LineDef.{LineDef}
+use Rattle.irq_base.specs.declared.numbers.DriverNo.{DriverNo}
+use Rattle.irq_model.specs.Legal.{IsDue, IsLegalPast}
+use Rattle.irq_model.specs.Next.{next_past}
+use Rattle.irq_model.specs.Valid.{IsValid}
+use Rattle.irq_laws.proofs.OwnLaws.{due_is_own_past}
+use Rattle.line_scripts.specs.Rows.{RowSeen, place_of, within_of}
+use Rattle.line_marks.specs.Scripts.{IsAt}
+use Rattle.line_marks.specs.State.{state_of}
+use Rattle.line_state.specs.Seen.{taker_of}
+use Rattle.line_words.specs.Node.{node, drivers_in}
+use Rattle.line_words.specs.Scripts.{AreScripts}
+use Rattle.line_space.proofs.Actors.{here, one_is, asked}
+use Rattle.line_space.specs.Stepping.{steps_of, led_to, all_steps, actors_by}
+use Rattle.state_search.specs.Paths.{AreSteps}
+
+module _ (def : LineDef) (g : List Entry) where
+  abbrev Leads : Entry × List ℕ → Type 0
+  Leads f = IsDue def f.0 g × (node def (f.0 ∷ g) ≡ f.1)
+
+  each_of : (a : Actor) (o : Option Entry) → next_past def g a ≡ o → All Leads (led_to def g o)
+  each_of a None due = All-from_recursion Leads [] tt
+  each_of a (Some e) due = All-from_recursion Leads ((e, node def (e ∷ g)) ∷ []) ((ap (next_past def g) (due_is_own_past def g a e due) ∙ due, refl), tt)
+
+  each_step : (xs : List Actor) → All Leads (all_steps def g xs)
+  each_step [] = All-from_recursion Leads [] tt
+  each_step (a ∷ xs) = All-append Leads (steps_of def g a) (all_steps def g xs) (each_of a (next_past def g a) refl) (each_step xs)
+
+  abbrev entries_in : List (Entry × List ℕ) → List Entry
+  entries_in fs = map (λ f. f.0) fs
+
+  entries_append : (xs ys : List (Entry × List ℕ)) → entries_in (xs ++ ys) ≡ entries_in xs ++ entries_in ys
+  entries_append [] ys = refl
+  entries_append (x ∷ xs) ys = ap (λ (l : List Entry). x.0 ∷ l) (entries_append xs ys)
+
+  has_step : (xs : List Actor) (a : Actor) (e : Entry) → Contains xs a → next_past def g a ≡ Some e → Contains (entries_in (all_steps def g xs)) e
+  has_step [] a e there due = absurd (let lt = there.1 in omega (arith, lt))
+  has_step (x ∷ xs) a e there due = by_place (Contains-append_cases (x ∷ []) xs a there) (λ k. has_step xs a e k due)
+    where
+      joined : Contains (entries_in (steps_of def g x) ++ entries_in (all_steps def g xs)) e → Contains (entries_in (all_steps def g (x ∷ xs))) e
+      joined h =
+          let P : List Entry → Type 0 = λ l. Contains l e in
+          subst P (sym (entries_append (steps_of def g x) (all_steps def g xs))) h
+
+      first_led : x ≡ a → Contains (entries_in (steps_of def g x)) e
+      first_led same =
+          let P : Option Entry → Type 0 = λ o. Contains (entries_in (led_to def g o)) e in
+          subst P (sym (ap (next_past def g) same ∙ due)) (here e [])
+
+      by_place : Contains (x ∷ []) a ⊎ Contains xs a → (Contains xs a → Contains (entries_in (all_steps def g xs)) e)
+          → Contains (entries_in (all_steps def g (x ∷ xs))) e
+      by_place (inl k) rest = joined (Contains-append_left (entries_in (steps_of def g x)) (entries_in (all_steps def g xs)) e (first_led (one_is x a k)))
+      by_place (inr k) rest = joined (Contains-append_right (entries_in (steps_of def g x)) (entries_in (all_steps def g xs)) e (rest k))
+
+  module _ (valid : IsValid def) (legal : IsLegalPast def g) (scripts : List (DriverNo × RowSeen)) (are : AreScripts def scripts)
+      (at_places : (r : DriverNo) → IsAt def g r (place_of scripts r) (within_of scripts r)) where
+    pub are_steps : AreSteps (IsDue def) (node def) g (all_steps def g (actors_by def (state_of def g).desc.flow (taker_of (state_of def g)) (drivers_in def.calls)))
+    are_steps = record {
+      each = each_step (actors_by def (state_of def g).desc.flow (taker_of (state_of def g)) (drivers_in def.calls));
+      all = λ e due. has_step (actors_by def (state_of def g).desc.flow (taker_of (state_of def g)) (drivers_in def.calls)) (actor_of def.line e) e
+          (asked def valid g legal scripts are at_places (actor_of def.line e) e due) due;
+    }

@@ -1,0 +1,114 @@
+//! The space.
+ghost use Rattle.std.specs.Prelude.{◌≡◌, IfOk};
+ghost use Rattle.irq_base.specs.declared.numbers.DriverNo.{DriverNo};
+ghost use Rattle.irq_model.specs.Legal.{IsDue};
+ghost use Rattle.irq_model.specs.Valid.{IsValid};
+ghost use Rattle.line_marks.specs.State.{first_state};
+ghost use Rattle.line_scripts.specs.Rows.{place_of, within_of};
+ghost use Rattle.line_words.specs.Node.{node};
+ghost use Rattle.line_words.specs.Scripts.{AreScripts};
+
+use crate::drivers::drivers_of;
+use crate::moving::{actors, add_all};
+use irq_base::{DriverNo, Entry, FlowKind, LineDef, NoMemory, Trigger};
+use line_cell::Cell;
+use line_scripts::Scripts;
+use line_state::LineState;
+use line_words::write;
+use state_search::{Found, Space};
+use std::alloc::Global;
+use std::marker::Model;
+
+/// The states of a line, over all its legal histories: the labels are the entries that are due.
+/// Contracts see the definition.
+#[derive(Drop)]
+pub struct LineSpace {
+    alloc: Global,
+    def: LineDef,
+    drivers: Vec<DriverNo>,
+}
+
+impl Model for LineSpace {
+    ghost use Rattle.irq_base.specs.declared.lines.LineDef.{LineDef};
+    ghost use Rattle.line_space.specs.Kept.{IsSpace};
+
+    ghost Value = { LineDef };
+
+    ghost view = { λ s. s.def };
+
+    ghost invariant = { IsSpace };
+}
+
+impl LineSpace {
+    /// The space of a line of that definition. The only error is `NoMemory`.
+    pub fn new(alloc: Global, def: &LineDef) -> Result<LineSpace, NoMemory>
+        requires { IsValid def.now }
+        ensures { IfOk result (λ space. space ≡ def.now) }
+    {
+        let drivers = drivers_of(alloc, &def.calls)?;
+        let def = def.try_clone(alloc)?;
+        Ok(LineSpace {
+            alloc,
+            def,
+            drivers,
+        })
+    }
+}
+
+/// The scripts of the definition's calls; none has begun. The only error is `NoMemory`.
+fn fresh_scripts(alloc: Global, def: &LineDef) -> Result<Scripts, NoMemory>
+    ensures scripts { IfOk result (λ s. AreScripts def.now s) }
+    ensures places { IfOk result (λ s. (r : DriverNo) → place_of s r ≡ 0) }
+    ensures withins { IfOk result (λ s. (r : DriverNo) → within_of s r ≡ 0) }
+{
+    Scripts::new(alloc, &def.calls)
+}
+
+/// A state of the line to which nothing has happened. The only error is `NoMemory`.
+fn fresh_state(alloc: Global, def: &LineDef) -> Result<LineState<Cell>, NoMemory>
+    requires { IsValid def.now }
+    ensures { IfOk result (λ s. s.state ≡ first_state def.now) }
+{
+    let serves = def.trigger == Trigger::Level && def.flow == FlowKind::Eoi;
+    let cell = Cell::new(
+        def.trigger,
+        def.keeps,
+        def.recalls,
+        def.retriggers,
+        serves,
+    );
+    LineState::new(alloc, def, cell)
+}
+
+impl Space<Entry> for LineSpace {
+    ghost can = { λ def. IsDue def };
+
+    ghost node = { λ def. node def };
+
+    fn first(&mut self, words: &mut Vec<u32>) -> Result<(), NoMemory> {
+        let scripts = fresh_scripts(self.alloc, &self.def)?;
+        let state = fresh_state(self.alloc, &self.def)?;
+        write(
+            &self.def,
+            self.drivers.as_slice(),
+            &state,
+            &scripts,
+            words,
+        )
+    }
+
+    fn steps(&mut self, words: &[u32], found: &mut Found<Entry>) -> Result<(), NoMemory> {
+        let mut scripts = fresh_scripts(self.alloc, &self.def)?;
+        let drivers = self.drivers.as_slice();
+        let actors = actors(self.alloc, &self.def, drivers, &mut scripts, words)?;
+        add_all(
+            self.alloc,
+            &self.def,
+            drivers,
+            &mut scripts,
+            words,
+            actors.as_slice(),
+            found,
+        )
+    }
+}
