@@ -2,3 +2,4 @@ pub mod Again
 pub mod Stepped
 pub mod Actors
 pub mod Lists
+pub mod Adding
