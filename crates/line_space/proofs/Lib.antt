@@ -3,3 +3,4 @@ pub mod Stepped
 pub mod Actors
 pub mod Lists
 pub mod Adding
+pub mod Firsts
