@@ -4,3 +4,4 @@ pub mod Actors
 pub mod Lists
 pub mod Adding
 pub mod Firsts
+pub mod Pushing
