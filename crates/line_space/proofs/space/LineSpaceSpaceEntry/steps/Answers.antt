@@ -1,0 +1,39 @@
+use Rattle.std.proofs.Common.{◌≡◌, List, ℕ, ap, sym, subst, ◌∙◌}
+use Rattle.irq_base.specs.declared.entries.Entry.{Entry}
+use Rattle.irq_base.specs.declared.lines.LineDef.{LineDef}
+use Rattle.irq_base.specs.declared.numbers.DriverNo.{DriverNo}
+use Rattle.irq_model.specs.Legal.{IsDue}
+use Rattle.line_marks.specs.State.{state_of}
+use Rattle.line_state.specs.Seen.{taker_of}
+use Rattle.line_words.proofs.Whole.{if_ok}
+use Rattle.line_words.specs.Node.{node}
+use Rattle.line_space.proofs.Firsts.{reached_is, steps_all}
+use Rattle.line_space.specs.Stepping.{actors_by}
+use Rattle.state_search.specs.Paths.{IsPath, AreSteps, IsReached as IsReachedBy}
+use Rattle.line_space.proofs.space.LineSpaceSpaceEntry.steps.Goals as goal
+
+pub actors-requires-clause-reached : goal.actors-requires-clause-reached
+actors-requires-clause-reached c =
+    let P : LineDef → Type 0 = λ d. IsReachedBy (IsDue d) (node d) 100000000 c.args.words.now in
+    reached_is c.self.inside.def c.args.words.now (subst P (sym c.self.view_is) c.requires.reached)
+
+pub add_all-requires-clause-reached : goal.add_all-requires-clause-reached
+add_all-requires-clause-reached c =
+    let P : LineDef → Type 0 = λ d. IsReachedBy (IsDue d) (node d) 100000000 c.args.words.now in
+    reached_is c.self.inside.def c.args.words.now (subst P (sym c.self.view_is) c.requires.reached)
+
+pub returns-clause-steps : goal.returns-clause-steps
+returns-clause-steps c =
+    let def = c.self.inside.def in
+    let ws = c.args.words.now in
+    let new = c.add_all.new.found in
+    let R : LineDef → Type 0 = λ d. IsReachedBy (IsDue d) (node d) 100000000 c.args.words.now in
+    let S : LineDef → Type 0 = λ d. (h : List Entry) → IsPath (IsDue d) h → node d h ≡ c.args.words.now → AreSteps (IsDue d) (node d) h c.add_all.new.found in
+    let drivers = c.as_slice-drivers.ensures.value ∙ c.self.invariant.drivers in
+    if_ok c.add_all.result (λ added. subst S c.self.view_is
+    (steps_all def c.self.invariant.valid ws (reached_is def ws (subst R (sym c.self.view_is) c.requires.reached))
+    c.in_ok-scripts.scripts c.in_ok-scripts.ensures.scripts c.args.found.now new c.as_slice.result.now c.requires.empty
+    (λ past legal same. c.as_slice.ensures.value ∙ (c.in_ok-actors.ensures.actors past legal same
+    ∙ ap (λ (rs : List DriverNo). actors_by def (state_of def past).desc.flow (taker_of (state_of def past)) rs) drivers))
+    added))
+    c.add_all.ensures
