@@ -29,7 +29,8 @@ ask 1
 ";
 
 /// Two vectors a processor: line 1 goes to processor 0 with processor 1, and both lines go to
-/// processor 1 with processor 0. The five placings are five calls.
+/// processor 1 with processor 0. The five placings are five calls: of lines 1, 2, 1, 1, 2, which
+/// go to processors 1, 0, 0, 1, 1.
 const EVENTS: [Event; 4] = [
     Event::Off(CpuNo(1)),
     Event::Off(CpuNo(0)),
@@ -59,14 +60,16 @@ const PRINTED: &[u8] = b"# irq 1 virq 1 intc:2
 2 d65535 affinity 2 now
 ";
 
-/// A notifier that counts how often it is called.
+/// A notifier that counts how often it is called, and adds up of which lines and processors: a call
+/// is 1, a line's number counts hundreds, a processor's ten thousands.
 fn counting(alloc: Global, calls: Arc<AtomicU64>) -> Result<BoxedNotifier, AllocError> {
     let notifying = Box::new(
         alloc,
-        move |_line: LineNo, cpu: CpuNo, queues: u32| -> u32
+        move |line: LineNo, cpu: CpuNo, queues: u32| -> u32
             ensures { 1 ≤ queues → result ≡ cpu.0 % queues }
         {
-            calls.fetch_add(1, Ordering::SeqCst);
+            let told = 1 + 100 * u64::from(line.0) + 10_000 * u64::from(cpu.0);
+            calls.fetch_add(told, Ordering::SeqCst);
             if queues == 0 { 0 } else { cpu.0 % queues }
         },
     )?;
@@ -97,6 +100,6 @@ fn each_placing_is_told_once(rt: HostRuntime) -> Result<(), Fail> {
     };
     assert!(rt; played.end == PlayedEnd::Done && played.reports.len() == 2);
     assert!(rt; out.written() == PRINTED);
-    assert_eq!(rt; calls.load(Ordering::SeqCst), 5);
+    assert_eq!(rt; calls.load(Ordering::SeqCst), 30_705);
     Ok(())
 }
