@@ -47,6 +47,7 @@ module _ (def : LineDef) where
                     (alike_after def valid g h legal other like e f.0)) ∙ f.1,
               );
           all = λ e due. steps.all e (due_alike def valid h g other legal back e due);
+          once = steps.once;
         }
 
   module _ (paths : List (List Entry)) (looked : ℕ) (cut : Option ℕ) (searches : Searches (IsDue def) (node def) paths looked cut) where

@@ -17,10 +17,11 @@ use Rattle.line_core.specs.Moves.{Moves, CanMove}
 use Rattle.line_state.specs.Entries.{entry_by, CanMake}
 use Rattle.line_state.specs.declared.due.DueStep.{DueStep}
 use Rattle.line_futures.specs.Canon.{canon}
-use Rattle.line_words.proofs.Past.{told_is}
+use Rattle.line_words.proofs.Past.{told_is, tables_of_canon}
 use Rattle.line_words.specs.Again.{unbitted}
 use Rattle.line_words.specs.Node.{node, drivers_in}
 use Rattle.line_words.specs.Scripts.{AreScripts}
+use Rattle.line_words.specs.Tables.{HasTables}
 use Rattle.line_words.specs.Told.{places_told, state_told}
 use Rattle.line_space.proofs.Again.{due_again, can_due, after_again}
 use Rattle.line_space.proofs.Stepped.{is_due, may_move, at_more, are_more, few_more}
@@ -75,3 +76,9 @@ module _ (def : LineDef) (valid : IsValid def) (g : List Entry) (legal : IsLegal
           → new ≡ found ++ steps_of def g a
       one_added found new ws pushed is_node =
           pushed ∙ (ap (λ (x : List ℕ). found ++ (e, x) ∷ []) is_node ∙ ap (λ (x : Option Entry). found ++ led_to def g x) (sym due_entry))
+
+      -- numbers can be read into the state after it
+      pub tables_after : (u : StateSeen) → u ≡ state_after def e t → HasTables def u
+      tables_after u next =
+          let due = is_due def valid g legal few scripts are at_places a e due_entry in
+          tables_of_canon def (e ∷ g) valid (due, legal) u (ap canon next ∙ after_again def valid g legal t again e due)

@@ -1,3 +1,4 @@
+pub mod Once
 pub mod Again
 pub mod Stepped
 pub mod Actors

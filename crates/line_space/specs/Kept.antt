@@ -2,9 +2,11 @@
 use Rattle.std.specs.Prelude.{◌≡◌}
 use Rattle.irq_model.specs.Valid.{IsValid}
 use Rattle.line_words.specs.Node.{drivers_in}
+use Rattle.line_space.specs.Reading.{IsKept}
 use Rattle.line_space.specs.declared.space.LineSpace.TheInside.{Inside}
 
--- the definition is valid, and the drivers are those of its calls
+-- the definition is valid, the drivers are those of its calls, and states of the line can be read
 pub record IsSpace (s : Inside) : Type 0 where
   pub valid : IsValid s.def
   pub drivers : s.drivers.items ≡ drivers_in s.def.calls
+  pub scratch : IsKept s.def s.scratch

@@ -21,7 +21,7 @@ fn is_there(drivers: &[DriverNo], driver: DriverNo) -> bool
 
 /// The drivers of the calls, each once, in the order of their last calls. The only error is
 /// `NoMemory`.
-pub(crate) fn drivers_of(alloc: Global, calls: &CallList) -> Result<Vec<DriverNo>, NoMemory>
+pub fn drivers_of(alloc: Global, calls: &CallList) -> Result<Vec<DriverNo>, NoMemory>
     ensures { IfOk result (λ drivers. drivers.items ≡ drivers_in calls.now) }
 {
     let mut drivers = Vec::new(alloc);

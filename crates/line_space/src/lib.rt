@@ -3,6 +3,8 @@
 
 mod drivers;
 mod moving;
+mod scratch;
 pub mod space;
 
+pub use drivers::drivers_of;
 pub use space::LineSpace;

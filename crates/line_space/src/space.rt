@@ -3,18 +3,16 @@ ghost use Rattle.std.specs.Prelude.{◌≡◌, IfOk};
 ghost use Rattle.irq_base.specs.declared.numbers.DriverNo.{DriverNo};
 ghost use Rattle.irq_model.specs.Legal.{IsDue};
 ghost use Rattle.irq_model.specs.Valid.{IsValid};
-ghost use Rattle.line_marks.specs.State.{first_state};
 ghost use Rattle.line_scripts.specs.Rows.{place_of, within_of};
 ghost use Rattle.line_words.specs.Node.{node};
 ghost use Rattle.line_words.specs.Scripts.{AreScripts};
 
 use crate::drivers::drivers_of;
-use crate::moving::{actors, add_all};
-use irq_base::{DriverNo, Entry, FlowKind, LineDef, NoMemory, Trigger};
-use line_cell::Cell;
+use crate::moving::{add_all, push_actors};
+use crate::scratch::Scratch;
+use irq_base::{Actor, DriverNo, Entry, LineDef, NoMemory};
 use line_scripts::Scripts;
-use line_state::LineState;
-use line_words::write;
+use line_words::{fresh, write};
 use state_search::{Found, Space};
 use std::alloc::Global;
 use std::marker::Model;
@@ -26,6 +24,8 @@ pub struct LineSpace {
     alloc: Global,
     def: LineDef,
     drivers: Vec<DriverNo>,
+    scratch: Scratch,
+    actors: Vec<Actor>,
 }
 
 impl Model for LineSpace {
@@ -46,11 +46,14 @@ impl LineSpace {
         ensures { IfOk result (λ space. space ≡ def.now) }
     {
         let drivers = drivers_of(alloc, &def.calls)?;
+        let scratch = Scratch::new(alloc, def)?;
         let def = def.try_clone(alloc)?;
         Ok(LineSpace {
             alloc,
             def,
             drivers,
+            scratch,
+            actors: Vec::new(alloc),
         })
     }
 }
@@ -64,16 +67,6 @@ fn fresh_scripts(alloc: Global, def: &LineDef) -> Result<Scripts, NoMemory>
     Scripts::new(alloc, &def.calls)
 }
 
-/// A state of the line to which nothing has happened. The only error is `NoMemory`.
-fn fresh_state(alloc: Global, def: &LineDef) -> Result<LineState<Cell>, NoMemory>
-    requires { IsValid def.now }
-    ensures { IfOk result (λ s. s.state ≡ first_state def.now) }
-{
-    let serves = def.trigger == Trigger::Level && def.flow == FlowKind::Eoi;
-    let cell = Cell::new(def.trigger, def.keeps, def.recalls, def.retriggers, serves);
-    LineState::new(alloc, def, cell)
-}
-
 impl Space<Entry> for LineSpace {
     ghost can = { λ def. IsDue def };
 
@@ -81,21 +74,21 @@ impl Space<Entry> for LineSpace {
 
     fn first(&mut self, words: &mut Vec<u32>) -> Result<(), NoMemory> {
         let scripts = fresh_scripts(self.alloc, &self.def)?;
-        let state = fresh_state(self.alloc, &self.def)?;
+        let state = fresh(self.alloc, &self.def)?;
         write(&self.def, self.drivers.as_slice(), &state, &scripts, words)
     }
 
     fn steps(&mut self, words: &[u32], found: &mut Found<Entry>) -> Result<(), NoMemory> {
-        let mut scripts = fresh_scripts(self.alloc, &self.def)?;
         let drivers = self.drivers.as_slice();
-        let actors = actors(self.alloc, &self.def, drivers, &mut scripts, words)?;
+        self.scratch.read(&self.def, drivers, words)?;
+        self.actors.clear();
+        push_actors(&mut self.actors, &self.def, drivers, &self.scratch.state)?;
         add_all(
-            self.alloc,
+            &mut self.scratch,
             &self.def,
             drivers,
-            &mut scripts,
             words,
-            actors.as_slice(),
+            self.actors.as_slice(),
             found,
         )
     }

@@ -17,6 +17,7 @@ use Rattle.irq_laws.specs.LogLimit.{with_log}
 use Rattle.device_table.specs.Rows.{at, table_by}
 use Rattle.act_list.specs.Lists.{cleared, flags_of}
 use Rattle.act_thread.specs.Steps.{idle_row}
+use Rattle.act_thread.specs.declared.rows.ThreadRow.{ThreadRow}
 use Rattle.affinity.specs.Kept.{HasProcessor}
 use Rattle.ask_counts.specs.Rows.{no_asks}
 use Rattle.ask_counts.specs.declared.rows.AskRow.{AskRow}
@@ -35,13 +36,14 @@ use Rattle.line_futures.specs.Canon.{canon, canon_asks, canon_row, is_working, i
 use Rattle.line_futures.specs.Places.{place_by, within_by, count_in}
 use Rattle.line_words.proofs.Links.{all_go, can_link, has_processor}
 use Rattle.line_words.proofs.Placing.{all_at, behind_places, scripts_all}
-use Rattle.line_words.proofs.Putting.{mask_is}
-use Rattle.line_words.proofs.Shaped.{IsShaped, read_is, linked_there, places_there}
+use Rattle.line_words.proofs.Putting.{mask_is, rows_by, rows_of_cleared, rows_of_canon}
+use Rattle.line_words.proofs.Shaped.{IsShaped, read_is, tables_read, tables_shaped, linked_there, places_there}
 use Rattle.line_words.proofs.Tables.{table_told}
 use Rattle.line_words.specs.Again.{unbitted, Fits, CanLinkAll}
 use Rattle.line_words.specs.Node.{drivers_in, places_words, node}
 use Rattle.line_words.specs.Reading.{mask_at, with_fixed, with_rows, with_linked, linked_in, linked_from, places_from, go_all}
 use Rattle.line_words.specs.Scripts.{AreScripts}
+use Rattle.line_words.specs.Tables.{HasRows, HasTables, AreSameTables, bare}
 use Rattle.line_words.specs.Told.{rows_words, begun_told, thread_told, ask_told, places_told, state_told}
 use Rattle.line_words.specs.Words.{begun_words, thread_words, ask_words, table_words, desc_words, round_words, freeing_words, linked_words}
 
@@ -127,20 +129,47 @@ module _ (def : LineDef) (past : List Entry) where
     abbrev places : List ℕ → List ℕ
     places rest = places_words def past (drivers_in def.calls) rest
 
-    again_here : unbitted (with_linked (linked_from def (drivers_in def.calls) (node def past))
-        (with_rows def (node def past) (with_fixed def (node def past) (first_state def)))) ≡ canon (state_of def past)
-    again_here = read_is def valid (drivers_in def.calls) begun_of (thread_of past) asks_of_dev (flags_of (actions_of past))
-        (canon (state_of def past)) shaped (places_words def past (drivers_in def.calls)) (behind_places def past (drivers_in def.calls))
+    module _ (b : StateSeen) (tables : HasTables def b) where
+      again_here : unbitted (with_linked (linked_from def (drivers_in def.calls) (node def past))
+          (with_rows def (node def past) (with_fixed def (node def past) (bare b)))) ≡ canon (state_of def past)
+      again_here = read_is def valid (drivers_in def.calls) begun_of (thread_of past) asks_of_dev (flags_of (actions_of past))
+          (canon (state_of def past)) shaped (places_words def past (drivers_in def.calls)) (behind_places def past (drivers_in def.calls)) b tables
 
-    pub read_again : (ds : List DriverNo) (ws : List ℕ) → ds ≡ drivers_in def.calls → ws ≡ node def past
-        → unbitted (with_linked (linked_from def ds ws) (with_rows def ws (with_fixed def ws (first_state def)))) ≡ canon (state_of def past)
-    read_again ds ws d w =
-        let P : List DriverNo → Type 0 = λ x. unbitted
-        (with_linked (linked_from def x ws) (with_rows def ws (with_fixed def ws (first_state def))))
-        ≡ canon (state_of def past) in
-        let Q : List ℕ → Type 0 = λ x. unbitted (with_linked (linked_from def (drivers_in def.calls) x)
-        (with_rows def x (with_fixed def x (first_state def)))) ≡ canon (state_of def past) in
-        subst P (sym d) (subst Q (sym w) again_here)
+      pub read_again : (ds : List DriverNo) (ws : List ℕ) → ds ≡ drivers_in def.calls → ws ≡ node def past
+          → unbitted (with_linked (linked_from def ds ws) (with_rows def ws (with_fixed def ws (bare b)))) ≡ canon (state_of def past)
+      read_again ds ws d w =
+          let P : List DriverNo → Type 0 = λ x. unbitted
+          (with_linked (linked_from def x ws) (with_rows def ws (with_fixed def ws (bare b))))
+          ≡ canon (state_of def past) in
+          let Q : List ℕ → Type 0 = λ x. unbitted (with_linked (linked_from def (drivers_in def.calls) x)
+          (with_rows def x (with_fixed def x (bare b)))) ≡ canon (state_of def past) in
+          subst P (sym d) (subst Q (sym w) again_here)
+
+      tables_here : HasTables def (with_rows def (node def past) (with_fixed def (node def past) (bare b)))
+      tables_here = tables_read def valid (drivers_in def.calls) begun_of (thread_of past) asks_of_dev (flags_of (actions_of past))
+          (canon (state_of def past)) shaped (places_words def past (drivers_in def.calls)) (behind_places def past (drivers_in def.calls)) b tables
+
+      pub tables_again : (ws : List ℕ) → ws ≡ node def past → HasTables def (with_rows def ws (with_fixed def ws (bare b)))
+      tables_again ws w =
+          let Q : List ℕ → Type 0 = λ x. HasTables def (with_rows def x (with_fixed def x (bare b))) in
+          subst Q (sym w) tables_here
+
+    -- a state that has the canonical state of this past has the tables of the line
+    pub tables_of_canon : (s : StateSeen) → canon s ≡ canon (state_of def past) → HasTables def s
+    tables_of_canon s same =
+        let P : StateSeen → Type 0 = λ x. HasTables def x in
+        let t : HasTables def (canon s) = subst P (sym same)
+        (tables_shaped def begun_of (thread_of past) asks_of_dev (flags_of (actions_of past)) (canon (state_of def past)) shaped) in
+        record {
+          kinds = t.kinds;
+          begun = begun_rows (is_some s.desc.flow) t.begun;
+          threads = t.threads;
+          asks = rows_of_canon (serves_at s) (is_working s.round.working) (is_thread_working s.threads) def.devices s.asks t.asks;
+        }
+      where
+        begun_rows : (flow : Bool) → HasRows def.devices (cond flow s.list.begun (cleared s.list.begun)) → HasRows def.devices s.list.begun
+        begun_rows true rows = rows
+        begun_rows false rows = rows_of_cleared def.devices s.list.begun rows
 
     -- ---- places
 
@@ -243,3 +272,23 @@ pub told_is : (def : LineDef) (past : List Entry) (scripts : List (DriverNo × R
     → ((r : DriverNo) → IsAt def past r (place_of scripts r) (within_of scripts r))
     → state_told def (canon (state_of def past)) (places_told scripts (drivers_in def.calls)) ≡ node def past
 told_is def past scripts valid legal are at = told_here def past valid legal scripts are at
+
+-- a state to which nothing has happened has the tables of the line
+pub first_tables : (def : LineDef) (s : StateSeen) → s ≡ first_state def → HasTables def s
+first_tables def s is =
+    let P : StateSeen → Type 0 = λ x. HasTables def x in
+    subst P (sym is) (record {
+      kinds = refl;
+      begun = rows_by (λ _. false) def.devices;
+      threads = rows_by (λ _. idle_row) def.devices;
+      asks = rows_by (λ _. no_asks) def.devices;
+    })
+
+-- the same tables
+pub tables_same : (def : LineDef) (s t : StateSeen) → AreSameTables s t → HasTables def s → HasTables def t
+tables_same def s t same tables = record {
+  kinds = same.kinds ∙ tables.kinds;
+  begun = let P : List (DevNo × Bool) → Type 0 = λ x. HasRows def.devices x in subst P (sym same.begun) tables.begun;
+  threads = let P : List (DevNo × ThreadRow) → Type 0 = λ x. HasRows def.devices x in subst P (sym same.threads) tables.threads;
+  asks = let P : List (DevNo × AskRow) → Type 0 = λ x. HasRows def.devices x in subst P (sym same.asks) tables.asks;
+}

@@ -1,6 +1,6 @@
 -- Rows that are put by the numbers of a table make that table.
 use Rattle.std.proofs.Common.{◌≡◌, ℕ, suc, ◌+◌, ◌*◌, ◌==◌, Bool, true, false, ◌||◌, cond, is_some, Option, Some, None, List, []}
-use Rattle.std.proofs.Common.{◌∷◌, drop, length, refl, sym, ap, ◌∙◌, arith}
+use Rattle.std.proofs.Common.{◌∷◌, drop, length, refl, sym, ap, subst, ◌∙◌, arith}
 use Rattle.std.proofs.lemmas.List.{drop-drop}
 use Rattle.std.specs.List.{list_any}
 use Rattle.irq_base.specs.declared.calls.Flags.{Flags}
@@ -14,12 +14,15 @@ use Rattle.irq_model.specs.Valid.{HasDistinctDevices}
 use Rattle.irq_steps.proofs.Same.{same_self, same_both}
 use Rattle.device_table.specs.Rows.{at, change, changed, table_by}
 use Rattle.device_table.specs.Sums.{one_if}
+use Rattle.act_list.specs.Lists.{cleared}
 use Rattle.act_thread.specs.declared.rows.Stage.{Stage}
 use Rattle.act_thread.specs.declared.rows.Stage.TheVariants as stages
 use Rattle.act_thread.specs.declared.rows.ThreadRow.{ThreadRow}
 use Rattle.ask_counts.specs.declared.rows.AskRow.{AskRow}
 use Rattle.line_marks.specs.Aim.{number_of}
+use Rattle.line_futures.specs.Canon.{canon_asks}
 use Rattle.line_words.specs.Reading.{stage_in, thread_in, ask_in, put_rows, mark_if, mark_rows, linked_in, bit_at}
+use Rattle.line_words.specs.Tables.{HasRows}
 use Rattle.line_words.specs.Words.{stage_word, thread_words, ask_words, begun_words, table_words, linked_words, dev_number, mask_number}
 use Rattle.line_words.specs.Words.{freer_number, freed_number}
 
@@ -112,18 +115,51 @@ module _ {R : Type 0} where
             ∙ rest n
 
     module _ (words : R → List ℕ → List ℕ) (wide : (r : R) (rest : List ℕ) → drop width (words r rest) ≡ rest)
-        (reads : (r : R) (rest : List ℕ) → row (words r rest) ≡ r) (f g : DevNo → R) where
-      pub put_is : (xs : List DeviceDef) (rest : List ℕ) → HasDistinctDevices xs
-          → put_rows row width xs (table_words words (table_by f xs) rest) (table_by g xs) ≡ table_by f xs
-      put_is [] rest own = refl
-      put_is (x ∷ xs) rest own =
+        (reads : (r : R) (rest : List ℕ) → row (words r rest) ≡ r) (f : DevNo → R) where
+      pub put_is : (xs : List DeviceDef) (rest : List ℕ) (t : List (DevNo × R)) → HasDistinctDevices xs → HasRows xs t
+          → put_rows row width xs (table_words words (table_by f xs) rest) t ≡ table_by f xs
+      put_is [] rest [] own rows = refl
+      put_is [] rest (e ∷ es) own rows = absurd rows
+      put_is (x ∷ xs) rest [] own rows = absurd rows
+      put_is (x ∷ xs) rest (e ∷ es) own rows =
           let left = table_words words (table_by f xs) rest in
-          ap (λ (u : List (DevNo × R)). put_rows row width xs (drop width (words (f x.dev) left)) u)
-          (change_first (λ _. row (words (f x.dev) left)) x.dev (g x.dev) (table_by g xs))
-          ∙ (ap (λ (m : List ℕ). put_rows row width xs m ((x.dev, row (words (f x.dev) left)) ∷ table_by g xs)) (wide (f x.dev) left)
-          ∙ (ap (λ (r : R). put_rows row width xs left ((x.dev, r) ∷ table_by g xs)) (reads (f x.dev) left)
-          ∙ (put_behind xs left x.dev (f x.dev) (table_by g xs) own.0
-          ∙ ap (λ (t : List (DevNo × R)). (x.dev, f x.dev) ∷ t) (put_is xs rest own.1))))
+          ap (λ (d : DevNo). put_rows row width (x ∷ xs) (words (f x.dev) left) ((d, e.1) ∷ es)) rows.0
+          ∙ (ap (λ (u : List (DevNo × R)). put_rows row width xs (drop width (words (f x.dev) left)) u)
+          (change_first (λ _. row (words (f x.dev) left)) x.dev e.1 es)
+          ∙ (ap (λ (m : List ℕ). put_rows row width xs m ((x.dev, row (words (f x.dev) left)) ∷ es)) (wide (f x.dev) left)
+          ∙ (ap (λ (r : R). put_rows row width xs left ((x.dev, r) ∷ es)) (reads (f x.dev) left)
+          ∙ (put_behind xs left x.dev (f x.dev) es own.0
+          ∙ ap (λ (t : List (DevNo × R)). (x.dev, f x.dev) ∷ t) (put_is xs rest es own.1 rows.1)))))
+
+  -- ---- the rows of each device
+
+  pub rows_by : (f : DevNo → R) (xs : List DeviceDef) → HasRows xs (table_by f xs)
+  rows_by f [] = tt
+  rows_by f (x ∷ xs) = (refl, rows_by f xs)
+
+  pub rows_are : (f : DevNo → R) (xs : List DeviceDef) (t : List (DevNo × R)) → t ≡ table_by f xs → HasRows xs t
+  rows_are f xs t is = let P : List (DevNo × R) → Type 0 = λ u. HasRows xs u in subst P (sym is) (rows_by f xs)
+
+pub cleared_is : (xs : List DeviceDef) (t : List (DevNo × Bool)) → HasRows xs t → cleared t ≡ table_by (λ _. false) xs
+cleared_is [] [] rows = refl
+cleared_is [] (e ∷ es) rows = absurd rows
+cleared_is (x ∷ xs) [] rows = absurd rows
+cleared_is (x ∷ xs) (e ∷ es) rows =
+    ap (λ (d : DevNo). (d, false) ∷ cleared es) rows.0 ∙ ap (λ (u : List (DevNo × Bool)). (x.dev, false) ∷ u) (cleared_is xs es rows.1)
+
+-- canonical tables have the same rows
+
+pub rows_of_cleared : (xs : List DeviceDef) (t : List (DevNo × Bool)) → HasRows xs (cleared t) → HasRows xs t
+rows_of_cleared [] [] rows = tt
+rows_of_cleared [] (e ∷ es) rows = absurd rows
+rows_of_cleared (x ∷ xs) [] rows = absurd rows
+rows_of_cleared (x ∷ xs) (e ∷ es) rows = (rows.0, rows_of_cleared xs es rows.1)
+
+pub rows_of_canon : (v h t : DevNo → Bool) (xs : List DeviceDef) (a : List (DevNo × AskRow)) → HasRows xs (canon_asks v h t a) → HasRows xs a
+rows_of_canon v h t [] [] rows = tt
+rows_of_canon v h t [] (e ∷ es) rows = absurd rows
+rows_of_canon v h t (x ∷ xs) [] rows = absurd rows
+rows_of_canon v h t (x ∷ xs) (e ∷ es) rows = (rows.0, rows_of_canon v h t xs es rows.1)
 
 -- ---- marks
 

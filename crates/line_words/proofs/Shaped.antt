@@ -11,23 +11,23 @@ use Rattle.irq_model.specs.Valid.{IsValid}
 use Rattle.irq_laws.specs.Driven.{cell_with}
 use Rattle.device_table.specs.Rows.{table_by}
 use Rattle.device_table.specs.Sums.{one_if}
-use Rattle.act_list.specs.Lists.{ListSeen, flags_of, action_by}
+use Rattle.act_list.specs.Lists.{ListSeen, cleared, flags_of, action_by}
 use Rattle.act_list.specs.declared.actions.Action.{Action}
-use Rattle.act_thread.specs.Steps.{idle_row}
 use Rattle.act_thread.specs.declared.rows.ThreadRow.{ThreadRow}
 use Rattle.affinity.specs.Seen.{AimSeen}
-use Rattle.ask_counts.specs.Rows.{no_asks}
 use Rattle.ask_counts.specs.declared.rows.AskRow.{AskRow}
 use Rattle.desc_state.specs.Desc.{DescSeen}
 use Rattle.spurious.specs.Seen.{CountsSeen}
 use Rattle.line_marks.specs.Kinds.{kinds_of}
 use Rattle.line_marks.specs.Rounds.{RoundSeen}
-use Rattle.line_marks.specs.State.{StateSeen, first_state}
+use Rattle.line_marks.specs.State.{StateSeen}
 use Rattle.line_futures.specs.Canon.{without_bits}
-use Rattle.line_words.proofs.Putting.{bit_is, cpu_is, dev_is, mask_is, freeing_is, thread_is, ask_is, linked_is, behind_table, put_is, marks_are}
+use Rattle.line_words.proofs.Putting.{bit_is, cpu_is, dev_is, mask_is, freeing_is, thread_is, ask_is, linked_is}
+use Rattle.line_words.proofs.Putting.{behind_table, put_is, marks_are, rows_are, cleared_is}
 use Rattle.line_words.specs.Again.{unbitted}
 use Rattle.line_words.specs.Reading.{with_fixed, with_rows, with_linked, linked_from, linked_in, link_all, marks_from, threads_from, asks_from, places_from}
 use Rattle.line_words.specs.Reading.{desc_in, cell_in, aim_in, round_in, counts_in, mark_rows, put_rows, thread_in, ask_in}
+use Rattle.line_words.specs.Tables.{HasTables, bare}
 use Rattle.line_words.specs.Words.{state_words, table_words, begun_words, thread_words, ask_words, linked_words}
 
 -- the state is a canonical one of the line: these are its tables, and these devices are linked
@@ -170,9 +170,6 @@ module _ (def : LineDef) (valid : IsValid def) (rs : List DriverNo) (f : DevNo �
       flags_bare [] = refl
       flags_bare (e ∷ es) = ap (λ (l : List (DevNo × Flags)). e ∷ l) (flags_bare es)
 
-  abbrev pub read_state : StateSeen
-  read_state = with_linked (linked_from def rs ws) (with_rows def ws (with_fixed def ws (first_state def)))
-
   desc_is : desc_in def ws ≡ s.desc
   desc_is = desc_by (desc_in def ws) s.desc (sym shaped.unlazy) refl (bit_is s.desc.started) (bit_is s.desc.masked) (bit_is s.desc.pending)
       (bit_is s.desc.oneshot) (bit_is s.desc.spurious) (bit_is s.desc.soft) (cpu_is s.desc.flow)
@@ -199,28 +196,52 @@ module _ (def : LineDef) (valid : IsValid def) (rs : List DriverNo) (f : DevNo �
   counts_are = counts_by (record { window = def.window; limit = def.limit; counts = counts_in ws }) s.counts (sym shaped.window) (sym shaped.limit)
       (tally_by (counts_in ws) s.counts.counts refl refl refl (bit_is s.counts.counts.deferred) (sym shaped.last) refl)
 
-  begun_is : mark_rows def.devices (marks_from ws) (table_by (λ _. false) def.devices) ≡ s.list.begun
-  begun_is = ap (λ (m : List ℕ). mark_rows def.devices m (table_by (λ _. false) def.devices)) marks_there
-      ∙ (marks_are f def.devices threads_words valid.distinct ∙ sym shaped.begun)
-
-  threads_are : put_rows thread_in 3 def.devices (threads_from def ws) (table_by (λ _. idle_row) def.devices) ≡ s.threads
-  threads_are = ap (λ (m : List ℕ). put_rows thread_in 3 def.devices m (table_by (λ _. idle_row) def.devices)) threads_there
-      ∙ (put_is thread_in 3 thread_words (λ r rest. refl) thread_is g (λ _. idle_row) def.devices asks_words valid.distinct ∙ sym shaped.threads)
-
-  asks_are : put_rows ask_in 4 def.devices (asks_from def ws) (table_by (λ _. no_asks) def.devices) ≡ s.asks
-  asks_are = ap (λ (m : List ℕ). put_rows ask_in 4 def.devices m (table_by (λ _. no_asks) def.devices)) asks_there
-      ∙ (put_is ask_in 4 ask_words (λ r rest. refl) ask_is h (λ _. no_asks) def.devices (places linked) valid.distinct ∙ sym shaped.asks)
-
   actions_are : without_bits (flags_of (link_all (linked_in (linked_from def rs ws)) [])) ≡ s.list.actions
   actions_are = ap (λ (l : List (DevNo × Flags)). without_bits (flags_of (link_all l []))) linked_there
       ∙ (ap without_bits (flags_linked fl []) ∙ sym shaped.actions)
 
-  pub read_is : unbitted (with_linked (linked_from def rs ws) (with_rows def ws (with_fixed def ws (first_state def)))) ≡ s
-  read_is = state_by (unbitted (with_linked (linked_from def rs ws) (with_rows def ws (with_fixed def ws (first_state def))))) s
-      desc_is cell_is (sym shaped.active) (sym shaped.aimed) aim_is
-      (list_by (record {
-        actions = without_bits (flags_of (link_all (linked_in (linked_from def rs ws)) []));
-        begun = mark_rows def.devices (marks_from ws) (table_by (λ _. false) def.devices);
-        rounds = 0;
-      }) s.list actions_are begun_is (sym shaped.rounds))
-      threads_are asks_are (sym shaped.kinds) round_is counts_are (freeing_is s.freeing)
+  -- read into any state with the tables of the line
+  module _ (b : StateSeen) (tables : HasTables def b) where
+    begun_is : mark_rows def.devices (marks_from ws) (cleared b.list.begun) ≡ s.list.begun
+    begun_is = ap (λ (m : List ℕ). mark_rows def.devices m (cleared b.list.begun)) marks_there
+        ∙ (ap (λ (t : List (DevNo × Bool)). mark_rows def.devices (table_words begun_words (table_by f def.devices) threads_words) t)
+        (cleared_is def.devices b.list.begun tables.begun)
+        ∙ (marks_are f def.devices threads_words valid.distinct ∙ sym shaped.begun))
+
+    threads_are : put_rows thread_in 3 def.devices (threads_from def ws) b.threads ≡ s.threads
+    threads_are = ap (λ (m : List ℕ). put_rows thread_in 3 def.devices m b.threads) threads_there
+        ∙ (put_is thread_in 3 thread_words (λ r rest. refl) thread_is g def.devices asks_words b.threads valid.distinct tables.threads
+        ∙ sym shaped.threads)
+
+    asks_are : put_rows ask_in 4 def.devices (asks_from def ws) b.asks ≡ s.asks
+    asks_are = ap (λ (m : List ℕ). put_rows ask_in 4 def.devices m b.asks) asks_there
+        ∙ (put_is ask_in 4 ask_words (λ r rest. refl) ask_is h def.devices (places linked) b.asks valid.distinct tables.asks
+        ∙ sym shaped.asks)
+
+    pub tables_read : HasTables def (with_rows def ws (with_fixed def ws (bare b)))
+    tables_read = record {
+      kinds = tables.kinds;
+      begun = rows_are f def.devices (mark_rows def.devices (marks_from ws) (cleared b.list.begun)) (begun_is ∙ shaped.begun);
+      threads = rows_are g def.devices (put_rows thread_in 3 def.devices (threads_from def ws) b.threads) (threads_are ∙ shaped.threads);
+      asks = rows_are h def.devices (put_rows ask_in 4 def.devices (asks_from def ws) b.asks) (asks_are ∙ shaped.asks);
+    }
+
+    pub read_is : unbitted (with_linked (linked_from def rs ws) (with_rows def ws (with_fixed def ws (bare b)))) ≡ s
+    read_is = state_by (unbitted (with_linked (linked_from def rs ws) (with_rows def ws (with_fixed def ws (bare b))))) s
+        desc_is cell_is (sym shaped.active) (sym shaped.aimed) aim_is
+        (list_by (record {
+          actions = without_bits (flags_of (link_all (linked_in (linked_from def rs ws)) []));
+          begun = mark_rows def.devices (marks_from ws) (cleared b.list.begun);
+          rounds = 0;
+        }) s.list actions_are begun_is (sym shaped.rounds))
+        threads_are asks_are (tables.kinds ∙ sym shaped.kinds) round_is counts_are (freeing_is s.freeing)
+
+-- a state with a shape has the tables of the line
+pub tables_shaped : (def : LineDef) (f : DevNo → Bool) (g : DevNo → ThreadRow) (h : DevNo → AskRow) (fl : List (DevNo × Flags)) (s : StateSeen)
+    → IsShaped def f g h fl s → HasTables def s
+tables_shaped def f g h fl s shaped = record {
+  kinds = shaped.kinds;
+  begun = rows_are f def.devices s.list.begun shaped.begun;
+  threads = rows_are g def.devices s.threads shaped.threads;
+  asks = rows_are h def.devices s.asks shaped.asks;
+}

@@ -4,3 +4,4 @@ pub mod Node
 pub mod Reading
 pub mod Again
 pub mod Scripts
+pub mod Tables

@@ -3,7 +3,7 @@
 //! numbers.
 //!
 //! `write` writes the numbers of a state and of the drivers' places, and `read` makes the state of
-//! them again and takes the drivers to their places.
+//! them again and takes the drivers to their places; `read_into` reads into a state that is there.
 #![tactic(auto)]
 
 pub mod laws;
@@ -16,5 +16,5 @@ mod telling;
 mod words;
 mod writing;
 
-pub use reading::read;
+pub use reading::{fresh, read, read_into};
 pub use writing::write;

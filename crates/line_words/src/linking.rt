@@ -3,6 +3,7 @@ ghost use Rattle.std.specs.Prelude.{◌≡◌, ◌++◌, OnOk};
 ghost use Rattle.act_list.specs.Lists.{flags_of};
 ghost use Rattle.line_words.specs.Again.{CanLinkAll};
 ghost use Rattle.line_words.specs.Reading.{linked_in, flags_in, with_linked};
+ghost use Rattle.line_words.specs.Tables.{AreSameTables};
 ghost use Rattle.line_words.specs.Words.{linked_words};
 
 use crate::words::flag;
@@ -24,7 +25,8 @@ fn flags(shared: u32, oneshot: u32, noauto: u32) -> Flags
 /// Links the devices, one after another. The only error is `NoMemory`.
 pub(crate) fn link(state: &mut LineState<Cell>, words: &[u32]) -> Result<(), NoMemory>
     requires { CanLinkAll (linked_in words.now) state.old.state.list.actions }
-    ensures { OnOk result (state.new.state ≡ with_linked words.now state.old.state) }
+    ensures linked { OnOk result (state.new.state ≡ with_linked words.now state.old.state) }
+    ensures tables { AreSameTables state.old.state state.new.state }
 {
     let mut left = words;
     while let [dev, shared, oneshot, noauto, rest @ ..] = left {

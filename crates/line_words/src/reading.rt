@@ -13,6 +13,7 @@ ghost use Rattle.line_words.specs.Node.{node, drivers_in};
 ghost use Rattle.line_words.specs.Reading.{with_fixed, with_rows, with_linked, go_all, linked_from};
 ghost use Rattle.line_words.specs.Reading.{places_from};
 ghost use Rattle.line_words.specs.Scripts.{AreScripts};
+ghost use Rattle.line_words.specs.Tables.{HasTables, AreSameTables, bare};
 
 use crate::linking::link;
 use crate::parts::put_parts;
@@ -27,9 +28,10 @@ use std::alloc::Global;
 
 /// A state of a line of that definition to which nothing has happened. The only error is
 /// `NoMemory`.
-fn fresh(alloc: Global, def: &LineDef) -> Result<LineState<Cell>, NoMemory>
+pub fn fresh(alloc: Global, def: &LineDef) -> Result<LineState<Cell>, NoMemory>
     requires { IsValid def.now }
-    ensures { IfOk result (λ s. s.state ≡ first_state def.now) }
+    ensures first { IfOk result (λ s. s.state ≡ first_state def.now) }
+    ensures tables { IfOk result (λ s. HasTables def.now s.state) }
 {
     let cell = Cell::new(
         def.trigger,
@@ -41,34 +43,64 @@ fn fresh(alloc: Global, def: &LineDef) -> Result<LineState<Cell>, NoMemory>
     LineState::new(alloc, def, cell)
 }
 
-/// The state as it is read off the numbers, whatever history they are of.
-fn made(
-    alloc: Global,
+/// Puts all that is read off the numbers, whatever history they are of. The only error is
+/// `NoMemory`.
+fn put_all(
+    state: &mut LineState<Cell>,
     def: &LineDef,
     drivers: &[DriverNo],
     scripts: &mut Scripts,
     words: &[u32],
-) -> Result<LineState<Cell>, NoMemory>
+) -> Result<(), NoMemory>
     requires valid { IsValid def.now }
     requires fits { Fits def.now drivers.now words.now }
-    ensures state { IfOk result (λ s. s.state
+    ensures state { OnOk result (state.new.state
         ≡ with_linked (linked_from def.now drivers.now words.now)
-        (with_rows def.now words.now (with_fixed def.now words.now (first_state def.now)))) }
-    ensures scripts { OnOk result
-        (scripts.new ≡ go_all drivers.now (places_from def.now words.now) scripts.old) }
+        (with_rows def.now words.now (with_fixed def.now words.now (bare state.old.state)))) }
+    ensures tables { AreSameTables
+        (with_rows def.now words.now (with_fixed def.now words.now (bare state.old.state)))
+        state.new.state }
+    ensures scripts { scripts.new ≡ go_all drivers.now (places_from def.now words.now) scripts.old }
 {
-    let mut state = fresh(alloc, def)?;
-    put_parts(&mut state, def, words);
-    let places = put_tables(&mut state, def, words);
+    state.clear_actions();
+    put_parts(state, def, words);
+    let places = put_tables(state, def, words);
     let linked = go_all(scripts, drivers, places);
-    link(&mut state, linked)?;
-    Ok(state)
+    link(state, linked)
 }
 
-/// The state of a line after a legal history with these numbers, as far as the future depends on
-/// it: its canonical state, in which each one-shot action has a thread bit again. The drivers go to
+/// Reads the numbers into a state of a line of that definition, whatever it was before: it becomes
+/// the state after a legal history with these numbers, as far as the future depends on it, that is
+/// its canonical state, in which each one-shot action has a thread bit again. The drivers go to
 /// their places. `drivers` are those that have calls on the line, in the order of the numbers. The
 /// only error is `NoMemory`.
+pub fn read_into(
+    state: &mut LineState<Cell>,
+    def: &LineDef,
+    drivers: &[DriverNo],
+    scripts: &mut Scripts,
+    words: &[u32],
+) -> Result<(), NoMemory>
+    requires valid { IsValid def.now }
+    requires drivers { drivers.now ≡ drivers_in def.now.calls }
+    requires scripts { AreScripts def.now scripts.old }
+    requires tables { HasTables def.now state.old.state }
+    requires past { (past : List Entry) × IsLegalPast def.now past
+        × (words.now ≡ node def.now past) × (length past ≤ 100000000) }
+    ensures state { OnOk result ((past : List Entry) → IsLegalPast def.now past
+        → words.now ≡ node def.now past
+        → unbitted state.new.state ≡ canon (state_of def.now past)) }
+    ensures tables { HasTables def.now state.new.state }
+    ensures scripts { AreScripts def.now scripts.new }
+    ensures places { (past : List Entry) → IsLegalPast def.now past
+        → words.now ≡ node def.now past
+        → (r : DriverNo) → IsAt def.now past r (place_of scripts.new r) (within_of scripts.new r) }
+{
+    put_all(state, def, drivers, scripts, words)
+}
+
+/// The state after a legal history with these numbers, as `read_into` makes it. The only error is
+/// `NoMemory`.
 pub fn read(
     alloc: Global,
     def: &LineDef,
@@ -89,5 +121,7 @@ pub fn read(
         → words.now ≡ node def.now past
         → (r : DriverNo) → IsAt def.now past r (place_of scripts.new r) (within_of scripts.new r)) }
 {
-    made(alloc, def, drivers, scripts, words)
+    let mut state = fresh(alloc, def)?;
+    read_into(&mut state, def, drivers, scripts, words)?;
+    Ok(state)
 }

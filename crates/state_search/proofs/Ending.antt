@@ -77,6 +77,8 @@ module _ {L : Type 0} (can : L → List L → Type 0) (node : List L → List �
         u.apart j k p.0 q.0 p.1 q.1 (p.2 ∙ sym q.2);
     least = all_from (λ p. (h : List L) → IsPath can h → node h ≡ node p → length p ≤ length h) ps least;
     rising = u.rising;
+    short = u.short;
+    near = u.near;
     within = u.within;
     whole = λ none. whole none (cases_lt i (length ps));
     all = λ h path below.

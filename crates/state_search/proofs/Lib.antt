@@ -4,6 +4,7 @@ pub mod Rooted
 pub mod Inducing
 pub mod Grown
 pub mod Closing
+pub mod Counting
 pub mod Noting
 pub mod Ending
 pub mod Looking

@@ -30,6 +30,14 @@ module _ {L : Type 0} where
   paths_keep ps [] k p e = e
   paths_keep ps (x ∷ es) k p e = paths_keep (ps ++ path_by ps x.1 ∷ []) es k p (at_old ps (path_by ps x.1 ∷ []) k p e)
 
+  paths_append : (ps : List (List L)) (es fs : List (List ℕ × Option (Came L))) → paths_from ps (es ++ fs) ≡ paths_from (paths_from ps es) fs
+  paths_append ps [] fs = refl
+  paths_append ps (x ∷ es) fs = paths_append (ps ++ path_by ps x.1 ∷ []) es fs
+
+  pub paths_stay : (es added : List (List ℕ × Option (Came L))) (k : ℕ) (p : List L)
+      → slice_get (paths_of es) k ≡ Some p → slice_get (paths_of (es ++ added)) k ≡ Some p
+  paths_stay es added k p at = ap (λ t. slice_get t k) (paths_append [] es added) ∙ paths_keep (paths_of es) added k p at
+
   -- a path by an earlier one stays, as more are added
   path_same : (ps qs : List (List L)) (came : Option (Came L)) → IfSome came (λ c. c.from < length ps)
       → ((k : ℕ) (p : List L) → slice_get ps k ≡ Some p → slice_get qs k ≡ Some p) → path_by qs came ≡ path_by ps came

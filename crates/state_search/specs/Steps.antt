@@ -3,7 +3,7 @@ use Rattle.std.specs.Prelude.{◌≡◌, ◌≤◌, ◌<◌, ◌+◌, ℕ, Bool,
 use Rattle.std.specs.Prelude.{slice_get}
 use Rattle.state_search.specs.declared.firsts.First.{First}
 use Rattle.state_search.specs.Firsts.{IsNotedAt, AreApart}
-use Rattle.state_search.specs.Paths.{IsPath}
+use Rattle.state_search.specs.Paths.{IsPath, AreCounted}
 use Rattle.state_search.specs.Seen.{SearchSeen}
 
 module _ {L : Type 0} where
@@ -13,6 +13,7 @@ module _ {L : Type 0} where
     pub states : s.states ≡ node [] ∷ []
     pub firsts : s.firsts ≡ []
     pub looked : s.looked ≡ 0
+    pub counts : s.counts ≡ []
 
   module _ (can : L → List L → Type 0) (node : List L → List ℕ) where
     -- Of these paths, what comes next was looked at after the first `looked`.
@@ -51,3 +52,5 @@ module _ {L : Type 0} where
       pub paths : AreUnder can node s.looked s.paths
       pub states : s.states ≡ map node s.paths
       pub firsts : AreNotedUnder s.looked s.paths s.firsts
+      pub counts : AreCounted can s.paths s.counts
+      pub counted : length s.counts ≡ s.looked

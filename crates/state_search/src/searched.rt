@@ -3,6 +3,7 @@ ghost use Rattle.std.specs.Prelude.{◌≡◌, ◌≤◌, ◌<◌, ℕ, ◌+◌,
 ghost use Rattle.std.specs.Prelude.{OnOk, IsTrue, ◌↔◌, length, reverse, slice_get, Some};
 ghost use Rattle.std.specs.Option.{option_map};
 ghost use Rattle.state_search.specs.Firsts.{IsNoted, IsNotedAt};
+ghost use Rattle.state_search.specs.Paths.{GoesOn};
 ghost use Rattle.state_search.specs.Seen.{cut_of};
 ghost use Rattle.state_search.specs.Steps.{IsUnder, IsStart};
 
@@ -15,12 +16,13 @@ use std::alloc::Global;
 use std::marker::Model;
 
 /// What a search found: the states in the order in which it met them, each with a shortest path;
-/// and the labels, each with the place of the first state in which it may come.
+/// how many labels may come next in each that was looked at; and the labels, each with the place of
+/// the first state in which it may come.
 #[derive(Drop)]
 pub struct Searched<L: Copy> {
     states: States<L>,
     firsts: Vec<First<L>>,
-    looked: usize,
+    counts: Vec<u32>,
 }
 
 impl<L: Copy> Model for Searched<L> {
@@ -28,7 +30,7 @@ impl<L: Copy> Model for Searched<L> {
 
     ghost Value = { SearchSeen L };
 
-    ghost view = { λ s. search_seen s.states s.firsts.items s.looked };
+    ghost view = { λ s. search_seen s.states s.firsts.items s.counts.items };
 }
 
 impl<L: Copy> Searched<L> {
@@ -44,7 +46,14 @@ impl<L: Copy> Searched<L> {
     pub fn looked(&self) -> usize
         ensures { result ≡ self.now.looked }
     {
-        self.looked
+        self.counts.len()
+    }
+
+    /// For each state that was looked at, how many labels may come next; 0 for one at rest.
+    pub fn counts(&self) -> &[u32]
+        ensures { result.now ≡ self.now.counts }
+    {
+        self.counts.as_slice()
     }
 
     /// If the search was cut: the length of paths from which on states may be unknown.
@@ -52,7 +61,7 @@ impl<L: Copy> Searched<L> {
         ensures { result ≡ cut_of self.now }
     {
         if self.is_open() {
-            Some(self.depth(self.looked))
+            Some(self.depth(self.looked()))
         } else {
             None
         }
@@ -130,7 +139,7 @@ impl<L: Copy> Searched<L> {
         Ok(Searched {
             states,
             firsts: Vec::new(alloc),
-            looked: 0,
+            counts: Vec::new(alloc),
         })
     }
 
@@ -138,7 +147,7 @@ impl<L: Copy> Searched<L> {
     pub(crate) fn is_open(&self) -> bool
         ensures { IsTrue result ↔ (self.now.looked < length self.now.paths) }
     {
-        self.looked < self.states.len()
+        self.looked() < self.states.len()
     }
 
     /// Looks at what comes after the next state. True if all states found there fit; else the
@@ -161,15 +170,20 @@ impl<L: Copy> Searched<L> {
         ensures under { OnOk result (IsUnder L.eq (S.can space.old) (S.node space.old) self.new) }
         ensures on { IfOk result (λ whole. whole ≡ true → self.new.looked ≡ self.old.looked + 1) }
         ensures cut { IfOk result (λ whole. whole ≡ false → length self.new.paths ≡ most) }
+        ensures goes_on { IfOk result (λ whole. whole ≡ false
+            → GoesOn (S.can space.old) self.new.paths self.new.looked) }
     {
-        let place = self.looked as u32;
+        let place = self.looked();
         found.clear();
-        space.steps(self.states.words(self.looked), found)?;
-        note(&mut self.firsts, place, found)?;
-        if !self.states.put_all(alloc, place, found, most)? {
+        space.steps(self.states.words(place), found)?;
+        let Ok(count) = u32::try_from(found.len()) else {
+            return Err(NoMemory);
+        };
+        note(&mut self.firsts, place as u32, found)?;
+        if !self.states.put_all(alloc, place as u32, found, most)? {
             return Ok(false);
         }
-        self.looked += 1;
+        self.counts.push(count)?;
         Ok(true)
     }
 }

@@ -139,6 +139,7 @@ impl<L: Copy> States<L> {
         ensures put { IfOk result (λ whole. (n : ℕ) × ArePut from found.now n self.old self.new
             × (whole ≡ true → length found.now ≤ n)) }
         ensures full { IfOk result (λ whole. whole ≡ false → length self.new ≡ most) }
+        ensures some { IfOk result (λ whole. whole ≡ false → 1 ≤ length found.now) }
         ensures few { OnOk result (length self.new ≤ most) }
     {
         for i in 0..found.len() {

@@ -1,8 +1,9 @@
 use Rattle.std.proofs.Common.{◌≡◌, ◌<◌, true≢false, IfSome, length, ap, sym, subst, ◌∙◌, arith}
+use Rattle.state_search.specs.Paths.{GoesOn, AreCounted}
 use Rattle.state_search.specs.Steps.{IsUnder}
 use Rattle.state_search.proofs.Ending.{searches, firsts}
 use Rattle.state_search.proofs.Looking.{starts}
-use Rattle.state_search.proofs.Walking.{cut_none}
+use Rattle.state_search.proofs.Walking.{cut_none, goes_nowhere}
 use Rattle.state_search.proofs.searching.search.Goals as goal
 
 pub loop-alloc-init : goal.loop-alloc-init
@@ -25,6 +26,30 @@ returns-then-not-branch-clause-firsts g c =
     let s = c.look.new.self in
     let u = subst (λ t. IsUnder g.L.PartialEq.eq (g.S.Space.can t) (g.S.Space.node t) s) c.loop-alloc.invariant.same c.in_ok-look.ensures.under in
     firsts (g.S.Space.can c.args.space.now) (g.S.Space.node c.args.space.now) s.looked s.paths u.paths g.L.PartialEq.eq g.met.L.Eq.laws s.firsts u.firsts
+
+pub returns-then-not-branch-clause-counted : goal.returns-then-not-branch-clause-counted
+returns-then-not-branch-clause-counted g c = c.in_ok-look.ensures.under.counted
+
+pub returns-then-not-branch-clause-counts : goal.returns-then-not-branch-clause-counts
+returns-then-not-branch-clause-counts g c =
+    let s = c.look.new.self in
+    subst (λ t. AreCounted (g.S.Space.can t) s.paths s.counts) c.loop-alloc.invariant.same c.in_ok-look.ensures.under.counts
+
+pub returns-then-not-branch-clause-goes_on : goal.returns-then-not-branch-clause-goes_on
+returns-then-not-branch-clause-goes_on g c =
+    let s = c.look.new.self in
+    subst (λ t. GoesOn (g.S.Space.can t) s.paths s.looked) c.loop-alloc.invariant.same (c.in_ok-look.ensures.goes_on c.if-not-branch.true)
+
+pub returns-clause-counted : goal.returns-clause-counted
+returns-clause-counted g c = c.loop-alloc.invariant.under.counted
+
+pub returns-clause-counts : goal.returns-clause-counts
+returns-clause-counts g c = c.loop-alloc.invariant.under.counts
+
+pub returns-clause-goes_on : goal.returns-clause-goes_on
+returns-clause-goes_on g c =
+    goes_nowhere (g.S.Space.can c.args.space.now) c.loop-alloc.searched
+    (λ lt. true≢false (sym (c.is_open.ensures.1 lt) ∙ c.loop-alloc-test.false))
 
 pub returns-clause-paths : goal.returns-clause-paths
 returns-clause-paths g c =

@@ -1,19 +1,21 @@
-use Rattle.std.proofs.Common.{◌≡◌, List, ap, sym, subst, ◌∙◌}
+use Rattle.std.proofs.Common.{◌≡◌, List, Option, ap, sym, subst, ◌∙◌}
 use Rattle.irq_base.specs.declared.entries.Entry.{Entry}
 use Rattle.irq_base.specs.declared.lines.LineDef.{LineDef}
+use Rattle.irq_base.specs.declared.numbers.CpuNo.{CpuNo}
 use Rattle.irq_base.specs.declared.numbers.DriverNo.{DriverNo}
 use Rattle.irq_model.specs.Legal.{IsDue}
 use Rattle.line_marks.specs.State.{state_of}
 use Rattle.line_state.specs.Seen.{taker_of}
 use Rattle.line_words.proofs.Whole.{if_ok}
 use Rattle.line_words.specs.Node.{node}
+use Rattle.line_space.proofs.Again.{flow_same, taker_same}
 use Rattle.line_space.proofs.Firsts.{reached_is, steps_all}
 use Rattle.line_space.specs.Stepping.{actors_by}
 use Rattle.state_search.specs.Paths.{IsPath, AreSteps, IsReached as IsReachedBy}
 use Rattle.line_space.proofs.space.LineSpaceSpaceEntry.steps.Goals as goal
 
-pub actors-requires-clause-reached : goal.actors-requires-clause-reached
-actors-requires-clause-reached c =
+pub read-requires-clause-reached : goal.read-requires-clause-reached
+read-requires-clause-reached c =
     let P : LineDef → Type 0 = λ d. IsReachedBy (IsDue d) (node d) 100000000 c.args.words.now in
     reached_is c.self.inside.def c.args.words.now (subst P (sym c.self.view_is) c.requires.reached)
 
@@ -25,15 +27,21 @@ add_all-requires-clause-reached c =
 pub returns-clause-steps : goal.returns-clause-steps
 returns-clause-steps c =
     let def = c.self.inside.def in
+    let valid = c.self.invariant.valid in
     let ws = c.args.words.now in
     let new = c.add_all.new.found in
+    let t = c.read.new.self.state.state in
     let R : LineDef → Type 0 = λ d. IsReachedBy (IsDue d) (node d) 100000000 c.args.words.now in
     let S : LineDef → Type 0 = λ d. (h : List Entry) → IsPath (IsDue d) h → node d h ≡ c.args.words.now → AreSteps (IsDue d) (node d) h c.add_all.new.found in
     let drivers = c.as_slice-drivers.ensures.value ∙ c.self.invariant.drivers in
     if_ok c.add_all.result (λ added. subst S c.self.view_is
-    (steps_all def c.self.invariant.valid ws (reached_is def ws (subst R (sym c.self.view_is) c.requires.reached))
-    c.in_ok-scripts.scripts c.in_ok-scripts.ensures.scripts c.args.found.now new c.as_slice.result.now c.requires.empty
-    (λ past legal same. c.as_slice.ensures.value ∙ (c.in_ok-actors.ensures.actors past legal same
-    ∙ ap (λ (rs : List DriverNo). actors_by def (state_of def past).desc.flow (taker_of (state_of def past)) rs) drivers))
+    (steps_all def valid ws (reached_is def ws (subst R (sym c.self.view_is) c.requires.reached))
+    c.self.inside.scratch.scripts c.self.invariant.scratch.scripts c.args.found.now new c.as_slice.result.now c.requires.empty
+    (λ past legal same.
+    let again = c.in_ok-read.ensures.read.state past legal same in
+    c.as_slice.ensures.value ∙ (c.in_ok-push_actors.ensures
+    ∙ (ap (λ (o : Option CpuNo). actors_by def o (taker_of t) c.as_slice-drivers.result.now) (flow_same def valid past legal t again)
+    ∙ (ap (λ (o : Option CpuNo). actors_by def (state_of def past).desc.flow o c.as_slice-drivers.result.now) (taker_same def valid past legal t again)
+    ∙ ap (λ (rs : List DriverNo). actors_by def (state_of def past).desc.flow (taker_of (state_of def past)) rs) drivers))))
     added))
-    c.add_all.ensures
+    c.add_all.ensures.found

@@ -5,8 +5,8 @@ use Rattle.state_search.proofs.searched.Searched.is_open.Goals as goal
 
 pub returns : goal.returns
 returns g c =
-    let i = c.self.inside.looked in
+    let i = c.looked.result in
     let n = c.len.result in
-    let place : i ≡ c.args.self.now.looked = ap (λ s. s.looked) c.self.view_is in
+    let place : i ≡ c.args.self.now.looked = c.looked.ensures in
     let long : n ≡ length c.args.self.now.paths = c.len.ensures ∙ (sym (paths_len c.self.inside.states) ∙ ap (λ s. length s.paths) c.self.view_is) in
     (λ h. omega (arith, ltb-true i n h, place, long), λ h. lt-ltb i n (omega (arith, h, place, long)))

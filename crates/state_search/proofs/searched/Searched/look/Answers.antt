@@ -1,23 +1,26 @@
-use Rattle.std.proofs.Common.{◌<◌, ◌≤◌, length, sym, subst, ◌∙◌, arith}
+use Rattle.std.proofs.Common.{◌≡◌, ◌<◌, ◌≤◌, [], ◌∷◌, ◌++◌, length, ap, sym, subst, ◌∙◌, arith}
 use Rattle.state_search.specs.Paths.{paths_of}
-use Rattle.state_search.proofs.Looking.{next_reached, looks_cut, looks_whole}
+use Rattle.state_search.specs.Seen.{search_seen}
+use Rattle.state_search.specs.Steps.{IsUnder}
+use Rattle.state_search.proofs.Looking.{next_reached, looks_cut, looks_whole, goes_on}
 use Rattle.state_search.proofs.Walking.{paths_len}
 use Rattle.state_search.proofs.searched.Searched.look.Goals as goal
 
 pub steps-requires-clause-reached : goal.steps-requires-clause-reached
 steps-requires-clause-reached g c =
-    let i = c.self.inside.looked in
+    let cs = c.self.inside.counts.items in
     let es = c.self.inside.states in
     let few : length c.args.self.now.paths ≤ 100000000 = omega (arith, c.requires.few, c.requires.most) in
-    next_reached g.L.PartialEq.eq (g.S.Space.can c.args.space.now) (g.S.Space.node c.args.space.now) i es es
+    next_reached g.L.PartialEq.eq (g.S.Space.can c.args.space.now) (g.S.Space.node c.args.space.now) cs es es
     c.self.inside.firsts.items c.self.inside.firsts.items c.clear.new.self c.args.self.now
-    c.self.view_is c.requires.under c.requires.open c.words.result.now c.words.ensures 100000000 few
+    c.self.view_is c.requires.under c.requires.open c.words.result.now c.looked-place.result
+    (c.looked-place.ensures ∙ sym (ap (λ s. s.looked) c.self.view_is)) c.words.ensures 100000000 few
 
 pub put_all-requires-clause-earlier : goal.put_all-requires-clause-earlier
 put_all-requires-clause-earlier g c =
     let es = c.self.inside.states in
-    let lt : c.self.inside.looked < length (paths_of es) = subst (λ t. t.looked < length t.paths) (sym c.self.view_is) c.requires.open in
-    omega (arith, lt, paths_len es)
+    let lt : c.args.self.now.looked < length (paths_of es) = subst (λ t. c.args.self.now.looked < length t.paths) (sym c.self.view_is) c.requires.open in
+    omega (arith, c.looked-place.ensures, lt, paths_len es)
 
 pub put_all-requires-clause-few : goal.put_all-requires-clause-few
 put_all-requires-clause-few g c =
@@ -31,23 +34,40 @@ returns-then-not-branch-clause-few g c = omega (arith, paths_len c.put_all.new.s
 pub returns-then-not-branch-clause-under : goal.returns-then-not-branch-clause-under
 returns-then-not-branch-clause-under g c =
     let put = c.in_ok-put_all.ensures.put in
-    looks_cut g.L.PartialEq.eq (g.S.Space.can c.args.space.now) (g.S.Space.node c.args.space.now) c.self.inside.looked
+    looks_cut g.L.PartialEq.eq (g.S.Space.can c.args.space.now) (g.S.Space.node c.args.space.now) c.self.inside.counts.items
     c.self.inside.states c.put_all.new.self c.self.inside.firsts.items
     c.note.new.firsts.items c.steps.new.found c.args.self.now c.self.view_is c.requires.under c.requires.open
-    c.words.result.now c.words.ensures c.in_ok-steps.ensures.steps c.in_ok-note.ensures
+    c.words.result.now c.looked-place.result (c.looked-place.ensures ∙ sym (ap (λ s. s.looked) c.self.view_is))
+    c.words.ensures c.in_ok-steps.ensures.steps c.in_ok-note.ensures
     put.0 put.1
 
 pub returns-then-not-branch-clause-cut : goal.returns-then-not-branch-clause-cut
 returns-then-not-branch-clause-cut g c = λ h. paths_len c.put_all.new.self ∙ c.in_ok-put_all.ensures.full c.if-not-branch.true
+
+pub returns-then-not-branch-clause-goes_on : goal.returns-then-not-branch-clause-goes_on
+returns-then-not-branch-clause-goes_on g c = λ h.
+    let put = c.in_ok-put_all.ensures.put in
+    goes_on g.L.PartialEq.eq (g.S.Space.can c.args.space.now) (g.S.Space.node c.args.space.now) c.self.inside.counts.items
+    c.self.inside.states c.put_all.new.self c.self.inside.firsts.items
+    c.note.new.firsts.items c.steps.new.found c.args.self.now c.self.view_is c.requires.under c.requires.open
+    c.words.result.now c.looked-place.result (c.looked-place.ensures ∙ sym (ap (λ s. s.looked) c.self.view_is))
+    c.words.ensures c.in_ok-steps.ensures.steps c.in_ok-note.ensures
+    put.0 put.1 (c.in_ok-put_all.ensures.some c.if-not-branch.true)
 
 pub returns-clause-few : goal.returns-clause-few
 returns-clause-few g c = omega (arith, paths_len c.put_all.new.self, c.in_ok-put_all.ensures.few)
 
 pub returns-clause-under : goal.returns-clause-under
 returns-clause-under g c =
+    let count : c.in-Ok.count ≡ length c.steps.new.found = c.in-Ok.ensures.1 ∙ c.len.ensures in
+    let pushed : c.push.new.self.items ≡ c.self.inside.counts.items ++ length c.steps.new.found ∷ []
+    = c.in_ok-push.ensures.items ∙ ap (λ n. c.self.inside.counts.items ++ n ∷ []) count in
     let put = c.in_ok-put_all.ensures.put in
-    looks_whole g.L.PartialEq.eq (g.S.Space.can c.args.space.now) (g.S.Space.node c.args.space.now) c.self.inside.looked
+    subst (λ cs. IsUnder g.L.PartialEq.eq (g.S.Space.can c.args.space.now) (g.S.Space.node c.args.space.now)
+    (search_seen c.put_all.new.self c.note.new.firsts.items cs)) (sym pushed)
+    (looks_whole g.L.PartialEq.eq (g.S.Space.can c.args.space.now) (g.S.Space.node c.args.space.now) c.self.inside.counts.items
     c.self.inside.states c.put_all.new.self c.self.inside.firsts.items
     c.note.new.firsts.items c.steps.new.found c.args.self.now c.self.view_is c.requires.under c.requires.open
-    c.words.result.now c.words.ensures c.in_ok-steps.ensures.steps c.in_ok-note.ensures
-    put.0 put.1 (put.2 c.if-not-branch.false)
+    c.words.result.now c.looked-place.result (c.looked-place.ensures ∙ sym (ap (λ s. s.looked) c.self.view_is))
+    c.words.ensures c.in_ok-steps.ensures.steps c.in_ok-note.ensures
+    put.0 put.1 (put.2 c.if-not-branch.false))
