@@ -133,3 +133,10 @@ module _ (bytes : List ℕ) (value : ℕ) (rest : List ℕ) (read : AreRead byte
       one_more now is n after small begins =
           let d = digit n after small begins in
           record { digits = d.left.digits; are = d.left.are; text = d.left.text; number = ap (λ v. onto v d.left.digits) (is d.low d.high) ∙ d.left.number }
+
+pub of_one_digit : (bytes : List ℕ) (byte : ℕ) (after : List ℕ) → bytes ≡ byte ∷ 32 ∷ after → 48 ≤ byte → byte ≤ 57
+    → ReadsNumber bytes (Some (byte - 48, after))
+of_one_digit bytes byte after is low high =
+    let read = one_more bytes 0 bytes (at_start bytes) byte (32 ∷ after) is (λ space. absurd (omega (arith, low, space))) (byte - 48)
+    (λ _ _. omega arith) in
+    space bytes (byte - 48) (32 ∷ after) read 32 after refl refl

@@ -1,6 +1,6 @@
 //! The head of a row: its line, and who made its entry. Nothing more of a row is read, unless the
 //! row differs from the one that is due.
-ghost use Rattle.std.specs.Prelude.{◌≡◌, MatchOption};
+ghost use Rattle.std.specs.Prelude.{◌≡◌, IfSome, MatchOption, Some};
 ghost use Rattle.std.specs.Option.{option_map};
 ghost use Rattle.log_check.specs.Heads.{IsHead, IsNoEntry, ReadsNumber, actor_by};
 
@@ -34,6 +34,29 @@ fn actor_by(line: LineNo, letter: u8, number: u32) -> Option<Actor>
 /// The number that stands before the first space, and what follows the space; none if other bytes
 /// than digits stand there, or more than 32 bits hold.
 fn number_before_space(bytes: &[u8]) -> Option<(u32, &[u8])>
+    ensures { ReadsNumber bytes.now (option_map (λ read. (read.0, read.1.now)) result) }
+{
+    // most numbers of a head have one digit
+    match one_digit(bytes) {
+        Some(read) => Some(read),
+        None => number_of_digits(bytes),
+    }
+}
+
+/// The same, if a space follows the first byte and that is a digit.
+fn one_digit(bytes: &[u8]) -> Option<(u32, &[u8])>
+    ensures { IfSome result (λ read. ReadsNumber bytes.now (Some (read.0, read.1.now))) }
+{
+    let (digit, rest) = bytes.split_first()?;
+    let (space, after) = rest.split_first()?;
+    if *space != b' ' || !digit.is_ascii_digit() {
+        return None;
+    }
+    Some((u32::from(*digit - b'0'), after))
+}
+
+/// The same, of a number of any digits.
+fn number_of_digits(bytes: &[u8]) -> Option<(u32, &[u8])>
     ensures { ReadsNumber bytes.now (option_map (λ read. (read.0, read.1.now)) result) }
 {
     let mut value: u32 = 0;

@@ -1,6 +1,6 @@
 use Rattle.std.proofs.Common.{arith}
 use Rattle.log_check.proofs.Numbers.{at_start, no_digit, one_more, space, too_large}
-use Rattle.log_check.proofs.heads.number_before_space.Goals as goal
+use Rattle.log_check.proofs.heads.number_of_digits.Goals as goal
 
 pub loop-byte-init : goal.loop-byte-init
 loop-byte-init c = at_start c.args.bytes.now

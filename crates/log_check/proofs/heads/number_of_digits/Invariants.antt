@@ -1,6 +1,6 @@
 use Rattle.std.proofs.Common.{length}
 use Rattle.log_check.proofs.Numbers.{AreRead}
-use Rattle.log_check.proofs.heads.number_before_space.Given as goal
+use Rattle.log_check.proofs.heads.number_of_digits.Given as goal
 
 -- of whatever number the bytes begin with, the value so far and the bytes left are the rest
 abbrev pub invariant-loop-byte : goal.invariant-loop-byte
