@@ -1,0 +1,15 @@
+use Rattle.std.proofs.Common.{length, ◌-◌, ◌≡◌, ◌≤◌, take}
+use Rattle.explore_play.specs.Made.{IsMade}
+use Rattle.explore_play.proofs.playing.play_to.Given as goal
+
+abbrev pub invariant-loop-made : goal.invariant-loop-made
+invariant-loop-made g l = record {
+  board : l.system.board ≡ l.fn.system.board;
+  layout : l.system.layout ≡ l.fn.system.layout;
+  made : IsMade l.system l.picks.items l.line (take l.made l.wanted);
+  few : length l.picks.items ≤ 65536;
+  within : l.made ≤ length l.wanted;
+}
+
+abbrev pub decreases-loop-made : goal.decreases-loop-made
+decreases-loop-made g l = 65536 - length l.picks.items

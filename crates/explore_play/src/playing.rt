@@ -1,0 +1,107 @@
+//! The play.
+ghost use Rattle.std.specs.Prelude.{◌≡◌, ◌≤◌, ◌++◌, List, [], length, reverse, slice_get, Some};
+ghost use Rattle.std.specs.Prelude.{IfOk, true};
+ghost use Rattle.irq_base.specs.declared.entries.Actor.{Actor};
+ghost use Rattle.board_def.specs.Seen.{BoardSeen};
+ghost use Rattle.board_play.specs.Lines.{Move};
+ghost use Rattle.board_play.specs.Play.{IsChosen};
+ghost use Rattle.board_core.specs.Playing.{IsFresh};
+ghost use Rattle.board_core.specs.Turns.{Turns};
+ghost use Rattle.explore_play.specs.Made.{ArePicked, IsMade};
+
+use crate::others::{is_elsewhere, others_of};
+use board_core::{System, Turn};
+use callbacks::{Callbacks, Handler};
+use irq_base::{Actor, Entry, LineNo, NoMemory};
+use irq_line::IrqLine;
+use std::alloc::Global;
+
+/// How many picks make a play at most.
+pub const PICKS: usize = 65_536;
+
+/// A turn of the actor; if it can't move, of the first of the others that can move on another line.
+/// Answers whose turn it was.
+fn turn_of<L: IrqLine, H: Handler>(
+    system: &mut System<'_, L>,
+    line: LineNo,
+    actor: Actor,
+    others: &[Actor],
+    handlers: &Callbacks<H>,
+) -> (Actor, Turn)
+    ensures { Turns system.old result.0 result.1 system.new }
+{
+    match system.turn(actor, handlers) {
+        Turn::NotYet => {}
+        turn => return (actor, turn),
+    }
+    for other in others {
+        if is_elsewhere(system, line, *other) {
+            match system.turn(*other, handlers) {
+                Turn::NotYet => {}
+                turn => return (*other, turn),
+            }
+        }
+    }
+    (actor, Turn::NotYet)
+}
+
+/// Whether the entry stands at index `place` of the history.
+fn is_at(wanted: &[Entry], place: usize, entry: Entry) -> bool
+    ensures { result ≡ true → slice_get wanted.now place ≡ Some entry }
+{
+    match wanted.get(place) {
+        Some(next) => *next == entry,
+        None => false,
+    }
+}
+
+/// Makes moves until the line's history is `wanted`, and tells in `picks` whose moves they are.
+/// False if that wasn't done: nobody could move on, a log was full, or it took more than `PICKS`
+/// moves. The only error is `NoMemory`.
+pub fn play_to<L: IrqLine, H: Handler>(
+    alloc: Global,
+    system: &mut System<'_, L>,
+    line: LineNo,
+    wanted: &[Entry],
+    picks: &mut Vec<Actor>,
+    handlers: &Callbacks<H>,
+) -> Result<bool, NoMemory>
+    requires fresh { IsFresh system.old }
+    requires empty { picks.old.items ≡ [] }
+    ensures board { system.new.board ≡ system.old.board }
+    ensures layout { system.new.layout ≡ system.old.layout }
+    ensures play { IfOk result (λ found. found ≡ true
+        → IsMade system.new picks.new.items line wanted.now) }
+    ensures few { IfOk result (λ found. length picks.new.items ≤ 65536) }
+{
+    let others = others_of(alloc, system.board(), line)?;
+    let mut made = 0;
+    while made < wanted.len() {
+        if picks.len() >= PICKS {
+            return Ok(false);
+        }
+        let actor = wanted[made].actor(line);
+        match turn_of(system, line, actor, others.as_slice(), handlers) {
+            (mover, Turn::Moved { line: of, entry }) => {
+                picks.push(mover)?;
+                if line == of {
+                    if !is_at(wanted, made, entry) {
+                        return Ok(false);
+                    }
+                    made += 1;
+                }
+            }
+            (_, Turn::NotYet) | (_, Turn::Full { .. }) => return Ok(false),
+            (_, Turn::NoMemory) => return Err(NoMemory),
+        }
+    }
+    Ok(true)
+}
+
+/// Put in place of a board's picks, the picks make each play begin with these moves, whatever picks
+/// come after them.
+#[tactic(auto, using(crate::proofs::Making::begins))]
+pub fn picks_begin_the_play()
+    ensures law { (board : BoardSeen) (picks : List Actor) (g : List Move) (more : List Actor)
+        → ArePicked board picks g → IsChosen board (reverse picks ++ more) g more }
+{}
