@@ -1,0 +1,180 @@
+-- Words ask for one thing at most.
+use Rattle.std.proofs.Common.{◌≡◌, ℕ, inl, inr, Bool, true, false, cond, None, List, [], ◌∷◌, ◌++◌, codes, decimal}
+use Rattle.std.proofs.Common.{get_or, drop, refl, sym, ap, subst, ◌∙◌, arith}
+use Rattle.std.specs.Str.{bytes_eq}
+use Rattle.irq_base.specs.declared.entries.Entry.{Entry}
+use Rattle.irq_base.specs.declared.entries.Entry.TheVariants as entries
+use Rattle.irq_base.specs.declared.numbers.LineNo.{LineNo}
+use Rattle.line_wanted.specs.declared.left.Left.{Left}
+use Rattle.line_wanted.specs.declared.left.Standing.{Standing}
+use Rattle.line_wanted.specs.declared.left.Standing.TheVariants as standings
+use Rattle.line_wanted.specs.declared.wanted.Wanted.{Wanted}
+use Rattle.line_wanted.specs.declared.wanted.Wanted.TheVariants as wants
+use Rattle.log_read.specs.Left.{words_of}
+use Rattle.log_text.proofs.RowLaws.{rows_tell}
+use Rattle.log_text.proofs.Splitting.{row_back as entry_back}
+use Rattle.log_text.specs.EntryWords.{entry_words}
+use Rattle.log_text.specs.Formed.{IsSmall}
+use Rattle.explore_words.specs.Rows.{Spells, joined, left_words, standing_word, waits_word}
+use Rattle.log_read.specs.Takes.{Reads}
+use Rattle.explore_words.specs.Words.{Asks, AsksNothing, AreRow, IsCount}
+use Rattle.explore_words.specs.declared.Asked.{Asked}
+use Rattle.explore_words.proofs.Counting.{same_number}
+use Rattle.explore_words.proofs.Dashes.{dashed}
+use Rattle.explore_words.proofs.Spelled.{rest_back, row_back}
+
+abbrev at : List (List ℕ) → ℕ → List ℕ
+at words i = get_or words i []
+
+-- words back
+
+abbrev standing_at : List ℕ → Standing
+standing_at word =
+    cond (bytes_eq word (codes "stopped")) standings.Stopped
+    (cond (bytes_eq word (codes "enabled")) standings.Enabled
+    (cond (bytes_eq word (codes "disabled")) standings.Disabled standings.Killed))
+
+standing_same : (x : Standing) → standing_at (standing_word x) ≡ x
+standing_same standings.Stopped = refl
+standing_same standings.Enabled = refl
+standing_same standings.Disabled = refl
+standing_same standings.Killed = refl
+
+abbrev stored_at : List ℕ → Bool
+stored_at word = cond (bytes_eq word (codes "stored")) true (bytes_eq word (codes "both"))
+
+abbrev pending_at : List ℕ → Bool
+pending_at word = cond (bytes_eq word (codes "pending")) true (bytes_eq word (codes "both"))
+
+stored_same : (s p : Bool) → stored_at (waits_word (s, p)) ≡ s
+stored_same false false = refl
+stored_same true false = refl
+stored_same false true = refl
+stored_same true true = refl
+
+pending_same : (s p : Bool) → pending_at (waits_word (s, p)) ≡ p
+pending_same false false = refl
+pending_same true false = refl
+pending_same false true = refl
+pending_same true true = refl
+
+abbrev left_by : Standing → ℕ → Bool → Bool → Left
+left_by standing unserved stored pending = record { standing = standing; unserved = unserved; stored = stored; pending = pending }
+
+left_same : (a b : Left) → IsSmall a.unserved → IsSmall b.unserved → left_words a ≡ left_words b → a ≡ b
+left_same a b small low same =
+    let standing : a.standing ≡ b.standing =
+    sym (standing_same a.standing) ∙ (ap (λ ws. standing_at (at ws 0)) same ∙ standing_same b.standing) in
+    let unserved : a.unserved ≡ b.unserved = same_number a.unserved b.unserved small low (ap (λ ws. at ws 1) same) in
+    let stored : a.stored ≡ b.stored =
+    sym (stored_same a.stored a.pending) ∙ (ap (λ ws. stored_at (at ws 2)) same ∙ stored_same b.stored b.pending) in
+    let pending : a.pending ≡ b.pending =
+    sym (pending_same a.stored a.pending) ∙ (ap (λ ws. pending_at (at ws 2)) same ∙ pending_same b.stored b.pending) in
+    ap (λ s. left_by s a.unserved a.stored a.pending) standing
+    ∙ (ap (λ n. left_by b.standing n a.stored a.pending) unserved
+    ∙ (ap (λ s. left_by b.standing b.unserved s a.pending) stored ∙ ap (λ p. left_by b.standing b.unserved b.stored p) pending))
+
+-- the first byte of the word that says who made an entry
+apart : (m n : ℕ) (bs cs : List ℕ) → (m ≡ n → ⊥) → m ∷ bs ≡ n ∷ cs → ⊥
+apart m n bs cs differ same = differ (ap (λ ds. get_or ds 0 0) same)
+
+not_rest : (e : Entry) → at (entry_words e) 0 ≡ codes "rest" → ⊥
+not_rest (entries.Ask driver dev) = apart 100 114 _ _ (λ i. omega (arith, i))
+not_rest (entries.Take cpu way answer) = apart 99 114 _ _ (λ i. omega (arith, i))
+not_rest (entries.Begin cpu dev) = apart 99 114 _ _ (λ i. omega (arith, i))
+not_rest (entries.Return cpu dev answer served) = apart 99 114 _ _ (λ i. omega (arith, i))
+not_rest (entries.End cpu again unmask note) = apart 99 114 _ _ (λ i. omega (arith, i))
+not_rest (entries.ThreadBegin dev) = apart 116 114 _ _ (λ i. omega (arith, i))
+not_rest (entries.ThreadReturn dev served) = apart 116 114 _ _ (λ i. omega (arith, i))
+not_rest (entries.Finish dev kept unmask) = apart 116 114 _ _ (λ i. omega (arith, i))
+not_rest (entries.Done dev) = apart 116 114 _ _ (λ i. omega (arith, i))
+not_rest (entries.Disable driver) = apart 100 114 _ _ (λ i. omega (arith, i))
+not_rest (entries.HardClear driver) = apart 100 114 _ _ (λ i. omega (arith, i))
+not_rest (entries.Synced driver) = apart 100 114 _ _ (λ i. omega (arith, i))
+not_rest (entries.Enable driver answer) = apart 100 114 _ _ (λ i. omega (arith, i))
+not_rest (entries.Request driver dev flags answer opened) = apart 100 114 _ _ (λ i. omega (arith, i))
+not_rest (entries.Unlink driver dev answer) = apart 100 114 _ _ (λ i. omega (arith, i))
+not_rest (entries.Freed driver dev) = apart 100 114 _ _ (λ i. omega (arith, i))
+not_rest (entries.Affinity driver mask answer) = apart 100 114 _ _ (λ i. omega (arith, i))
+not_rest (entries.Moment driver moment) = apart 100 114 _ _ (λ i. omega (arith, i))
+
+abbrev line_no : ℕ → LineNo
+line_no n = record { 0 = n }
+
+-- a row says one thing
+
+abbrev row_of : LineNo → Wanted → LineNo × Wanted
+row_of line wanted = (line, wanted)
+
+module _ (bytes : List ℕ) where
+  both_rows : (l m : LineNo) (e f : Entry) → Spells bytes l (wants.Row e) → Spells bytes m (wants.Row f) → row_of l (wants.Row e) ≡ row_of m (wants.Row f)
+  both_rows l m e f a b =
+      let same = rows_tell (bytes ++ codes "\n") l m e f (row_back bytes l e a) (row_back bytes m f b) in
+      ap (λ x. row_of x (wants.Row e)) same.0 ∙ ap (λ x. row_of m (wants.Row x)) same.1
+
+  both_rests : (l m : LineNo) (x y : Left) → Spells bytes l (wants.Rest x) → Spells bytes m (wants.Rest y) → row_of l (wants.Rest x) ≡ row_of m (wants.Rest y)
+  both_rests l m x y a b =
+      let s = rest_back bytes l x a in
+      let t = rest_back bytes m y b in
+      let same : decimal l.0 ∷ codes "rest" ∷ left_words x ≡ decimal m.0 ∷ codes "rest" ∷ left_words y = sym s.words ∙ t.words in
+      let line : l.0 ≡ m.0 = same_number l.0 m.0 s.number t.number (ap (λ ws. at ws 0) same) in
+      ap (λ n. row_of (line_no n) (wants.Rest x)) line
+      ∙ ap (λ z. row_of m (wants.Rest z)) (left_same x y s.small t.small (ap (λ (ws : List (List ℕ)). drop 2 ws) same))
+
+  row_and_rest : (l m : LineNo) (e : Entry) (y : Left) → Spells bytes l (wants.Row e) → Spells bytes m (wants.Rest y) → ⊥
+  row_and_rest l m e y a b =
+      let s : words_of bytes ≡ decimal l.0 ∷ entry_words e = ap words_of a.text ∙ entry_back l e a.number a.has_row in
+      let t = rest_back bytes m y b in
+      not_rest e (ap (λ ws. at ws 1) (sym s ∙ t.words))
+
+  spells_one : (l m : LineNo) (v w : Wanted) → Spells bytes l v → Spells bytes m w → row_of l v ≡ row_of m w
+  spells_one l m (wants.Row e) (wants.Row f) a b = both_rows l m e f a b
+  spells_one l m (wants.Rest x) (wants.Rest y) a b = both_rests l m x y a b
+  spells_one l m (wants.Row e) (wants.Rest y) a b = absurd (row_and_rest l m e y a b)
+  spells_one l m (wants.Rest x) (wants.Row f) a b = absurd (row_and_rest m l f x b a)
+
+-- what is asked
+
+-- words that begin with an option are no row
+option_is_no_row : (first bs : List ℕ) (words rest : List (List ℕ)) (l : LineNo) (v : Wanted) → first ≡ 45 ∷ bs → words ≡ first ∷ rest
+    → Spells (joined words) l v → ⊥
+option_is_no_row first bs words rest l v dash are is = dashed first bs rest l v dash (subst (λ bytes. Spells bytes l v) (ap joined are) is)
+
+-- words that begin with the number of states ask for nothing without it
+not_without : (words rest : List (List ℕ)) (number : List ℕ) (asked : Asked) → words ≡ codes "--states" ∷ number ∷ rest → AreRow words asked → ⊥
+not_without words rest number asked are a = option_is_no_row (codes "--states") _ words (number ∷ rest) asked.line asked.wanted refl are a
+
+abbrev asked_by : ℕ → LineNo × Wanted → Asked
+asked_by states row = record { states = states; line = row.0; wanted = row.1 }
+
+same_asked : (one other : Asked) → one.states ≡ other.states → row_of one.line one.wanted ≡ row_of other.line other.wanted → one ≡ other
+same_asked one other states row =
+    ap (λ n. asked_by n (row_of one.line one.wanted)) states ∙ ap (λ (r : LineNo × Wanted). asked_by other.states r) row
+
+pub one_asked : (words : List (List ℕ)) (one other : Asked) → Asks words one → Asks words other → one ≡ other
+one_asked words one other (inl a) (inl b) =
+    same_asked one other (a.0 ∙ sym b.0) (spells_one (joined words) one.line other.line one.wanted other.wanted a.1 b.1)
+one_asked words one other (inl a) (inr b) = absurd (not_without words b.rest _ one b.words_are a.1)
+one_asked words one other (inr a) (inl b) = absurd (not_without words a.rest _ other a.words_are b.1)
+one_asked words one other (inr a) (inr b) =
+    let same = sym a.words_are ∙ b.words_are in
+    let m = a.count.1 in
+    let n = b.count.1 in
+    let states : one.states ≡ other.states =
+    same_number one.states other.states (omega (arith, m)) (omega (arith, n)) (ap (λ ws. at ws 1) same) in
+    let rest : a.rest ≡ b.rest = ap (λ (ws : List (List ℕ)). drop 2 ws) same in
+    same_asked one other states
+    (spells_one (joined b.rest) one.line other.line one.wanted other.wanted (subst (λ ws. AreRow ws one) rest a.row) b.row)
+
+-- what is no number of states, and what words behind it ask for nothing
+
+pub no_states : (number : List ℕ) (rest : List (List ℕ)) → Reads IsCount decimal number None → AsksNothing (codes "--states" ∷ number ∷ rest)
+no_states number rest none asked (inl a) = not_without (codes "--states" ∷ number ∷ rest) rest number asked refl a.1
+no_states number rest none asked (inr a) = none asked.states a.count (ap (λ ws. at ws 1) a.words_are)
+
+pub no_row : (number : List ℕ) (rest : List (List ℕ)) → ((line : LineNo) (wanted : Wanted) → Spells (joined rest) line wanted → ⊥)
+    → AsksNothing (codes "--states" ∷ number ∷ rest)
+no_row number rest none asked (inl a) = not_without (codes "--states" ∷ number ∷ rest) rest number asked refl a.1
+no_row number rest none asked (inr a) =
+    let same : rest ≡ a.rest = ap (λ (ws : List (List ℕ)). drop 2 ws) a.words_are in
+    none asked.line asked.wanted (subst (λ ws. AreRow ws asked) (sym same) a.row)

@@ -1,0 +1,210 @@
+-- A row has at most 320 bytes.
+use Rattle.std.proofs.Common.{◌≡◌, ℕ, ◌+◌, ◌<◌, ◌≤◌, Bool, true, false, List, [], ◌∷◌, length, decimal}
+use Rattle.std.proofs.Common.{ap, arith}
+use Rattle.std.proofs.lemmas.Fmt.{length-decimal-le}
+use Rattle.std.proofs.lemmas.List.{length-append}
+use Rattle.irq_base.specs.declared.devices.Answer.{Answer}
+use Rattle.irq_base.specs.declared.devices.Answer.TheVariants as answers
+use Rattle.irq_base.specs.declared.entries.Entry.{Entry}
+use Rattle.irq_base.specs.declared.entries.Entry.TheVariants as entries
+use Rattle.irq_base.specs.declared.entries.Errno.TheVariants as errnos
+use Rattle.irq_base.specs.declared.entries.Way.{Way}
+use Rattle.irq_base.specs.declared.entries.Way.TheVariants as ways
+use Rattle.irq_base.specs.declared.entries.TakeAnswer.{TakeAnswer}
+use Rattle.irq_base.specs.declared.entries.TakeAnswer.TheVariants as takes
+use Rattle.irq_base.specs.declared.entries.Note.{Note}
+use Rattle.irq_base.specs.declared.entries.Note.TheVariants as notes
+use Rattle.irq_base.specs.declared.entries.Resend.TheVariants as resends
+use Rattle.irq_base.specs.declared.entries.EnableAnswer.{EnableAnswer}
+use Rattle.irq_base.specs.declared.entries.EnableAnswer.TheVariants as enables
+use Rattle.irq_base.specs.declared.entries.Opened.{Opened}
+use Rattle.irq_base.specs.declared.entries.Opened.TheVariants as openings
+use Rattle.irq_base.specs.declared.entries.LinkAnswer.{LinkAnswer}
+use Rattle.irq_base.specs.declared.entries.LinkAnswer.TheVariants as links
+use Rattle.irq_base.specs.declared.entries.UnlinkAnswer.{UnlinkAnswer}
+use Rattle.irq_base.specs.declared.entries.UnlinkAnswer.TheVariants as unlinks
+use Rattle.irq_base.specs.declared.entries.AffinityAnswer.{AffinityAnswer}
+use Rattle.irq_base.specs.declared.entries.AffinityAnswer.TheVariants as affinities
+use Rattle.irq_base.specs.declared.numbers.LineNo.{LineNo}
+use Rattle.line_wanted.specs.declared.left.Standing.{Standing}
+use Rattle.line_wanted.specs.declared.left.Standing.TheVariants as standings
+use Rattle.line_wanted.specs.declared.wanted.Wanted.{Wanted}
+use Rattle.line_wanted.specs.declared.wanted.Wanted.TheVariants as wants
+use Rattle.log_text.specs.EntryWords.{entry_words}
+use Rattle.log_text.specs.Formed.{IsSmall, IsWritable}
+use Rattle.log_text.specs.Words.{way_word, take_word, answer_word, loop_word, mask_word, note_word, bit_word}
+use Rattle.log_text.specs.Words.{flags_word, enable_words, link_words, unlink_word, affinity_words}
+use Rattle.explore_words.specs.Rows.{HasRow, Spells, joined, standing_word, waits_word, wanted_words}
+
+-- the bytes of words, each with a byte behind it
+abbrev size : List (List ℕ) → ℕ
+size [] = 0
+size (word ∷ words) = length word + (1 + size words)
+
+joined_size : (word : List ℕ) (words : List (List ℕ)) → length (joined (word ∷ words)) + 1 ≡ size (word ∷ words)
+joined_size word [] = omega arith
+joined_size word (next ∷ words) =
+    let rest = joined_size next words in
+    let all = length-append word (32 ∷ joined (next ∷ words)) in
+    omega (arith, rest, all)
+
+-- the words have at most n bytes, with one more for each
+abbrev Fit : ℕ → List (List ℕ) → Type 0
+Fit n words = size words ≤ n
+
+number_short : (n : ℕ) → IsSmall n → length (decimal n) ≤ 10
+number_short n small = length-decimal-le 10 n (omega arith) (omega (arith, small)) (omega (arith, small))
+
+none : Fit 0 []
+none = omega arith
+
+more : (m n : ℕ) (word : List ℕ) (words : List (List ℕ)) → length word ≤ m → Fit n words → Fit (m + 1 + n) (word ∷ words)
+more m n word words short fit = omega (arith, short, fit)
+
+number_fits : (n k : ℕ) (words : List (List ℕ)) → IsSmall k → Fit n words → Fit (11 + n) (decimal k ∷ words)
+number_fits n k words small fit = let short = number_short k small in omega (arith, short, fit)
+
+who_fits : (m n k letter : ℕ) (words : List (List ℕ)) → IsSmall k → (verb : List ℕ) → length verb ≤ m → Fit n words
+    → Fit (12 + (m + 1 + n)) ((letter ∷ decimal k) ∷ verb ∷ words)
+who_fits m n k letter words small verb v fit = let short = number_short k small in omega (arith, short, v, fit)
+
+way_fits : (x : Way) → length (way_word x) ≤ 11
+way_fits ways.Line = omega arith
+way_fits ways.Resend = omega arith
+
+take_fits : (x : TakeAnswer) → length (take_word x) ≤ 11
+take_fits takes.Handle = omega arith
+take_fits takes.Busy = omega arith
+take_fits takes.Off = omega arith
+
+answer_fits : (x : Answer) → length (answer_word x) ≤ 11
+answer_fits answers.Nothing = omega arith
+answer_fits answers.Handled = omega arith
+answer_fits answers.Wake = omega arith
+
+loop_fits : (x : Bool) → length (loop_word x) ≤ 11
+loop_fits true = omega arith
+loop_fits false = omega arith
+
+mask_fits : (x : Bool) → length (mask_word x) ≤ 11
+mask_fits true = omega arith
+mask_fits false = omega arith
+
+note_fits : (x : Note) → length (note_word x) ≤ 11
+note_fits notes.Quiet = omega arith
+note_fits notes.Counted = omega arith
+note_fits notes.Killed = omega arith
+
+bit_fits : (x : Bool) → length (bit_word x) ≤ 11
+bit_fits true = omega arith
+bit_fits false = omega arith
+
+flags_by : (s o n : Bool) → length (flags_word (record { shared = s; oneshot = o; noauto = n })) ≤ 11
+flags_by true true true = omega arith
+flags_by true true false = omega arith
+flags_by true false true = omega arith
+flags_by true false false = omega arith
+flags_by false true true = omega arith
+flags_by false true false = omega arith
+flags_by false false true = omega arith
+flags_by false false false = omega arith
+
+unlink_fits : (x : UnlinkAnswer) → length (unlink_word x) ≤ 11
+unlink_fits unlinks.NotThere = omega arith
+unlink_fits (unlinks.Unlinked true) = omega arith
+unlink_fits (unlinks.Unlinked false) = omega arith
+
+enable_fits : (x : EnableAnswer) → Fit 30 (enable_words x)
+enable_fits enables.Unbalanced = omega arith
+enable_fits enables.Lowered = omega arith
+enable_fits (enables.Started resends.No) = omega arith
+enable_fits (enables.Started resends.Chip) = omega arith
+enable_fits (enables.Started resends.Soft) = omega arith
+
+link_fits : (x : LinkAnswer) (o : Opened) → Fit 30 (link_words x o)
+link_fits links.Linked openings.No = omega arith
+link_fits links.Linked openings.Unbalanced = omega arith
+link_fits links.Linked openings.Lowered = omega arith
+link_fits links.Linked (openings.Started resends.No) = omega arith
+link_fits links.Linked (openings.Started resends.Chip) = omega arith
+link_fits links.Linked (openings.Started resends.Soft) = omega arith
+link_fits (links.Refused errnos.Inval) o = omega arith
+link_fits (links.Refused errnos.Busy) o = omega arith
+
+affinity_fits : (x : AffinityAnswer) → Fit 30 (affinity_words x)
+affinity_fits affinities.Now = omega arith
+affinity_fits affinities.Later = omega arith
+affinity_fits (affinities.Refused errnos.Inval) = omega arith
+affinity_fits (affinities.Refused errnos.Busy) = omega arith
+
+entry_fits : (e : Entry) → IsWritable e → Fit 300 (entry_words e)
+entry_fits (entries.Ask driver dev) w =
+    let a = number_short driver.0 w.small.0 in let b = number_short dev.0 w.small.1 in omega (arith, a, b)
+entry_fits (entries.Take cpu way answer) w =
+    let a = number_short cpu.0 w.small in let b = way_fits way in let c = take_fits answer in omega (arith, a, b, c)
+entry_fits (entries.Begin cpu dev) w =
+    let a = number_short cpu.0 w.small.0 in let b = number_short dev.0 w.small.1 in omega (arith, a, b)
+entry_fits (entries.Return cpu dev answer served) w =
+    let a = number_short cpu.0 w.small.0 in
+    let b = number_short dev.0 w.small.1 in
+    let c = answer_fits answer in let d = number_short served w.small.2 in omega (arith, a, b, c, d)
+entry_fits (entries.End cpu again unmask note) w =
+    let a = number_short cpu.0 w.small in
+    let b = loop_fits again in let c = mask_fits unmask in let d = note_fits note in omega (arith, a, b, c, d)
+entry_fits (entries.ThreadBegin dev) w = let a = number_short dev.0 w.small in omega (arith, a)
+entry_fits (entries.ThreadReturn dev served) w =
+    let a = number_short dev.0 w.small.0 in let b = number_short served w.small.1 in omega (arith, a, b)
+entry_fits (entries.Finish dev kept unmask) w =
+    let a = number_short dev.0 w.small in let b = bit_fits kept in let c = mask_fits unmask in omega (arith, a, b, c)
+entry_fits (entries.Done dev) w = let a = number_short dev.0 w.small in omega (arith, a)
+entry_fits (entries.Disable driver) w = let a = number_short driver.0 w.small in omega (arith, a)
+entry_fits (entries.HardClear driver) w = let a = number_short driver.0 w.small in omega (arith, a)
+entry_fits (entries.Synced driver) w = let a = number_short driver.0 w.small in omega (arith, a)
+entry_fits (entries.Enable driver answer) w =
+    let a = number_short driver.0 w.small in let b = enable_fits answer in omega (arith, a, b)
+entry_fits (entries.Request driver dev flags answer opened) w =
+    let a = number_short driver.0 w.small.0 in
+    let b = number_short dev.0 w.small.1 in
+    let c = flags_by flags.shared flags.oneshot flags.noauto in
+    let d = link_fits answer opened in omega (arith, a, b, c, d)
+entry_fits (entries.Unlink driver dev answer) w =
+    let a = number_short driver.0 w.small.0 in
+    let b = number_short dev.0 w.small.1 in let c = unlink_fits answer in omega (arith, a, b, c)
+entry_fits (entries.Freed driver dev) w =
+    let a = number_short driver.0 w.small.0 in let b = number_short dev.0 w.small.1 in omega (arith, a, b)
+entry_fits (entries.Affinity driver mask answer) w =
+    let a = number_short driver.0 w.small.0 in
+    let b = number_short mask w.small.1 in let c = affinity_fits answer in omega (arith, a, b, c)
+entry_fits (entries.Moment driver moment) w =
+    let a = number_short driver.0 w.small.0 in let b = number_short moment w.small.1 in omega (arith, a, b)
+
+standing_fits : (x : Standing) → length (standing_word x) ≤ 11
+standing_fits standings.Stopped = omega arith
+standing_fits standings.Enabled = omega arith
+standing_fits standings.Disabled = omega arith
+standing_fits standings.Killed = omega arith
+
+waits_fits : (stored pending : Bool) → length (waits_word (stored, pending)) ≤ 11
+waits_fits false false = omega arith
+waits_fits true false = omega arith
+waits_fits false true = omega arith
+waits_fits true true = omega arith
+
+wanted_fits : (line : LineNo) (wanted : Wanted) → IsSmall line.0 → HasRow wanted → Fit 311 (wanted_words line wanted)
+wanted_fits line (wants.Row e) small w = let a = number_short line.0 small in let b = entry_fits e w in omega (arith, a, b)
+wanted_fits line (wants.Rest left) small w =
+    let a = number_short line.0 small in
+    let b = standing_fits left.standing in
+    let c = number_short left.unserved w in
+    let d = waits_fits left.stored left.pending in omega (arith, a, b, c, d)
+
+joined_fits : (words : List (List ℕ)) → Fit 311 words → length (joined words) ≤ 320
+joined_fits [] fit = omega arith
+joined_fits (word ∷ words) fit = let same = joined_size word words in omega (arith, same, fit)
+
+-- a text that is longer is no row
+pub too_long : (bytes : List ℕ) → 320 < length bytes → (line : LineNo) (wanted : Wanted) → Spells bytes line wanted → ⊥
+too_long bytes long line wanted is =
+    let fits = joined_fits (wanted_words line wanted) (wanted_fits line wanted is.number is.has_row) in
+    let same : length bytes ≡ length (joined (wanted_words line wanted)) = ap length is.text in
+    omega (arith, long, fits, same)

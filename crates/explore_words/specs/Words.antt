@@ -1,0 +1,35 @@
+-- The words of the command line, and what they ask for.
+use Rattle.std.specs.Prelude.{◌≡◌, ◌⊎◌, ℕ, ◌≤◌, Option, MatchOption, List, ◌∷◌, codes, decimal}
+use Rattle.explore_words.specs.Rows.{Spells, joined}
+use Rattle.explore_words.specs.declared.Asked.{Asked}
+
+-- how many states of a line a search visits, if the words don't say
+abbrev pub usual_states : ℕ
+usual_states = 1000000
+
+-- a search may be asked for this many states
+abbrev pub IsCount : ℕ → Type 0
+IsCount n = (1 ≤ n) × (n ≤ 100000000)
+
+-- the words are a row, in one argument or in several
+abbrev pub AreRow : List (List ℕ) → Asked → Type 0
+AreRow words asked = Spells (joined words) asked.line asked.wanted
+
+-- `--states` and a number stand before the row
+pub record HasStates (words : List (List ℕ)) (asked : Asked) : Type 0 where
+  pub rest : List (List ℕ)
+  pub words_are : words ≡ codes "--states" ∷ decimal asked.states ∷ rest
+  pub count : IsCount asked.states
+  pub row : AreRow rest asked
+
+-- the words after the program's name ask for this
+abbrev pub Asks : List (List ℕ) → Asked → Type 0
+Asks words asked = ((asked.states ≡ usual_states) × AreRow words asked) ⊎ HasStates words asked
+
+-- the words ask for nothing
+abbrev pub AsksNothing : List (List ℕ) → Type 0
+AsksNothing words = (asked : Asked) → Asks words asked → ⊥
+
+-- what the words ask for; none if they ask for nothing
+abbrev pub Finds : List (List ℕ) → Option Asked → Type 0
+Finds words found = MatchOption found (AsksNothing words) (Asks words)

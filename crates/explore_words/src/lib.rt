@@ -1,0 +1,35 @@
+//! The words of the command line of `genirq-explore`, and what they ask for: a row of a line, for
+//! which a shortest log is looked for, and how many states are visited at most.
+//!
+//! A row may be one argument or several. It is the row of an entry, as logs have it, or it says how
+//! a line is left at rest: `1 rest disabled 0 pending`.
+#![tactic(auto)]
+
+ghost use Rattle.std.specs.Prelude.{◌≡◌, ℕ, List, map};
+ghost use Rattle.explore_words.specs.Words.{Asks, Finds};
+
+mod asking;
+mod joining;
+mod rests;
+mod rows;
+
+pub use asking::{MOST_STATES, USUAL_STATES, read_words};
+use irq_base::LineNo;
+use line_wanted::Wanted;
+
+/// What the program can be asked for: a shortest log of the line that is as wanted.
+#[derive(Clone, Copy, PartialEq, Eq)]
+pub struct Asked {
+    /// How many states of the line are visited at most: 1 to `MOST_STATES`.
+    pub states: u32,
+    /// The line.
+    pub line: LineNo,
+    /// What is wanted of it.
+    pub wanted: Wanted,
+}
+
+/// Words ask for one thing at most.
+pub fn asked_is_one()
+    ensures { (words : List (List ℕ)) (one other : Asked) → Asks words one → Asks words other
+        → one ≡ other }
+{}
