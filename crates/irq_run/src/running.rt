@@ -33,8 +33,9 @@ pub struct RanBoard {
 }
 
 /// Lays the board's lines over its domains, has the maker make them, puts each behind a lock, lets
-/// each of the board's actors step in a thread of its own until none can, and prints each line's
-/// entries, line by line, or with `summary` a summary of them. The board's picks are not used.
+/// the board's actors step in threads until none can, and prints each line's entries, line by line,
+/// or with `summary` a summary of them. Up to 64 actors have a thread each, if it can be made; more
+/// of them share threads. The board's picks are not used.
 /// Handlers are called as they are due, and the gate is called before each turn of a worker. All
 /// memory is taken before the first row is printed.
 pub fn run_and_print<
@@ -61,7 +62,7 @@ where
     ensures write_fault { Counts (O.faults out.old) (O.faults out.new) (is_write_fault result.end) }
     ensures silent { is_printing result.end ≡ false → out.new ≡ out.old }
 {
-    let Ok((layout, lines, mut jobs)) = share_board(alloc, board, maker) else {
+    let Ok((layout, lines, mut jobs)) = share_board(rt, alloc, board, maker) else {
         return unrun(alloc);
     };
     match run_rounds(rt, &lines, &mut jobs, gate, handlers) {
@@ -77,7 +78,8 @@ where
 
 /// Lays the board's lines over its domains, has the maker make them, and shares them. The only
 /// error is `NoMemory`.
-fn share_board<'b, M: MakesDomainLine>(
+fn share_board<'b, R: Threads, M: MakesDomainLine>(
+    rt: &R,
     alloc: Global,
     board: &'b Board,
     maker: &M,
@@ -89,7 +91,7 @@ fn share_board<'b, M: MakesDomainLine>(
     let (domains, layout) = lay(alloc, board)?;
     let maker = OverDomains::of_board(maker, &domains, board);
     let lines = make_lines(alloc, board, &layout, &maker)?;
-    let (lines, jobs) = share(alloc, board, lines)?;
+    let (lines, jobs) = share(rt, alloc, board, lines)?;
     Ok((layout, lines, jobs))
 }
 

@@ -1,7 +1,8 @@
 -- The lines come out of their locks.
 use Rattle.std.proofs.Common.{◌≡◌, ℕ, suc, ◌+◌, ◌<◌, inl, inr, Bool, true, false, cond, IsSomeAnd, Option, Some, None}
 use Rattle.std.proofs.Common.{Result, Ok, Err, IfOk, List, [], ◌∷◌, ◌++◌, map, filter, length, get_or, take, reverse}
-use Rattle.std.proofs.Common.{◌&&◌, slice_get, refl, sym, ap, ◌∙◌, subst, arith, append-nil, append_assoc}
+use Rattle.std.proofs.Common.{◌&&◌, slice_get, IsPermutation, ◌||◌, refl, sym, ap, ◌∙◌, subst, arith, append-nil}
+use Rattle.std.proofs.Common.{append_assoc}
 use Rattle.std.proofs.lemmas.Bool.{false≢true, false_from_ne_true}
 use Rattle.std.proofs.lemmas.List.{reverse-append, reverse-reverse}
 use Rattle.irq_base.specs.declared.calls.Call.{Call}
@@ -18,6 +19,8 @@ use Rattle.irq_model.specs.Due.{calls_by, entries_by, due_of, due_call}
 use Rattle.irq_model.specs.Kinds.{same_line, same_driver}
 use Rattle.irq_model.specs.Legal.{IsLegalPast}
 use Rattle.irq_steps.proofs.Same.{driver_from_same}
+use Rattle.std.specs.List.{list_any}
+use Rattle.std.proofs.lemmas.List.Sorted.{list_any-IsPermutation}
 use Rattle.irq_laws.proofs.Lists.{both_ways}
 use Rattle.board_def.specs.Rules.{IsBoard, has_driver}
 use Rattle.board_def.specs.Seen.{BoardSeen}
@@ -33,7 +36,7 @@ use Rattle.line_lock.specs.Knows.{is_among}
 use Rattle.line_lock.specs.Passes.{LockSeen, PassSeen}
 use Rattle.line_lock.specs.Placed.{same_actor}
 use Rattle.line_lock.proofs.Actors.{same_self_actor}
-use Rattle.workers.specs.Fit.{IsFirst, actors_on, has_worker, Fit}
+use Rattle.workers.specs.Fit.{IsFirst, actors_on, has_worker, workers_of, Fit}
 use Rattle.workers.specs.Gathers.{board_line, board_lines, IsHome, AreHome, seen_line, seen_lines, AreOut, Gathers, IsFinal, AreFinal, AreSound}
 use Rattle.workers.specs.Seen.{JobSeen, JobsSeen}
 use Rattle.workers.proofs.Lists.{at_snoc, of_map, there_or, none_left, length_snoc}
@@ -118,6 +121,17 @@ are_home lines s fit = record { as_many = fit.firsts.as_many; each = λ k p at. 
     by_line k p None is = absurd is
     by_line k p (Some l) is = record { of_line = is.of_line; idle = is.idle; first = is.actor }
 
+among_any : (who : Actor) (xs : List Actor) → is_among who xs ≡ list_any (same_actor who) xs
+among_any who [] = refl
+among_any who (x ∷ xs) = by_test (same_actor who x) (among_any who xs)
+  where
+    by_test : (b : Bool) → is_among who xs ≡ list_any (same_actor who) xs → cond b true (is_among who xs) ≡ (b || list_any (same_actor who) xs)
+    by_test true deeper = refl
+    by_test false deeper = deeper
+
+among_dealt : (who : Actor) (xs ys : List Actor) → IsPermutation xs ys → is_among who xs ≡ is_among who ys
+among_dealt who xs ys dealt = among_any who xs ∙ (list_any-IsPermutation (same_actor who) xs ys dealt ∙ sym (among_any who ys))
+
 among_right : (who : Actor) (xs ys : List Actor) → is_among who ys ≡ true → is_among who (xs ++ ys) ≡ true
 among_right who [] ys is = is
 among_right who (x ∷ xs) ys is = by_test (same_actor who x) (among_right who xs ys is)
@@ -136,7 +150,7 @@ gathers_first lines s fit =
       each = fit.each;
       out = λ k p at. by_line k p (slice_get lines k) (fit.firsts.each k p at);
       drivers = λ r declared. inl
-          (ap (λ (xs : List Actor). is_among (actors.Driver r) xs) fit.actors
+          (sym (among_dealt (actors.Driver r) (workers_of s.board lines) (map (λ (j : JobSeen). j.actor) s.jobs) fit.actors)
           ∙ among_right (actors.Driver r) (map (λ (x : DeviceDef). actors.Thread x.line x.dev)
           (filter (has_worker lines) s.board.devices)) (cpus_of s.board ++ drivers_of s.board)
           (among_right (actors.Driver r) (cpus_of s.board) (drivers_of s.board)

@@ -1,7 +1,7 @@
 -- One more job.
 use Rattle.std.proofs.Common.{◌≡◌, ℕ, suc, ◌+◌, ◌<◌, ◌≤◌, inl, inr, Bool, true, false, ◌&&◌, cond, nat_le, nat_lt}
 use Rattle.std.proofs.Common.{IsSomeAnd, Option, Some, None, List, [], ◌∷◌, ◌++◌, map, filter, take, length, get_or}
-use Rattle.std.proofs.Common.{slice_get, refl, sym, ap, ◌∙◌, subst, arith}
+use Rattle.std.proofs.Common.{slice_get, IsPermutation, refl, sym, ap, ◌∙◌, subst, arith}
 use Rattle.irq_base.specs.declared.entries.Actor.{Actor}
 use Rattle.irq_base.specs.declared.entries.Actor.TheVariants as actors
 use Rattle.irq_base.specs.declared.entries.Entry.{Entry}
@@ -194,22 +194,22 @@ span_range lines (actors.Cpu c) first end span = (let z = span.0 in omega (arith
 span_range lines (actors.Driver r) first end span = (let z = span.0 in omega (arith, z), let e = span.1 in omega (arith, e))
 
 -- the jobs of the first actors of the crew
-pub record AreHired (board : BoardSeen) (lines : List LockSeen) (i : ℕ) (s : JobsSeen) : Type 0 where
+pub record AreHired (board : BoardSeen) (lines : List LockSeen) (crew : List Actor) (i : ℕ) (s : JobsSeen) : Type 0 where
   pub same : s.board ≡ board
-  pub actors : map (λ (j : JobSeen). j.actor) s.jobs ≡ take i (workers_of board lines)
+  pub actors : map (λ (j : JobSeen). j.actor) s.jobs ≡ take i crew
   pub each : (k : ℕ) (j : JobSeen) → slice_get s.jobs k ≡ Some j → IsJob board lines j
   pub firsts : AreFirsts lines s.jobs s.firsts
 
-pub hired_more : (board : BoardSeen) (lines : List LockSeen) (i : ℕ) (a : Actor) (old new : JobsSeen)
-    → AreHired board lines i old → slice_get (workers_of board lines) i ≡ Some a → new.board ≡ old.board
-    → Hires lines a old new → AreHired board lines (i + 1) new
-hired_more board lines i a old new is at same h =
+pub hired_more : (board : BoardSeen) (lines : List LockSeen) (crew : List Actor) (i : ℕ) (a : Actor)
+    (old new : JobsSeen) → AreHired board lines crew i old → slice_get crew i ≡ Some a → new.board ≡ old.board
+    → Hires lines a old new → AreHired board lines crew (i + 1) new
+hired_more board lines crew i a old new is at same h =
     record {
       same = same ∙ is.same;
       actors = ap (map (λ (j : JobSeen). j.actor)) h.jobs
           ∙ (map_more (λ (j : JobSeen). j.actor) old.jobs h.job
           ∙ (ap (λ (x : Actor). map (λ (j : JobSeen). j.actor) old.jobs ++ x ∷ []) h.actor
-          ∙ (ap (λ (ws : List Actor). ws ++ a ∷ []) is.actors ∙ sym (taken (workers_of board lines) i a at))));
+          ∙ (ap (λ (ws : List Actor). ws ++ a ∷ []) is.actors ∙ sym (taken crew i a at))));
       each = each;
       firsts = h.firsts;
     }
@@ -220,11 +220,17 @@ hired_more board lines i a old new is at same h =
       | inr now ↦ subst (λ (x : JobSeen). IsJob board lines x) now.1 (subst (λ (b : BoardSeen). IsJob b lines h.job) is.same h.is)
     ]
 
-pub all_hired : (board : BoardSeen) (lines : List LockSeen) (i : ℕ) (s : JobsSeen) → AreBoards board lines
-    → AreHired board lines i s → length (workers_of board lines) ≤ i → Fit lines s
-all_hired board lines i s defs is end =
+pub all_hired : (board : BoardSeen) (lines : List LockSeen) (crew : List Actor) (i : ℕ) (s : JobsSeen)
+    → AreBoards board lines → IsPermutation (workers_of board lines) crew → AreHired board lines crew i s
+    → length crew ≤ i → Fit lines s
+all_hired board lines crew i s defs dealt is end =
     subst (λ (b : BoardSeen). Fit lines (record s { board = b })) (sym is.same)
-    (record { defs = defs; actors = is.actors ∙ all_taken (workers_of board lines) i end; each = is.each; firsts = is.firsts })
+    (record {
+      defs = defs;
+      actors = subst (IsPermutation (workers_of board lines)) (sym (is.actors ∙ all_taken crew i end)) dealt;
+      each = is.each;
+      firsts = is.firsts;
+    })
 
 -- ---- the same, as the code has it
 
@@ -257,17 +263,12 @@ hires_one lines here s board jobs firsts new who first end seats same is are spa
     }
 
 -- the actor at a place of the crew
-pub at_crew : (board : BoardSeen) (here lines : List LockSeen) (crew : List Actor) (i : ℕ) (a : Actor) → here ≡ lines
-    → crew ≡ workers_of board lines → i < length crew → a ≡ get_or crew i a
-    → slice_get (workers_of board here) i ≡ Some a
-at_crew board here lines crew i a same are less is =
-    ap (λ (ls : List LockSeen). slice_get (workers_of board ls) i) same
-    ∙ (ap (λ (ws : List Actor). slice_get ws i) (sym are)
-    ∙ (there_or crew i a less ∙ ap (λ (x : Actor). Some x) (sym is)))
+pub at_crew : (crew : List Actor) (i : ℕ) (a : Actor) → i < length crew → a ≡ get_or crew i a → slice_get crew i ≡ Some a
+at_crew crew i a less is = there_or crew i a less ∙ ap (λ (x : Actor). Some x) (sym is)
 
-pub all_crew : (board : BoardSeen) (here lines : List LockSeen) (crew : List Actor) (i : ℕ) → here ≡ lines
-    → crew ≡ workers_of board lines → length crew ≤ i → length (workers_of board here) ≤ i
-all_crew board here lines crew i same are end =
-    let e = ap (λ (ls : List LockSeen). length (workers_of board ls)) same in
-    let f = ap (λ (ws : List Actor). length ws) are in
-    omega (arith, e, f, end)
+-- the crew, as it was dealt
+pub dealt_crew : (board : BoardSeen) (here lines : List LockSeen) (crew dealt : List Actor) → here ≡ lines
+    → crew ≡ workers_of board lines → IsPermutation crew dealt → IsPermutation (workers_of board here) dealt
+dealt_crew board here lines crew dealt same are is = subst
+    (λ (ls : List LockSeen). IsPermutation (workers_of board ls) dealt) (sym same)
+    (subst (λ (ws : List Actor). IsPermutation ws dealt) are is)

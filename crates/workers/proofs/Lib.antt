@@ -16,3 +16,5 @@ pub mod Flowing
 pub mod Driving
 pub mod Driven
 pub mod Rounding
+pub mod Dealt
+pub mod Sweeping

@@ -1,8 +1,11 @@
 -- Who has a worker: each actor once.
-use Rattle.std.proofs.Common.{◌≡◌, ℕ, zero, suc, ◌+◌, ◌<◌, ◌≤◌, ◌||◌, inl, inr, Bool, true, false, cond, is_some}
-use Rattle.std.proofs.Common.{IsSomeAnd, Option, Some, None, List, [], ◌∷◌, ◌++◌, map, filter, take, length, get_or}
-use Rattle.std.proofs.Common.{slice_get, refl, sym, ap, ◌∙◌, subst, arith, add-one, append_assoc, append-nil}
-use Rattle.std.specs.List.{list_any}
+use Rattle.std.proofs.Common.{◌≡◌, ℕ, zero, suc, ◌+◌, ◌<◌, ◌≤◌, ◌||◌, inl, inr, Bool, true, false, cond, is_some, All}
+use Rattle.std.proofs.Common.{IsPermutation, IsSomeAnd, Option, Some, None, List, [], ◌∷◌, ◌++◌, map, filter, take}
+use Rattle.std.proofs.Common.{length, get_or, slice_get, refl, sym, ap, ◌∙◌, subst, arith, add-one, append_assoc}
+use Rattle.std.proofs.Common.{append-nil}
+use Rattle.std.specs.List.{list_any, IsDistinct, AllByRecursion}
+use Rattle.std.proofs.lemmas.List.Sorted.{All-permutation}
+use Rattle.std.proofs.lemmas.Map.Keys.{IsDistinct-IsPermutation}
 use Rattle.std.proofs.lemmas.Bool.{or_cases, and_parts, false_from_ne_true}
 use Rattle.irq_base.specs.Handlers.{has_thread}
 use Rattle.irq_base.specs.declared.devices.DeviceDef.{DeviceDef}
@@ -21,13 +24,13 @@ use Rattle.board_def.specs.Rules.{IsBoard}
 use Rattle.board_def.specs.Seen.{BoardSeen}
 use Rattle.board_def.specs.declared.rows.ScriptCall.{ScriptCall}
 use Rattle.board_play.specs.Order.{cpus_of, drivers_of}
-use Rattle.line_lock.proofs.Actors.{actor_from_same}
+use Rattle.line_lock.proofs.Actors.{actor_from_same, same_self_actor}
 use Rattle.line_lock.specs.Knows.{is_among}
 use Rattle.line_lock.specs.Passes.{LockSeen}
 use Rattle.line_lock.specs.Placed.{same_actor}
 use Rattle.workers.specs.Fit.{IsPlaceOf, has_worker, workers_of}
 use Rattle.workers.specs.Forks.{IsThere}
-use Rattle.workers.proofs.Lists.{there_or}
+use Rattle.workers.proofs.Lists.{there_or, within}
 
 -- ---- an order
 
@@ -72,12 +75,37 @@ above n (x ∷ xs) (suc i) a from at = above n xs i a from.1 at
 higher_differs : (a x : Actor) → rank x < rank a → same_actor a x ≡ false
 higher_differs a x less = false_from_ne_true (same_actor a x) (λ same. let e = ap rank (actor_from_same a x same) in omega (arith, e, less))
 
-not_before : (ws : List Actor) (i : ℕ) (a : Actor) → AreRising ws → slice_get ws i ≡ Some a → is_among a (take i ws) ≡ false
-not_before [] i a rising at = cc
-not_before (x ∷ xs) zero a rising at = refl
-not_before (x ∷ xs) (suc i) a rising at =
-    let less : suc (rank x) ≤ rank a = above (suc (rank x)) xs i a rising.0 at in
-    ap (λ (t : Bool). cond t true (is_among a (take i xs))) (higher_differs a x (omega (arith, less))) ∙ not_before xs i a rising.1 at
+flips : (a b : Actor) → same_actor a b ≡ same_actor b a
+flips a b = by_tests (same_actor a b) (same_actor b a) refl refl
+  where
+    by_tests : (s t : Bool) → same_actor a b ≡ s → same_actor b a ≡ t → s ≡ t
+    by_tests true true one other = refl
+    by_tests false false one other = refl
+    by_tests true false one other = absurd (both_ways (same_actor b a)
+        (subst (λ (x : Actor). same_actor x a ≡ true) (actor_from_same a b one) (same_self_actor a)) other)
+    by_tests false true one other = absurd (both_ways (same_actor a b)
+        (subst (λ (x : Actor). same_actor x b ≡ true) (actor_from_same b a other) (same_self_actor b)) one)
+
+distinct : (ws : List Actor) → AreRising ws → IsDistinct same_actor ws
+unfolding IsDistinct
+distinct [] rising = tt
+distinct (x ∷ xs) rising = (others xs rising.0, distinct xs rising.1)
+  where
+    others : (ys : List Actor) → AreFrom (suc (rank x)) ys → AllByRecursion (λ (y : Actor). same_actor x y ≡ false) ys
+    others [] from = tt
+    others (y ∷ ys) from = (flips x y ∙ higher_differs y x (let f = from.0 in omega (arith, f)), others ys from.1)
+
+-- of actors that differ from one another one isn't among those before it
+not_before : (ws : List Actor) (i : ℕ) (a : Actor) → IsDistinct same_actor ws → slice_get ws i ≡ Some a → is_among a (take i ws) ≡ false
+unfolding IsDistinct
+not_before [] i a each at = cc
+not_before (x ∷ xs) zero a each at = refl
+not_before (x ∷ xs) (suc i) a each at = ap (λ (t : Bool). cond t true (is_among a (take i xs))) (flips a x ∙ other xs i each.0 at) ∙ not_before xs i a each.1 at
+  where
+    other : (ys : List Actor) (i : ℕ) → AllByRecursion (λ (y : Actor). same_actor x y ≡ false) ys → slice_get ys i ≡ Some a → same_actor x a ≡ false
+    other [] i all at = cc
+    other (y ∷ ys) zero all at = subst (λ (z : Actor). same_actor x z ≡ false) (the_same y a at) all.0
+    other (y ∷ ys) (suc i) all at = other ys i all.1 at
 
 -- ---- threads
 
@@ -181,9 +209,12 @@ crew_rises board lines is =
     drivers_high = from_less 70000 80000 (drivers_of board) (omega arith) drivers_higher
 
 -- an actor of the crew differs from the actors before it
-pub is_new : (board : BoardSeen) (lines : List LockSeen) → IsBoard board → (i : ℕ) (a : Actor)
-    → slice_get (workers_of board lines) i ≡ Some a → is_among a (take i (workers_of board lines)) ≡ false
-is_new board lines is i a at = not_before (workers_of board lines) i a (crew_rises board lines is) at
+pub is_new : (board : BoardSeen) (lines : List LockSeen) → IsBoard board → (crew : List Actor)
+    → IsPermutation (workers_of board lines) crew → (i : ℕ) (a : Actor) → slice_get crew i ≡ Some a
+    → is_among a (take i crew) ≡ false
+is_new board lines is crew dealt i a at =
+    not_before crew i a (IsDistinct-IsPermutation same_actor flips (workers_of board lines) crew dealt
+    (distinct (workers_of board lines) (crew_rises board lines is))) at
 
 -- ---- their lines are there
 
@@ -223,10 +254,17 @@ drivers_there : (lines : List LockSeen) (rs : List DriverNo) → EachThere lines
 drivers_there lines [] = λ i a at. cc
 drivers_there lines (r ∷ rs) = first_there lines (driver_of r) (map driver_of rs) tt (drivers_there lines rs)
 
-pub is_there : (board : BoardSeen) (lines : List LockSeen) → EachThere lines (workers_of board lines)
-is_there board lines =
+all_there : (board : BoardSeen) (lines : List LockSeen) → EachThere lines (workers_of board lines)
+all_there board lines =
     both_there lines (threads_on lines board.devices) (cpus_of board ++ drivers_of board) (threads_there lines board.devices)
     (both_there lines (cpus_of board) (drivers_of board) (cpus_there lines (count_up 0 board.cpus)) (drivers_there lines board.drivers))
+
+pub is_there : (board : BoardSeen) (lines : List LockSeen) (crew : List Actor) → IsPermutation (workers_of board lines) crew → EachThere lines crew
+is_there board lines crew dealt i a at =
+    let all : All (IsThere lines) crew = All-permutation (IsThere lines) (workers_of board lines) crew dealt
+    (λ k d less. all_there board lines k (get_or (workers_of board lines) k d)
+    (there_or (workers_of board lines) k d less)) in
+    subst (λ (x : Actor). IsThere lines x) (the_same (get_or crew i a) a (sym (there_or crew i a (within crew i a at)) ∙ at)) (all i a (within crew i a at))
 
 -- ---- how the crew is made
 

@@ -1,7 +1,7 @@
 -- What a turn of each kind of actor leaves of its job.
 use Rattle.std.proofs.Common.{◌≡◌, ℕ, suc, ◌+◌, ◌<◌, ◌≤◌, inl, inr, Bool, true, false, ◌&&◌, nat_le, nat_lt, ltb-true}
 use Rattle.std.proofs.Common.{ltb-false, cond, All, IsSomeAnd, Option, Some, None, List, [], ◌∷◌, ◌++◌, map, filter}
-use Rattle.std.proofs.Common.{take, drop, length, get_or, slice_get, refl, sym, ap, ◌∙◌, subst, arith}
+use Rattle.std.proofs.Common.{take, drop, length, get_or, slice_get, IsPermutation, refl, sym, ap, ◌∙◌, subst, arith}
 use Rattle.irq_base.specs.declared.entries.Actor.{Actor}
 use Rattle.irq_base.specs.declared.entries.Actor.TheVariants as actors
 use Rattle.irq_base.specs.declared.lines.LineDef.{LineDef}
@@ -160,6 +160,9 @@ module _ (board : BoardSeen) (lines : List LockSeen) (now : JobSeen) (left : Lef
   left_so (lefts.Full line len) is = record { place = is.place; seat = is.seat; at = is.at; number = is.number; is = is.is; log = is.log }
   left_so lefts.NoMemory is = tt
 
+  pub job_left : IsJob board lines now → IsJob board lines (record now { left = left })
+  job_left j = record { seated = j.seated; manned = manned_left now.actor j.manned }
+
   pub left_at : (old new : JobSeen) → WorksOn board lines old now → LeftIsSo board now left → RoomLeft left old now
       → new ≡ record now { left = left } → WorksJob board lines old new
   left_at old new w is room same =
@@ -169,8 +172,7 @@ module _ (board : BoardSeen) (lines : List LockSeen) (now : JobSeen) (left : Lef
           actor = w.actor;
           first = w.first;
           as_many = w.as_many;
-          job
-              = record { seated = w.job.seated; manned = manned_left now.actor w.job.manned };
+          job = job_left w.job;
         };
         left
             = left_so left is;
@@ -229,7 +231,9 @@ pub still_fit : (lines : List LockSeen) (old new : JobsSeen) → Fit lines old �
 still_fit lines old new fit board firsts long each =
     record {
       defs = fit.defs ∙ ap defs_of (sym board);
-      actors = same_actors old.board lines old.jobs new.jobs long each ∙ (fit.actors ∙ ap (λ (b : BoardSeen). workers_of b lines) (sym board));
+      actors = subst (λ (b : BoardSeen). IsPermutation (workers_of b lines) (map (λ (j : JobSeen). j.actor) new.jobs)) (sym board)
+          (subst (λ (ws : List Actor). IsPermutation (workers_of old.board lines) ws)
+          (sym (same_actors old.board lines old.jobs new.jobs long each)) fit.actors);
       each = λ i j at. subst (λ (b : BoardSeen). IsJob b lines j) (sym board) (each_at old.board lines old.jobs new.jobs long each i j at).0;
       firsts = subst (λ (ps : List PassSeen). AreFirsts lines new.jobs ps) (sym firsts)
           (record {

@@ -1,7 +1,7 @@
 -- What it means that jobs fit their lines. Each part is a fact about one job.
 use Rattle.std.specs.Prelude.{◌≡◌, ℕ, ◌+◌, Bool, true, false, ◌≤◌, ◌&&◌, nat_le, nat_lt}
 use Rattle.std.specs.Prelude.{IsSomeAnd, Option, Some, None, List, ◌++◌, map, filter, reverse}
-use Rattle.std.specs.Prelude.{length, slice_get}
+use Rattle.std.specs.Prelude.{length, slice_get, IsPermutation}
 use Rattle.std.specs.List.{list_any}
 use Rattle.irq_base.specs.Handlers.{has_thread}
 use Rattle.irq_base.specs.declared.devices.DeviceDef.{DeviceDef}
@@ -127,9 +127,11 @@ pub record AreFirsts (lines : List LockSeen) (jobs : List JobSeen) (firsts : Lis
   pub each : (k : ℕ) (p : PassSeen) → slice_get firsts k ≡ Some p
       → IsSomeAnd (slice_get lines k) (λ l. IsFirst l (actors_on k jobs) p)
 
--- the lines are the board's, each actor has its job, each job is right, and nobody else has a pass
+-- the lines are the board's; each actor has one job, in whatever order; each job is right; and
+-- nobody
+-- else has a pass
 pub record Fit (lines : List LockSeen) (s : JobsSeen) : Type 0 where
   pub defs : map (λ (l : LockSeen). l.def) lines ≡ defs_of s.board
-  pub actors : map (λ (j : JobSeen). j.actor) s.jobs ≡ workers_of s.board lines
+  pub actors : IsPermutation (workers_of s.board lines) (map (λ (j : JobSeen). j.actor) s.jobs)
   pub each : (i : ℕ) (j : JobSeen) → slice_get s.jobs i ≡ Some j → IsJob s.board lines j
   pub firsts : AreFirsts lines s.jobs s.firsts

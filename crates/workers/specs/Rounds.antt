@@ -55,6 +55,21 @@ pub record WorksJob (board : BoardSeen) (lines : List LockSeen) (old new : JobSe
   pub left : LeftIsSo board new new.left
   pub room : RoomLeft new.left old new
 
+-- how a worker is left that was left so before in the round and made this of its next turns
+abbrev pub with_earlier : Left → Left → Left
+with_earlier lefts.Busy lefts.Idle = lefts.Busy
+with_earlier before left = left
+
+-- a worker's later part of a round: what was true of its round before is true of it still
+pub record GoesOn (board : BoardSeen) (lines : List LockSeen) (old new : JobSeen) : Type 0 where
+  pub works : WorksOn board lines old new
+  pub since : (start : JobSeen) → WorksJob board lines start old → WorksJob board lines start new
+
+-- each job after a later sweep of a round
+abbrev pub GoOnJobs : BoardSeen → List LockSeen → List JobSeen → List JobSeen → Type 0
+GoOnJobs board lines old new = (k : ℕ) (d : JobSeen) → k < length old
+    → GoesOn board lines (slice_index_or old k d) (slice_index_or new k d)
+
 -- each job after a round
 abbrev pub KeepsJobs : BoardSeen → List LockSeen → List JobSeen → List JobSeen → Type 0
 KeepsJobs board lines old new = (k : ℕ) (d : JobSeen) → k < length old

@@ -100,6 +100,16 @@ pub record StepsCpu (lines : List LockSeen) (place : ℕ) (turn : Turn) (old new
   pub full : FullIsSo new turn
   pub room : RoomAfter turn old new
 
+-- a processor's try on the line of its last step, or none: it has a flow on at most one line; if
+-- nothing was due, the flow is as it was
+pub record TriesLast (lines : List LockSeen) (turn : Turn) (old new : JobSeen) : Type 0 where
+  pub keeps : KeepsSeats lines old new
+  pub flow : HasOneFlow new
+  pub its : HasItsFlow new
+  pub still : turn ≡ turns.NotYet → new.flow ≡ old.flow
+  pub full : FullIsSo new turn
+  pub room : RoomAfter turn old new
+
 -- a processor's turn: if nothing was due, all its seats say so
 pub record TurnsCpu (lines : List LockSeen) (turn : Turn) (old new : JobSeen) : Type 0 where
   pub keeps : KeepsSeats lines old new

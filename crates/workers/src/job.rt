@@ -27,6 +27,8 @@ pub(crate) struct Job<L: IrqLine> {
     pub(crate) seats: Vec<Seat<L>>,
     /// Of a processor: the pass with which it has a flow in progress.
     pub(crate) flow: Option<usize>,
+    /// Of a processor: the pass with which it made its last step.
+    pub(crate) last: usize,
     /// Of a driver: how many of the board's calls it is past.
     pub(crate) at: usize,
     /// How many turns it has had in this run.

@@ -10,6 +10,7 @@ ghost use Rattle.workers.specs.Fit.{AreFirsts, Fit, IsJob, workers_of, actors_on
 ghost use Rattle.workers.specs.Forks.{Hires, AreBoards, IsThere};
 
 use crate::crew::make_crew;
+use crate::dealing::{deal, jobs_a_thread};
 use crate::forks::fork_all;
 use crate::job::{Job, Left};
 use crate::lines::SharedLines;
@@ -19,12 +20,15 @@ use irq_line::IrqLine;
 use line_shared::{Pass, SharedLine};
 use std::alloc::Global;
 use std::marker::Model;
+use std::thread::Threads;
 
 /// The jobs of all workers of a board, and the first pass of each line, with which the line is
 /// taken out of its lock at the end.
 #[derive(Drop)]
 pub struct Jobs<'b, L: IrqLine> {
     pub(crate) board: &'b Board,
+    /// How many of them share a thread, at least.
+    pub(crate) size: usize,
     pub(crate) jobs: Vec<Job<L>>,
     pub(crate) firsts: Vec<Pass<L>>,
 }
@@ -44,7 +48,8 @@ impl<'b, L: IrqLine> Model for Jobs<'b, L> {
 /// Shares each line, and gives a pass of it to each of its devices' threads, to each processor and
 /// to each driver. The lines are the board's lines that take part, in its order, and nothing has
 /// happened to them. The only error is `NoMemory`; then the lines are gone.
-pub fn share<'b, L: IrqLine>(
+pub fn share<'b, R: Threads, L: IrqLine>(
+    rt: &R,
     alloc: Global,
     board: &'b Board,
     lines: Vec<L>,
@@ -58,13 +63,16 @@ pub fn share<'b, L: IrqLine>(
     board.is_board();
     let (lines, firsts) = share_lines(alloc, lines)?;
     let crew = make_crew(alloc, board, &lines)?;
+    let size = jobs_a_thread(rt, crew.len());
+    let dealt = deal(alloc, &crew, size)?;
     let mut jobs = Jobs {
         board,
+        size,
         jobs: Vec::new(alloc),
         firsts,
     };
-    for i in 0..crew.len() {
-        jobs.hire(alloc, &lines, crew[i])?;
+    for i in 0..dealt.len() {
+        jobs.hire(alloc, &lines, dealt[i])?;
     }
     Ok((lines, jobs))
 }
@@ -122,6 +130,7 @@ impl<'b, L: IrqLine> Jobs<'b, L> {
             first,
             seats,
             flow: None,
+            last: 0,
             at: 0,
             turns: 0,
             left: Left::Idle,

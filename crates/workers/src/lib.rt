@@ -1,6 +1,6 @@
 //! Rounds of threads over shared lines: each device's thread, each processor and each driver of a
 //! board has a worker. A round here is the time in which each worker makes some steps, and no round
-//! of handlers within a flow.
+//! of handlers within a flow. Up to 64 workers have a thread each; more of them share threads.
 //!
 //! `share` puts each line of a board behind its lock and gives the actors their passes;
 //! `run_rounds` lets the workers step, until a round makes no step; `gather` takes the lines back.
@@ -9,6 +9,7 @@
 #![tactic(auto)]
 
 mod crew;
+mod dealing;
 mod drivers;
 mod forks;
 pub mod gate;
@@ -18,6 +19,7 @@ pub mod jobs;
 pub mod lines;
 pub mod rounds;
 mod seat;
+mod sweeps;
 mod turns;
 
 pub use gate::{Gate, NoGate};

@@ -1,10 +1,9 @@
-//! Rounds of threads: in each of them each job has a worker of its own.
+//! Rounds of threads over the jobs.
 ghost use Rattle.std.specs.Prelude.{◌≡◌, ◌<◌, ◌≤◌, ℕ, Some, All, length, slice_get};
 ghost use Rattle.workers.specs.Fit.{Fit, IsJob};
 ghost use Rattle.workers.specs.Forks.{AreBoards};
-ghost use Rattle.workers.specs.Room.{RoomLeft, room_of_jobs};
+ghost use Rattle.workers.specs.Room.{room_of_jobs};
 ghost use Rattle.workers.specs.Rounds.{BusyIsSo, EachLeftSo, Ends, KeepsJobs, SumsUp, worse};
-ghost use Rattle.workers.specs.Rounds.{LeftIsSo, TurnsJob, WorksJob, WorksOn};
 ghost use Rattle.workers.specs.Seen.{JobSeen};
 ghost use Rattle.workers.specs.declared.job.Left.TheVariants as lefts;
 
@@ -12,29 +11,14 @@ use crate::gate::Gate;
 use crate::job::{Job, Left};
 use crate::jobs::Jobs;
 use crate::lines::SharedLines;
-use crate::turns::{Turn, is_not_yet};
+use crate::sweeps::work_on;
 use board_def::Board;
 use callbacks::{Callbacks, Handler};
-use irq_base::{Actor, LineNo};
+use irq_base::LineNo;
 use irq_line::IrqLine;
-use std::hint::spin_loop;
 use std::sync::Wait;
+use std::sync::atomic::{AtomicU64, Ordering};
 use std::thread::{self, Threads};
-
-/// In a round a worker makes at most as many steps as the greatest length of a history divided by
-/// this. So a worker that could go on by itself, like a processor that takes a level line again and
-/// again until the thread of its device has run, leaves room for the workers that wait for the next
-/// round. Threads are made anew for each round, so a worker's part should not be small.
-const SHARE: u32 = 16;
-
-/// The least that the bound on a worker's steps in a round can be.
-const LEAST: u32 = 16;
-
-/// The most that the bound on a worker's steps in a round can be, however long histories may grow.
-const MOST: u32 = 65_536;
-
-/// How often a worker that finds nothing looks again before it ends its part of a round.
-const LOOKS: usize = 64;
 
 /// How the rounds ended.
 #[derive(Clone, Copy, PartialEq, Eq)]
@@ -69,128 +53,41 @@ pub fn run_rounds<
     ensures end { Ends jobs.new result }
     ensures room { room_of_jobs jobs.new.jobs ≤ room_of_jobs jobs.old.jobs }
 {
+    let mut size = jobs.size;
     loop {
-        match jobs.one_round(rt, lines, gate, handlers) {
+        let used_up = AtomicU64::new(0);
+        match jobs.one_round(rt, lines, size, &used_up, gate, handlers) {
             Left::Idle => return RoundsEnd::Quiet,
             Left::Busy => {}
             Left::Full { line, len } => return RoundsEnd::Full { line, len },
             Left::NoMemory => return RoundsEnd::NoMemory,
         }
+        let was_long = used_up.load(Ordering::SeqCst) > 0;
+        size = next_size(size, jobs.size, jobs.jobs.len(), was_long);
     }
 }
 
-impl<L: IrqLine> Job<L> {
-    /// One turn of the actor.
-    fn turn<R: Wait, H: Handler>(
-        &mut self,
-        rt: &R,
-        board: &Board,
-        lines: &SharedLines<L>,
-        handlers: &Callbacks<H>,
-    ) -> Turn
-        requires boards { AreBoards board.now lines.now }
-        requires job { IsJob board.now lines.now self.old }
-        ensures { TurnsJob board.now lines.now result self.old self.new }
-    {
-        match self.actor {
-            Actor::Thread(..) => self.try_seat(rt, lines, 0, handlers),
-            Actor::Cpu(_) => self.turn_cpu(rt, lines, handlers),
-            Actor::Driver(driver) => self.turn_driver(rt, board, lines, driver, handlers),
-        }
+/// How many jobs share a thread in the next round, if `size` did in this one: at least `least`, and
+/// at most all. If no thread used its part up, each soon waited for steps of another one, and half
+/// as many threads lose less time so. Jobs that have a thread each keep it.
+fn next_size(size: usize, least: usize, all: usize, was_long: bool) -> usize {
+    if least <= 1 {
+        return least;
     }
-
-    /// One turn of the actor, once the gate lets it pass.
-    fn turn_at_gate<R: Wait, G: Gate, H: Handler>(
-        &mut self,
-        rt: &R,
-        board: &Board,
-        lines: &SharedLines<L>,
-        gate: &G,
-        handlers: &Callbacks<H>,
-    ) -> Turn
-        requires boards { AreBoards board.now lines.now }
-        requires job { IsJob board.now lines.now self.old }
-        ensures { TurnsJob board.now lines.now result self.old self.new }
-    {
-        self.turns = self.turns.saturating_add(1);
-        gate.pass(self.actor, self.turns);
-        self.turn(rt, board, lines, handlers)
+    if was_long {
+        return (size / 2).max(least);
     }
-
-    /// Turns of the actor, until one finds something to do: at most `LOOKS` + 1 of them.
-    fn look<R: Wait, G: Gate, H: Handler>(
-        &mut self,
-        rt: &R,
-        board: &Board,
-        lines: &SharedLines<L>,
-        gate: &G,
-        handlers: &Callbacks<H>,
-    ) -> Turn
-        requires boards { AreBoards board.now lines.now }
-        requires job { IsJob board.now lines.now self.old }
-        ensures { TurnsJob board.now lines.now result self.old self.new }
-    {
-        for _ in 0..LOOKS {
-            let turn = self.turn_at_gate(rt, board, lines, gate, handlers);
-            if !is_not_yet(turn) {
-                return turn;
-            }
-            spin_loop();
-        }
-        self.turn_at_gate(rt, board, lines, gate, handlers)
-    }
-
-    /// Steps of the actor, as long as there is something to do, up to its part of the round.
-    fn take_turns<R: Wait, G: Gate, H: Handler>(
-        &mut self,
-        rt: &R,
-        board: &Board,
-        lines: &SharedLines<L>,
-        gate: &G,
-        handlers: &Callbacks<H>,
-    ) -> Left
-        requires boards { AreBoards board.now lines.now }
-        requires job { IsJob board.now lines.now self.old }
-        ensures works { WorksOn board.now lines.now self.old self.new }
-        ensures left { LeftIsSo board.now self.new result }
-        ensures room { RoomLeft result self.old self.new }
-    {
-        let most = (board.log() / SHARE).max(LEAST).min(MOST);
-        for steps in 0..most {
-            match self.look(rt, board, lines, gate, handlers) {
-                Turn::Moved(_) => {}
-                Turn::NotYet if steps > 0 => return Left::Busy,
-                Turn::NotYet => return Left::Idle,
-                Turn::Full { line, len } => return Left::Full { line, len },
-                Turn::NoMemory => return Left::NoMemory,
-            }
-        }
-        Left::Busy
-    }
-
-    /// A worker's part of a round.
-    fn work<R: Wait, G: Gate, H: Handler>(
-        &mut self,
-        rt: &R,
-        board: &Board,
-        lines: &SharedLines<L>,
-        gate: &G,
-        handlers: &Callbacks<H>,
-    )
-        requires boards { AreBoards board.now lines.now }
-        requires job { IsJob board.now lines.now self.old }
-        ensures { WorksJob board.now lines.now self.old self.new }
-    {
-        self.left = self.take_turns(rt, board, lines, gate, handlers);
-    }
+    size.saturating_mul(2).min(all)
 }
 
-/// One round: each job's worker has a thread of its own, if one can be made.
+/// One round: so many jobs each are worked on in a thread of their own, if it can be made.
 fn round<R: Threads + Wait + Sync, L: IrqLine + Send + Sync, G: Gate + Sync, H: Handler + Sync>(
     rt: &R,
     board: &Board,
     lines: &SharedLines<L>,
+    size: usize,
     jobs: &mut [Job<L>],
+    used_up: &AtomicU64,
     gate: &G,
     handlers: &Callbacks<H>,
 )
@@ -198,15 +95,11 @@ fn round<R: Threads + Wait + Sync, L: IrqLine + Send + Sync, G: Gate + Sync, H: 
     requires jobs { All (IsJob board.now lines.now) jobs.old }
     ensures { KeepsJobs board.now lines.now jobs.old jobs.new }
 {
-    let count = jobs.len();
-    if count == 0 {
-        return;
-    }
-    thread::for_each_mut(
+    thread::for_each_chunk_mut(
         rt,
         jobs,
-        count,
-        &|_, job| job.work(rt, board, lines, gate, handlers),
+        size.max(1),
+        &|_, part| work_on(rt, board, lines, part, used_up, gate, handlers),
     );
 }
 
@@ -216,6 +109,8 @@ impl<'b, L: IrqLine + Send + Sync> Jobs<'b, L> {
         &mut self,
         rt: &R,
         lines: &SharedLines<L>,
+        size: usize,
+        used_up: &AtomicU64,
         gate: &G,
         handlers: &Callbacks<H>,
     ) -> Left
@@ -229,7 +124,7 @@ impl<'b, L: IrqLine + Send + Sync> Jobs<'b, L> {
             → room_of_jobs self.new.jobs < room_of_jobs self.old.jobs }
     {
         let jobs = self.jobs.as_mut_slice();
-        round(rt, self.board, lines, jobs, gate, handlers);
+        round(rt, self.board, lines, size, jobs, used_up, gate, handlers);
         left_of_all(self.jobs.as_slice())
     }
 }
@@ -249,7 +144,7 @@ fn left_of_all<L: IrqLine>(jobs: &[Job<L>]) -> Left
 }
 
 /// Of two answers the one that comes first in that order.
-fn worse(first: Left, second: Left) -> Left
+pub(crate) fn worse(first: Left, second: Left) -> Left
     ensures { result ≡ worse first second }
 {
     match (first, second) {

@@ -1,8 +1,8 @@
 //! A worker's turns.
-ghost use Rattle.std.specs.Prelude.{◌≡◌, ◌<◌, ℕ, true, Some, length, slice_get};
+ghost use Rattle.std.specs.Prelude.{◌≡◌, ◌<◌, ℕ, true, Some, None, length, slice_get};
 ghost use Rattle.workers.specs.Fit.{AreSeated, HasOneFlow, HasItsFlow};
-ghost use Rattle.workers.specs.Turns.{StepsSeat, StepsCpu, TurnsCpu, turn_of, flow_after};
-ghost use Rattle.workers.specs.Turns.{is_not_yet};
+ghost use Rattle.workers.specs.Turns.{StepsSeat, StepsCpu, TriesLast, TurnsCpu, turn_of};
+ghost use Rattle.workers.specs.Turns.{flow_after, is_not_yet};
 
 use crate::job::Job;
 use crate::lines::SharedLines;
@@ -71,7 +71,8 @@ impl<L: IrqLine> Job<L> {
     }
 
     /// A processor's turn. If it has a flow in progress, it steps on the flow's line, where
-    /// something is always due of it; else on the first line on which an entry of it is due.
+    /// something is always due of it; else on the line of its last step, if an
+    /// entry of it is due there, or on the first on which one is.
     pub(crate) fn turn_cpu<R: Wait, H: Handler>(
         &mut self,
         rt: &R,
@@ -86,13 +87,39 @@ impl<L: IrqLine> Job<L> {
         if let Some(place) = self.flow {
             return self.step_cpu(rt, lines, place, handlers);
         }
+        match self.try_last(rt, lines, handlers) {
+            Turn::NotYet => {}
+            other => return other,
+        }
         for place in 0..self.seats.len() {
             let turn = self.step_cpu(rt, lines, place, handlers);
             if !is_not_yet(turn) {
+                self.last = place;
                 return turn;
             }
         }
         Turn::NotYet
+    }
+
+    /// Tries a processor's next step with the pass with which it made its last one, where it is
+    /// likely to have the next.
+    fn try_last<R: Wait, H: Handler>(
+        &mut self,
+        rt: &R,
+        lines: &SharedLines<L>,
+        handlers: &Callbacks<H>,
+    ) -> Turn
+        requires seated { AreSeated lines.now self.old }
+        requires flow { HasOneFlow self.old }
+        requires its { HasItsFlow self.old }
+        requires none { self.old.flow ≡ None }
+        ensures { TriesLast lines.now result self.old self.new }
+    {
+        let last = self.last;
+        if last >= self.seats.len() {
+            return Turn::NotYet;
+        }
+        self.step_cpu(rt, lines, last, handlers)
     }
 }
 

@@ -1,0 +1,104 @@
+-- One sweep of a round after another.
+use Rattle.std.proofs.Common.{◌≡◌, ℕ, ◌+◌, ◌<◌, ◌≤◌, inl, inr, All, List, length, get_or, set, sym, ◌∙◌, subst, arith}
+use Rattle.std.proofs.lemmas.List.{get_or-set_same, get_or-set_other, get_or_default}
+use Rattle.board_def.specs.Seen.{BoardSeen}
+use Rattle.line_lock.specs.Passes.{LockSeen}
+use Rattle.workers.specs.Fit.{IsJob}
+use Rattle.workers.specs.Room.{RoomLeft, room_of_seats}
+use Rattle.workers.specs.Rounds.{WorksOn, LeftIsSo, with_earlier, GoesOn, GoOnJobs, KeepsJobs}
+use Rattle.workers.specs.Seen.{JobSeen}
+use Rattle.workers.specs.declared.job.Left.{Left}
+use Rattle.workers.specs.declared.job.Left.TheVariants as lefts
+use Rattle.workers.proofs.Lists.{two}
+use Rattle.workers.proofs.Rounding.{works_first, works_more, job_left, left_at}
+
+-- ---- one job
+
+module _ (board : BoardSeen) (lines : List LockSeen) where
+  so : (now : JobSeen) (before left : Left) → LeftIsSo board now left → LeftIsSo board now (with_earlier before left)
+  so now lefts.Busy lefts.Idle is = tt
+  so now lefts.Busy lefts.Busy is = is
+  so now lefts.Busy (lefts.Full line len) is = is
+  so now lefts.Busy lefts.NoMemory is = is
+  so now lefts.Idle left is = is
+  so now (lefts.Full line len) left is = is
+  so now lefts.NoMemory left is = is
+
+  further : (start old now : JobSeen) (left : Left) → room_of_seats old.seats ≤ room_of_seats start.seats
+      → RoomLeft left old now → RoomLeft left start now
+  further start old now lefts.Idle a b = omega (arith, a, b)
+  further start old now lefts.Busy a b = omega (arith, a, b)
+  further start old now (lefts.Full line len) a b = omega (arith, a, b)
+  further start old now lefts.NoMemory a b = omega (arith, a, b)
+
+  -- the room that is left since the round's start
+  since_start : (start old now : JobSeen) (before left : Left) → RoomLeft before start old → RoomLeft left old now
+      → RoomLeft (with_earlier before left) start now
+  since_start start old now lefts.Busy lefts.Idle a b = omega (arith, a, b)
+  since_start start old now lefts.Busy lefts.Busy a b = omega (arith, a, b)
+  since_start start old now lefts.Busy (lefts.Full line len) a b = omega (arith, a, b)
+  since_start start old now lefts.Busy lefts.NoMemory a b = omega (arith, a, b)
+  since_start start old now lefts.Idle left a b = further start old now left a b
+  since_start start old now (lefts.Full line len) left a b = further start old now left a b
+  since_start start old now lefts.NoMemory left a b = further start old now left a b
+
+  pub goes_on : (old now new : JobSeen) (left : Left) → WorksOn board lines old now → LeftIsSo board now left
+      → RoomLeft left old now → new ≡ record now { left = with_earlier old.left left } → GoesOn board lines old new
+  goes_on old now new left w is room same =
+      record {
+        works = subst (WorksOn board lines old) (sym same)
+            (record {
+              actor = w.actor;
+              first = w.first;
+              as_many = w.as_many;
+              job = job_left board lines now (with_earlier old.left left) w.job;
+            });
+        since = λ start before. left_at board lines now (with_earlier old.left left) start new
+            (works_more board lines start old now before.works w) (so now old.left left is)
+            (since_start start old now old.left left before.room room) same;
+      }
+
+  pub goes_first : (j : JobSeen) → IsJob board lines j → GoesOn board lines j j
+  goes_first j job = record { works = works_first board lines j job; since = λ start before. before }
+
+  pub goes_more : (a b c : JobSeen) → GoesOn board lines a b → GoesOn board lines b c → GoesOn board lines a c
+  goes_more a b c v w = record { works = works_more board lines a b c v.works w.works; since = λ start before. w.since start (v.since start before) }
+
+  -- ---- all jobs of a thread
+
+  pub all_first : (jobs : List JobSeen) → All (IsJob board lines) jobs → GoOnJobs board lines jobs jobs
+  all_first jobs all k d less = goes_first (get_or jobs k d) (all k d less)
+
+  pub all_more : (a b c : List JobSeen) → length b ≡ length a → GoOnJobs board lines a b → GoOnJobs board lines b c → GoOnJobs board lines a c
+  all_more a b c long v w k d less = goes_more (get_or a k d) (get_or b k d) (get_or c k d) (v k d less) (w k d (omega (arith, long, less)))
+
+  pub all_since : (start a b : List JobSeen) → length a ≡ length start → KeepsJobs board lines start a
+      → GoOnJobs board lines a b → KeepsJobs board lines start b
+  all_since start a b long v w k d less = (w k d (omega (arith, long, less))).since (get_or start k d) (v k d less)
+
+  pub all_jobs_on : (a b : List JobSeen) → length b ≡ length a → GoOnJobs board lines a b → All (IsJob board lines) b
+  all_jobs_on a b long v k d less = (v k d (omega (arith, long, less))).works.job
+
+  pub all_jobs_kept : (a b : List JobSeen) → length b ≡ length a → KeepsJobs board lines a b → All (IsJob board lines) b
+  all_jobs_kept a b long v k d less = (v k d (omega (arith, long, less))).works.job
+
+-- a loop's step over the jobs: the job at k is done, those behind it are as they were
+pub swept : (R : JobSeen → JobSeen → Type 0) (xs ys : List JobSeen) (k : ℕ) (x y : JobSeen) → k < length ys → x ≡ get_or ys k x
+    → ((j : ℕ) (d : JobSeen) → k ≤ j → get_or ys j d ≡ get_or xs j d) × ((j : ℕ) (d : JobSeen) → j < k → R (get_or xs j d) (get_or ys j d)) → R x y
+    → ((j : ℕ) (d : JobSeen) → k + 1 ≤ j → get_or (set ys k y) j d ≡ get_or xs j d)
+    × ((j : ℕ) (d : JobSeen) → j < k + 1 → R (get_or xs j d) (get_or (set ys k y) j d))
+swept R xs ys k x y less is before here = (
+  λ j d h. get_or-set_other ys k j y d (λ e. omega arith) ∙ before.0 j d (omega arith),
+  λ j d h. elim (two j k h) [
+    | inl older ↦ subst (R (get_or xs j d)) (sym (get_or-set_other ys k j y d (λ e. omega arith))) (before.1 j d older)
+    | inr same ↦
+        subst (λ (n : ℕ). R (get_or xs n d) (get_or (set ys k y) n d)) (sym same)
+        (subst (R (get_or xs k d)) (sym (get_or-set_same ys k y d less))
+        (subst (λ (z : JobSeen). R z y) (is ∙ (get_or_default ys k x d less ∙ before.0 k d (omega arith))) here))
+  ],
+)
+
+-- what is required of the job at k
+pub job_at : (P : JobSeen → Type 0) (xs ys : List JobSeen) (k : ℕ) (x : JobSeen) → k < length ys → length ys ≡ length xs
+    → x ≡ get_or ys k x → ((j : ℕ) (d : JobSeen) → k ≤ j → get_or ys j d ≡ get_or xs j d) → All P xs → P x
+job_at P xs ys k x less long is left all = subst P (sym (is ∙ left k x (omega arith))) (all k x (omega (arith, less, long)))

@@ -1,0 +1,5 @@
+use Rattle.workers.specs.Rounds.{KeepsJobs}
+use Rattle.workers.proofs.sweeps.work_on.Given as goal
+
+abbrev pub invariant-loop : goal.invariant-loop
+invariant-loop g l = KeepsJobs l.board l.lines l.fn.jobs l.jobs

@@ -1,0 +1,262 @@
+//! What a thread does in a round: it sweeps over its jobs, again and again.
+ghost use Rattle.std.specs.Prelude.{◌≡◌, ◌<◌, All};
+ghost use Rattle.workers.specs.Fit.{IsJob};
+ghost use Rattle.workers.specs.Forks.{AreBoards};
+ghost use Rattle.workers.specs.Room.{RoomLeft};
+ghost use Rattle.workers.specs.Rounds.{GoesOn, GoOnJobs, KeepsJobs, LeftIsSo, TurnsJob, WorksJob};
+ghost use Rattle.workers.specs.Rounds.{WorksOn, with_earlier};
+
+use crate::gate::Gate;
+use crate::job::{Job, Left};
+use crate::lines::SharedLines;
+use crate::rounds::worse;
+use crate::turns::Turn;
+use board_def::Board;
+use callbacks::{Callbacks, Handler};
+use irq_base::Actor;
+use irq_line::IrqLine;
+use std::hint::spin_loop;
+use std::sync::Wait;
+use std::sync::atomic::{AtomicU64, Ordering};
+
+/// In a round a worker makes at most as many steps as the greatest length of a history divided by
+/// this. So a worker that could go on by itself, like a processor that takes a level line again and
+/// again until the thread of its device has run, leaves room for the workers that wait for the next
+/// round. Threads are made anew for each round, so a worker's part should not be small.
+const SHARE: u32 = 16;
+
+/// The least that the bound on a worker's steps in a round can be.
+const LEAST: u32 = 16;
+
+/// The most that the bound on a worker's steps in a round can be, however long histories may grow.
+const MOST: u32 = 65_536;
+
+/// How often a thread with one job looks again if it finds nothing, before its part of a round
+/// ends.
+const LOOKS: usize = 64;
+
+/// How often a thread with several jobs does so. A sweep takes longer then, and each look at a line
+/// that has changed keeps those waiting who step it.
+const LOOKS_OVER_SEVERAL: usize = 2;
+
+impl<L: IrqLine> Job<L> {
+    /// One turn of the actor.
+    fn turn<R: Wait, H: Handler>(
+        &mut self,
+        rt: &R,
+        board: &Board,
+        lines: &SharedLines<L>,
+        handlers: &Callbacks<H>,
+    ) -> Turn
+        requires boards { AreBoards board.now lines.now }
+        requires job { IsJob board.now lines.now self.old }
+        ensures { TurnsJob board.now lines.now result self.old self.new }
+    {
+        match self.actor {
+            Actor::Thread(..) => self.try_seat(rt, lines, 0, handlers),
+            Actor::Cpu(_) => self.turn_cpu(rt, lines, handlers),
+            Actor::Driver(driver) => self.turn_driver(rt, board, lines, driver, handlers),
+        }
+    }
+
+    /// One turn of the actor, once the gate lets it pass.
+    fn turn_at_gate<R: Wait, G: Gate, H: Handler>(
+        &mut self,
+        rt: &R,
+        board: &Board,
+        lines: &SharedLines<L>,
+        gate: &G,
+        handlers: &Callbacks<H>,
+    ) -> Turn
+        requires boards { AreBoards board.now lines.now }
+        requires job { IsJob board.now lines.now self.old }
+        ensures { TurnsJob board.now lines.now result self.old self.new }
+    {
+        self.turns = self.turns.saturating_add(1);
+        gate.pass(self.actor, self.turns);
+        self.turn(rt, board, lines, handlers)
+    }
+
+    /// Steps of the actor, as long as there is something to do, at most `most`.
+    fn take_turns<R: Wait, G: Gate, H: Handler>(
+        &mut self,
+        rt: &R,
+        board: &Board,
+        lines: &SharedLines<L>,
+        most: u32,
+        gate: &G,
+        handlers: &Callbacks<H>,
+    ) -> Left
+        requires boards { AreBoards board.now lines.now }
+        requires job { IsJob board.now lines.now self.old }
+        requires some { 0 < most }
+        ensures works { WorksOn board.now lines.now self.old self.new }
+        ensures left { LeftIsSo board.now self.new result }
+        ensures room { RoomLeft result self.old self.new }
+    {
+        for steps in 0..most {
+            match self.turn_at_gate(rt, board, lines, gate, handlers) {
+                Turn::Moved(_) => {}
+                Turn::NotYet if steps > 0 => return Left::Busy,
+                Turn::NotYet => return Left::Idle,
+                Turn::Full { line, len } => return Left::Full { line, len },
+                Turn::NoMemory => return Left::NoMemory,
+            }
+        }
+        Left::Busy
+    }
+
+    /// The first that a worker does in a round.
+    fn work<R: Wait, G: Gate, H: Handler>(
+        &mut self,
+        rt: &R,
+        board: &Board,
+        lines: &SharedLines<L>,
+        most: u32,
+        gate: &G,
+        handlers: &Callbacks<H>,
+    )
+        requires boards { AreBoards board.now lines.now }
+        requires job { IsJob board.now lines.now self.old }
+        requires some { 0 < most }
+        ensures { WorksJob board.now lines.now self.old self.new }
+    {
+        self.left = self.take_turns(rt, board, lines, most, gate, handlers);
+    }
+
+    /// What a worker does later in the round, and how this went. If it made a step before, it is
+    /// left as one that made a step, also if there is nothing more to do.
+    fn go_on<R: Wait, G: Gate, H: Handler>(
+        &mut self,
+        rt: &R,
+        board: &Board,
+        lines: &SharedLines<L>,
+        most: u32,
+        gate: &G,
+        handlers: &Callbacks<H>,
+    ) -> Left
+        requires boards { AreBoards board.now lines.now }
+        requires job { IsJob board.now lines.now self.old }
+        requires some { 0 < most }
+        ensures { GoesOn board.now lines.now self.old self.new }
+    {
+        let before = self.left;
+        let left = self.take_turns(rt, board, lines, most, gate, handlers);
+        self.left = with_earlier(before, left);
+        left
+    }
+}
+
+/// How a worker is left that was left so before and made this of its next turns.
+fn with_earlier(before: Left, left: Left) -> Left
+    ensures { result ≡ with_earlier before left }
+{
+    match left {
+        Left::Idle if before == Left::Busy => before,
+        _ => left,
+    }
+}
+
+/// A thread's part of a round: sweeps over its jobs, as long as one of the workers finds something
+/// to do. With several jobs each gets some steps at once. It is counted if it was used up, that is,
+/// if there was still something to do.
+pub(crate) fn work_on<R: Wait, L: IrqLine, G: Gate, H: Handler>(
+    rt: &R,
+    board: &Board,
+    lines: &SharedLines<L>,
+    jobs: &mut [Job<L>],
+    used_up: &AtomicU64,
+    gate: &G,
+    handlers: &Callbacks<H>,
+)
+    requires boards { AreBoards board.now lines.now }
+    requires jobs { All (IsJob board.now lines.now) jobs.old }
+    ensures { KeepsJobs board.now lines.now jobs.old jobs.new }
+{
+    let most = (board.log() / SHARE).max(LEAST).min(MOST);
+    let at_once = if jobs.len() > 1 {
+        (most / SHARE).max(LEAST)
+    } else {
+        1
+    };
+    sweep_first(rt, board, lines, jobs, at_once, gate, handlers);
+    for _ in 0..most / at_once {
+        if look(rt, board, lines, jobs, at_once, gate, handlers) != Left::Busy {
+            return;
+        }
+    }
+    used_up.fetch_add(1, Ordering::SeqCst);
+}
+
+/// Sweeps over the jobs, until a worker finds something to do, or none has for some sweeps.
+fn look<R: Wait, L: IrqLine, G: Gate, H: Handler>(
+    rt: &R,
+    board: &Board,
+    lines: &SharedLines<L>,
+    jobs: &mut [Job<L>],
+    at_once: u32,
+    gate: &G,
+    handlers: &Callbacks<H>,
+) -> Left
+    requires boards { AreBoards board.now lines.now }
+    requires jobs { All (IsJob board.now lines.now) jobs.old }
+    requires some { 0 < at_once }
+    ensures { GoOnJobs board.now lines.now jobs.old jobs.new }
+{
+    let looks = if jobs.len() > 1 {
+        LOOKS_OVER_SEVERAL
+    } else {
+        LOOKS
+    };
+    for _ in 0..looks {
+        let left = sweep(rt, board, lines, jobs, at_once, gate, handlers);
+        if left != Left::Idle {
+            return left;
+        }
+        spin_loop();
+    }
+    sweep(rt, board, lines, jobs, at_once, gate, handlers)
+}
+
+/// The round's first sweep: each worker has its first turns.
+fn sweep_first<R: Wait, L: IrqLine, G: Gate, H: Handler>(
+    rt: &R,
+    board: &Board,
+    lines: &SharedLines<L>,
+    jobs: &mut [Job<L>],
+    at_once: u32,
+    gate: &G,
+    handlers: &Callbacks<H>,
+)
+    requires boards { AreBoards board.now lines.now }
+    requires jobs { All (IsJob board.now lines.now) jobs.old }
+    requires some { 0 < at_once }
+    ensures { KeepsJobs board.now lines.now jobs.old jobs.new }
+{
+    for i in 0..jobs.len() {
+        jobs[i].work(rt, board, lines, at_once, gate, handlers);
+    }
+}
+
+/// A later sweep: each worker has some turns. The answer is that which comes first of theirs.
+fn sweep<R: Wait, L: IrqLine, G: Gate, H: Handler>(
+    rt: &R,
+    board: &Board,
+    lines: &SharedLines<L>,
+    jobs: &mut [Job<L>],
+    at_once: u32,
+    gate: &G,
+    handlers: &Callbacks<H>,
+) -> Left
+    requires boards { AreBoards board.now lines.now }
+    requires jobs { All (IsJob board.now lines.now) jobs.old }
+    requires some { 0 < at_once }
+    ensures { GoOnJobs board.now lines.now jobs.old jobs.new }
+{
+    let mut all = Left::Idle;
+    for i in 0..jobs.len() {
+        let left = jobs[i].go_on(rt, board, lines, at_once, gate, handlers);
+        all = worse(all, left);
+    }
+    all
+}
