@@ -1,0 +1,32 @@
+-- What a search through the states of a line keeps.
+use Rattle.std.specs.Prelude.{◌≡◌, ◌≤◌, Bool, map, length}
+use Rattle.irq_base.specs.contracts.entries.EntryPartialEq.TheImpl as entry_eq
+use Rattle.irq_base.specs.declared.entries.Entry.{Entry}
+use Rattle.irq_base.specs.declared.lines.LineDef.{LineDef}
+use Rattle.irq_model.specs.Legal.{IsDue}
+use Rattle.irq_model.specs.Valid.{IsValid}
+use Rattle.line_words.specs.Node.{node, drivers_in}
+use Rattle.state_search.specs.Firsts.{AreFirsts}
+use Rattle.state_search.specs.Paths.{Searches, AreCounted, GoesOn}
+use Rattle.state_search.specs.Seen.{SearchSeen, cut_of}
+use Rattle.line_survey.specs.declared.searching.LineSearch.TheInside.{Inside}
+
+-- the entries are equal
+abbrev pub same_entry : Entry → Entry → Bool
+same_entry = (entry_eq.eq-value).it
+
+-- what was found is what there is of the line: the paths are its legal pasts, one to each state;
+-- the numbers, the entries that are due, and how many they are, are right
+pub record IsOfLine (def : LineDef) (s : SearchSeen Entry) : Type 0 where
+  pub searches : Searches (IsDue def) (node def) s.paths s.looked (cut_of s)
+  pub states : s.states ≡ map (node def) s.paths
+  pub firsts : AreFirsts same_entry (IsDue def) s.paths (cut_of s) s.firsts
+  pub counted : length s.counts ≡ s.looked
+  pub counts : AreCounted (IsDue def) s.paths s.counts
+  pub goes_on : GoesOn (IsDue def) s.paths s.looked
+  pub few : length s.paths ≤ 100000000
+
+pub record IsSearch (s : Inside) : Type 0 where
+  pub valid : IsValid s.def
+  pub drivers : s.drivers.items ≡ drivers_in s.def.calls
+  pub line : IsOfLine s.def s.searched

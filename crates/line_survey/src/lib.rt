@@ -1,0 +1,15 @@
+//! What can come on a line at all, over all its legal histories: a shortest history to whatever is
+//! wanted, and a survey of all states.
+#![tactic(auto)]
+
+pub mod answer;
+mod leaving;
+mod resting;
+mod rows;
+pub mod searching;
+pub mod survey;
+mod surveying;
+
+pub use answer::Answer;
+pub use searching::LineSearch;
+pub use survey::{EntryRow, RestRow, Survey};
