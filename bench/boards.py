@@ -30,6 +30,17 @@ def crowd(rounds):
     return rows
 
 
+def crowd_threads(rounds):
+    """64 lines, half of them fast-EOI, with 32 processors and 64 drivers: on each line three one-shot devices have threads that
+    never find anything, and a fourth that nobody requests asks, until it is killed after so many rounds."""
+    rows = ["board 1", "cpus 32", f"spurious {rounds} {rounds - 100}", "log 62500", "domain w linear 64 level", "domain g linear 64 eoi"]
+    rows += [f"line {i} {'gw'[i % 2]} {i - 1} mask {1 << (i - 1) % 32}" for i in range(1, 65)]
+    rows += [f"device {d} {(d - 1) // 4 + 1} {'direct' if d % 4 == 0 else 'null'}" for d in range(1, 257)]
+    for i in range(1, 65):
+        rows += [f"driver {i}", *(f"request {d} shared oneshot" for d in range(4 * i - 3, 4 * i)), f"ask {4 * i}"]
+    return rows
+
+
 def calls():
     """64 lines of messages whose devices have threads, and all the calls that a board may have."""
     rows = ["board 1", "cpus 32", "log 62500", "domain vector linear 64 vector", "domain msi tree msi parent vector"]
@@ -69,6 +80,7 @@ def main(folder):
         "storms.board": "\n".join(storms(4, 249990)) + "\n",
         "three_storms.board": "\n".join(storms(3, 232000)) + "\n",
         "crowd.board": "\n".join(crowd(6200)) + "\n",
+        "crowd_threads.board": "\n".join(crowd_threads(3100)) + "\n",
         "threads.board": "\n".join(calls()) + "\n",
         "wide_storms.board": "\n".join(storms(32, 31249, 125000, True)) + "\n",
         "few_storms.board": "\n".join(storms(4, 1500)) + "\n",
