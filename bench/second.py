@@ -208,8 +208,8 @@ class Line:
                 return False
         return True
 
-    def is_sent(self, past):
-        """Whether the cell of an edge line presents an edge: what its operations leave, entry by entry."""
+    def cell(self, past):
+        """Whether the cell of an edge line presents an edge, and whether it stores one: what its operations leave."""
         masked, sent, stored = True, False, False
         for at, e in enumerate(past):
             if is_take(e):
@@ -224,11 +224,11 @@ class Line:
                 masked, sent, stored = False, sent or stored, False
             if is_start(e) and e[-1] == "chip" or self.flow_kind == "eoi" and goes_again(e):
                 sent = True
-        return sent
+        return (sent, stored) if self.trigger == "edge" else (False, False)
 
     def signals(self, past):
         if self.trigger == "edge":
-            return self.is_sent(past)
+            return self.cell(past)[0]
         return self.is_high(past) and not self.is_masked(past) and not (self.flow_kind == "eoi" and self.flow(past))
 
     def target(self, past):
@@ -286,6 +286,10 @@ class Line:
 
     def note(self, past):
         """The note of an end that comes after the past."""
+        return self.judge(self.counts(past), past)
+
+    def counts(self, past):
+        """What is kept for the note."""
         counts = {"irqs": 0, "unhandled": 0, "handled": 0, "last": 0, "deferred": False, "now": 0, "at": 0}
         for at, e in enumerate(past):
             if e[1] == "end":
@@ -296,7 +300,7 @@ class Line:
                 counts["irqs"] = counts["unhandled"] = 0
             elif e[0][0] == "t" and e[1] == "return":
                 counts["handled"] += e[2] != "0"
-        return self.judge(counts, past)
+        return counts
 
     def judge(self, counts, past):
         said = {e[3] for e in self.round(past) if is_return(e)}

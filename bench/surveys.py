@@ -1,0 +1,135 @@
+#!/usr/bin/env python3
+"""surveys.py < BOARD: what can come on each line of a board, over all its legal histories, by the rules of bench/second.py.
+
+It prints the rows of `genirq-explore` behind the layout. It searches over histories, and keeps one of those with equal futures;
+a board on which more than 3,000 states come isn't searched.
+"""
+
+import sys
+from pathlib import Path
+
+sys.path.insert(0, str(Path(__file__).resolve().parent.parent / "tools"))
+from repository import say_help, stop  # noqa: E402
+from second import Board, Unread, after_last, by, goes_again, is_begin, is_kill, is_linked, is_return, is_start, is_take, since  # noqa: E402
+
+# A search of more states isn't made.
+MOST_STATES = 3_000
+
+
+def actors_of(line):
+    """Who may have an entry due, in the order in which a state is asked: threads, the flow's processor, the taker, drivers."""
+    flow, taker = line.flow(line.past), line.target(line.past)
+    cpus = [flow, taker] if flow and flow != taker else [taker]
+    mine = {driver for driver, calls in line.board.scripts.items() if any(number == line.number for number, _ in calls)}
+    return [*(f"t{dev}" for dev in sorted(line.devices(), key=int)), *cpus, *(it for it in line.board.actors("d") if it in mine)]
+
+
+def waits_for_level(line, past):
+    """The mask in force, and the one that waits."""
+    mask, waiting = line.mask, None
+    for e in past:
+        if is_take(e) and waiting is not None:
+            mask, waiting = waiting, None
+        if e[1] == "affinity" and e[3] != "refused":
+            mask, waiting = (int(e[2]), None) if e[3] == "now" else (mask, int(e[2]))
+    return mask, waiting
+
+
+def counts_of(line, past):
+    """What is kept of the note; of the runs of threads that served, whether there was one since the last judgement."""
+    counts = line.counts(past)
+    differ = counts["handled"] != counts["last"]
+    return tuple(counts[it] for it in ("irqs", "unhandled", "deferred", "now", "at")) + (differ,)
+
+
+def device_state(line, past, dev, working):
+    """What is kept of a device: of its asks, of its thread, and what a run that is at work has met."""
+    kind, thread = line.board.devices[dev][1], line.is_running(past, dev)
+    run = since(past, by("t" + dev, "begin")) if thread else []
+    stage = 0 if not thread else 1 + sum(any(map(by("t" + dev, verb), run)) for verb in ("return", "finish"))
+    handler_begin = since(past, is_begin) if working == dev else []
+    met = line.unserved(past[: len(past) - len(handler_begin) - 1], dev) if working == dev else 0
+    met_by_thread = line.unserved(past[: len(past) - len(run) - 1], dev) if stage == 1 else 0
+    serving = handler_begin if kind == "direct" else run if kind in ("check", "null") and stage == 1 else []
+    fresh = sum(1 for e in serving if e[1:] == ("ask", dev))
+    return line.unserved(past, dev), fresh, met, met_by_thread, line.is_woken(past, dev), stage, line.is_unfinished(past, dev)
+
+
+def state_of(line, past):
+    """All on which the line's future depends. Two histories with one state have the same futures."""
+    flow, working, linked = line.flow(past), line.at_work(past), line.linked(past)
+    round_ = line.round(past) if flow else []
+    started = after_last(past, is_start, lambda e: e[1] == "unlink" and e[3] == "last")
+    freeing = next((e for e in reversed(past) if e[1] in ("unlink", "freed") and e[-1] != "notthere"), None)
+    return (
+        line.depth(past), started, line.is_masked(past), line.is_pending(past), line.is_oneshot(past), line.is_soft(past), flow, working,
+        after_last(past, is_kill, is_linked), line.cell(past), waits_for_level(line, past), counts_of(line, past),
+        tuple((dev, line.flags_of(past, dev)) for dev in linked),
+        frozenset(e[2] for e in round_ if is_begin(e)), frozenset(e[3] for e in round_ if is_return(e)) - {"nothing"},
+        freeing[:3] if freeing and freeing[1] == "unlink" else None,
+        tuple(device_state(line, past, dev, working) for dev in line.devices()),
+        tuple(line.due_call(driver, past) and (left_of(line, driver, past), line.due_call(driver, past)[1]) for driver in line.board.scripts),
+    )  # fmt: skip
+
+
+def left_of(line, driver, past):
+    """How many of the driver's calls on the line are not complete."""
+    own, left = [e for e in past if e[0] == driver], 0
+    for number, call in line.board.scripts[driver]:
+        if number == line.number:
+            needs = {"sync": 2, "disable": 3, "free": 3}.get(call[0], 1)
+            needs = 1 if call[0] == "free" and own and own[0][-1] == "notthere" else needs
+            left, own = (left, own[needs:]) if len(own) >= needs else (left + 1, [])
+    return left
+
+
+def rest_of(line, past):
+    """How the history leaves the line, as in a row of rest."""
+    killed = after_last(past, is_kill, is_linked)
+    standing = "stopped" if not line.linked(past) else "enabled" if not line.is_off(past) else "killed" if killed else "disabled"
+    stored, pending = line.cell(past)[1], line.trigger == "edge" and line.is_pending(past)
+    waits = {(False, False): "-", (True, False): "stored", (False, True): "pending", (True, True): "both"}[stored, pending]
+    return f"{line.number} rest {standing} {sum(line.unserved(past, dev) for dev in line.devices())} {waits}"
+
+
+def survey_of(line):
+    """The rows of the line."""
+    queue, known, moves, rests, rows = [[]], {state_of(line, [])}, 0, {}, {}
+    for past in queue:
+        line.past = past
+        found = [e for actor in actors_of(line) if (e := line.due(actor, past))]
+        moves += len(found)
+        if not found:
+            row = rest_of(line, past)
+            rests[row] = rests.get(row, (len(past), 0))[0], rests.get(row, (0, 0))[1] + 1
+        for entry in found:
+            rows.setdefault(" ".join((line.number, *entry)), len(past) + 1)
+            state = state_of(line, [*past, entry])
+            if state not in known:
+                known.add(state)
+                queue.append([*past, entry])
+        if len(queue) > MOST_STATES:
+            raise Unread("many states")
+    yield f"line {line.number} states {len(queue)} moves {moves} rest {sum(count for _, count in rests.values())}"
+    yield from (f"{length} {row} states {count}" for row, (length, count) in rests.items())
+    yield from (f"{length} {row}" for row, length in rows.items())
+
+
+def surveys_of(text):
+    """The rows of all lines that take part."""
+    return [row for line in Board(text).lines for row in survey_of(line)]
+
+
+def main(words):
+    if words == ["--help"]:
+        say_help(__doc__)
+    if words:
+        stop("bench/surveys.py < BOARD")
+    try:
+        print("\n".join(surveys_of(sys.stdin.read())))
+    except Unread as why:
+        sys.exit(f"surveys.py: {why}")
+
+
+if __name__ == "__main__":
+    main(sys.argv[1:])
