@@ -1,8 +1,9 @@
 #!/usr/bin/env python3
-"""surveys.py < BOARD: what can come on each line of a board, over all its legal histories, by the rules of bench/second.py.
+"""surveys.py [ROW] < BOARD: what can come on each line of a board, over all its legal histories, by the rules of bench/second.py.
 
-It prints the rows of `genirq-explore` behind the layout. It searches over histories, and keeps one of those with equal futures;
-a board on which more than 3,000 states come isn't searched.
+It prints what `genirq-explore` prints: without a row totals, ways in which a line is left at rest, and rows that can come; of a
+row, which is words or one of them, a shortest log that ends so, or `never`. It searches over histories, and keeps one of those
+with equal futures; a line on which more than 3,000 states come isn't searched. Nothing is said of the layout.
 """
 
 import sys
@@ -92,43 +93,68 @@ def rest_of(line, past):
     return f"{line.number} rest {standing} {sum(line.unserved(past, dev) for dev in line.devices())} {waits}"
 
 
-def survey_of(line):
-    """The rows of the line."""
-    queue, known, moves, rests, rows = [[]], {state_of(line, [])}, 0, {}, {}
-    for past in queue:
-        line.past = past
-        found = [e for actor in actors_of(line) if (e := line.due(actor, past))]
-        moves += len(found)
+class Survey:
+    """A search through the line's states: how many there are, how many steps they have, and of each way in which the line is left
+    and of each row that can come a shortest history."""
+
+    def __init__(self, line):
+        self.line, self.pasts, self.moves, self.rests, self.rows = line, [[]], 0, {}, {}
+        known = {state_of(line, [])}
+        for past in self.pasts:
+            for after in self.after(past):
+                state = state_of(line, after)
+                if state not in known:
+                    known.add(state)
+                    self.pasts.append(after)
+            if len(self.pasts) > MOST_STATES:
+                raise Unread("many states")
+
+    def after(self, past):
+        """The histories that are longer by an entry."""
+        self.line.past = past
+        found = [[*past, e] for actor in actors_of(self.line) if (e := self.line.due(actor, past))]
+        self.moves += len(found)
         if not found:
-            row = rest_of(line, past)
-            rests[row] = rests.get(row, (len(past), 0))[0], rests.get(row, (0, 0))[1] + 1
-        for entry in found:
-            rows.setdefault(" ".join((line.number, *entry)), len(past) + 1)
-            state = state_of(line, [*past, entry])
-            if state not in known:
-                known.add(state)
-                queue.append([*past, entry])
-        if len(queue) > MOST_STATES:
-            raise Unread("many states")
-    yield f"line {line.number} states {len(queue)} moves {moves} rest {sum(count for _, count in rests.values())}"
-    yield from (f"{length} {row} states {count}" for row, (length, count) in rests.items())
-    yield from (f"{length} {row}" for row, length in rows.items())
+            self.rests.setdefault(rest_of(self.line, past), []).append(past)
+        for after in found:
+            self.rows.setdefault(" ".join((self.line.number, *after[-1])), after)
+        return found
+
+    def told(self):
+        """The rows of the survey."""
+        number, at_rest = self.line.number, sum(map(len, self.rests.values()))
+        yield f"line {number} states {len(self.pasts)} moves {self.moves} rest {at_rest}"
+        yield from (f"{len(pasts[0])} {row} states {len(pasts)}" for row, pasts in self.rests.items())
+        yield from (f"{len(past)} {row}" for row, past in self.rows.items())
+
+    def log(self, row):
+        """The rows of a shortest log that ends with the row, or is at rest so."""
+        past = self.rests[row][0] if row in self.rests else self.rows.get(row)
+        return ["never"] if past is None else [" ".join((self.line.number, *e)) for e in past]
 
 
 def surveys_of(text):
     """The rows of all lines that take part."""
-    return [row for line in Board(text).lines for row in survey_of(line)]
+    return [row for line in Board(text).lines for row in Survey(line).told()]
+
+
+def log_of(text, row):
+    """A shortest log of the row's line that ends with it."""
+    return next(Survey(line).log(row) for line in Board(text).lines if line.number == row.split(" ")[0])
 
 
 def main(words):
     if words == ["--help"]:
         say_help(__doc__)
-    if words:
-        stop("bench/surveys.py < BOARD")
+    if words and not words[0][:1].isdigit():
+        stop("bench/surveys.py [ROW] < BOARD")
+    text = sys.stdin.read()
     try:
-        print("\n".join(surveys_of(sys.stdin.read())))
+        print("\n".join(log_of(text, " ".join(words)) if words else surveys_of(text)))
     except Unread as why:
         sys.exit(f"surveys.py: {why}")
+    except StopIteration:
+        sys.exit("surveys.py: no such line")
 
 
 if __name__ == "__main__":
