@@ -1,0 +1,41 @@
+-- A play to a line's history, as it is printed.
+use Rattle.std.specs.Prelude.{◌≡◌, ◌≤◌, Bool, true, false, ℕ, Option, List, ◌++◌, length, reverse}
+use Rattle.irq_base.specs.declared.entries.Actor.{Actor}
+use Rattle.irq_base.specs.declared.entries.Entry.{Entry}
+use Rattle.irq_base.specs.declared.numbers.LineNo.{LineNo}
+use Rattle.irq_io.specs.Whole.{WritesAll}
+use Rattle.irq_io.specs.declared.whole.WriteEnd.TheVariants as writes
+use Rattle.board_def.specs.Seen.{BoardSeen}
+use Rattle.board_play.specs.Lines.{Move, part}
+use Rattle.irq_play.specs.Report.{moves_text}
+use Rattle.explore_picks.specs.Rows.{picks_text}
+use Rattle.explore_picks.specs.declared.making.PlayToEnd.{PlayToEnd}
+use Rattle.explore_picks.specs.declared.making.PlayToEnd.TheVariants as ends
+use Rattle.explore_play.specs.Made.{ArePicked}
+
+-- These moves are a play of the board so far, each made by the pick at its place, and the line's
+-- part of them is this history. All oldest first.
+pub record IsPlayTo (b : BoardSeen) (line : LineNo) (es : List Entry) (picks : List Actor)
+    (g : List Move) : Type 0 where
+  pub picked : ArePicked b (reverse picks) (reverse g)
+  pub part : part line (reverse g) ≡ reverse es
+  pub few : length picks ≤ 65536
+
+-- such a play's moves and its picks are printed, or a beginning of them
+pub record PrintsPlayTo (b : BoardSeen) (line : LineNo) (es : List Entry)
+    (old new : Option (List ℕ)) (end : writes.the_data) : Type 0 where
+  pub moves : List Move
+  pub picks : List Actor
+  pub play : IsPlayTo b line es picks moves
+  pub printed : WritesAll old new (moves_text moves ++ picks_text picks) end
+
+abbrev pub PlaysTo : BoardSeen → LineNo → List Entry → Option (List ℕ) → Option (List ℕ)
+    → PlayToEnd → Type 0
+PlaysTo b line es old new ends.Done = PrintsPlayTo b line es old new writes.Done
+PlaysTo b line es old new ends.WriteFault = PrintsPlayTo b line es old new writes.Failed
+PlaysTo b line es old new ends.NoneFound = new ≡ old
+PlaysTo b line es old new ends.NoMemory = new ≡ old
+
+abbrev pub is_write_fault : PlayToEnd → Bool
+is_write_fault ends.WriteFault = true
+is_write_fault _ = false

@@ -1,0 +1,10 @@
+//! Makes a play of a board to which a history of one line comes, and prints it: the rows of its
+//! moves, and then rows of the picks that made them. In place of the board's picks, they make
+//! `genirq play` begin with these moves.
+#![tactic(auto)]
+
+mod making;
+mod picks;
+
+pub use making::{PlayToEnd, play_to_and_print};
+pub use picks::print_picks;
