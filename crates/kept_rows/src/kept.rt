@@ -1,5 +1,5 @@
 //! The kept rows.
-ghost use Rattle.std.specs.Prelude.{◌≡◌, ◌<◌, [], true, IfSome, Some, length, slice_get};
+ghost use Rattle.std.specs.Prelude.{◌≡◌, ◌<◌, [], true, IfSome, length, slice_get};
 ghost use Rattle.irq_base.specs.Packed.{unpack};
 ghost use Rattle.log_text.specs.EntryWords.{IsPrintable};
 ghost use Rattle.log_text.specs.Rows.{entry_text};
@@ -75,7 +75,7 @@ impl KeptRows {
         ensures { IfSome (slice_get history.now.entries place)
             (λ e. result.now ≡ entry_text line e) }
     {
-        match word_at(history, place) {
+        match history.word(place) {
             Some(word) => self.kept(line, word),
             None => self.made_at(line, history, place),
         }
@@ -180,12 +180,4 @@ impl KeptRow {
     {
         &self.bytes[..self.len]
     }
-}
-
-/// The word of the entry at index `place` of the history; none from its length on, and if no word
-/// holds the entry.
-fn word_at(history: &History, place: usize) -> Option<Packed>
-    ensures { IfSome result (λ w. slice_get history.now.entries place ≡ Some (unpack [] w)) }
-{
-    Packed::pack(history.get(place)?)
 }
