@@ -208,7 +208,7 @@ impl ActList {
     {
         let stamp = self.rounds + 1;
         self.stamps.set(dev, stamp);
-        self.hint = place_left(&self.actions, &self.stamps, stamp, self.hint);
+        self.hint = place_after(&self.actions, &self.stamps, stamp, self.hint);
     }
 
     /// Whether the device's handler was called in the round.
@@ -235,6 +235,22 @@ fn is_stamped(stamps: &DeviceTable<u32>, stamp: u32, dev: DevNo) -> bool
     match stamps.get(dev) {
         Some(found) => found == stamp,
         None => false,
+    }
+}
+
+/// The place after `from` if the device at `from` has the stamp, else `from`.
+#[inline(always)]
+fn place_after(actions: &Actions, stamps: &DeviceTable<u32>, stamp: u32, from: usize) -> usize
+    requires within { from ≤ length actions.now.actions }
+    requires begun { AreBegun (stamped stamp stamps.now) (take from actions.now.actions) }
+    ensures within { result ≤ length actions.now.actions }
+    ensures begun { AreBegun (stamped stamp stamps.now) (take result actions.now.actions) }
+{
+    // The number of actions fits a usize, and so does each place.
+    let _length = actions.len();
+    match actions.device(from) {
+        Some(dev) if is_stamped(stamps, stamp, dev) => from + 1,
+        _ => from,
     }
 }
 

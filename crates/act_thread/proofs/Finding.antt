@@ -1,13 +1,27 @@
 -- The lowest rank belongs to the lowest device.
-use Rattle.std.proofs.Common.{◌≡◌, ℕ, ◌<◌, ◌≤◌, Bool, true, false, ◌||◌, ◌&&◌, ◌⊎◌, Option, Some, None, List, refl, sym, ap, ◌∙◌, inl, inr, arith}
+use Rattle.std.proofs.Common.{◌≡◌, ℕ, ◌+◌, ◌<◌, ◌≤◌, Bool, true, false, ◌||◌, ◌&&◌, ◌⊎◌, Option, Some, None, List, refl, sym, ap, ◌∙◌, inl, inr, arith}
 use Rattle.std.proofs.lemmas.Bool.{cases_lt, or_cases, and_parts, both_ways}
 use Rattle.irq_base.specs.declared.numbers.DevNo.{DevNo}
 use Rattle.device_table.specs.RankSets.{holds, IsFirst}
 use Rattle.device_table.specs.Rows.{at, lowest_where}
+use Rattle.device_table.specs.Sums.{one_if}
 use Rattle.device_table.proofs.Lowest.{lowest_is, lowest_none}
+use Rattle.device_table.proofs.Weights.{weight_has}
 use Rattle.act_thread.specs.Marked.{IsKept}
-use Rattle.act_thread.specs.Steps.{could_step, is_ready, is_returned}
+use Rattle.act_thread.specs.Steps.{could_step, is_ready, is_in_run, is_returned_stage, steps_at, active_row}
+use Rattle.act_thread.specs.declared.rows.Stage.{Stage}
+use Rattle.act_thread.specs.declared.rows.Stage.TheVariants as stages
 use Rattle.act_thread.specs.declared.rows.ThreadRow.{ThreadRow}
+
+-- a row that counts nothing couldn't step
+at_rest : (woken goes_on : Bool) (stage : Stage) → one_if woken + one_if (is_in_run stage) ≡ 0
+    → (steps_at woken stage || (goes_on && is_returned_stage stage)) ≡ false
+at_rest true goes_on stage h = absurd (omega (arith, h))
+at_rest false true stages.Idle h = refl
+at_rest false false stages.Idle h = refl
+at_rest false goes_on stages.Begun h = absurd (omega (arith, h))
+at_rest false goes_on stages.Returned h = absurd (omega (arith, h))
+at_rest false goes_on stages.Finished h = absurd (omega (arith, h))
 
 module _ (t : List (DevNo × ThreadRow)) (a h : ℕ) (ranks : List (DevNo × ℕ)) (ready returned : List ℕ) (goes_on : Bool)
     (kept : IsKept t a h ranks ready returned) where
@@ -23,6 +37,12 @@ module _ (t : List (DevNo × ThreadRow)) (a h : ℕ) (ranks : List (DevNo × ℕ
   none_found none = lowest_none (could_step goes_on) t kept.own
       (λ d row has. let w = kept.ranked d row has in sym (bit_is d row w.0 has w.1)
       ∙ none w.0 (kept.ranking.few d w.0 w.1))
+
+  -- no thread is to run, and none is in a run
+  pub none_active : a ≡ 0 → lowest_where (could_step goes_on) t ≡ None
+  none_active none = lowest_none (could_step goes_on) t kept.own
+      (λ d row has. at_rest row.woken goes_on row.stage
+      (let part = weight_has active_row t d row has in omega (arith, part, kept.active, none)))
 
   pub one_found : (r : ℕ) (o : Option DevNo) → IsFirst test (Some r) → ((d : DevNo) → at ranks d ≡ Some r → o ≡ Some d)
       → o ≡ lowest_where (could_step goes_on) t

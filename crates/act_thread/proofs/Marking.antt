@@ -1,6 +1,6 @@
 -- The sets of ranks after one row has changed.
-use Rattle.std.proofs.Common.{◌≡◌, ℕ, ◌<◌, ◌⊎◌, Bool, true, false, cond, eqb, Option, Some, None, List, refl, sym, ap, ◌∙◌, inl, inr, eqb-true, eq-eqb, arith}
-use Rattle.std.proofs.lemmas.Bool.{cases_order, eqb-false, ne_eqb, both_ways}
+use Rattle.std.proofs.Common.{◌≡◌, ℕ, ◌<◌, ◌⊎◌, Bool, true, false, cond, eqb, Some, List, refl, sym, ap, ◌∙◌, inl, inr, eqb-true, eq-eqb, arith}
+use Rattle.std.proofs.lemmas.Bool.{cases_order, eqb-false, ne_eqb}
 use Rattle.irq_base.specs.declared.numbers.DevNo.{DevNo}
 use Rattle.irq_model.specs.Kinds.{same_dev}
 use Rattle.irq_steps.proofs.Same.{dev_from_same}

@@ -5,7 +5,7 @@ ghost use Rattle.device_table.specs.Rows.{at, put, change, all_with, lowest_wher
 ghost use Rattle.device_table.specs.Ranks.{IsRanking};
 ghost use Rattle.device_table.specs.RankSets.{holds};
 ghost use Rattle.act_thread.specs.Steps.{woken_row, begun_row, returned_row, finished_row};
-ghost use Rattle.act_thread.specs.Steps.{done_row, could_step, idle_row};
+ghost use Rattle.act_thread.specs.Steps.{done_row, could_step, idle_row, is_ready, is_returned};
 ghost use Rattle.act_thread.specs.Threads.{active_in, held_in, is_idle_at, finishes_at};
 ghost use Rattle.act_thread.specs.Marked.{is_rank};
 
@@ -100,6 +100,9 @@ impl Threads {
     pub fn lowest(&self, goes_on: bool) -> Option<DevNo>
         ensures { result ≡ lowest_where (could_step goes_on) self.now }
     {
+        if self.active == 0 {
+            return None;
+        }
         let rank = self.ready.first(&self.returned, goes_on)?;
         self.ranks.device(rank)
     }
@@ -177,20 +180,22 @@ impl Threads {
     {
         self.active = self.active + new.active_part() - old.active_part();
         self.held = self.held + new.held_part() - old.held_part();
-        mark(&mut self.ready, &self.ranks, dev, new.is_ready());
-        mark(&mut self.returned, &self.ranks, dev, new.is_returned());
+        mark(&mut self.ready, &mut self.returned, &self.ranks, dev, new);
         self.rows.set(dev, new);
     }
 }
 
-/// Puts the device's rank into the set, or takes it out.
-fn mark(set: &mut RankSet, ranks: &Ranks, dev: DevNo, to: bool)
+/// Puts the device's rank into each of the two sets, or takes it out, as the row says.
+fn mark(ready: &mut RankSet, returned: &mut RankSet, ranks: &Ranks, dev: DevNo, row: ThreadRow)
     requires { IsRanking ranks.now }
-    ensures { (r : ℕ) → r < 256 → holds set.new r
-        ≡ (if is_rank r (at ranks.now dev) then to else holds set.old r) }
+    ensures ready { (r : ℕ) → r < 256 → holds ready.new r
+        ≡ (if is_rank r (at ranks.now dev) then is_ready row else holds ready.old r) }
+    ensures returned { (r : ℕ) → r < 256 → holds returned.new r
+        ≡ (if is_rank r (at ranks.now dev) then is_returned row else holds returned.old r) }
 {
     let Some(rank) = ranks.rank(dev) else {
         return;
     };
-    set.put(rank, to);
+    ready.put(rank, row.is_ready());
+    returned.put(rank, row.is_returned());
 }

@@ -90,7 +90,7 @@ impl Asks {
             fresh: if serves { 0 } else { row.fresh },
             ..row
         };
-        self.replace(dev, row, new);
+        self.note(dev, row, new);
     }
 
     /// The device's thread begins a run. `serves`: this is its serving run.
@@ -105,12 +105,13 @@ impl Asks {
             fresh: if serves { 0 } else { row.fresh },
             ..row
         };
-        self.replace(dev, row, new);
+        self.note(dev, row, new);
     }
 
     /// A run of the device returns. `serves`: it was its serving run; then only the asks that came
     /// since it began stay unserved. Answers the row as it was, so that what the run met needs no
     /// second look.
+    #[tactic(auto, using(crate::proofs::Serving::served_stands))]
     pub fn served(&mut self, dev: DevNo, serves: bool) -> Option<AskRow>
         ensures met { result ≡ at self.old dev }
         ensures rows { self.new ≡ change (served serves) self.old dev }
@@ -118,11 +119,13 @@ impl Asks {
         let Some(row) = self.rows.get(dev) else {
             return None;
         };
-        let new = AskRow {
-            unserved: if serves { row.fresh } else { row.unserved },
-            ..row
-        };
-        self.replace(dev, row, new);
+        if serves {
+            let new = AskRow {
+                unserved: row.fresh,
+                ..row
+            };
+            self.replace(dev, row, new);
+        }
         Some(row)
     }
 
@@ -134,6 +137,16 @@ impl Asks {
             return;
         };
         self.replace(dev, old, row);
+    }
+
+    /// Puts a row with as many unserved asks in the place of the device's.
+    #[inline(always)]
+    fn note(&mut self, dev: DevNo, old: AskRow, row: AskRow)
+        requires there { at self.old dev ≡ Some old }
+        requires same { row.unserved ≡ old.unserved }
+        ensures { self.new ≡ put self.old dev row }
+    {
+        self.rows.set(dev, row);
     }
 
     /// Puts another row in the place of the device's, and keeps the count.

@@ -23,8 +23,8 @@ use Rattle.board_play.specs.Lines.{BoardLine, Move, defs_of}
 use Rattle.board_play.proofs.Members.{defs_at, past_at}
 use Rattle.board_core.specs.Making.{AreNew}
 use Rattle.board_core.proofs.Few.{few_lines}
-use Rattle.board_play.specs.Order.{move_on}
-use Rattle.board_core.specs.Log.{older, without_newest, with_newest, merged, moves_of, times, move_at, IsWalk}
+use Rattle.board_core.specs.Log.{older, without_newest, with_newest, merged, moves_of, times, IsWalk, StandsAt}
+use Rattle.irq_base.specs.declared.numbers.LineNo.{LineNo}
 use Rattle.board_core.specs.Seen.{board_line, board_lines}
 use Rattle.board_core.proofs.Searches.{there, dropped}
 use Rattle.board_core.proofs.TurnLaws.{set_there, set_other, set_cases, map_there}
@@ -191,9 +191,7 @@ pub record NextAt (cursors order : List ℕ) (at k : ℕ) (lines : List LineSeen
   pub within : k < length lines
   pub few : k < 64
   pub next : NextMove cursors k (drop (at + 1) order) lines
-  pub move : Move
-  pub is : move_at (slice_get lines k) (get_or cursors k 0) ≡ Some move
-  pub moves : moves_of (drop at order) lines ≡ move ∷ moves_of (drop (at + 1) order) lines
+  pub moves : moves_of (drop at order) lines ≡ (next.line.def.line, next.entry) ∷ moves_of (drop (at + 1) order) lines
 
 pub next_at : (cursors order : List ℕ) (at k : ℕ) (lines : List LineSeen) → slice_get order at ≡ Some k
     → IsWalk cursors (drop at order) lines → NextAt cursors order at k lines
@@ -206,10 +204,6 @@ next_at cursors order at k lines here w =
       within = less;
       few = (let f = w.few in omega (arith, less, f));
       next = n;
-      move
-          = (n.line.def.line, n.entry);
-      is = ap (λ (o : Option LineSeen). move_at o (get_or cursors k 0)) n.at
-          ∙ ap (λ (o : Option Entry). move_on n.line.def.line o) n.entry_at;
       moves
           = ap (λ (ks : List ℕ). moves_of ks lines) left ∙ n.moves;
     }
@@ -308,14 +302,6 @@ walk_new board lines isb new order none =
     no_entries x none = sym (length-reverse x.entries) ∙ ap (λ (es : List Entry). length es) none
 
 -- what a walk answers
-pub first_left : (cursors order : List ℕ) (at k : ℕ) (lines : List LineSeen) (view : List Move) (r : Option Move)
-    → slice_get order at ≡ Some k → IsWalk cursors (drop at order) lines → view ≡ moves_of (drop at order) lines
-    → r ≡ move_at (slice_get lines k) (get_or cursors k 0)
-    → r ≡ slice_get view 0
-first_left cursors order at k lines view r here w is its =
-    let n = next_at cursors order at k lines here w in
-    its ∙ (n.is ∙ sym (ap (λ (g : List Move). slice_get g 0) (is ∙ n.moves)))
-
 pub rest_left : (cursors order : List ℕ) (at k : ℕ) (lines : List LineSeen) (view : List Move)
     → slice_get order at ≡ Some k → IsWalk cursors (drop at order) lines → view ≡ moves_of (drop at order) lines
     → moves_of (drop (at + 1) order) lines ≡ drop 1 view
@@ -324,13 +310,6 @@ rest_left cursors order at k lines view here w is = let n = next_at cursors orde
 pub within_lines : {X : Type 0} (f : X → LineSeen) (cursors order : List ℕ) (at k : ℕ) (xs : List X)
     → slice_get order at ≡ Some k → IsWalk cursors (drop at order) (map f xs) → k < length xs
 within_lines f cursors order at k xs here w = let l = (next_at cursors order at k (map f xs) here w).within in let m = length-map xs f in omega (arith, l, m)
-
-pub short_cursor : (cursors order : List ℕ) (at k : ℕ) (lines : List LineSeen) (r : Option Move)
-    → slice_get order at ≡ Some k → IsWalk cursors (drop at order) lines
-    → r ≡ move_at (slice_get lines k) (get_or cursors k 0) → IfSome r (λ m. get_or cursors k 0 < 100000000)
-    → get_or cursors k 0 < 100000000
-short_cursor cursors order at k lines r here w its short =
-    let n = next_at cursors order at k lines here w in subst (λ (o : Option Move). IfSome o (λ m. get_or cursors k 0 < 100000000)) (its ∙ n.is) short
 
 pub none_left : (order : List ℕ) (at : ℕ) (lines : List LineSeen) (view : List Move) (o : Option ℕ)
     → o ≡ slice_get order at → o ≡ None → view ≡ moves_of (drop at order) lines → view ≡ []
@@ -341,3 +320,22 @@ none_left order at lines view o its none is = is ∙ ap (λ (ks : List ℕ). mov
     past_end [] (suc i) end = refl
     past_end (x ∷ xs) zero end = cc
     past_end (x ∷ xs) (suc i) end = past_end xs i end
+
+-- where the next of them stands
+module _ (cursors order : List ℕ) (at k : ℕ) (lines : List LineSeen) (here : slice_get order at ≡ Some k) (w : IsWalk cursors (drop at order) lines) where
+  pub cursor_within : IfSome (slice_get lines k) (λ (x : LineSeen). get_or cursors k 0 < length x.entries)
+  cursor_within =
+      let n = (next_at cursors order at k lines here w).next in
+      subst (λ (o : Option LineSeen). IfSome o (λ (x : LineSeen). get_or cursors k 0 < length x.entries)) (sym n.at)
+      (slice_get_within n.line.entries (get_or cursors k 0) n.entry n.entry_at)
+
+  pub stands_left : (view : List Move) → view ≡ moves_of (drop at order) lines → (line : LineNo) (entries : List Entry) (place : ℕ)
+      → IfSome (slice_get lines k) (λ (x : LineSeen). (line ≡ x.def.line) × (entries ≡ x.entries)) → place ≡ get_or cursors k 0
+      → StandsAt line entries place (slice_get view 0)
+  stands_left view is line entries place its same =
+      let n = next_at cursors order at k lines here w in
+      let of = subst (λ (o : Option LineSeen). IfSome o (λ (x : LineSeen). (line ≡ x.def.line) × (entries ≡ x.entries))) n.next.at its in (
+        n.next.entry,
+        ap (λ (es : List Entry). slice_get es place) of.1 ∙ (ap (λ (i : ℕ). slice_get n.next.line.entries i) same ∙ n.next.entry_at),
+        ap (λ (g : List Move). slice_get g 0) (is ∙ n.moves) ∙ ap (λ (l : LineNo). Some (l, n.next.entry)) (sym of.0),
+      )

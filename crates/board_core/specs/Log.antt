@@ -7,7 +7,6 @@ use Rattle.irq_base.specs.declared.numbers.LineNo.{LineNo}
 use Rattle.irq_line.specs.Seen.{LineSeen}
 use Rattle.board_core.specs.Seen.{board_lines}
 use Rattle.board_play.specs.Lines.{BoardLine, Move}
-use Rattle.board_play.specs.Order.{move_on}
 
 abbrev pub older : List Entry → List Entry
 older [] = []
@@ -50,7 +49,6 @@ pub record IsWalk (cursors order : List ℕ) (lines : List LineSeen) : Type 0 wh
   pub from : (k : ℕ) (x : LineSeen) → slice_get lines k ≡ Some x
       → slice_index cursors k + times k order ≡ length x.entries
 
--- entry n of the line as a move, counted from 0; none from the history's length on
-abbrev pub move_at : Option LineSeen → ℕ → Option Move
-move_at None n = None
-move_at (Some x) n = move_on x.def.line (slice_get x.entries n)
+-- the move is of this line, and its entry stands at this place of these entries, counted from 0
+abbrev pub StandsAt : LineNo → List Entry → ℕ → Option Move → Type 0
+StandsAt line entries n m = (e : Entry) × (slice_get entries n ≡ Some e) × (m ≡ Some (line, e))

@@ -20,6 +20,6 @@ pub mod turning;
 pub mod turns;
 
 pub use making::make_lines;
-pub use moves::Moves;
+pub use moves::{MovePlace, Moves};
 pub use system::System;
 pub use turns::{DueCall, PlayEnd, Turn};

@@ -1,14 +1,24 @@
 //! A walk over the log of a system.
-ghost use Rattle.std.specs.Prelude.{◌≡◌, ◌<◌, ◌≤◌, ◌^◌, IfSome, drop, length, map, slice_get};
-ghost use Rattle.board_core.specs.Log.{IsWalk, move_at, moves_of};
+ghost use Rattle.std.specs.Prelude.{◌≡◌, ◌<◌, ◌≤◌, ◌^◌, IfSome, MatchOption, None, drop, length};
+ghost use Rattle.std.specs.Prelude.{map, slice_get};
+ghost use Rattle.board_core.specs.Log.{IsWalk, StandsAt, moves_of};
 ghost use Rattle.board_core.specs.Placing.{AreLengths};
 
-use irq_base::{Entry, LineNo};
+use irq_base::{Entry, History, LineNo};
 use irq_line::IrqLine;
 use std::marker::Model;
 
 /// How many lines a board has at most.
 pub(crate) const LINES: usize = 64;
+
+/// Where a move stands: its line's number and history, and the index of its entry there, counted
+/// from 0.
+#[derive(Clone, Copy)]
+pub struct MovePlace<'s> {
+    pub line: LineNo,
+    pub history: &'s History,
+    pub place: usize,
+}
 
 /// The moves of a log, the oldest first. Contracts see the list of the moves that are left. It
 /// lends values alone, and takes no memory.
@@ -46,20 +56,32 @@ impl<'s, L: IrqLine> Moves<'s, L> {
         }
     }
 
-    /// The next move, if one is left: its line and its entry. It takes the same time however many
-    /// there are.
-    pub fn next(&mut self) -> Option<(LineNo, Entry)>
-        ensures first { result ≡ slice_get self.old 0 }
+    /// Where the next move stands, if one is left: nothing is read of its entry. It takes the same
+    /// time however many there are.
+    pub fn next_place(&mut self) -> Option<MovePlace<'s>>
+        ensures first { MatchOption result (slice_get self.old 0 ≡ None)
+            (λ at. StandsAt at.line at.history.now.entries at.place (slice_get self.old 0)) }
         ensures rest { self.new ≡ drop 1 self.old }
     {
         let Some(k) = place_at(self.order, self.at) else {
             return None;
         };
         let cursor = self.cursors[k];
-        let next = move_at(self.lines, k, cursor);
+        let next = move_place(self.lines, k, cursor);
         self.at += 1;
         self.cursors[k] = cursor + 1;
-        next
+        Some(next)
+    }
+
+    /// The next move, if one is left: its line and its entry. It takes the same time however many
+    /// there are.
+    pub fn next(&mut self) -> Option<(LineNo, Entry)>
+        ensures first { result ≡ slice_get self.old 0 }
+        ensures rest { self.new ≡ drop 1 self.old }
+    {
+        let at = self.next_place()?;
+        let entry = at.history.get(at.place)?;
+        Some((at.line, entry))
     }
 }
 
@@ -94,14 +116,21 @@ fn place_at(order: &[u16], at: usize) -> Option<usize>
     }
 }
 
-/// The entry at index `cursor` of the history of the line at `place`, with the line's number.
-fn move_at<L: IrqLine>(lines: &[L], place: usize, cursor: u32) -> Option<(LineNo, Entry)>
-    requires { place < length lines.now }
-    ensures entry { result ≡ move_at (slice_get (map L.seen lines.now) place) cursor }
-    ensures short { IfSome result (λ m. cursor < 100000000) }
+/// Where the entry at index `cursor` of the history of the line at `place` stands.
+fn move_place<L: IrqLine>(lines: &[L], place: usize, cursor: u32) -> MovePlace<'_>
+    requires within { place < length lines.now }
+    requires short { IfSome (slice_get (map L.seen lines.now) place)
+        (λ x. cursor < length x.entries) }
+    ensures line { IfSome (slice_get (map L.seen lines.now) place)
+        (λ x. (result.line ≡ x.def.line) × (result.history.now.entries ≡ x.entries)) }
+    ensures place { result.place ≡ cursor }
+    ensures few { cursor < 100000000 }
 {
     let line = &lines[place];
     line.is_sound();
-    let entry = line.history().get(cursor as usize)?;
-    Some((line.definition().line, entry))
+    MovePlace {
+        line: line.definition().line,
+        history: line.history(),
+        place: cursor as usize,
+    }
 }

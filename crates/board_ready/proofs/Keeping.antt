@@ -156,28 +156,31 @@ open_is drivers calls x r call small was is =
 
 -- the drivers that can go on when a line's readiness is replaced
 pub ready_line : (lines : List LineReadiness) (drivers : List (Option CurrentCall)) (calls : CallsSeen)
-    (i on free old new : ℕ) (readiness : LineReadiness) → i < length lines → i < 64 → AreOnLines drivers calls
+    (i old new : ℕ) (readiness : LineReadiness) → i < length lines → i < 64 → AreOnLines drivers calls
     → AreWaiting drivers calls → AreReady lines drivers old
-    → on ≡ on_line calls i → ((r : ℕ) → has free r ≡ may_go_on readiness.blocks calls.waiting r)
-    → ((r : ℕ) → r < 64 → has new r ≡ cond (has on r) (has free r) (has old r))
+    → ((r : ℕ) → r < 64
+    → has new r ≡ cond (has (on_line calls i) r) (may_go_on readiness.blocks calls.waiting r) (has old r))
     → AreReady (set lines i readiness) drivers new
-ready_line lines drivers calls i on free old new readiness inside few on_lines waiting was is_on_line is_may is r small =
-    is r small ∙ (ap (λ b. cond b (has free r) (has old r)) (ap (λ w. has w r) is_on_line ∙ on_lines i r few small)
-    ∙ (ap (cond (is_on i (current_call drivers r)) (has free r)) (was r small)
+ready_line lines drivers calls i old new readiness inside few on_lines waiting was is r small =
+    is r small ∙ (ap (λ b. cond b may (has old r)) (on_lines i r few small)
+    ∙ (ap (cond (is_on i (current_call drivers r)) may) (was r small)
     ∙ by_call (current_call drivers r) refl))
   where
+    may : Bool
+    may = may_go_on readiness.blocks calls.waiting r
+
     moved : (call : CurrentCall) → current_call drivers r ≡ Some call → (b : Bool) → eqb call.line i ≡ b
-        → cond b (has free r) (is_open call.wait (slice_get lines call.line))
+        → cond b may (is_open call.wait (slice_get lines call.line))
         ≡ is_open call.wait (slice_get (set lines i readiness) call.line)
-    moved call c true same = is_may r ∙ (open_is drivers calls readiness.blocks r call small waiting c
+    moved call c true same = open_is drivers calls readiness.blocks r call small waiting c
         ∙ ap (is_open call.wait) (sym (item_set lines i call.line readiness inside
-        ∙ ap (λ b. cond b (Some readiness) (slice_get lines call.line)) same)))
+        ∙ ap (λ b. cond b (Some readiness) (slice_get lines call.line)) same))
     moved call c false other = ap (is_open call.wait) (sym
         (item_set lines i call.line readiness inside ∙ ap (λ b. cond b (Some readiness) (slice_get lines call.line))
         other))
 
     by_call : (call : Option CurrentCall) → current_call drivers r ≡ call
-        → cond (is_on i call) (has free r) (can_go_on lines call) ≡ can_go_on (set lines i readiness) call
+        → cond (is_on i call) may (can_go_on lines call) ≡ can_go_on (set lines i readiness) call
     by_call None c = refl
     by_call (Some call) c = moved call c (eqb call.line i) refl
 

@@ -10,9 +10,9 @@ use Rattle.board_ready.specs.declared.parts.CurrentCall.{CurrentCall}
 use Rattle.board_ready.specs.declared.parts.LineReadiness.{LineReadiness}
 use Rattle.board_ready.specs.declared.parts.ReadyThread.{ReadyThread}
 
-pub same_readiness : (a b : LineReadiness) → a.thread ≡ b.thread → a.flow ≡ b.flow → a.taker ≡ b.taker
+same_parts : (a b : LineReadiness) → a.thread ≡ b.thread → a.flow ≡ b.flow → a.taker ≡ b.taker
     → a.blocks ≡ b.blocks → a ≡ b
-same_readiness a b t f k x =
+same_parts a b t f k x =
     ap (λ (z : Option DevNo). record a { thread = z }) t
     ∙ (ap (λ (z : Option CpuNo). record a { thread = b.thread; flow = z }) f
     ∙ (ap (λ (z : Option CpuNo). record b { taker = z; blocks = a.blocks }) k ∙ ap (λ (z : Blocks). record b { blocks = z }) x))
@@ -23,11 +23,16 @@ same_thread a b l d = ap (λ (z : ℕ). Some (record a { line = z })) l ∙ ap (
 pub same_call : (a b : CurrentCall) → a.line ≡ b.line → a.wait ≡ b.wait → Some a ≡ Some b
 same_call a b l w = ap (λ (z : ℕ). Some (record a { line = z })) l ∙ ap (λ (z : WaitFor). Some (record b { wait = z })) w
 
-pub same_blocks : (a b : Blocks) → a.flow ≡ b.flow → a.threads ≡ b.threads → a.mutex ≡ b.mutex → a.freed ≡ b.freed → a ≡ b
+same_blocks : (a b : Blocks) → a.flow ≡ b.flow → a.threads ≡ b.threads → a.mutex ≡ b.mutex → a.freed ≡ b.freed → a ≡ b
 same_blocks a b f t m d =
     ap (λ (z : Bool). record a { flow = z }) f
     ∙ (ap (λ (z : Bool). record a { flow = b.flow; threads = z }) t
     ∙ (ap (λ (z : Bool). record b { mutex = z; freed = a.freed }) m ∙ ap (λ (z : Bool). record b { freed = z }) d))
+
+pub same_readiness : (a b : LineReadiness) → a.thread ≡ b.thread → a.flow ≡ b.flow → a.taker ≡ b.taker
+    → a.blocks.flow ≡ b.blocks.flow → a.blocks.threads ≡ b.blocks.threads → a.blocks.mutex ≡ b.blocks.mutex
+    → a.blocks.freed ≡ b.blocks.freed → a ≡ b
+same_readiness a b t f k xf xt xm xd = same_parts a b t f k (same_blocks a.blocks b.blocks xf xt xm xd)
 
 -- the readiness is put in its own place
 pub readiness_stands : (lines : List LineReadiness) (k : ℕ) (was readiness : LineReadiness) → was ≡ get_or lines k was

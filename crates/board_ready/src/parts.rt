@@ -73,7 +73,10 @@ pub(crate) fn is_same_readiness(first: LineReadiness, second: LineReadiness) -> 
     is_same_dev(first.thread, second.thread)
         && is_same_cpu(first.flow, second.flow)
         && is_same_cpu(first.taker, second.taker)
-        && is_same_blocks(first.blocks, second.blocks)
+        && first.blocks.flow == second.blocks.flow
+        && first.blocks.threads == second.blocks.threads
+        && first.blocks.mutex == second.blocks.mutex
+        && first.blocks.freed == second.blocks.freed
 }
 
 /// Whether the two calls are the same, line and what is waited for.
@@ -119,14 +122,4 @@ fn is_same_cpu(first: Option<CpuNo>, second: Option<CpuNo>) -> bool
         (Some(first), Some(second)) => first == second,
         _ => false,
     }
-}
-
-#[tactic(auto, using(crate::proofs::Same::same_blocks))]
-fn is_same_blocks(first: Blocks, second: Blocks) -> bool
-    ensures { IsTrue result → first ≡ second }
-{
-    first.flow == second.flow
-        && first.threads == second.threads
-        && first.mutex == second.mutex
-        && first.freed == second.freed
 }

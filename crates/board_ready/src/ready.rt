@@ -5,7 +5,7 @@ ghost use Rattle.board_ready.specs.Ready.{idle, lowest, lowest_thread_or_cpu, lo
 ghost use Rattle.board_ready.specs.Ready.{lowest_driver, flow_line, cpu_line, has_take};
 ghost use Rattle.board_ready.specs.Ready.{can_go_on, is_ready, is_driver_ready, has_thread};
 ghost use Rattle.board_ready.specs.Ready.{is_barred, current_call};
-ghost use Rattle.board_ready.specs.Sets.{has};
+ghost use Rattle.board_ready.specs.Sets.{has, may_go_on, on_line};
 
 use crate::bits::{chosen, first_bit, with_bit};
 use crate::calls::CallSets;
@@ -93,11 +93,7 @@ impl ReadyActors {
         self.flows.put(readiness.flow, line, true);
         self.takes.put(old.taker, line, false);
         self.takes.put(readiness.taker, line, true);
-        self.ready = chosen(
-            self.ready,
-            self.calls.on_line(line),
-            self.calls.open(readiness.blocks),
-        );
+        self.ready = rechosen(self.ready, &self.calls, line, readiness.blocks);
         self.lines[line] = readiness;
     }
 
@@ -250,6 +246,21 @@ impl ReadyActors {
             None => self.takes.first(cpu),
         }
     }
+}
+
+/// The ready drivers, once those whose calls are on the line are asked again; mostly none are.
+#[inline(always)]
+fn rechosen(ready: u64, calls: &CallSets, line: usize, blocks: Blocks) -> u64
+    requires { line < 64 }
+    ensures { (r : ℕ) → r < 64 → has result r
+        ≡ (if has (on_line calls.now line) r then may_go_on blocks calls.now.waiting r
+        else has ready r) }
+{
+    let on_line = calls.on_line(line);
+    if on_line == 0 {
+        return ready;
+    }
+    chosen(ready, on_line, calls.open(blocks))
 }
 
 /// Whether the call can go on.

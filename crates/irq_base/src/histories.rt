@@ -1,8 +1,8 @@
 //! The list of a line's entries; room for more can be taken beforehand.
 ghost use Rattle.std.specs.Prelude.{◌≡◌, ℕ, ◌+◌, ◌-◌, ◌<◌, ◌≤◌, ◌==◌, [], ◌∷◌, ◌++◌, length};
-ghost use Rattle.std.specs.Prelude.{IfOk, OnOk, OnErr, slice_get, option_map, true};
+ghost use Rattle.std.specs.Prelude.{IfOk, IfSome, OnOk, OnErr, Some, slice_get, option_map, true};
 ghost use Rattle.irq_base.specs.EntryKinds.{kind_of_entry};
-ghost use Rattle.irq_base.specs.Packed.{is_wide, place_of};
+ghost use Rattle.irq_base.specs.Packed.{is_wide, place_of, unpack};
 
 use crate::entries::Entry;
 use crate::kinds::EntryKind;
@@ -69,6 +69,7 @@ impl History {
     }
 
     /// Adds the entry at the end of a history with room for it. It takes no memory.
+    #[inline(always)]
     pub fn push(&mut self, entry: Entry)
         requires { 1 ≤ self.old.spare }
         ensures entries { self.new.entries ≡ self.old.entries ++ entry ∷ [] }
@@ -113,6 +114,15 @@ impl History {
     {
         let word = *self.words.get(place)?;
         Some(word.kind(&self.wide))
+    }
+
+    /// The word of the entry at index `place`, counted from 0, if it holds the entry whole; none
+    /// from the length on, and of a wide entry.
+    pub fn word(&self, place: usize) -> Option<Packed>
+        ensures { IfSome result (λ w. slice_get self.now.entries place ≡ Some (unpack [] w)) }
+    {
+        let word = *self.words.get(place)?;
+        word.narrow()
     }
 
     /// How many more entries fit without memory.

@@ -1,6 +1,6 @@
 //! An entry in one word.
 ghost use Rattle.std.specs.Prelude.{◌≡◌, ℕ, ◌<◌, ◌^◌, Bool, true, false, is_some, IfSome, List};
-ghost use Rattle.std.specs.Prelude.{get_or};
+ghost use Rattle.std.specs.Prelude.{[], get_or};
 ghost use Rattle.irq_base.specs.EntryKinds.{kind_of_entry};
 ghost use Rattle.irq_base.specs.Packed.{parts_of, is_wide, place_of, unpack, is_narrow, nothing};
 
@@ -66,6 +66,7 @@ impl Packed {
     }
 
     /// The word of the entry; none if one of its numbers is too large.
+    #[inline(always)]
     pub fn pack(entry: Entry) -> Option<Packed>
         ensures narrow { is_some result ≡ is_narrow entry }
         ensures tag { IfSome result (λ w. is_wide w ≡ false) }
@@ -80,6 +81,17 @@ impl Packed {
         ensures { result ≡ self.0 }
     {
         self.0
+    }
+
+    /// The word itself, if it holds its entry whole.
+    #[tactic(auto, unfolding(crate::specs::Packed::unpack))]
+    pub(crate) fn narrow(self) -> Option<Packed>
+        ensures { IfSome result (λ w. (wide : List Entry) → unpack wide self ≡ unpack [] w) }
+    {
+        if self.0 % TAGS == WIDE {
+            return None;
+        }
+        Some(self)
     }
 
     /// The entry that the word stands for; `wide` is the list of wide entries.

@@ -86,6 +86,7 @@ impl Parts {
 
     /// The parts that stand for the entry; none if one of its numbers doesn't fit.
     #[tactic(auto, unfolding(crate::specs::Packed::entry_of, crate::specs::Packed::cpu_entry, crate::specs::Packed::thread_entry))]
+    #[inline(always)]
     pub fn of_entry(entry: Entry) -> Option<Parts>
         ensures narrow { is_some result ≡ is_narrow entry }
         ensures tag { IfSome result (λ p. p.tag < 31) }

@@ -1,11 +1,14 @@
 -- The row of one move after another.
 use Rattle.std.proofs.Common.{◌≡◌, ℕ, Option, Some, None, List, [], ◌∷◌, ◌++◌, drop, slice_get, refl, sym, ap, subst, ◌∙◌, append_assoc}
+use Rattle.std.specs.List.{All}
 use Rattle.std.proofs.lemmas.List.{append-nil}
+use Rattle.std.proofs.lemmas.List.Elements.{All-head}
 use Rattle.irq_io.specs.Whole.{WritesAll}
 use Rattle.irq_io.specs.declared.whole.WriteEnd.TheVariants as ends
 use Rattle.irq_laws.proofs.Chosen.{the_same}
 use Rattle.board_play.specs.Lines.{Move}
 use Rattle.log_text.specs.Rows.{entry_text}
+use Rattle.irq_play.specs.Printing.{HasRow}
 use Rattle.irq_play.specs.Report.{moves_text}
 use Rattle.board_report.proofs.Writing.{nothing, and_then, failed_within}
 
@@ -17,6 +20,11 @@ pub record IsPrinting (before now : Option (List ℕ)) (all left : List Move) : 
 
 pub none_printed : (told : Option (List ℕ)) (all : List Move) → IsPrinting told told all all
 none_printed told all = record { done = []; written = nothing told; rest = refl }
+
+-- the first of moves that have rows has one
+pub first_has : (left : List Move) (m : Move) → All HasRow left → slice_get left 0 ≡ Some m → HasRow m
+first_has [] m all at = cc
+first_has (x ∷ xs) m all at = subst HasRow (the_same x m at) (All-head HasRow x xs all)
 
 next_row : (left : List Move) (m : Move) → slice_get left 0 ≡ Some m → moves_text left ≡ entry_text m.0 m.1 ++ moves_text (drop 1 left)
 next_row [] m at = cc

@@ -18,8 +18,8 @@ pub fn print_moves<O: Sink, L: IrqLine>(out: &mut O, moves: &mut Moves<'_, L>) -
     ensures cause { Counts (O.faults out.old) (O.faults out.new) (writing_failed result) }
 {
     let mut rows = KeptRows::new();
-    while let Some((line, entry)) = moves.next() {
-        let row = rows.row_of(line, &entry);
+    while let Some(at) = moves.next_place() {
+        let row = rows.row_at(at.line, at.history, at.place);
         match write_all(out, row) {
             WriteEnd::Done => {}
             WriteEnd::Failed => return WriteEnd::Failed,

@@ -1,12 +1,12 @@
 //! The kept rows.
-ghost use Rattle.std.specs.Prelude.{◌≡◌, [], true};
+ghost use Rattle.std.specs.Prelude.{◌≡◌, ◌<◌, [], true, IfSome, length, slice_get};
 ghost use Rattle.irq_base.specs.Packed.{unpack};
 ghost use Rattle.log_text.specs.EntryWords.{IsPrintable};
 ghost use Rattle.log_text.specs.Rows.{entry_text};
 ghost use Rattle.kept_rows.specs.Kept.{IsKept};
 
 use crate::places::{PLACES, place_of};
-use irq_base::{DevNo, Entry, LineNo, Packed};
+use irq_base::{DevNo, Entry, History, LineNo, Packed};
 use log_text::{MAX_ENTRY_ROW, entry_row};
 use std::marker::Model;
 use text_row::TextRow;
@@ -61,19 +61,33 @@ impl KeptRows {
         ensures { result.now ≡ entry_text line entry.now }
     {
         match Packed::pack(*entry) {
-            Some(word) => self.kept(line, word, entry),
+            Some(word) => self.kept(line, word),
             None => self.made(line, entry),
         }
     }
 
-    // The row of the entry, whose word this is: the kept one, or made anew and kept.
-    fn kept(&mut self, line: LineNo, word: Packed, entry: &Entry) -> &[u8]
-        requires printable { IsPrintable entry.now }
-        requires word { unpack [] word ≡ entry.now }
-        ensures { result.now ≡ entry_text line entry.now }
+    /// The row of the entry at index `place`, counted from 0, of the line's history, kept or made
+    /// anew. It is found by the word that the history has of the entry, so that no entry is made of
+    /// a word, and no word of an entry.
+    pub fn row_at(&mut self, line: LineNo, history: &History, place: usize) -> &[u8]
+        requires within { place < length history.now.entries }
+        requires printable { IfSome (slice_get history.now.entries place) IsPrintable }
+        ensures { IfSome (slice_get history.now.entries place)
+            (λ e. result.now ≡ entry_text line e) }
+    {
+        match history.word(place) {
+            Some(word) => self.kept(line, word),
+            None => self.made_at(line, history, place),
+        }
+    }
+
+    // The row of the word's entry: the kept one, or made anew and kept.
+    fn kept(&mut self, line: LineNo, word: Packed) -> &[u8]
+        requires { IsPrintable (unpack [] word) }
+        ensures { result.now ≡ entry_text line (unpack [] word) }
     {
         let place = place_of(line, word);
-        self.rows[place].keep(&mut self.row, line, word, entry);
+        self.rows[place].keep(&mut self.row, line, word);
         let kept = &*self;
         kept.rows[place].bytes()
     }
@@ -86,6 +100,20 @@ impl KeptRows {
     {
         entry_row(&mut self.row, line, entry);
         self.row.bytes()
+    }
+
+    // The row of an entry of the line's history, made of the entry.
+    #[inline(never)]
+    fn made_at(&mut self, line: LineNo, history: &History, place: usize) -> &[u8]
+        requires within { place < length history.now.entries }
+        requires printable { IfSome (slice_get history.now.entries place) IsPrintable }
+        ensures { IfSome (slice_get history.now.entries place)
+            (λ e. result.now ≡ entry_text line e) }
+    {
+        let Some(entry) = history.get(place) else {
+            unreachable!();
+        };
+        self.made(line, &entry)
     }
 }
 
@@ -104,34 +132,33 @@ impl KeptRow {
             len: 0,
             bytes: [0; MAX_ENTRY_ROW],
         };
-        kept.make(row, LineNo(0), word, &entry);
+        kept.make(row, LineNo(0), word);
         kept
     }
 
-    // Makes it the row of the entry of the line, unless it is that. `word` is the entry's word, and
-    // `row` is where the row is made.
-    fn keep(&mut self, row: &mut TextRow, line: LineNo, word: Packed, entry: &Entry)
-        requires printable { IsPrintable entry.now }
-        requires word { unpack [] word ≡ entry.now }
+    // Makes it the row of the word's entry of the line, unless it is that. `row` is where it is
+    // made.
+    fn keep(&mut self, row: &mut TextRow, line: LineNo, word: Packed)
+        requires printable { IsPrintable (unpack [] word) }
         requires kept { IsKept self.old }
         ensures kept { IsKept self.new }
         ensures of { (self.new.line ≡ line) × (self.new.word ≡ word) }
     {
         if !self.is_of(line, word) {
-            self.make(row, line, word, entry);
+            self.make(row, line, word);
         }
     }
 
-    // Makes it the row of the entry of the line. It stands apart, so that a row that is found costs
-    // no place on the stack for one that is made.
+    // Makes it the row of the word's entry of the line. It stands apart, so that a row that is found
+    // costs no place on the stack for one that is made.
     #[inline(never)]
-    fn make(&mut self, row: &mut TextRow, line: LineNo, word: Packed, entry: &Entry)
-        requires printable { IsPrintable entry.now }
-        requires word { unpack [] word ≡ entry.now }
+    fn make(&mut self, row: &mut TextRow, line: LineNo, word: Packed)
+        requires printable { IsPrintable (unpack [] word) }
         ensures kept { IsKept self.new }
         ensures of { (self.new.line ≡ line) × (self.new.word ≡ word) }
     {
-        entry_row(row, line, entry);
+        let entry = word.unpack(&[]);
+        entry_row(row, line, &entry);
         let len = row.bytes().len();
         self.bytes[..len].copy_from_slice(row.bytes());
         self.len = len;

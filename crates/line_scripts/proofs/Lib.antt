@@ -1,2 +1,3 @@
 mod RowSteps
 pub mod LastEntry
+mod FirstRow

@@ -73,10 +73,16 @@ impl Scripts {
     }
 
     /// The driver's first call that isn't complete, and how many entries it has made; none if all
-    /// are complete, or the driver has none on the line.
+    /// are complete, or the driver has none on the line. Mostly one driver has calls on a line, so
+    /// the first row is looked at before any is searched.
     pub fn due(&self, who: DriverNo) -> Option<(Call, u32)>
         ensures { result ≡ with_count (call_of self.now who) (within_of self.now who) }
     {
+        if let Some((first, row)) = self.rows.first() {
+            if *first == who {
+                return row.due();
+            }
+        }
         self.rows.get(&who)?.due()
     }
 

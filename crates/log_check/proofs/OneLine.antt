@@ -33,7 +33,7 @@ use Rattle.log_check.specs.Judging.{Adds, Stands, Stops, Takes, most}
 pub legal_more : (def : LineDef) (es : List Entry) (e : Entry) → IsLegal def es → IsDue def e (reverse es) → IsLegal def (es ++ e ∷ [])
 legal_more def es e legal due = subst (IsLegalPast def) (sym (reverse-append es (e ∷ []))) (due, legal)
 
-get_last : (es : List Entry) (e : Entry) → slice_get (es ++ e ∷ []) (length es) ≡ Some e
+pub get_last : (es : List Entry) (e : Entry) → slice_get (es ++ e ∷ []) (length es) ≡ Some e
 get_last [] e = refl
 get_last (x ∷ es) e = get_last es e
 

@@ -1,5 +1,5 @@
 -- An entry that is due has a row.
-use Rattle.std.proofs.Common.{◌≡◌, ◌≢◌, Bor, ℕ, Bool, true, false, cond, is_some, Option, Some, None, Ok, List, ◌++◌, reverse, sym, ap, subst, ◌∙◌}
+use Rattle.std.proofs.Common.{◌≡◌, ◌≢◌, Bor, ℕ, Bool, true, false, cond, is_some, Option, Some, None, Ok, List, [], ◌∷◌, ◌++◌, length, slice_get, reverse, sym, ap, subst, ◌∙◌}
 use Rattle.std.specs.Option.{option_map}
 use Rattle.std.specs.Prelude.{MatchOption}
 use Rattle.std.proofs.lemmas.Option.{same_Some}
@@ -24,6 +24,7 @@ use Rattle.irq_line.specs.Seen.{LineSeen}
 use Rattle.irq_model.specs.Legal.{IsDue}
 use Rattle.irq_model.specs.Next.{next_past}
 use Rattle.irq_model.specs.Signal.{lowest_in}
+use Rattle.log_check.proofs.OneLine.{get_last}
 use Rattle.log_check.specs.Judging.{Adds, Follows}
 use Rattle.log_text.specs.EntryWords.{IsPrintable}
 use Rattle.log_text.specs.Formed.{HasSmallNumbers, IsSmall}
@@ -59,6 +60,12 @@ module _ (old new : LineSeen) (actor : Actor) (due : Option Entry) (e : Entry) (
 
   pub heard_printable : IsPrintable e
   heard_printable = printable old.def (reverse old.entries) e (heard_due old new actor e was_heard)
+
+  -- it stands at the end
+  pub stands_last : (entries : List Entry) (place : ℕ) → entries ≡ new.entries → place ≡ length old.entries → slice_get entries place ≡ Some e
+  stands_last entries place are here =
+      ap (λ (es : List Entry). slice_get es place) (are ∙ was_heard.entries)
+      ∙ (ap (λ (i : ℕ). slice_get (old.entries ++ e ∷ []) i) here ∙ get_last old.entries e)
 
   pub adds : (text : List ℕ) (number : LineNo) (after : Option (List ℕ)) → IsSmall number.0 → HasSmallNumbers e → Follows text number e after
       → Adds text number actor after old new

@@ -1,5 +1,5 @@
 //! The judge of one line's rows.
-ghost use Rattle.std.specs.Prelude.{◌≡◌, ◌≤◌, None, IfOk, IfSome, length};
+ghost use Rattle.std.specs.Prelude.{◌≡◌, ◌≤◌, None, Some, IfOk, IfSome, length, slice_get};
 ghost use Rattle.std.specs.Option.{option_map};
 ghost use Rattle.log_check.specs.Heads.{IsHead};
 ghost use Rattle.log_check.specs.Judging.{Adds, Follows, HasRoom, Stops, Takes};
@@ -7,7 +7,7 @@ ghost use Rattle.log_text.specs.EntryWords.{IsPrintable};
 ghost use Rattle.log_text.specs.Formed.{HasSmallNumbers, IsSmall};
 
 use crate::judging::step;
-use irq_base::{Actor, Entry, LineNo, NoMemory};
+use irq_base::{Actor, Entry, History, LineNo, NoMemory};
 use irq_line::IrqLine;
 use kept_rows::KeptRows;
 use log_read::{cut_row, read_row};
@@ -108,26 +108,31 @@ fn adds<'t, L: IrqLine>(
     ensures { IfOk result (λ after. Adds text.now number actor (option_map (λ t. t.now) after)
         (L.seen line.old) (L.seen line.new)) }
 {
+    let place = line.history().len();
     match step(line, actor)? {
-        Some(entry) => Ok(after_row_of(kept, number, entry, text)),
+        Some(entry) => Ok(after_row_of(kept, number, line.history(), place, entry, text)),
         None => Ok(None),
     }
 }
 
-/// What follows the row of this entry of the line; none if the text doesn't begin with it.
+/// What follows the row of this entry of the line, which stands at index `place` of its history;
+/// none if the text doesn't begin with it.
 fn after_row_of<'t>(
     kept: &mut KeptRows,
     number: LineNo,
+    history: &History,
+    place: usize,
     entry: Entry,
     text: &'t [u8],
 ) -> Option<&'t [u8]>
-    requires { IsPrintable entry }
+    requires printable { IsPrintable entry }
+    requires at { slice_get history.now.entries place ≡ Some entry }
     ensures number { IsSmall number.0 }
     ensures entry { HasSmallNumbers entry }
     ensures follows { Follows text.now number entry (option_map (λ t. t.now) result) }
 {
     are_small(number, entry);
-    text.strip_prefix(kept.row_of(number, &entry))
+    text.strip_prefix(kept.row_at(number, history, place))
 }
 
 /// Each number of a row takes 32 bits.

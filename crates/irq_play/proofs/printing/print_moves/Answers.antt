@@ -1,24 +1,44 @@
-use Rattle.std.proofs.Common.{sym, ◌∙◌, subst, All}
+use Rattle.std.proofs.Common.{◌≡◌, IfSome, Option, sym, ◌∙◌, subst, All}
 use Rattle.std.proofs.lemmas.List.Elements.{All-drop}
+use Rattle.std.proofs.lemmas.Option.{slice_get_within}
+use Rattle.irq_base.specs.declared.entries.Entry.{Entry}
+use Rattle.log_text.specs.EntryWords.{IsPrintable}
+use Rattle.log_text.specs.Rows.{entry_text}
 use Rattle.irq_play.specs.Printing.{HasRow}
-use Rattle.irq_play.proofs.MoveRows.{row_printed, row_failed}
+use Rattle.irq_play.proofs.MoveRows.{first_has, row_printed, row_failed}
 use Rattle.irq_play.proofs.printing.print_moves.Goals as goal
 
-pub loop-line-preserved : goal.loop-line-preserved
-loop-line-preserved g c =
+pub row_at-row-requires-clause-within : goal.row_at-row-requires-clause-within
+row_at-row-requires-clause-within g c =
+    let stands = c.in-Some.ensures.first in
+    slice_get_within c.in-Some.at.history.now.entries c.in-Some.at.place stands.0 stands.1
+
+pub row_at-row-requires-clause-printable : goal.row_at-row-requires-clause-printable
+row_at-row-requires-clause-printable g c =
+    let stands = c.in-Some.ensures.first in
+    subst (λ (o : Option Entry). IfSome o IsPrintable) (sym stands.1)
+    (first_has c.loop-at.moves (c.in-Some.at.line, stands.0) c.loop-at.invariant.rows stands.2)
+
+pub loop-at-preserved : goal.loop-at-preserved
+loop-at-preserved g c =
     let sink = g.O.Sink.written in
+    let stands = c.in-Some.ensures.first in
+    let row = c.row_at-row.result.now in
+    let is = subst (λ (o : Option Entry). IfSome o (λ (e : Entry). row ≡ entry_text c.in-Some.at.line e)) stands.1 c.row_at-row.ensures in
     record {
       printing =
-          row_printed (sink c.args.out.now) (sink c.loop-line.out) (sink c.write_all.new.sink) c.args.moves.now
-          c.loop-line.moves (c.in-Some.line, c.in-Some.entry) (sym c.in-Some.ensures.first) c.row_of-row.result.now
-          c.row_of-row.ensures c.loop-line.invariant.printing c.next.new.self c.in-Some.ensures.rest c.in-Done.ensures.content;
-      rows = subst (All HasRow) (sym c.in-Some.ensures.rest) (All-drop HasRow 1 c.loop-line.moves c.loop-line.invariant.rows);
-      faults = c.in-Done.ensures.cause ∙ c.loop-line.invariant.faults;
+          row_printed (sink c.args.out.now) (sink c.loop-at.out) (sink c.write_all.new.sink) c.args.moves.now
+          c.loop-at.moves (c.in-Some.at.line, stands.0) stands.2 row is c.loop-at.invariant.printing c.next_place.new.self
+          c.in-Some.ensures.rest c.in-Done.ensures.content;
+      rows = subst (All HasRow) (sym c.in-Some.ensures.rest) (All-drop HasRow 1 c.loop-at.moves c.loop-at.invariant.rows);
+      faults = c.in-Done.ensures.cause ∙ c.loop-at.invariant.faults;
     }
 
 pub returns-in-Failed-clause-content : goal.returns-in-Failed-clause-content
 returns-in-Failed-clause-content g c =
     let sink = g.O.Sink.written in
-    row_failed (sink c.args.out.now) (sink c.loop-line.out) (sink c.write_all.new.sink) c.args.moves.now
-    c.loop-line.moves (c.in-Some.line, c.in-Some.entry) (sym c.in-Some.ensures.first) c.row_of-row.result.now
-    c.row_of-row.ensures c.loop-line.invariant.printing c.in-Failed.ensures.content
+    let stands = c.in-Some.ensures.first in
+    let row = c.row_at-row.result.now in
+    let is = subst (λ (o : Option Entry). IfSome o (λ (e : Entry). row ≡ entry_text c.in-Some.at.line e)) stands.1 c.row_at-row.ensures in
+    row_failed (sink c.args.out.now) (sink c.loop-at.out) (sink c.write_all.new.sink) c.args.moves.now
+    c.loop-at.moves (c.in-Some.at.line, stands.0) stands.2 row is c.loop-at.invariant.printing c.in-Failed.ensures.content

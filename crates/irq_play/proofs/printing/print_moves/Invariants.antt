@@ -3,12 +3,12 @@ use Rattle.irq_play.specs.Printing.{HasRow}
 use Rattle.irq_play.proofs.MoveRows.{IsPrinting}
 use Rattle.irq_play.proofs.printing.print_moves.Given as goal
 
-abbrev pub invariant-loop-line : goal.invariant-loop-line
-invariant-loop-line g l = record {
+abbrev pub invariant-loop-at : goal.invariant-loop-at
+invariant-loop-at g l = record {
   printing : IsPrinting (g.O.Sink.written l.fn.out) (g.O.Sink.written l.out) l.fn.moves l.moves;
   rows : All HasRow l.moves;
   faults : g.O.Sink.faults l.out ≡ g.O.Sink.faults l.fn.out;
 }
 
-abbrev pub decreases-loop-line : goal.decreases-loop-line
-decreases-loop-line g l = length l.moves
+abbrev pub decreases-loop-at : goal.decreases-loop-at
+decreases-loop-at g l = length l.moves

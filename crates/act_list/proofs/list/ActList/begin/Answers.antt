@@ -6,8 +6,8 @@ use Rattle.act_list.proofs.Stamping.{stamp_is, put_stamps}
 use Rattle.act_list.proofs.Walking.{begun_keeps}
 use Rattle.act_list.proofs.list.ActList.begin.Goals as goal
 
-pub place_left-self-inside-requires-clause-begun : goal.place_left-self-inside-requires-clause-begun
-place_left-self-inside-requires-clause-begun c =
+pub place_after-self-inside-requires-clause-begun : goal.place_after-self-inside-requires-clause-begun
+place_after-self-inside-requires-clause-begun c =
     let n = c.self.inside.rounds + 1 in
     let t = take c.self.inside.hint c.self.inside.actions.actions in
     subst (λ (b : List (DevNo × Bool)). AreBegun b t) (sym
@@ -19,8 +19,8 @@ invariant_of-self c = record {
   few = c.self.invariant.few;
   stamps = subst (AreStamps (c.self.inside.rounds + 1)) (sym c.set.ensures)
       (put_stamps (c.self.inside.rounds + 1) c.self.inside.stamps c.args.dev c.self.invariant.stamps);
-  within = c.place_left-self-inside.ensures.within;
-  begun = c.place_left-self-inside.ensures.begun;
+  within = c.place_after-self-inside.ensures.within;
+  begun = c.place_after-self-inside.ensures.begun;
 }
 
 pub returns-clause-list : goal.returns-clause-list

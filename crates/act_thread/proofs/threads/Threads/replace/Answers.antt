@@ -1,11 +1,9 @@
-use Rattle.std.proofs.Common.{◌≡◌, ℕ, ◌+◌, ◌≤◌, ◌<◌, Bool, true, false, cond, Some, List, sym, ap, subst, ◌∙◌, arith}
+use Rattle.std.proofs.Common.{◌≡◌, ℕ, Some, List, sym, subst, arith}
 use Rattle.irq_base.specs.declared.numbers.DevNo.{DevNo}
-use Rattle.device_table.specs.RankSets.{holds}
 use Rattle.device_table.specs.Rows.{at}
 use Rattle.device_table.specs.Sums.{one_if}
-use Rattle.device_table.proofs.Lowest.{own_put, at_put_same, at_put_other}
+use Rattle.device_table.proofs.Lowest.{own_put}
 use Rattle.device_table.proofs.Weights.{weight_put, weight_has, weight_few, length_put}
-use Rattle.act_thread.specs.Marked.{IsKept, is_rank}
 use Rattle.act_thread.specs.Steps.{active_row, is_ready, is_returned}
 use Rattle.act_thread.specs.declared.rows.ThreadRow.{ThreadRow}
 use Rattle.act_thread.proofs.Marking.{marked_put}
@@ -48,9 +46,6 @@ invariant_of-self c =
     let held = weight_put held_row i.rows c.args.dev c.args.old c.args.new there in
     let more = length_put i.rows c.args.dev c.args.new in
     let mine = kept.ranked c.args.dev c.args.old there in
-    let ready = λ (r : ℕ) (low : r < 256). c.mark.ensures r low ∙ ap (λ b. cond (is_rank r (at i.ranks c.args.dev)) b (holds i.ready r)) c.is_ready.ensures in
-    let returned = λ (r : ℕ) (low : r < 256). c.mark-2.ensures r low
-    ∙ ap (λ b. cond (is_rank r (at i.ranks c.args.dev)) b (holds i.returned r)) c.is_returned.ensures in
     rw c.set.ensures
     (record {
       active = omega (arith, active, kept.active, c.active_part.ensures, c.active_part-2.ensures);
@@ -59,7 +54,8 @@ invariant_of-self c =
       own = own_put i.rows c.args.dev c.args.new kept.own;
       ranking = kept.ranking;
       ranked = ranked_put i.rows i.ranks c.args.dev c.args.old c.args.new there kept.ranked;
-      readies = marked_put is_ready i.rows i.ranks i.ready c.mark.new.set c.args.dev c.args.old c.args.new mine.0 kept.ranking there mine.1 kept.readies ready;
-      returns = marked_put is_returned i.rows i.ranks i.returned c.mark-2.new.set c.args.dev c.args.old c.args.new
-          mine.0 kept.ranking there mine.1 kept.returns returned;
+      readies = marked_put is_ready i.rows i.ranks i.ready c.mark.new.ready c.args.dev c.args.old c.args.new mine.0
+          kept.ranking there mine.1 kept.readies c.mark.ensures.ready;
+      returns = marked_put is_returned i.rows i.ranks i.returned c.mark.new.returned c.args.dev c.args.old c.args.new
+          mine.0 kept.ranking there mine.1 kept.returns c.mark.ensures.returned;
     })

@@ -1,4 +1,4 @@
-use Rattle.std.proofs.Common.{◌≡◌, ◌+◌, ◌≤◌, Bool, true, false, Some, List, sym, ap, subst, ◌∙◌, arith}
+use Rattle.std.proofs.Common.{◌≡◌, ◌≤◌, Bool, true, false, Some, List, sym, subst, arith}
 use Rattle.irq_base.specs.declared.numbers.DevNo.{DevNo}
 use Rattle.device_table.specs.Rows.{at}
 use Rattle.device_table.specs.Sums.{one_if}

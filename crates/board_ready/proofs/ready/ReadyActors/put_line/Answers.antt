@@ -31,8 +31,7 @@ invariant_of-self c =
           ∙ ap (cond (is_cpu n readiness.taker && eqb j i) true) (c.put-3.ensures n j few less)) k small;
       on_lines = c.self.invariant.on_lines;
       waiting = c.self.invariant.waiting;
-      ready = ready_line lines c.self.inside.drivers.items c.self.inside.calls i c.on_line.result c.open.result
-          c.self.inside.ready c.chosen-self-inside.result readiness inside
-          (omega (arith, inside, c.self.invariant.few_lines)) c.self.invariant.on_lines c.self.invariant.waiting
-          c.self.invariant.ready c.on_line.ensures c.open.ensures c.chosen-self-inside.ensures;
+      ready = ready_line lines c.self.inside.drivers.items c.self.inside.calls i c.self.inside.ready
+          c.rechosen-self-inside.result readiness inside (omega (arith, inside, c.self.invariant.few_lines))
+          c.self.invariant.on_lines c.self.invariant.waiting c.self.invariant.ready c.rechosen-self-inside.ensures;
     }

@@ -13,5 +13,4 @@ returns c =
     let kept = c.kept.view_is in
     let line = c.keep.ensures.of.0 in
     let word = c.keep.ensures.of.1 in
-    let entry = c.requires.word in
     search (rules, stands)
