@@ -149,8 +149,8 @@ impl KeptRow {
         }
     }
 
-    // Makes it the row of the word's entry of the line. It stands apart, so that a row that is found
-    // costs no place on the stack for one that is made.
+    // Makes it the row of the word's entry of the line. It stands apart, so that a row that is
+    // found costs no place on the stack for one that is made.
     #[inline(never)]
     fn make(&mut self, row: &mut TextRow, line: LineNo, word: Packed)
         requires printable { IsPrintable (unpack [] word) }

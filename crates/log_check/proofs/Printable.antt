@@ -1,5 +1,6 @@
 -- An entry that is due has a row.
-use Rattle.std.proofs.Common.{◌≡◌, ◌≢◌, Bor, ℕ, Bool, true, false, cond, is_some, Option, Some, None, Ok, List, [], ◌∷◌, ◌++◌, length, slice_get, reverse, sym, ap, subst, ◌∙◌}
+use Rattle.std.proofs.Common.{◌≡◌, ◌≢◌, Bor, ℕ, Bool, true, false, cond, is_some, Option, Some, None, Ok, List, [], ◌∷◌}
+use Rattle.std.proofs.Common.{◌++◌, length, slice_get, reverse, sym, ap, subst, ◌∙◌}
 use Rattle.std.specs.Option.{option_map}
 use Rattle.std.specs.Prelude.{MatchOption}
 use Rattle.std.proofs.lemmas.Option.{same_Some}
