@@ -231,14 +231,18 @@ class Line:
             return self.cell(past)[0]
         return self.is_high(past) and not self.is_masked(past) and not (self.flow_kind == "eoi" and self.flow(past))
 
-    def target(self, past):
+    def aim(self, past):
+        """The mask in force, and the one that waits for the next take."""
         mask, waiting = self.mask, None
         for e in past:
             if is_take(e) and waiting is not None:
                 mask, waiting = waiting, None
             if e[1] == "affinity" and e[3] != "refused":
                 mask, waiting = (int(e[2]), None) if e[3] == "now" else (mask, int(e[2]))
-        return next(f"c{cpu}" for cpu in range(self.board.cpus) if mask >> cpu & 1)
+        return mask, waiting
+
+    def target(self, past):
+        return next(f"c{cpu}" for cpu in range(self.board.cpus) if self.aim(past)[0] >> cpu & 1)
 
     # -- threads
 
@@ -260,18 +264,24 @@ class Line:
 
     # -- scripts
 
+    def calls(self, driver):
+        return [call for line, call in self.board.scripts.get(driver, ()) if line == self.number]
+
+    def place(self, driver, past):
+        """How many of the driver's calls on the line are complete, and how many entries its next one has made."""
+        own, complete = [e for e in past if e[0] == driver], 0
+        for call in self.calls(driver):
+            needs = 1 if own and own[0][-1] == "notthere" else SEVERAL.get(call[0], 1)
+            if len(own) < needs:
+                break
+            own, complete = own[needs:], complete + 1
+        return complete, len(own)
+
     def due_call(self, driver, past):
         """The driver's first call on the line that isn't complete, with how many entries it has made."""
-        own = [e for e in past if e[0] == driver]
-        for line, call in self.board.scripts.get(driver, ()):
-            if line == self.number:
-                needs = SEVERAL.get(call[0], 1)
-                if call[0] == "free" and own and own[0][-1] == "notthere":
-                    needs = 1
-                if len(own) < needs:
-                    return call, len(own)
-                own = own[needs:]
-        return None
+        complete, made = self.place(driver, past)
+        calls = self.calls(driver)
+        return (calls[complete], made) if complete < len(calls) else None
 
     def is_mutex_held(self, past):
         freed = set()
@@ -563,25 +573,12 @@ class Play:
 
     def current(self, driver):
         """The line of the driver's first call that isn't complete, and the call."""
-        done = {line.number: self.complete(line, driver) for line in self.board.lines}
+        done = {line.number: line.place(driver, line.past)[0] for line in self.board.lines}
         for number, call in self.board.scripts.get(driver, ()):
             if done[number] == 0:
                 return next(line for line in self.board.lines if line.number == number), call
             done[number] -= 1
         return None
-
-    def complete(self, line, driver):
-        """How many of the driver's calls on the line are complete."""
-        calls = [call for number, call in self.board.scripts[driver] if number == line.number]
-        due = line.due_call(driver, line.past)
-        if due is None:
-            return len(calls)
-        own, at = sum(1 for e in line.past if e[0] == driver) - due[1], 0
-        entries = [e for e in line.past if e[0] == driver]
-        while own > 0:
-            makes = 1 if entries[0][-1] == "notthere" else SEVERAL.get(calls[at][0], 1)
-            entries, own, at = entries[makes:], own - makes, at + 1
-        return at
 
     def take(self, step):
         line, entry = step

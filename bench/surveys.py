@@ -11,7 +11,7 @@ from pathlib import Path
 
 sys.path.insert(0, str(Path(__file__).resolve().parent.parent / "tools"))
 from repository import say_help, stop  # noqa: E402
-from second import Board, Unread, after_last, by, goes_again, is_begin, is_kill, is_linked, is_return, is_start, is_take, since  # noqa: E402
+from second import Board, Unread, after_last, by, goes_again, is_begin, is_kill, is_linked, is_return, is_start, since  # noqa: E402
 
 # A search of more states isn't made.
 MOST_STATES = 3_000
@@ -23,17 +23,6 @@ def actors_of(line):
     cpus = [flow, taker] if flow and flow != taker else [taker]
     mine = {driver for driver, calls in line.board.scripts.items() if any(number == line.number for number, _ in calls)}
     return [*(f"t{dev}" for dev in sorted(line.devices(), key=int)), *cpus, *(it for it in line.board.actors("d") if it in mine)]
-
-
-def waits_for_level(line, past):
-    """The mask in force, and the one that waits."""
-    mask, waiting = line.mask, None
-    for e in past:
-        if is_take(e) and waiting is not None:
-            mask, waiting = waiting, None
-        if e[1] == "affinity" and e[3] != "refused":
-            mask, waiting = (int(e[2]), None) if e[3] == "now" else (mask, int(e[2]))
-    return mask, waiting
 
 
 def counts_of(line, past):
@@ -64,24 +53,13 @@ def state_of(line, past):
     freeing = next((e for e in reversed(past) if e[1] in ("unlink", "freed") and e[-1] != "notthere"), None)
     return (
         line.depth(past), started, line.is_masked(past), line.is_pending(past), line.is_oneshot(past), line.is_soft(past), flow, working,
-        after_last(past, is_kill, is_linked), line.cell(past), waits_for_level(line, past), counts_of(line, past),
+        after_last(past, is_kill, is_linked), line.cell(past), line.aim(past), counts_of(line, past),
         tuple((dev, line.flags_of(past, dev)) for dev in linked),
         frozenset(e[2] for e in round_ if is_begin(e)), frozenset(e[3] for e in round_ if is_return(e)) - {"nothing"},
         freeing[:3] if freeing and freeing[1] == "unlink" else None,
         tuple(device_state(line, past, dev, working) for dev in line.devices()),
-        tuple(line.due_call(driver, past) and (left_of(line, driver, past), line.due_call(driver, past)[1]) for driver in line.board.scripts),
+        tuple(line.place(driver, past) for driver in line.board.scripts),
     )  # fmt: skip
-
-
-def left_of(line, driver, past):
-    """How many of the driver's calls on the line are not complete."""
-    own, left = [e for e in past if e[0] == driver], 0
-    for number, call in line.board.scripts[driver]:
-        if number == line.number:
-            needs = {"sync": 2, "disable": 3, "free": 3}.get(call[0], 1)
-            needs = 1 if call[0] == "free" and own and own[0][-1] == "notthere" else needs
-            left, own = (left, own[needs:]) if len(own) >= needs else (left + 1, [])
-    return left
 
 
 def rest_of(line, past):

@@ -1,0 +1,52 @@
+-- What is done with a board that was read.
+use Rattle.std.proofs.Common.{◌≡◌, ℕ, false, Option, Some, None, Ok, List, refl, sym, ap, subst, ◌∙◌}
+use Rattle.board_def.specs.Rules.{IsBoard}
+use Rattle.board_def.specs.Seen.{BoardSeen}
+use Rattle.explore_words.specs.declared.Asked.{Asked}
+use Rattle.irq_explore.specs.Explored.{ExploresRow}
+use Rattle.irq_explore.specs.declared.exploring.ExploreEnd.{ExploreEnd}
+use Rattle.irq_explore.specs.declared.exploring.ExploreEnd.TheVariants as ends
+use Rattle.program_io.specs.Reading.{IsStated, ReadsBoard}
+use Rattle.explore_top.specs.Does.{Does, ExploresAs, ExploresInput, IsReadToEnd}
+use Rattle.explore_top.specs.Ending.{ending_of, is_read_fault_end}
+use Rattle.explore_top.specs.declared.ending.Ending.{Ending}
+
+read_to_end : (told left : Option (List ℕ)) (b : BoardSeen) → ReadsBoard told left (Ok b) → IsReadToEnd told left
+read_to_end None left b read = tt
+read_to_end (Some bytes) left b read = read.1
+
+module _ (asked : Asked) (told left before now : Option (List ℕ)) (b : BoardSeen)
+    (read : ReadsBoard told left (Ok b)) (stated : IsStated told b) (keeps : IsBoard b) where
+  input : (end : ExploreEnd) → ExploresRow b asked.line asked.wanted before now end
+      → ExploresInput asked told left before now (ending_of asked.states end)
+  input end done = record {
+    board = b;
+    stated = stated;
+    read = read_to_end told left b read;
+    keeps_rules = keeps;
+    done = (end, refl, done);
+  }
+
+  by_end : (end : ExploreEnd) → ExploresRow b asked.line asked.wanted before now end → Does asked told left before now (ending_of asked.states end)
+  by_end ends.Done done = input ends.Done done
+  by_end ends.Never done = input ends.Never done
+  by_end (ends.Cut line) done = input (ends.Cut line) done
+  by_end ends.NotThere done = input ends.NotThere done
+  by_end ends.WriteFault done = input ends.WriteFault done
+  by_end ends.NoMemory done = tt
+
+  pub explored : (ending : Ending) → ExploresAs asked b before now ending → Does asked told left before now ending
+  explored ending (end, is, done) = subst (λ (e : Ending). Does asked told left before now e) (sym is) (by_end end done)
+
+no_read_fault : (states : ℕ) (end : ExploreEnd) → is_read_fault_end (ending_of states end) ≡ false
+no_read_fault states ends.Done = refl
+no_read_fault states ends.Never = refl
+no_read_fault states (ends.Cut line) = refl
+no_read_fault states ends.NotThere = refl
+no_read_fault states ends.WriteFault = refl
+no_read_fault states ends.NoMemory = refl
+
+-- it came without a read fault
+pub explored_unread : (asked : Asked) (b : BoardSeen) (before now : Option (List ℕ)) (ending : Ending) → ExploresAs asked b before now ending
+    → is_read_fault_end ending ≡ false
+explored_unread asked b before now ending (end, is, done) = ap is_read_fault_end is ∙ no_read_fault asked.states end

@@ -1,0 +1,79 @@
+//! How a call of the program ends, in words and numbers.
+ghost use Rattle.std.specs.Prelude.{◌≡◌};
+ghost use Rattle.explore_top.specs.Ending.{ending_of, status_of};
+
+use board_words::BoardFault;
+use irq_base::LineNo;
+use irq_explore::ExploreEnd;
+use program_io::InputRefused;
+
+/// How the work ended.
+#[derive(Clone, Copy, PartialEq, Eq)]
+pub enum Ending {
+    /// What was asked is printed, all of it.
+    Done,
+    /// No lawful log is as wanted, and that is printed.
+    Never,
+    /// The words of the command line ask for nothing.
+    Usage,
+    /// The input is refused: its first fault.
+    Board(BoardFault),
+    /// The board lacks the line, or someone or something that the row names.
+    NotThere,
+    /// A read failed.
+    ReadFault,
+    /// A write or a flush of the output failed.
+    WriteFault,
+    /// Memory was needed and refused.
+    NoMemory,
+    /// The line has more than `states` states, which were to be visited at most. What is known of
+    /// it is printed.
+    Cut { line: LineNo, states: u32 },
+}
+
+impl Ending {
+    /// The exit status: 0 to 5, 7 or 8.
+    pub fn status(self) -> u8
+        ensures { result ≡ status_of self }
+    {
+        match self {
+            Ending::Done => 0,
+            Ending::Never => 1,
+            Ending::Usage => 2,
+            Ending::Board(_) | Ending::NotThere => 3,
+            Ending::ReadFault => 4,
+            Ending::WriteFault => 5,
+            Ending::NoMemory => 7,
+            Ending::Cut { .. } => 8,
+        }
+    }
+
+    /// The ending of an exploring of at most `states` states a line.
+    pub(crate) fn of(end: ExploreEnd, states: u32) -> Ending
+        ensures { result ≡ ending_of states end }
+    {
+        match end {
+            ExploreEnd::Done => Ending::Done,
+            ExploreEnd::Never => Ending::Never,
+            ExploreEnd::Cut(line) => Ending::Cut { line, states },
+            ExploreEnd::NotThere => Ending::NotThere,
+            ExploreEnd::WriteFault => Ending::WriteFault,
+            ExploreEnd::NoMemory => Ending::NoMemory,
+        }
+    }
+}
+
+impl From<InputRefused> for Ending {
+    ghost use Rattle.std.specs.Prelude.{◌≡◌};
+    ghost use Rattle.explore_top.specs.Ending.{ending_of_refusal};
+
+    ghost from_gives = { λ refused ending. ending ≡ ending_of_refusal refused };
+
+    fn from(refused: InputRefused) -> Ending {
+        match refused {
+            InputRefused::Fault(fault) => Ending::Board(fault),
+            InputRefused::ReadFault => Ending::ReadFault,
+            InputRefused::NoMemory => Ending::NoMemory,
+        }
+    }
+}

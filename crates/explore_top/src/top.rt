@@ -1,0 +1,126 @@
+//! The top call.
+ghost use Rattle.std.specs.Prelude.{◌≡◌, ◌↔◌, [], false, true, map};
+ghost use Rattle.explore_words.specs.Words.{Asks, AsksNothing, IsCount};
+ghost use Rattle.explore_words.specs.declared.Asked.{Asked};
+ghost use Rattle.irq_io.specs.Faults.{Counts};
+ghost use Rattle.program_io.specs.ErrorRows.{Tells};
+ghost use Rattle.explore_top.specs.Does.{Does, ExploresAs};
+ghost use Rattle.explore_top.specs.Ending.{error_text, is_printed, is_printing, is_quiet};
+ghost use Rattle.explore_top.specs.Ending.{is_read_fault_end, is_write_fault_end};
+
+use crate::ending::Ending;
+use crate::error_rows::error_row;
+use board_def::Board;
+use explore_words::{Asked, read_words};
+use irq_explore::explore_row;
+use irq_io::{Sink, Source};
+use program_io::{read_input, tell_row};
+use std::alloc::Global;
+use text_row::TextRow;
+
+/// Does what the words ask for: reads a board from `src`, and looks through the states of its lines
+/// for a shortest log of a line that ends with the row, or that leaves the line so. Other words are
+/// refused before anything is read. What went wrong is told on `err`, in one row; a fault of `err`
+/// itself changes nothing.
+pub fn explore_main<S: Source, O: Sink, E: Sink>(
+    alloc: Global,
+    words: &[&str],
+    src: &mut S,
+    out: &mut O,
+    err: &mut E,
+) -> Ending
+    ensures usage { (result ≡ Ending.Usage) ↔ AsksNothing (map (λ w. w.now) words.now) }
+    ensures unread { AsksNothing (map (λ w. w.now) words.now) → src.new ≡ src.old }
+    ensures does { (asked : Asked) → Asks (map (λ w. w.now) words.now) asked
+        → Does asked (S.left src.old) (S.left src.new) (O.written out.old) (O.written out.new)
+        result }
+    ensures read_fault { Counts (S.faults src.old) (S.faults src.new) (is_read_fault_end result) }
+
+    ensures emptied { is_printed result ≡ true → O.kept out.new ≡ [] }
+    ensures write_fault { Counts (O.faults out.old) (O.faults out.new)
+        (is_write_fault_end result) }
+    ensures silent { is_printing result ≡ false → out.new ≡ out.old }
+
+    ensures tells { is_quiet result ≡ false
+        → Tells (error_text result) (E.written err.old) (E.written err.new) (E.kept err.new)
+        (E.faults err.old) (E.faults err.new) }
+    ensures quiet { is_quiet result ≡ true → err.new ≡ err.old }
+{
+    let ending = work(alloc, words, src, out);
+    if !is_quiet(ending) {
+        end_early(ending, err);
+    }
+    ending
+}
+
+/// All but the row on the error sink.
+fn work<S: Source, O: Sink>(alloc: Global, words: &[&str], src: &mut S, out: &mut O) -> Ending
+    ensures usage { (result ≡ Ending.Usage) ↔ AsksNothing (map (λ w. w.now) words.now) }
+    ensures unread { AsksNothing (map (λ w. w.now) words.now) → src.new ≡ src.old }
+    ensures does { (asked : Asked) → Asks (map (λ w. w.now) words.now) asked
+        → Does asked (S.left src.old) (S.left src.new) (O.written out.old) (O.written out.new)
+        result }
+    ensures read_fault { Counts (S.faults src.old) (S.faults src.new) (is_read_fault_end result) }
+    ensures emptied { is_printed result ≡ true → O.kept out.new ≡ [] }
+    ensures write_fault { Counts (O.faults out.old) (O.faults out.new)
+        (is_write_fault_end result) }
+    ensures silent { is_printing result ≡ false → out.new ≡ out.old }
+{
+    match read_words(words) {
+        Some(asked) => act(alloc, asked, src, out),
+        None => Ending::Usage,
+    }
+}
+
+/// Does what is asked.
+fn act<S: Source, O: Sink>(alloc: Global, asked: Asked, src: &mut S, out: &mut O) -> Ending
+    requires { IsCount asked.states }
+    ensures does { Does asked (S.left src.old) (S.left src.new) (O.written out.old)
+        (O.written out.new) result }
+    ensures read_fault { Counts (S.faults src.old) (S.faults src.new) (is_read_fault_end result) }
+    ensures emptied { is_printed result ≡ true → O.kept out.new ≡ [] }
+    ensures write_fault { Counts (O.faults out.old) (O.faults out.new)
+        (is_write_fault_end result) }
+    ensures silent { is_printing result ≡ false → out.new ≡ out.old }
+{
+    match read_input(alloc, src) {
+        Ok(board) => {
+            board.is_board();
+            explore(alloc, &board, asked, out)
+        }
+        Err(refused) => Ending::from(refused),
+    }
+}
+
+/// Does with the board what is asked.
+fn explore<O: Sink>(alloc: Global, board: &Board, asked: Asked, out: &mut O) -> Ending
+    requires { IsCount asked.states }
+    ensures does { ExploresAs asked board.now (O.written out.old) (O.written out.new) result }
+    ensures emptied { is_printed result ≡ true → O.kept out.new ≡ [] }
+    ensures write_fault { Counts (O.faults out.old) (O.faults out.new)
+        (is_write_fault_end result) }
+    ensures silent { is_printing result ≡ false → out.new ≡ out.old }
+{
+    let end = explore_row(alloc, board, asked.states, asked.line, asked.wanted, out);
+    Ending::of(end, asked.states)
+}
+
+/// Whether the ending has no row on the error sink.
+fn is_quiet(ending: Ending) -> bool
+    ensures { result ≡ is_quiet ending }
+{
+    match ending {
+        Ending::Done | Ending::Never => true,
+        _ => false,
+    }
+}
+
+/// Says on the error sink how the call ended.
+pub fn end_early<E: Sink>(ending: Ending, err: &mut E)
+    ensures { Tells (error_text ending) (E.written err.old) (E.written err.new) (E.kept err.new)
+        (E.faults err.old) (E.faults err.new) }
+{
+    let mut row = TextRow::new();
+    error_row(&mut row, ending);
+    tell_row(err, row.bytes());
+}

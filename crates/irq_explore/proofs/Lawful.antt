@@ -1,0 +1,200 @@
+-- A log that was found is lawful: its text is that of a log of the board, on which `check` says so.
+use Rattle.std.proofs.Common.{◌≡◌, ℕ, ◌<◌, Bool, true, false, not, ◌&&◌, cond, eqb, ltb, Some, None, List, [], ◌∷◌, ◌++◌}
+use Rattle.std.proofs.Common.{length, map, slice_get, reverse, codes, All, refl, sym, ap, subst, ◌∙◌, append_assoc, arith}
+use Rattle.std.specs.List.{AllZip, filter, join_with_byte}
+use Rattle.std.specs.Option.{option_map}
+use Rattle.std.proofs.lemmas.Bool.{and_parts, ltb-true, ne_eqb, eqb-true}
+use Rattle.std.proofs.lemmas.List.{reverse-reverse}
+use Rattle.std.proofs.lemmas.List.Elements.{All-cons, All-head, All-nil, All-tail}
+use Rattle.std.proofs.lemmas.Option.{same_Some, slice_get-map}
+use Rattle.board_def.specs.Layout.{layout_of}
+use Rattle.board_def.specs.LineOf.{line_of_row}
+use Rattle.board_def.specs.Rules.{has_line}
+use Rattle.board_def.specs.Seen.{BoardSeen}
+use Rattle.board_def.specs.declared.rows.LineRow.{LineRow}
+use Rattle.board_report.proofs.Printable.{printable, turned}
+use Rattle.domain_rules.specs.declared.layouts.Placement.{Placement}
+use Rattle.domain_rules.specs.declared.layouts.Placement.TheVariants as placements
+use Rattle.irq_base.specs.Seen.{HistorySeen}
+use Rattle.irq_base.specs.declared.entries.Entry.{Entry}
+use Rattle.irq_base.specs.declared.lines.LineDef.{LineDef}
+use Rattle.irq_base.specs.declared.numbers.LineNo.{LineNo}
+use Rattle.irq_model.specs.Legal.{IsLegal, IsLegalPast}
+use Rattle.line_survey.specs.declared.answer.Answer.{Answer}
+use Rattle.line_survey.specs.declared.answer.Answer.TheVariants as answers
+use Rattle.line_wanted.specs.Wanted.{Meets}
+use Rattle.line_wanted.specs.declared.wanted.Wanted.{Wanted}
+use Rattle.line_wanted.specs.declared.wanted.Wanted.TheVariants as wants
+use Rattle.log_check.specs.Judging.{logs_of}
+use Rattle.log_check.specs.Verdicts.{ChecksLog, JudgedAt, JudgedLine}
+use Rattle.log_check.specs.declared.verdict.Verdict.TheVariants as verdicts
+use Rattle.log_read.specs.LogOf.{IsRowOn, LineEntry, Tell, begins_with_hash, entries_of, entries_on, is_feed}
+use Rattle.log_read.specs.LogOf.{is_passed_over, is_whole, onto_first, rows_of, saying}
+use Rattle.log_text.proofs.Splitting.{are_above, row_within, row_words}
+use Rattle.log_text.specs.EntryWords.{IsPrintable}
+use Rattle.log_text.specs.Formed.{HasSmallNumbers, IsSmall, IsWritable}
+use Rattle.log_text.specs.Rows.{entry_text, history_text}
+use Rattle.explore_words.proofs.Dashes.{begins_so}
+use Rattle.irq_explore.specs.Answered.{Answered, AnsweredLine, IsLawful, Says}
+use Rattle.irq_explore.specs.Printing.{HasSmallAnswer, IsPrintableAnswer}
+
+-- ---- the entries can be written
+
+legal_of : (def : LineDef) (wanted : Wanted) (past : List Entry) → Meets def wanted past → IsLegalPast def past
+legal_of def (wants.Row e) past meets = meets.0
+legal_of def (wants.Rest left) past meets = meets.0
+
+legal_printable : (def : LineDef) (past : List Entry) → IsLegalPast def past → All IsPrintable past
+legal_printable def [] legal = All-nil IsPrintable
+legal_printable def (e ∷ past) legal = All-cons IsPrintable e past (printable def past e legal.0) (legal_printable def past legal.1)
+
+all_printable : (def : LineDef) (h : List Entry) → IsLegal def h → All IsPrintable h
+all_printable def h legal = subst (All IsPrintable) (reverse-reverse h) (turned IsPrintable (reverse h) (legal_printable def (reverse h) legal))
+
+all_writable : (es : List Entry) → All IsPrintable es → All HasSmallNumbers es → All IsWritable es
+all_writable [] p s = All-nil IsWritable
+all_writable (e ∷ es) p s =
+    All-cons IsWritable e es (record { printable = All-head IsPrintable e es p; small = All-head HasSmallNumbers e es s })
+    (all_writable es (All-tail IsPrintable e es p) (All-tail HasSmallNumbers e es s))
+
+-- ---- the rows of the text
+
+row_first : (xs rest : List ℕ) → are_above 10 xs ≡ true → rows_of (xs ++ 10 ∷ rest) ≡ (xs ++ 10 ∷ []) ∷ rows_of rest
+row_first [] rest above = refl
+row_first (b ∷ bs) rest above =
+    let both = and_parts (ltb 10 b) (are_above 10 bs) above in
+    let more = ltb-true 10 b both.0 in
+    let no : is_feed b ≡ false = ne_eqb b 10 (λ same. omega (arith, more, same)) in
+    ap (λ t. cond t ((b ∷ []) ∷ rows_of (bs ++ 10 ∷ rest)) (onto_first b (rows_of (bs ++ 10 ∷ rest)))) no
+    ∙ ap (onto_first b) (row_first bs rest both.1)
+
+module _ (line : LineNo) (number : IsSmall line.0) where
+  abbrev words : Entry → List ℕ
+  words e = join_with_byte 32 (row_words line e)
+
+  text_rows : (es : List Entry) → All IsWritable es → rows_of (history_text line es) ≡ map (entry_text line) es
+  text_rows [] w = refl
+  text_rows (e ∷ es) w =
+      ap rows_of (append_assoc (words e) (codes "\n") (history_text line es))
+      ∙ (row_first (words e) (history_text line es) (row_within line e number (All-head IsWritable e es w))
+      ∙ ap (λ rows. entry_text line e ∷ rows) (text_rows es (All-tail IsWritable e es w)))
+
+  no_hash : (e : Entry) → IsWritable e → begins_with_hash (entry_text line e) ≡ false
+  no_hash e w =
+      let so = begins_so (words e) line (wants.Row e) (record { text = refl; number = number; has_row = w }) in
+      let above = ltb-true 45 so.0 so.3 in
+      let other : eqb so.0 35 ≡ false = ne_eqb so.0 35 (λ same. omega (arith, above, same)) in
+      ap (λ (xs : List ℕ). begins_with_hash (xs ++ codes "\n")) so.2 ∙ other
+
+  unpassed : (e : Entry) → IsWritable e → is_passed_over (entry_text line e) ≡ false
+  unpassed e w = ap (λ t. t && is_whole (entry_text line e)) (no_hash e w)
+
+  all_say : (es : List Entry) → All IsWritable es → saying (map (entry_text line) es) ≡ map (entry_text line) es
+  all_say [] w = refl
+  all_say (e ∷ es) w =
+      ap (λ t. cond (not t) (entry_text line e ∷ saying (map (entry_text line) es)) (saying (map (entry_text line) es)))
+      (unpassed e (All-head IsWritable e es w))
+      ∙ ap (λ rows. entry_text line e ∷ rows) (all_say es (All-tail IsWritable e es w))
+
+  -- what the rows say
+  abbrev said_of : List Entry → List LineEntry
+  said_of es = map (λ (e : Entry). (line, e)) es
+
+  rows_on : (lines : List LineRow) → has_line lines line ≡ true → (es : List Entry) → All IsWritable es
+      → AllZip (IsRowOn lines) (map (entry_text line) es) (said_of es)
+  rows_on lines there [] w = tt
+  rows_on lines there (e ∷ es) w = (
+    record { formed = record { text = refl; number = number; writable = All-head IsWritable e es w }; declared = there },
+    rows_on lines there es (All-tail IsWritable e es w),
+  )
+
+  -- the entries that they say of a line
+  on_it : (es : List Entry) (other : LineNo) → eqb line.0 other.0 ≡ true → entries_on (said_of es) other ≡ es
+  on_it [] other same = refl
+  on_it (e ∷ es) other same =
+      ap (λ t. map (λ (x : LineEntry). x.1) (cond t ((line, e) ∷ filter (λ (x : LineEntry). eqb x.0.0 other.0) (said_of es))
+      (filter (λ (x : LineEntry). eqb x.0.0 other.0) (said_of es)))) same
+      ∙ ap (λ xs. e ∷ xs) (on_it es other same)
+
+  on_another : (es : List Entry) (other : LineNo) → eqb line.0 other.0 ≡ false → entries_on (said_of es) other ≡ []
+  on_another [] other differ = refl
+  on_another (e ∷ es) other differ =
+      ap (λ t. map (λ (x : LineEntry). x.1) (cond t ((line, e) ∷ filter (λ (x : LineEntry). eqb x.0.0 other.0) (said_of es))
+      (filter (λ (x : LineEntry). eqb x.0.0 other.0) (said_of es)))) differ
+      ∙ on_another es other differ
+
+entries_are : (lines : List LineRow) (said : List LineEntry) → entries_of (logs_of lines said) ≡ map (λ (row : LineRow). entries_on said row.line) lines
+entries_are [] said = refl
+entries_are (row ∷ lines) said = ap (λ hs. entries_on said row.line ∷ hs) (entries_are lines said)
+
+-- the entries of a log that was found
+abbrev IsFound : Answer → List Entry → Type 0
+IsFound (answers.Found v) es = v.items ≡ es
+IsFound answers.Never es = ⊥
+IsFound (answers.NotWithin n) es = ⊥
+
+abbrev line_no : ℕ → LineNo
+line_no n = record { 0 = n }
+
+-- ---- the verdict
+
+on_own : (b : BoardSeen) (row : LineRow) (placement : Placement) (wanted : Wanted) (answer : Answer) (es : List Entry) → IsFound answer es
+    → AnsweredLine b row placement wanted answer → JudgedLine b row placement es None
+on_own b row (placements.Mapped virq path) wanted (answers.Found v) es found says =
+    subst (IsLegal (line_of_row b row)) found (legal_of (line_of_row b row) wanted (reverse v.items) says.meets)
+on_own b row (placements.Refused why) wanted (answers.Found v) es found says = let no : answers.Found v ≡ answers.Never = says in cc
+on_own b row placement wanted answers.Never es found says = absurd found
+on_own b row placement wanted (answers.NotWithin n) es found says = absurd found
+
+on_none : (b : BoardSeen) (row : LineRow) (placement : Placement) → JudgedLine b row placement [] None
+on_none b row (placements.Mapped virq path) = tt
+on_none b row (placements.Refused why) = refl
+
+module _ (b : BoardSeen) (line : LineNo) (wanted : Wanted) (answer : Answer) (answered : Answered b line wanted answer)
+    (es : List Entry) (found : IsFound answer es) (there : has_line b.lines line ≡ true) (number : IsSmall line.0) (writable : All IsWritable es) where
+  abbrev said : List LineEntry
+  said = said_of line number es
+
+  abbrev log_of : LineRow → HistorySeen
+  log_of row = record { entries = entries_on said row.line; spare = 0 }
+
+  tells : Tell b.lines (rows_of (history_text line es)) (entries_of (logs_of b.lines said))
+  tells = record {
+    said = said;
+    each = subst (λ rows. AllZip (IsRowOn b.lines) rows said)
+        (sym (ap saying (text_rows line number es writable) ∙ all_say line number es writable)) (rows_on line number b.lines there es writable);
+    are = entries_are b.lines said;
+  }
+
+  judged : (i : ℕ) (row : LineRow) (placement : Placement) → slice_get b.lines i ≡ Some row → slice_get (layout_of b) i ≡ Some placement
+      → JudgedLine b row placement (entries_on said row.line) None
+  judged i row placement at placed = by (eqb line.0 row.line.0) refl
+    where
+      by : (t : Bool) → eqb line.0 row.line.0 ≡ t → JudgedLine b row placement (entries_on said row.line) None
+      by true is =
+          let named : row.line ≡ line = ap line_no (sym (eqb-true line.0 row.line.0 is)) in
+          subst (λ (xs : List Entry). JudgedLine b row placement xs None) (sym (on_it line number es row.line is))
+          (on_own b row placement wanted answer es found (answered i row placement at named placed))
+      by false is =
+          subst (λ (xs : List Entry). JudgedLine b row placement xs None) (sym (on_another line number es row.line is)) (on_none b row placement)
+
+  verdict : (i : ℕ) → i < length b.lines → JudgedAt b (logs_of b.lines said) i None
+  verdict i within row placement history at placed kept =
+      let same : log_of row ≡ history = same_Some (log_of row) history (sym (slice_get-map log_of b.lines i ∙ ap (option_map log_of) at) ∙ kept) in
+      subst (λ (h : HistorySeen). JudgedLine b row placement h.entries None) same (judged i row placement at placed)
+
+  checks : ChecksLog b (history_text line es) verdicts.Lawful
+  checks = (logs_of b.lines said, tells, verdict)
+
+pub lawful : (b : BoardSeen) (line : LineNo) (wanted : Wanted) (answer : Answer) → Answered b line wanted answer → has_line b.lines line ≡ true
+    → IsSmall line.0 → IsPrintableAnswer answer → HasSmallAnswer answer → IsLawful b line answer
+lawful b line wanted (answers.Found v) answered there number printable small =
+    checks b line wanted (answers.Found v) answered v.items refl there number (all_writable v.items printable small)
+lawful b line wanted answers.Never answered there number printable small = tt
+lawful b line wanted (answers.NotWithin n) answered there number printable small = tt
+
+-- what is answered of a line can be printed
+pub printable_said : (def : LineDef) (wanted : Wanted) (answer : Answer) → Says def wanted answer → IsPrintableAnswer answer
+printable_said def wanted (answers.Found v) says = all_printable def v.items (legal_of def wanted (reverse v.items) says.meets)
+printable_said def wanted answers.Never says = tt
+printable_said def wanted (answers.NotWithin n) says = tt

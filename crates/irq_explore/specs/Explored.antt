@@ -1,0 +1,62 @@
+-- What the exploring of a board says, by how it ended.
+use Rattle.std.specs.Prelude.{◌≡◌, ℕ, Bool, true, false, Option, List}
+use Rattle.board_def.specs.Seen.{BoardSeen}
+use Rattle.irq_base.specs.declared.numbers.LineNo.{LineNo}
+use Rattle.irq_io.specs.Whole.{WritesAll}
+use Rattle.irq_io.specs.declared.whole.WriteEnd.{WriteEnd}
+use Rattle.irq_io.specs.declared.whole.WriteEnd.TheVariants as writes
+use Rattle.line_survey.specs.declared.answer.Answer.{Answer}
+use Rattle.line_survey.specs.declared.answer.Answer.TheVariants as answers
+use Rattle.line_wanted.specs.declared.wanted.Wanted.{Wanted}
+use Rattle.irq_explore.specs.Answered.{Answered, IsLawful, answer_text}
+use Rattle.irq_explore.specs.Present.{has_all}
+use Rattle.irq_explore.specs.declared.exploring.ExploreEnd.{ExploreEnd}
+use Rattle.irq_explore.specs.declared.exploring.ExploreEnd.TheVariants as ends
+
+-- the end with this answer: a log was found; or there is none; or there is none of at most so many
+-- entries, and the line has further states
+abbrev pub end_of : LineNo → Answer → ExploreEnd
+end_of line (answers.Found es) = ends.Done
+end_of line answers.Never = ends.Never
+end_of line (answers.NotWithin n) = ends.Cut line
+
+-- this is the answer, a log in it is lawful, and the output gained its text
+pub record SaysAnswer (b : BoardSeen) (line : LineNo) (wanted : Wanted)
+    (before now : Option (List ℕ)) (write : WriteEnd) (answer : Answer) : Type 0 where
+  pub there : has_all b line wanted ≡ true
+  pub answered : Answered b line wanted answer
+  pub lawful : IsLawful b line answer
+  pub written : WritesAll before now (answer_text line answer) write
+
+-- the answer is printed, with this end
+abbrev pub EndsWith : BoardSeen → LineNo → Wanted → Option (List ℕ) → Option (List ℕ) → ExploreEnd
+    → Type 0
+EndsWith b line wanted before now end =
+    (answer : Answer) × (end ≡ end_of line answer)
+    × SaysAnswer b line wanted before now writes.Done answer
+
+-- What is wanted of a line was looked for. The answer is printed, or after a fault of the output a
+-- beginning of it; or the board lacks what the row names; or memory was refused.
+abbrev pub ExploresRow : BoardSeen → LineNo → Wanted → Option (List ℕ) → Option (List ℕ)
+    → ExploreEnd → Type 0
+ExploresRow b line wanted before now ends.NotThere = has_all b line wanted ≡ false
+ExploresRow b line wanted before now ends.WriteFault =
+    (answer : Answer) × SaysAnswer b line wanted before now writes.Failed answer
+ExploresRow b line wanted before now ends.NoMemory = Unit {0}
+ExploresRow b line wanted before now end = EndsWith b line wanted before now end
+
+abbrev pub is_write_fault : ExploreEnd → Bool
+is_write_fault ends.WriteFault = true
+is_write_fault _ = false
+
+-- all is printed
+abbrev pub is_printed : ExploreEnd → Bool
+is_printed ends.Done = true
+is_printed ends.Never = true
+is_printed (ends.Cut line) = true
+is_printed _ = false
+
+-- the ending at which something may have been printed
+abbrev pub is_printing : ExploreEnd → Bool
+is_printing ends.WriteFault = true
+is_printing end = is_printed end

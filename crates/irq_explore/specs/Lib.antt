@@ -1,0 +1,4 @@
+pub mod Answered
+pub mod Explored
+pub mod Present
+pub mod Printing

@@ -1,0 +1,36 @@
+//! The answer of a line's search.
+ghost use Rattle.std.specs.Prelude.{◌≡◌, ◌≤◌, ◌<◌, IfOk, Some, length, slice_get};
+ghost use Rattle.explore_words.specs.Words.{IsCount};
+ghost use Rattle.irq_explore.specs.Answered.{AnsweredAt};
+ghost use Rattle.irq_explore.specs.Printing.{IsPrintableAnswer};
+
+use board_def::Board;
+use board_layout::lay;
+use domain_rules::Placement;
+use irq_base::NoMemory;
+use line_survey::{Answer, LineSearch};
+use line_wanted::Wanted;
+use std::alloc::Global;
+
+/// What a search through at most `states` states of the board's line at index `place` says of what
+/// is wanted. A line that the layout refuses has no history. The only error is `NoMemory`.
+pub(crate) fn answer_at(
+    alloc: Global,
+    board: &Board,
+    place: usize,
+    wanted: Wanted,
+    states: u32,
+) -> Result<Answer, NoMemory>
+    requires line { place < length board.now.lines }
+    requires states { IsCount states }
+    ensures answered { IfOk result (AnsweredAt board.now place wanted) }
+    ensures rows { IfOk result IsPrintableAnswer }
+{
+    let (_, layout) = lay(alloc, board)?;
+    let Some(Placement::Mapped { .. }) = layout.get(place) else {
+        return Ok(Answer::Never);
+    };
+    let defs = board.line_defs(alloc)?;
+    let search = LineSearch::new(alloc, &defs[place], states as usize)?;
+    search.shortest(wanted)
+}

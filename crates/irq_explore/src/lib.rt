@@ -1,0 +1,15 @@
+//! What `genirq-explore` does with a board: it looks for a shortest log of a line that is as
+//! wanted, and prints it, or that there is none.
+//!
+//! Each line is searched by itself, through the states of all its legal histories: its definition
+//! with its calls, whatever the drivers do on other lines between. So what is said is said of every
+//! lawful log, and so of every play and every run.
+#![tactic(auto)]
+
+mod answering;
+pub mod exploring;
+mod present;
+mod printing;
+mod small;
+
+pub use exploring::{ExploreEnd, explore_row};
