@@ -97,7 +97,7 @@ impl Progress {
         }
     }
 
-    /// After two turns the processor goes on only if there was an ask since the handler's last call.
+    /// After two turns the processor goes on only if an ask came since the handler's last call.
     fn pass_cpu(&self, turn: u64) {
         self.cpu.store(turn, Ordering::SeqCst);
         let called = self.called.load(Ordering::SeqCst);
@@ -162,8 +162,8 @@ fn has_made(reports: &Reports, actor: Actor, turns: &AtomicU64, entries: u64) ->
     entries_of(reports, actor) == entries && turns.load(Ordering::SeqCst) >= entries
 }
 
-/// By hand: of each ask a take, a begin, a return and an end, and of the thread a begin, a return and
-/// a done.
+/// By hand: of each ask a take, a begin, a return and an end, and of the thread a begin, a return
+/// and a done.
 #[test]
 fn each_worker_makes_its_steps(rt: HostRuntime) -> Result<(), Fail> {
     let Ok(board) = read_board(rt.alloc(), BOARD) else {
