@@ -1,6 +1,5 @@
 //! A play calls the caller's handlers, once for each run; and what isn't a step is refused memory
-//! before the first step, so none was called. `rt try --test --fail-alloc N` refuses it, for each
-//! N.
+//! before the first step, so none was called: `rt try --test --fail-alloc N` refuses the Nth.
 ghost use Rattle.std.specs.Prelude.{◌≡◌};
 ghost use Rattle.irq_base.specs.Handlers.{answer_of};
 
@@ -37,8 +36,7 @@ ask 1
 picks d1*2 c0*3 t1*2
 ";
 
-/// What the calls of a play add up to: one of the handler, and ten for one of the thread's
-/// function.
+/// What the calls of a play add up to: one of the handler, ten for one of the thread's function.
 const ALL: u64 = 11;
 
 /// Handlers that answer by their devices' kinds, and add up their calls.

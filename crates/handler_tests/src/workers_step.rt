@@ -97,8 +97,7 @@ impl Progress {
         }
     }
 
-    /// After two turns the processor goes on only if there was an ask since the handler's last
-    /// call.
+    /// After two turns the processor goes on only if an ask came since the handler's last call.
     fn pass_cpu(&self, turn: u64) {
         self.cpu.store(turn, Ordering::SeqCst);
         let called = self.called.load(Ordering::SeqCst);

@@ -41,9 +41,8 @@ module _ (def : LineDef) (cut : Option ℕ) where
     pub rising : (j k : ℕ) (a b : RestRow) → j ≤ k → slice_get rows j ≡ Some a
         → slice_get rows k ≡ Some b → a.len ≤ b.len
 
-  -- each entry that may come after a legal history, if that is shorter than the cut, has a row:
-  -- with
-  -- the length of a shortest history that ends with it; in the order of the lengths
+  -- Each entry that may come after a legal history, if that is shorter than the cut, has a row:
+  -- with the length of a shortest history that ends with it; in the order of the lengths.
   pub record AreEntries (rows : List EntryRow) : Type 0 where
     pub each : All (λ r. IsLeast def (wants.Row r.entry) r.len) rows
     pub all : (e : Entry) (h : List Entry) → IsLegalPast def (e ∷ h) → IsBelow cut (length h)
