@@ -1,0 +1,10 @@
+use Rattle.board_def.specs.Seen.{BoardSeen}
+use Rattle.irq_play.specs.Played.{PlaysBoard}
+use Rattle.irq_top.proofs.Outcomes.{ends_as_any_play}
+use Rattle.irq_top.proofs.plays.PlayOnBoard.play.Goals as goal
+
+pub returns-clause-does : goal.returns-clause-does
+returns-clause-does g c =
+    ends_as_any_play (λ (b : BoardSeen). PlaysBoard b c.args.self.summary) c.args.board (g.O.Sink.written c.args.out.now)
+    (g.O.Sink.written c.play_and_print.new.out) c.play_and_print.result.reports.reports c.of_play.result.reports.reports
+    c.play_and_print.result.end c.of_play.result.ending c.of_play.ensures.ending c.of_play.ensures.reports c.play_and_print.ensures.plays
