@@ -11,5 +11,7 @@ pub mod exploring;
 mod present;
 mod printing;
 mod small;
+pub mod surveying;
+mod survey_printing;
 
-pub use exploring::{ExploreEnd, explore_row};
+pub use exploring::{ExploreEnd, explore_row, explore_survey};
