@@ -1,7 +1,6 @@
 -- Each row of a survey can be printed.
-use Rattle.std.proofs.Common.{◌≡◌, ℕ, ◌≤◌, Result, Ok, Err, List, ◌∷◌, All, length, refl, subst, IfOk, IfSome}
+use Rattle.std.proofs.Common.{◌≡◌, ℕ, ◌≤◌, All, length, subst, IfSome}
 use Rattle.std.proofs.lemmas.List.Elements.{All-head, All-weaker}
-use Rattle.irq_base.specs.declared.entries.Entry.{Entry}
 use Rattle.irq_base.specs.declared.lines.LineDef.{LineDef}
 use Rattle.irq_model.specs.Legal.{IsDue}
 use Rattle.line_survey.specs.Seen.{LineSearchSeen}

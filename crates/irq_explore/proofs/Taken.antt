@@ -13,7 +13,7 @@ use Rattle.board_def.specs.Seen.{BoardSeen}
 use Rattle.board_def.specs.declared.rows.LineRow.{LineRow}
 use Rattle.domain_rules.specs.Layout.{is_mapped}
 use Rattle.domain_rules.specs.declared.layouts.Placement.{Placement}
-use Rattle.board_play.specs.Lines.{defs_of, mapped}
+use Rattle.board_play.specs.Lines.{mapped}
 use Rattle.irq_explore.specs.Surveyed.{AreSurveys, HasRows, IsSurveyOf, is_asked}
 use Rattle.irq_explore.specs.Surveying.{AddsSurvey, is_surveyed}
 use Rattle.irq_explore.specs.declared.surveying.LineSurvey.{LineSurvey}

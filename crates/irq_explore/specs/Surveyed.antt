@@ -1,12 +1,10 @@
 -- What is said of the lines of a board that are surveyed.
-use Rattle.std.specs.Prelude.{◌≡◌, ◌≤◌, ℕ, Bool, true, ◌&&◌, if◌then◌else◌, Option, Some, None}
+use Rattle.std.specs.Prelude.{◌≡◌, ◌≤◌, ℕ, Bool, true, if◌then◌else◌, Option, Some, None}
 use Rattle.std.specs.Prelude.{List, [], ◌∷◌, ◌++◌, All, length, is_some, IfSome}
 use Rattle.std.specs.List.{AllZip, filter, flat_map}
 use Rattle.board_def.specs.Rules.{has_line}
 use Rattle.board_def.specs.Seen.{BoardSeen}
 use Rattle.board_play.specs.Lines.{defs_of}
-use Rattle.domain_rules.specs.Layout.{is_mapped}
-use Rattle.domain_rules.specs.declared.layouts.Placement.{Placement}
 use Rattle.irq_base.specs.declared.lines.LineDef.{LineDef}
 use Rattle.irq_base.specs.declared.numbers.LineNo.{LineNo}
 use Rattle.irq_model.specs.Kinds.{same_line}

@@ -1,5 +1,5 @@
 use Rattle.std.specs.List.{flat_map}
-use Rattle.board_report.proofs.Writing.{and_then, failed_within}
+use Rattle.board_report.proofs.Writing.{and_then}
 use Rattle.log_text.specs.LayoutRows.{layout_rows}
 use Rattle.irq_explore.specs.Surveyed.{line_text}
 use Rattle.irq_explore.proofs.survey_printing.print_all.Goals as goal

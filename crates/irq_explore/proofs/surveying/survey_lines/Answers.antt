@@ -1,5 +1,4 @@
 use Rattle.std.proofs.Common.{List, Some, slice_get, sym, ap, ◌∙◌, arith}
-use Rattle.board_def.specs.Layout.{layout_of}
 use Rattle.domain_rules.specs.declared.layouts.Placement.{Placement}
 use Rattle.irq_base.specs.declared.lines.LineDef.{LineDef}
 use Rattle.irq_explore.proofs.Rows.{at_index}
