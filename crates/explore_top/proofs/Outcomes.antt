@@ -3,11 +3,10 @@ use Rattle.std.proofs.Common.{◌≡◌, ℕ, false, Option, Some, None, Ok, Lis
 use Rattle.board_def.specs.Rules.{IsBoard}
 use Rattle.board_def.specs.Seen.{BoardSeen}
 use Rattle.explore_words.specs.declared.Asked.{Asked}
-use Rattle.irq_explore.specs.Explored.{ExploresRow}
 use Rattle.irq_explore.specs.declared.exploring.ExploreEnd.{ExploreEnd}
 use Rattle.irq_explore.specs.declared.exploring.ExploreEnd.TheVariants as ends
 use Rattle.program_io.specs.Reading.{IsStated, ReadsBoard}
-use Rattle.explore_top.specs.Does.{Does, ExploresAs, ExploresInput, IsReadToEnd}
+use Rattle.explore_top.specs.Does.{Does, ExploresAs, ExploresInput, ExploresWhat, IsReadToEnd}
 use Rattle.explore_top.specs.Ending.{ending_of, is_read_fault_end}
 use Rattle.explore_top.specs.declared.ending.Ending.{Ending}
 
@@ -17,7 +16,7 @@ read_to_end (Some bytes) left b read = read.1
 
 module _ (asked : Asked) (told left before now : Option (List ℕ)) (b : BoardSeen)
     (read : ReadsBoard told left (Ok b)) (stated : IsStated told b) (keeps : IsBoard b) where
-  input : (end : ExploreEnd) → ExploresRow b asked.line asked.wanted before now end
+  input : (end : ExploreEnd) → ExploresWhat asked.states asked.what b before now end
       → ExploresInput asked told left before now (ending_of asked.states end)
   input end done = record {
     board = b;
@@ -27,7 +26,7 @@ module _ (asked : Asked) (told left before now : Option (List ℕ)) (b : BoardSe
     done = (end, refl, done);
   }
 
-  by_end : (end : ExploreEnd) → ExploresRow b asked.line asked.wanted before now end → Does asked told left before now (ending_of asked.states end)
+  by_end : (end : ExploreEnd) → ExploresWhat asked.states asked.what b before now end → Does asked told left before now (ending_of asked.states end)
   by_end ends.Done done = input ends.Done done
   by_end ends.Never done = input ends.Never done
   by_end (ends.Cut line) done = input (ends.Cut line) done

@@ -4,7 +4,9 @@ use Rattle.std.specs.Prelude.{◌≡◌, ℕ, Option, Some, None, Err, List, []}
 use Rattle.board_def.specs.Rules.{IsBoard}
 use Rattle.board_def.specs.Seen.{BoardSeen}
 use Rattle.explore_words.specs.declared.Asked.{Asked}
-use Rattle.irq_explore.specs.Explored.{ExploresRow}
+use Rattle.explore_words.specs.declared.What.{What}
+use Rattle.explore_words.specs.declared.What.TheVariants as whats
+use Rattle.irq_explore.specs.Explored.{ExploresLines, ExploresRow}
 use Rattle.irq_explore.specs.declared.exploring.ExploreEnd.{ExploreEnd}
 use Rattle.program_io.specs.Reading.{IsStated, ReadsBoard}
 use Rattle.program_io.specs.declared.inputs.InputRefused.TheVariants as refusals
@@ -17,11 +19,21 @@ abbrev pub IsReadToEnd : Option (List ℕ) → Option (List ℕ) → Type 0
 IsReadToEnd None left = Unit {0}
 IsReadToEnd (Some bytes) left = left ≡ Some []
 
+-- what was asked of the board's lines was done, with at most so many states a line: all that take
+-- part were surveyed, or one, or a row was looked for
+abbrev pub ExploresWhat : ℕ → What → BoardSeen → Option (List ℕ) → Option (List ℕ) → ExploreEnd
+    → Type 0
+ExploresWhat states whats.Survey b before now end = ExploresLines b states None before now end
+ExploresWhat states (whats.Line line) b before now end =
+    ExploresLines b states (Some line) before now end
+ExploresWhat states (whats.Row line wanted) b before now end =
+    ExploresRow b line wanted before now end
+
 -- what was asked was done with the board, with this ending
 abbrev pub ExploresAs : Asked → BoardSeen → Option (List ℕ) → Option (List ℕ) → Ending → Type 0
 ExploresAs asked b before now ending =
     (end : ExploreEnd) × (ending ≡ ending_of asked.states end)
-    × ExploresRow b asked.line asked.wanted before now end
+    × ExploresWhat asked.states asked.what b before now end
 
 -- it was done with the board that the source told
 pub record ExploresInput (asked : Asked) (told left before now : Option (List ℕ)) (ending : Ending)

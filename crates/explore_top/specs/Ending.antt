@@ -22,7 +22,7 @@ status_of (endings.Cut line states) = 8
 abbrev pub error_text : Ending → List ℕ
 error_text endings.Done = []
 error_text endings.Never = []
-error_text endings.Usage = codes "usage: genirq-explore [--states N] ROW\n"
+error_text endings.Usage = codes "usage: genirq-explore [--states N] [--line L | ROW]\n"
 error_text (endings.Board fault) = fault_row fault
 error_text endings.NotThere = codes "board: line 0: not there\n"
 error_text endings.ReadFault = codes "read fault\n"

@@ -27,7 +27,7 @@ pub enum Ending {
     /// Memory was needed and refused.
     NoMemory,
     /// The line has more than `states` states, which were to be visited at most. What is known of
-    /// it is printed.
+    /// it is printed. If several lines have, it is the first.
     Cut { line: LineNo, states: u32 },
 }
 

@@ -16,7 +16,7 @@ pub fn error_row(row: &mut TextRow, ending: Ending)
     match ending {
         Ending::Done | Ending::Never => {}
         Ending::Usage => {
-            row.push_bytes(b"usage: genirq-explore [--states N] ROW\n");
+            row.push_bytes(b"usage: genirq-explore [--states N] [--line L | ROW]\n");
         }
         Ending::Board(fault) => push_fault(row, fault),
         Ending::NotThere => row.push_bytes(b"board: line 0: not there\n"),

@@ -4,22 +4,25 @@ ghost use Rattle.explore_words.specs.Words.{Asks, AsksNothing, IsCount};
 ghost use Rattle.explore_words.specs.declared.Asked.{Asked};
 ghost use Rattle.irq_io.specs.Faults.{Counts};
 ghost use Rattle.program_io.specs.ErrorRows.{Tells};
-ghost use Rattle.explore_top.specs.Does.{Does, ExploresAs};
+ghost use Rattle.explore_top.specs.Does.{Does, ExploresAs, ExploresWhat};
 ghost use Rattle.explore_top.specs.Ending.{error_text, is_printed, is_printing, is_quiet};
 ghost use Rattle.explore_top.specs.Ending.{is_read_fault_end, is_write_fault_end};
+ghost use Rattle.irq_explore.specs.Explored.{is_printed as is_whole, is_printing as is_saying};
+ghost use Rattle.irq_explore.specs.Explored.{is_write_fault};
 
 use crate::ending::Ending;
 use crate::error_rows::error_row;
 use board_def::Board;
-use explore_words::{Asked, read_words};
-use irq_explore::explore_row;
+use explore_words::{Asked, What, read_words};
+use irq_explore::{ExploreEnd, explore_row, explore_survey};
 use irq_io::{Sink, Source};
 use program_io::{read_input, tell_row};
 use std::alloc::Global;
 use text_row::TextRow;
 
-/// Does what the words ask for: reads a board from `src`, and looks through the states of its lines
-/// for a shortest log of a line that ends with the row, or that leaves the line so. Other words are
+/// Does what the words ask for: reads a board from `src`, and looks through the states of its
+/// lines: it surveys all lines, or one, or looks for a shortest log of a line that ends with the
+/// row, or that leaves the line so. Other words are
 /// refused before anything is read. What went wrong is told on `err`, in one row; a fault of `err`
 /// itself changes nothing.
 pub fn explore_main<S: Source, O: Sink, E: Sink>(
@@ -101,8 +104,30 @@ fn explore<O: Sink>(alloc: Global, board: &Board, asked: Asked, out: &mut O) -> 
         (is_write_fault_end result) }
     ensures silent { is_printing result ≡ false → out.new ≡ out.old }
 {
-    let end = explore_row(alloc, board, asked.states, asked.line, asked.wanted, out);
+    let end = explore_what(alloc, board, asked.states, asked.what, out);
     Ending::of(end, asked.states)
+}
+
+/// Does with the board what is asked of its lines.
+fn explore_what<O: Sink>(
+    alloc: Global,
+    board: &Board,
+    states: u32,
+    what: What,
+    out: &mut O,
+) -> ExploreEnd
+    requires { IsCount states }
+    ensures does { ExploresWhat states what board.now (O.written out.old) (O.written out.new)
+        result }
+    ensures emptied { is_whole result ≡ true → O.kept out.new ≡ [] }
+    ensures write_fault { Counts (O.faults out.old) (O.faults out.new) (is_write_fault result) }
+    ensures silent { is_saying result ≡ false → out.new ≡ out.old }
+{
+    match what {
+        What::Survey => explore_survey(alloc, board, states, None, out),
+        What::Line(line) => explore_survey(alloc, board, states, Some(line), out),
+        What::Row(line, wanted) => explore_row(alloc, board, states, line, wanted, out),
+    }
 }
 
 /// Whether the ending has no row on the error sink.

@@ -59,6 +59,13 @@ no_dash bytes bs line wanted dash is =
     let first : 45 ≡ so.0 = cc in
     false≢true (ap (λ b. ltb 45 b) first ∙ so.3)
 
+-- some bytes are there
+pub no_bytes : (line : LineNo) (wanted : Wanted) → Spells [] line wanted → ⊥
+no_bytes line wanted is = let so = begins_so [] line wanted is in by so.0 so.1 so.2
+  where
+    by : (b : ℕ) (bs : List ℕ) → [] ≡ b ∷ bs → ⊥
+    by b bs same = cc
+
 -- words whose first begins with a dash are no row
 pub dashed : (first bs : List ℕ) (rest : List (List ℕ)) (line : LineNo) (wanted : Wanted) → first ≡ 45 ∷ bs
     → Spells (joined (first ∷ rest)) line wanted → ⊥

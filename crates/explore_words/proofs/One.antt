@@ -17,10 +17,12 @@ use Rattle.log_text.specs.EntryWords.{entry_words}
 use Rattle.log_text.specs.Formed.{IsSmall}
 use Rattle.explore_words.specs.Rows.{Spells, joined, left_words, standing_word, waits_word}
 use Rattle.log_read.specs.Takes.{Reads}
-use Rattle.explore_words.specs.Words.{Asks, AsksNothing, AreRow, IsCount}
+use Rattle.explore_words.specs.Words.{Asks, AsksNothing, AsksWhat, IsCount}
 use Rattle.explore_words.specs.declared.Asked.{Asked}
+use Rattle.explore_words.specs.declared.What.{What}
+use Rattle.explore_words.specs.declared.What.TheVariants as whats
 use Rattle.explore_words.proofs.Counting.{same_number}
-use Rattle.explore_words.proofs.Dashes.{dashed}
+use Rattle.explore_words.proofs.Dashes.{dashed, no_bytes}
 use Rattle.explore_words.proofs.Spelled.{rest_back, row_back}
 
 abbrev at : List (List ℕ) → ℕ → List ℕ
@@ -103,8 +105,8 @@ line_no n = record { 0 = n }
 
 -- a row says one thing
 
-abbrev row_of : LineNo → Wanted → LineNo × Wanted
-row_of line wanted = (line, wanted)
+abbrev row_of : LineNo → Wanted → What
+row_of line wanted = whats.Row line wanted
 
 module _ (bytes : List ℕ) where
   both_rows : (l m : LineNo) (e f : Entry) → Spells bytes l (wants.Row e) → Spells bytes m (wants.Row f) → row_of l (wants.Row e) ≡ row_of m (wants.Row f)
@@ -135,27 +137,39 @@ module _ (bytes : List ℕ) where
 
 -- what is asked
 
--- words that begin with an option are no row
-option_is_no_row : (first bs : List ℕ) (words rest : List (List ℕ)) (l : LineNo) (v : Wanted) → first ≡ 45 ∷ bs → words ≡ first ∷ rest
+no_words_are_no_row : (words : List (List ℕ)) (l : LineNo) (v : Wanted) → words ≡ [] → Spells (joined words) l v → ⊥
+no_words_are_no_row words l v none is = no_bytes l v (subst (λ bytes. Spells bytes l v) (ap joined none) is)
+
+pub option_is_no_row : (first bs : List ℕ) (words rest : List (List ℕ)) (l : LineNo) (v : Wanted) → first ≡ 45 ∷ bs → words ≡ first ∷ rest
     → Spells (joined words) l v → ⊥
 option_is_no_row first bs words rest l v dash are is = dashed first bs rest l v dash (subst (λ bytes. Spells bytes l v) (ap joined are) is)
 
+what_one : (words : List (List ℕ)) (a b : What) → AsksWhat words a → AsksWhat words b → a ≡ b
+what_one words whats.Survey whats.Survey a b = refl
+what_one words whats.Survey (whats.Line m) a b = let same = sym a ∙ b.0 in cc
+what_one words whats.Survey (whats.Row m w) a b = absurd (no_words_are_no_row words m w a b)
+what_one words (whats.Line l) whats.Survey a b = let same = sym b ∙ a.0 in cc
+what_one words (whats.Line l) (whats.Line m) a b =
+    ap (λ n. whats.Line (line_no n)) (same_number l.0 m.0 a.1 b.1 (ap (λ ws. at ws 1) (sym a.0 ∙ b.0)))
+what_one words (whats.Line l) (whats.Row m w) a b = absurd (option_is_no_row (codes "--line") _ words _ m w refl a.0 b)
+what_one words (whats.Row l v) whats.Survey a b = absurd (no_words_are_no_row words l v b a)
+what_one words (whats.Row l v) (whats.Line m) a b = absurd (option_is_no_row (codes "--line") _ words _ l v refl b.0 a)
+what_one words (whats.Row l v) (whats.Row m w) a b = spells_one (joined words) l m v w a b
+
 -- words that begin with the number of states ask for nothing without it
-not_without : (words rest : List (List ℕ)) (number : List ℕ) (asked : Asked) → words ≡ codes "--states" ∷ number ∷ rest → AreRow words asked → ⊥
-not_without words rest number asked are a = option_is_no_row (codes "--states") _ words (number ∷ rest) asked.line asked.wanted refl are a
+pub not_without : (words rest : List (List ℕ)) (number : List ℕ) (what : What) → words ≡ codes "--states" ∷ number ∷ rest → AsksWhat words what → ⊥
+not_without words rest number whats.Survey are a = let same = sym a ∙ are in cc
+not_without words rest number (whats.Line l) are a = let same : codes "--line" ≡ codes "--states" = ap (λ ws. at ws 0) (sym a.0 ∙ are) in cc
+not_without words rest number (whats.Row l v) are a = option_is_no_row (codes "--states") _ words (number ∷ rest) l v refl are a
 
-abbrev asked_by : ℕ → LineNo × Wanted → Asked
-asked_by states row = record { states = states; line = row.0; wanted = row.1 }
-
-same_asked : (one other : Asked) → one.states ≡ other.states → row_of one.line one.wanted ≡ row_of other.line other.wanted → one ≡ other
-same_asked one other states row =
-    ap (λ n. asked_by n (row_of one.line one.wanted)) states ∙ ap (λ (r : LineNo × Wanted). asked_by other.states r) row
+abbrev asked_by : ℕ → What → Asked
+asked_by states what = record { states = states; what = what }
 
 pub one_asked : (words : List (List ℕ)) (one other : Asked) → Asks words one → Asks words other → one ≡ other
 one_asked words one other (inl a) (inl b) =
-    same_asked one other (a.0 ∙ sym b.0) (spells_one (joined words) one.line other.line one.wanted other.wanted a.1 b.1)
-one_asked words one other (inl a) (inr b) = absurd (not_without words b.rest _ one b.words_are a.1)
-one_asked words one other (inr a) (inl b) = absurd (not_without words a.rest _ other a.words_are b.1)
+    ap (λ n. asked_by n one.what) (a.0 ∙ sym b.0) ∙ ap (λ w. asked_by other.states w) (what_one words one.what other.what a.1 b.1)
+one_asked words one other (inl a) (inr b) = absurd (not_without words b.rest _ one.what b.words_are a.1)
+one_asked words one other (inr a) (inl b) = absurd (not_without words a.rest _ other.what a.words_are b.1)
 one_asked words one other (inr a) (inr b) =
     let same = sym a.words_are ∙ b.words_are in
     let m = a.count.1 in
@@ -163,18 +177,22 @@ one_asked words one other (inr a) (inr b) =
     let states : one.states ≡ other.states =
     same_number one.states other.states (omega (arith, m)) (omega (arith, n)) (ap (λ ws. at ws 1) same) in
     let rest : a.rest ≡ b.rest = ap (λ (ws : List (List ℕ)). drop 2 ws) same in
-    same_asked one other states
-    (spells_one (joined b.rest) one.line other.line one.wanted other.wanted (subst (λ ws. AreRow ws one) rest a.row) b.row)
+    ap (λ s. asked_by s one.what) states
+    ∙ ap (λ w. asked_by other.states w) (what_one b.rest one.what other.what (subst (λ ws. AsksWhat ws one.what) rest a.what) b.what)
 
 -- what is no number of states, and what words behind it ask for nothing
 
 pub no_states : (number : List ℕ) (rest : List (List ℕ)) → Reads IsCount decimal number None → AsksNothing (codes "--states" ∷ number ∷ rest)
-no_states number rest none asked (inl a) = not_without (codes "--states" ∷ number ∷ rest) rest number asked refl a.1
+no_states number rest none asked (inl a) = not_without (codes "--states" ∷ number ∷ rest) rest number asked.what refl a.1
 no_states number rest none asked (inr a) = none asked.states a.count (ap (λ ws. at ws 1) a.words_are)
 
-pub no_row : (number : List ℕ) (rest : List (List ℕ)) → ((line : LineNo) (wanted : Wanted) → Spells (joined rest) line wanted → ⊥)
-    → AsksNothing (codes "--states" ∷ number ∷ rest)
-no_row number rest none asked (inl a) = not_without (codes "--states" ∷ number ∷ rest) rest number asked refl a.1
-no_row number rest none asked (inr a) =
+pub no_what : (number : List ℕ) (rest : List (List ℕ)) → ((what : What) → AsksWhat rest what → ⊥) → AsksNothing (codes "--states" ∷ number ∷ rest)
+no_what number rest none asked (inl a) = not_without (codes "--states" ∷ number ∷ rest) rest number asked.what refl a.1
+no_what number rest none asked (inr a) =
     let same : rest ≡ a.rest = ap (λ (ws : List (List ℕ)). drop 2 ws) a.words_are in
-    none asked.line asked.wanted (subst (λ ws. AreRow ws asked) (sym same) a.row)
+    none asked.what (subst (λ ws. AsksWhat ws asked.what) (sym same) a.what)
+
+pub no_line : (number : List ℕ) → Reads IsSmall decimal number None → (what : What) → AsksWhat (codes "--line" ∷ number ∷ []) what → ⊥
+no_line number none whats.Survey a = cc
+no_line number none (whats.Line l) a = none l.0 a.1 (ap (λ ws. at ws 1) a.0)
+no_line number none (whats.Row l v) a = option_is_no_row (codes "--line") _ (codes "--line" ∷ number ∷ []) _ l v refl refl a

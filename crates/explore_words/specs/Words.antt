@@ -1,7 +1,10 @@
 -- The words of the command line, and what they ask for.
-use Rattle.std.specs.Prelude.{◌≡◌, ◌⊎◌, ℕ, ◌≤◌, Option, MatchOption, List, ◌∷◌, codes, decimal}
+use Rattle.std.specs.Prelude.{◌≡◌, ◌⊎◌, ℕ, ◌≤◌, Option, MatchOption, List, [], ◌∷◌, codes, decimal}
+use Rattle.log_text.specs.Formed.{IsSmall}
 use Rattle.explore_words.specs.Rows.{Spells, joined}
 use Rattle.explore_words.specs.declared.Asked.{Asked}
+use Rattle.explore_words.specs.declared.What.{What}
+use Rattle.explore_words.specs.declared.What.TheVariants as whats
 
 -- how many states of a line a search visits, if the words don't say
 abbrev pub usual_states : ℕ
@@ -11,20 +14,28 @@ usual_states = 1000000
 abbrev pub IsCount : ℕ → Type 0
 IsCount n = (1 ≤ n) × (n ≤ 100000000)
 
--- the words are a row, in one argument or in several
-abbrev pub AreRow : List (List ℕ) → Asked → Type 0
-AreRow words asked = Spells (joined words) asked.line asked.wanted
+-- No words: all lines are surveyed. `--line` and a number: that line. Other words are a row, in one
+-- argument or in several.
+abbrev pub AsksWhat : List (List ℕ) → What → Type 0
+AsksWhat words whats.Survey = words ≡ []
+AsksWhat words (whats.Line line) = (words ≡ codes "--line" ∷ decimal line.0 ∷ []) × IsSmall line.0
+AsksWhat words (whats.Row line wanted) = Spells (joined words) line wanted
 
--- `--states` and a number stand before the row
+-- `--states` and a number stand before the words that say what is asked
 pub record HasStates (words : List (List ℕ)) (asked : Asked) : Type 0 where
   pub rest : List (List ℕ)
   pub words_are : words ≡ codes "--states" ∷ decimal asked.states ∷ rest
   pub count : IsCount asked.states
-  pub row : AreRow rest asked
+  pub what : AsksWhat rest asked.what
+
+-- what the words ask for; none if they ask for nothing
+abbrev pub FindsWhat : List (List ℕ) → Option What → Type 0
+FindsWhat words found = MatchOption found ((what : What) → AsksWhat words what → ⊥) (AsksWhat words)
 
 -- the words after the program's name ask for this
 abbrev pub Asks : List (List ℕ) → Asked → Type 0
-Asks words asked = ((asked.states ≡ usual_states) × AreRow words asked) ⊎ HasStates words asked
+Asks words asked = ((asked.states ≡ usual_states) × AsksWhat words asked.what)
+    ⊎ HasStates words asked
 
 -- the words ask for nothing
 abbrev pub AsksNothing : List (List ℕ) → Type 0

@@ -1,10 +1,11 @@
 //! What the words ask for.
-ghost use Rattle.std.specs.Prelude.{◌∷◌, codes, decimal, map};
+ghost use Rattle.std.specs.Prelude.{[], ◌∷◌, codes, decimal, map};
 ghost use Rattle.log_read.specs.Takes.{Reads};
-ghost use Rattle.explore_words.specs.Words.{Finds, IsCount};
+ghost use Rattle.explore_words.specs.Words.{Finds, FindsWhat, IsCount};
 
-use crate::Asked;
 use crate::rows::read_wanted_in;
+use crate::{Asked, What};
+use irq_base::LineNo;
 use log_read::number_of;
 
 /// How many states of a line are visited, if the words don't say.
@@ -20,11 +21,10 @@ pub fn read_words(words: &[&str]) -> Option<Asked>
     match words {
         ["--states", states, rest @ ..] => read_with_states(states, rest),
         _ => {
-            let (line, wanted) = read_wanted_in(words)?;
+            let what = read_what(words)?;
             Some(Asked {
                 states: USUAL_STATES,
-                line,
-                wanted,
+                what,
             })
         }
     }
@@ -37,14 +37,10 @@ fn read_with_states(states: &str, rest: &[&str]) -> Option<Asked>
     let Some(states) = read_states(states.as_bytes()) else {
         return None;
     };
-    let Some((line, wanted)) = read_wanted_in(rest) else {
+    let Some(what) = read_what(rest) else {
         return None;
     };
-    Some(Asked {
-        states,
-        line,
-        wanted,
-    })
+    Some(Asked { states, what })
 }
 
 /// How many states the word says.
@@ -59,4 +55,28 @@ fn read_states(word: &[u8]) -> Option<u32>
     } else {
         None
     }
+}
+
+/// What the words ask for that follow the number of states.
+fn read_what(words: &[&str]) -> Option<What>
+    ensures { FindsWhat (map (λ w. w.now) words.now) result }
+{
+    match words {
+        [] => Some(What::Survey),
+        ["--line", line] => read_line(line),
+        _ => {
+            let (line, wanted) = read_wanted_in(words)?;
+            Some(What::Row(line, wanted))
+        }
+    }
+}
+
+/// The line whose number the word behind `--line` is.
+fn read_line(line: &str) -> Option<What>
+    ensures { FindsWhat (codes "--line" ∷ line.now ∷ []) result }
+{
+    let Some(line) = number_of(line.as_bytes()) else {
+        return None;
+    };
+    Some(What::Line(LineNo(line)))
 }

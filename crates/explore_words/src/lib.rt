@@ -1,5 +1,5 @@
-//! The words of the command line of `genirq-explore`, and what they ask for: a row of a line, for
-//! which a shortest log is looked for, and how many states are visited at most.
+//! The words of the command line of `genirq-explore`, and what they ask for: a survey of all lines,
+//! or of one, or a row of a line, for which a shortest log is looked for.
 //!
 //! A row may be one argument or several. It is the row of an entry, as logs have it, or it says how
 //! a line is left at rest: `1 rest disabled 0 pending`.
@@ -17,15 +17,24 @@ pub use asking::{MOST_STATES, USUAL_STATES, read_words};
 use irq_base::LineNo;
 use line_wanted::Wanted;
 
-/// What the program can be asked for: a shortest log of the line that is as wanted.
+/// What is asked of a line, or of all.
+#[derive(Clone, Copy, PartialEq, Eq)]
+pub enum What {
+    /// All that can come of each line.
+    Survey,
+    /// All that can come of the line.
+    Line(LineNo),
+    /// A shortest log of the line that is as wanted.
+    Row(LineNo, Wanted),
+}
+
+/// What the program can be asked for.
 #[derive(Clone, Copy, PartialEq, Eq)]
 pub struct Asked {
-    /// How many states of the line are visited at most: 1 to `MOST_STATES`.
+    /// How many states of a line are visited at most: 1 to `MOST_STATES`.
     pub states: u32,
-    /// The line.
-    pub line: LineNo,
-    /// What is wanted of it.
-    pub wanted: Wanted,
+    /// What is asked.
+    pub what: What,
 }
 
 /// Words ask for one thing at most.

@@ -40,11 +40,11 @@ use Rattle.irq_explore.specs.Printing.{HasSmallAnswer, IsPrintableAnswer}
 
 -- ---- the entries can be written
 
-legal_of : (def : LineDef) (wanted : Wanted) (past : List Entry) → Meets def wanted past → IsLegalPast def past
+pub legal_of : (def : LineDef) (wanted : Wanted) (past : List Entry) → Meets def wanted past → IsLegalPast def past
 legal_of def (wants.Row e) past meets = meets.0
 legal_of def (wants.Rest left) past meets = meets.0
 
-legal_printable : (def : LineDef) (past : List Entry) → IsLegalPast def past → All IsPrintable past
+pub legal_printable : (def : LineDef) (past : List Entry) → IsLegalPast def past → All IsPrintable past
 legal_printable def [] legal = All-nil IsPrintable
 legal_printable def (e ∷ past) legal = All-cons IsPrintable e past (printable def past e legal.0) (legal_printable def past legal.1)
 

@@ -3,3 +3,6 @@ pub mod OfLine
 pub mod Placed
 pub mod Rows
 pub mod Said
+pub mod Taken
+pub mod Rowed
+pub mod Spoken

@@ -1,5 +1,5 @@
 -- What the exploring of a board says, by how it ended.
-use Rattle.std.specs.Prelude.{◌≡◌, ℕ, Bool, true, false, Option, List}
+use Rattle.std.specs.Prelude.{◌≡◌, ℕ, Bool, true, false, Option, Some, None, List}
 use Rattle.board_def.specs.Seen.{BoardSeen}
 use Rattle.irq_base.specs.declared.numbers.LineNo.{LineNo}
 use Rattle.irq_io.specs.Whole.{WritesAll}
@@ -10,6 +10,8 @@ use Rattle.line_survey.specs.declared.answer.Answer.TheVariants as answers
 use Rattle.line_wanted.specs.declared.wanted.Wanted.{Wanted}
 use Rattle.irq_explore.specs.Answered.{Answered, IsLawful, answer_text}
 use Rattle.irq_explore.specs.Present.{has_all}
+use Rattle.irq_explore.specs.Surveyed.{AreSurveys, first_cut, has_asked, surveys_text}
+use Rattle.irq_explore.specs.declared.surveying.LineSurvey.{LineSurvey}
 use Rattle.irq_explore.specs.declared.exploring.ExploreEnd.{ExploreEnd}
 use Rattle.irq_explore.specs.declared.exploring.ExploreEnd.TheVariants as ends
 
@@ -44,6 +46,36 @@ ExploresRow b line wanted before now ends.WriteFault =
     (answer : Answer) × SaysAnswer b line wanted before now writes.Failed answer
 ExploresRow b line wanted before now ends.NoMemory = Unit {0}
 ExploresRow b line wanted before now end = EndsWith b line wanted before now end
+
+-- the end with these surveys: no search was cut; or the first that was cut is this line's
+abbrev pub end_by : Option LineNo → ExploreEnd
+end_by None = ends.Done
+end_by (Some line) = ends.Cut line
+
+-- these are the surveys of the lines that are asked for, by searches through at most so many states
+-- a line, and the output gained their text behind the layout
+pub record SaysSurveys (b : BoardSeen) (states : ℕ) (asked : Option LineNo)
+    (before now : Option (List ℕ)) (write : WriteEnd) (said : List LineSurvey) : Type 0 where
+  pub there : has_asked b asked ≡ true
+  pub surveys : AreSurveys b states asked said
+  pub written : WritesAll before now (surveys_text b said) write
+
+-- the surveys are printed, with this end
+abbrev pub EndsSurveys : BoardSeen → ℕ → Option LineNo → Option (List ℕ) → Option (List ℕ)
+    → ExploreEnd → Type 0
+EndsSurveys b states asked before now end =
+    (surveys : List LineSurvey) × (end ≡ end_by (first_cut surveys))
+    × SaysSurveys b states asked before now writes.Done surveys
+
+-- The lines were surveyed that are asked for. The surveys are printed, or after a fault of the
+-- output a beginning of them; or the board lacks the line; or memory was refused.
+abbrev pub ExploresLines : BoardSeen → ℕ → Option LineNo → Option (List ℕ) → Option (List ℕ)
+    → ExploreEnd → Type 0
+ExploresLines b states asked before now ends.NotThere = has_asked b asked ≡ false
+ExploresLines b states asked before now ends.WriteFault =
+    (surveys : List LineSurvey) × SaysSurveys b states asked before now writes.Failed surveys
+ExploresLines b states asked before now ends.NoMemory = Unit {0}
+ExploresLines b states asked before now end = EndsSurveys b states asked before now end
 
 abbrev pub is_write_fault : ExploreEnd → Bool
 is_write_fault ends.WriteFault = true

@@ -2,3 +2,5 @@ pub mod Answered
 pub mod Explored
 pub mod Present
 pub mod Printing
+pub mod Surveyed
+pub mod Surveying

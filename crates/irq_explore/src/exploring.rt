@@ -1,18 +1,23 @@
-//! What is wanted of a line is looked for, and the answer printed.
-ghost use Rattle.std.specs.Prelude.{◌≡◌, [], false, true};
+//! What is wanted of a line is looked for, and the answer printed; or lines are surveyed.
+ghost use Rattle.std.specs.Prelude.{◌≡◌, [], All, false, true};
+ghost use Rattle.board_def.specs.Layout.{layout_of};
 ghost use Rattle.explore_words.specs.Words.{IsCount};
 ghost use Rattle.irq_explore.specs.Answered.{Answered};
-ghost use Rattle.irq_explore.specs.Explored.{ExploresRow, end_of, is_printed, is_printing};
-ghost use Rattle.irq_explore.specs.Explored.{is_write_fault};
+ghost use Rattle.irq_explore.specs.Explored.{ExploresLines, ExploresRow, end_by, end_of};
+ghost use Rattle.irq_explore.specs.Explored.{is_printed, is_printing, is_write_fault};
 ghost use Rattle.irq_explore.specs.Present.{has_all};
 ghost use Rattle.irq_explore.specs.Printing.{IsPrintableAnswer};
+ghost use Rattle.irq_explore.specs.Surveyed.{AreSurveys, HasRows, first_cut, has_asked};
 ghost use Rattle.irq_io.specs.Faults.{Counts};
 
 use crate::answering::answer_at;
 use crate::present::has_named;
 use crate::printing::print_answer;
 use crate::small::answer_is_small;
-use board_def::Board;
+use crate::survey_printing::print_surveys;
+use crate::surveying::{LineSurvey, survey_lines};
+use board_def::{Board, Layout};
+use board_layout::lay;
 use irq_base::{LineNo, NoMemory};
 use irq_io::{Sink, WriteEnd};
 use line_survey::Answer;
@@ -23,11 +28,12 @@ use std::alloc::Global;
 /// How the exploring of a board ended.
 #[derive(Clone, Copy, PartialEq, Eq)]
 pub enum ExploreEnd {
-    /// What was asked is printed: a shortest log.
+    /// What was asked is printed: a shortest log, or the surveys.
     Done,
     /// No lawful log is as wanted, and that is printed.
     Never,
-    /// The line has more states than were to be visited, and what is known of it is printed.
+    /// The line has more states than were to be visited, and what is known of it is printed. If
+    /// several lines have, it is the first.
     Cut(LineNo),
     /// The board lacks the line, or someone or something that the row names.
     NotThere,
@@ -100,4 +106,80 @@ fn end_of(line: LineNo, answer: &Answer) -> ExploreEnd
         Answer::Never => ExploreEnd::Never,
         Answer::NotWithin(_) => ExploreEnd::Cut(line),
     }
+}
+
+/// Surveys the board's lines that take part, or the one that is asked for, each through at most
+/// `states` of its states. Prints the layout, and behind it for each line its totals, each way in
+/// which it can be left, and each row that can come.
+pub fn explore_survey<O: Sink>(
+    alloc: Global,
+    board: &Board,
+    states: u32,
+    asked: Option<LineNo>,
+    out: &mut O,
+) -> ExploreEnd
+    requires { IsCount states }
+    ensures explores { ExploresLines board.now states asked (O.written out.old)
+        (O.written out.new) result }
+    ensures emptied { is_printed result ≡ true → O.kept out.new ≡ [] }
+    ensures write_fault { Counts (O.faults out.old) (O.faults out.new) (is_write_fault result) }
+    ensures silent { is_printing result ≡ false → out.new ≡ out.old }
+{
+    if !has_asked(board, asked) {
+        return ExploreEnd::NotThere;
+    }
+    let Ok((_, layout)) = lay(alloc, board) else {
+        return ExploreEnd::NoMemory;
+    };
+    match survey_lines(alloc, board, &layout, asked, states) {
+        Ok(surveys) => say_surveys(board, states, asked, &layout, surveys.as_slice(), out),
+        Err(NoMemory) => ExploreEnd::NoMemory,
+    }
+}
+
+/// Whether the board has the line that is asked for.
+fn has_asked(board: &Board, asked: Option<LineNo>) -> bool
+    ensures { result ≡ has_asked board.now asked }
+{
+    match asked {
+        Some(line) => place_of(board, line).is_some(),
+        None => true,
+    }
+}
+
+/// Prints the surveys, which are those of the lines that are asked for.
+fn say_surveys<O: Sink>(
+    board: &Board,
+    states: u32,
+    asked: Option<LineNo>,
+    layout: &Layout,
+    surveys: &[LineSurvey],
+    out: &mut O,
+) -> ExploreEnd
+    requires there { has_asked board.now asked ≡ true }
+    requires layout { layout.now ≡ layout_of board.now }
+    requires surveys { AreSurveys board.now states asked surveys.now }
+    requires rows { All HasRows surveys.now }
+    ensures explores { ExploresLines board.now states asked (O.written out.old)
+        (O.written out.new) result }
+    ensures emptied { is_printed result ≡ true → O.kept out.new ≡ [] }
+    ensures write_fault { Counts (O.faults out.old) (O.faults out.new) (is_write_fault result) }
+    ensures printing { is_printing result ≡ true }
+{
+    match print_surveys(out, board, layout, surveys) {
+        WriteEnd::Done => end_of_surveys(surveys),
+        WriteEnd::Failed => ExploreEnd::WriteFault,
+    }
+}
+
+/// How the surveying ended whose surveys are printed.
+fn end_of_surveys(surveys: &[LineSurvey]) -> ExploreEnd
+    ensures { result ≡ end_by (first_cut surveys.now) }
+{
+    for survey in surveys {
+        if survey.survey.cut.is_some() {
+            return ExploreEnd::Cut(survey.line);
+        }
+    }
+    ExploreEnd::Done
 }

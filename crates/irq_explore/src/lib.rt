@@ -11,5 +11,7 @@ pub mod exploring;
 mod present;
 mod printing;
 mod small;
+mod survey_printing;
+pub mod surveying;
 
-pub use exploring::{ExploreEnd, explore_row};
+pub use exploring::{ExploreEnd, explore_row, explore_survey};

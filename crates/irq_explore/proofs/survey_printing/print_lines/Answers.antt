@@ -1,0 +1,28 @@
+use Rattle.std.proofs.Common.{Some, refl, sym, ap, ◌∙◌}
+use Rattle.board_report.proofs.Writing.{items_done, items_failed}
+use Rattle.irq_explore.specs.Surveyed.{line_text}
+use Rattle.irq_explore.specs.declared.surveying.LineSurvey.{LineSurvey}
+use Rattle.irq_explore.proofs.Rows.{at_index}
+use Rattle.irq_explore.proofs.survey_printing.print_lines.Goals as goal
+
+pub returns-in-Failed-clause-content : goal.returns-in-Failed-clause-content
+returns-in-Failed-clause-content g c =
+    let sink = g.O.Sink.written in
+    let survey = c.index-surveys-i.result in
+    items_failed line_text (sink c.args.out.now) (sink c.loop-i.out) (sink c.print_line.new.out)
+    c.args.surveys.now c.loop-i.i survey (line_text survey)
+    (at_index c.args.surveys.now c.loop-i.i survey c.loop-i-test.true ∙ ap (λ (s : LineSurvey). Some s) (sym c.index-surveys-i.is)) refl
+    c.loop-i.invariant.content c.in-Failed.ensures.content
+
+pub loop-i-preserved : goal.loop-i-preserved
+loop-i-preserved g c =
+    let sink = g.O.Sink.written in
+    let survey = c.index-surveys-i.result in
+    record {
+      content =
+          items_done line_text (sink c.args.out.now) (sink c.loop-i.out) (sink c.print_line.new.out)
+          c.args.surveys.now c.loop-i.i survey (line_text survey)
+          (at_index c.args.surveys.now c.loop-i.i survey c.loop-i-test.true ∙ ap (λ (s : LineSurvey). Some s) (sym c.index-surveys-i.is)) refl
+          c.loop-i.invariant.content c.in-Done.ensures.content;
+      faults = c.in-Done.ensures.cause ∙ c.loop-i.invariant.faults;
+    }
