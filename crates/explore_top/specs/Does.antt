@@ -27,7 +27,7 @@ ExploresWhat states whats.Survey b before now end = ExploresLines b states None 
 ExploresWhat states (whats.Line line) b before now end =
     ExploresLines b states (Some line) before now end
 ExploresWhat states (whats.Row line wanted) b before now end =
-    ExploresRow b line wanted before now end
+    ExploresRow states b line wanted before now end
 
 -- what was asked was done with the board, with this ending
 abbrev pub ExploresAs : Asked → BoardSeen → Option (List ℕ) → Option (List ℕ) → Ending → Type 0

@@ -20,6 +20,8 @@ use Rattle.irq_base.specs.declared.entries.Entry.{Entry}
 use Rattle.irq_base.specs.declared.lines.LineDef.{LineDef}
 use Rattle.irq_base.specs.declared.numbers.LineNo.{LineNo}
 use Rattle.irq_model.specs.Legal.{IsLegal, IsLegalPast}
+use Rattle.line_survey.specs.Answers.{IsAnswer}
+use Rattle.line_survey.specs.Seen.{LineSearchSeen}
 use Rattle.line_survey.specs.declared.answer.Answer.{Answer}
 use Rattle.line_survey.specs.declared.answer.Answer.TheVariants as answers
 use Rattle.line_wanted.specs.Wanted.{Meets}
@@ -35,7 +37,7 @@ use Rattle.log_text.specs.EntryWords.{IsPrintable}
 use Rattle.log_text.specs.Formed.{HasSmallNumbers, IsSmall, IsWritable}
 use Rattle.log_text.specs.Rows.{entry_text, history_text}
 use Rattle.explore_words.proofs.Dashes.{begins_so}
-use Rattle.irq_explore.specs.Answered.{Answered, AnsweredLine, IsLawful, Says}
+use Rattle.irq_explore.specs.Answered.{Answered, AnsweredLine, IsLawful}
 use Rattle.irq_explore.specs.Printing.{HasSmallAnswer, IsPrintableAnswer}
 
 -- ---- the entries can be written
@@ -138,19 +140,19 @@ line_no n = record { 0 = n }
 
 -- ---- the verdict
 
-on_own : (b : BoardSeen) (row : LineRow) (placement : Placement) (wanted : Wanted) (answer : Answer) (es : List Entry) → IsFound answer es
-    → AnsweredLine b row placement wanted answer → JudgedLine b row placement es None
-on_own b row (placements.Mapped virq path) wanted (answers.Found v) es found says =
+on_own : (states : ℕ) (b : BoardSeen) (row : LineRow) (placement : Placement) (wanted : Wanted) (answer : Answer) (es : List Entry) → IsFound answer es
+    → AnsweredLine states b row placement wanted answer → JudgedLine b row placement es None
+on_own states b row (placements.Mapped virq path) wanted (answers.Found v) es found says =
     subst (IsLegal (line_of_row b row)) found (legal_of (line_of_row b row) wanted (reverse v.items) says.meets)
-on_own b row (placements.Refused why) wanted (answers.Found v) es found says = let no : answers.Found v ≡ answers.Never = says in cc
-on_own b row placement wanted answers.Never es found says = absurd found
-on_own b row placement wanted (answers.NotWithin n) es found says = absurd found
+on_own states b row (placements.Refused why) wanted (answers.Found v) es found says = let no : answers.Found v ≡ answers.Never = says in cc
+on_own states b row placement wanted answers.Never es found says = absurd found
+on_own states b row placement wanted (answers.NotWithin n) es found says = absurd found
 
 on_none : (b : BoardSeen) (row : LineRow) (placement : Placement) → JudgedLine b row placement [] None
 on_none b row (placements.Mapped virq path) = tt
 on_none b row (placements.Refused why) = refl
 
-module _ (b : BoardSeen) (line : LineNo) (wanted : Wanted) (answer : Answer) (answered : Answered b line wanted answer)
+module _ (states : ℕ) (b : BoardSeen) (line : LineNo) (wanted : Wanted) (answer : Answer) (answered : Answered states b line wanted answer)
     (es : List Entry) (found : IsFound answer es) (there : has_line b.lines line ≡ true) (number : IsSmall line.0) (writable : All IsWritable es) where
   abbrev said : List LineEntry
   said = said_of line number es
@@ -174,7 +176,7 @@ module _ (b : BoardSeen) (line : LineNo) (wanted : Wanted) (answer : Answer) (an
       by true is =
           let named : row.line ≡ line = ap line_no (sym (eqb-true line.0 row.line.0 is)) in
           subst (λ (xs : List Entry). JudgedLine b row placement xs None) (sym (on_it line number es row.line is))
-          (on_own b row placement wanted answer es found (answered i row placement at named placed))
+          (on_own states b row placement wanted answer es found (answered i row placement at named placed))
       by false is =
           subst (λ (xs : List Entry). JudgedLine b row placement xs None) (sym (on_another line number es row.line is)) (on_none b row placement)
 
@@ -186,15 +188,15 @@ module _ (b : BoardSeen) (line : LineNo) (wanted : Wanted) (answer : Answer) (an
   checks : ChecksLog b (history_text line es) verdicts.Lawful
   checks = (logs_of b.lines said, tells, verdict)
 
-pub lawful : (b : BoardSeen) (line : LineNo) (wanted : Wanted) (answer : Answer) → Answered b line wanted answer → has_line b.lines line ≡ true
-    → IsSmall line.0 → IsPrintableAnswer answer → HasSmallAnswer answer → IsLawful b line answer
-lawful b line wanted (answers.Found v) answered there number printable small =
-    checks b line wanted (answers.Found v) answered v.items refl there number (all_writable v.items printable small)
-lawful b line wanted answers.Never answered there number printable small = tt
-lawful b line wanted (answers.NotWithin n) answered there number printable small = tt
+pub lawful : (states : ℕ) (b : BoardSeen) (line : LineNo) (wanted : Wanted) (answer : Answer) → Answered states b line wanted answer
+    → has_line b.lines line ≡ true → IsSmall line.0 → IsPrintableAnswer answer → HasSmallAnswer answer → IsLawful b line answer
+lawful states b line wanted (answers.Found v) answered there number printable small =
+    checks states b line wanted (answers.Found v) answered v.items refl there number (all_writable v.items printable small)
+lawful states b line wanted answers.Never answered there number printable small = tt
+lawful states b line wanted (answers.NotWithin n) answered there number printable small = tt
 
 -- what is answered of a line can be printed
-pub printable_said : (def : LineDef) (wanted : Wanted) (answer : Answer) → Says def wanted answer → IsPrintableAnswer answer
-printable_said def wanted (answers.Found v) says = all_printable def v.items (legal_of def wanted (reverse v.items) says.meets)
-printable_said def wanted answers.Never says = tt
-printable_said def wanted (answers.NotWithin n) says = tt
+pub printable_said : (s : LineSearchSeen) (wanted : Wanted) (answer : Answer) → IsAnswer s wanted answer → IsPrintableAnswer answer
+printable_said s wanted (answers.Found v) is = all_printable s.def v.items (legal_of s.def wanted (reverse v.items) is.meets)
+printable_said s wanted answers.Never is = tt
+printable_said s wanted (answers.NotWithin n) is = tt

@@ -32,7 +32,8 @@ module _ (b : BoardSeen) (board : IsBoard b) (line : LineNo) (place : ℕ) (at :
       by (inr more) (inl less) = absurd (apart i x there named (λ same. omega (arith, less, same)))
       by (inr more) (inr most) = omega (arith, more, most)
 
-  pub answered_line : (wanted : Wanted) (answer : Answer) → AnsweredAt b place wanted answer → Answered b line wanted answer
-  answered_line wanted answer is i row placement there named placed =
+  pub answered_line : (states : ℕ) (wanted : Wanted) (answer : Answer) → AnsweredAt states b place wanted answer
+      → Answered states b line wanted answer
+  answered_line states wanted answer is i row placement there named placed =
       let same = same_place i row there named in
       is row placement (subst (λ j. slice_get b.lines j ≡ Some row) same there) (subst (λ j. slice_get (layout_of b) j ≡ Some placement) same placed)

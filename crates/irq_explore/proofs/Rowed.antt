@@ -1,20 +1,15 @@
 -- Each row of a survey can be printed.
-use Rattle.std.proofs.Common.{◌≡◌, ℕ, ◌≤◌, All, length, subst, IfSome}
+use Rattle.std.proofs.Common.{All, subst}
 use Rattle.std.proofs.lemmas.List.Elements.{All-head, All-weaker}
 use Rattle.irq_base.specs.declared.lines.LineDef.{LineDef}
-use Rattle.irq_model.specs.Legal.{IsDue}
 use Rattle.line_survey.specs.Seen.{LineSearchSeen}
 use Rattle.line_survey.specs.Surveyed.{IsLeast, IsSurvey}
 use Rattle.line_survey.specs.declared.survey.EntryRow.{EntryRow}
 use Rattle.line_survey.specs.declared.survey.Survey.{Survey}
 use Rattle.line_wanted.specs.declared.wanted.Wanted.TheVariants as wants
-use Rattle.line_words.specs.Node.{node}
 use Rattle.log_text.specs.EntryWords.{IsPrintable}
-use Rattle.state_search.specs.Paths.{Searches}
-use Rattle.state_search.specs.Seen.{cut_of}
 use Rattle.survey_rows.specs.Texts.{HasRow}
 use Rattle.irq_explore.proofs.Lawful.{legal_of, legal_printable}
-use Rattle.irq_explore.specs.Surveyed.{Surveys}
 
 has_row : (def : LineDef) (r : EntryRow) → IsLeast def (wants.Row r.entry) r.len → HasRow r
 has_row def r (p, shortest, long) =
@@ -24,16 +19,3 @@ has_row def r (p, shortest, long) =
 
 pub have_rows : (s : LineSearchSeen) (v : Survey) → IsSurvey s v → All HasRow v.rows.items
 have_rows s v is = All-weaker (λ (r : EntryRow). IsLeast s.def (wants.Row r.entry) r.len) HasRow (has_row s.def) v.rows.items is.rows.each
-
--- the survey of a search
-pub surveys : (most : ℕ) (def : LineDef) (s : LineSearchSeen) (v : Survey) → s.def ≡ def
-    → Searches (IsDue def) (node def) s.searched.paths s.searched.looked (cut_of s.searched)
-    → length s.searched.paths ≤ most → IfSome (cut_of s.searched) (λ (_ : ℕ). length s.searched.paths ≡ most) → IsSurvey s v → Surveys most def v
-surveys most def s v of searches within cut is = record {
-  search = s;
-  of = of;
-  searches = searches;
-  within = within;
-  cut = cut;
-  survey = is;
-}

@@ -20,24 +20,25 @@ use Rattle.irq_explore.specs.Present.{has_all, has_named}
 use Rattle.irq_explore.specs.Printing.{HasSmallAnswer, IsPrintableAnswer}
 use Rattle.irq_explore.specs.declared.exploring.ExploreEnd.{ExploreEnd}
 
-module _ (b : BoardSeen) (line : LineNo) (wanted : Wanted) (before now : Option (List ℕ)) where
-  pub says : (answer : Answer) (end : WriteEnd) → has_all b line wanted ≡ true → Answered b line wanted answer → IsPrintableAnswer answer
-      → IsSmall line.0 → HasSmallAnswer answer → WritesAll before now (answer_text line answer) end → SaysAnswer b line wanted before now end answer
+module _ (states : ℕ) (b : BoardSeen) (line : LineNo) (wanted : Wanted) (before now : Option (List ℕ)) where
+  pub says : (answer : Answer) (end : WriteEnd) → has_all b line wanted ≡ true → Answered states b line wanted answer → IsPrintableAnswer answer
+      → IsSmall line.0 → HasSmallAnswer answer → WritesAll before now (answer_text line answer) end → SaysAnswer states b line wanted before now end answer
   says answer end there answered rows number small written = record {
     there = there;
     answered = answered;
-    lawful = lawful b line wanted answer answered (and_parts (has_line b.lines line) (has_named b line wanted) there).0 number rows small;
+    lawful = lawful states b line wanted answer answered (and_parts (has_line b.lines line) (has_named b line wanted) there).0 number rows small;
     written = written;
   }
 
-  with_end : (answer : Answer) → SaysAnswer b line wanted before now writes.Done answer → ExploresRow b line wanted before now (end_of line answer)
+  with_end : (answer : Answer) → SaysAnswer states b line wanted before now writes.Done answer
+      → ExploresRow states b line wanted before now (end_of line answer)
   with_end (answers.Found v) is = (answers.Found v, refl, is)
   with_end answers.Never is = (answers.Never, refl, is)
   with_end (answers.NotWithin n) is = (answers.NotWithin n, refl, is)
 
-  pub explores : (answer : Answer) (end : ExploreEnd) → end ≡ end_of line answer → SaysAnswer b line wanted before now writes.Done answer
-      → ExploresRow b line wanted before now end
-  explores answer end same is = subst (ExploresRow b line wanted before now) (sym same) (with_end answer is)
+  pub explores : (answer : Answer) (end : ExploreEnd) → end ≡ end_of line answer → SaysAnswer states b line wanted before now writes.Done answer
+      → ExploresRow states b line wanted before now end
+  explores answer end same is = subst (ExploresRow states b line wanted before now) (sym same) (with_end answer is)
 
 -- the board has all
 pub all_there : (b : BoardSeen) (line : LineNo) (wanted : Wanted) (place : ℕ) (named : Bool) → IsPlaceOf b.lines line place

@@ -1,6 +1,7 @@
 -- The answer to what is wanted of a board's line.
 use Rattle.std.specs.Prelude.{◌≡◌, ℕ, Some, List, ◌++◌, codes, decimal, reverse}
 use Rattle.std.specs.Prelude.{slice_get}
+use Rattle.std.specs.Option.{option_map}
 use Rattle.board_def.specs.Layout.{layout_of}
 use Rattle.board_def.specs.LineOf.{line_of_row}
 use Rattle.board_def.specs.Seen.{BoardSeen}
@@ -11,38 +12,47 @@ use Rattle.irq_base.specs.declared.lines.LineDef.{LineDef}
 use Rattle.irq_base.specs.declared.numbers.LineNo.{LineNo}
 use Rattle.line_survey.specs.declared.answer.Answer.{Answer}
 use Rattle.line_survey.specs.declared.answer.Answer.TheVariants as answers
+use Rattle.line_survey.specs.Answers.{known_within}
+use Rattle.line_survey.specs.Seen.{LineSearchSeen}
 use Rattle.line_wanted.specs.Wanted.{IsShortest, IsNever, IsNotWithin}
 use Rattle.line_wanted.specs.declared.wanted.Wanted.{Wanted}
 use Rattle.log_check.specs.Verdicts.{ChecksLog}
 use Rattle.log_check.specs.declared.verdict.Verdict.TheVariants as verdicts
 use Rattle.log_text.specs.Rows.{history_text}
+use Rattle.state_search.specs.Seen.{cut_of}
+use Rattle.irq_explore.specs.Searched.{IsSearchOf}
 
--- the answer for a line: a shortest history as wanted, its oldest entry first; or that there is
--- none; or that there is none of at most so many entries
-abbrev pub Says : LineDef → Wanted → Answer → Type 0
-Says def wanted (answers.Found es) = IsShortest def wanted (reverse es.items)
-Says def wanted answers.Never = IsNever def wanted
-Says def wanted (answers.NotWithin n) = IsNotWithin def wanted n
+-- by a search through at most so many states of the line
+module _ (states : ℕ) where
+  -- the answer for a line: a shortest history as wanted, its oldest entry first; or that there is
+  -- none; or that there is none of at most so many entries, which is all that a search knows that was
+  -- cut after so many states
+  abbrev pub Says : LineDef → Wanted → Answer → Type 0
+  Says def wanted (answers.Found es) = IsShortest def wanted (reverse es.items)
+  Says def wanted answers.Never = IsNever def wanted
+  Says def wanted (answers.NotWithin n) =
+      IsNotWithin def wanted n × (search : LineSearchSeen) × IsSearchOf states def search
+      × (Some n ≡ option_map (known_within wanted) (cut_of search.searched))
 
--- the answer for a line of the board, by whether it is mapped or refused: a refused line has no
--- history
-abbrev pub AnsweredLine : BoardSeen → LineRow → Placement → Wanted → Answer → Type 0
-AnsweredLine b row (placements.Mapped virq path) wanted answer =
-    Says (line_of_row b row) wanted answer
-AnsweredLine b row (placements.Refused why) wanted answer = answer ≡ answers.Never
+  -- the answer for a line of the board, by whether it is mapped or refused: a refused line has no
+  -- history
+  abbrev pub AnsweredLine : BoardSeen → LineRow → Placement → Wanted → Answer → Type 0
+  AnsweredLine b row (placements.Mapped virq path) wanted answer =
+      Says (line_of_row b row) wanted answer
+  AnsweredLine b row (placements.Refused why) wanted answer = answer ≡ answers.Never
 
--- the answer for the board's line at index i
-abbrev pub AnsweredAt : BoardSeen → ℕ → Wanted → Answer → Type 0
-AnsweredAt b i wanted answer =
-    (row : LineRow) (placement : Placement) → slice_get b.lines i ≡ Some row
-    → slice_get (layout_of b) i ≡ Some placement → AnsweredLine b row placement wanted answer
+  -- the answer for the board's line at index i
+  abbrev pub AnsweredAt : BoardSeen → ℕ → Wanted → Answer → Type 0
+  AnsweredAt b i wanted answer =
+      (row : LineRow) (placement : Placement) → slice_get b.lines i ≡ Some row
+      → slice_get (layout_of b) i ≡ Some placement → AnsweredLine b row placement wanted answer
 
--- the answer for the board's line with this number
-abbrev pub Answered : BoardSeen → LineNo → Wanted → Answer → Type 0
-Answered b line wanted answer =
-    (i : ℕ) (row : LineRow) (placement : Placement) → slice_get b.lines i ≡ Some row
-    → row.line ≡ line → slice_get (layout_of b) i ≡ Some placement
-    → AnsweredLine b row placement wanted answer
+  -- the answer for the board's line with this number
+  abbrev pub Answered : BoardSeen → LineNo → Wanted → Answer → Type 0
+  Answered b line wanted answer =
+      (i : ℕ) (row : LineRow) (placement : Placement) → slice_get b.lines i ≡ Some row
+      → row.line ≡ line → slice_get (layout_of b) i ≡ Some placement
+      → AnsweredLine b row placement wanted answer
 
 -- what is printed: the rows of the log that was found; or that there is none; or that there is none
 -- of at most so many entries

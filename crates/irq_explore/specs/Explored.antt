@@ -23,29 +23,30 @@ end_of line answers.Never = ends.Never
 end_of line (answers.NotWithin n) = ends.Cut line
 
 -- this is the answer, a log in it is lawful, and the output gained its text
-pub record SaysAnswer (b : BoardSeen) (line : LineNo) (wanted : Wanted)
+pub record SaysAnswer (states : ℕ) (b : BoardSeen) (line : LineNo) (wanted : Wanted)
     (before now : Option (List ℕ)) (write : WriteEnd) (answer : Answer) : Type 0 where
   pub there : has_all b line wanted ≡ true
-  pub answered : Answered b line wanted answer
+  pub answered : Answered states b line wanted answer
   pub lawful : IsLawful b line answer
   pub written : WritesAll before now (answer_text line answer) write
 
 -- the answer is printed, with this end
-abbrev pub EndsWith : BoardSeen → LineNo → Wanted → Option (List ℕ) → Option (List ℕ) → ExploreEnd
-    → Type 0
-EndsWith b line wanted before now end =
-    (answer : Answer) × (end ≡ end_of line answer)
-    × SaysAnswer b line wanted before now writes.Done answer
-
--- What is wanted of a line was looked for. The answer is printed, or after a fault of the output a
--- beginning of it; or the board lacks what the row names; or memory was refused.
-abbrev pub ExploresRow : BoardSeen → LineNo → Wanted → Option (List ℕ) → Option (List ℕ)
+abbrev pub EndsWith : ℕ → BoardSeen → LineNo → Wanted → Option (List ℕ) → Option (List ℕ)
     → ExploreEnd → Type 0
-ExploresRow b line wanted before now ends.NotThere = has_all b line wanted ≡ false
-ExploresRow b line wanted before now ends.WriteFault =
-    (answer : Answer) × SaysAnswer b line wanted before now writes.Failed answer
-ExploresRow b line wanted before now ends.NoMemory = Unit {0}
-ExploresRow b line wanted before now end = EndsWith b line wanted before now end
+EndsWith states b line wanted before now end =
+    (answer : Answer) × (end ≡ end_of line answer)
+    × SaysAnswer states b line wanted before now writes.Done answer
+
+-- What is wanted of a line was looked for, through at most so many of its states. The answer is
+-- printed, or after a fault of the output a beginning of it; or the board lacks what the row names;
+-- or memory was refused.
+abbrev pub ExploresRow : ℕ → BoardSeen → LineNo → Wanted → Option (List ℕ) → Option (List ℕ)
+    → ExploreEnd → Type 0
+ExploresRow states b line wanted before now ends.NotThere = has_all b line wanted ≡ false
+ExploresRow states b line wanted before now ends.WriteFault =
+    (answer : Answer) × SaysAnswer states b line wanted before now writes.Failed answer
+ExploresRow states b line wanted before now ends.NoMemory = Unit {0}
+ExploresRow states b line wanted before now end = EndsWith states b line wanted before now end
 
 -- the end with these surveys: no search was cut; or the first that was cut is this line's
 abbrev pub end_by : Option LineNo → ExploreEnd

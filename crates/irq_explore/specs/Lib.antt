@@ -2,5 +2,6 @@ pub mod Answered
 pub mod Explored
 pub mod Present
 pub mod Printing
+pub mod Searched
 pub mod Surveyed
 pub mod Surveying

@@ -1,6 +1,6 @@
 -- What is said of the lines of a board that are surveyed.
-use Rattle.std.specs.Prelude.{◌≡◌, ◌≤◌, ℕ, Bool, true, if◌then◌else◌, Option, Some, None}
-use Rattle.std.specs.Prelude.{List, [], ◌∷◌, ◌++◌, All, length, is_some, IfSome}
+use Rattle.std.specs.Prelude.{◌≡◌, ℕ, Bool, true, if◌then◌else◌, Option, Some, None}
+use Rattle.std.specs.Prelude.{List, [], ◌∷◌, ◌++◌, All, is_some}
 use Rattle.std.specs.List.{AllZip, filter, flat_map}
 use Rattle.board_def.specs.Rules.{has_line}
 use Rattle.board_def.specs.Seen.{BoardSeen}
@@ -8,27 +8,17 @@ use Rattle.board_play.specs.Lines.{defs_of}
 use Rattle.irq_base.specs.declared.lines.LineDef.{LineDef}
 use Rattle.irq_base.specs.declared.numbers.LineNo.{LineNo}
 use Rattle.irq_model.specs.Kinds.{same_line}
-use Rattle.irq_model.specs.Legal.{IsDue}
 use Rattle.line_survey.specs.Seen.{LineSearchSeen}
 use Rattle.line_survey.specs.Surveyed.{IsSurvey}
 use Rattle.line_survey.specs.declared.survey.Survey.{Survey}
-use Rattle.line_words.specs.Node.{node}
 use Rattle.log_text.specs.LayoutRows.{layout_rows}
-use Rattle.state_search.specs.Paths.{Searches}
-use Rattle.state_search.specs.Seen.{cut_of}
 use Rattle.survey_rows.specs.Texts.{HasRow, survey_text}
+use Rattle.irq_explore.specs.Searched.{IsSearchOf}
 use Rattle.irq_explore.specs.declared.surveying.LineSurvey.{LineSurvey}
 
--- The survey is of a search through the states of the line's legal histories: all of them, or, if
--- the line has more, as many as this, and none that is left out has a shorter past.
-pub record Surveys (most : ℕ) (def : LineDef) (v : Survey) : Type 0 where
-  pub search : LineSearchSeen
-  pub of : search.def ≡ def
-  pub searches : Searches (IsDue def) (node def) search.searched.paths search.searched.looked
-      (cut_of search.searched)
-  pub within : length search.searched.paths ≤ most
-  pub cut : IfSome (cut_of search.searched) (λ _. length search.searched.paths ≡ most)
-  pub survey : IsSurvey search v
+-- the survey is of a search through at most so many states of the line
+abbrev pub Surveys : ℕ → LineDef → Survey → Type 0
+Surveys most def v = (search : LineSearchSeen) × IsSearchOf most def search × IsSurvey search v
 
 -- the survey of the line, with its number
 abbrev pub IsSurveyOf : ℕ → LineDef → LineSurvey → Type 0

@@ -23,7 +23,7 @@ pub(crate) fn answer_at(
 ) -> Result<Answer, NoMemory>
     requires line { place < length board.now.lines }
     requires states { IsCount states }
-    ensures answered { IfOk result (AnsweredAt board.now place wanted) }
+    ensures answered { IfOk result (AnsweredAt states board.now place wanted) }
     ensures rows { IfOk result IsPrintableAnswer }
 {
     let (_, layout) = lay(alloc, board)?;

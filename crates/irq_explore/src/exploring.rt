@@ -54,8 +54,8 @@ pub fn explore_row<O: Sink>(
     out: &mut O,
 ) -> ExploreEnd
     requires { IsCount states }
-    ensures explores { ExploresRow board.now line wanted (O.written out.old) (O.written out.new)
-        result }
+    ensures explores { ExploresRow states board.now line wanted (O.written out.old)
+        (O.written out.new) result }
     ensures emptied { is_printed result ≡ true → O.kept out.new ≡ [] }
     ensures write_fault { Counts (O.faults out.old) (O.faults out.new) (is_write_fault result) }
     ensures silent { is_printing result ≡ false → out.new ≡ out.old }
@@ -68,24 +68,25 @@ pub fn explore_row<O: Sink>(
     }
     board.is_board();
     match answer_at(alloc, board, place, wanted, states) {
-        Ok(answer) => say(board, line, wanted, &answer, out),
+        Ok(answer) => say(board, states, line, wanted, &answer, out),
         Err(NoMemory) => ExploreEnd::NoMemory,
     }
 }
 
-/// Prints the answer, which is that of the board's line.
+/// Prints the answer, which is that of the board's line through at most `states` states.
 fn say<O: Sink>(
     board: &Board,
+    states: u32,
     line: LineNo,
     wanted: Wanted,
     answer: &Answer,
     out: &mut O,
 ) -> ExploreEnd
     requires there { has_all board.now line wanted ≡ true }
-    requires answered { Answered board.now line wanted answer.now }
+    requires answered { Answered states board.now line wanted answer.now }
     requires rows { IsPrintableAnswer answer.now }
-    ensures explores { ExploresRow board.now line wanted (O.written out.old) (O.written out.new)
-        result }
+    ensures explores { ExploresRow states board.now line wanted (O.written out.old)
+        (O.written out.new) result }
     ensures emptied { is_printed result ≡ true → O.kept out.new ≡ [] }
     ensures write_fault { Counts (O.faults out.old) (O.faults out.new) (is_write_fault result) }
     ensures printing { is_printing result ≡ true }
