@@ -1,9 +1,5 @@
--- A child's step is an entry that is due on one of the lines, and so it has a row.
-use Rattle.std.proofs.Common.{◌≡◌, ℕ, suc, ◌==◌, Bool, true, false, cond, Option, Some, None, List, [], ◌∷◌, length, reverse, slice_get, refl, ap, ◌∙◌, subst}
-use Rattle.std.specs.List.{All}
-use Rattle.std.proofs.lemmas.List.{reverse-reverse}
-use Rattle.std.proofs.lemmas.List.Elements.{All-nil, All-cons}
-use Rattle.irq_base.specs.Who.{actor_of}
+-- A child's step is an entry that is due on one of the lines.
+use Rattle.std.proofs.Common.{◌≡◌, ℕ, suc, ◌==◌, Bool, true, false, cond, Option, Some, None, List, [], ◌∷◌, length, slice_get, refl, ap, ◌∙◌, subst}
 use Rattle.irq_base.specs.declared.entries.Actor.{Actor}
 use Rattle.irq_base.specs.declared.entries.Actor.TheVariants as actors
 use Rattle.irq_base.specs.declared.entries.Entry.{Entry}
@@ -12,27 +8,19 @@ use Rattle.irq_base.specs.declared.numbers.LineNo.{LineNo}
 use Rattle.irq_model.specs.Next.{next_past}
 use Rattle.irq_model.specs.Rounds.{flow, is_cpu}
 use Rattle.board_def.specs.Seen.{BoardSeen}
-use Rattle.board_play.specs.Lines.{BoardLine}
-use Rattle.board_play.specs.Order.{due_on, flow_line, line_for, move_on}
+use Rattle.board_play.specs.Lines.{BoardLine, Move, lines_of}
+use Rattle.board_play.specs.Order.{actors_of, due_on, flow_line, line_for, move_on}
 use Rattle.board_play.proofs.Moves.{line_stands}
-use Rattle.board_play.proofs.Parts.{due_of}
 use Rattle.board_ready.specs.First.{first_of}
 use Rattle.board_core.specs.Places.{line_at}
-use Rattle.board_report.proofs.Printable.{printable, turned}
-use Rattle.irq_chained.specs.Chain.{IsChainLegal, chain_next, child, cpu_0, first_left, in_chain, is_left, lines_in}
-use Rattle.irq_chained.specs.Chain.{of_cpu_0, open_status, or_exit, status_of, stepper_of}
+use Rattle.irq_laws.proofs.Chosen.{the_same}
+use Rattle.play_orders.specs.Orders.{moves_in}
+use Rattle.play_report.proofs.Scenario.{IsOn, MovesDue}
+use Rattle.irq_chained.specs.Chain.{chain_next, chain_order, child, cpu_0, first_left, in_chain, is_left, lines_in}
+use Rattle.irq_chained.specs.Chain.{of_cpu_0, open_status, or_exit, status_of, told}
+use Rattle.irq_chained.proofs.Chained.{choice_is_some, same_children}
 use Rattle.irq_chained.specs.declared.chain.ChainEntry.{ChainEntry}
 use Rattle.irq_chained.specs.declared.chain.ChainEntry.TheVariants as steps
-use Rattle.chained_play.specs.Printing.{HasRow}
-
--- the entry is due of some actor on this line
-pub record IsOn (lines : List BoardLine) (line : LineNo) (e : Entry) : Type 0 where
-  pub actor : Actor
-  pub of : BoardLine
-  pub place : ℕ
-  pub at : slice_get lines place ≡ Some of
-  pub number : of.def.line ≡ line
-  pub due : next_past of.def of.past actor ≡ Some e
 
 abbrev IsThere : List BoardLine → BoardLine → Type 0
 IsThere lines y = (i : ℕ) × (slice_get lines i ≡ Some y)
@@ -99,17 +87,19 @@ child_step b g (actors.Cpu c) line e is = by_zero (c.0 == 0) is
     by_zero true h = by_open (open_status g) h
     by_zero false h = cc
 
-legal_rows : (b : BoardSeen) (g : List ChainEntry) → IsChainLegal b g → All HasRow g
-legal_rows b [] legal = All-nil HasRow
-legal_rows b (e ∷ g) legal = All-cons HasRow e g (by_step e legal.0) (legal_rows b g legal.1)
+-- a next step of the chain's order that is a child's entry is due on the child's line
+pub moves_due : (b : BoardSeen) → MovesDue b (chain_order b)
+moves_due b g at after e m next tells =
+    let who = choice_is_some (chain_next b g) (actors_of b) at e after next in
+    by_step e who.0 who.1 tells
   where
-    by_step : (e : ChainEntry) → chain_next b g (stepper_of e) ≡ Some e → HasRow e
-    by_step (steps.Enter cpu status) is = tt
-    by_step (steps.Child line e) is =
-        let on = child_step b g (actor_of line e) line e is in
-        printable on.of.def on.of.past e (due_of on.of.def on.of.past on.actor e on.due)
-    by_step (steps.Exit cpu) is = tt
+    lines : List BoardLine
+    lines = lines_of b (moves_in (chain_order b) g)
 
--- each step so far has a row
-pub steps_have_rows : (b : BoardSeen) (log : List ChainEntry) → IsChainLegal b (reverse log) → All HasRow log
-steps_have_rows b log legal = subst (All HasRow) (reverse-reverse log) (turned HasRow (reverse log) (legal_rows b (reverse log) legal))
+    by_step : (e : ChainEntry) (a : Actor) → chain_next b g a ≡ Some e → told e ≡ Some m → IsOn lines m.0 m.1
+    by_step (steps.Enter cpu status) a is tells = cc
+    by_step (steps.Exit cpu) a is tells = cc
+    by_step (steps.Child line x) a is tells =
+        let move : Move = (line, x) in
+        subst (λ (n : Move). IsOn lines n.0 n.1) (the_same move m tells)
+        (subst (λ (ms : List Move). IsOn (lines_of b ms) line x) (same_children b g) (child_step b g a line x is))

@@ -1,82 +1,67 @@
-//! Prints a play behind a demultiplexer row by row; each row is handed to the sink by itself.
+//! The rows of a play behind a demultiplexer, one after another.
 ghost use Rattle.std.specs.Prelude.{◌≡◌, All};
-ghost use Rattle.board_def.specs.Layout.{layout_of};
-ghost use Rattle.irq_io.specs.Faults.{Counts};
-ghost use Rattle.irq_io.specs.Whole.{KeepsNone, WritesAll, writing_failed};
-ghost use Rattle.chained_play.specs.Printing.{HasRow};
-ghost use Rattle.chained_play.specs.Rows.{chain_text, step_text, steps_text};
+ghost use Rattle.play_report.specs.Rows.{HasRow};
+ghost use Rattle.irq_chained.specs.Chain.{told};
+ghost use Rattle.chained_play.specs.Rows.{step_text};
 
 use crate::rows::{enter_row, exit_row};
-use board_def::Board;
-use board_report::{hand_on, print_layout};
-use irq_chained::{ChainEntry, ChainWalk, Demux};
-use irq_io::{Sink, WriteEnd, write_all};
+use irq_chained::{ChainEntry, ChainWalk};
 use irq_line::IrqLine;
-use kept_rows::KeptRows;
-use text_row::TextRow;
+use play_report::{RowRoom, RowWalk};
+use std::marker::Model;
 
-/// Prints the rows of the steps that are left, the oldest first.
-pub fn print_steps<O: Sink, L: IrqLine>(out: &mut O, steps: &mut ChainWalk<'_, L>) -> WriteEnd
-    requires { All HasRow steps.old }
-    ensures content { WritesAll (O.written out.old) (O.written out.new)
-        (steps_text steps.old) result }
-    ensures cause { Counts (O.faults out.old) (O.faults out.new) (writing_failed result) }
-{
-    let mut rows = KeptRows::new();
-    let mut row = TextRow::new();
-    while let Some(step) = steps.next() {
-        match print_step(out, &mut rows, &mut row, step) {
-            WriteEnd::Done => {}
-            WriteEnd::Failed => return WriteEnd::Failed,
-        }
-    }
-    WriteEnd::Done
+/// The rows of the steps that are left, the oldest first.
+#[derive(Drop)]
+pub struct ChainRows<'s, L: IrqLine> {
+    steps: ChainWalk<'s, L>,
 }
 
-/// Prints the row of a step; `row` is lent for it.
-fn print_step<O: Sink>(
-    out: &mut O,
-    rows: &mut KeptRows,
-    row: &mut TextRow,
-    step: ChainEntry,
-) -> WriteEnd
-    requires { HasRow step }
-    ensures content { WritesAll (O.written out.old) (O.written out.new) (step_text step) result }
-    ensures cause { Counts (O.faults out.old) (O.faults out.new) (writing_failed result) }
+impl<'s, L: IrqLine> Model for ChainRows<'s, L> {
+    ghost use Rattle.std.specs.Prelude.{All, List};
+    ghost use Rattle.irq_chained.specs.Chain.{told};
+    ghost use Rattle.irq_chained.specs.declared.chain.ChainEntry.{ChainEntry};
+    ghost use Rattle.play_report.specs.Rows.{HasRow};
+
+    ghost Value = { List ChainEntry };
+
+    ghost view = { λ r. r.steps };
+
+    ghost invariant = { λ r. All (HasRow told) r.steps };
+}
+
+impl<'s, L: IrqLine> ChainRows<'s, L> {
+    /// The rows of the steps.
+    pub fn new(steps: ChainWalk<'s, L>) -> ChainRows<'s, L>
+        requires { All (HasRow told) steps }
+        ensures { result ≡ steps.entry }
+    {
+        ChainRows { steps }
+    }
+}
+
+impl<'s, L: IrqLine> RowWalk for ChainRows<'s, L> {
+    ghost use Rattle.std.specs.Prelude.{length};
+    ghost use Rattle.chained_play.specs.Rows.{steps_text};
+
+    ghost text = { λ g. steps_text g };
+
+    ghost left = { λ g. length g };
+
+    fn next_row<'r>(&mut self, room: &'r mut RowRoom) -> Option<&'r [u8]> {
+        let step = self.steps.next()?;
+        Some(row_of(room, step))
+    }
+}
+
+/// The row of a step; `room` is lent for it.
+fn row_of(room: &mut RowRoom, step: ChainEntry) -> &[u8]
+    requires { HasRow told step }
+    ensures { result.now ≡ step_text step }
 {
     match step {
-        ChainEntry::Enter { cpu, status } => {
-            enter_row(row, cpu, status);
-            write_all(out, row.bytes())
-        }
-        ChainEntry::Child { line, entry } => write_all(out, rows.row_of(line, &entry)),
-        ChainEntry::Exit { cpu } => {
-            exit_row(row, cpu);
-            write_all(out, row.bytes())
-        }
+        ChainEntry::Enter { cpu, status } => enter_row(&mut room.row, cpu, status),
+        ChainEntry::Child { line, entry } => return room.kept.row_of(line, &entry),
+        ChainEntry::Exit { cpu } => exit_row(&mut room.row, cpu),
     }
-}
-
-/// Prints the layout and the steps, and has them handed on.
-pub(crate) fn write_chain<O: Sink, L: IrqLine>(
-    board: &Board,
-    demux: &Demux<'_, L>,
-    out: &mut O,
-) -> WriteEnd
-    requires layout { demux.now.layout ≡ layout_of board.now }
-    requires rows { All HasRow demux.now.log }
-    ensures content { WritesAll (O.written out.old) (O.written out.new)
-        (chain_text board.now demux.now.log) result }
-    ensures emptied { KeepsNone (O.kept out.new) result }
-    ensures cause { Counts (O.faults out.old) (O.faults out.new) (writing_failed result) }
-{
-    let mut row = TextRow::new();
-    match print_layout(out, &mut row, board, demux.layout()) {
-        WriteEnd::Done => {}
-        WriteEnd::Failed => return WriteEnd::Failed,
-    }
-    match print_steps(out, &mut demux.steps()) {
-        WriteEnd::Done => hand_on(out),
-        WriteEnd::Failed => WriteEnd::Failed,
-    }
+    room.row.bytes()
 }

@@ -139,7 +139,7 @@ fn print_done<O: Sink, L: IrqLine>(
 }
 
 /// The result if memory was refused before the play.
-fn unplayed(alloc: Global) -> PlayedBoard
+pub fn unplayed(alloc: Global) -> PlayedBoard
     ensures end { result.end ≡ PlayedEnd.NoMemory Wanted.Making }
     ensures reports { result.reports.reports ≡ [] }
 {

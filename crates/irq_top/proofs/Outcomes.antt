@@ -1,36 +1,21 @@
 -- What a command does that takes a board.
 use Rattle.std.proofs.Common.{◌≡◌, ℕ, Bool, false, inr, Option, Some, None, Ok, List, [], refl, sym, subst}
-use Rattle.irq_base.specs.declared.numbers.LineNo.{LineNo}
 use Rattle.irq_base.specs.declared.reporting.LineReport.{LineReport}
 use Rattle.board_words.specs.declared.faults.FaultKind.{FaultKind}
-use Rattle.board_words.specs.declared.faults.FaultKind.TheVariants as faults
-use Rattle.chained_play.specs.Played.{ChainsBoard}
-use Rattle.hotplug_plan.specs.Planned.{IsForHotplug}
-use Rattle.hotplug_play.specs.Played.{HotplugsBoard}
-use Rattle.irq_chained.specs.Fits.{is_for_chain}
-use Rattle.irq_hotplug.specs.declared.events.Event.{Event}
-use Rattle.irq_pm.specs.SleptBoard.{is_for_sleep}
 use Rattle.irq_play.specs.declared.ending.PlayedEnd.{PlayedEnd}
 use Rattle.irq_play.specs.declared.ending.PlayedEnd.TheVariants as plays
-use Rattle.sleep_play.specs.Played.{SleepsBoard}
 use Rattle.board_def.specs.Rules.{IsBoard}
 use Rattle.board_def.specs.Seen.{BoardSeen}
 use Rattle.irq_play.specs.declared.ending.Wanted.TheVariants as wants
 use Rattle.irq_top.specs.declared.ending.Ending.{Ending}
 use Rattle.irq_top.specs.declared.ending.Ending.TheVariants as endings
-use Rattle.irq_top.specs.Commands.{ChainsAs, EndsIfFit, HotplugsAs, IsReadToEnd, PlaysAs, RunsAs, SleepsAs, TakesBoard}
+use Rattle.irq_top.specs.Commands.{EndsIfFit, IsReadToEnd, IsSane, RunsAs, TakesBoard}
 use Rattle.irq_top.specs.Ending.{ending_of_play, is_read_fault_end}
 use Rattle.program_io.specs.Reading.{IsStated, ReadsBoard}
 
 read_to_end : (told left : Option (List ℕ)) (b : BoardSeen) → ReadsBoard told left (Ok b) → IsReadToEnd told left
 read_to_end None left b read = tt
 read_to_end (Some bytes) left b read = read.1
-
--- a board that was taken is never a read fault, and has no reports if it wanted memory to be made
-pub record IsSane (OnBoard : BoardSeen → List LineReport → Option (List ℕ) → Option (List ℕ) → Ending → Type 0) : Type 0 where
-  pub no_read_fault : (b : BoardSeen) (reports : List LineReport) (before now : Option (List ℕ)) → OnBoard b reports before now endings.ReadFault → ⊥
-  pub unmade : (b : BoardSeen) (reports : List LineReport) (before now : Option (List ℕ))
-      → OnBoard b reports before now (endings.NoMemory wants.Making) → reports ≡ []
 
 module _ (OnBoard : BoardSeen → List LineReport → Option (List ℕ) → Option (List ℕ) → Ending → Type 0)
     (sane : IsSane OnBoard) (told left before now : Option (List ℕ)) (reports : List LineReport) where
@@ -73,12 +58,6 @@ module _ (OnBoard : BoardSeen → List LineReport → Option (List ℕ) → Opti
   taken_unread endings.ReadFault b done = absurd (sane.no_read_fault b reports before now done)
   taken_unread _ b done = refl
 
-pub plays_are_sane : (summary : Bool) → IsSane (PlaysAs summary)
-plays_are_sane summary = record {
-  no_read_fault = λ b reports before now none. none;
-  unmade = λ b reports before now unmade. unmade;
-}
-
 pub runs_are_sane : (summary : Bool) → IsSane (RunsAs summary)
 runs_are_sane summary = record {
   no_read_fault = λ b reports before now none. none;
@@ -101,21 +80,3 @@ module _ (IsntFor : BoardSeen → Type 0) (kind : FaultKind)
       subst (λ (e : Ending). EndsIfFit IsntFor kind Plays b told before now e) (sym is)
       (subst (λ (rs : List LineReport). EndsIfFit IsntFor kind Plays b rs before now (ending_of_play end)) (sym handed)
       (by_end reports end played))
-
--- a play that not every board is for, if it has no reports where it wanted memory to be made
-fitting_is_sane : (IsntFor : BoardSeen → Type 0) (kind : FaultKind)
-    (Plays : BoardSeen → List LineReport → Option (List ℕ) → Option (List ℕ) → PlayedEnd → Type 0)
-    → ((b : BoardSeen) (reports : List LineReport) (before now : Option (List ℕ)) → Plays b reports before now (plays.NoMemory wants.Making) → reports ≡ [])
-    → IsSane (EndsIfFit IsntFor kind Plays)
-fitting_is_sane IsntFor kind Plays unmade = record { no_read_fault = λ b reports before now none. none; unmade = unmade }
-
-pub chains_are_sane : IsSane ChainsAs
-chains_are_sane = fitting_is_sane (λ b. is_for_chain b ≡ false) faults.NotForChain ChainsBoard (λ b reports before now unmade. unmade)
-
-pub hotplugs_are_sane : (vectors : ℕ) (events : List Event) → IsSane (HotplugsAs vectors events)
-hotplugs_are_sane vectors events =
-    fitting_is_sane (λ b. IsForHotplug b → ⊥) faults.NotForHotplug (λ b. HotplugsBoard b vectors events) (λ b reports before now unmade. unmade)
-
-pub sleeps_are_sane : (armed : List LineNo) → IsSane (SleepsAs armed)
-sleeps_are_sane armed = fitting_is_sane (λ b. is_for_sleep b armed ≡ false) faults.NotForSleep
-    (λ b. SleepsBoard b armed) (λ b reports before now unmade. unmade)

@@ -73,6 +73,14 @@ module _ (OnBoard : BoardSeen → List LineReport → Option (List ℕ) → Opti
   TakesBoard told left reports before now (endings.NoMemory wants.Making) = reports ≡ []
   TakesBoard told left reports before now ending = TakesInput told left reports before now ending
 
+  -- what a command does with a board is never a read fault, and it hands nothing out if memory was
+  -- refused for anything but a step
+  pub record IsSane : Type 0 where
+    pub no_read_fault : (b : BoardSeen) (reports : List LineReport) (before now : Option (List ℕ))
+        → OnBoard b reports before now endings.ReadFault → ⊥
+    pub unmade : (b : BoardSeen) (reports : List LineReport) (before now : Option (List ℕ))
+        → OnBoard b reports before now (endings.NoMemory wants.Making) → reports ≡ []
+
 -- a board was played. If all is printed, or after a fault of the output, the play's headline holds;
 -- else it was played until a log was full, or until a step was refused memory
 module _ (Plays : BoardSeen → List LineReport → Option (List ℕ) → Option (List ℕ) → PlayedEnd

@@ -8,15 +8,16 @@ ghost use Rattle.irq_top.specs.Ending.{is_printed, is_printing, is_read_fault_en
 ghost use Rattle.irq_top.specs.Ending.{is_write_fault_end};
 
 use crate::ending::Ending;
-use crate::fitting::{chained, hotplug, sleep};
 use crate::outcome::Outcome;
+use crate::plays::{Chain, Play, Plug, Sleep};
+use crate::taking::{OnBoard, take_board};
 use board_def::Board;
 use board_gen::generate;
 use callbacks::{Callbacks, Handler};
 use irq_base::NoMemory;
 use irq_check::check_and_print;
 use irq_io::{Sink, Source};
-use irq_play::{Wanted, play_and_print};
+use irq_play::Wanted;
 use irq_run::run_and_print;
 use irq_words::Command;
 use line_makers::MakesDomainLine;
@@ -62,42 +63,25 @@ where
 {
     match asked {
         Command::Run { summary } => run(rt, alloc, summary, src, out, gate, handlers, maker),
-        Command::Play { summary } => play(alloc, summary, src, out, handlers, maker),
+        Command::Play { summary } => {
+            take_board(alloc, Play { summary }, src, out, handlers, maker)
+        }
         Command::Check => check(alloc, src, out, maker),
         Command::Gen { n } => play_generated(alloc, n, out, handlers, maker),
-        Command::Chained => chained(alloc, src, out, handlers, maker),
+        Command::Chained => take_board(alloc, Chain, src, out, handlers, maker),
         Command::Hotplug { vectors, events } => {
             let events = events.as_slice();
-            hotplug(alloc, vectors, events, src, out, handlers, maker, notify)
+            let way = Plug {
+                vectors,
+                events,
+                notify,
+            };
+            take_board(alloc, way, src, out, handlers, maker)
         }
-        Command::Sleep { armed } => sleep(alloc, armed.as_slice(), src, out, handlers, maker),
-    }
-}
-
-/// `play`: reads a board, plays it, and prints its log, or a summary.
-fn play<S: Source, O: Sink, H: Handler, M: MakesDomainLine>(
-    alloc: Global,
-    summary: bool,
-    src: &mut S,
-    out: &mut O,
-    handlers: &Callbacks<H>,
-    maker: &M,
-) -> Outcome
-    ensures plays { TakesBoard (PlaysAs summary) (S.left src.old) (S.left src.new)
-        result.reports.reports (O.written out.old) (O.written out.new) result.ending }
-    ensures read_fault { Counts (S.faults src.old) (S.faults src.new)
-        (is_read_fault_end result.ending) }
-    ensures emptied { is_printed result.ending ≡ true → O.kept out.new ≡ [] }
-    ensures write_fault { Counts (O.faults out.old) (O.faults out.new)
-        (is_write_fault_end result.ending) }
-    ensures silent { is_printing result.ending ≡ false → out.new ≡ out.old }
-{
-    match read_input(alloc, src) {
-        Ok(board) => {
-            board.is_board();
-            play_board(alloc, &board, summary, out, handlers, maker)
+        Command::Sleep { armed } => {
+            let armed = armed.as_slice();
+            take_board(alloc, Sleep { armed }, src, out, handlers, maker)
         }
-        Err(refused) => Outcome::without_reports(alloc, Ending::from(refused)),
     }
 }
 
@@ -188,28 +172,9 @@ fn play_generated<O: Sink, H: Handler, M: MakesDomainLine>(
     ensures silent { is_printing result.ending ≡ false → out.new ≡ out.old }
 {
     match generate(alloc, n) {
-        Ok(board) => play_board(alloc, &board, true, out, handlers, maker),
+        Ok(board) => Play { summary: true }.play(alloc, board, handlers, maker, out),
         Err(NoMemory) => Outcome::without_reports(alloc, Ending::NoMemory(Wanted::Making)),
     }
-}
-
-/// Plays the board, and prints its log, or a summary.
-fn play_board<O: Sink, H: Handler, M: MakesDomainLine>(
-    alloc: Global,
-    board: &Board,
-    summary: bool,
-    out: &mut O,
-    handlers: &Callbacks<H>,
-    maker: &M,
-) -> Outcome
-    ensures plays { PlaysAs summary board.now result.reports.reports (O.written out.old)
-        (O.written out.new) result.ending }
-    ensures emptied { is_printed result.ending ≡ true → O.kept out.new ≡ [] }
-    ensures write_fault { Counts (O.faults out.old) (O.faults out.new)
-        (is_write_fault_end result.ending) }
-    ensures silent { is_printing result.ending ≡ false → out.new ≡ out.old }
-{
-    Outcome::of_play(play_and_print(alloc, board, summary, maker, handlers, out))
 }
 
 /// `check`: reads a board and a log of it, judges the log, and prints the judgement.

@@ -13,8 +13,9 @@
 mod commands;
 pub mod ending;
 pub mod error_rows;
-mod fitting;
 pub mod outcome;
+mod plays;
+mod taking;
 pub mod top;
 
 pub use ending::Ending;

@@ -1,0 +1,60 @@
+//! A play behind one demultiplexer that has ended.
+ghost use Rattle.board_core.specs.declared.turns.PlayEnd.{PlayEnd};
+
+use crate::printing::ChainRows;
+use board_core::PlayEnd;
+use board_def::{Board, Layout};
+use board_report::{ReportRoom, hand_out};
+use irq_base::Reports;
+use irq_chained::Demux;
+use irq_io::{Sink, WriteEnd};
+use irq_line::IrqLine;
+use play_report::{EndedPlay, print_rows};
+use std::marker::Model;
+
+/// A demultiplexer in which its board was played, and how the play ended.
+#[derive(Drop)]
+pub struct ChainPlay<'b, L: IrqLine> {
+    pub(crate) demux: Demux<'b, L>,
+    pub(crate) end: PlayEnd,
+}
+
+impl<'b, L: IrqLine> Model for ChainPlay<'b, L> {
+    ghost use Rattle.chained_play.specs.Played.{ChainPlaySeen, IsPlayedDemux};
+
+    ghost Value = { ChainPlaySeen };
+
+    ghost view = { λ p. record { demux = p.demux; end = p.end } };
+
+    ghost invariant = { λ p. IsPlayedDemux p.demux p.end };
+}
+
+impl<'b, L: IrqLine> EndedPlay for ChainPlay<'b, L> {
+    ghost use Rattle.chained_play.specs.Headline.{ChainHandsOut};
+    ghost use Rattle.chained_play.specs.Rows.{steps_text};
+
+    ghost board_of = { λ p. p.demux.board };
+
+    ghost ended = { λ p. p.end };
+
+    ghost text = { λ p. steps_text p.demux.log };
+
+    ghost hands_out = { λ p. ChainHandsOut p.demux.board p.demux.log };
+
+    fn end(&self) -> PlayEnd {
+        self.end
+    }
+
+    fn layout(&self) -> &Layout {
+        self.demux.layout()
+    }
+
+    fn print<O: Sink>(&self, out: &mut O) -> WriteEnd {
+        print_rows(out, &mut ChainRows::new(self.demux.steps()))
+    }
+
+    fn hand_out(self, board: &Board, room: ReportRoom) -> Reports {
+        self.demux.is_kept();
+        hand_out(board, self.demux.into_system(), room)
+    }
+}

@@ -1,0 +1,77 @@
+//! The commands that play a board that they read.
+ghost use Rattle.std.specs.Prelude.{◌≡◌, [], false, true};
+ghost use Rattle.irq_io.specs.Faults.{Counts};
+ghost use Rattle.irq_top.specs.Commands.{TakesBoard};
+ghost use Rattle.irq_top.specs.Ending.{is_printed, is_printing, is_read_fault_end};
+ghost use Rattle.irq_top.specs.Ending.{is_write_fault_end};
+
+use crate::ending::Ending;
+use crate::outcome::Outcome;
+use board_def::Board;
+use callbacks::{Callbacks, Handler};
+use irq_io::{Sink, Source};
+use line_makers::MakesDomainLine;
+use program_io::read_input;
+use std::alloc::Global;
+
+/// A way to play a board and print it.
+pub(crate) trait OnBoard {
+    ghost use Rattle.std.specs.Prelude.{◌≡◌, ℕ, [], false, true, List, Option};
+    ghost use Rattle.irq_base.specs.declared.reporting.LineReport.{LineReport};
+    ghost use Rattle.irq_io.specs.Faults.{Counts};
+    ghost use Rattle.board_def.specs.Seen.{BoardSeen};
+    ghost use Rattle.irq_top.specs.Commands.{IsSane};
+    ghost use Rattle.irq_top.specs.Ending.{is_printed, is_printing, is_write_fault_end};
+    ghost use Rattle.irq_top.specs.declared.ending.Ending.{Ending};
+
+    /// What it does with a board: with these reports, with this output before and now, and with
+    /// this ending.
+    ghost does: { Self → BoardSeen → List LineReport → Option (List ℕ) → Option (List ℕ)
+        → Ending → Type 0 };
+
+    /// Plays the board, and prints its log, or a summary.
+    fn play<O: Sink, H: Handler, M: MakesDomainLine>(
+        self,
+        alloc: Global,
+        board: Board,
+        handlers: &Callbacks<H>,
+        maker: &M,
+        out: &mut O,
+    ) -> Outcome
+        ensures does { does self board result.reports.reports (O.written out.old)
+            (O.written out.new) result.ending }
+        ensures emptied { is_printed result.ending ≡ true → O.kept out.new ≡ [] }
+        ensures write_fault { Counts (O.faults out.old) (O.faults out.new)
+            (is_write_fault_end result.ending) }
+        ensures silent { is_printing result.ending ≡ false → out.new ≡ out.old };
+
+    /// It reads nothing, and hands nothing out if it had no memory to begin.
+    ghost sane: { (way : Self) → IsSane (does way) };
+}
+
+/// Reads a board, plays it in this way, and prints it.
+pub(crate) fn take_board<S: Source, O: Sink, P: OnBoard, H: Handler, M: MakesDomainLine>(
+    alloc: Global,
+    way: P,
+    src: &mut S,
+    out: &mut O,
+    handlers: &Callbacks<H>,
+    maker: &M,
+) -> Outcome
+    ensures takes { TakesBoard (P.does way) (S.left src.old) (S.left src.new)
+        result.reports.reports (O.written out.old) (O.written out.new) result.ending }
+    ensures read_fault { Counts (S.faults src.old) (S.faults src.new)
+        (is_read_fault_end result.ending) }
+    ensures emptied { is_printed result.ending ≡ true → O.kept out.new ≡ [] }
+    ensures write_fault { Counts (O.faults out.old) (O.faults out.new)
+        (is_write_fault_end result.ending) }
+    ensures silent { is_printing result.ending ≡ false → out.new ≡ out.old }
+{
+    match read_input(alloc, src) {
+        Ok(board) => {
+            board.is_board();
+            way.play(alloc, board, handlers, maker, out)
+        }
+        Err(refused) => Outcome::without_reports(alloc, Ending::from(refused)),
+    }
+}

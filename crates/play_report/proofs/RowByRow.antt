@@ -1,0 +1,39 @@
+-- One row after another.
+use Rattle.std.proofs.Common.{◌≡◌, ℕ, Option, Some, List, [], ◌∷◌, ◌++◌, drop, slice_get, refl, sym, ap, subst, ◌∙◌, append_assoc}
+use Rattle.std.specs.List.{flat_map}
+use Rattle.std.proofs.lemmas.List.{append-nil}
+use Rattle.irq_io.specs.Whole.{WritesAll}
+use Rattle.irq_io.specs.declared.whole.WriteEnd.TheVariants as ends
+use Rattle.irq_laws.proofs.Chosen.{the_same}
+use Rattle.board_report.proofs.Writing.{nothing, and_then, failed_within}
+
+-- what was written is all of the text but for what is left
+pub record IsPrinting (before now : Option (List ℕ)) (all left : List ℕ) : Type 0 where
+  pub done : List ℕ
+  pub written : WritesAll before now done ends.Done
+  pub rest : done ++ left ≡ all
+
+pub none_printed : (told : Option (List ℕ)) (all : List ℕ) → IsPrinting told told all all
+none_printed told all = record { done = []; written = nothing told; rest = refl }
+
+module _ (before now after : Option (List ℕ)) (all left row rest : List ℕ) (is : left ≡ row ++ rest) (p : IsPrinting before now all left) where
+  with_row : (p.done ++ row) ++ rest ≡ all
+  with_row = append_assoc p.done row rest ∙ (ap (λ (xs : List ℕ). p.done ++ xs) (sym is) ∙ p.rest)
+
+  pub row_printed : WritesAll now after row ends.Done → IsPrinting before after all rest
+  row_printed w = record { done = p.done ++ row; written = and_then before now after p.done row ends.Done p.written w; rest = with_row }
+
+  pub row_failed : WritesAll now after row ends.Failed → WritesAll before after all ends.Failed
+  row_failed w =
+      subst (λ (text : List ℕ). WritesAll before after text ends.Failed) with_row
+      (failed_within before after (p.done ++ row) rest (and_then before now after p.done row ends.Failed p.written w))
+
+pub all_printed : (before now : Option (List ℕ)) (all left : List ℕ) → left ≡ [] → IsPrinting before now all left → WritesAll before now all ends.Done
+all_printed before now all left none p =
+    subst (λ (text : List ℕ). WritesAll before now text ends.Done)
+    (sym (append-nil p.done) ∙ (ap (λ (xs : List ℕ). p.done ++ xs) (sym none) ∙ p.rest)) p.written
+
+-- the text of the first item, and of those after it
+pub first_text : {E : Type 0} (f : E → List ℕ) (left : List E) (e : E) → slice_get left 0 ≡ Some e → flat_map f left ≡ f e ++ flat_map f (drop 1 left)
+first_text f [] e at = cc
+first_text f (x ∷ xs) e at = ap (λ y. f y ++ flat_map f xs) (the_same x e at)

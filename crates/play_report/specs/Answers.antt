@@ -1,0 +1,30 @@
+-- What is answered and printed of a play, by how it ended.
+use Rattle.std.specs.Prelude.{◌≡◌, ℕ, Option, List, []}
+use Rattle.irq_base.specs.declared.reporting.LineReport.{LineReport}
+use Rattle.irq_io.specs.Whole.{WritesAll}
+use Rattle.irq_io.specs.declared.whole.WriteEnd.{WriteEnd}
+use Rattle.irq_io.specs.declared.whole.WriteEnd.TheVariants as writes
+use Rattle.board_core.specs.declared.turns.PlayEnd.{PlayEnd}
+use Rattle.board_core.specs.declared.turns.PlayEnd.TheVariants as plays
+use Rattle.irq_play.specs.declared.ending.PlayedEnd.{PlayedEnd}
+use Rattle.irq_play.specs.declared.ending.PlayedEnd.TheVariants as ends
+use Rattle.irq_play.specs.declared.ending.Wanted.TheVariants as wants
+
+-- `text` is what is printed of the play, and `HandsOut` what the reports hand out of it, by how it
+-- ended
+module _ (text : List ℕ) (HandsOut : PlayEnd → List LineReport → Type 0) where
+  -- The play came to its end, and the reports hand it out. It was printed: all of it, or after a
+  -- fault a beginning of it.
+  pub record IsPrinted (reports : List LineReport) (before now : Option (List ℕ)) (end : WriteEnd)
+      : Type 0 where
+    pub handed_out : HandsOut plays.Done reports
+    pub prints : WritesAll before now text end
+
+  -- Nothing is printed unless the play came to its end. Memory may be refused at any time; if a
+  -- step was refused it, the board was played up to it.
+  abbrev pub Answers : List LineReport → Option (List ℕ) → Option (List ℕ) → PlayedEnd → Type 0
+  Answers reports before now ends.Done = IsPrinted reports before now writes.Done
+  Answers reports before now ends.WriteFault = IsPrinted reports before now writes.Failed
+  Answers reports before now (ends.LogFull line len) = HandsOut (plays.Full line len) reports
+  Answers reports before now (ends.NoMemory wants.Step) = HandsOut plays.NoMemory reports
+  Answers reports before now (ends.NoMemory wants.Making) = reports ≡ []

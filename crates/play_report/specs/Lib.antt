@@ -1,0 +1,3 @@
+pub mod Ordered
+pub mod Answers
+pub mod Rows
