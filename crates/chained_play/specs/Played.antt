@@ -7,17 +7,14 @@ use Rattle.board_def.specs.Seen.{BoardSeen}
 use Rattle.irq_play.specs.declared.ending.PlayedEnd.{PlayedEnd}
 use Rattle.irq_chained.specs.Seen.{DemuxSeen}
 use Rattle.irq_chained.specs.Turned.{IsPlay}
-use Rattle.irq_chained.specs.declared.chain.ChainEntry.{ChainEntry}
-use Rattle.play_report.specs.Answers.{Answers}
+use Rattle.play_report.specs.Answers.{AnswersOfSome}
 use Rattle.chained_play.specs.Headline.{ChainHandsOut}
 use Rattle.chained_play.specs.Rows.{chain_text}
 
 -- what the play answers and prints, by how it ended; nothing is printed unless it came to its end
 abbrev pub ChainsBoard : BoardSeen → List LineReport → Option (List ℕ) → Option (List ℕ)
     → PlayedEnd → Type 0
-ChainsBoard b reports before now end =
-    (log : List ChainEntry)
-    × Answers (chain_text b log) (ChainHandsOut b log) reports before now end
+ChainsBoard b = AnswersOfSome (chain_text b) (ChainHandsOut b)
 
 -- what is seen of a play that has ended
 pub record ChainPlaySeen : Type 0 where

@@ -15,7 +15,7 @@ use Rattle.hotplug_laws.specs.Aims.{AimEach}
 use Rattle.hotplug_laws.proofs.Aims.{moves_aim, takes_part}
 use Rattle.hotplug_laws.proofs.Moments.{keep_places}
 use Rattle.play_report.specs.Answers.{Answers}
-use Rattle.play_report.proofs.Handed.{answers_as}
+use Rattle.play_report.proofs.Handed.{answers_as, of_some}
 use Rattle.hotplug_play.specs.Played.{HandsOutPlan, HotplugCut, HotplugFull, HotplugHandsOut, HotplugHeadline, HotplugsBoard, IsPlanOf, planned_after}
 use Rattle.hotplug_play.specs.Texts.{fleet_text, hotplug_text}
 
@@ -49,8 +49,7 @@ module _ (b : BoardSeen) (vectors : ℕ) (es : List Event) (f : FleetSeen) (long
   pub answered : (before now : Option (List ℕ)) (end : PlayedEnd)
       → Answers (layout_rows longer ++ (fleet_text f.said ++ moves_text moves)) (HandsOutPlan f longer moves) reports before now end
       → HotplugsBoard b vectors es reports before now end
-  answered before now end told = (
-    moves,
-    answers_as (layout_rows longer ++ (fleet_text f.said ++ moves_text moves)) (hotplug_text b (fleet_after b vectors es).said moves)
-        (HandsOutPlan f longer moves) (HotplugHandsOut b vectors es moves) same_text (λ end rs h. h b vectors es plan) reports before now end told,
-  )
+  answered before now end told =
+      of_some (hotplug_text b (fleet_after b vectors es).said) (HotplugHandsOut b vectors es) moves reports before now end
+      (answers_as (layout_rows longer ++ (fleet_text f.said ++ moves_text moves)) (hotplug_text b (fleet_after b vectors es).said moves)
+      (HandsOutPlan f longer moves) (HotplugHandsOut b vectors es moves) same_text (λ end rs h. h b vectors es plan) reports before now end told)

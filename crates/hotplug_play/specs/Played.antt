@@ -16,7 +16,7 @@ use Rattle.irq_hotplug.specs.declared.events.Event.{Event}
 use Rattle.hotplug_plan.specs.Planned.{IsForHotplug, planned}
 use Rattle.hotplug_laws.specs.Aims.{AimEach}
 use Rattle.hotplug_laws.specs.Moments.{KeepPlaces}
-use Rattle.play_report.specs.Answers.{Answers}
+use Rattle.play_report.specs.Answers.{AnswersOfSome}
 use Rattle.hotplug_play.specs.Texts.{hotplug_text}
 
 -- the board that is played after these events: with the moves of its lines
@@ -57,10 +57,8 @@ HotplugHandsOut b vectors es moves plays.NoMemory reports = HotplugCut b vectors
 -- these are the events. What was said of the lines is printed between the layout and the play.
 abbrev pub HotplugsBoard : BoardSeen → ℕ → List Event → List LineReport → Option (List ℕ)
     → Option (List ℕ) → PlayedEnd → Type 0
-HotplugsBoard b vectors es reports before now end =
-    (moves : List Move)
-    × Answers (hotplug_text b (fleet_after b vectors es).said moves)
-    (HotplugHandsOut b vectors es moves) reports before now end
+HotplugsBoard b vectors es = AnswersOfSome (hotplug_text b (fleet_after b vectors es).said)
+    (HotplugHandsOut b vectors es)
 
 -- these lines, and this longer board, come of the board and the events
 pub record IsPlanOf (b : BoardSeen) (vectors : ℕ) (es : List Event) (f : FleetSeen)

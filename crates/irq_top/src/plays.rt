@@ -69,7 +69,7 @@ impl OnBoard for Chain {
 
     ghost sane = { λ way. record {
       no_read_fault = λ b reports before now none. none;
-      unmade = λ b reports before now unmade. unmade.1;
+      unmade = λ b reports before now unmade. unmade;
     } };
 }
 
@@ -139,6 +139,6 @@ impl OnBoard for Sleep<'_> {
 
     ghost sane = { λ way. record {
       no_read_fault = λ b reports before now none. none;
-      unmade = λ b reports before now unmade. unmade.1;
+      unmade = λ b reports before now unmade. unmade;
     } };
 }

@@ -23,7 +23,7 @@ use Rattle.irq_play.specs.declared.ending.PlayedEnd.{PlayedEnd}
 use Rattle.irq_play.specs.declared.ending.PlayedEnd.TheVariants as ends
 use Rattle.irq_play.specs.declared.ending.Wanted.TheVariants as wants
 use Rattle.play_orders.specs.Orders.{IsPlayed, Order, moves_in}
-use Rattle.play_report.specs.Answers.{Answers, IsPrinted}
+use Rattle.play_report.specs.Answers.{Answers, AnswersOfSome, IsPrinted}
 use Rattle.play_report.specs.Ordered.{HandsOut, lines_after}
 use Rattle.play_report.proofs.Scenario.{IsEnd, IsScenario}
 
@@ -87,3 +87,13 @@ answers_as text other HandsOut Others same more reports before now end h =
     by_end (ends.LogFull line len) h = more (plays.Full line len) reports h
     by_end (ends.NoMemory wants.Step) h = more plays.NoMemory reports h
     by_end (ends.NoMemory wants.Making) h = h
+
+-- a play with this log is one with some log
+pub of_some : {E : Type 0} (text : List E → List ℕ) (HandsOut : List E → PlayEnd → List LineReport → Type 0) (log : List E)
+    (reports : List LineReport) (before now : Option (List ℕ)) (end : PlayedEnd) → Answers (text log) (HandsOut log) reports before now end
+    → AnswersOfSome text HandsOut reports before now end
+of_some text HandsOut log reports before now ends.Done h = (log, h)
+of_some text HandsOut log reports before now ends.WriteFault h = (log, h)
+of_some text HandsOut log reports before now (ends.LogFull line len) h = (log, h)
+of_some text HandsOut log reports before now (ends.NoMemory wants.Step) h = (log, h)
+of_some text HandsOut log reports before now (ends.NoMemory wants.Making) h = h

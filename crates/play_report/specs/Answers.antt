@@ -28,3 +28,13 @@ module _ (text : List ℕ) (HandsOut : PlayEnd → List LineReport → Type 0) w
   Answers reports before now (ends.LogFull line len) = HandsOut (plays.Full line len) reports
   Answers reports before now (ends.NoMemory wants.Step) = HandsOut plays.NoMemory reports
   Answers reports before now (ends.NoMemory wants.Making) = reports ≡ []
+
+-- what is answered of a play with some log; `text` and `HandsOut` are by the log. If memory was
+-- refused for anything but a step, nothing was played.
+module _ {E : Type 0} (text : List E → List ℕ)
+    (HandsOut : List E → PlayEnd → List LineReport → Type 0) where
+  abbrev pub AnswersOfSome : List LineReport → Option (List ℕ) → Option (List ℕ) → PlayedEnd
+      → Type 0
+  AnswersOfSome reports before now (ends.NoMemory wants.Making) = reports ≡ []
+  AnswersOfSome reports before now end =
+      (log : List E) × Answers (text log) (HandsOut log) reports before now end

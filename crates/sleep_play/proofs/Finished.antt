@@ -1,5 +1,5 @@
 -- A sleeper whose play has ended, and what its reports hand out.
-use Rattle.std.proofs.Common.{◌≡◌, ℕ, Bool, true, false, not, ◌&&◌, All, IsSome, Option, Some, None, List, length}
+use Rattle.std.proofs.Common.{◌≡◌, ◌++◌, ℕ, Bool, true, false, not, ◌&&◌, All, IsSome, Option, Some, None, List, length}
 use Rattle.std.proofs.Common.{reverse, slice_get, refl, sym, ap, ◌∙◌, subst}
 use Rattle.std.proofs.lemmas.Bool.{and_parts}
 use Rattle.std.proofs.lemmas.List.{reverse-reverse}
@@ -28,8 +28,11 @@ use Rattle.board_report.specs.Moving.{AreAtRest}
 use Rattle.board_report.specs.Reporting.{entries_in}
 use Rattle.board_report.proofs.Laid.{its_entries, line_laid}
 use Rattle.play_orders.specs.Orders.{IsMade, Order}
+use Rattle.irq_play.specs.declared.ending.PlayedEnd.{PlayedEnd}
+use Rattle.log_text.specs.LayoutRows.{layout_rows}
+use Rattle.play_report.specs.Answers.{Answers}
 use Rattle.play_report.specs.Ordered.{lines_after}
-use Rattle.play_report.proofs.Handed.{Reported, handed_out}
+use Rattle.play_report.proofs.Handed.{Reported, answers_as, handed_out, of_some}
 use Rattle.play_report.proofs.Scenario.{IsEnd, IsScenario, log_has_rows}
 use Rattle.play_report.specs.Rows.{HasRow}
 use Rattle.irq_pm.specs.Phases.{Next, Phase, Picking, sleep_next, sleep_order}
@@ -42,7 +45,8 @@ use Rattle.irq_pm.proofs.Through.{comes_to_rest, moves_are, names_waker, state, 
 use Rattle.irq_sleeper.specs.Seen.{SleeperSeen, log_of}
 use Rattle.irq_sleeper.specs.Steps.{IsSleep, IsTold}
 use Rattle.sleep_play.specs.Headline.{KeepsSleep, SleepHandsOut}
-use Rattle.sleep_play.specs.Played.{IsSleepOf}
+use Rattle.sleep_play.specs.Played.{HandsOutSleep, IsSleepOf, SleepsBoard}
+use Rattle.sleep_play.specs.Rows.{log_text, sleep_text}
 use Rattle.sleep_play.proofs.Moved.{moves_due}
 
 -- each step and mark of a sleep that came to its end has a row
@@ -175,3 +179,12 @@ module _ (b : BoardSeen) (armed : List LineNo) (s : SleeperSeen) (of : IsSleepOf
   hands_out end sleep lines out reports told =
       handed_out (slept b) order (Picking b.picks) (KeepsSleep b armed) (log_of s) scenario (board_lines lines) (ap board_lines out ∙ are) reports
       (subst (λ (c : BoardSeen). Reported c (board_lines lines) reports) of.slept told) end (as_end end sleep)
+
+-- what is answered of the longer board is answered of the board that sleeps
+pub answered : (b : BoardSeen) (armed : List LineNo) (s : SleeperSeen) → IsSleepOf b armed s → (longer : BoardSeen) → s.system.board ≡ longer
+    → (reports : List LineReport) (before after : Option (List ℕ)) (end : PlayedEnd)
+    → Answers (layout_rows longer ++ log_text (log_of s)) (HandsOutSleep s) reports before after end → SleepsBoard b armed reports before after end
+answered b armed s of longer same reports before after end told =
+    of_some (sleep_text b) (SleepHandsOut b armed) (log_of s) reports before after end
+    (answers_as (layout_rows longer ++ log_text (log_of s)) (sleep_text b (log_of s)) (HandsOutSleep s) (SleepHandsOut b armed (log_of s))
+    (ap (λ (x : BoardSeen). sleep_text x (log_of s)) (sym same ∙ of.slept)) (λ end rs h. h b armed of) reports before after end told)

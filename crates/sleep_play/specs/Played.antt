@@ -8,19 +8,16 @@ use Rattle.board_def.specs.Rules.{IsBoard}
 use Rattle.board_def.specs.Seen.{BoardSeen}
 use Rattle.irq_play.specs.declared.ending.PlayedEnd.{PlayedEnd}
 use Rattle.irq_pm.specs.SleptBoard.{is_for_sleep, slept}
-use Rattle.irq_pm.specs.declared.entries.SleepEntry.{SleepEntry}
 use Rattle.irq_sleeper.specs.Seen.{SleeperSeen, log_of}
 use Rattle.irq_sleeper.specs.Steps.{IsSleep, IsTold}
-use Rattle.play_report.specs.Answers.{Answers}
+use Rattle.play_report.specs.Answers.{AnswersOfSome}
 use Rattle.sleep_play.specs.Headline.{SleepHandsOut}
 use Rattle.sleep_play.specs.Rows.{sleep_text}
 
 -- what the sleep answers and prints, by how it ended; nothing is printed unless it came to its end
 abbrev pub SleepsBoard : BoardSeen → List LineNo → List LineReport → Option (List ℕ)
     → Option (List ℕ) → PlayedEnd → Type 0
-SleepsBoard b armed reports before now end =
-    (log : List SleepEntry)
-    × Answers (sleep_text b log) (SleepHandsOut b armed log) reports before now end
+SleepsBoard b armed = AnswersOfSome (sleep_text b) (SleepHandsOut b armed)
 
 -- what is seen of a sleep that has ended
 pub record SleepPlaySeen : Type 0 where

@@ -1,4 +1,6 @@
 //! A sleep that has ended.
+ghost use Rattle.std.specs.Prelude.{◌≡◌};
+ghost use Rattle.sleep_play.specs.Played.{IsPlayedSleeper};
 
 use crate::printing::SleepRows;
 use board_core::PlayEnd;
@@ -14,8 +16,8 @@ use std::marker::Model;
 /// A board that slept, woke and was played on, and how the play ended.
 #[derive(Drop)]
 pub struct SleepPlay<'b, L: IrqLine> {
-    pub(crate) sleeper: Sleeper<'b, L>,
-    pub(crate) end: PlayEnd,
+    sleeper: Sleeper<'b, L>,
+    end: PlayEnd,
 }
 
 impl<'b, L: IrqLine> Model for SleepPlay<'b, L> {
@@ -26,6 +28,16 @@ impl<'b, L: IrqLine> Model for SleepPlay<'b, L> {
     ghost view = { λ p. record { sleeper = p.sleeper; end = p.end } };
 
     ghost invariant = { λ p. IsPlayedSleeper p.sleeper p.end };
+}
+
+impl<'b, L: IrqLine> SleepPlay<'b, L> {
+    /// The sleep that ended so.
+    pub(crate) fn ended(sleeper: Sleeper<'b, L>, end: PlayEnd) -> SleepPlay<'b, L>
+        requires { IsPlayedSleeper sleeper end }
+        ensures { result ≡ record { sleeper = sleeper.entry; end = end } }
+    {
+        SleepPlay { sleeper, end }
+    }
 }
 
 impl<'b, L: IrqLine> EndedPlay for SleepPlay<'b, L> {

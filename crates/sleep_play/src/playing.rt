@@ -1,17 +1,22 @@
 //! Puts a board to sleep, wakes it, and prints it.
-ghost use Rattle.std.specs.Prelude.{◌≡◌, [], IfOk, OnErr, false};
+ghost use Rattle.std.specs.Prelude.{◌≡◌, [], IfOk, List, OnErr, false, length};
+ghost use Rattle.board_def.specs.Seen.{BoardSeen};
+ghost use Rattle.board_report.specs.Reporting.{HasRoom};
+ghost use Rattle.irq_base.specs.declared.numbers.LineNo.{LineNo};
 ghost use Rattle.irq_io.specs.Faults.{Counts};
 ghost use Rattle.irq_play.specs.Ends.{is_printing, is_write_fault};
 ghost use Rattle.irq_pm.specs.SleptBoard.{is_for_sleep};
-ghost use Rattle.sleep_play.specs.Played.{SleepsBoard};
+ghost use Rattle.sleep_play.specs.Played.{IsPlayedSleeper, IsSleepOf, SleepsBoard};
 
 use crate::ended::SleepPlay;
+use board_core::PlayEnd;
 use board_def::Board;
 use board_layout::lay;
 use board_report::ReportRoom;
 use callbacks::{Callbacks, Handler};
 use irq_base::LineNo;
 use irq_io::Sink;
+use irq_line::IrqLine;
 use irq_play::{PlayedBoard, PlayedEnd, unplayed};
 use irq_pm::{fits_sleep, with_sleep};
 use irq_sleeper::Sleeper;
@@ -64,5 +69,26 @@ pub fn sleep_and_print<O: Sink, M: MakesDomainLine, H: Handler>(
         return Ok(unplayed(alloc));
     };
     let end = sleeper.play(longer.picks(), handlers);
-    Ok(report(&longer, SleepPlay { sleeper, end }, room, out))
+    Ok(report_sleep(&longer, sleeper, end, room, out))
+}
+
+/// Hands out the reports of a sleep of the longer board, and prints it if it came to its end.
+fn report_sleep<O: Sink, L: IrqLine>(
+    longer: &Board,
+    sleeper: Sleeper<'_, L>,
+    end: PlayEnd,
+    room: ReportRoom,
+    out: &mut O,
+) -> PlayedBoard
+    requires board { sleeper.system.board ≡ longer.now }
+    requires played { IsPlayedSleeper sleeper end }
+    requires room { HasRoom (length longer.now.lines) room }
+    ensures plays { (b : BoardSeen) (armed : List LineNo) → IsSleepOf b armed sleeper.entry
+        → SleepsBoard b armed result.reports.reports (O.written out.old) (O.written out.new)
+        result.end }
+    ensures emptied { result.end ≡ PlayedEnd.Done → O.kept out.new ≡ [] }
+    ensures write_fault { Counts (O.faults out.old) (O.faults out.new) (is_write_fault result.end) }
+    ensures silent { is_printing result.end ≡ false → out.new ≡ out.old }
+{
+    report(longer, SleepPlay::ended(sleeper, end), room, out)
 }
