@@ -15,6 +15,6 @@ pub mod printing;
 pub mod reporting;
 
 pub use ending::{PlayedEnd, Wanted};
-pub use playing::{PlayedBoard, PlayedSystem, play_and_print, play_system, unplayed};
+pub use playing::{PlayedBoard, PlayedSystem, play_and_print, play_system};
 pub use printing::print_moves;
 pub use reporting::{report_cut, report_done, report_full};

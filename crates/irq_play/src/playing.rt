@@ -139,7 +139,7 @@ fn print_done<O: Sink, L: IrqLine>(
 }
 
 /// The result if memory was refused before the play.
-pub fn unplayed(alloc: Global) -> PlayedBoard
+fn unplayed(alloc: Global) -> PlayedBoard
     ensures end { result.end ≡ PlayedEnd.NoMemory Wanted.Making }
     ensures reports { result.reports.reports ≡ [] }
 {

@@ -13,6 +13,7 @@ use board_report::{ReportRoom, hand_on, print_layout};
 use irq_base::Reports;
 use irq_io::{Sink, WriteEnd};
 use irq_play::{PlayedBoard, PlayedEnd, Wanted};
+use std::alloc::Global;
 use text_row::TextRow;
 
 /// A board's play that has ended.
@@ -100,5 +101,16 @@ fn write_play<O: Sink, P: EndedPlay>(board: &Board, play: &P, out: &mut O) -> Wr
     match play.print(out) {
         WriteEnd::Done => hand_on(out),
         WriteEnd::Failed => WriteEnd::Failed,
+    }
+}
+
+/// The result of a play that was refused memory before its first step.
+pub fn unplayed(alloc: Global) -> PlayedBoard
+    ensures end { result.end ≡ PlayedEnd.NoMemory Wanted.Making }
+    ensures reports { result.reports.reports ≡ [] }
+{
+    PlayedBoard {
+        end: PlayedEnd::NoMemory(Wanted::Making),
+        reports: Reports::new(alloc),
     }
 }

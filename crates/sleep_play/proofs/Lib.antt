@@ -1,2 +1,3 @@
+mod StepRows
 mod Moved
 mod Finished

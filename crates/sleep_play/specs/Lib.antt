@@ -1,3 +1,4 @@
 pub mod Rows
+pub mod Printing
 pub mod Headline
 pub mod Played
