@@ -18,6 +18,7 @@ use sleep_play::{NotForSleep, sleep_and_print};
 use std::alloc::Global;
 
 /// `play`: by the stated order; the log is printed, or a summary.
+#[derive(Drop)]
 pub(crate) struct Play {
     pub(crate) summary: bool,
 }
@@ -46,6 +47,7 @@ impl OnBoard for Play {
 }
 
 /// `chained`: behind one demultiplexer.
+#[derive(Drop)]
 pub(crate) struct Chain;
 
 impl OnBoard for Chain {
@@ -75,6 +77,7 @@ impl OnBoard for Chain {
 
 /// `hotplug`: with processors of 1 to 64 vectors that go offline and come online; the placings are
 /// printed too. There are at most 64 events.
+#[derive(Drop)]
 pub(crate) struct Plug<'a, N: Notifier> {
     pub(crate) vectors: u32,
     pub(crate) events: &'a [Event],
@@ -114,6 +117,7 @@ impl<N: Notifier> OnBoard for Plug<'_, N> {
 }
 
 /// `sleep`: with a sleep from which the armed lines wake it.
+#[derive(Drop)]
 pub(crate) struct Sleep<'a> {
     pub(crate) armed: &'a [LineNo],
 }

@@ -50,7 +50,7 @@ pub(crate) trait OnBoard {
 }
 
 /// Reads a board, plays it in this way, and prints it.
-pub(crate) fn take_board<S: Source, O: Sink, P: OnBoard, H: Handler, M: MakesDomainLine>(
+pub(crate) fn take_board<S: Source, O: Sink, P: OnBoard + Drop, H: Handler, M: MakesDomainLine>(
     alloc: Global,
     way: P,
     src: &mut S,
