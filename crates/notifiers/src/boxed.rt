@@ -31,6 +31,9 @@ impl BoxedNotifier {
 }
 
 impl Notifier for BoxedNotifier {
+    ghost answers = { λ b line cpu queues queue.
+        Notifying.post b.notifying line cpu queues queue };
+
     fn queue(&self, line: LineNo, cpu: CpuNo, queues: u32) -> u32 {
         (self.notifying)(line, cpu, queues)
     }

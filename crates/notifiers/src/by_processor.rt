@@ -1,4 +1,6 @@
 //! A notifier that tells nobody.
+ghost use Rattle.std.specs.Prelude.{◌≡◌, ◌%◌};
+
 use crate::notifier::Notifier;
 use irq_base::{CpuNo, LineNo};
 
@@ -8,6 +10,8 @@ use irq_base::{CpuNo, LineNo};
 pub struct ByProcessor;
 
 impl Notifier for ByProcessor {
+    ghost answers = { λ _ _ cpu queues queue. queue ≡ cpu.0 % queues };
+
     fn queue(&self, _line: LineNo, cpu: CpuNo, queues: u32) -> u32 {
         cpu.0 % queues
     }
