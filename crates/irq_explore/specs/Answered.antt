@@ -25,8 +25,8 @@ use Rattle.irq_explore.specs.Searched.{IsSearchOf}
 -- by a search through at most so many states of the line
 module _ (states : ℕ) where
   -- the answer for a line: a shortest history as wanted, its oldest entry first; or that there is
-  -- none; or that there is none of at most so many entries, which is all that a search knows that was
-  -- cut after so many states
+  -- none; or that there is none of at most so many entries, all that a search knows that was cut
+  -- after so many states
   abbrev pub Says : LineDef → Wanted → Answer → Type 0
   Says def wanted (answers.Found es) = IsShortest def wanted (reverse es.items)
   Says def wanted answers.Never = IsNever def wanted
