@@ -21,7 +21,7 @@ use line_makers::{MakesDomainLine, OverDomains};
 use std::alloc::Global;
 use std::sync::Wait;
 use std::thread::Threads;
-use workers::{Gate, Jobs, RoundsEnd, SharedLines, gather, run_rounds, share};
+use workers::{Gate, Jobs, SharedLines, ShiftsEnd, gather, run_shifts, share};
 
 /// The result of a board's run: how it ended, and the histories that were taken out of the lines.
 #[derive(Drop)]
@@ -36,7 +36,7 @@ pub struct RanBoard {
 /// the board's actors step in threads until none can, and prints each line's entries, line by line,
 /// or with `summary` a summary of them. Up to 64 actors have a thread each, if it can be made; more
 /// of them share threads. The board's picks are not used.
-/// Handlers are called as they are due, and the gate is called before each turn of a worker. All
+/// Handlers are called as they are due, and the gate is called before each attempt of a worker. All
 /// memory is taken before the first row is printed.
 pub fn run_and_print<
     R: Threads + Wait + Sync,
@@ -65,14 +65,14 @@ where
     let Ok((layout, lines, mut jobs)) = share_board(rt, alloc, board, maker) else {
         return unrun(alloc);
     };
-    match run_rounds(rt, &lines, &mut jobs, gate, handlers) {
-        RoundsEnd::Quiet | RoundsEnd::Full { .. } => {
+    match run_shifts(rt, &lines, &mut jobs, gate, handlers) {
+        ShiftsEnd::Quiet | ShiftsEnd::Full { .. } => {
             match settle(alloc, board, layout, lines, jobs, handlers) {
                 Ok((system, end)) => report_run(alloc, board, summary, system, end, out),
                 Err(NoMemory) => unrun(alloc),
             }
         }
-        RoundsEnd::NoMemory => unrun(alloc),
+        ShiftsEnd::NoMemory => unrun(alloc),
     }
 }
 

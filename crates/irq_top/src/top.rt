@@ -33,10 +33,10 @@ use workers::Gate;
 /// wake it; `check` reads a board and a log of it, and prints the judgement of the log; `gen N`
 /// makes a board, plays it, and prints its summary.
 ///
-/// `run` alone waits, and passes the gate before each turn of a worker: the other commands are done
-/// by functions that don't wait, and so return. Other words are refused before anything is read.
-/// The maker makes the lines that are played, run and checked. What went wrong is told on `err`, in
-/// one row; a fault of `err` itself changes nothing.
+/// `run` alone waits, and passes the gate before each attempt of a worker: the other commands are
+/// done by functions that don't wait, and so return. Other words are refused before anything is
+/// read. The maker makes the lines that are played, run and checked. What went wrong is told on
+/// `err`, in one row; a fault of `err` itself changes nothing.
 pub fn irq_main<
     R: Threads + Wait + Sync,
     S: Source,

@@ -20,15 +20,15 @@ struct Pair(AtomicU64, AtomicU64);
 /// Who has come so far, on a board with drivers 1 and 2, processors 0 and 1, and devices 1 and 2.
 #[derive(Drop)]
 pub struct Meeting {
-    /// The drivers' turns.
+    /// The drivers' attempts.
     drivers: Pair,
-    /// The processors' turns.
+    /// The processors' attempts.
     cpus: Pair,
     /// The calls of the devices' handlers.
     calls: Pair,
     /// A hold has used up its looks, and none waits any more.
     is_given_up: AtomicBool,
-    /// A turn came with another number than the next.
+    /// An attempt came with another number than the next.
     is_miscounted: AtomicBool,
 }
 
@@ -44,10 +44,10 @@ impl Meeting {
         }
     }
 
-    /// How many turns of the actor have come; 0 if the board lacks it.
-    pub fn turns_of(&self, actor: Actor) -> u64 {
-        match self.turns(actor) {
-            Some(turns) => turns.load(Ordering::SeqCst),
+    /// How many attempts of the actor have come; 0 if the board lacks it.
+    pub fn attempts_of(&self, actor: Actor) -> u64 {
+        match self.attempts(actor) {
+            Some(attempts) => attempts.load(Ordering::SeqCst),
             None => 0,
         }
     }
@@ -62,13 +62,13 @@ impl Meeting {
         self.is_given_up.load(Ordering::SeqCst)
     }
 
-    /// Whether a turn came with another number than the next of its actor.
+    /// Whether an attempt came with another number than the next of its actor.
     pub fn is_miscounted(&self) -> bool {
         self.is_miscounted.load(Ordering::SeqCst)
     }
 
-    /// The count of the actor's turns.
-    fn turns(&self, actor: Actor) -> Option<&AtomicU64> {
+    /// The count of the actor's attempts.
+    fn attempts(&self, actor: Actor) -> Option<&AtomicU64> {
         match actor {
             Actor::Driver(DriverNo(1)) => Some(&self.drivers.0),
             Actor::Driver(DriverNo(2)) => Some(&self.drivers.1),
@@ -102,18 +102,18 @@ impl Meeting {
     }
 }
 
-/// Driver 1's second turn waits for driver 2's first, and that for driver 1's second; each
-/// processor's first turn waits for the third turns of both drivers.
+/// Driver 1's second attempt waits for driver 2's first, and that for driver 1's second; each
+/// processor's first attempt waits for the third attempts of both drivers.
 impl Gate for Meeting {
-    fn pass(&self, actor: Actor, turn: u64) {
-        let Some(turns) = self.turns(actor) else {
+    fn pass(&self, actor: Actor, attempt: u64) {
+        let Some(attempts) = self.attempts(actor) else {
             return;
         };
-        let before = turns.fetch_add(1, Ordering::SeqCst);
-        if before.wrapping_add(1) != turn {
+        let before = attempts.fetch_add(1, Ordering::SeqCst);
+        if before.wrapping_add(1) != attempt {
             self.is_miscounted.store(true, Ordering::SeqCst);
         }
-        match (actor, turn) {
+        match (actor, attempt) {
             (Actor::Driver(DriverNo(1)), 2) => self.hold(&self.drivers.1, 1),
             (Actor::Driver(DriverNo(2)), 1) => self.hold(&self.drivers.0, 2),
             (Actor::Cpu(_), 1) => {

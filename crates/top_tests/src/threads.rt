@@ -145,7 +145,7 @@ fn count(reports: &Reports, counted: Counted) -> u64 {
 }
 
 /// Two lines are run under a gate and handlers that hold one another until the other has come.
-/// Each actor has at least as many turns as entries, and each handler is called once for each of
+/// Each actor has at least as many attempts as entries, and each handler is called once for each of
 /// its device's returns.
 #[test]
 fn two_lines_meet(rt: HostRuntime) -> Result<(), Fail> {
@@ -160,7 +160,7 @@ fn two_lines_meet(rt: HostRuntime) -> Result<(), Fail> {
         Actor::Cpu(CpuNo(0)),
         Actor::Cpu(CpuNo(1)),
     ] {
-        assert!(rt; count(&outcome.reports, Counted::By(actor)) <= meeting.turns_of(actor));
+        assert!(rt; count(&outcome.reports, Counted::By(actor)) <= meeting.attempts_of(actor));
     }
     for device in [DevNo(1), DevNo(2)] {
         let calls = meeting.calls_of(device);

@@ -1,4 +1,4 @@
--- A driver's turns keep that its calls are made in the order of its script.
+-- A driver's attempts keep that its calls are made in the order of its script.
 use Rattle.std.proofs.Common.{◌≡◌, ℕ, zero, suc, ◌+◌, ◌<◌, ◌≤◌, ◌==◌, ◌⊎◌, inl, inr, Bool, true, false, ◌&&◌, cond}
 use Rattle.std.proofs.Common.{IsSomeAnd, Option, Some, None, List, [], ◌∷◌, length, map, filter, take, reverse, set}
 use Rattle.std.proofs.Common.{slice_get, refl, sym, ap, ◌∙◌, subst, arith, add-one}
@@ -30,7 +30,7 @@ use Rattle.board_play.proofs.OfBoard.{has_calls, apart_defs}
 use Rattle.board_play.proofs.Script.{is_on, one_longer, done, IsThe, Current, is_current}
 use Rattle.line_lock.specs.Passes.{LockSeen}
 use Rattle.workers.specs.Fit.{IsPlaceOf, own_past, own_line, own_lines}
-use Rattle.workers.specs.Seen.{SeatSeen}
+use Rattle.workers.specs.Seen.{PostSeen}
 use Rattle.line_scripts.specs.Endings.{completes}
 use Rattle.line_scripts.proofs.LastEntry.{completes_at, last_is, goes, ends}
 use Rattle.workers.proofs.Lists.{at_map, of_map, at_set, there}
@@ -194,39 +194,39 @@ apart_at (x ∷ xs) apart (suc i) zero d e at_i at_k other
     flipped a b h = grind (arith, h)
 apart_at (x ∷ xs) apart (suc i) (suc k) d e at_i at_k other = apart_at xs apart.1 i k d e at_i at_k (λ same. other (ap suc same))
 
-module _ (seats : List SeatSeen) (apart : AreApart (map (λ (x : BoardLine). x.def) (own_lines seats))) (i : ℕ)
-    (s after : SeatSeen) (at_s : slice_get seats i ≡ Some s) (def : after.pass.def ≡ s.pass.def) (e : Entry)
+module _ (posts : List PostSeen) (apart : AreApart (map (λ (x : BoardLine). x.def) (own_lines posts))) (i : ℕ)
+    (s after : PostSeen) (at_s : slice_get posts i ≡ Some s) (def : after.pass.def ≡ s.pass.def) (e : Entry)
     (past : own_past after.pass.knows.mine ≡ e ∷ own_past s.pass.knows.mine) (r : DriverNo) where
-  at_def : (k : ℕ) (t : SeatSeen) → slice_get seats k ≡ Some t → slice_get (map (λ (x : BoardLine). x.def) (own_lines seats)) k ≡ Some t.pass.def
-  at_def k t at = at_map (λ (x : BoardLine). x.def) (own_lines seats) k (own_line t) (at_map own_line seats k t at)
+  at_def : (k : ℕ) (t : PostSeen) → slice_get posts k ≡ Some t → slice_get (map (λ (x : BoardLine). x.def) (own_lines posts)) k ≡ Some t.pass.def
+  at_def k t at = at_map (λ (x : BoardLine). x.def) (own_lines posts) k (own_line t) (at_map own_line posts k t at)
 
-  pub alike_after : AreAlike r (own_lines (set seats i after)) (lines_after (s.pass.def.line, e) (own_lines seats))
+  pub alike_after : AreAlike r (own_lines (set posts i after)) (lines_after (s.pass.def.line, e) (own_lines posts))
   alike_after k x at =
-      let t = of_map own_line (set seats i after) k x at in
-      subst (λ (y : BoardLine). (z : BoardLine) × (slice_get (lines_after (s.pass.def.line, e) (own_lines seats)) k
+      let t = of_map own_line (set posts i after) k x at in
+      subst (λ (y : BoardLine). (z : BoardLine) × (slice_get (lines_after (s.pass.def.line, e) (own_lines posts)) k
       ≡ Some z) × (y.def ≡ z.def) × (entries_by r y.past ≡ entries_by r z.past)) t.2
-      (by_place t.0 (at_set seats i after k t.0 t.1))
+      (by_place t.0 (at_set posts i after k t.0 t.1))
     where
       m : Move
       m = (s.pass.def.line, e)
 
-      by_place : (t : SeatSeen) → ((k ≡ i) × (t ≡ after)) ⊎ ((k ≡ i → ⊥) × (slice_get seats k ≡ Some t))
-          → (z : BoardLine) × (slice_get (lines_after (s.pass.def.line, e) (own_lines seats)) k ≡ Some z)
+      by_place : (t : PostSeen) → ((k ≡ i) × (t ≡ after)) ⊎ ((k ≡ i → ⊥) × (slice_get posts k ≡ Some t))
+          → (z : BoardLine) × (slice_get (lines_after (s.pass.def.line, e) (own_lines posts)) k ≡ Some z)
           × (t.pass.def ≡ z.def) × (entries_by r (own_past t.pass.knows.mine) ≡ entries_by r z.past)
       by_place t (inl here) = (
         line_after (s.pass.def.line, e) (own_line s),
-        at_map (line_after (s.pass.def.line, e)) (own_lines seats) k (own_line s) (at_map own_line seats k s (ap (λ (n : ℕ). slice_get seats n) here.0 ∙ at_s)),
-        ap (λ (y : SeatSeen). y.pass.def) here.1 ∙ def,
-        ap (λ (y : SeatSeen). entries_by r (own_past y.pass.knows.mine)) here.1
+        at_map (line_after (s.pass.def.line, e)) (own_lines posts) k (own_line s) (at_map own_line posts k s (ap (λ (n : ℕ). slice_get posts n) here.0 ∙ at_s)),
+        ap (λ (y : PostSeen). y.pass.def) here.1 ∙ def,
+        ap (λ (y : PostSeen). entries_by r (own_past y.pass.knows.mine)) here.1
             ∙ (ap (entries_by r) past ∙ sym (ap (λ (b : Bool). entries_by r
             (cond b (e ∷ own_past s.pass.knows.mine) (own_past s.pass.knows.mine)))
             (same_self_line s.pass.def.line))),
       )
       by_place t (inr other) = (
         line_after (s.pass.def.line, e) (own_line t),
-        at_map (line_after (s.pass.def.line, e)) (own_lines seats) k (own_line t) (at_map own_line seats k t other.1),
+        at_map (line_after (s.pass.def.line, e)) (own_lines posts) k (own_line t) (at_map own_line posts k t other.1),
         refl,
         sym (ap (λ (b : Bool). entries_by r (cond b (e ∷ own_past t.pass.knows.mine) (own_past t.pass.knows.mine)))
-            (apart_at (map (λ (x : BoardLine). x.def) (own_lines seats)) apart i k s.pass.def t.pass.def
+            (apart_at (map (λ (x : BoardLine). x.def) (own_lines posts)) apart i k s.pass.def t.pass.def
             (at_def i s at_s) (at_def k t other.1) other.0)),
       )

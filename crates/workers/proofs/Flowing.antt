@@ -23,17 +23,17 @@ use Rattle.irq_model.specs.Rounds.{closes, cpu_of_handle, flow, has_flow}
 use Rattle.line_lock.specs.Passes.{LockSeen}
 use Rattle.line_lock.specs.declared.view.Known.{Known}
 use Rattle.line_lock.specs.declared.view.Placed.{Placed}
-use Rattle.workers.specs.Fit.{Sits, AreSeated, own_past, HasOneFlow, IsInFlow, HasItsFlow}
-use Rattle.workers.specs.Seen.{SeatSeen, JobSeen}
+use Rattle.workers.specs.Fit.{IsPost, ArePosted, own_past, HasOneFlow, IsInFlow, HasItsFlow}
+use Rattle.workers.specs.Seen.{PostSeen, JobSeen}
 use Rattle.workers.specs.Tries.{Gains, IsFull, Tries, rests_after}
-use Rattle.workers.specs.Turns.{turn_of, is_not_yet, StepsSeat, flow_after, KeepsSeats, FullIsSo, StepsCpu}
-use Rattle.workers.specs.declared.turns.Turn.{Turn}
-use Rattle.workers.specs.declared.turns.Turn.TheVariants as turns
+use Rattle.workers.specs.Attempts.{attempt_of, is_not_yet, StepsPost, flow_after, KeepsPosts, FullIsSo, StepsCpu}
+use Rattle.workers.specs.declared.attempts.Attempt.{Attempt}
+use Rattle.workers.specs.declared.attempts.Attempt.TheVariants as attempts
 use Rattle.workers.proofs.InFlow.{flow_by, handle_cpu}
 use Rattle.workers.proofs.Lists.{at_set, set_there, two}
 use Rattle.workers.proofs.Manning.{map_more}
 use Rattle.workers.proofs.Rooms.{room_after, room_as}
-use Rattle.workers.proofs.Turning.{still_seated}
+use Rattle.workers.proofs.Attempting.{still_posted}
 
 -- one more entry of one's own
 pub own_more : (old new : List Placed) (n : ℕ) (e : Entry) → new ≡ old ++ record { place = n; entry = e } ∷ [] → own_past new ≡ e ∷ own_past old
@@ -41,47 +41,47 @@ own_more old new n e is =
     ap own_past is ∙ (ap reverse (map_more (λ (x : Placed). x.entry) old (record { place = n; entry = e }))
     ∙ reverse-append (map (λ (x : Placed). x.entry) old) (e ∷ []))
 
-pub keeps_seats : (lines : List LockSeen) (place : ℕ) (turn : Turn) (old new : JobSeen) → AreSeated lines old
-    → StepsSeat lines place turn old new → KeepsSeats lines old new
-keeps_seats lines place turn old new seated s =
+pub keeps_posts : (lines : List LockSeen) (place : ℕ) (attempt : Attempt) (old new : JobSeen) → ArePosted lines old
+    → StepsPost lines place attempt old new → KeepsPosts lines old new
+keeps_posts lines place attempt old new posted s =
     record {
       actor = ap (λ (j : JobSeen). j.actor) s.is;
       first = ap (λ (j : JobSeen). j.first) s.is;
-      as_many = ap (λ (j : JobSeen). length j.seats) s.is ∙ length-set old.seats place s.after;
-      seated = still_seated lines place turn old new seated s;
+      as_many = ap (λ (j : JobSeen). length j.posts) s.is ∙ length-set old.posts place s.after;
+      posted = still_posted lines place attempt old new posted s;
     }
 
 -- the pass that was tried, and the others
-pub seat_now : (lines : List LockSeen) (place : ℕ) (turn : Turn) (old new : JobSeen)
-    (s : StepsSeat lines place turn old new) (i : ℕ) (t : SeatSeen) → slice_get new.seats i ≡ Some t
-    → ((i ≡ place) × (t ≡ s.after)) ⊎ ((i ≡ place → ⊥) × (slice_get old.seats i ≡ Some t))
-seat_now lines place turn old new s i t at = at_set old.seats place s.after i t (ap (λ (j : JobSeen). slice_get j.seats i) (sym s.is) ∙ at)
+pub post_now : (lines : List LockSeen) (place : ℕ) (attempt : Attempt) (old new : JobSeen)
+    (s : StepsPost lines place attempt old new) (i : ℕ) (t : PostSeen) → slice_get new.posts i ≡ Some t
+    → ((i ≡ place) × (t ≡ s.after)) ⊎ ((i ≡ place → ⊥) × (slice_get old.posts i ≡ Some t))
+post_now lines place attempt old new s i t at = at_set old.posts place s.after i t (ap (λ (j : JobSeen). slice_get j.posts i) (sym s.is) ∙ at)
 
-pub seat_there : (lines : List LockSeen) (place : ℕ) (turn : Turn) (old new : JobSeen)
-    (s : StepsSeat lines place turn old new) → slice_get new.seats place ≡ Some s.after
-seat_there lines place turn old new s = ap (λ (j : JobSeen). slice_get j.seats place) s.is ∙ set_there old.seats place s.after s.seat s.at_seat
+pub post_there : (lines : List LockSeen) (place : ℕ) (attempt : Attempt) (old new : JobSeen)
+    (s : StepsPost lines place attempt old new) → slice_get new.posts place ≡ Some s.after
+post_there lines place attempt old new s = ap (λ (j : JobSeen). slice_get j.posts place) s.is ∙ set_there old.posts place s.after s.post s.at_post
 
--- a seat rests only if nothing was due
+-- a post rests only if nothing was due
 never_rests : (tried : Result (Option Entry) StepRefused) → (tried ≡ Ok None → ⊥) → rests_after tried ≡ false
 never_rests (Ok (Some e)) not = refl
 never_rests (Ok None) not = absurd (not refl)
 never_rests (Err (refusals.Full len)) not = refl
 never_rests (Err refusals.NoMemory) not = refl
 
-pub full_is_so : (lines : List LockSeen) (place : ℕ) (turn : Turn) (old new : JobSeen) → StepsSeat lines place turn old new → FullIsSo new turn
-full_is_so lines place turn old new s = subst (λ (t : Turn). FullIsSo new t) (sym s.told) (by_tried s.tried s.tries)
+pub full_is_so : (lines : List LockSeen) (place : ℕ) (attempt : Attempt) (old new : JobSeen) → StepsPost lines place attempt old new → FullIsSo new attempt
+full_is_so lines place attempt old new s = subst (λ (t : Attempt). FullIsSo new t) (sym s.told) (by_tried s.tried s.tries)
   where
     by_tried : (tried : Result (Option Entry) StepRefused)
-        → Tries s.line.def old.actor s.seat.pass.knows tried s.after.pass.knows
-        → FullIsSo new (turn_of s.line.def.line tried)
+        → Tries s.line.def old.actor s.post.pass.knows tried s.after.pass.knows
+        → FullIsSo new (attempt_of s.line.def.line tried)
     by_tried (Ok (Some e)) t = tt
     by_tried (Ok None) t = tt
     by_tried (Err (refusals.Full len)) t =
-        let def : s.after.pass.def ≡ s.line.def = s.sits.of_line.1 in
+        let def : s.after.pass.def ≡ s.line.def = s.is_post.of_line.1 in
         record {
           place = place;
-          seat = s.after;
-          at = seat_there lines place turn old new s;
+          post = s.after;
+          at = post_there lines place attempt old new s;
           number = ap (λ (d : LineDef). d.line) def;
           is = subst (λ (d : LineDef). IsFull d new.actor s.after.pass.knows) (sym def)
               (subst (λ (a : Actor). IsFull s.line.def a s.after.pass.knows) (sym (ap (λ (j : JobSeen). j.actor) s.is))
@@ -92,13 +92,13 @@ full_is_so lines place turn old new s = subst (λ (t : Turn). FullIsSo new t) (s
 
 -- ---- what was tried
 
-pub moved_is : (n : LineNo) (e : Entry) (tried : Result (Option Entry) StepRefused) → turns.Moved e ≡ turn_of n tried → tried ≡ Ok (Some e)
+pub moved_is : (n : LineNo) (e : Entry) (tried : Result (Option Entry) StepRefused) → attempts.Moved e ≡ attempt_of n tried → tried ≡ Ok (Some e)
 moved_is n e (Ok (Some f)) is = let same : e ≡ f = cc in ap (λ (x : Entry). Ok (Some x)) (sym same)
 moved_is n e (Ok None) is = cc
 moved_is n e (Err (refusals.Full len)) is = cc
 moved_is n e (Err refusals.NoMemory) is = cc
 
-pub not_yet_is : (n : LineNo) (tried : Result (Option Entry) StepRefused) → turns.NotYet ≡ turn_of n tried → tried ≡ Ok None
+pub not_yet_is : (n : LineNo) (tried : Result (Option Entry) StepRefused) → attempts.NotYet ≡ attempt_of n tried → tried ≡ Ok None
 not_yet_is n (Ok (Some f)) is = cc
 not_yet_is n (Ok None) is = refl
 not_yet_is n (Err (refusals.Full len)) is = cc
@@ -106,12 +106,12 @@ not_yet_is n (Err refusals.NoMemory) is = cc
 
 -- without an entry the pass's own stay
 pub nothing_gained : (def : LineDef) (who : Actor) (n : LineNo) (old new : Known)
-    (tried : Result (Option Entry) StepRefused) (turn : Turn) → turn ≡ turn_of n tried
-    → ((e : Entry) → turn ≡ turns.Moved e → ⊥) → Tries def who old tried new → new.mine ≡ old.mine
-nothing_gained def who n old new (Ok (Some e)) turn told not t = absurd (not e told)
-nothing_gained def who n old new (Ok None) turn told not t = t.came.1
-nothing_gained def who n old new (Err (refusals.Full len)) turn told not t = t.came.2
-nothing_gained def who n old new (Err refusals.NoMemory) turn told not t = t.came
+    (tried : Result (Option Entry) StepRefused) (attempt : Attempt) → attempt ≡ attempt_of n tried
+    → ((e : Entry) → attempt ≡ attempts.Moved e → ⊥) → Tries def who old tried new → new.mine ≡ old.mine
+nothing_gained def who n old new (Ok (Some e)) attempt told not t = absurd (not e told)
+nothing_gained def who n old new (Ok None) attempt told not t = t.came.1
+nothing_gained def who n old new (Err (refusals.Full len)) attempt told not t = t.came.2
+nothing_gained def who n old new (Err refusals.NoMemory) attempt told not t = t.came
 
 -- ---- flows
 
@@ -140,41 +140,41 @@ flow_on def e past h c is_h is_c none = (
     last_before : List Entry → Option Entry
     last_before es = last_of (λ f. is_handle f || closes def f) es
 
-module _ (lines : List LockSeen) (place : ℕ) (old mid : JobSeen) (seated : AreSeated lines old) (one : HasOneFlow old)
+module _ (lines : List LockSeen) (place : ℕ) (old mid : JobSeen) (posted : ArePosted lines old) (one : HasOneFlow old)
     (its : HasItsFlow old) (free : (i : ℕ) → old.flow ≡ Some i → i ≡ place) where
-  others_flow : (i : ℕ) (t : SeatSeen) → (i ≡ place → ⊥) → slice_get old.seats i ≡ Some t → has_flow t.pass.def (own_past t.pass.knows.mine) ≡ false
+  others_flow : (i : ℕ) (t : PostSeen) → (i ≡ place → ⊥) → slice_get old.posts i ≡ Some t → has_flow t.pass.def (own_past t.pass.knows.mine) ≡ false
   others_flow i t other at = one i t at (λ is. other (free i is))
 
-  module _ (turn : Turn) (s : StepsSeat lines place turn old mid) where
-    seat_def : s.seat.pass.def ≡ s.line.def
-    seat_def = (subst (λ (o : Option LockSeen). IsSomeAnd o (λ l. Sits l old.actor s.seat)) s.at_line (seated place s.seat s.at_seat)).of_line.1
+  module _ (attempt : Attempt) (s : StepsPost lines place attempt old mid) where
+    post_def : s.post.pass.def ≡ s.line.def
+    post_def = (subst (λ (o : Option LockSeen). IsSomeAnd o (λ l. IsPost l old.actor s.post)) s.at_line (posted place s.post s.at_post)).of_line.1
 
-    seat_actor : s.seat.pass.knows.actor ≡ Some old.actor
-    seat_actor = (subst (λ (o : Option LockSeen). IsSomeAnd o (λ l. Sits l old.actor s.seat)) s.at_line (seated place s.seat s.at_seat)).actor
+    post_actor : s.post.pass.knows.actor ≡ Some old.actor
+    post_actor = (subst (λ (o : Option LockSeen). IsSomeAnd o (λ l. IsPost l old.actor s.post)) s.at_line (posted place s.post s.at_post)).actor
 
     -- when no entry was added
-    pub cpu_rests : ((e : Entry) → turn ≡ turns.Moved e → ⊥) → StepsCpu lines place turn old mid
+    pub cpu_rests : ((e : Entry) → attempt ≡ attempts.Moved e → ⊥) → StepsCpu lines place attempt old mid
     cpu_rests not =
         record {
-          keeps = keeps_seats lines place turn old mid seated s;
+          keeps = keeps_posts lines place attempt old mid posted s;
           flow = one_flow;
           its = still_its;
           moves = λ was is. due was (not_yet_is s.line.def.line s.tried (sym is ∙ s.told));
           rests = rests;
           still = λ is. ap (λ (j : JobSeen). j.flow) s.is;
           others = others;
-          full = full_is_so lines place turn old mid s;
-          room = room_after lines place turn old mid seated s;
+          full = full_is_so lines place attempt old mid s;
+          room = room_after lines place attempt old mid posted s;
         }
       where
         one_flow : HasOneFlow mid
-        one_flow i t at none = elim (seat_now lines place turn old mid s i t at) [
+        one_flow i t at none = elim (post_now lines place attempt old mid s i t at) [
           | inl here ↦
-              let mine = nothing_gained s.line.def old.actor s.line.def.line s.seat.pass.knows s.after.pass.knows s.tried turn s.told not s.tries in
-              ap (λ (x : SeatSeen). has_flow x.pass.def (own_past x.pass.knows.mine)) here.1
-              ∙ (ap (λ (d : LineDef). has_flow d (own_past s.after.pass.knows.mine)) (s.sits.of_line.1 ∙ sym seat_def)
-              ∙ (ap (λ (ps : List Placed). has_flow s.seat.pass.def (own_past ps)) mine
-              ∙ one place s.seat s.at_seat (λ is. none (ap (λ (j : JobSeen). j.flow) s.is ∙ (is ∙ ap (λ (k : ℕ). Some k) (sym here.0))))))
+              let mine = nothing_gained s.line.def old.actor s.line.def.line s.post.pass.knows s.after.pass.knows s.tried attempt s.told not s.tries in
+              ap (λ (x : PostSeen). has_flow x.pass.def (own_past x.pass.knows.mine)) here.1
+              ∙ (ap (λ (d : LineDef). has_flow d (own_past s.after.pass.knows.mine)) (s.is_post.of_line.1 ∙ sym post_def)
+              ∙ (ap (λ (ps : List Placed). has_flow s.post.pass.def (own_past ps)) mine
+              ∙ one place s.post s.at_post (λ is. none (ap (λ (j : JobSeen). j.flow) s.is ∙ (is ∙ ap (λ (k : ℕ). Some k) (sym here.0))))))
           | inr other ↦ others_flow i t other.0 other.1
         ]
 
@@ -182,9 +182,9 @@ module _ (lines : List LockSeen) (place : ℕ) (old mid : JobSeen) (seated : Are
         due : old.flow ≡ Some place → s.tried ≡ Ok None → ⊥
         due was none =
             let f = its place was in
-            let same : f.1 ≡ s.seat = the_same f.1 s.seat (sym f.3 ∙ s.at_seat) in
-            s.flows (ap (λ (x : SeatSeen). x.rests) (sym same) ∙ f.4) f.0 (seat_actor ∙ ap (λ (a : Actor). Some a) f.2)
-            (subst (λ (d : LineDef). IsInFlow d f.0 s.seat.pass.knows) seat_def (subst (λ (x : SeatSeen). IsInFlow x.pass.def f.0 x.pass.knows) same f.5)) none
+            let same : f.1 ≡ s.post = the_same f.1 s.post (sym f.3 ∙ s.at_post) in
+            s.flows (ap (λ (x : PostSeen). x.rests) (sym same) ∙ f.4) f.0 (post_actor ∙ ap (λ (a : Actor). Some a) f.2)
+            (subst (λ (d : LineDef). IsInFlow d f.0 s.post.pass.knows) post_def (subst (λ (x : PostSeen). IsInFlow x.pass.def f.0 x.pass.knows) same f.5)) none
 
         still_its : HasItsFlow mid
         still_its i is =
@@ -192,39 +192,39 @@ module _ (lines : List LockSeen) (place : ℕ) (old mid : JobSeen) (seated : Are
             let here : i ≡ place = free i was in
             let at_place : old.flow ≡ Some place = was ∙ ap (λ (k : ℕ). Some k) here in
             let f = its place at_place in
-            let same : f.1 ≡ s.seat = the_same f.1 s.seat (sym f.3 ∙ s.at_seat) in
-            let mine = nothing_gained s.line.def old.actor s.line.def.line s.seat.pass.knows s.after.pass.knows s.tried turn s.told not s.tries in (
+            let same : f.1 ≡ s.post = the_same f.1 s.post (sym f.3 ∙ s.at_post) in
+            let mine = nothing_gained s.line.def old.actor s.line.def.line s.post.pass.knows s.after.pass.knows s.tried attempt s.told not s.tries in (
               f.0,
               s.after,
               ap (λ (j : JobSeen). j.actor) s.is ∙ f.2,
-              ap (λ (k : ℕ). slice_get mid.seats k) here ∙ seat_there lines place turn old mid s,
+              ap (λ (k : ℕ). slice_get mid.posts k) here ∙ post_there lines place attempt old mid s,
               s.rests ∙ never_rests s.tried (due at_place),
-              ap (λ (d : LineDef). flow d (own_past s.after.pass.knows.mine)) (s.sits.of_line.1 ∙ sym seat_def)
-                  ∙ (ap (λ (ps : List Placed). flow s.seat.pass.def (own_past ps)) mine
-                  ∙ subst (λ (x : SeatSeen). IsInFlow x.pass.def f.0 x.pass.knows) same f.5),
+              ap (λ (d : LineDef). flow d (own_past s.after.pass.knows.mine)) (s.is_post.of_line.1 ∙ sym post_def)
+                  ∙ (ap (λ (ps : List Placed). flow s.post.pass.def (own_past ps)) mine
+                  ∙ subst (λ (x : PostSeen). IsInFlow x.pass.def f.0 x.pass.knows) same f.5),
             )
 
-        rests : turn ≡ turns.NotYet → (t : SeatSeen) → slice_get mid.seats place ≡ Some t → t.rests ≡ true
-        rests is t at = elim (seat_now lines place turn old mid s place t at) [
-          | inl here ↦ ap (λ (x : SeatSeen). x.rests) here.1 ∙ (s.rests ∙ ap rests_after (not_yet_is s.line.def.line s.tried (sym is ∙ s.told)))
+        rests : attempt ≡ attempts.NotYet → (t : PostSeen) → slice_get mid.posts place ≡ Some t → t.rests ≡ true
+        rests is t at = elim (post_now lines place attempt old mid s place t at) [
+          | inl here ↦ ap (λ (x : PostSeen). x.rests) here.1 ∙ (s.rests ∙ ap rests_after (not_yet_is s.line.def.line s.tried (sym is ∙ s.told)))
           | inr other ↦ absurd (other.0 refl)
         ]
 
-        others : (i : ℕ) (t : SeatSeen) → (i ≡ place → ⊥) → slice_get mid.seats i ≡ Some t → slice_get old.seats i ≡ Some t
-        others i t apart at = elim (seat_now lines place turn old mid s i t at) [ inl here ↦ absurd (apart here.0) | inr other ↦ other.1 ]
+        others : (i : ℕ) (t : PostSeen) → (i ≡ place → ⊥) → slice_get mid.posts i ≡ Some t → slice_get old.posts i ≡ Some t
+        others i t apart at = elim (post_now lines place attempt old mid s i t at) [ inl here ↦ absurd (apart here.0) | inr other ↦ other.1 ]
 
   -- when an entry was added
-  pub cpu_moved : (e : Entry) (s : StepsSeat lines place (turns.Moved e) old mid) (w : FlowKind) (new : JobSeen)
+  pub cpu_moved : (e : Entry) (s : StepsPost lines place (attempts.Moved e) old mid) (w : FlowKind) (new : JobSeen)
       → w ≡ s.line.def.flow → new ≡ record mid { flow = flow_after w e place mid.flow }
-      → StepsCpu lines place (turns.Moved e) old new
+      → StepsCpu lines place (attempts.Moved e) old new
   cpu_moved e s w new way is =
-      let k = keeps_seats lines place (turns.Moved e) old mid seated s in
+      let k = keeps_posts lines place (attempts.Moved e) old mid posted s in
       record {
         keeps = record {
           actor = ap (λ (j : JobSeen). j.actor) is ∙ k.actor;
           first = ap (λ (j : JobSeen). j.first) is ∙ k.first;
-          as_many = ap (λ (j : JobSeen). length j.seats) is ∙ k.as_many;
-          seated = subst (λ (j : JobSeen). AreSeated lines j) (sym is) k.seated;
+          as_many = ap (λ (j : JobSeen). length j.posts) is ∙ k.as_many;
+          posted = subst (λ (j : JobSeen). ArePosted lines j) (sym is) k.posted;
         };
         flow = one_flow;
         its = new_its;
@@ -233,65 +233,65 @@ module _ (lines : List LockSeen) (place : ℕ) (old mid : JobSeen) (seated : Are
         still = λ h. cc;
         others = others;
         full = tt;
-        room = room_as (turns.Moved e) old mid new (ap (λ (j : JobSeen). j.seats) is) (room_after lines place (turns.Moved e) old mid seated s);
+        room = room_as (attempts.Moved e) old mid new (ap (λ (j : JobSeen). j.posts) is) (room_after lines place (attempts.Moved e) old mid posted s);
       }
     where
-      seat_at : (i : ℕ) (t : SeatSeen) → slice_get new.seats i ≡ Some t → ((i ≡ place) × (t ≡ s.after)) ⊎ ((i ≡ place → ⊥) × (slice_get old.seats i ≡ Some t))
-      seat_at i t at = seat_now lines place (turns.Moved e) old mid s i t (ap (λ (j : JobSeen). slice_get j.seats i) (sym is) ∙ at)
+      post_at : (i : ℕ) (t : PostSeen) → slice_get new.posts i ≡ Some t → ((i ≡ place) × (t ≡ s.after)) ⊎ ((i ≡ place → ⊥) × (slice_get old.posts i ≡ Some t))
+      post_at i t at = post_now lines place (attempts.Moved e) old mid s i t (ap (λ (j : JobSeen). slice_get j.posts i) (sym is) ∙ at)
 
-      others : (i : ℕ) (t : SeatSeen) → (i ≡ place → ⊥) → slice_get new.seats i ≡ Some t → slice_get old.seats i ≡ Some t
-      others i t apart at = elim (seat_at i t at) [ inl here ↦ absurd (apart here.0) | inr other ↦ other.1 ]
+      others : (i : ℕ) (t : PostSeen) → (i ≡ place → ⊥) → slice_get new.posts i ≡ Some t → slice_get old.posts i ≡ Some t
+      others i t apart at = elim (post_at i t at) [ inl here ↦ absurd (apart here.0) | inr other ↦ other.1 ]
 
-      gains : Gains s.line.def old.actor s.seat.pass.knows e s.after.pass.knows
-      gains = (subst (λ (r : Result (Option Entry) StepRefused). Tries s.line.def old.actor s.seat.pass.knows r
+      gains : Gains s.line.def old.actor s.post.pass.knows e s.after.pass.knows
+      gains = (subst (λ (r : Result (Option Entry) StepRefused). Tries s.line.def old.actor s.post.pass.knows r
           s.after.pass.knows) (moved_is s.line.def.line e s.tried s.told) s.tries).came
 
-      def_is : s.after.pass.def ≡ s.seat.pass.def
-      def_is = s.sits.of_line.1 ∙ sym (seat_def (turns.Moved e) s)
+      def_is : s.after.pass.def ≡ s.post.pass.def
+      def_is = s.is_post.of_line.1 ∙ sym (post_def (attempts.Moved e) s)
 
-      flow_is : (h c : Bool) → is_handle e ≡ h → closes s.seat.pass.def e ≡ c → new.flow ≡ cond h (Some place) (cond c None old.flow)
+      flow_is : (h c : Bool) → is_handle e ≡ h → closes s.post.pass.def e ≡ c → new.flow ≡ cond h (Some place) (cond c None old.flow)
       flow_is h c is_h is_c =
           ap (λ (j : JobSeen). j.flow) is
-          ∙ (ap (λ (v : FlowKind). flow_after v e place mid.flow) (way ∙ ap (λ (d : LineDef). d.flow) (sym (seat_def (turns.Moved e) s)))
-          ∙ (ap (λ (b : Bool). cond b (Some place) (cond (closes s.seat.pass.def e) None mid.flow)) is_h
+          ∙ (ap (λ (v : FlowKind). flow_after v e place mid.flow) (way ∙ ap (λ (d : LineDef). d.flow) (sym (post_def (attempts.Moved e) s)))
+          ∙ (ap (λ (b : Bool). cond b (Some place) (cond (closes s.post.pass.def e) None mid.flow)) is_h
           ∙ (ap (λ (b : Bool). cond h (Some place) (cond b None mid.flow)) is_c
           ∙ ap (λ (j : JobSeen). cond h (Some place) (cond c None j.flow)) s.is)))
 
-      past_is : own_past s.after.pass.knows.mine ≡ e ∷ own_past s.seat.pass.knows.mine
-      past_is = own_more s.seat.pass.knows.mine s.after.pass.knows.mine (length gains.history) e gains.mine
+      past_is : own_past s.after.pass.knows.mine ≡ e ∷ own_past s.post.pass.knows.mine
+      past_is = own_more s.post.pass.knows.mine s.after.pass.knows.mine (length gains.history) e gains.mine
 
-      here_flow : (h c : Bool) → is_handle e ≡ h → closes s.seat.pass.def e ≡ c → (new.flow ≡ Some place → ⊥)
-          → has_flow s.seat.pass.def (e ∷ own_past s.seat.pass.knows.mine) ≡ false
+      here_flow : (h c : Bool) → is_handle e ≡ h → closes s.post.pass.def e ≡ c → (new.flow ≡ Some place → ⊥)
+          → has_flow s.post.pass.def (e ∷ own_past s.post.pass.knows.mine) ≡ false
       here_flow true c is_h is_c none = absurd (none (flow_is true c is_h is_c))
-      here_flow false true is_h is_c none = (flow_on s.seat.pass.def e (own_past s.seat.pass.knows.mine) false true is_h is_c refl).0 refl
-      here_flow false false is_h is_c none = (flow_on s.seat.pass.def e (own_past s.seat.pass.knows.mine) false false
-          is_h is_c refl).1 refl ∙ one place s.seat s.at_seat (λ was. none (flow_is false false is_h is_c ∙ was))
+      here_flow false true is_h is_c none = (flow_on s.post.pass.def e (own_past s.post.pass.knows.mine) false true is_h is_c refl).0 refl
+      here_flow false false is_h is_c none = (flow_on s.post.pass.def e (own_past s.post.pass.knows.mine) false false
+          is_h is_c refl).1 refl ∙ one place s.post s.at_post (λ was. none (flow_is false false is_h is_c ∙ was))
 
-      flow_now : (h c : Bool) → is_handle e ≡ h → closes s.seat.pass.def e ≡ c → flow s.after.pass.def (own_past s.after.pass.knows.mine)
-          ≡ cpu_of_handle (cond (h || c) (Some e) (last_of (λ f. is_handle f || closes s.seat.pass.def f) (own_past s.seat.pass.knows.mine)))
+      flow_now : (h c : Bool) → is_handle e ≡ h → closes s.post.pass.def e ≡ c → flow s.after.pass.def (own_past s.after.pass.knows.mine)
+          ≡ cpu_of_handle (cond (h || c) (Some e) (last_of (λ f. is_handle f || closes s.post.pass.def f) (own_past s.post.pass.knows.mine)))
       flow_now h c is_h is_c =
           ap (λ (d : LineDef). flow d (own_past s.after.pass.knows.mine)) def_is
-          ∙ (ap (λ (es : List Entry). flow s.seat.pass.def es) past_is
-          ∙ flow_by s.seat.pass.def e (own_past s.seat.pass.knows.mine) h c is_h is_c)
+          ∙ (ap (λ (es : List Entry). flow s.post.pass.def es) past_is
+          ∙ flow_by s.post.pass.def e (own_past s.post.pass.knows.mine) h c is_h is_c)
 
       -- the pass that was tried, with such a flow
       its_at : (c : CpuNo) (i : ℕ) → i ≡ place → old.actor ≡ actors.Cpu c → flow s.after.pass.def (own_past s.after.pass.knows.mine) ≡ Some c
-          → (c : CpuNo) × (t : SeatSeen) × (new.actor ≡ actors.Cpu c) × (slice_get new.seats i ≡ Some t)
+          → (c : CpuNo) × (t : PostSeen) × (new.actor ≡ actors.Cpu c) × (slice_get new.posts i ≡ Some t)
           × (t.rests ≡ false) × IsInFlow t.pass.def c t.pass.knows
       its_at c i here actor its_flow = (
         c,
         s.after,
         ap (λ (j : JobSeen). j.actor) is ∙ (ap (λ (j : JobSeen). j.actor) s.is ∙ actor),
-        ap (λ (j : JobSeen). slice_get j.seats i) is ∙ (ap (λ (k : ℕ). slice_get mid.seats k) here ∙ seat_there lines place (turns.Moved e) old mid s),
+        ap (λ (j : JobSeen). slice_get j.posts i) is ∙ (ap (λ (k : ℕ). slice_get mid.posts k) here ∙ post_there lines place (attempts.Moved e) old mid s),
         s.rests ∙ ap rests_after (moved_is s.line.def.line e s.tried s.told),
         its_flow,
       )
 
       new_its : HasItsFlow new
-      new_its i at = by_tests (is_handle e) (closes s.seat.pass.def e) refl refl
+      new_its i at = by_tests (is_handle e) (closes s.post.pass.def e) refl refl
         where
-          by_tests : (h c : Bool) → is_handle e ≡ h → closes s.seat.pass.def e ≡ c
-              → (c : CpuNo) × (t : SeatSeen) × (new.actor ≡ actors.Cpu c) × (slice_get new.seats i ≡ Some t)
+          by_tests : (h c : Bool) → is_handle e ≡ h → closes s.post.pass.def e ≡ c
+              → (c : CpuNo) × (t : PostSeen) × (new.actor ≡ actors.Cpu c) × (slice_get new.posts i ≡ Some t)
               × (t.rests ≡ false) × IsInFlow t.pass.def c t.pass.knows
           by_tests true c is_h is_c =
               let f = handle_cpu s.line.def.line e is_h in
@@ -303,37 +303,37 @@ module _ (lines : List LockSeen) (place : ℕ) (old mid : JobSeen) (seated : Are
               let was : old.flow ≡ Some i = sym (flow_is false false is_h is_c) ∙ at in
               let here : i ≡ place = free i was in
               let f = its i was in
-              let same : f.1 ≡ s.seat = the_same f.1 s.seat (sym f.3 ∙ (ap (λ (k : ℕ). slice_get old.seats k) here ∙ s.at_seat)) in
-              its_at f.0 i here f.2 (flow_now false false is_h is_c ∙ subst (λ (x : SeatSeen). IsInFlow x.pass.def f.0 x.pass.knows) same f.5)
+              let same : f.1 ≡ s.post = the_same f.1 s.post (sym f.3 ∙ (ap (λ (k : ℕ). slice_get old.posts k) here ∙ s.at_post)) in
+              its_at f.0 i here f.2 (flow_now false false is_h is_c ∙ subst (λ (x : PostSeen). IsInFlow x.pass.def f.0 x.pass.knows) same f.5)
 
       one_flow : HasOneFlow new
-      one_flow i t at none = elim (seat_at i t at) [
+      one_flow i t at none = elim (post_at i t at) [
         | inl here ↦
-            ap (λ (x : SeatSeen). has_flow x.pass.def (own_past x.pass.knows.mine)) here.1
-            ∙ (ap (λ (d : LineDef). has_flow d (own_past s.after.pass.knows.mine)) def_is ∙ (ap (λ (es : List Entry). has_flow s.seat.pass.def es) past_is
-            ∙ here_flow (is_handle e) (closes s.seat.pass.def e) refl refl (λ its. none (its ∙ ap (λ (k : ℕ). Some k) (sym here.0)))))
+            ap (λ (x : PostSeen). has_flow x.pass.def (own_past x.pass.knows.mine)) here.1
+            ∙ (ap (λ (d : LineDef). has_flow d (own_past s.after.pass.knows.mine)) def_is ∙ (ap (λ (es : List Entry). has_flow s.post.pass.def es) past_is
+            ∙ here_flow (is_handle e) (closes s.post.pass.def e) refl refl (λ its. none (its ∙ ap (λ (k : ℕ). Some k) (sym here.0)))))
         | inr other ↦ others_flow i t other.0 other.1
       ]
 
--- ---- all passes in turn
+-- ---- one pass after another
 
-pub keeps_first : (lines : List LockSeen) (j : JobSeen) → AreSeated lines j → KeepsSeats lines j j
-keeps_first lines j seated = record { actor = refl; first = refl; as_many = refl; seated = seated }
+pub keeps_first : (lines : List LockSeen) (j : JobSeen) → ArePosted lines j → KeepsPosts lines j j
+keeps_first lines j posted = record { actor = refl; first = refl; as_many = refl; posted = posted }
 
-pub keeps_on : (lines : List LockSeen) (a b c : JobSeen) → KeepsSeats lines a b → KeepsSeats lines b c → KeepsSeats lines a c
-keeps_on lines a b c k l = record { actor = l.actor ∙ k.actor; first = l.first ∙ k.first; as_many = l.as_many ∙ k.as_many; seated = l.seated }
+pub keeps_on : (lines : List LockSeen) (a b c : JobSeen) → KeepsPosts lines a b → KeepsPosts lines b c → KeepsPosts lines a c
+keeps_on lines a b c k l = record { actor = l.actor ∙ k.actor; first = l.first ∙ k.first; as_many = l.as_many ∙ k.as_many; posted = l.posted }
 
-pub not_yet_from : (turn : Turn) → is_not_yet turn ≡ true → turn ≡ turns.NotYet
-not_yet_from (turns.Moved e) is = cc
-not_yet_from turns.NotYet is = refl
-not_yet_from (turns.Full line len) is = cc
-not_yet_from turns.NoMemory is = cc
+pub not_yet_from : (attempt : Attempt) → is_not_yet attempt ≡ true → attempt ≡ attempts.NotYet
+not_yet_from (attempts.Moved e) is = cc
+not_yet_from attempts.NotYet is = refl
+not_yet_from (attempts.Full line len) is = cc
+not_yet_from attempts.NoMemory is = cc
 
-pub rests_more : (lines : List LockSeen) (place : ℕ) (turn : Turn) (old new : JobSeen) → turn ≡ turns.NotYet
-    → StepsCpu lines place turn old new → ((i : ℕ) (s : SeatSeen) → i < place → slice_get old.seats i ≡ Some s
+pub rests_more : (lines : List LockSeen) (place : ℕ) (attempt : Attempt) (old new : JobSeen) → attempt ≡ attempts.NotYet
+    → StepsCpu lines place attempt old new → ((i : ℕ) (s : PostSeen) → i < place → slice_get old.posts i ≡ Some s
     → s.rests ≡ true)
-    → (i : ℕ) (s : SeatSeen) → i < place + 1 → slice_get new.seats i ≡ Some s → s.rests ≡ true
-rests_more lines place turn old new not s rest i t less at = elim (two i place less) [
+    → (i : ℕ) (s : PostSeen) → i < place + 1 → slice_get new.posts i ≡ Some s → s.rests ≡ true
+rests_more lines place attempt old new not s rest i t less at = elim (two i place less) [
   | inl before ↦ rest i t before (s.others i t (λ same. omega (arith, same, before)) at)
-  | inr here ↦ s.rests not t (ap (λ (k : ℕ). slice_get new.seats k) (sym here) ∙ at)
+  | inr here ↦ s.rests not t (ap (λ (k : ℕ). slice_get new.posts k) (sym here) ∙ at)
 ]

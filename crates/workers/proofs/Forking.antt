@@ -4,7 +4,7 @@ use Rattle.std.proofs.Common.{◌∷◌, ◌++◌, length, get_or, set, slice_ge
 use Rattle.irq_base.specs.declared.entries.Actor.{Actor}
 use Rattle.line_lock.specs.Passes.{LockSeen, PassSeen}
 use Rattle.workers.specs.Forks.{CanFork, IsForkOf, Gave, IsLeft, is_within, Forks}
-use Rattle.workers.specs.Seen.{SeatSeen}
+use Rattle.workers.specs.Seen.{PostSeen}
 use Rattle.workers.proofs.Lists.{at_snoc, at_set, there_or, length_snoc}
 
 pub before_first : (first k : ℕ) → is_within first first k ≡ false
@@ -28,8 +28,8 @@ none_forked lines first who old =
       left = λ k p at. (p, at, subst (λ (b : Bool). IsLeft b who p p) (sym (before_first first k)) refl);
     }
 
-module _ (lines : List LockSeen) (first i : ℕ) (who : Actor) (old mid new : List PassSeen) (seats : List SeatSeen)
-    (f : Forks lines first i who old mid seats) (from : first ≤ i) where
+module _ (lines : List LockSeen) (first i : ℕ) (who : Actor) (old mid new : List PassSeen) (posts : List PostSeen)
+    (f : Forks lines first i who old mid posts) (from : first ≤ i) where
   -- the first pass at place i hasn't given a pass yet
   pub untouched : (p : PassSeen) → slice_get mid i ≡ Some p → slice_get old i ≡ Some p
   untouched p at =
@@ -37,24 +37,24 @@ module _ (lines : List LockSeen) (first i : ℕ) (who : Actor) (old mid new : Li
       let same : p ≡ q.0 = subst (λ (b : Bool). IsLeft b who q.0 p) (not_yet_in first i) q.2 in
       q.1 ∙ ap (λ (x : PassSeen). Some x) (sym same)
 
-  pub one_more : (l : LockSeen) (p after : PassSeen) (s : SeatSeen) → slice_get lines i ≡ Some l
+  pub one_more : (l : LockSeen) (p after : PassSeen) (s : PostSeen) → slice_get lines i ≡ Some l
       → slice_get mid i ≡ Some p → new ≡ set mid i after → Gave who p after → IsForkOf l who p s
-      → length new ≡ length mid → Forks lines first (i + 1) who old new (seats ++ s ∷ [])
+      → length new ≡ length mid → Forks lines first (i + 1) who old new (posts ++ s ∷ [])
   one_more l p after s at_line at_pass is gave fork long =
       record {
         as_many = long ∙ f.as_many;
-        count = let n = f.count in let m = length_snoc seats s in omega (arith, n, m);
+        count = let n = f.count in let m = length_snoc posts s in omega (arith, n, m);
         each = each;
         left = left;
       }
     where
-      here : first + length seats ≡ i
+      here : first + length posts ≡ i
       here = f.count
 
-      each : (j : ℕ) (t : SeatSeen) → slice_get (seats ++ s ∷ []) j ≡ Some t
+      each : (j : ℕ) (t : PostSeen) → slice_get (posts ++ s ∷ []) j ≡ Some t
           → (l : LockSeen) × (p : PassSeen) × (slice_get lines (first + j) ≡ Some l)
           × (slice_get old (first + j) ≡ Some p) × IsForkOf l who p t
-      each j t at = elim (at_snoc seats s j t at) [
+      each j t at = elim (at_snoc posts s j t at) [
         | inl before ↦ f.each j t before
         | inr now ↦
             let place : i ≡ first + j = omega (arith, here, now.0) in (
@@ -62,7 +62,7 @@ module _ (lines : List LockSeen) (first i : ℕ) (who : Actor) (old mid new : Li
               p,
               ap (λ (n : ℕ). slice_get lines n) (sym place) ∙ at_line,
               ap (λ (n : ℕ). slice_get old n) (sym place) ∙ untouched p at_pass,
-              subst (λ (x : SeatSeen). IsForkOf l who p x) now.1 fork,
+              subst (λ (x : PostSeen). IsForkOf l who p x) now.1 fork,
             )
       ]
 
@@ -78,8 +78,8 @@ module _ (lines : List LockSeen) (first i : ℕ) (who : Actor) (old mid new : Li
       ]
 
 -- what the loop meets at a place
-module _ (lines : List LockSeen) (first end i : ℕ) (who : Actor) (old mid : List PassSeen) (seats : List SeatSeen)
-    (f : Forks lines first i who old mid seats) (from : first ≤ i) (less : i < end) (few : end ≤ length lines)
+module _ (lines : List LockSeen) (first end i : ℕ) (who : Actor) (old mid : List PassSeen) (posts : List PostSeen)
+    (f : Forks lines first i who old mid posts) (from : first ≤ i) (less : i < end) (few : end ≤ length lines)
     (as_many : length old ≡ length lines)
     (l : LockSeen) (is_line : l ≡ get_or lines i l) (p : PassSeen) (is_pass : p ≡ get_or mid i p) where
   pub line_here : slice_get lines i ≡ Some l
@@ -90,4 +90,4 @@ module _ (lines : List LockSeen) (first end i : ℕ) (who : Actor) (old mid : Li
 
   pub can_here : ((k : ℕ) (p : PassSeen) → slice_get old k ≡ Some p → IsSomeAnd (slice_get lines k) (λ l. CanFork l who p)) → CanFork l who p
   can_here can = subst (λ (o : Option LockSeen). IsSomeAnd o (λ l. CanFork l who p)) line_here
-      (can i p (untouched lines first i who old mid mid seats f from p pass_here))
+      (can i p (untouched lines first i who old mid mid posts f from p pass_here))

@@ -16,7 +16,7 @@ use Rattle.line_lock.specs.Passes.{LockSeen, PassSeen}
 use Rattle.line_lock.specs.Placed.{same_actor, placed, placed_of}
 use Rattle.line_lock.specs.declared.view.Known.{Known}
 use Rattle.line_lock.proofs.Actors.{same_self_actor, among_either, among_without}
-use Rattle.workers.specs.Fit.{Sits, own_line, own_lines, IsManned, IsJob, works_on, actors_on}
+use Rattle.workers.specs.Fit.{IsPost, own_line, own_lines, IsManned, IsJob, works_on, actors_on}
 use Rattle.workers.specs.Gathers.{IsHome, AreHome, HasMetOne, HasMetNone, IsMet, seen_line, seen_lines, IsBack, AreOut, Gathers}
 use Rattle.workers.specs.Seen.{JobSeen}
 use Rattle.workers.proofs.Hiring.{actors_more_on}
@@ -49,13 +49,13 @@ module _ (board : BoardSeen) (lines : List LockSeen) (rest : List JobSeen) (j : 
   -- ---- at one line
 
   module _ (k : ℕ) (p q : PassSeen) (one : HasMetOne lines j k q p) where
-    sits : Sits one.line j.actor one.seat
-    sits = subst (λ (o : Option LockSeen). IsSomeAnd o (λ l. Sits l j.actor one.seat))
-        (ap (λ (i : ℕ). slice_get lines i) (sym one.is) ∙ one.at_line) (job.seated one.place one.seat one.at_seat)
+    is_post : IsPost one.line j.actor one.post
+    is_post = subst (λ (o : Option LockSeen). IsSomeAnd o (λ l. IsPost l j.actor one.post))
+        (ap (λ (i : ℕ). slice_get lines i) (sym one.is) ∙ one.at_line) (job.posted one.place one.post one.at_post)
 
     out_is : (a : Actor) → is_among a p.knows.out ≡ cond (same_actor j.actor a) false (is_among a q.knows.out)
     out_is a = ap (λ (x : Known). is_among a x.out) one.met.whole
-        ∙ (ap (λ (o : Option Actor). is_among a (without_of o q.knows.out)) sits.actor
+        ∙ (ap (λ (o : Option Actor). is_among a (without_of o q.knows.out)) is_post.actor
         ∙ among_without a j.actor q.knows.out)
 
     given_same : p.knows.given ≡ q.knows.given
@@ -71,8 +71,8 @@ module _ (board : BoardSeen) (lines : List LockSeen) (rest : List JobSeen) (j : 
 
     -- the job works on the line
     works : works_on k j ≡ true
-    works = let w = within j.seats one.place one.seat one.at_seat in let e = one.is in
-        both (nat_le j.first k) (nat_lt k (j.first + length j.seats)) (from e) (to w e)
+    works = let w = within j.posts one.place one.post one.at_post in let e = one.is in
+        both (nat_le j.first k) (nat_lt k (j.first + length j.posts)) (from e) (to w e)
       where
         both : (a b : Bool) → a ≡ true → b ≡ true → (a && b) ≡ true
         both true true x y = refl
@@ -82,7 +82,7 @@ module _ (board : BoardSeen) (lines : List LockSeen) (rest : List JobSeen) (j : 
         from : k ≡ j.first + one.place → nat_le j.first k ≡ true
         from e = grind (arith, e)
 
-        to : one.place < length j.seats → k ≡ j.first + one.place → nat_lt k (j.first + length j.seats) ≡ true
+        to : one.place < length j.posts → k ≡ j.first + one.place → nat_lt k (j.first + length j.posts) ≡ true
         to w e = grind (arith, w, e)
 
     -- the job's actor is back
@@ -90,13 +90,13 @@ module _ (board : BoardSeen) (lines : List LockSeen) (rest : List JobSeen) (j : 
         → (is_among j.actor p.knows.given ≡ true) × (is_among j.actor p.knows.out ≡ false)
     own_back given = (
       ap (λ (xs : List Actor). is_among j.actor xs) given_same
-          ∙ given (subst (λ (o : Option Actor). IfSome o (λ a. is_among a q.knows.out ≡ true)) sits.actor
+          ∙ given (subst (λ (o : Option Actor). IfSome o (λ a. is_among a q.knows.out ≡ true)) is_post.actor
           one.met.was_out),
       out_is j.actor ∙ ap (λ (b : Bool). cond b false (is_among j.actor q.knows.out)) (same_self_actor j.actor),
     )
 
-    own_placed : one.seat.pass.knows.mine ≡ placed one.line.def.line j.actor p.knows.seen
-    own_placed = sym (ap (λ (o : Option Actor). placed_of one.line.def.line o p.knows.seen) (sym sits.actor) ∙ one.met.own)
+    own_placed : one.post.pass.knows.mine ≡ placed one.line.def.line j.actor p.knows.seen
+    own_placed = sym (ap (λ (o : Option Actor). placed_of one.line.def.line o p.knows.seen) (sym is_post.actor) ∙ one.met.own)
 
   -- ---- who is out
 
@@ -123,16 +123,16 @@ module _ (board : BoardSeen) (lines : List LockSeen) (rest : List JobSeen) (j : 
         }
   ]
     where
-      idle : (k : ℕ) → ((place : ℕ) → place < length j.seats → k ≡ j.first + place → ⊥) → works_on k j ≡ false
+      idle : (k : ℕ) → ((place : ℕ) → place < length j.posts → k ≡ j.first + place → ⊥) → works_on k j ≡ false
       idle k none = by_test (works_on k j) refl
         where
           by_test : (b : Bool) → works_on k j ≡ b → works_on k j ≡ false
           by_test false is = is
           by_test true is =
               absurd
-              (let a = and_parts (nat_le j.first k) (nat_lt k (j.first + length j.seats)) is in
+              (let a = and_parts (nat_le j.first k) (nat_lt k (j.first + length j.posts)) is in
               let from : j.first ≤ k = grind (arith, a.0) in
-              let to : k < j.first + length j.seats = grind (arith, a.1) in
+              let to : k < j.first + length j.posts = grind (arith, a.1) in
               none (k - j.first) (omega (arith, from, to)) (omega (arith, from)))
 
   -- ---- drivers that were back
@@ -195,26 +195,26 @@ module _ (board : BoardSeen) (lines : List LockSeen) (rest : List JobSeen) (j : 
         subst (λ (a : Actor). (is_among a p.knows.given ≡ true) × (is_among a p.knows.out ≡ false)) (sym its) b
 
     own_at : (k : ℕ) (p q : PassSeen) → slice_get new k ≡ Some p → HasMetOne lines j k q p
-        → (z : BoardLine) × (slice_get (own_lines j.seats) k ≡ Some z) × (p.def ≡ z.def)
+        → (z : BoardLine) × (slice_get (own_lines j.posts) k ≡ Some z) × (p.def ≡ z.def)
         × (entries_by r (reverse p.knows.seen) ≡ entries_by r z.past)
     own_at k p q at one =
         let z = manned.0 in
         let is : one.place ≡ k = let e = one.is in omega (arith, e, z) in (
-          own_line one.seat,
-          at_map own_line j.seats k one.seat (ap (λ (i : ℕ). slice_get j.seats i) (sym is) ∙ one.at_seat),
-          (home_of k p one.line at one.at_line).of_line.1 ∙ sym (sits k p q one).of_line.1,
-          sym (own_are_seen one.line.def.line r p.knows.seen one.seat.pass.knows.mine
+          own_line one.post,
+          at_map own_line j.posts k one.post (ap (λ (i : ℕ). slice_get j.posts i) (sym is) ∙ one.at_post),
+          (home_of k p one.line at one.at_line).of_line.1 ∙ sym (is_post k p q one).of_line.1,
+          sym (own_are_seen one.line.def.line r p.knows.seen one.post.pass.knows.mine
               (own_placed k p q one ∙ ap (λ (a : Actor). placed one.line.def.line a p.knows.seen) (sym its))),
         )
 
     up_now : (place : ℕ) × IsUpTo board.calls (seen_lines new) r place
-    up_now = (j.at, same_script board.calls (seen_lines new) (own_lines j.seats) r j.at alike manned.2)
+    up_now = (j.at, same_script board.calls (seen_lines new) (own_lines j.posts) r j.at alike manned.2)
       where
-        alike : AreAlike r (seen_lines new) (own_lines j.seats)
+        alike : AreAlike r (seen_lines new) (own_lines j.posts)
         alike k x at =
             let s = of_map seen_line new k x at in
             let e = m.each k s.0 s.1 in
-            subst (λ (y : BoardLine). (z : BoardLine) × (slice_get (own_lines j.seats) k ≡ Some z) × (y.def ≡ z.def)
+            subst (λ (y : BoardLine). (z : BoardLine) × (slice_get (own_lines j.posts) k ≡ Some z) × (y.def ≡ z.def)
             × (entries_by r y.past ≡ entries_by r z.past)) s.2
             (own_at k s.0 e.0 s.1 (every k s.0 e.0 s.1 e.2))
 

@@ -21,10 +21,10 @@ use Rattle.line_lock.specs.Passes.{LockSeen, PassSeen}
 use Rattle.line_lock.specs.Placed.{same_actor}
 use Rattle.line_lock.specs.declared.view.Known.{Known}
 use Rattle.line_lock.specs.declared.view.Placed.{Placed}
-use Rattle.workers.specs.Fit.{IsPlaceOf, Sits, AreSeated, own_past, own_line, own_lines, IsManned, IsJob, works_on}
+use Rattle.workers.specs.Fit.{IsPlaceOf, IsPost, ArePosted, own_past, own_line, own_lines, IsManned, IsJob, works_on}
 use Rattle.workers.specs.Fit.{actors_on, IsFirst, AreFirsts, workers_of, Fit}
 use Rattle.workers.specs.Forks.{CanFork, IsLeft, is_within, Forks, IsSpan, AreBoards, Hires}
-use Rattle.workers.specs.Seen.{SeatSeen, JobSeen, JobsSeen}
+use Rattle.workers.specs.Seen.{PostSeen, JobSeen, JobsSeen}
 use Rattle.workers.specs.declared.job.Left.TheVariants as lefts
 use Rattle.workers.proofs.Lists.{of_map, within, at_snoc, there_or}
 use Rattle.workers.proofs.Manning.{map_more, taken, all_taken}
@@ -66,12 +66,12 @@ actors_more_on k (x ∷ xs) j = by_test (works_on k x) (works_on k j) (actors_mo
     by_test false false deeper = deeper
 
 module _ (board : BoardSeen) (lines : List LockSeen) (who : Actor) (first end : ℕ) (old new : List PassSeen)
-    (seats : List SeatSeen) (f : Forks lines first end who old new seats) where
-  seated : (j : JobSeen) → j.actor ≡ who → j.first ≡ first → j.seats ≡ seats → AreSeated lines j
-  seated j actor from are i s at =
-      let k = f.each i s (ap (λ (ss : List SeatSeen). slice_get ss i) (sym are) ∙ at) in
+    (posts : List PostSeen) (f : Forks lines first end who old new posts) where
+  posted : (j : JobSeen) → j.actor ≡ who → j.first ≡ first → j.posts ≡ posts → ArePosted lines j
+  posted j actor from are i s at =
+      let k = f.each i s (ap (λ (ss : List PostSeen). slice_get ss i) (sym are) ∙ at) in
       let fork = k.4 in
-      subst (λ (o : Option LockSeen). IsSomeAnd o (λ l. Sits l j.actor s)) (sym (ap (λ (n : ℕ). slice_get lines (n + i)) from ∙ k.2))
+      subst (λ (o : Option LockSeen). IsSomeAnd o (λ l. IsPost l j.actor s)) (sym (ap (λ (n : ℕ). slice_get lines (n + i)) from ∙ k.2))
       (record {
         of_line = fork.of_line;
         idle = fork.idle;
@@ -79,57 +79,57 @@ module _ (board : BoardSeen) (lines : List LockSeen) (who : Actor) (first end : 
         rests = λ h. both_ways s.rests h fork.rests;
       })
 
-  nothing_own : (i : ℕ) (s : SeatSeen) → slice_get seats i ≡ Some s → s.pass.knows.mine ≡ []
+  nothing_own : (i : ℕ) (s : PostSeen) → slice_get posts i ≡ Some s → s.pass.knows.mine ≡ []
   nothing_own i s at = ap (λ (x : Known). x.mine) (f.each i s at).4.knows
 
-  no_flow : (i : ℕ) (s : SeatSeen) → slice_get seats i ≡ Some s → has_flow s.pass.def (own_past s.pass.knows.mine) ≡ false
+  no_flow : (i : ℕ) (s : PostSeen) → slice_get posts i ≡ Some s → has_flow s.pass.def (own_past s.pass.knows.mine) ≡ false
   no_flow i s at = ap (λ (mine : List Placed). has_flow s.pass.def (own_past mine)) (nothing_own i s at)
 
-  up_to : (r : DriverNo) → IsUpTo board.calls (own_lines seats) r 0
+  up_to : (r : DriverNo) → IsUpTo board.calls (own_lines posts) r 0
   up_to r =
-      nothing_made board.calls (own_lines seats) r
-      (λ i x at. let s = of_map own_line seats i x at in ap (λ (y : BoardLine). y.past) (sym s.2) ∙ ap own_past (nothing_own i s.0 s.1))
+      nothing_made board.calls (own_lines posts) r
+      (λ i x at. let s = of_map own_line posts i x at in ap (λ (y : BoardLine). y.past) (sym s.2) ∙ ap own_past (nothing_own i s.0 s.1))
 
   no_place : (i : ℕ) → None ≡ Some i → ⊥
   no_place i is = cc
 
-  manned : (j : JobSeen) → j.first ≡ first → j.seats ≡ seats → j.flow ≡ None → j.at ≡ 0 → (a : Actor) → IsSpan lines a first end → IsManned board lines j a
+  manned : (j : JobSeen) → j.first ≡ first → j.posts ≡ posts → j.flow ≡ None → j.at ≡ 0 → (a : Actor) → IsSpan lines a first end → IsManned board lines j a
   manned j from are none at (actors.Thread line dev) span = (
-    let n = f.count in let m = span.1 in let l = ap (λ (ss : List SeatSeen). length ss) are in
+    let n = f.count in let m = span.1 in let l = ap (λ (ss : List PostSeen). length ss) are in
         omega (arith, n, m, l),
     subst (λ (k : ℕ). IsPlaceOf lines line (Some k)) (sym from) span.0,
   )
   manned j from are none at (actors.Cpu c) span = (
     from ∙ span.0,
-    (let n = f.count in let z = span.0 in let e = span.1 in let l = ap (λ (ss : List SeatSeen). length ss) are in omega (arith, n, z, e, l)),
-    λ i s there not. no_flow i s (ap (λ (ss : List SeatSeen). slice_get ss i) (sym are) ∙ there),
+    (let n = f.count in let z = span.0 in let e = span.1 in let l = ap (λ (ss : List PostSeen). length ss) are in omega (arith, n, z, e, l)),
+    λ i s there not. no_flow i s (ap (λ (ss : List PostSeen). slice_get ss i) (sym are) ∙ there),
     λ i is. absurd (no_place i (sym none ∙ is)),
   )
   manned j from are none at (actors.Driver r) span = (
     from ∙ span.0,
-    (let n = f.count in let z = span.0 in let e = span.1 in let l = ap (λ (ss : List SeatSeen). length ss) are in omega (arith, n, z, e, l)),
-    subst (λ (n : ℕ). IsUpTo board.calls (own_lines j.seats) r n) (sym at)
-        (subst (λ (ss : List SeatSeen). IsUpTo board.calls (own_lines ss) r 0) (sym are) (up_to r)),
+    (let n = f.count in let z = span.0 in let e = span.1 in let l = ap (λ (ss : List PostSeen). length ss) are in omega (arith, n, z, e, l)),
+    subst (λ (n : ℕ). IsUpTo board.calls (own_lines j.posts) r n) (sym at)
+        (subst (λ (ss : List PostSeen). IsUpTo board.calls (own_lines ss) r 0) (sym are) (up_to r)),
     omega (arith, at),
   )
 
-  pub new_job : (j : JobSeen) → j.actor ≡ who → j.first ≡ first → j.seats ≡ seats → j.flow ≡ None → j.at ≡ 0 → IsSpan lines who first end → IsJob board lines j
+  pub new_job : (j : JobSeen) → j.actor ≡ who → j.first ≡ first → j.posts ≡ posts → j.flow ≡ None → j.at ≡ 0 → IsSpan lines who first end → IsJob board lines j
   new_job j actor from are none at span = record {
-    seated = seated j actor from are;
+    posted = posted j actor from are;
     manned
         = manned j from are none at j.actor (subst (λ (a : Actor). IsSpan lines a first end) (sym actor) span);
   }
 
   -- ---- the first passes
 
-  pub new_firsts : (jobs : List JobSeen) (j : JobSeen) → j.actor ≡ who → j.first ≡ first → j.seats ≡ seats
+  pub new_firsts : (jobs : List JobSeen) (j : JobSeen) → j.actor ≡ who → j.first ≡ first → j.posts ≡ posts
       → AreFirsts lines jobs old → AreFirsts lines (jobs ++ j ∷ []) new
   new_firsts jobs j actor from are firsts = record { as_many = f.as_many ∙ firsts.as_many; each = each }
     where
       works : (k : ℕ) → works_on k j ≡ is_within first end k
       works k =
-          ap (λ (n : ℕ). nat_le n k && nat_lt k (n + length j.seats)) from
-          ∙ ap (λ (n : ℕ). nat_le first k && nat_lt k n) (ap (λ (ss : List SeatSeen). first + length ss) are ∙ f.count)
+          ap (λ (n : ℕ). nat_le n k && nat_lt k (n + length j.posts)) from
+          ∙ ap (λ (n : ℕ). nat_le first k && nat_lt k n) (ap (λ (ss : List PostSeen). first + length ss) are ∙ f.count)
 
       later : (k : ℕ) (b : Bool) (l : LockSeen) (q p : PassSeen)
           → actors_on k (jobs ++ j ∷ []) ≡ cond b (actors_on k jobs ++ who ∷ []) (actors_on k jobs) → IsLeft b who q p
@@ -242,21 +242,21 @@ can_give_at lines here s firsts who same are is new k p at =
     (can_give lines s.jobs s.firsts who is new k p (ap (λ (ps : List PassSeen). slice_get ps k) (sym are) ∙ at))
 
 pub hires_one : (lines here : List LockSeen) (s : JobsSeen) (board : BoardSeen) (jobs : List JobSeen)
-    (firsts new : List PassSeen) (who : Actor) (first end : ℕ) (seats : List SeatSeen)
+    (firsts new : List PassSeen) (who : Actor) (first end : ℕ) (posts : List PostSeen)
     → here ≡ lines → record { board = board; jobs = jobs; firsts = firsts } ≡ s → AreFirsts lines s.jobs s.firsts
-    → IsSpan lines who first end → Forks here first end who firsts new seats
-    → (after : List JobSeen) → after ≡ jobs ++ record { actor = who; first = first; seats = seats; flow = None; at = 0; left = lefts.Idle } ∷ []
+    → IsSpan lines who first end → Forks here first end who firsts new posts
+    → (after : List JobSeen) → after ≡ jobs ++ record { actor = who; first = first; posts = posts; flow = None; at = 0; left = lefts.Idle } ∷ []
     → Hires lines who s (record { board = board; jobs = after; firsts = new })
-hires_one lines here s board jobs firsts new who first end seats same is are span f after grown =
-    let j : JobSeen = record { actor = who; first = first; seats = seats; flow = None; at = 0; left = lefts.Idle } in
-    let forks : Forks lines first end who firsts new seats = subst (λ (ls : List LockSeen). Forks ls first end who firsts new seats) same f in
+hires_one lines here s board jobs firsts new who first end posts same is are span f after grown =
+    let j : JobSeen = record { actor = who; first = first; posts = posts; flow = None; at = 0; left = lefts.Idle } in
+    let forks : Forks lines first end who firsts new posts = subst (λ (ls : List LockSeen). Forks ls first end who firsts new posts) same f in
     record {
       job = j;
       jobs = grown ∙ ap (λ (x : JobsSeen). x.jobs ++ j ∷ []) is;
       actor = refl;
-      is = new_job s.board lines who first end firsts new seats forks j refl refl refl refl refl span;
+      is = new_job s.board lines who first end firsts new posts forks j refl refl refl refl refl span;
       firsts = subst (λ (js : List JobSeen). AreFirsts lines js new) (sym grown)
-          (new_firsts s.board lines who first end firsts new seats forks jobs j refl refl refl
+          (new_firsts s.board lines who first end firsts new posts forks jobs j refl refl refl
           (subst (λ (js : List JobSeen). AreFirsts lines js firsts) (ap (λ (x : JobsSeen). x.jobs) (sym is))
           (subst (λ (ps : List PassSeen). AreFirsts lines s.jobs ps) (ap (λ (x : JobsSeen). x.firsts) (sym is))
           are)));

@@ -10,11 +10,11 @@ pub mod Own
 pub mod InFlow
 pub mod Gathering
 pub mod Finishing
-pub mod Turning
+pub mod Attempting
 pub mod Rooms
 pub mod Flowing
 pub mod Driving
 pub mod Driven
-pub mod Rounding
+pub mod Shifting
 pub mod Dealt
 pub mod Sweeping

@@ -1,16 +1,16 @@
--- One sweep of a round after another.
+-- One sweep of a shift after another.
 use Rattle.std.proofs.Common.{◌≡◌, ℕ, ◌+◌, ◌<◌, ◌≤◌, inl, inr, All, List, length, get_or, set, sym, ◌∙◌, subst, arith}
 use Rattle.std.proofs.lemmas.List.{get_or-set_same, get_or-set_other, get_or_default}
 use Rattle.board_def.specs.Seen.{BoardSeen}
 use Rattle.line_lock.specs.Passes.{LockSeen}
 use Rattle.workers.specs.Fit.{IsJob}
-use Rattle.workers.specs.Room.{RoomLeft, room_of_seats}
-use Rattle.workers.specs.Rounds.{WorksOn, LeftIsSo, with_earlier, GoesOn, GoOnJobs, KeepsJobs}
+use Rattle.workers.specs.Room.{RoomLeft, room_of_posts}
+use Rattle.workers.specs.Shifts.{WorksOn, LeftIsSo, with_earlier, GoesOn, GoOnJobs, KeepsJobs}
 use Rattle.workers.specs.Seen.{JobSeen}
 use Rattle.workers.specs.declared.job.Left.{Left}
 use Rattle.workers.specs.declared.job.Left.TheVariants as lefts
 use Rattle.workers.proofs.Lists.{two}
-use Rattle.workers.proofs.Rounding.{works_first, works_more, job_left, left_at}
+use Rattle.workers.proofs.Shifting.{works_first, works_more, job_left, left_at}
 
 -- ---- one job
 
@@ -24,14 +24,14 @@ module _ (board : BoardSeen) (lines : List LockSeen) where
   so now (lefts.Full line len) left is = is
   so now lefts.NoMemory left is = is
 
-  further : (start old now : JobSeen) (left : Left) → room_of_seats old.seats ≤ room_of_seats start.seats
+  further : (start old now : JobSeen) (left : Left) → room_of_posts old.posts ≤ room_of_posts start.posts
       → RoomLeft left old now → RoomLeft left start now
   further start old now lefts.Idle a b = omega (arith, a, b)
   further start old now lefts.Busy a b = omega (arith, a, b)
   further start old now (lefts.Full line len) a b = omega (arith, a, b)
   further start old now lefts.NoMemory a b = omega (arith, a, b)
 
-  -- the room that is left since the round's start
+  -- the room that is left since the shift's start
   since_start : (start old now : JobSeen) (before left : Left) → RoomLeft before start old → RoomLeft left old now
       → RoomLeft (with_earlier before left) start now
   since_start start old now lefts.Busy lefts.Idle a b = omega (arith, a, b)

@@ -21,7 +21,7 @@ use Rattle.board_play.specs.Order.{cpus_of, drivers_of}
 use Rattle.line_lock.specs.Passes.{LockSeen, PassSeen, IsPassOf}
 use Rattle.line_lock.specs.declared.view.Known.{Known}
 use Rattle.line_lock.specs.declared.view.Placed.{Placed}
-use Rattle.workers.specs.Seen.{SeatSeen, JobSeen, JobsSeen}
+use Rattle.workers.specs.Seen.{PostSeen, JobSeen, JobsSeen}
 use Rattle.workers.specs.Tries.{IsIdle}
 
 -- ---- lines
@@ -39,58 +39,58 @@ IsPlaceOf lines number (Some k) = IsSomeAnd (slice_get lines k) (λ l. l.def.lin
 
 -- ---- one job
 
--- the pass is of this line and this actor, and doesn't have the turn; if the seat rests, nothing is
+-- the pass is of this line and this actor, and doesn't have the turn; if the post rests, nothing is
 -- due on what the pass has seen
-pub record Sits (line : LockSeen) (who : Actor) (s : SeatSeen) : Type 0 where
+pub record IsPost (line : LockSeen) (who : Actor) (s : PostSeen) : Type 0 where
   pub of_line : IsPassOf line s.pass
   pub idle : s.pass.turn ≡ false
   pub actor : s.pass.knows.actor ≡ Some who
   pub rests : s.rests ≡ true → IsIdle line.def who s.pass.knows
 
 -- the passes are of consecutive lines, from the job's first line on
-abbrev pub AreSeated : List LockSeen → JobSeen → Type 0
-AreSeated lines j = (i : ℕ) (s : SeatSeen) → slice_get j.seats i ≡ Some s
-    → IsSomeAnd (slice_get lines (j.first + i)) (λ l. Sits l j.actor s)
+abbrev pub ArePosted : List LockSeen → JobSeen → Type 0
+ArePosted lines j = (i : ℕ) (s : PostSeen) → slice_get j.posts i ≡ Some s
+    → IsSomeAnd (slice_get lines (j.first + i)) (λ l. IsPost l j.actor s)
 
 -- an actor's own entries on a line, the newest first; below, all its lines with its own entries
 -- alone
 abbrev pub own_past : List Placed → List Entry
 own_past mine = reverse (map (λ (x : Placed). x.entry) mine)
 
-abbrev pub own_line : SeatSeen → BoardLine
+abbrev pub own_line : PostSeen → BoardLine
 own_line s = record { def = s.pass.def; past = own_past s.pass.knows.mine }
 
-abbrev pub own_lines : List SeatSeen → List BoardLine
-own_lines seats = map own_line seats
+abbrev pub own_lines : List PostSeen → List BoardLine
+own_lines posts = map own_line posts
 
 -- a processor has a flow in progress on no line but the one that its job names (`flow`)
 abbrev pub HasOneFlow : JobSeen → Type 0
-HasOneFlow j = (i : ℕ) (s : SeatSeen) → slice_get j.seats i ≡ Some s → (j.flow ≡ Some i → ⊥)
+HasOneFlow j = (i : ℕ) (s : PostSeen) → slice_get j.posts i ≡ Some s → (j.flow ≡ Some i → ⊥)
     → has_flow s.pass.def (own_past s.pass.knows.mine) ≡ false
 
 -- by its own entries the processor has a flow in progress on the line
 abbrev pub IsInFlow : LineDef → CpuNo → Known → Type 0
 IsInFlow def c k = flow def (own_past k.mine) ≡ Some c
 
--- on the line that its job names (`flow`) a processor has a flow in progress, and the seat doesn't
+-- on the line that its job names (`flow`) a processor has a flow in progress, and the post doesn't
 -- rest
 abbrev pub HasItsFlow : JobSeen → Type 0
-HasItsFlow j = (i : ℕ) → j.flow ≡ Some i → (c : CpuNo) × (s : SeatSeen) × (j.actor ≡ actors.Cpu c)
-    × (slice_get j.seats i ≡ Some s) × (s.rests ≡ false) × IsInFlow s.pass.def c s.pass.knows
+HasItsFlow j = (i : ℕ) → j.flow ≡ Some i → (c : CpuNo) × (s : PostSeen) × (j.actor ≡ actors.Cpu c)
+    × (slice_get j.posts i ≡ Some s) × (s.rests ≡ false) × IsInFlow s.pass.def c s.pass.knows
 
 -- a thread has a pass of its device's line; a processor has a pass of each line, and a flow on at
 -- most one; a driver has a pass of each line, and its entries are its script's calls up to its
 -- place
 abbrev pub IsManned : BoardSeen → List LockSeen → JobSeen → Actor → Type 0
 IsManned board lines j (actors.Thread line dev) =
-    (length j.seats ≡ 1) × IsPlaceOf lines line (Some j.first)
+    (length j.posts ≡ 1) × IsPlaceOf lines line (Some j.first)
 IsManned board lines j (actors.Cpu c) =
-    (j.first ≡ 0) × (length j.seats ≡ length lines) × HasOneFlow j × HasItsFlow j
-IsManned board lines j (actors.Driver r) = (j.first ≡ 0) × (length j.seats ≡ length lines)
-    × IsUpTo board.calls (own_lines j.seats) r j.at × (j.at ≤ length board.calls)
+    (j.first ≡ 0) × (length j.posts ≡ length lines) × HasOneFlow j × HasItsFlow j
+IsManned board lines j (actors.Driver r) = (j.first ≡ 0) × (length j.posts ≡ length lines)
+    × IsUpTo board.calls (own_lines j.posts) r j.at × (j.at ≤ length board.calls)
 
 pub record IsJob (board : BoardSeen) (lines : List LockSeen) (j : JobSeen) : Type 0 where
-  pub seated : AreSeated lines j
+  pub posted : ArePosted lines j
   pub manned : IsManned board lines j j.actor
 
 -- ---- all jobs
@@ -106,7 +106,7 @@ workers_of board lines = map (λ (x : DeviceDef). actors.Thread x.line x.dev)
 
 -- the job has a pass of the line at place k
 abbrev pub works_on : ℕ → JobSeen → Bool
-works_on k j = nat_le j.first k && nat_lt k (j.first + length j.seats)
+works_on k j = nat_le j.first k && nat_lt k (j.first + length j.posts)
 
 abbrev pub actors_on : ℕ → List JobSeen → List Actor
 actors_on k jobs = map (λ (j : JobSeen). j.actor) (filter (works_on k) jobs)

@@ -8,7 +8,7 @@ use Rattle.board_play.specs.Lines.{defs_of}
 use Rattle.line_lock.specs.Knows.{is_among, forked, newcomer}
 use Rattle.line_lock.specs.Passes.{LockSeen, PassSeen, IsPassOf}
 use Rattle.workers.specs.Fit.{IsPlaceOf, IsJob, AreFirsts}
-use Rattle.workers.specs.Seen.{SeatSeen, JobSeen, JobsSeen}
+use Rattle.workers.specs.Seen.{PostSeen, JobSeen, JobsSeen}
 
 -- the first pass of the line can give a pass to the actor
 pub record CanFork (line : LockSeen) (who : Actor) (p : PassSeen) : Type 0 where
@@ -17,8 +17,8 @@ pub record CanFork (line : LockSeen) (who : Actor) (p : PassSeen) : Type 0 where
   pub first : p.knows.actor ≡ None
   pub fresh : is_among who p.knows.given ≡ false
 
--- the seat has the pass that the first pass gave to the actor
-pub record IsForkOf (line : LockSeen) (who : Actor) (first : PassSeen) (s : SeatSeen) : Type 0 where
+-- the post has the pass that the first pass gave to the actor
+pub record IsForkOf (line : LockSeen) (who : Actor) (first : PassSeen) (s : PostSeen) : Type 0 where
   pub of_line : IsPassOf line s.pass
   pub idle : s.pass.turn ≡ false
   pub knows : s.pass.knows ≡ newcomer first.knows who
@@ -38,12 +38,12 @@ IsLeft false who old new = new ≡ old
 abbrev pub is_within : ℕ → ℕ → ℕ → Bool
 is_within first end k = nat_le first k && nat_lt k end
 
--- one seat for each line from index `first` up to, not including, `end`
+-- one post for each line from index `first` up to, not including, `end`
 pub record Forks (lines : List LockSeen) (first end : ℕ) (who : Actor) (old new : List PassSeen)
-    (seats : List SeatSeen) : Type 0 where
+    (posts : List PostSeen) : Type 0 where
   pub as_many : length new ≡ length old
-  pub count : first + length seats ≡ end
-  pub each : (i : ℕ) (s : SeatSeen) → slice_get seats i ≡ Some s
+  pub count : first + length posts ≡ end
+  pub each : (i : ℕ) (s : PostSeen) → slice_get posts i ≡ Some s
       → (l : LockSeen) × (p : PassSeen) × (slice_get lines (first + i) ≡ Some l)
       × (slice_get old (first + i) ≡ Some p) × IsForkOf l who p s
   pub left : (k : ℕ) (p : PassSeen) → slice_get new k ≡ Some p

@@ -12,7 +12,7 @@ use Rattle.board_play.specs.Lines.{BoardLine}
 use Rattle.line_lock.specs.Knows.{is_among, Meets}
 use Rattle.line_lock.specs.Passes.{LockSeen, PassSeen, IsPassOf}
 use Rattle.workers.specs.Fit.{IsJob, actors_on}
-use Rattle.workers.specs.Seen.{SeatSeen, JobSeen}
+use Rattle.workers.specs.Seen.{PostSeen, JobSeen}
 
 -- a line as a board sees it
 abbrev pub board_line : LineSeen → BoardLine
@@ -37,16 +37,16 @@ pub record HasMetOne (lines : List LockSeen) (j : JobSeen) (k : ℕ) (old new : 
     : Type 0 where
   pub line : LockSeen
   pub place : ℕ
-  pub seat : SeatSeen
+  pub post : PostSeen
   pub at_line : slice_get lines k ≡ Some line
-  pub at_seat : slice_get j.seats place ≡ Some seat
+  pub at_post : slice_get j.posts place ≡ Some post
   pub is : k ≡ j.first + place
-  pub met : Meets line.def.line old.knows seat.pass.knows new.knows
+  pub met : Meets line.def.line old.knows post.pass.knows new.knows
 
 -- the job has no pass of the line, and the first pass is as it was
 abbrev pub HasMetNone : JobSeen → ℕ → PassSeen → PassSeen → Type 0
 HasMetNone j k old new =
-    ((place : ℕ) → place < length j.seats → k ≡ j.first + place → ⊥) × (new ≡ old)
+    ((place : ℕ) → place < length j.posts → k ≡ j.first + place → ⊥) × (new ≡ old)
 
 -- the first passes met all passes of the job
 pub record IsMet (lines : List LockSeen) (j : JobSeen) (old new : List PassSeen) : Type 0 where

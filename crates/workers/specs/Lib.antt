@@ -4,5 +4,5 @@ pub mod Room
 pub mod Fit
 pub mod Forks
 pub mod Gathers
-pub mod Turns
-pub mod Rounds
+pub mod Attempts
+pub mod Shifts

@@ -6,17 +6,17 @@ use Rattle.line_lock.specs.Passes.{PassSeen}
 use Rattle.workers.specs.declared.job.Left.{Left}
 
 -- a pass, and whether its actor is known to have nothing due on what the pass has seen
-pub record SeatSeen : Type 0 where
+pub record PostSeen : Type 0 where
   pub pass : PassSeen
   pub rests : Bool
 
 -- The job of an actor: its passes, of the line at index `first` and of the lines after it; for a
 -- processor the pass with which it has a flow in progress; for a driver how many of the board's
--- calls it is past; and how the last round left the job.
+-- calls it is past; and how the last shift left the job.
 pub record JobSeen : Type 0 where
   pub actor : Actor
   pub first : ℕ
-  pub seats : List SeatSeen
+  pub posts : List PostSeen
   pub flow : Option ℕ
   pub at : ℕ
   pub left : Left

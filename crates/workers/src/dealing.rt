@@ -23,9 +23,9 @@ pub(crate) fn jobs_a_thread<R: Threads>(rt: &R, jobs: usize) -> usize
     jobs.div_ceil(threads.min(APART).max(1)).max(1)
 }
 
-/// Deals the actors to threads, `size` to each but the last, in turn as cards are dealt. So those
-/// of one line, which are neighbours, come to different threads. What is dealt begins with the
-/// first thread's actors, then come the next one's.
+/// Deals the actors to threads, `size` to each but the last, one after another as cards are dealt.
+/// So those of one line, which are neighbours, come to different threads. What is dealt begins with
+/// the first thread's actors, then come the next one's.
 pub(crate) fn deal(alloc: Global, crew: &[Actor], size: usize) -> Result<Vec<Actor>, NoMemory>
     requires { 0 < size }
     ensures { IfOk result (λ dealt. IsPermutation crew.now dealt.items) }

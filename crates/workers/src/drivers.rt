@@ -1,13 +1,13 @@
-//! A driver's turns.
+//! A driver's attempts.
 ghost use Rattle.std.specs.Prelude.{◌≡◌, ℕ, ◌<◌, ◌≤◌, true, false, Some, None, length, slice_get};
 ghost use Rattle.board_def.specs.declared.rows.ScriptCall.{ScriptCall};
 ghost use Rattle.workers.specs.Fit.{IsPlaceOf};
 ghost use Rattle.workers.specs.Forks.{AreBoards};
-ghost use Rattle.workers.specs.Turns.{IsDriven, TurnsDriver};
+ghost use Rattle.workers.specs.Attempts.{IsDriven, AttemptsDriver};
 
+use crate::attempts::Attempt;
 use crate::job::Job;
 use crate::lines::SharedLines;
-use crate::turns::Turn;
 use board_def::{Board, ScriptCall};
 use callbacks::{Callbacks, Handler};
 use irq_base::DriverNo;
@@ -16,22 +16,22 @@ use line_scripts::completes;
 use std::sync::Wait;
 
 impl<L: IrqLine> Job<L> {
-    /// A driver's turn: on the line of its current call.
-    pub(crate) fn turn_driver<R: Wait, H: Handler>(
+    /// A driver's attempt: on the line of its current call.
+    pub(crate) fn attempt_driver<R: Wait, H: Handler>(
         &mut self,
         rt: &R,
         board: &Board,
         lines: &SharedLines<L>,
         driver: DriverNo,
         handlers: &Callbacks<H>,
-    ) -> Turn
+    ) -> Attempt
         requires boards { AreBoards board.now lines.now }
         requires driven { IsDriven board.now lines.now driver self.old }
-        ensures { TurnsDriver board.now lines.now driver result self.old self.new }
+        ensures { AttemptsDriver board.now lines.now driver result self.old self.new }
     {
         self.at = next_call(board.calls(), lines, driver, self.at);
         let Some(call) = board.call(self.at) else {
-            return Turn::NotYet;
+            return Attempt::NotYet;
         };
         let Some(place) = lines.place_of(call.line) else {
             unreachable!()
@@ -48,21 +48,21 @@ impl<L: IrqLine> Job<L> {
         call: ScriptCall,
         place: usize,
         handlers: &Callbacks<H>,
-    ) -> Turn
+    ) -> Attempt
         requires boards { AreBoards board.now lines.now }
         requires driven { IsDriven board.now lines.now call.driver self.old }
         requires call { slice_get board.now.calls self.old.at ≡ Some call }
         requires place { IsPlaceOf lines.now call.line (Some place) }
-        ensures { TurnsDriver board.now lines.now call.driver result self.old self.new }
+        ensures { AttemptsDriver board.now lines.now call.driver result self.old self.new }
     {
         board.is_board();
-        let turn = self.try_seat(rt, lines, place, handlers);
-        if let Turn::Moved(entry) = turn {
+        let attempt = self.try_post(rt, lines, place, handlers);
+        if let Attempt::Moved(entry) = attempt {
             if completes(call.call, &entry) {
                 self.at += 1;
             }
         }
-        turn
+        attempt
     }
 }
 

@@ -3,7 +3,7 @@ ghost use Rattle.std.specs.Prelude.{◌≡◌, ℕ, ◌≤◌, Some, IfOk, IsSom
 ghost use Rattle.line_lock.specs.Passes.{PassSeen};
 ghost use Rattle.workers.specs.Forks.{CanFork, Forks};
 
-use crate::seat::Seat;
+use crate::post::Post;
 use irq_base::{Actor, NoMemory};
 use irq_line::IrqLine;
 use line_shared::{Pass, SharedLine};
@@ -17,19 +17,19 @@ pub(crate) fn fork_all<L: IrqLine>(
     first: usize,
     end: usize,
     actor: Actor,
-) -> Result<Vec<Seat<L>>, NoMemory>
+) -> Result<Vec<Post<L>>, NoMemory>
     requires range { (first ≤ end) × (end ≤ length lines.now)
         × (length firsts.old.items ≡ length lines.now) }
     requires can { (k : ℕ) (p : PassSeen) → slice_get firsts.old.items k ≡ Some p
         → IsSomeAnd (slice_get lines.now k) (λ l. CanFork l actor p) }
     ensures { IfOk result
-        (λ seats. Forks lines.now first end actor firsts.old.items firsts.new.items seats.items) }
+        (λ posts. Forks lines.now first end actor firsts.old.items firsts.new.items posts.items) }
 {
-    let mut seats = Vec::new(alloc);
+    let mut posts = Vec::new(alloc);
     for place in first..end {
         let first_pass = &mut firsts[place];
         let pass = lines[place].fork(first_pass, actor);
-        seats.push(Seat { pass, rests: false })?;
+        posts.push(Post { pass, rests: false })?;
     }
-    Ok(seats)
+    Ok(posts)
 }

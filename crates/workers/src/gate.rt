@@ -1,11 +1,11 @@
-//! What a worker passes before each of its turns.
+//! What a worker passes before each of its attempts.
 use irq_base::Actor;
 
-/// What a worker passes before each of its turns, with no lock held. A turn is one try to make its
-/// actor's next step, the call of a handler included.
+/// What a worker passes before each of its attempts, with no lock held. An attempt is one try to
+/// make its actor's next step, the call of a handler included.
 pub trait Gate {
-    /// Lets the actor pass to its turn number `turn` of this run, counted from 1.
-    fn pass(&self, actor: Actor, turn: u64);
+    /// Lets the actor pass to its attempt number `attempt` of this run, counted from 1.
+    fn pass(&self, actor: Actor, attempt: u64);
 }
 
 /// Lets everyone pass at once.
@@ -13,5 +13,5 @@ pub trait Gate {
 pub struct NoGate;
 
 impl Gate for NoGate {
-    fn pass(&self, _actor: Actor, _turn: u64) {}
+    fn pass(&self, _actor: Actor, _attempt: u64) {}
 }

@@ -5,7 +5,7 @@ ghost use Rattle.irq_line.specs.Seen.{LineSeen};
 ghost use Rattle.board_def.specs.Seen.{BoardSeen};
 ghost use Rattle.board_play.specs.Kept.{AreKept};
 ghost use Rattle.line_lock.specs.Passes.{LockSeen, PassSeen};
-ghost use Rattle.workers.specs.Fit.{AreSeated, Fit};
+ghost use Rattle.workers.specs.Fit.{ArePosted, Fit};
 ghost use Rattle.workers.specs.Gathers.{AreHome, IsHome, Gathers, IsMet, AreFinal, AreSound};
 ghost use Rattle.workers.specs.Gathers.{board_lines, seen_lines};
 ghost use Rattle.workers.specs.Seen.{JobSeen};
@@ -44,8 +44,8 @@ pub fn gather<L: IrqLine>(
 /// The first passes meet the passes of all jobs, the last job's first.
 fn meet_all<L: IrqLine>(lines: &[SharedLine<L>], firsts: &mut Vec<Pass<L>>, mut jobs: Vec<Job<L>>)
     requires home { AreHome lines.now firsts.old.items }
-    requires seated { (i : ℕ) (j : JobSeen) → slice_get jobs.items i ≡ Some j
-        → AreSeated lines.now j }
+    requires posted { (i : ℕ) (j : JobSeen) → slice_get jobs.items i ≡ Some j
+        → ArePosted lines.now j }
     ensures home { AreHome lines.now firsts.new.items }
     ensures gathers { (board : BoardSeen) → Gathers board lines.now jobs.items firsts.old.items
         → Gathers board lines.now [] firsts.new.items }
@@ -58,18 +58,18 @@ fn meet_all<L: IrqLine>(lines: &[SharedLine<L>], firsts: &mut Vec<Pass<L>>, mut 
 /// The first passes meet the passes of a job.
 fn meet_job<L: IrqLine>(lines: &[SharedLine<L>], firsts: &mut Vec<Pass<L>>, job: Job<L>)
     requires home { AreHome lines.now firsts.old.items }
-    requires seated { AreSeated lines.now job }
+    requires posted { ArePosted lines.now job }
     ensures { IsMet lines.now job firsts.old.items firsts.new.items }
 {
     let Job {
         first,
-        mut seats,
+        mut posts,
         ..
     } = job;
-    while let Some(seat) = seats.pop() {
-        let place = first + seats.len();
+    while let Some(post) = posts.pop() {
+        let place = first + posts.len();
         let home = &mut firsts[place];
-        lines[place].meet(home, seat.pass);
+        lines[place].meet(home, post.pass);
     }
 }
 

@@ -1,10 +1,10 @@
 //! What a worker does, and how it went.
-use crate::seat::Seat;
+use crate::post::Post;
 use irq_base::{Actor, LineNo};
 use irq_line::IrqLine;
 use std::marker::Model;
 
-/// How a worker's part of a round of threads ended.
+/// How a worker's part of a shift of threads ended.
 #[derive(Clone, Copy, PartialEq, Eq)]
 pub(crate) enum Left {
     /// It made no step: its actor has nothing due on what it has seen.
@@ -24,15 +24,15 @@ pub(crate) struct Job<L: IrqLine> {
     /// The index of the line of its first pass. The passes are of this line and of the lines after
     /// it.
     pub(crate) first: usize,
-    pub(crate) seats: Vec<Seat<L>>,
+    pub(crate) posts: Vec<Post<L>>,
     /// Of a processor: the pass with which it has a flow in progress.
     pub(crate) flow: Option<usize>,
     /// Of a processor: the pass with which it made its last step.
     pub(crate) last: usize,
     /// Of a driver: how many of the board's calls it is past.
     pub(crate) at: usize,
-    /// How many turns it has had in this run.
-    pub(crate) turns: u64,
+    /// How many attempts it has had in this run.
+    pub(crate) attempts: u64,
     pub(crate) left: Left,
 }
 
@@ -44,7 +44,7 @@ impl<L: IrqLine> Model for Job<L> {
     ghost view = { λ j. record {
       actor = j.actor;
       first = j.first;
-      seats = j.seats.items;
+      posts = j.posts.items;
       flow = j.flow;
       at = j.at;
       left = j.left;

@@ -124,15 +124,15 @@ impl<'b, L: IrqLine> Jobs<'b, L> {
         ensures hires { OnOk result (Hires lines.now actor self.old self.new) }
     {
         let (first, end) = lines.span_of(actor);
-        let seats = fork_all(alloc, &lines.lines, &mut self.firsts, first, end, actor)?;
+        let posts = fork_all(alloc, &lines.lines, &mut self.firsts, first, end, actor)?;
         self.jobs.push(Job {
             actor,
             first,
-            seats,
+            posts,
             flow: None,
             last: 0,
             at: 0,
-            turns: 0,
+            attempts: 0,
             left: Left::Idle,
         })?;
         Ok(())

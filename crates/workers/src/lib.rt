@@ -1,13 +1,14 @@
-//! Rounds of threads over shared lines: each device's thread, each processor and each driver of a
-//! board has a worker. A round here is the time in which each worker makes some steps, and no round
-//! of handlers within a flow. Up to 64 workers have a thread each; more of them share threads.
+//! Shifts of threads over shared lines: each device's thread, each processor and each driver of a
+//! board has a worker. A shift is the time in which each worker makes some steps. Up to 64 workers
+//! have a thread each; more of them share threads.
 //!
 //! `share` puts each line of a board behind its lock and gives the actors their passes;
-//! `run_rounds` lets the workers step, until a round makes no step; `gather` takes the lines back.
-//! Each worker knows facts of its own job alone, and the rounds collect them. Nothing is claimed of
+//! `run_shifts` lets the workers step, until a shift makes no step; `gather` takes the lines back.
+//! Each worker knows facts of its own job alone, and the shifts collect them. Nothing is claimed of
 //! time, of fairness, or that threads run beside each other.
 #![tactic(auto)]
 
+mod attempts;
 mod crew;
 mod dealing;
 mod drivers;
@@ -17,13 +18,12 @@ pub mod gathers;
 mod job;
 pub mod jobs;
 pub mod lines;
-pub mod rounds;
-mod seat;
+mod post;
+pub mod shifts;
 mod sweeps;
-mod turns;
 
 pub use gate::{Gate, NoGate};
 pub use gathers::gather;
 pub use jobs::{Jobs, share};
 pub use lines::SharedLines;
-pub use rounds::{RoundsEnd, run_rounds};
+pub use shifts::{ShiftsEnd, run_shifts};

@@ -1,16 +1,17 @@
-//! What a thread does in a round: it sweeps over its jobs, again and again.
+//! What a thread does in a shift: it sweeps over its jobs, again and again.
 ghost use Rattle.std.specs.Prelude.{◌≡◌, ◌<◌, All};
 ghost use Rattle.workers.specs.Fit.{IsJob};
 ghost use Rattle.workers.specs.Forks.{AreBoards};
 ghost use Rattle.workers.specs.Room.{RoomLeft};
-ghost use Rattle.workers.specs.Rounds.{GoesOn, GoOnJobs, KeepsJobs, LeftIsSo, TurnsJob, WorksJob};
-ghost use Rattle.workers.specs.Rounds.{WorksOn, with_earlier};
+ghost use Rattle.workers.specs.Shifts.{GoesOn, GoOnJobs, KeepsJobs, LeftIsSo, AttemptsJob};
+ghost use Rattle.workers.specs.Shifts.{WorksJob};
+ghost use Rattle.workers.specs.Shifts.{WorksOn, with_earlier};
 
+use crate::attempts::Attempt;
 use crate::gate::Gate;
 use crate::job::{Job, Left};
 use crate::lines::SharedLines;
-use crate::rounds::worse;
-use crate::turns::Turn;
+use crate::shifts::worse;
 use board_def::Board;
 use callbacks::{Callbacks, Handler};
 use irq_base::Actor;
@@ -19,19 +20,19 @@ use std::hint::spin_loop;
 use std::sync::Wait;
 use std::sync::atomic::{AtomicU64, Ordering};
 
-/// In a round a worker makes at most as many steps as the greatest length of a history divided by
+/// In a shift a worker makes at most as many steps as the greatest length of a history divided by
 /// this. So a worker that could go on by itself, like a processor that takes a level line again and
 /// again until the thread of its device has run, leaves room for the workers that wait for the next
-/// round. Threads are made anew for each round, so a worker's part should not be small.
+/// shift. Threads are made anew for each shift, so a worker's part should not be small.
 const SHARE: u32 = 16;
 
-/// The least that the bound on a worker's steps in a round can be.
+/// The least that the bound on a worker's steps in a shift can be.
 const LEAST: u32 = 16;
 
-/// The most that the bound on a worker's steps in a round can be, however long histories may grow.
+/// The most that the bound on a worker's steps in a shift can be, however long histories may grow.
 const MOST: u32 = 65_536;
 
-/// How often a thread with one job looks again if it finds nothing, before its part of a round
+/// How often a thread with one job looks again if it finds nothing, before its part of a shift
 /// ends.
 const LOOKS: usize = 64;
 
@@ -40,45 +41,45 @@ const LOOKS: usize = 64;
 const LOOKS_OVER_SEVERAL: usize = 2;
 
 impl<L: IrqLine> Job<L> {
-    /// One turn of the actor.
-    fn turn<R: Wait, H: Handler>(
+    /// One attempt of the actor.
+    fn attempt<R: Wait, H: Handler>(
         &mut self,
         rt: &R,
         board: &Board,
         lines: &SharedLines<L>,
         handlers: &Callbacks<H>,
-    ) -> Turn
+    ) -> Attempt
         requires boards { AreBoards board.now lines.now }
         requires job { IsJob board.now lines.now self.old }
-        ensures { TurnsJob board.now lines.now result self.old self.new }
+        ensures { AttemptsJob board.now lines.now result self.old self.new }
     {
         match self.actor {
-            Actor::Thread(..) => self.try_seat(rt, lines, 0, handlers),
-            Actor::Cpu(_) => self.turn_cpu(rt, lines, handlers),
-            Actor::Driver(driver) => self.turn_driver(rt, board, lines, driver, handlers),
+            Actor::Thread(..) => self.try_post(rt, lines, 0, handlers),
+            Actor::Cpu(_) => self.attempt_cpu(rt, lines, handlers),
+            Actor::Driver(driver) => self.attempt_driver(rt, board, lines, driver, handlers),
         }
     }
 
-    /// One turn of the actor, once the gate lets it pass.
-    fn turn_at_gate<R: Wait, G: Gate, H: Handler>(
+    /// One attempt of the actor, once the gate lets it pass.
+    fn attempt_at_gate<R: Wait, G: Gate, H: Handler>(
         &mut self,
         rt: &R,
         board: &Board,
         lines: &SharedLines<L>,
         gate: &G,
         handlers: &Callbacks<H>,
-    ) -> Turn
+    ) -> Attempt
         requires boards { AreBoards board.now lines.now }
         requires job { IsJob board.now lines.now self.old }
-        ensures { TurnsJob board.now lines.now result self.old self.new }
+        ensures { AttemptsJob board.now lines.now result self.old self.new }
     {
-        self.turns = self.turns.saturating_add(1);
-        gate.pass(self.actor, self.turns);
-        self.turn(rt, board, lines, handlers)
+        self.attempts = self.attempts.saturating_add(1);
+        gate.pass(self.actor, self.attempts);
+        self.attempt(rt, board, lines, handlers)
     }
 
     /// Steps of the actor, as long as there is something to do, at most `most`.
-    fn take_turns<R: Wait, G: Gate, H: Handler>(
+    fn make_attempts<R: Wait, G: Gate, H: Handler>(
         &mut self,
         rt: &R,
         board: &Board,
@@ -95,18 +96,18 @@ impl<L: IrqLine> Job<L> {
         ensures room { RoomLeft result self.old self.new }
     {
         for steps in 0..most {
-            match self.turn_at_gate(rt, board, lines, gate, handlers) {
-                Turn::Moved(_) => {}
-                Turn::NotYet if steps > 0 => return Left::Busy,
-                Turn::NotYet => return Left::Idle,
-                Turn::Full { line, len } => return Left::Full { line, len },
-                Turn::NoMemory => return Left::NoMemory,
+            match self.attempt_at_gate(rt, board, lines, gate, handlers) {
+                Attempt::Moved(_) => {}
+                Attempt::NotYet if steps > 0 => return Left::Busy,
+                Attempt::NotYet => return Left::Idle,
+                Attempt::Full { line, len } => return Left::Full { line, len },
+                Attempt::NoMemory => return Left::NoMemory,
             }
         }
         Left::Busy
     }
 
-    /// The first that a worker does in a round.
+    /// The first that a worker does in a shift.
     fn work<R: Wait, G: Gate, H: Handler>(
         &mut self,
         rt: &R,
@@ -121,10 +122,10 @@ impl<L: IrqLine> Job<L> {
         requires some { 0 < most }
         ensures { WorksJob board.now lines.now self.old self.new }
     {
-        self.left = self.take_turns(rt, board, lines, most, gate, handlers);
+        self.left = self.make_attempts(rt, board, lines, most, gate, handlers);
     }
 
-    /// What a worker does later in the round, and how this went. If it made a step before, it is
+    /// What a worker does later in the shift, and how this went. If it made a step before, it is
     /// left as one that made a step, also if there is nothing more to do.
     fn go_on<R: Wait, G: Gate, H: Handler>(
         &mut self,
@@ -141,13 +142,13 @@ impl<L: IrqLine> Job<L> {
         ensures { GoesOn board.now lines.now self.old self.new }
     {
         let before = self.left;
-        let left = self.take_turns(rt, board, lines, most, gate, handlers);
+        let left = self.make_attempts(rt, board, lines, most, gate, handlers);
         self.left = with_earlier(before, left);
         left
     }
 }
 
-/// How a worker is left that was left so before and made this of its next turns.
+/// How a worker is left that was left so before and made this of its next attempts.
 fn with_earlier(before: Left, left: Left) -> Left
     ensures { result ≡ with_earlier before left }
 {
@@ -157,7 +158,7 @@ fn with_earlier(before: Left, left: Left) -> Left
     }
 }
 
-/// A thread's part of a round: sweeps over its jobs, as long as one of the workers finds something
+/// A thread's part of a shift: sweeps over its jobs, as long as one of the workers finds something
 /// to do. With several jobs each gets some steps at once. It is counted if it was used up, that is,
 /// if there was still something to do.
 pub(crate) fn work_on<R: Wait, L: IrqLine, G: Gate, H: Handler>(
@@ -218,7 +219,7 @@ fn look<R: Wait, L: IrqLine, G: Gate, H: Handler>(
     sweep(rt, board, lines, jobs, at_once, gate, handlers)
 }
 
-/// The round's first sweep: each worker has its first turns.
+/// The shift's first sweep: each worker has its first attempts.
 fn sweep_first<R: Wait, L: IrqLine, G: Gate, H: Handler>(
     rt: &R,
     board: &Board,
@@ -238,7 +239,7 @@ fn sweep_first<R: Wait, L: IrqLine, G: Gate, H: Handler>(
     }
 }
 
-/// A later sweep: each worker has some turns. The answer is that which comes first of theirs.
+/// A later sweep: each worker has some attempts. The answer is that which comes first of theirs.
 fn sweep<R: Wait, L: IrqLine, G: Gate, H: Handler>(
     rt: &R,
     board: &Board,

@@ -11,7 +11,7 @@ loop-job-preserved g c =
     let old = c.loop-job.invariant in
     record {
       home = c.meet_job.ensures.home;
-      seated = λ i j at. old.seated i j (ap (λ (js : List JobSeen). slice_get js i) popped ∙ at_old c.pop.new.self.items (c.in-Some.job ∷ []) i j at);
+      posted = λ i j at. old.posted i j (ap (λ (js : List JobSeen). slice_get js i) popped ∙ at_old c.pop.new.self.items (c.in-Some.job ∷ []) i j at);
       gathers = λ board g0.
           gathers_on board c.args.lines.now c.pop.new.self.items c.in-Some.job c.loop-job.firsts.items c.meet_job.new.firsts.items c.meet_job.ensures old.home
           (subst (λ (js : List JobSeen). Gathers board c.args.lines.now js c.loop-job.firsts.items) popped (old.gathers board g0));

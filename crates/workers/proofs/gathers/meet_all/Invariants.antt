@@ -1,6 +1,6 @@
 use Rattle.std.proofs.Common.{◌≡◌, ℕ, Some, length, slice_get}
 use Rattle.board_def.specs.Seen.{BoardSeen}
-use Rattle.workers.specs.Fit.{AreSeated}
+use Rattle.workers.specs.Fit.{ArePosted}
 use Rattle.workers.specs.Gathers.{AreHome, Gathers}
 use Rattle.workers.specs.Seen.{JobSeen}
 use Rattle.workers.proofs.gathers.meet_all.Given as goal
@@ -8,7 +8,7 @@ use Rattle.workers.proofs.gathers.meet_all.Given as goal
 abbrev pub invariant-loop-job : goal.invariant-loop-job
 invariant-loop-job g l = record {
   home : AreHome l.lines l.firsts.items;
-  seated : (i : ℕ) (j : JobSeen) → slice_get l.jobs.items i ≡ Some j → AreSeated l.lines j;
+  posted : (i : ℕ) (j : JobSeen) → slice_get l.jobs.items i ≡ Some j → ArePosted l.lines j;
   gathers : (board : BoardSeen) → Gathers board l.lines l.fn.jobs.items l.fn.firsts.items → Gathers board l.lines l.jobs.items l.firsts.items;
 }
 

@@ -1,4 +1,4 @@
-use Rattle.workers.specs.Rounds.{GoOnJobs}
+use Rattle.workers.specs.Shifts.{GoOnJobs}
 use Rattle.workers.proofs.sweeps.look.Given as goal
 
 abbrev pub invariant-loop : goal.invariant-loop

@@ -1,5 +1,5 @@
 use Rattle.std.proofs.Common.{◌≡◌, ℕ, ◌<◌, ◌≤◌, get_or}
-use Rattle.workers.specs.Rounds.{WorksJob}
+use Rattle.workers.specs.Shifts.{WorksJob}
 use Rattle.workers.specs.Seen.{JobSeen}
 use Rattle.workers.proofs.sweeps.sweep_first.Given as goal
 

@@ -1,4 +1,4 @@
-use Rattle.workers.specs.Rounds.{KeepsJobs}
+use Rattle.workers.specs.Shifts.{KeepsJobs}
 use Rattle.workers.proofs.sweeps.work_on.Given as goal
 
 abbrev pub invariant-loop : goal.invariant-loop

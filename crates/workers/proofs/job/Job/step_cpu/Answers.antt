@@ -1,6 +1,6 @@
 use Rattle.std.proofs.Common.{ℕ, ◌+◌, Option, slice_get, ap, ◌∙◌}
 use Rattle.workers.specs.Seen.{JobSeen}
-use Rattle.workers.specs.Turns.{flow_after}
+use Rattle.workers.specs.Attempts.{flow_after}
 use Rattle.workers.proofs.Flowing.{cpu_rests, cpu_moved}
 use Rattle.workers.proofs.job.Job.step_cpu.Goals as goal
 
@@ -8,12 +8,12 @@ pub returns-in-Moved : goal.returns-in-Moved
 returns-in-Moved g c =
     let s = c.in-Moved.ensures in
     let from = ap (λ (j : JobSeen). j.first) c.self.view_is ∙ ap (λ (j : JobSeen). j.first) s.is in
-    cpu_moved c.args.lines.now c.args.place c.args.self.now c.try_seat-turn.new.self c.requires.seated c.requires.flow
+    cpu_moved c.args.lines.now c.args.place c.args.self.now c.try_post-attempt.new.self c.requires.posted c.requires.flow
     c.requires.its c.requires.free c.in-Moved.entry s c.flow_at-flow.result
     (record {
       actor = c.self.inside.actor;
       first = c.self.inside.first;
-      seats = c.self.inside.seats.items;
+      posts = c.self.inside.posts.items;
       flow
           = c.flow_after-self-inside.result;
       at = c.self.inside.at;
@@ -23,8 +23,8 @@ returns-in-Moved g c =
     (ap (λ (f : Option ℕ). record {
       actor = c.self.inside.actor;
       first = c.self.inside.first;
-      seats
-          = c.self.inside.seats.items;
+      posts
+          = c.self.inside.posts.items;
       flow = f;
       at = c.self.inside.at;
       left = c.self.inside.left;
@@ -34,5 +34,5 @@ returns-in-Moved g c =
 
 pub returns-in_default : goal.returns-in_default
 returns-in_default g c =
-    cpu_rests c.args.lines.now c.args.place c.args.self.now c.try_seat-turn.new.self c.requires.seated c.requires.flow
-    c.requires.its c.requires.free c.try_seat-turn.result c.try_seat-turn.ensures c.in_default.not-Moved
+    cpu_rests c.args.lines.now c.args.place c.args.self.now c.try_post-attempt.new.self c.requires.posted c.requires.flow
+    c.requires.its c.requires.free c.try_post-attempt.result c.try_post-attempt.ensures c.in_default.not-Moved

@@ -7,19 +7,19 @@ pub returns-in_default : goal.returns-in_default
 returns-in_default g c =
     driver_rests c.args.board.now c.args.lines.now c.requires.boards c.args.call.driver c.args.self.now
     c.requires.driven c.is_board.ensures.board c.args.call c.requires.call refl c.args.place c.requires.place
-    c.try_seat-turn.result c.try_seat-turn.new.self c.try_seat-turn.ensures
+    c.try_post-attempt.result c.try_post-attempt.new.self c.try_post-attempt.ensures
     c.in_default.not-Moved
 
 pub returns-then-completes : goal.returns-then-completes
 returns-then-completes g c =
     driver_moved c.args.board.now c.args.lines.now c.requires.boards c.args.call.driver c.args.self.now
     c.requires.driven c.is_board.ensures.board c.args.call c.requires.call refl c.args.place c.requires.place
-    c.try_seat-turn.result c.try_seat-turn.new.self c.try_seat-turn.ensures
+    c.try_post-attempt.result c.try_post-attempt.new.self c.try_post-attempt.ensures
     c.in-Moved.entry c.in-Moved.is true (sym c.completes.ensures ∙ c.if-completes.true) _ (ap (λ (x : JobSeen). record x { at = x.at + 1 }) c.self.view_is)
 
 pub returns-else-completes : goal.returns-else-completes
 returns-else-completes g c =
     driver_moved c.args.board.now c.args.lines.now c.requires.boards c.args.call.driver c.args.self.now
     c.requires.driven c.is_board.ensures.board c.args.call c.requires.call refl c.args.place c.requires.place
-    c.try_seat-turn.result c.try_seat-turn.new.self c.try_seat-turn.ensures
-    c.in-Moved.entry c.in-Moved.is false (sym c.completes.ensures ∙ c.if-completes.false) c.try_seat-turn.new.self refl
+    c.try_post-attempt.result c.try_post-attempt.new.self c.try_post-attempt.ensures
+    c.in-Moved.entry c.in-Moved.is false (sym c.completes.ensures ∙ c.if-completes.false) c.try_post-attempt.new.self refl

@@ -12,5 +12,5 @@ pub returns-clause-hires : goal.returns-clause-hires
 returns-clause-hires g c =
     hires_one c.args.lines.now c.deref.result.now c.args.self.now c.self.inside.board.now c.self.inside.jobs.items
     c.self.inside.firsts.items c.fork_all.new.firsts.items c.args.actor c.span_of-first.result.0
-    c.span_of-first.result.1 c.in_ok-seats.seats.items
-    (c.deref.ensures.value ∙ c.lines.view_is) c.self.view_is c.requires.firsts c.span_of-first.ensures c.in_ok-seats.ensures _ c.in_ok-push.ensures.items
+    c.span_of-first.result.1 c.in_ok-posts.posts.items
+    (c.deref.ensures.value ∙ c.lines.view_is) c.self.view_is c.requires.firsts c.span_of-first.ensures c.in_ok-posts.ensures _ c.in_ok-push.ensures.items

@@ -1,0 +1,11 @@
+use Rattle.std.proofs.Common.{◌<◌, ◌≤◌}
+use Rattle.workers.specs.Room.{room_of_posts}
+use Rattle.workers.specs.Shifts.{WorksOn}
+use Rattle.workers.proofs.job.Job.make_attempts.Given as goal
+
+abbrev pub invariant-loop-steps : goal.invariant-loop-steps
+invariant-loop-steps g l = record {
+  works : WorksOn l.board l.lines l.fn.self l.self;
+  room : room_of_posts l.self.posts ≤ room_of_posts l.fn.self.posts;
+  less : 0 < l.steps → room_of_posts l.self.posts < room_of_posts l.fn.self.posts;
+}

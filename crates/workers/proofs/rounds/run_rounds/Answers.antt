@@ -1,8 +1,0 @@
-use Rattle.workers.proofs.Rounding.{quiet, full_for}
-use Rattle.workers.proofs.rounds.run_rounds.Goals as goal
-
-pub returns-in-Idle-clause-end : goal.returns-in-Idle-clause-end
-returns-in-Idle-clause-end g c = quiet c.one_round.new.self c.one_round.ensures.left c.in-Idle.ensures.all
-
-pub returns-in-Full-clause-end : goal.returns-in-Full-clause-end
-returns-in-Full-clause-end g c = full_for c.one_round.new.self c.in-Full.line c.in-Full.len c.one_round.ensures.left c.in-Full.ensures.all

@@ -1,0 +1,157 @@
+-- What a worker's attempt comes to.
+use Rattle.std.specs.Prelude.{◌≡◌, ℕ, ◌+◌, ◌≤◌, ◌⊎◌, Bool, true, false, ◌&&◌, ◌||◌, Option, Some}
+use Rattle.std.specs.Prelude.{None, Result, Ok, Err, List, length, slice_get, slice_set}
+use Rattle.std.specs.Prelude.{if◌then◌else◌}
+use Rattle.irq_base.specs.declared.entries.Actor.TheVariants as actors
+use Rattle.irq_base.specs.declared.entries.Entry.{Entry}
+use Rattle.irq_base.specs.declared.lines.FlowKind.{FlowKind}
+use Rattle.irq_base.specs.declared.lines.LineDef.{LineDef}
+use Rattle.irq_base.specs.declared.numbers.CpuNo.{CpuNo}
+use Rattle.irq_base.specs.declared.numbers.DriverNo.{DriverNo}
+use Rattle.irq_base.specs.declared.numbers.LineNo.{LineNo}
+use Rattle.irq_line.specs.declared.answers.StepRefused.{StepRefused}
+use Rattle.irq_line.specs.declared.answers.StepRefused.TheVariants as refusals
+use Rattle.irq_model.specs.Kinds.{is_handle, is_leave, is_again}
+use Rattle.irq_model.specs.Lines.{is_eoi_flow}
+use Rattle.board_def.specs.Seen.{BoardSeen}
+use Rattle.board_def.specs.declared.rows.ScriptCall.{ScriptCall}
+use Rattle.line_lock.specs.Passes.{LockSeen}
+use Rattle.line_lock.specs.declared.view.Known.{Known}
+use Rattle.board_play.specs.Kept.{IsUpTo}
+use Rattle.workers.specs.Fit.{IsPost, ArePosted, HasOneFlow, IsInFlow, HasItsFlow, own_lines}
+use Rattle.workers.specs.Room.{RoomAfter}
+use Rattle.workers.specs.Seen.{PostSeen, JobSeen}
+use Rattle.workers.specs.Tries.{IsIdle, IsFull, Tries, rests_after}
+use Rattle.workers.specs.declared.attempts.Attempt.{Attempt}
+use Rattle.workers.specs.declared.attempts.Attempt.TheVariants as attempts
+
+abbrev pub attempt_of : LineNo → Result (Option Entry) StepRefused → Attempt
+attempt_of line (Ok (Some e)) = attempts.Moved e
+attempt_of line (Ok None) = attempts.NotYet
+attempt_of line (Err (refusals.Full len)) = attempts.Full line len
+attempt_of line (Err refusals.NoMemory) = attempts.NoMemory
+
+-- if a processor has its flow on the line, its try there never answers that nothing is due
+abbrev pub FlowMoves : LineDef → Known → Result (Option Entry) StepRefused → Type 0
+FlowMoves def k tried = (c : CpuNo) → k.actor ≡ Some (actors.Cpu c) → IsInFlow def c k
+    → tried ≡ Ok None → ⊥
+
+-- a try with the pass at index `place`: the pass is right afterwards, and all else is as it was
+pub record StepsPost (lines : List LockSeen) (place : ℕ) (attempt : Attempt) (old new : JobSeen)
+    : Type 0 where
+  pub line : LockSeen
+  pub post : PostSeen
+  pub after : PostSeen
+  pub tried : Result (Option Entry) StepRefused
+  pub at_line : slice_get lines (old.first + place) ≡ Some line
+  pub at_post : slice_get old.posts place ≡ Some post
+  pub told : attempt ≡ attempt_of line.def.line tried
+  pub is : new ≡ record old { posts = slice_set old.posts place after }
+  pub is_post : IsPost line old.actor after
+  pub tries : Tries line.def old.actor post.pass.knows tried after.pass.knows
+  pub rests : after.rests ≡ rests_after tried
+  pub flows : post.rests ≡ false → FlowMoves line.def post.pass.knows tried
+
+-- the pass with which a processor has a flow in progress, after it added the entry with the pass at
+-- index `place`
+abbrev pub flow_after : FlowKind → Entry → ℕ → Option ℕ → Option ℕ
+flow_after flow e place before =
+    if is_handle e then Some place
+    else (if is_leave e || (is_eoi_flow flow && is_again e) then None else before)
+
+abbrev pub is_not_yet : Attempt → Bool
+is_not_yet attempts.NotYet = true
+is_not_yet _ = false
+
+-- the job has the same actor, and as many passes of the same lines, all right
+pub record KeepsPosts (lines : List LockSeen) (old new : JobSeen) : Type 0 where
+  pub actor : new.actor ≡ old.actor
+  pub first : new.first ≡ old.first
+  pub as_many : length new.posts ≡ length old.posts
+  pub posted : ArePosted lines new
+
+-- a step is due with one of the passes on this line, and the line has the greatest length
+pub record IsFullOn (j : JobSeen) (line : LineNo) (len : ℕ) : Type 0 where
+  pub place : ℕ
+  pub post : PostSeen
+  pub at : slice_get j.posts place ≡ Some post
+  pub number : post.pass.def.line ≡ line
+  pub is : IsFull post.pass.def j.actor post.pass.knows
+  pub log : len ≡ post.pass.def.log
+
+abbrev pub FullIsSo : JobSeen → Attempt → Type 0
+FullIsSo j (attempts.Full line len) = IsFullOn j line len
+FullIsSo j _ = Unit {0}
+
+-- a processor's try: it has a flow on at most one line; if nothing was due, the post says so, and
+-- the flow is as it was; the other passes are as they were; on the line of its flow something was
+-- due
+pub record StepsCpu (lines : List LockSeen) (place : ℕ) (attempt : Attempt) (old new : JobSeen)
+    : Type 0 where
+  pub keeps : KeepsPosts lines old new
+  pub flow : HasOneFlow new
+  pub its : HasItsFlow new
+  pub moves : old.flow ≡ Some place → attempt ≡ attempts.NotYet → ⊥
+  pub rests : attempt ≡ attempts.NotYet → (s : PostSeen) → slice_get new.posts place ≡ Some s
+      → s.rests ≡ true
+  pub still : attempt ≡ attempts.NotYet → new.flow ≡ old.flow
+  pub others : (i : ℕ) (s : PostSeen) → (i ≡ place → ⊥) → slice_get new.posts i ≡ Some s
+      → slice_get old.posts i ≡ Some s
+  pub full : FullIsSo new attempt
+  pub room : RoomAfter attempt old new
+
+-- a processor's try on the line of its last step, or none: it has a flow on at most one line; if
+-- nothing was due, the flow is as it was
+pub record TriesLast (lines : List LockSeen) (attempt : Attempt) (old new : JobSeen) : Type 0 where
+  pub keeps : KeepsPosts lines old new
+  pub flow : HasOneFlow new
+  pub its : HasItsFlow new
+  pub still : attempt ≡ attempts.NotYet → new.flow ≡ old.flow
+  pub full : FullIsSo new attempt
+  pub room : RoomAfter attempt old new
+
+-- a processor's attempt: if nothing was due, all its posts say so
+pub record AttemptsCpu (lines : List LockSeen) (attempt : Attempt) (old new : JobSeen)
+    : Type 0 where
+  pub keeps : KeepsPosts lines old new
+  pub flow : HasOneFlow new
+  pub its : HasItsFlow new
+  pub rests : attempt ≡ attempts.NotYet → (i : ℕ) (s : PostSeen) → slice_get new.posts i ≡ Some s
+      → s.rests ≡ true
+  pub full : FullIsSo new attempt
+  pub room : RoomAfter attempt old new
+
+-- ---- drivers
+
+-- the job is the driver's, and its entries are its script's calls up to its place
+pub record IsDriven (board : BoardSeen) (lines : List LockSeen) (r : DriverNo) (j : JobSeen)
+    : Type 0 where
+  pub actor : j.actor ≡ actors.Driver r
+  pub posted : ArePosted lines j
+  pub first : j.first ≡ 0
+  pub as_many : length j.posts ≡ length lines
+  pub up_to : IsUpTo board.calls (own_lines j.posts) r j.at
+  pub within : j.at ≤ length board.calls
+
+-- the driver waits at its current call: nothing is due on what its pass of the call's line has seen
+pub record WaitsAt (board : BoardSeen) (j : JobSeen) (r : DriverNo) : Type 0 where
+  pub call : ScriptCall
+  pub place : ℕ
+  pub post : PostSeen
+  pub at_call : slice_get board.calls j.at ≡ Some call
+  pub own : call.driver ≡ r
+  pub at_post : slice_get j.posts place ≡ Some post
+  pub line : post.pass.def.line ≡ call.line
+  pub rests : IsIdle post.pass.def (actors.Driver r) post.pass.knows
+
+-- a driver's attempt: its entries are its script's calls up to its place; if nothing was due, it is
+-- past all calls, or waits at one
+pub record AttemptsDriver (board : BoardSeen) (lines : List LockSeen) (r : DriverNo)
+    (attempt : Attempt)
+    (old new : JobSeen) : Type 0 where
+  pub keeps : KeepsPosts lines old new
+  pub up_to : IsUpTo board.calls (own_lines new.posts) r new.at
+  pub within : new.at ≤ length board.calls
+  pub rests : attempt ≡ attempts.NotYet → (length board.calls ≤ new.at) ⊎ WaitsAt board new r
+  pub full : FullIsSo new attempt
+  pub room : RoomAfter attempt old new

@@ -1,0 +1,135 @@
+-- What attempts, workers and shifts leave of jobs.
+use Rattle.std.specs.Prelude.{◌≡◌, ℕ, ◌<◌, ◌≤◌, ◌⊎◌, Some, List, length, slice_get}
+use Rattle.std.specs.Prelude.{slice_index_or, nat_lt, if◌then◌else◌}
+use Rattle.irq_base.specs.declared.entries.Actor.{Actor}
+use Rattle.irq_base.specs.declared.entries.Actor.TheVariants as actors
+use Rattle.irq_base.specs.declared.numbers.LineNo.{LineNo}
+use Rattle.board_def.specs.Seen.{BoardSeen}
+use Rattle.line_lock.specs.Passes.{LockSeen}
+use Rattle.workers.specs.Fit.{IsJob}
+use Rattle.workers.specs.Room.{RoomAfter, RoomLeft}
+use Rattle.workers.specs.Seen.{PostSeen, JobSeen, JobsSeen}
+use Rattle.workers.specs.Tries.{IsIdle}
+use Rattle.workers.specs.Attempts.{WaitsAt, IsFullOn}
+use Rattle.workers.specs.declared.job.Left.{Left}
+use Rattle.workers.specs.declared.job.Left.TheVariants as lefts
+use Rattle.workers.specs.declared.shifts.ShiftsEnd.{ShiftsEnd}
+use Rattle.workers.specs.declared.shifts.ShiftsEnd.TheVariants as ends
+use Rattle.workers.specs.declared.attempts.Attempt.{Attempt}
+use Rattle.workers.specs.declared.attempts.Attempt.TheVariants as attempts
+
+-- Nothing is due of the actor. For a thread or a processor: on what each of its passes has seen.
+-- For a driver: it is past all calls, or nothing is due on what its pass of the current call's line
+-- has seen.
+abbrev pub IsAtRest : BoardSeen → JobSeen → Actor → Type 0
+IsAtRest board j (actors.Driver r) = (length board.calls ≤ j.at) ⊎ WaitsAt board j r
+IsAtRest board j who =
+    (i : ℕ) (s : PostSeen) → slice_get j.posts i ≡ Some s → IsIdle s.pass.def who s.pass.knows
+
+-- the job is right; it has the same actor, and passes of the same lines
+pub record WorksOn (board : BoardSeen) (lines : List LockSeen) (old new : JobSeen) : Type 0 where
+  pub actor : new.actor ≡ old.actor
+  pub first : new.first ≡ old.first
+  pub as_many : length new.posts ≡ length old.posts
+  pub job : IsJob board lines new
+
+abbrev pub ComesTo : BoardSeen → JobSeen → Attempt → Type 0
+ComesTo board j attempts.NotYet = IsAtRest board j j.actor
+ComesTo board j (attempts.Full line len) = IsFullOn j line len
+ComesTo board j _ = Unit {0}
+
+pub record AttemptsJob (board : BoardSeen) (lines : List LockSeen) (attempt : Attempt)
+    (old new : JobSeen)
+    : Type 0 where
+  pub works : WorksOn board lines old new
+  pub came : ComesTo board new attempt
+  pub room : RoomAfter attempt old new
+
+-- how a worker left its job
+abbrev pub LeftIsSo : BoardSeen → JobSeen → Left → Type 0
+LeftIsSo board j lefts.Idle = IsAtRest board j j.actor
+LeftIsSo board j (lefts.Full line len) = IsFullOn j line len
+LeftIsSo board j _ = Unit {0}
+
+pub record WorksJob (board : BoardSeen) (lines : List LockSeen) (old new : JobSeen) : Type 0 where
+  pub works : WorksOn board lines old new
+  pub left : LeftIsSo board new new.left
+  pub room : RoomLeft new.left old new
+
+-- how a worker is left that was left so before in the shift and made this of its next attempts
+abbrev pub with_earlier : Left → Left → Left
+with_earlier lefts.Busy lefts.Idle = lefts.Busy
+with_earlier before left = left
+
+-- a worker's later part of a shift: what was true of its shift before is true of it still
+pub record GoesOn (board : BoardSeen) (lines : List LockSeen) (old new : JobSeen) : Type 0 where
+  pub works : WorksOn board lines old new
+  pub since : (start : JobSeen) → WorksJob board lines start old → WorksJob board lines start new
+
+-- each job after a later sweep of a shift
+abbrev pub GoOnJobs : BoardSeen → List LockSeen → List JobSeen → List JobSeen → Type 0
+GoOnJobs board lines old new = (k : ℕ) (d : JobSeen) → k < length old
+    → GoesOn board lines (slice_index_or old k d) (slice_index_or new k d)
+
+-- each job after a shift
+abbrev pub KeepsJobs : BoardSeen → List LockSeen → List JobSeen → List JobSeen → Type 0
+KeepsJobs board lines old new = (k : ℕ) (d : JobSeen) → k < length old
+    → WorksJob board lines (slice_index_or old k d) (slice_index_or new k d)
+
+abbrev pub EachLeftSo : JobsSeen → Type 0
+EachLeftSo s = (i : ℕ) (j : JobSeen) → slice_get s.jobs i ≡ Some j → LeftIsSo s.board j j.left
+
+-- ---- how shifts end
+
+-- of two workers' answers the one that comes first: the lower full line, then that memory was
+-- refused, then that a step was made
+abbrev pub worse : Left → Left → Left
+worse (lefts.Full a m) (lefts.Full b n) = if nat_lt b.0 a.0 then lefts.Full b n else lefts.Full a m
+worse (lefts.Full a m) _ = lefts.Full a m
+worse _ (lefts.Full b n) = lefts.Full b n
+worse lefts.NoMemory _ = lefts.NoMemory
+worse _ lefts.NoMemory = lefts.NoMemory
+worse lefts.Busy _ = lefts.Busy
+worse _ lefts.Busy = lefts.Busy
+worse lefts.Idle lefts.Idle = lefts.Idle
+
+-- one of the first n jobs was left at this full line, and none of them at a lower one
+pub record IsLowestFull (jobs : List JobSeen) (n : ℕ) (line : LineNo) (len : ℕ) : Type 0 where
+  pub place : ℕ
+  pub job : JobSeen
+  pub at : slice_get jobs place ≡ Some job
+  pub left : job.left ≡ lefts.Full line len
+  pub lowest : (k : ℕ) (j : JobSeen) (other : LineNo) (m : ℕ) → k < n → slice_get jobs k ≡ Some j
+      → j.left ≡ lefts.Full other m → line.0 ≤ other.0
+
+-- the answer for the first n jobs: all are idle; or this is the lowest full line; or none found a
+-- full line
+abbrev pub SumsUp : List JobSeen → ℕ → Left → Type 0
+SumsUp jobs n lefts.Idle =
+    (k : ℕ) (j : JobSeen) → k < n → slice_get jobs k ≡ Some j → j.left ≡ lefts.Idle
+SumsUp jobs n (lefts.Full line len) = IsLowestFull jobs n line len
+SumsUp jobs n _ = (k : ℕ) (j : JobSeen) (other : LineNo) (m : ℕ) → k < n → slice_get jobs k ≡ Some j
+    → j.left ≡ lefts.Full other m → ⊥
+
+-- if the answer is that a step was made, one of the first n jobs made one
+abbrev pub BusyIsSo : List JobSeen → ℕ → Left → Type 0
+BusyIsSo jobs n lefts.Busy =
+    (k : ℕ) × (j : JobSeen) × (k < n) × (slice_get jobs k ≡ Some j) × (j.left ≡ lefts.Busy)
+BusyIsSo jobs n _ = Unit {0}
+
+-- a step is due on the line with one of the jobs' passes, and the line has the greatest length
+pub record IsFullFor (s : JobsSeen) (line : LineNo) (len : ℕ) : Type 0 where
+  pub place : ℕ
+  pub job : JobSeen
+  pub at : slice_get s.jobs place ≡ Some job
+  pub is : IsFullOn job line len
+  -- no worker stopped at a full line with a lower number
+  pub lowest : (k : ℕ) (j : JobSeen) (other : LineNo) (m : ℕ) → slice_get s.jobs k ≡ Some j
+      → j.left ≡ lefts.Full other m → line.0 ≤ other.0
+
+-- Quiet: nothing is due of any actor. Full: a step is due on this line, the lowest at which a
+-- worker stopped
+abbrev pub Ends : JobsSeen → ShiftsEnd → Type 0
+Ends s ends.Quiet = (i : ℕ) (j : JobSeen) → slice_get s.jobs i ≡ Some j → IsAtRest s.board j j.actor
+Ends s (ends.Full line len) = IsFullFor s line len
+Ends s ends.NoMemory = Unit {0}

@@ -1,0 +1,98 @@
+//! A pass, with what its worker knows of it.
+ghost use Rattle.std.specs.Prelude.{◌≡◌, true, false, Some, IsSome, IsTrue};
+ghost use Rattle.irq_base.specs.declared.entries.Actor.{Actor};
+ghost use Rattle.line_lock.specs.Passes.{IsPassOf};
+ghost use Rattle.workers.specs.Tries.{IsIdle, Tries, rests_after};
+ghost use Rattle.workers.specs.Attempts.{FlowMoves};
+
+use callbacks::{Callbacks, Handler};
+use irq_base::Entry;
+use irq_line::{IrqLine, StepRefused, Stepped};
+use line_shared::{Pass, SharedLine};
+use std::marker::Model;
+use std::sync::Wait;
+
+/// A pass, and whether its actor is known to have nothing due on what the pass has seen. If so, and
+/// nothing has happened on the line since, the line needn't be asked again.
+#[derive(Drop)]
+pub(crate) struct Post<L: IrqLine> {
+    pub(crate) pass: Pass<L>,
+    pub(crate) rests: bool,
+}
+
+impl<L: IrqLine> Model for Post<L> {
+    ghost use Rattle.workers.specs.Seen.{PostSeen};
+
+    ghost Value = { PostSeen };
+
+    ghost view = { λ s. record { pass = s.pass; rests = s.rests } };
+}
+
+impl<L: IrqLine> Post<L> {
+    /// Tries the actor's next step on the line, unless nothing was due last time and nothing is
+    /// known to have happened on the line since.
+    pub(crate) fn step<R: Wait, H: Handler>(
+        &mut self,
+        rt: &R,
+        line: &SharedLine<L>,
+        handlers: &Callbacks<H>,
+    ) -> Result<Option<Entry>, StepRefused>
+        requires line { IsPassOf line.now self.old.pass }
+        requires idle { self.old.pass.turn ≡ false }
+        requires actor { IsSome self.old.pass.knows.actor }
+        requires known { self.old.rests ≡ true → (who : Actor)
+            → self.old.pass.knows.actor ≡ Some who → IsIdle line.now.def who self.old.pass.knows }
+        ensures line { IsPassOf line.now self.new.pass }
+        ensures idle { self.new.pass.turn ≡ false }
+        ensures actor { self.new.pass.knows.actor ≡ self.old.pass.knows.actor }
+        ensures rests { self.new.rests ≡ rests_after result }
+        ensures tries { (who : Actor) → self.old.pass.knows.actor ≡ Some who
+            → Tries line.now.def who self.old.pass.knows result self.new.pass.knows }
+        ensures flows { self.old.rests ≡ false → FlowMoves line.now.def self.old.pass.knows result }
+    {
+        if self.is_still(line) {
+            return Ok(None);
+        }
+        let tried = step_heard(rt, line, &mut self.pass, handlers);
+        self.rests = tried == Ok(None);
+        tried
+    }
+
+    /// Whether nothing was due of the actor last time, and nothing is known to have happened on the
+    /// line since.
+    fn is_still(&self, line: &SharedLine<L>) -> bool
+        ensures { IsTrue result → self.now.rests ≡ true }
+    {
+        self.rests && line.count() == self.pass.front()
+    }
+}
+
+/// Adds the entry that is due of the pass's actor, if there is one. If it ends a run of a handler,
+/// that handler is called, with the line let go.
+fn step_heard<L: IrqLine, R: Wait, H: Handler>(
+    rt: &R,
+    line: &SharedLine<L>,
+    pass: &mut Pass<L>,
+    handlers: &Callbacks<H>,
+) -> Result<Option<Entry>, StepRefused>
+    requires line { IsPassOf line.now pass.old }
+    requires idle { pass.old.turn ≡ false }
+    requires actor { IsSome pass.old.knows.actor }
+    ensures line { IsPassOf line.now pass.new }
+    ensures idle { pass.new.turn ≡ false }
+    ensures actor { pass.new.knows.actor ≡ pass.old.knows.actor }
+    ensures tries { (who : Actor) → pass.old.knows.actor ≡ Some who
+        → Tries line.now.def who pass.old.knows result pass.new.knows }
+    ensures flows { FlowMoves line.now.def pass.old.knows result }
+{
+    let mut said = None;
+    for _ in rt.forever() {
+        match line.step(rt, pass, said.take()) {
+            Ok(Stepped::Added(entry)) => return Ok(Some(entry)),
+            Ok(Stepped::NotYet) => return Ok(None),
+            Ok(Stepped::Run(run)) => said = Some(handlers.call(run)),
+            Err(refused) => return Err(refused),
+        }
+    }
+    unreachable!()
+}

@@ -1,0 +1,158 @@
+//! Shifts of threads over the jobs.
+ghost use Rattle.std.specs.Prelude.{◌≡◌, ◌<◌, ◌≤◌, ℕ, Some, All, length, slice_get};
+ghost use Rattle.workers.specs.Fit.{Fit, IsJob};
+ghost use Rattle.workers.specs.Forks.{AreBoards};
+ghost use Rattle.workers.specs.Room.{room_of_jobs};
+ghost use Rattle.workers.specs.Shifts.{BusyIsSo, EachLeftSo, Ends, KeepsJobs, SumsUp, worse};
+ghost use Rattle.workers.specs.Seen.{JobSeen};
+ghost use Rattle.workers.specs.declared.job.Left.TheVariants as lefts;
+
+use crate::gate::Gate;
+use crate::job::{Job, Left};
+use crate::jobs::Jobs;
+use crate::lines::SharedLines;
+use crate::sweeps::work_on;
+use board_def::Board;
+use callbacks::{Callbacks, Handler};
+use irq_base::LineNo;
+use irq_line::IrqLine;
+use std::sync::Wait;
+use std::sync::atomic::{AtomicU64, Ordering};
+use std::thread::{self, Threads};
+
+/// How the shifts ended.
+#[derive(Clone, Copy, PartialEq, Eq)]
+pub enum ShiftsEnd {
+    /// A shift made no step, since nothing was due of any actor on what it had seen.
+    Quiet,
+    /// A step was due on this line, and the line's history has the greatest length, `len`. Of
+    /// several such lines it is the lowest.
+    Full { line: LineNo, len: u32 },
+    /// Memory was needed and refused.
+    NoMemory,
+}
+
+/// Makes shifts of all jobs, until a shift makes no step, or a worker is refused. The jobs fit the
+/// lines. The shifts come to an end: in each shift but the last some pass sees more entries than
+/// before, and no pass can see more than a history of the greatest length.
+pub fn run_shifts<
+    R: Threads + Wait + Sync,
+    L: IrqLine + Send + Sync,
+    G: Gate + Sync,
+    H: Handler + Sync,
+>(
+    rt: &R,
+    lines: &SharedLines<L>,
+    jobs: &mut Jobs<'_, L>,
+    gate: &G,
+    handlers: &Callbacks<H>,
+) -> ShiftsEnd
+    requires { Fit lines.now jobs.old }
+    ensures board { jobs.new.board ≡ jobs.old.board }
+    ensures fit { Fit lines.now jobs.new }
+    ensures end { Ends jobs.new result }
+    ensures room { room_of_jobs jobs.new.jobs ≤ room_of_jobs jobs.old.jobs }
+{
+    let mut size = jobs.size;
+    loop {
+        let used_up = AtomicU64::new(0);
+        match jobs.one_shift(rt, lines, size, &used_up, gate, handlers) {
+            Left::Idle => return ShiftsEnd::Quiet,
+            Left::Busy => {}
+            Left::Full { line, len } => return ShiftsEnd::Full { line, len },
+            Left::NoMemory => return ShiftsEnd::NoMemory,
+        }
+        let was_long = used_up.load(Ordering::SeqCst) > 0;
+        size = next_size(size, jobs.size, jobs.jobs.len(), was_long);
+    }
+}
+
+/// How many jobs share a thread in the next shift, if `size` did in this one: at least `least`, and
+/// at most all. If no thread used its part up, each soon waited for steps of another one, and half
+/// as many threads lose less time so. Jobs that have a thread each keep it.
+fn next_size(size: usize, least: usize, all: usize, was_long: bool) -> usize {
+    if least <= 1 {
+        return least;
+    }
+    if was_long {
+        return (size / 2).max(least);
+    }
+    size.saturating_mul(2).min(all)
+}
+
+/// One shift: so many jobs each are worked on in a thread of their own, if it can be made.
+fn shift<R: Threads + Wait + Sync, L: IrqLine + Send + Sync, G: Gate + Sync, H: Handler + Sync>(
+    rt: &R,
+    board: &Board,
+    lines: &SharedLines<L>,
+    size: usize,
+    jobs: &mut [Job<L>],
+    used_up: &AtomicU64,
+    gate: &G,
+    handlers: &Callbacks<H>,
+)
+    requires boards { AreBoards board.now lines.now }
+    requires jobs { All (IsJob board.now lines.now) jobs.old }
+    ensures { KeepsJobs board.now lines.now jobs.old jobs.new }
+{
+    thread::for_each_chunk_mut(
+        rt,
+        jobs,
+        size.max(1),
+        &|_, part| work_on(rt, board, lines, part, used_up, gate, handlers),
+    );
+}
+
+impl<'b, L: IrqLine + Send + Sync> Jobs<'b, L> {
+    /// One shift of all jobs, and how they were left.
+    fn one_shift<R: Threads + Wait + Sync, G: Gate + Sync, H: Handler + Sync>(
+        &mut self,
+        rt: &R,
+        lines: &SharedLines<L>,
+        size: usize,
+        used_up: &AtomicU64,
+        gate: &G,
+        handlers: &Callbacks<H>,
+    ) -> Left
+        requires { Fit lines.now self.old }
+        ensures board { self.new.board ≡ self.old.board }
+        ensures fit { Fit lines.now self.new }
+        ensures left { EachLeftSo self.new }
+        ensures all { SumsUp self.new.jobs (length self.new.jobs) result }
+        ensures room { room_of_jobs self.new.jobs ≤ room_of_jobs self.old.jobs }
+        ensures busy { result ≡ lefts.Busy
+            → room_of_jobs self.new.jobs < room_of_jobs self.old.jobs }
+    {
+        let jobs = self.jobs.as_mut_slice();
+        shift(rt, self.board, lines, size, jobs, used_up, gate, handlers);
+        left_of_all(self.jobs.as_slice())
+    }
+}
+
+/// How the workers left their jobs, as one answer: a full line comes first, the lowest of several;
+/// then that memory was refused; then that a step was made; then that none was.
+fn left_of_all<L: IrqLine>(jobs: &[Job<L>]) -> Left
+    ensures all { SumsUp jobs.now (length jobs.now) result }
+    ensures busy { BusyIsSo jobs.now (length jobs.now) result }
+{
+    let mut all = Left::Idle;
+    for i in 0..jobs.len() {
+        let job = &jobs[i];
+        all = worse(all, job.left);
+    }
+    all
+}
+
+/// Of two answers the one that comes first in that order.
+pub(crate) fn worse(first: Left, second: Left) -> Left
+    ensures { result ≡ worse first second }
+{
+    match (first, second) {
+        (Left::Full { line: a, .. }, Left::Full { line: b, .. }) if b.0 < a.0 => second,
+        (Left::Full { .. }, _) => first,
+        (_, Left::Full { .. }) => second,
+        (Left::NoMemory, _) | (_, Left::NoMemory) => Left::NoMemory,
+        (Left::Busy, _) | (_, Left::Busy) => Left::Busy,
+        (Left::Idle, Left::Idle) => Left::Idle,
+    }
+}
