@@ -1,11 +1,12 @@
 -- One hold of the line by a pass.
-use Rattle.std.proofs.Common.{◌≡◌, Option, Some, Result, Ok, Err, List, [], ◌∷◌, ◌++◌, length, sym, ap, ◌∙◌}
+use Rattle.std.proofs.Common.{◌≡◌, Option, Some, Result, Ok, Err, List, [], ◌∷◌, ◌++◌, length, refl, sym, ap, ◌∙◌}
 use Rattle.irq_base.specs.Who.{actor_of}
 use Rattle.irq_base.specs.declared.entries.Actor.{Actor}
 use Rattle.irq_base.specs.declared.entries.Entry.{Entry}
 use Rattle.irq_base.specs.declared.lines.LineDef.{LineDef}
 use Rattle.callbacks.specs.Seen.{SaidSeen}
 use Rattle.irq_line.specs.Answers.{Answers}
+use Rattle.irq_line.specs.Memory.{WantsMemory}
 use Rattle.irq_line.specs.Seen.{LineSeen, IsSound}
 use Rattle.irq_line.specs.declared.answers.StepRefused.{StepRefused}
 use Rattle.irq_line.specs.declared.answers.StepRefused.TheVariants as refusals
@@ -41,20 +42,29 @@ module _ (key : LineDef) (who : Actor) (old new : Known) (line after : LineSeen)
   gains said (Err (refusals.Full len)) a = unchanged a.1
   gains said (Err refusals.NoMemory) a = unchanged a
 
-pub steps : (key : LineDef) (who : Actor) (old new : Known) (line after : LineSeen) (said : Option SaidSeen) (result : Result Stepped StepRefused)
-    → line.def ≡ key → old.actor ≡ Some who → IsSound line → BeginsWith line.entries old.seen → old.mine ≡ placed_of key.line old.actor line.entries
-    → Answers line who said result after → IsSound after → new ≡ looked key.line old after.entries → Steps key who old said result new
-steps key who old new line after said result def actor sound begins mine answer sound_after seen =
-    let own = mine ∙ ap (λ (o : Option Actor). placed_of key.line o line.entries) actor in
-    record {
-      line = line;
-      after = after;
-      def = def;
-      sound = sound;
-      begins = begins;
-      mine = own;
-      answer = answer;
-      sound_after = sound_after;
-      seen = seen;
-      gains = gains key who old new line after def actor own seen said result answer;
-    }
+module _ {T : Type 0} (seen_of : T → LineSeen) (may_want : Option Entry → Type 0) where
+  pub steps : (key : LineDef) (who : Actor) (old new : Known) (held : T) (after : LineSeen) (said : Option SaidSeen)
+      (result : Result Stepped StepRefused) → (seen_of held).def ≡ key → old.actor ≡ Some who → IsSound (seen_of held)
+      → BeginsWith (seen_of held).entries old.seen
+      → old.mine ≡ placed_of key.line old.actor (seen_of held).entries → Answers (seen_of held) who said result after
+      → WantsMemory may_want (seen_of held) who result → after.def ≡ key → IsSound after → new ≡ looked key.line old after.entries
+      → Steps seen_of may_want key who old said result new
+  steps key who old new held after said result def actor sound begins mine answer memory def_after sound_after seen =
+      let own = mine ∙ ap (λ (o : Option Actor). placed_of key.line o (seen_of held).entries) actor in
+      record {
+        held = held;
+        line = seen_of held;
+        after = after;
+        is = refl;
+        def = def;
+        sound = sound;
+        begins = begins;
+        mine = own;
+        answer = answer;
+        memory = memory;
+        def_after = def_after;
+        sound_after = sound_after;
+        seen = seen;
+        gains = gains key who old new (seen_of held) after def actor own seen said result answer;
+        own = mine_is key who old new (seen_of held) after def actor own seen after.entries refl;
+      }

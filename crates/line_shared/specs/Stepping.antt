@@ -5,6 +5,7 @@ use Rattle.irq_base.specs.declared.entries.Entry.{Entry}
 use Rattle.irq_base.specs.declared.lines.LineDef.{LineDef}
 use Rattle.callbacks.specs.Seen.{SaidSeen}
 use Rattle.irq_line.specs.Answers.{Answers}
+use Rattle.irq_line.specs.Memory.{WantsMemory}
 use Rattle.irq_line.specs.Seen.{LineSeen, IsSound}
 use Rattle.irq_line.specs.declared.answers.StepRefused.{StepRefused}
 use Rattle.irq_line.specs.declared.answers.Stepped.{Stepped}
@@ -23,21 +24,28 @@ Gains old history (Ok (stepped.Run run)) new = (new.seen ≡ history) × (new.mi
 Gains old history (Ok stepped.NotYet) new = (new.seen ≡ history) × (new.mine ≡ old.mine)
 Gains old history (Err refused) new = (new.seen ≡ history) × (new.mine ≡ old.mine)
 
--- One hold of the line by the pass, whose actor is `who`.
-pub record Steps (whole : LineDef) (who : Actor) (old : Known) (said : Option SaidSeen)
+-- One hold of the line by the pass, whose actor is `who`. What contracts see of a line is
+-- `seen_of`, and `may_want` says for which entries it may want memory though its history has room.
+pub record Steps {T : Type 0} (seen_of : T → LineSeen) (may_want : Option Entry → Type 0)
+    (whole : LineDef) (who : Actor) (old : Known) (said : Option SaidSeen)
     (result : Result Stepped StepRefused) (new : Known) : Type 0 where
-  -- the line as it was at this hold, and as it is afterwards
+  -- the line as it was at this hold, what was seen of it, and what is seen of it afterwards
+  pub held : T
   pub line : LineSeen
   pub after : LineSeen
+  pub is : seen_of held ≡ line
   pub def : line.def ≡ whole
   pub sound : IsSound line
   -- what the pass had seen is a beginning of the line's history, and its own entries are exactly
   -- the entries of its actor there
   pub begins : BeginsWith line.entries old.seen
   pub mine : old.mine ≡ placed_of whole.line (Some who) line.entries
-  -- the answer is the line's own
+  -- the answer is the line's own; if memory was refused, that line may have wanted it
   pub answer : Answers line who said result after
+  pub memory : WantsMemory may_want line who result
   -- and the pass has seen the history as it is now
+  pub def_after : after.def ≡ whole
   pub sound_after : IsSound after
   pub seen : new ≡ looked whole.line old after.entries
   pub gains : Gains old line.entries result new
+  pub own : new.mine ≡ placed_of whole.line (Some who) after.entries

@@ -4,6 +4,7 @@ ghost use Rattle.std.specs.Prelude.{length};
 ghost use Rattle.irq_base.specs.declared.entries.Actor.{Actor};
 ghost use Rattle.line_lock.specs.Knows.{nothing_known, is_among, forked, newcomer, Meets};
 ghost use Rattle.irq_line.specs.Answers.{Answers};
+ghost use Rattle.irq_line.specs.Memory.{WantsMemory};
 ghost use Rattle.irq_line.specs.Seen.{IsSound};
 ghost use Rattle.line_lock.specs.Passes.{IsPassOf, Extends};
 ghost use Rattle.line_shared.specs.Stepping.{Steps};
@@ -97,7 +98,7 @@ impl<L: IrqLine> SharedLine<L> {
         ensures idle { pass.new.turn ≡ false }
         ensures same_actor { pass.new.knows.actor ≡ pass.old.knows.actor }
         ensures steps { (who : Actor) → pass.old.knows.actor ≡ Some who
-            → Steps self.now.def who pass.old.knows said result pass.new.knows }
+            → Steps L.seen L.may_want self.now.def who pass.old.knows said result pass.new.knows }
     {
         let Some(actor) = pass.actor() else {
             unreachable!()
@@ -152,6 +153,7 @@ fn step_held<L: IrqLine>(
     ensures sound { IsSound (L.seen held.old.line.value) × IsSound (L.seen held.new.line.value) }
     ensures answer { Answers (L.seen held.old.line.value) actor said result
         (L.seen held.new.line.value) }
+    ensures memory { WantsMemory L.may_want (L.seen held.old.line.value) actor result }
     ensures few { length (L.seen held.new.line.value).entries ≤ 100000000 }
     ensures extends { Extends (L.seen held.old.line.value).def.line (Some actor)
         (L.seen held.old.line.value).entries (L.seen held.new.line.value).entries }

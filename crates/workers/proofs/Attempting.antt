@@ -78,58 +78,59 @@ module _ (lines here : List LockSeen) (j : JobSeen) (first place : ℕ) (posts :
       ∙ (ap (λ (ns : List LineNo). slice_get ns (first + place)) (are_numbers ∙ ap numbers_of same)
       ∙ (ap (λ (i : ℕ). slice_get (numbers_of lines) i) k_is ∙ at_map (λ (l : LockSeen). l.def.line) lines (j.first + place) a.line a.at_line)))
 
--- when nothing was due, that is known
-rests_idle : (def : LineDef) (who : Actor) (old new : Known) (tried : Result (Option Entry) StepRefused)
-    → Tries def who old tried new → rests_after tried ≡ true → IsIdle def who new
-rests_idle def who old new (Ok (Some e)) t is = cc
-rests_idle def who old new (Ok None) t is = t.came.0
-rests_idle def who old new (Err (refusals.Full len)) t is = cc
-rests_idle def who old new (Err refusals.NoMemory) t is = cc
+module _ (wanted : LineDef → List Entry → Actor → Type 0) where
+  -- when nothing was due, that is known
+  rests_idle : (def : LineDef) (who : Actor) (old new : Known) (tried : Result (Option Entry) StepRefused)
+      → Tries wanted def who old tried new → rests_after tried ≡ true → IsIdle def who new
+  rests_idle def who old new (Ok (Some e)) t is = cc
+  rests_idle def who old new (Ok None) t is = t.came.0
+  rests_idle def who old new (Err (refusals.Full len)) t is = cc
+  rests_idle def who old new (Err refusals.NoMemory) t is = cc
 
-pub steps_post : (lines : List LockSeen) (j now : JobSeen) (place : ℕ) (a : AtPlace lines j place) (number : LineNo)
-    (attempt : Attempt) (tried : Result (Option Entry) StepRefused) (after : PostSeen)
-    → attempt ≡ attempt_of number tried → number ≡ a.line.def.line → now ≡ record j { posts = slice_set j.posts place after }
-    → IsPassOf a.line after.pass → after.pass.turn ≡ false → after.pass.knows.actor ≡ a.post.pass.knows.actor
-    → after.rests ≡ rests_after tried
-    → ((who : Actor) → a.post.pass.knows.actor ≡ Some who
-    → Tries a.line.def who a.post.pass.knows tried after.pass.knows)
-    → (a.post.rests ≡ false → FlowMoves a.line.def a.post.pass.knows tried) → StepsPost lines place attempt j now
-steps_post lines j now place a number attempt tried after told its is of_line idle actor rests tries flows =
-    let t = tries j.actor a.is_post.actor in
-    record {
-      line = a.line;
-      post = a.post;
-      after = after;
-      tried = tried;
-      at_line = a.at_line;
-      at_post = a.at_post;
-      told = told ∙ ap (λ (n : LineNo). attempt_of n tried) its;
-      is = is;
-      is_post = record {
-        of_line = of_line;
-        idle = idle;
-        actor = actor
-            ∙ a.is_post.actor;
-        rests = λ h. rests_idle a.line.def j.actor a.post.pass.knows after.pass.knows tried t
-            (sym rests ∙ h);
-      };
-      tries = t;
-      rests = rests;
-      flows = flows;
-    }
+  pub steps_post : (lines : List LockSeen) (j now : JobSeen) (place : ℕ) (a : AtPlace lines j place) (number : LineNo)
+      (attempt : Attempt) (tried : Result (Option Entry) StepRefused) (after : PostSeen)
+      → attempt ≡ attempt_of number tried → number ≡ a.line.def.line → now ≡ record j { posts = slice_set j.posts place after }
+      → IsPassOf a.line after.pass → after.pass.turn ≡ false → after.pass.knows.actor ≡ a.post.pass.knows.actor
+      → after.rests ≡ rests_after tried
+      → ((who : Actor) → a.post.pass.knows.actor ≡ Some who
+      → Tries wanted a.line.def who a.post.pass.knows tried after.pass.knows)
+      → (a.post.rests ≡ false → FlowMoves a.line.def a.post.pass.knows tried) → StepsPost wanted lines place attempt j now
+  steps_post lines j now place a number attempt tried after told its is of_line idle actor rests tries flows =
+      let t = tries j.actor a.is_post.actor in
+      record {
+        line = a.line;
+        post = a.post;
+        after = after;
+        tried = tried;
+        at_line = a.at_line;
+        at_post = a.at_post;
+        told = told ∙ ap (λ (n : LineNo). attempt_of n tried) its;
+        is = is;
+        is_post = record {
+          of_line = of_line;
+          idle = idle;
+          actor = actor
+              ∙ a.is_post.actor;
+          rests = λ h. rests_idle a.line.def j.actor a.post.pass.knows after.pass.knows tried t
+              (sym rests ∙ h);
+        };
+        tries = t;
+        rests = rests;
+        flows = flows;
+      }
 
--- ---- what a try keeps
+  -- ---- what a try keeps
 
-pub still_posted : (lines : List LockSeen) (place : ℕ) (attempt : Attempt) (old new : JobSeen) → ArePosted lines old
-    → StepsPost lines place attempt old new → ArePosted lines new
-still_posted lines place attempt old new posted s =
-    subst (λ (j : JobSeen). ArePosted lines j) (sym s.is) each
-  where
-    each : ArePosted lines (record old { posts = set old.posts place s.after })
-    each i t at = elim (at_set old.posts place s.after i t at) [
-      | inl here ↦
-          subst (λ (o : Option LockSeen). IsSomeAnd o (λ l. IsPost l old.actor t))
-          (sym (ap (λ (k : ℕ). slice_get lines (old.first + k)) here.0 ∙ s.at_line))
-          (subst (λ (x : PostSeen). IsPost s.line old.actor x) (sym here.1) s.is_post)
-      | inr other ↦ posted i t other.1
-    ]
+  pub still_posted : (lines : List LockSeen) (place : ℕ) (attempt : Attempt) (old new : JobSeen) → ArePosted lines old
+      → StepsPost wanted lines place attempt old new → ArePosted lines new
+  still_posted lines place attempt old new posted s =
+      subst (λ (j : JobSeen). ArePosted lines j) (sym s.is) each
+    where
+      each : ArePosted lines (record old { posts = set old.posts place s.after })
+      each i t at = elim (at_set old.posts place s.after i t at) [
+        | inl here ↦
+            subst (λ (o : Option LockSeen). IsSomeAnd o (λ l. IsPost l old.actor t))
+            (sym (ap (λ (k : ℕ). slice_get lines (old.first + k)) here.0 ∙ s.at_line))
+            (subst (λ (x : PostSeen). IsPost s.line old.actor x) (sym here.1) s.is_post)
+        | inr other ↦ posted i t other.1
+      ]

@@ -30,10 +30,11 @@ use Rattle.workers.specs.Attempts.{StepsPost, KeepsPosts, IsDriven, WaitsAt, Att
 use Rattle.workers.specs.declared.attempts.Attempt.{Attempt}
 use Rattle.workers.specs.declared.attempts.Attempt.TheVariants as attempts
 use Rattle.workers.proofs.Driving.{AreAmong, passed_all, up_after, alike_after}
-use Rattle.workers.proofs.Flowing.{own_more, keeps_posts, post_now, post_there, full_is_so, moved_is, not_yet_is, nothing_gained, keeps_on}
+use Rattle.workers.proofs.Flowing.{own_more, keeps_posts, post_now, post_there, refused_is_so, moved_is, not_yet_is, nothing_gained, keeps_on}
 use Rattle.workers.proofs.Lists.{at_map, of_map, within}
 use Rattle.workers.proofs.Own.{own_are_seen, AreAlike, same_script}
-use Rattle.workers.proofs.Rooms.{room_after, room_as, room_from, same_room}
+use Rattle.workers.proofs.Rooms.{room_after, room_as, room_from, stays}
+use Rattle.workers.proofs.Growing.{posts_self}
 
 same_defs : (posts : List PostSeen) (lines : List LockSeen) → length posts ≡ length lines
     → ((i : ℕ) (s : PostSeen) → slice_get posts i ≡ Some s → IsSomeAnd (slice_get lines i) (λ l. s.pass.def ≡ l.def))
@@ -88,8 +89,8 @@ module _ (board : BoardSeen) (lines : List LockSeen) (boards : AreBoards board l
   -- ---- a try at the current call
 
   module _ (isb : IsBoard board) (c : ScriptCall) (at_p : slice_get board.calls j.at ≡ Some c) (mine : c.driver ≡ r)
-      (place : ℕ) (place_is : IsPlaceOf lines c.line (Some place)) (attempt : Attempt) (mid : JobSeen)
-      (s : StepsPost lines place attempt j mid) where
+      (place : ℕ) (place_is : IsPlaceOf lines c.line (Some place)) (wanted : LineDef → List Entry → Actor → Type 0)
+      (attempt : Attempt) (mid : JobSeen) (s : StepsPost wanted lines place attempt j mid) where
     line_is : s.line.def.line ≡ c.line
     line_is = subst (λ (o : Option LockSeen). IsSomeAnd o (λ l. l.def.line ≡ c.line))
         (ap (λ (n : ℕ). slice_get lines n) (sym (k_is place)) ∙ s.at_line) place_is
@@ -113,27 +114,27 @@ module _ (board : BoardSeen) (lines : List LockSeen) (boards : AreBoards board l
     y_line : c.line ≡ (own_line s.post).def.line
     y_line = sym line_is ∙ ap (λ (x : LineDef). x.line) (sym post_def)
 
-    pub driver_rests : ((e : Entry) → attempt ≡ attempts.Moved e → ⊥) → AttemptsDriver board lines r attempt j mid
+    pub driver_rests : ((e : Entry) → attempt ≡ attempts.Moved e → ⊥) → AttemptsDriver wanted board lines r attempt j mid
     driver_rests not =
         record {
-          keeps = keeps_posts lines place attempt j mid d.posted s;
+          keeps = keeps_posts wanted lines place attempt j mid d.posted s;
           up_to = subst (λ (n : ℕ). IsUpTo board.calls (own_lines mid.posts) r n) (sym at_is)
               (same_script board.calls (own_lines mid.posts) (own_lines j.posts) r j.at alike d.up_to);
           within = let w = d.within in omega (arith, w, at_is);
           rests = λ is. inr (waits is);
-          full = full_is_so lines place attempt j mid s;
-          room = room_after lines place attempt j mid d.posted s;
+          refused = refused_is_so wanted lines place attempt j mid s;
+          room = room_after wanted lines place attempt j mid d.posted s;
         }
       where
         same_mine : s.after.pass.knows.mine ≡ s.post.pass.knows.mine
-        same_mine = nothing_gained s.line.def j.actor s.line.def.line s.post.pass.knows s.after.pass.knows s.tried attempt s.told not s.tries
+        same_mine = nothing_gained wanted s.line.def j.actor s.line.def.line s.post.pass.knows s.after.pass.knows s.tried attempt s.told not s.tries
 
         alike : AreAlike r (own_lines mid.posts) (own_lines j.posts)
         alike k x at =
             let t = of_map own_line mid.posts k x at in
             subst (λ (y : BoardLine). (z : BoardLine) × (slice_get (own_lines j.posts) k ≡ Some z) × (y.def ≡ z.def)
             × (entries_by r y.past ≡ entries_by r z.past)) t.2
-            (by_place t.0 (post_now lines place attempt j mid s k t.0 t.1))
+            (by_place t.0 (post_now wanted lines place attempt j mid s k t.0 t.1))
           where
             by_place : (t : PostSeen) → ((k ≡ place) × (t ≡ s.after))
                 ⊎ ((k ≡ place → ⊥) × (slice_get j.posts k ≡ Some t))
@@ -156,36 +157,36 @@ module _ (board : BoardSeen) (lines : List LockSeen) (boards : AreBoards board l
               post = s.after;
               at_call = ap (λ (n : ℕ). slice_get board.calls n) at_is ∙ at_p;
               own = mine;
-              at_post = post_there lines place attempt j mid s;
+              at_post = post_there wanted lines place attempt j mid s;
               line = ap (λ (x : LineDef). x.line) s.is_post.of_line.1 ∙ line_is;
               rests = subst (λ (x : LineDef). IsIdle x (actors.Driver r) s.after.pass.knows) (sym s.is_post.of_line.1)
                   (subst (λ (a : Actor). IsIdle s.line.def a s.after.pass.knows) d.actor idle);
             }
 
     pub driver_moved : (e : Entry) → attempt ≡ attempts.Moved e → (last : Bool) → completes c.call e ≡ last → (new : JobSeen)
-        → new ≡ record mid { at = cond last (mid.at + 1) mid.at } → AttemptsDriver board lines r (attempts.Moved e) j new
+        → new ≡ record mid { at = cond last (mid.at + 1) mid.at } → AttemptsDriver wanted board lines r (attempts.Moved e) j new
     driver_moved e is last is_l new now =
         record {
-          keeps = subst (λ (x : JobSeen). KeepsPosts lines j x) (sym now) (same_posts (keeps_posts lines place attempt j mid d.posted s));
+          keeps = subst (λ (x : JobSeen). KeepsPosts lines j x) (sym now) (same_posts (keeps_posts wanted lines place attempt j mid d.posted s));
           up_to = subst (λ (x : JobSeen). IsUpTo board.calls (own_lines x.posts) r x.at) (sym now)
               (subst (λ (n : ℕ). IsUpTo board.calls (own_lines mid.posts) r (cond last (n + 1) n)) (sym at_is)
               (subst (λ (ss : List PostSeen). IsUpTo board.calls (own_lines ss) r (cond last (j.at + 1) j.at)) (sym posts_are) after));
           within = let w = within board.calls j.at c at_p in let n = ap (λ (x : JobSeen). x.at) now in fits last n w;
           rests = λ h. cc;
-          full = tt;
+          refused = tt;
           room = room_as (attempts.Moved e) j mid new (ap (λ (x : JobSeen). x.posts) now)
-              (subst (λ (t : Attempt). RoomAfter t j mid) is (room_after lines place attempt j mid d.posted s));
+              (subst (λ (t : Attempt). RoomAfter t j mid) is (room_after wanted lines place attempt j mid d.posted s));
         }
       where
         same_posts : KeepsPosts lines j mid → KeepsPosts lines j (record mid { at = cond last (mid.at + 1) mid.at })
-        same_posts k = record { actor = k.actor; first = k.first; as_many = k.as_many; posted = k.posted }
+        same_posts k = record { actor = k.actor; first = k.first; as_many = k.as_many; posted = k.posted; grew = k.grew }
 
         fits : (last : Bool) → new.at ≡ cond last (mid.at + 1) mid.at → j.at < length board.calls → new.at ≤ length board.calls
         fits true n w = omega (arith, n, w, at_is)
         fits false n w = omega (arith, n, w, at_is)
 
         gains : Gains s.line.def j.actor s.post.pass.knows e s.after.pass.knows
-        gains = (subst (λ (t : Result (Option Entry) StepRefused). Tries s.line.def j.actor s.post.pass.knows t
+        gains = (subst (λ (t : Result (Option Entry) StepRefused). Tries wanted s.line.def j.actor s.post.pass.knows t
             s.after.pass.knows) (moved_is s.line.def.line e s.tried (sym is ∙ s.told)) s.tries).came
 
         due : next s.post.pass.def gains.history (actors.Driver r) ≡ Some e
@@ -210,19 +211,20 @@ module _ (board : BoardSeen) (lines : List LockSeen) (boards : AreBoards board l
 -- ---- a whole attempt
 
 module _ (board : BoardSeen) (lines : List LockSeen) (boards : AreBoards board lines) (r : DriverNo) (j now : JobSeen)
-    (d : IsDriven board lines r j) (q : ℕ) (is : now ≡ record j { at = q }) where
+    (d : IsDriven board lines r j) (q : ℕ) (is : now ≡ record j { at = q }) (wanted : LineDef → List Entry → Actor → Type 0) where
   same_posts : KeepsPosts lines j now
-  same_posts = subst (λ (x : JobSeen). KeepsPosts lines j x) (sym is) (record { actor = refl; first = refl; as_many = refl; posted = d.posted })
+  same_posts = subst (λ (x : JobSeen). KeepsPosts lines j x) (sym is)
+      (record { actor = refl; first = refl; as_many = refl; posted = d.posted; grew = posts_self j.posts })
 
-  pub driver_done : IsDriven board lines r now → slice_get board.calls q ≡ None → AttemptsDriver board lines r attempts.NotYet j now
+  pub driver_done : IsDriven board lines r now → slice_get board.calls q ≡ None → AttemptsDriver wanted board lines r attempts.NotYet j now
   driver_done e none =
       record {
         keeps = same_posts;
         up_to = e.up_to;
         within = e.within;
         rests = λ h. inl (let n = nothing_there board.calls q none in let a = ap (λ (x : JobSeen). x.at) is in omega (arith, n, a));
-        full = tt;
-        room = same_room j now (ap (λ (x : JobSeen). x.posts) is);
+        refused = tt;
+        room = stays j now (ap (λ (x : JobSeen). x.posts) is);
       }
     where
       nothing_there : (cs : List ScriptCall) (k : ℕ) → slice_get cs k ≡ None → length cs ≤ k
@@ -231,16 +233,16 @@ module _ (board : BoardSeen) (lines : List LockSeen) (boards : AreBoards board l
       nothing_there (c ∷ cs) (suc k) at = let n = nothing_there cs k at in omega (arith, n)
 
   pub driver_attempted : (attempt : Attempt) (new : JobSeen) (s : DriverNo) → s ≡ r
-      → AttemptsDriver board lines s attempt now new → AttemptsDriver board lines r attempt j new
+      → AttemptsDriver wanted board lines s attempt now new → AttemptsDriver wanted board lines r attempt j new
   driver_attempted attempt new s same t =
-      subst (λ (x : DriverNo). AttemptsDriver board lines x attempt j new) same
+      subst (λ (x : DriverNo). AttemptsDriver wanted board lines x attempt j new) same
       (record {
         keeps = keeps_on lines j now new same_posts t.keeps;
         up_to = t.up_to;
         within = t.within;
         rests
             = t.rests;
-        full = t.full;
-        room = room_from attempt j now new (same_room j now (ap (λ (x : JobSeen). x.posts) is))
+        refused = t.refused;
+        room = room_from attempt j now new (stays j now (ap (λ (x : JobSeen). x.posts) is))
             t.room;
       })

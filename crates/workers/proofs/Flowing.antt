@@ -1,5 +1,5 @@
 -- A processor's tries keep that it has a flow in progress on one line at most.
-use Rattle.std.proofs.Common.{◌≡◌, ℕ, ◌+◌, ◌<◌, ◌⊎◌, inl, inr, Bool, true, false, ◌&&◌, ◌||◌, cond, IsSomeAnd, Option}
+use Rattle.std.proofs.Common.{◌≡◌, ℕ, ◌+◌, ◌<◌, ◌≤◌, ◌⊎◌, inl, inr, Bool, true, false, ◌&&◌, ◌||◌, cond, IsSomeAnd, Option}
 use Rattle.std.proofs.Common.{Some, None, is_some, Result, Ok, Err, List, [], ◌∷◌, ◌++◌, length, map, reverse}
 use Rattle.std.proofs.Common.{slice_get, refl, sym, ap, ◌∙◌, subst, arith}
 use Rattle.std.proofs.Math.ListN.{length-set}
@@ -24,16 +24,18 @@ use Rattle.line_lock.specs.Passes.{LockSeen}
 use Rattle.line_lock.specs.declared.view.Known.{Known}
 use Rattle.line_lock.specs.declared.view.Placed.{Placed}
 use Rattle.workers.specs.Fit.{IsPost, ArePosted, own_past, HasOneFlow, IsInFlow, HasItsFlow}
+use Rattle.workers.specs.Grown.{PostsGrow}
 use Rattle.workers.specs.Seen.{PostSeen, JobSeen}
 use Rattle.workers.specs.Tries.{Gains, IsFull, Tries, rests_after}
-use Rattle.workers.specs.Attempts.{attempt_of, is_not_yet, StepsPost, flow_after, KeepsPosts, FullIsSo, StepsCpu}
+use Rattle.workers.specs.Attempts.{attempt_of, is_not_yet, StepsPost, flow_after, KeepsPosts, RefusedIsSo, StepsCpu, AttemptsCpu}
 use Rattle.workers.specs.declared.attempts.Attempt.{Attempt}
 use Rattle.workers.specs.declared.attempts.Attempt.TheVariants as attempts
 use Rattle.workers.proofs.InFlow.{flow_by, handle_cpu}
-use Rattle.workers.proofs.Lists.{at_set, set_there, two}
+use Rattle.workers.proofs.Lists.{at_set, set_there, two, within}
 use Rattle.workers.proofs.Manning.{map_more}
-use Rattle.workers.proofs.Rooms.{room_after, room_as}
+use Rattle.workers.proofs.Rooms.{StaysSo, room_after, room_as, room_from}
 use Rattle.workers.proofs.Attempting.{still_posted}
+use Rattle.workers.proofs.Growing.{posts_grew, posts_self, posts_more}
 
 -- one more entry of one's own
 pub own_more : (old new : List Placed) (n : ℕ) (e : Entry) → new ≡ old ++ record { place = n; entry = e } ∷ [] → own_past new ≡ e ∷ own_past old
@@ -41,25 +43,27 @@ own_more old new n e is =
     ap own_past is ∙ (ap reverse (map_more (λ (x : Placed). x.entry) old (record { place = n; entry = e }))
     ∙ reverse-append (map (λ (x : Placed). x.entry) old) (e ∷ []))
 
-pub keeps_posts : (lines : List LockSeen) (place : ℕ) (attempt : Attempt) (old new : JobSeen) → ArePosted lines old
-    → StepsPost lines place attempt old new → KeepsPosts lines old new
-keeps_posts lines place attempt old new posted s =
+pub keeps_posts : (wanted : LineDef → List Entry → Actor → Type 0) (lines : List LockSeen) (place : ℕ)
+    (attempt : Attempt) (old new : JobSeen) → ArePosted lines old
+    → StepsPost wanted lines place attempt old new → KeepsPosts lines old new
+keeps_posts wanted lines place attempt old new posted s =
     record {
       actor = ap (λ (j : JobSeen). j.actor) s.is;
       first = ap (λ (j : JobSeen). j.first) s.is;
       as_many = ap (λ (j : JobSeen). length j.posts) s.is ∙ length-set old.posts place s.after;
-      posted = still_posted lines place attempt old new posted s;
+      posted = still_posted wanted lines place attempt old new posted s;
+      grew = posts_grew wanted lines place attempt old new posted s;
     }
 
 -- the pass that was tried, and the others
-pub post_now : (lines : List LockSeen) (place : ℕ) (attempt : Attempt) (old new : JobSeen)
-    (s : StepsPost lines place attempt old new) (i : ℕ) (t : PostSeen) → slice_get new.posts i ≡ Some t
+pub post_now : (wanted : LineDef → List Entry → Actor → Type 0) (lines : List LockSeen) (place : ℕ) (attempt : Attempt) (old new : JobSeen)
+    (s : StepsPost wanted lines place attempt old new) (i : ℕ) (t : PostSeen) → slice_get new.posts i ≡ Some t
     → ((i ≡ place) × (t ≡ s.after)) ⊎ ((i ≡ place → ⊥) × (slice_get old.posts i ≡ Some t))
-post_now lines place attempt old new s i t at = at_set old.posts place s.after i t (ap (λ (j : JobSeen). slice_get j.posts i) (sym s.is) ∙ at)
+post_now wanted lines place attempt old new s i t at = at_set old.posts place s.after i t (ap (λ (j : JobSeen). slice_get j.posts i) (sym s.is) ∙ at)
 
-pub post_there : (lines : List LockSeen) (place : ℕ) (attempt : Attempt) (old new : JobSeen)
-    (s : StepsPost lines place attempt old new) → slice_get new.posts place ≡ Some s.after
-post_there lines place attempt old new s = ap (λ (j : JobSeen). slice_get j.posts place) s.is ∙ set_there old.posts place s.after s.post s.at_post
+pub post_there : (wanted : LineDef → List Entry → Actor → Type 0) (lines : List LockSeen) (place : ℕ) (attempt : Attempt) (old new : JobSeen)
+    (s : StepsPost wanted lines place attempt old new) → slice_get new.posts place ≡ Some s.after
+post_there wanted lines place attempt old new s = ap (λ (j : JobSeen). slice_get j.posts place) s.is ∙ set_there old.posts place s.after s.post s.at_post
 
 -- a post rests only if nothing was due
 never_rests : (tried : Result (Option Entry) StepRefused) → (tried ≡ Ok None → ⊥) → rests_after tried ≡ false
@@ -68,12 +72,13 @@ never_rests (Ok None) not = absurd (not refl)
 never_rests (Err (refusals.Full len)) not = refl
 never_rests (Err refusals.NoMemory) not = refl
 
-pub full_is_so : (lines : List LockSeen) (place : ℕ) (attempt : Attempt) (old new : JobSeen) → StepsPost lines place attempt old new → FullIsSo new attempt
-full_is_so lines place attempt old new s = subst (λ (t : Attempt). FullIsSo new t) (sym s.told) (by_tried s.tried s.tries)
+pub refused_is_so : (wanted : LineDef → List Entry → Actor → Type 0) (lines : List LockSeen) (place : ℕ) (attempt : Attempt) (old new : JobSeen)
+    → StepsPost wanted lines place attempt old new → RefusedIsSo wanted new attempt
+refused_is_so wanted lines place attempt old new s = subst (λ (t : Attempt). RefusedIsSo wanted new t) (sym s.told) (by_tried s.tried s.tries)
   where
     by_tried : (tried : Result (Option Entry) StepRefused)
-        → Tries s.line.def old.actor s.post.pass.knows tried s.after.pass.knows
-        → FullIsSo new (attempt_of s.line.def.line tried)
+        → Tries wanted s.line.def old.actor s.post.pass.knows tried s.after.pass.knows
+        → RefusedIsSo wanted new (attempt_of s.line.def.line tried)
     by_tried (Ok (Some e)) t = tt
     by_tried (Ok None) t = tt
     by_tried (Err (refusals.Full len)) t =
@@ -81,14 +86,21 @@ full_is_so lines place attempt old new s = subst (λ (t : Attempt). FullIsSo new
         record {
           place = place;
           post = s.after;
-          at = post_there lines place attempt old new s;
+          at = post_there wanted lines place attempt old new s;
           number = ap (λ (d : LineDef). d.line) def;
           is = subst (λ (d : LineDef). IsFull d new.actor s.after.pass.knows) (sym def)
               (subst (λ (a : Actor). IsFull s.line.def a s.after.pass.knows) (sym (ap (λ (j : JobSeen). j.actor) s.is))
               t.came.0);
           log = t.came.1 ∙ ap (λ (d : LineDef). d.log) (sym def);
         }
-    by_tried (Err refusals.NoMemory) t = tt
+    by_tried (Err refusals.NoMemory) t =
+        record {
+          place = place;
+          post = s.after;
+          at = post_there wanted lines place attempt old new s;
+          is = subst (λ (d : LineDef). wanted d s.after.pass.knows.seen new.actor) (sym s.is_post.of_line.1)
+              (subst (λ (a : Actor). wanted s.line.def s.after.pass.knows.seen a) (sym (ap (λ (j : JobSeen). j.actor) s.is)) t.came.0);
+        }
 
 -- ---- what was tried
 
@@ -105,13 +117,13 @@ not_yet_is n (Err (refusals.Full len)) is = cc
 not_yet_is n (Err refusals.NoMemory) is = cc
 
 -- without an entry the pass's own stay
-pub nothing_gained : (def : LineDef) (who : Actor) (n : LineNo) (old new : Known)
+pub nothing_gained : (wanted : LineDef → List Entry → Actor → Type 0) (def : LineDef) (who : Actor) (n : LineNo) (old new : Known)
     (tried : Result (Option Entry) StepRefused) (attempt : Attempt) → attempt ≡ attempt_of n tried
-    → ((e : Entry) → attempt ≡ attempts.Moved e → ⊥) → Tries def who old tried new → new.mine ≡ old.mine
-nothing_gained def who n old new (Ok (Some e)) attempt told not t = absurd (not e told)
-nothing_gained def who n old new (Ok None) attempt told not t = t.came.1
-nothing_gained def who n old new (Err (refusals.Full len)) attempt told not t = t.came.2
-nothing_gained def who n old new (Err refusals.NoMemory) attempt told not t = t.came
+    → ((e : Entry) → attempt ≡ attempts.Moved e → ⊥) → Tries wanted def who old tried new → new.mine ≡ old.mine
+nothing_gained wanted def who n old new (Ok (Some e)) attempt told not t = absurd (not e told)
+nothing_gained wanted def who n old new (Ok None) attempt told not t = t.came.1
+nothing_gained wanted def who n old new (Err (refusals.Full len)) attempt told not t = t.came.2
+nothing_gained wanted def who n old new (Err refusals.NoMemory) attempt told not t = t.came.1
 
 -- ---- flows
 
@@ -140,12 +152,13 @@ flow_on def e past h c is_h is_c none = (
     last_before : List Entry → Option Entry
     last_before es = last_of (λ f. is_handle f || closes def f) es
 
-module _ (lines : List LockSeen) (place : ℕ) (old mid : JobSeen) (posted : ArePosted lines old) (one : HasOneFlow old)
+module _ (wanted : LineDef → List Entry → Actor → Type 0) (lines : List LockSeen) (place : ℕ) (old mid : JobSeen)
+    (posted : ArePosted lines old) (one : HasOneFlow old)
     (its : HasItsFlow old) (free : (i : ℕ) → old.flow ≡ Some i → i ≡ place) where
   others_flow : (i : ℕ) (t : PostSeen) → (i ≡ place → ⊥) → slice_get old.posts i ≡ Some t → has_flow t.pass.def (own_past t.pass.knows.mine) ≡ false
   others_flow i t other at = one i t at (λ is. other (free i is))
 
-  module _ (attempt : Attempt) (s : StepsPost lines place attempt old mid) where
+  module _ (attempt : Attempt) (s : StepsPost wanted lines place attempt old mid) where
     post_def : s.post.pass.def ≡ s.line.def
     post_def = (subst (λ (o : Option LockSeen). IsSomeAnd o (λ l. IsPost l old.actor s.post)) s.at_line (posted place s.post s.at_post)).of_line.1
 
@@ -153,24 +166,24 @@ module _ (lines : List LockSeen) (place : ℕ) (old mid : JobSeen) (posted : Are
     post_actor = (subst (λ (o : Option LockSeen). IsSomeAnd o (λ l. IsPost l old.actor s.post)) s.at_line (posted place s.post s.at_post)).actor
 
     -- when no entry was added
-    pub cpu_rests : ((e : Entry) → attempt ≡ attempts.Moved e → ⊥) → StepsCpu lines place attempt old mid
+    pub cpu_rests : ((e : Entry) → attempt ≡ attempts.Moved e → ⊥) → StepsCpu wanted lines place attempt old mid
     cpu_rests not =
         record {
-          keeps = keeps_posts lines place attempt old mid posted s;
+          keeps = keeps_posts wanted lines place attempt old mid posted s;
           flow = one_flow;
           its = still_its;
           moves = λ was is. due was (not_yet_is s.line.def.line s.tried (sym is ∙ s.told));
           rests = rests;
           still = λ is. ap (λ (j : JobSeen). j.flow) s.is;
           others = others;
-          full = full_is_so lines place attempt old mid s;
-          room = room_after lines place attempt old mid posted s;
+          refused = refused_is_so wanted lines place attempt old mid s;
+          room = room_after wanted lines place attempt old mid posted s;
         }
       where
         one_flow : HasOneFlow mid
-        one_flow i t at none = elim (post_now lines place attempt old mid s i t at) [
+        one_flow i t at none = elim (post_now wanted lines place attempt old mid s i t at) [
           | inl here ↦
-              let mine = nothing_gained s.line.def old.actor s.line.def.line s.post.pass.knows s.after.pass.knows s.tried attempt s.told not s.tries in
+              let mine = nothing_gained wanted s.line.def old.actor s.line.def.line s.post.pass.knows s.after.pass.knows s.tried attempt s.told not s.tries in
               ap (λ (x : PostSeen). has_flow x.pass.def (own_past x.pass.knows.mine)) here.1
               ∙ (ap (λ (d : LineDef). has_flow d (own_past s.after.pass.knows.mine)) (s.is_post.of_line.1 ∙ sym post_def)
               ∙ (ap (λ (ps : List Placed). has_flow s.post.pass.def (own_past ps)) mine
@@ -193,11 +206,11 @@ module _ (lines : List LockSeen) (place : ℕ) (old mid : JobSeen) (posted : Are
             let at_place : old.flow ≡ Some place = was ∙ ap (λ (k : ℕ). Some k) here in
             let f = its place at_place in
             let same : f.1 ≡ s.post = the_same f.1 s.post (sym f.3 ∙ s.at_post) in
-            let mine = nothing_gained s.line.def old.actor s.line.def.line s.post.pass.knows s.after.pass.knows s.tried attempt s.told not s.tries in (
+            let mine = nothing_gained wanted s.line.def old.actor s.line.def.line s.post.pass.knows s.after.pass.knows s.tried attempt s.told not s.tries in (
               f.0,
               s.after,
               ap (λ (j : JobSeen). j.actor) s.is ∙ f.2,
-              ap (λ (k : ℕ). slice_get mid.posts k) here ∙ post_there lines place attempt old mid s,
+              ap (λ (k : ℕ). slice_get mid.posts k) here ∙ post_there wanted lines place attempt old mid s,
               s.rests ∙ never_rests s.tried (due at_place),
               ap (λ (d : LineDef). flow d (own_past s.after.pass.knows.mine)) (s.is_post.of_line.1 ∙ sym post_def)
                   ∙ (ap (λ (ps : List Placed). flow s.post.pass.def (own_past ps)) mine
@@ -205,26 +218,27 @@ module _ (lines : List LockSeen) (place : ℕ) (old mid : JobSeen) (posted : Are
             )
 
         rests : attempt ≡ attempts.NotYet → (t : PostSeen) → slice_get mid.posts place ≡ Some t → t.rests ≡ true
-        rests is t at = elim (post_now lines place attempt old mid s place t at) [
+        rests is t at = elim (post_now wanted lines place attempt old mid s place t at) [
           | inl here ↦ ap (λ (x : PostSeen). x.rests) here.1 ∙ (s.rests ∙ ap rests_after (not_yet_is s.line.def.line s.tried (sym is ∙ s.told)))
           | inr other ↦ absurd (other.0 refl)
         ]
 
         others : (i : ℕ) (t : PostSeen) → (i ≡ place → ⊥) → slice_get mid.posts i ≡ Some t → slice_get old.posts i ≡ Some t
-        others i t apart at = elim (post_now lines place attempt old mid s i t at) [ inl here ↦ absurd (apart here.0) | inr other ↦ other.1 ]
+        others i t apart at = elim (post_now wanted lines place attempt old mid s i t at) [ inl here ↦ absurd (apart here.0) | inr other ↦ other.1 ]
 
   -- when an entry was added
-  pub cpu_moved : (e : Entry) (s : StepsPost lines place (attempts.Moved e) old mid) (w : FlowKind) (new : JobSeen)
+  pub cpu_moved : (e : Entry) (s : StepsPost wanted lines place (attempts.Moved e) old mid) (w : FlowKind) (new : JobSeen)
       → w ≡ s.line.def.flow → new ≡ record mid { flow = flow_after w e place mid.flow }
-      → StepsCpu lines place (attempts.Moved e) old new
+      → StepsCpu wanted lines place (attempts.Moved e) old new
   cpu_moved e s w new way is =
-      let k = keeps_posts lines place (attempts.Moved e) old mid posted s in
+      let k = keeps_posts wanted lines place (attempts.Moved e) old mid posted s in
       record {
         keeps = record {
           actor = ap (λ (j : JobSeen). j.actor) is ∙ k.actor;
           first = ap (λ (j : JobSeen). j.first) is ∙ k.first;
           as_many = ap (λ (j : JobSeen). length j.posts) is ∙ k.as_many;
           posted = subst (λ (j : JobSeen). ArePosted lines j) (sym is) k.posted;
+          grew = subst (λ (j : JobSeen). PostsGrow old.posts j.posts) (sym is) k.grew;
         };
         flow = one_flow;
         its = new_its;
@@ -232,18 +246,18 @@ module _ (lines : List LockSeen) (place : ℕ) (old mid : JobSeen) (posted : Are
         rests = λ h. cc;
         still = λ h. cc;
         others = others;
-        full = tt;
-        room = room_as (attempts.Moved e) old mid new (ap (λ (j : JobSeen). j.posts) is) (room_after lines place (attempts.Moved e) old mid posted s);
+        refused = tt;
+        room = room_as (attempts.Moved e) old mid new (ap (λ (j : JobSeen). j.posts) is) (room_after wanted lines place (attempts.Moved e) old mid posted s);
       }
     where
       post_at : (i : ℕ) (t : PostSeen) → slice_get new.posts i ≡ Some t → ((i ≡ place) × (t ≡ s.after)) ⊎ ((i ≡ place → ⊥) × (slice_get old.posts i ≡ Some t))
-      post_at i t at = post_now lines place (attempts.Moved e) old mid s i t (ap (λ (j : JobSeen). slice_get j.posts i) (sym is) ∙ at)
+      post_at i t at = post_now wanted lines place (attempts.Moved e) old mid s i t (ap (λ (j : JobSeen). slice_get j.posts i) (sym is) ∙ at)
 
       others : (i : ℕ) (t : PostSeen) → (i ≡ place → ⊥) → slice_get new.posts i ≡ Some t → slice_get old.posts i ≡ Some t
       others i t apart at = elim (post_at i t at) [ inl here ↦ absurd (apart here.0) | inr other ↦ other.1 ]
 
       gains : Gains s.line.def old.actor s.post.pass.knows e s.after.pass.knows
-      gains = (subst (λ (r : Result (Option Entry) StepRefused). Tries s.line.def old.actor s.post.pass.knows r
+      gains = (subst (λ (r : Result (Option Entry) StepRefused). Tries wanted s.line.def old.actor s.post.pass.knows r
           s.after.pass.knows) (moved_is s.line.def.line e s.tried s.told) s.tries).came
 
       def_is : s.after.pass.def ≡ s.post.pass.def
@@ -282,7 +296,8 @@ module _ (lines : List LockSeen) (place : ℕ) (old mid : JobSeen) (posted : Are
         c,
         s.after,
         ap (λ (j : JobSeen). j.actor) is ∙ (ap (λ (j : JobSeen). j.actor) s.is ∙ actor),
-        ap (λ (j : JobSeen). slice_get j.posts i) is ∙ (ap (λ (k : ℕ). slice_get mid.posts k) here ∙ post_there lines place (attempts.Moved e) old mid s),
+        ap (λ (j : JobSeen). slice_get j.posts i) is ∙
+            (ap (λ (k : ℕ). slice_get mid.posts k) here ∙ post_there wanted lines place (attempts.Moved e) old mid s),
         s.rests ∙ ap rests_after (moved_is s.line.def.line e s.tried s.told),
         its_flow,
       )
@@ -318,10 +333,17 @@ module _ (lines : List LockSeen) (place : ℕ) (old mid : JobSeen) (posted : Are
 -- ---- one pass after another
 
 pub keeps_first : (lines : List LockSeen) (j : JobSeen) → ArePosted lines j → KeepsPosts lines j j
-keeps_first lines j posted = record { actor = refl; first = refl; as_many = refl; posted = posted }
+keeps_first lines j posted = record { actor = refl; first = refl; as_many = refl; posted = posted; grew = posts_self j.posts }
 
 pub keeps_on : (lines : List LockSeen) (a b c : JobSeen) → KeepsPosts lines a b → KeepsPosts lines b c → KeepsPosts lines a c
-keeps_on lines a b c k l = record { actor = l.actor ∙ k.actor; first = l.first ∙ k.first; as_many = l.as_many ∙ k.as_many; posted = l.posted }
+keeps_on lines a b c k l =
+    record {
+      actor = l.actor ∙ k.actor;
+      first = l.first ∙ k.first;
+      as_many = l.as_many ∙ k.as_many;
+      posted = l.posted;
+      grew = posts_more a.posts b.posts c.posts k.grew l.grew;
+    }
 
 pub not_yet_from : (attempt : Attempt) → is_not_yet attempt ≡ true → attempt ≡ attempts.NotYet
 not_yet_from (attempts.Moved e) is = cc
@@ -329,11 +351,46 @@ not_yet_from attempts.NotYet is = refl
 not_yet_from (attempts.Full line len) is = cc
 not_yet_from attempts.NoMemory is = cc
 
-pub rests_more : (lines : List LockSeen) (place : ℕ) (attempt : Attempt) (old new : JobSeen) → attempt ≡ attempts.NotYet
-    → StepsCpu lines place attempt old new → ((i : ℕ) (s : PostSeen) → i < place → slice_get old.posts i ≡ Some s
+pub rests_more : (wanted : LineDef → List Entry → Actor → Type 0) (lines : List LockSeen) (place : ℕ)
+    (attempt : Attempt) (old new : JobSeen) → attempt ≡ attempts.NotYet
+    → StepsCpu wanted lines place attempt old new → ((i : ℕ) (s : PostSeen) → i < place → slice_get old.posts i ≡ Some s
     → s.rests ≡ true)
     → (i : ℕ) (s : PostSeen) → i < place + 1 → slice_get new.posts i ≡ Some s → s.rests ≡ true
-rests_more lines place attempt old new not s rest i t less at = elim (two i place less) [
+rests_more wanted lines place attempt old new not s rest i t less at = elim (two i place less) [
   | inl before ↦ rest i t before (s.others i t (λ same. omega (arith, same, before)) at)
   | inr here ↦ s.rests not t (ap (λ (k : ℕ). slice_get new.posts k) (sym here) ∙ at)
 ]
+
+-- a processor's attempt that did something, after tries at which nothing was due
+pub cpu_after : (wanted : LineDef → List Entry → Actor → Type 0) (lines : List LockSeen) (attempt : Attempt)
+    (old mid now new : JobSeen) (place : ℕ) → KeepsPosts lines old mid → StaysSo old mid
+    → StepsCpu wanted lines place attempt mid now → is_not_yet attempt ≡ false → new ≡ now
+    → AttemptsCpu wanted lines attempt old new
+cpu_after wanted lines attempt old mid now new place k stay s not same =
+    subst (λ (j : JobSeen). AttemptsCpu wanted lines attempt old j) (sym same)
+    (record {
+      keeps = keeps_on lines old mid now k s.keeps;
+      flow = s.flow;
+      its = s.its;
+      rests = λ is. let h : true ≡ false = sym (ap is_not_yet is) ∙ not in cc;
+      refused = s.refused;
+      room = room_from attempt old mid now stay s.room;
+    })
+
+-- a processor's attempt when nothing was due on any line
+pub cpu_done : (wanted : LineDef → List Entry → Actor → Type 0) (lines : List LockSeen) (old now : JobSeen) (place : ℕ)
+    → KeepsPosts lines old now → HasOneFlow now → now.flow ≡ None
+    → ((i : ℕ) (s : PostSeen) → i < place → slice_get now.posts i ≡ Some s → s.rests ≡ true) → length now.posts ≤ place
+    → StaysSo old now → AttemptsCpu wanted lines attempts.NotYet old now
+cpu_done wanted lines old now place k flow none rest all stay =
+    record {
+      keeps = k;
+      flow = flow;
+      its = λ i is. absurd (no_place i (sym none ∙ is));
+      rests = λ is i s at. rest i s (let w = within now.posts i s at in omega (arith, w, all)) at;
+      refused = tt;
+      room = stay;
+    }
+  where
+    no_place : (i : ℕ) → None ≡ Some i → ⊥
+    no_place i is = cc

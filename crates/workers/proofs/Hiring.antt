@@ -24,6 +24,7 @@ use Rattle.line_lock.specs.declared.view.Placed.{Placed}
 use Rattle.workers.specs.Fit.{IsPlaceOf, IsPost, ArePosted, own_past, own_line, own_lines, IsManned, IsJob, works_on}
 use Rattle.workers.specs.Fit.{actors_on, IsFirst, AreFirsts, workers_of, Fit}
 use Rattle.workers.specs.Forks.{CanFork, IsLeft, is_within, Forks, IsSpan, AreBoards, Hires}
+use Rattle.workers.specs.Grown.{IsNewJob, HaveSeenNothing, AreNew}
 use Rattle.workers.specs.Seen.{PostSeen, JobSeen, JobsSeen}
 use Rattle.workers.specs.declared.job.Left.TheVariants as lefts
 use Rattle.workers.proofs.Lists.{of_map, within, at_snoc, there_or}
@@ -193,17 +194,46 @@ span_range lines (actors.Thread line dev) first end span =
 span_range lines (actors.Cpu c) first end span = (let z = span.0 in omega (arith, z), let e = span.1 in omega (arith, e))
 span_range lines (actors.Driver r) first end span = (let z = span.0 in omega (arith, z), let e = span.1 in omega (arith, e))
 
+-- the job of an actor that joined is new, and so are the first passes
+module _ (lines : List LockSeen) (who : Actor) (first end : ℕ) (old new : List PassSeen) (posts : List PostSeen)
+    (f : Forks lines first end who old new posts) (nothing : HaveSeenNothing old) where
+  new_posts : (i : ℕ) (s : PostSeen) → slice_get posts i ≡ Some s → (s.pass.knows.seen ≡ []) × (s.pass.knows.mine ≡ [])
+  new_posts i s at =
+      let k = f.each i s at in
+      (ap (λ (x : Known). x.seen) k.4.knows ∙ nothing (first + i) k.1 k.3, ap (λ (x : Known). x.mine) k.4.knows)
+
+  new_left : (b : Bool) (q p : PassSeen) → IsLeft b who q p → q.knows.seen ≡ [] → p.knows.seen ≡ []
+  new_left true q p gave none = ap (λ (x : Known). x.seen) gave.knows ∙ none
+  new_left false q p same none = ap (λ (x : PassSeen). x.knows.seen) same ∙ none
+
+  pub nothing_seen : HaveSeenNothing new
+  nothing_seen k p at = let q = f.left k p at in new_left (is_within first end k) q.0 p q.2 (nothing k q.0 q.1)
+
+  pub new_with : (jobs after : List JobSeen) (j : JobSeen) → after ≡ jobs ++ j ∷ [] → j.posts ≡ posts → j.flow ≡ None → j.at ≡ 0
+      → ((i : ℕ) (x : JobSeen) → slice_get jobs i ≡ Some x → IsNewJob x) → (i : ℕ) (x : JobSeen) → slice_get after i ≡ Some x → IsNewJob x
+  new_with jobs after j grown are none zero each i x at =
+      elim (at_snoc jobs j i x (ap (λ (js : List JobSeen). slice_get js i) (sym grown) ∙ at)) [
+        | inl before ↦ each i x before
+        | inr now ↦ subst IsNewJob now.1
+            (record {
+              flow = none;
+              at = zero;
+              posts = λ k s at_k. new_posts k s (ap (λ (ss : List PostSeen). slice_get ss k) (sym are) ∙ at_k);
+            })
+      ]
+
 -- the jobs of the first actors of the crew
 pub record AreHired (board : BoardSeen) (lines : List LockSeen) (crew : List Actor) (i : ℕ) (s : JobsSeen) : Type 0 where
   pub same : s.board ≡ board
   pub actors : map (λ (j : JobSeen). j.actor) s.jobs ≡ take i crew
   pub each : (k : ℕ) (j : JobSeen) → slice_get s.jobs k ≡ Some j → IsJob board lines j
   pub firsts : AreFirsts lines s.jobs s.firsts
+  pub new : AreNew s
 
 pub hired_more : (board : BoardSeen) (lines : List LockSeen) (crew : List Actor) (i : ℕ) (a : Actor)
     (old new : JobsSeen) → AreHired board lines crew i old → slice_get crew i ≡ Some a → new.board ≡ old.board
-    → Hires lines a old new → AreHired board lines crew (i + 1) new
-hired_more board lines crew i a old new is at same h =
+    → Hires lines a old new → (AreNew old → AreNew new) → AreHired board lines crew (i + 1) new
+hired_more board lines crew i a old new is at same h news =
     record {
       same = same ∙ is.same;
       actors = ap (map (λ (j : JobSeen). j.actor)) h.jobs
@@ -212,6 +242,7 @@ hired_more board lines crew i a old new is at same h =
           ∙ (ap (λ (ws : List Actor). ws ++ a ∷ []) is.actors ∙ sym (taken crew i a at))));
       each = each;
       firsts = h.firsts;
+      new = news is.new;
     }
   where
     each : (k : ℕ) (j : JobSeen) → slice_get new.jobs k ≡ Some j → IsJob board lines j
@@ -260,6 +291,21 @@ hires_one lines here s board jobs firsts new who first end posts same is are spa
           (subst (λ (js : List JobSeen). AreFirsts lines js firsts) (ap (λ (x : JobsSeen). x.jobs) (sym is))
           (subst (λ (ps : List PassSeen). AreFirsts lines s.jobs ps) (ap (λ (x : JobsSeen). x.firsts) (sym is))
           are)));
+    }
+
+pub new_one : (lines here : List LockSeen) (s : JobsSeen) (board : BoardSeen) (jobs : List JobSeen) (firsts new : List PassSeen)
+    (who : Actor) (first end : ℕ) (posts : List PostSeen) → record { board = board; jobs = jobs; firsts = firsts } ≡ s
+    → Forks here first end who firsts new posts → (after : List JobSeen)
+    → after ≡ jobs ++ record { actor = who; first = first; posts = posts; flow = None; at = 0; left = lefts.Idle } ∷ []
+    → AreNew s → AreNew (record { board = board; jobs = after; firsts = new })
+new_one lines here s board jobs firsts new who first end posts is f after grown old =
+    let nothing : HaveSeenNothing firsts = subst HaveSeenNothing (ap (λ (x : JobsSeen). x.firsts) (sym is)) old.firsts in
+    record {
+      jobs = new_with here who first end firsts new posts f nothing jobs after
+          (record { actor = who; first = first; posts = posts; flow = None; at = 0; left = lefts.Idle }) grown refl refl refl
+          (subst (λ (js : List JobSeen). (i : ℕ) (x : JobSeen) → slice_get js i ≡ Some x → IsNewJob x)
+          (ap (λ (x : JobsSeen). x.jobs) (sym is)) old.jobs);
+      firsts = nothing_seen here who first end firsts new posts f nothing;
     }
 
 -- the actor at a place of the crew

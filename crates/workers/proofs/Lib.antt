@@ -11,6 +11,7 @@ pub mod InFlow
 pub mod Gathering
 pub mod Finishing
 pub mod Attempting
+pub mod Growing
 pub mod Rooms
 pub mod Flowing
 pub mod Driving

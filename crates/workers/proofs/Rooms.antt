@@ -1,6 +1,7 @@
--- How much more the passes of jobs can see, after a try, an attempt and a shift.
+-- How much more the passes of jobs can see, and how many steps were made, after a try, an attempt and a shift.
 use Rattle.std.proofs.Common.{◌≡◌, ℕ, zero, suc, ◌<◌, ◌≤◌, IsSomeAnd, Option, Some, None, Result, Ok, Err, List, []}
 use Rattle.std.proofs.Common.{◌∷◌, length, get_or, set, slice_get, sym, ap, ◌∙◌, subst, arith, length-append}
+use Rattle.irq_base.specs.declared.entries.Actor.{Actor}
 use Rattle.irq_base.specs.declared.entries.Entry.{Entry}
 use Rattle.irq_base.specs.declared.lines.LineDef.{LineDef}
 use Rattle.irq_laws.proofs.Chosen.{the_same}
@@ -8,7 +9,9 @@ use Rattle.irq_line.specs.declared.answers.StepRefused.{StepRefused}
 use Rattle.irq_line.specs.declared.answers.StepRefused.TheVariants as refusals
 use Rattle.line_lock.specs.Knows.{BeginsWith}
 use Rattle.line_lock.specs.Passes.{LockSeen}
+use Rattle.line_lock.specs.declared.view.Placed.{Placed}
 use Rattle.workers.specs.Fit.{IsPost, ArePosted}
+use Rattle.workers.specs.Grown.{made_by}
 use Rattle.workers.specs.Room.{room_of, room_of_posts, room_of_jobs, RoomAfter, RoomLeft}
 use Rattle.workers.specs.Seen.{PostSeen, JobSeen}
 use Rattle.workers.specs.Tries.{Tries}
@@ -34,11 +37,25 @@ set_no_more [] k y x at less = cc
 set_no_more (z ∷ zs) zero y x at less = let e = ap (λ (s : PostSeen). room_of s) (the_same z x at) in omega (arith, e, less)
 set_no_more (z ∷ zs) (suc k) y x at less = let l = set_no_more zs k y x at less in omega (arith, l)
 
+-- ---- the steps made
+
+made_more : (xs : List PostSeen) (k : ℕ) (y x : PostSeen) → slice_get xs k ≡ Some x
+    → length x.pass.knows.mine < length y.pass.knows.mine → made_by xs < made_by (set xs k y)
+made_more [] k y x at less = cc
+made_more (z ∷ zs) zero y x at less = let e = ap (λ (s : PostSeen). length s.pass.knows.mine) (the_same z x at) in omega (arith, e, less)
+made_more (z ∷ zs) (suc k) y x at less = let l = made_more zs k y x at less in omega (arith, l)
+
+made_same : (xs : List PostSeen) (k : ℕ) (y x : PostSeen) → slice_get xs k ≡ Some x
+    → length y.pass.knows.mine ≡ length x.pass.knows.mine → made_by (set xs k y) ≡ made_by xs
+made_same [] k y x at same = cc
+made_same (z ∷ zs) zero y x at same = let e = ap (λ (s : PostSeen). length s.pass.knows.mine) (the_same z x at) in omega (arith, e, same)
+made_same (z ∷ zs) (suc k) y x at same = let l = made_same zs k y x at same in omega (arith, l)
+
 -- ---- one try
 
-pub room_after : (lines : List LockSeen) (place : ℕ) (attempt : Attempt) (old new : JobSeen) → ArePosted lines old
-    → StepsPost lines place attempt old new → RoomAfter attempt old new
-room_after lines place attempt old new posted s = subst (λ (t : Attempt). RoomAfter t old new) (sym s.told) (by_tried s.tried s.tries)
+pub room_after : (wanted : LineDef → List Entry → Actor → Type 0) (lines : List LockSeen) (place : ℕ) (attempt : Attempt)
+    (old new : JobSeen) → ArePosted lines old → StepsPost wanted lines place attempt old new → RoomAfter attempt old new
+room_after wanted lines place attempt old new posted s = subst (λ (t : Attempt). RoomAfter t old new) (sym s.told) (by_tried s.tried s.tries)
   where
     posts_are : new.posts ≡ set old.posts place s.after
     posts_are = ap (λ (j : JobSeen). j.posts) s.is
@@ -53,6 +70,9 @@ room_after lines place attempt old new posted s = subst (λ (t : Attempt). RoomA
     same : room_of_posts new.posts ≡ room_of_posts (set old.posts place s.after)
     same = ap room_of_posts posts_are
 
+    same_made : made_by new.posts ≡ made_by (set old.posts place s.after)
+    same_made = ap made_by posts_are
+
     no_more : BeginsWith s.after.pass.knows.seen s.post.pass.knows.seen → room_of_posts new.posts ≤ room_of_posts old.posts
     no_more b =
         let l = no_shorter s.after.pass.knows.seen s.post.pass.knows.seen b in
@@ -60,8 +80,13 @@ room_after lines place attempt old new posted s = subst (λ (t : Attempt). RoomA
         let m = set_no_more old.posts place s.after s.post s.at_post r in
         omega (arith, m, same)
 
+    none : s.after.pass.knows.mine ≡ s.post.pass.knows.mine → made_by new.posts ≡ made_by old.posts
+    none mine =
+        let m = made_same old.posts place s.after s.post s.at_post (ap (λ (ps : List Placed). length ps) mine) in
+        omega (arith, m, same_made)
+
     by_tried : (tried : Result (Option Entry) StepRefused)
-        → Tries s.line.def old.actor s.post.pass.knows tried s.after.pass.knows
+        → Tries wanted s.line.def old.actor s.post.pass.knows tried s.after.pass.knows
         → RoomAfter (attempt_of s.line.def.line tried) old new
     by_tried (Ok (Some e)) t =
         let g = t.came in
@@ -71,54 +96,71 @@ room_after lines place attempt old new posted s = subst (λ (t : Attempt). RoomA
         let b = g.below in
         let r : room_of s.after < room_of s.post = omega (arith, l, n, a, b, log_before, log_after) in
         let m = set_less old.posts place s.after s.post s.at_post r in
-        omega (arith, m, same)
-    by_tried (Ok None) t = no_more t.begins
-    by_tried (Err (refusals.Full len)) t = no_more t.begins
-    by_tried (Err refusals.NoMemory) t = no_more t.begins
+        let p = ap (λ (ps : List Placed). length ps) g.mine in
+        let q = length-append s.post.pass.knows.mine (record { place = length g.history; entry = e } ∷ []) in
+        let more = made_more old.posts place s.after s.post s.at_post (omega (arith, p, q)) in
+        (omega (arith, m, same), omega (arith, more, same_made))
+    by_tried (Ok None) t = (no_more t.begins, none t.came.1)
+    by_tried (Err (refusals.Full len)) t = (no_more t.begins, none t.came.2)
+    by_tried (Err refusals.NoMemory) t = (no_more t.begins, none t.came.1)
 
 -- ---- attempts
 
+-- nothing was done yet; or only the job's other parts changed
+abbrev pub StaysSo : JobSeen → JobSeen → Type 0
+StaysSo old new = (room_of_posts new.posts ≤ room_of_posts old.posts) × (made_by new.posts ≡ made_by old.posts)
+
+pub stays : (old new : JobSeen) → new.posts ≡ old.posts → StaysSo old new
+stays old new same = (let e = ap room_of_posts same in omega (arith, e), ap made_by same)
+
 -- an attempt leaves no more room
 pub no_more_room : (attempt : Attempt) (old new : JobSeen) → RoomAfter attempt old new → room_of_posts new.posts ≤ room_of_posts old.posts
-no_more_room (attempts.Moved e) old new r = omega (arith, r)
-no_more_room attempts.NotYet old new r = r
-no_more_room (attempts.Full line len) old new r = r
-no_more_room attempts.NoMemory old new r = r
+no_more_room (attempts.Moved e) old new r = let s = r.0 in omega (arith, s)
+no_more_room attempts.NotYet old new r = r.0
+no_more_room (attempts.Full line len) old new r = r.0
+no_more_room attempts.NoMemory old new r = r.0
 
--- after others that left no more
-pub room_from : (attempt : Attempt) (a b c : JobSeen) → room_of_posts b.posts ≤ room_of_posts a.posts → RoomAfter attempt b c → RoomAfter attempt a c
-room_from (attempts.Moved e) a b c first r = omega (arith, first, r)
-room_from attempts.NotYet a b c first r = omega (arith, first, r)
-room_from (attempts.Full line len) a b c first r = omega (arith, first, r)
-room_from attempts.NoMemory a b c first r = omega (arith, first, r)
+-- after others that left no more room, and made no step
+pub room_from : (attempt : Attempt) (a b c : JobSeen) → StaysSo a b → RoomAfter attempt b c → RoomAfter attempt a c
+room_from (attempts.Moved e) a b c first r =
+    let f = first.0 in let g = first.1 in let s = r.0 in let t = r.1 in (omega (arith, f, s), omega (arith, g, t))
+room_from attempts.NotYet a b c first r = let f = first.0 in let s = r.0 in (omega (arith, f, s), r.1 ∙ first.1)
+room_from (attempts.Full line len) a b c first r = let f = first.0 in let s = r.0 in (omega (arith, f, s), r.1 ∙ first.1)
+room_from attempts.NoMemory a b c first r = let f = first.0 in let s = r.0 in (omega (arith, f, s), r.1 ∙ first.1)
 
-pub no_more_on : (attempt : Attempt) (a b c : JobSeen) → room_of_posts b.posts ≤ room_of_posts a.posts → RoomAfter attempt b c
-    → room_of_posts c.posts ≤ room_of_posts a.posts
-no_more_on attempt a b c first r = let m = no_more_room attempt b c r in omega (arith, first, m)
+pub stays_first : (attempt : Attempt) (a b : JobSeen) → attempt ≡ attempts.NotYet → RoomAfter attempt a b → StaysSo a b
+stays_first attempt a b not r = subst (λ (t : Attempt). RoomAfter t a b) not r
+
+pub stays_on : (attempt : Attempt) (a b c : JobSeen) → attempt ≡ attempts.NotYet → StaysSo a b → RoomAfter attempt b c → StaysSo a c
+stays_on attempt a b c not first r = room_from attempts.NotYet a b c first (subst (λ (t : Attempt). RoomAfter t b c) not r)
 
 -- with the same passes there is the same room
 pub room_as : (attempt : Attempt) (old mid new : JobSeen) → new.posts ≡ mid.posts → RoomAfter attempt old mid → RoomAfter attempt old new
-room_as (attempts.Moved e) old mid new same r = let e = ap room_of_posts same in omega (arith, e, r)
-room_as attempts.NotYet old mid new same r = let e = ap room_of_posts same in omega (arith, e, r)
-room_as (attempts.Full line len) old mid new same r = let e = ap room_of_posts same in omega (arith, e, r)
-room_as attempts.NoMemory old mid new same r = let e = ap room_of_posts same in omega (arith, e, r)
-
-pub same_room : (old new : JobSeen) → new.posts ≡ old.posts → room_of_posts new.posts ≤ room_of_posts old.posts
-same_room old new same = let e = ap room_of_posts same in omega (arith, e)
+room_as attempt old mid new same r = by_attempt attempt r
+  where
+    by_attempt : (t : Attempt) → RoomAfter t old mid → RoomAfter t old new
+    by_attempt (attempts.Moved e) r = let e = ap room_of_posts same in let m = ap made_by same in
+        let a = r.0 in let b = r.1 in (omega (arith, e, a), omega (arith, m, b))
+    by_attempt attempts.NotYet r = let e = ap room_of_posts same in let a = r.0 in (omega (arith, e, a), ap made_by same ∙ r.1)
+    by_attempt (attempts.Full line len) r = let e = ap room_of_posts same in let a = r.0 in (omega (arith, e, a), ap made_by same ∙ r.1)
+    by_attempt attempts.NoMemory r = let e = ap room_of_posts same in let a = r.0 in (omega (arith, e, a), ap made_by same ∙ r.1)
 
 -- ---- a worker's part of a shift
 
 pub room_left : (left : Left) (old now new : JobSeen) → new.posts ≡ now.posts → RoomLeft left old now → RoomLeft left old new
-room_left lefts.Idle old now new same r = let e = ap room_of_posts same in omega (arith, e, r)
-room_left lefts.Busy old now new same r = let e = ap room_of_posts same in omega (arith, e, r)
-room_left (lefts.Full line len) old now new same r = let e = ap room_of_posts same in omega (arith, e, r)
-room_left lefts.NoMemory old now new same r = let e = ap room_of_posts same in omega (arith, e, r)
+room_left lefts.Idle old now new same r = let e = ap room_of_posts same in let a = r.0 in (omega (arith, e, a), ap made_by same ∙ r.1)
+room_left lefts.Busy old now new same r = let e = ap room_of_posts same in let m = ap made_by same in
+    let a = r.0 in let b = r.1 in (omega (arith, e, a), omega (arith, m, b))
+room_left (lefts.Full line len) old now new same r = let e = ap room_of_posts same in let m = ap made_by same in
+    let a = r.0 in let b = r.1 in (omega (arith, e, a), omega (arith, m, b))
+room_left lefts.NoMemory old now new same r = let e = ap room_of_posts same in let m = ap made_by same in
+    let a = r.0 in let b = r.1 in (omega (arith, e, a), omega (arith, m, b))
 
 pub no_more_left : (left : Left) (old new : JobSeen) → RoomLeft left old new → room_of_posts new.posts ≤ room_of_posts old.posts
-no_more_left lefts.Idle old new r = r
-no_more_left lefts.Busy old new r = omega (arith, r)
-no_more_left (lefts.Full line len) old new r = r
-no_more_left lefts.NoMemory old new r = r
+no_more_left lefts.Idle old new r = r.0
+no_more_left lefts.Busy old new r = let s = r.0 in omega (arith, s)
+no_more_left (lefts.Full line len) old new r = r.0
+no_more_left lefts.NoMemory old new r = r.0
 
 -- ---- a shift
 
@@ -141,8 +183,8 @@ some_less [] (y ∷ ys) i j long each at is = absurd (omega (arith, long))
 some_less (x ∷ xs) [] i j long each at is = cc
 some_less (x ∷ xs) (y ∷ ys) zero j long each at is =
     let first : room_of_posts y.posts < room_of_posts x.posts
-    = subst (λ (l : Left). RoomLeft l x y) (ap (λ (k : JobSeen). k.left) (the_same y j at) ∙ is)
-    (each 0 x (omega arith)) in
+    = (subst (λ (l : Left). RoomLeft l x y) (ap (λ (k : JobSeen). k.left) (the_same y j at) ∙ is)
+    (each 0 x (omega arith))).0 in
     let rest = all_no_more xs ys (omega (arith, long)) (λ k d less. each (suc k) d (omega (arith, less))) in
     omega (arith, first, rest)
 some_less (x ∷ xs) (y ∷ ys) (suc i) j long each at is =

@@ -9,6 +9,7 @@ use Rattle.line_lock.specs.Knows.{nothing_known}
 use Rattle.line_lock.specs.Passes.{LockSeen, PassSeen, IsPassOf}
 use Rattle.line_lock.specs.declared.view.Known.{Known}
 use Rattle.workers.specs.Fit.{numbers_of, flows_of, actors_on, IsFirst, AreFirsts}
+use Rattle.workers.specs.Grown.{HaveSeenNothing}
 use Rattle.workers.proofs.Lists.{at_snoc, at_old, at_end, length_snoc}
 use Rattle.workers.proofs.Manning.{map_more}
 
@@ -18,9 +19,10 @@ pub record AreShared (done : List LineSeen) (lines : List LockSeen) (numbers : L
   pub numbered : numbers ≡ numbers_of lines
   pub flowing : flows ≡ flows_of lines
   pub each : AreFirsts lines [] firsts
+  pub new : HaveSeenNothing firsts
 
 pub none_shared : AreShared [] [] [] [] []
-none_shared = record { defs = refl; numbered = refl; flowing = refl; each = record { as_many = refl; each = λ k p at. cc } }
+none_shared = record { defs = refl; numbered = refl; flowing = refl; each = record { as_many = refl; each = λ k p at. cc }; new = λ k p at. cc }
 
 pub one_shared : (done : List LineSeen) (lines : List LockSeen) (numbers : List LineNo) (flows : List FlowKind)
     (firsts : List PassSeen) (x : LineSeen) (l : LockSeen) (n : LineNo) (w : FlowKind) (p : PassSeen)
@@ -43,6 +45,7 @@ one_shared done lines numbers flows firsts x l n w p s def number flow of_line k
         as_many = let a = s.each.as_many in let b = length_snoc firsts p in let c = length_snoc lines l in omega (arith, a, b, c);
         each = each;
       };
+      new = new;
     }
   where
     is_first : IsFirst l (actors_on (length firsts) []) p
@@ -67,6 +70,12 @@ one_shared done lines numbers flows firsts x l n w p s def number flow of_line k
       | inr now ↦
           let here : slice_get (lines ++ l ∷ []) k ≡ Some l = ap (λ (m : ℕ). slice_get (lines ++ l ∷ []) m) (now.0 ∙ s.each.as_many) ∙ at_end lines l in
           subst (λ (o : Option LockSeen). IsSomeAnd o (λ l. IsFirst l (actors_on k []) q)) (sym here) (subst (λ (r : PassSeen). IsFirst l [] r) now.1 is_first)
+    ]
+
+    new : HaveSeenNothing (firsts ++ p ∷ [])
+    new k q at = elim (at_snoc firsts p k q at) [
+      | inl before ↦ s.new k q before
+      | inr now ↦ ap (λ (x : PassSeen). x.knows.seen) (sym now.1) ∙ ap (λ (x : Known). x.seen) knows
     ]
 
 pub all_shared : (done all : List LineSeen) (lines : List LockSeen) (numbers : List LineNo) (flows : List FlowKind)

@@ -4,6 +4,7 @@ use Rattle.std.proofs.Common.{ltb-false, cond, All, IsSomeAnd, Option, Some, Non
 use Rattle.std.proofs.Common.{take, drop, length, get_or, slice_get, IsPermutation, refl, sym, ap, ◌∙◌, subst, arith}
 use Rattle.irq_base.specs.declared.entries.Actor.{Actor}
 use Rattle.irq_base.specs.declared.entries.Actor.TheVariants as actors
+use Rattle.irq_base.specs.declared.entries.Entry.{Entry}
 use Rattle.irq_base.specs.declared.lines.LineDef.{LineDef}
 use Rattle.irq_base.specs.declared.numbers.CpuNo.{CpuNo}
 use Rattle.irq_base.specs.declared.numbers.DevNo.{DevNo}
@@ -15,26 +16,29 @@ use Rattle.board_play.specs.Lines.{defs_of}
 use Rattle.line_lock.specs.Passes.{LockSeen, PassSeen}
 use Rattle.workers.specs.Fit.{IsPost, ArePosted, IsPlaceOf, IsManned, IsJob, works_on, actors_on, workers_of, IsFirst, AreFirsts, Fit}
 use Rattle.workers.specs.Room.{RoomLeft, room_of_jobs}
-use Rattle.workers.specs.Shifts.{BusyIsSo, IsAtRest, WorksOn, ComesTo, AttemptsJob, LeftIsSo, WorksJob, KeepsJobs}
+use Rattle.workers.specs.Grown.{JobsGrow}
+use Rattle.workers.specs.Shifts.{IsAtRest, WorksOn, is_refused, ComesTo, AttemptsJob, LeftIsSo, WorksJob, KeepsJobs}
+use Rattle.workers.specs.Shifts.{IsSomeLeft, NoneFull, NoneRefused, MadeNone}
 use Rattle.workers.specs.Shifts.{EachLeftSo, worse, IsLowestFull, SumsUp, Ends}
 use Rattle.workers.specs.Seen.{PostSeen, JobSeen, JobsSeen}
 use Rattle.workers.specs.Tries.{IsIdle, rests_after}
-use Rattle.workers.specs.Attempts.{StepsPost, KeepsPosts, FullIsSo, AttemptsCpu, IsDriven, AttemptsDriver}
+use Rattle.workers.specs.Attempts.{StepsPost, KeepsPosts, RefusedIsSo, AttemptsCpu, IsDriven, AttemptsDriver}
 use Rattle.workers.specs.declared.job.Left.{Left}
 use Rattle.workers.specs.declared.job.Left.TheVariants as lefts
 use Rattle.workers.specs.declared.shifts.ShiftsEnd.TheVariants as ends
 use Rattle.workers.specs.declared.attempts.Attempt.{Attempt}
 use Rattle.workers.specs.declared.attempts.Attempt.TheVariants as attempts
-use Rattle.workers.proofs.Flowing.{keeps_posts, post_now, full_is_so, not_yet_is}
+use Rattle.workers.proofs.Flowing.{keeps_posts, post_now, refused_is_so, not_yet_is}
+use Rattle.workers.proofs.Growing.{posts_self, posts_more, jobs_grew}
 use Rattle.workers.proofs.Lists.{within, there_or, two}
 use Rattle.workers.proofs.Rooms.{room_after, room_left, all_no_more, some_less}
 
-comes : (board : BoardSeen) (j : JobSeen) (attempt : Attempt) → (attempt ≡ attempts.NotYet → IsAtRest board j j.actor)
-    → FullIsSo j attempt → ComesTo board j attempt
-comes board j (attempts.Moved e) rest full = tt
-comes board j attempts.NotYet rest full = rest refl
-comes board j (attempts.Full line len) rest full = full
-comes board j attempts.NoMemory rest full = tt
+comes : (wanted : LineDef → List Entry → Actor → Type 0) (board : BoardSeen) (j : JobSeen) (attempt : Attempt)
+    → (attempt ≡ attempts.NotYet → IsAtRest board j j.actor) → RefusedIsSo wanted j attempt → ComesTo wanted board j attempt
+comes wanted board j (attempts.Moved e) rest refused = tt
+comes wanted board j attempts.NotYet rest refused = rest refl
+comes wanted board j (attempts.Full line len) rest refused = refused
+comes wanted board j attempts.NoMemory rest refused = refused
 
 -- a pass that rests
 idle_of : (lines : List LockSeen) (j : JobSeen) → ArePosted lines j → (i : ℕ) (s : PostSeen)
@@ -45,7 +49,8 @@ idle_of lines j posted i s at rests = by_line (slice_get lines (j.first + i)) (p
     by_line None is = absurd is
     by_line (Some l) is = subst (λ (d : LineDef). IsIdle d j.actor s.pass.knows) (sym is.of_line.1) (is.rests rests)
 
-module _ (board : BoardSeen) (lines : List LockSeen) (attempt : Attempt) (old new : JobSeen) (job : IsJob board lines old) where
+module _ (wanted : LineDef → List Entry → Actor → Type 0) (board : BoardSeen) (lines : List LockSeen)
+    (attempt : Attempt) (old new : JobSeen) (job : IsJob board lines old) where
   manned_as : (a : Actor) → old.actor ≡ a → IsManned board lines old a
   manned_as a is = subst (λ (b : Actor). IsManned board lines old b) is job.manned
 
@@ -60,10 +65,11 @@ module _ (board : BoardSeen) (lines : List LockSeen) (attempt : Attempt) (old ne
           manned = subst (λ (b : Actor). IsManned board lines new b) (sym (k.actor ∙ is))
               manned;
         };
+    grew = k.grew;
   }
 
   pub thread_attempted : (line : LineNo) (dev : DevNo) → old.actor ≡ actors.Thread line dev
-      → StepsPost lines 0 attempt old new → AttemptsJob board lines attempt old new
+      → StepsPost wanted lines 0 attempt old new → AttemptsJob wanted board lines attempt old new
   thread_attempted line dev is s =
       record {
         works = works k (actors.Thread line dev) is (
@@ -71,12 +77,12 @@ module _ (board : BoardSeen) (lines : List LockSeen) (attempt : Attempt) (old ne
               omega (arith, l, o),
           subst (λ (n : ℕ). IsPlaceOf lines line (Some n)) (sym k.first) m.1,
         );
-        came = comes board new attempt rest (full_is_so lines 0 attempt old new s);
-        room = room_after lines 0 attempt old new job.posted s;
+        came = comes wanted board new attempt rest (refused_is_so wanted lines 0 attempt old new s);
+        room = room_after wanted lines 0 attempt old new job.posted s;
       }
     where
       k : KeepsPosts lines old new
-      k = keeps_posts lines 0 attempt old new job.posted s
+      k = keeps_posts wanted lines 0 attempt old new job.posted s
 
       m : IsManned board lines old (actors.Thread line dev)
       m = manned_as (actors.Thread line dev) is
@@ -85,7 +91,7 @@ module _ (board : BoardSeen) (lines : List LockSeen) (attempt : Attempt) (old ne
       rest not = subst (λ (a : Actor). IsAtRest board new a) (sym (k.actor ∙ is)) each
         where
           each : (i : ℕ) (t : PostSeen) → slice_get new.posts i ≡ Some t → IsIdle t.pass.def (actors.Thread line dev) t.pass.knows
-          each i t at = elim (post_now lines 0 attempt old new s i t at) [
+          each i t at = elim (post_now wanted lines 0 attempt old new s i t at) [
             | inl here ↦
                 subst (λ (a : Actor). IsIdle t.pass.def a t.pass.knows) (k.actor ∙ is)
                 (idle_of lines new k.posted i t at (ap (λ (x : PostSeen). x.rests) here.1
@@ -93,11 +99,12 @@ module _ (board : BoardSeen) (lines : List LockSeen) (attempt : Attempt) (old ne
             | inr other ↦ absurd (other.0 (let w = within new.posts i t at in let l = k.as_many in let o = m.0 in omega (arith, w, l, o)))
           ]
 
-  pub cpu_attempted : (c : CpuNo) → old.actor ≡ actors.Cpu c → AttemptsCpu lines attempt old new → AttemptsJob board lines attempt old new
+  pub cpu_attempted : (c : CpuNo) → old.actor ≡ actors.Cpu c → AttemptsCpu wanted lines attempt old new
+      → AttemptsJob wanted board lines attempt old new
   cpu_attempted c is t =
       record {
         works = works t.keeps (actors.Cpu c) is (t.keeps.first ∙ m.0, t.keeps.as_many ∙ m.1, t.flow, t.its);
-        came = comes board new attempt rest t.full;
+        came = comes wanted board new attempt rest t.refused;
         room = t.room;
       }
     where
@@ -116,22 +123,30 @@ module _ (board : BoardSeen) (lines : List LockSeen) (attempt : Attempt) (old ne
       let m = manned_as (actors.Driver r) is in
       record { actor = is; posted = job.posted; first = m.0; as_many = m.1; up_to = m.2; within = m.3 }
 
-  pub job_driven : (r : DriverNo) → old.actor ≡ actors.Driver r → AttemptsDriver board lines r attempt old new → AttemptsJob board lines attempt old new
+  pub job_driven : (r : DriverNo) → old.actor ≡ actors.Driver r → AttemptsDriver wanted board lines r attempt old new
+      → AttemptsJob wanted board lines attempt old new
   job_driven r is t =
       let m = manned_as (actors.Driver r) is in
       record {
         works = works t.keeps (actors.Driver r) is (t.keeps.first ∙ m.0, t.keeps.as_many ∙ m.1, t.up_to, t.within);
-        came = comes board new attempt (λ not. subst (λ (a : Actor). IsAtRest board new a) (sym (t.keeps.actor ∙ is)) (t.rests not)) t.full;
+        came = comes wanted board new attempt (λ not. subst (λ (a : Actor). IsAtRest board new a) (sym (t.keeps.actor ∙ is)) (t.rests not)) t.refused;
         room = t.room;
       }
 
 -- ---- one attempt after another
 
 pub works_first : (board : BoardSeen) (lines : List LockSeen) (j : JobSeen) → IsJob board lines j → WorksOn board lines j j
-works_first board lines j job = record { actor = refl; first = refl; as_many = refl; job = job }
+works_first board lines j job = record { actor = refl; first = refl; as_many = refl; job = job; grew = posts_self j.posts }
 
 pub works_more : (board : BoardSeen) (lines : List LockSeen) (a b c : JobSeen) → WorksOn board lines a b → WorksOn board lines b c → WorksOn board lines a c
-works_more board lines a b c v w = record { actor = w.actor ∙ v.actor; first = w.first ∙ v.first; as_many = w.as_many ∙ v.as_many; job = w.job }
+works_more board lines a b c v w =
+    record {
+      actor = w.actor ∙ v.actor;
+      first = w.first ∙ v.first;
+      as_many = w.as_many ∙ v.as_many;
+      job = w.job;
+      grew = posts_more a.posts b.posts c.posts v.grew w.grew;
+    }
 
 module _ (board : BoardSeen) (lines : List LockSeen) (now : JobSeen) (left : Left) where
   manned_left : (a : Actor) → IsManned board lines now a → IsManned board lines (record now { left = left }) a
@@ -157,36 +172,39 @@ module _ (board : BoardSeen) (lines : List LockSeen) (now : JobSeen) (left : Lef
     })
   ]
 
-  left_so : (l : Left) → LeftIsSo board now l → LeftIsSo board (record now { left = left }) l
-  left_so lefts.Idle is = rest_left now.actor is
-  left_so lefts.Busy is = tt
-  left_so (lefts.Full line len) is = record { place = is.place; post = is.post; at = is.at; number = is.number; is = is.is; log = is.log }
-  left_so lefts.NoMemory is = tt
+  left_so : (wanted : LineDef → List Entry → Actor → Type 0) (l : Left) → LeftIsSo wanted board now l
+      → LeftIsSo wanted board (record now { left = left }) l
+  left_so wanted lefts.Idle is = rest_left now.actor is
+  left_so wanted lefts.Busy is = tt
+  left_so wanted (lefts.Full line len) is = record { place = is.place; post = is.post; at = is.at; number = is.number; is = is.is; log = is.log }
+  left_so wanted lefts.NoMemory is = record { place = is.place; post = is.post; at = is.at; is = is.is }
 
   pub job_left : IsJob board lines now → IsJob board lines (record now { left = left })
   job_left j = record { posted = j.posted; manned = manned_left now.actor j.manned }
 
-  pub left_at : (old new : JobSeen) → WorksOn board lines old now → LeftIsSo board now left → RoomLeft left old now
-      → new ≡ record now { left = left } → WorksJob board lines old new
-  left_at old new w is room same =
-      subst (λ (j : JobSeen). WorksJob board lines old j) (sym same)
+  pub left_at : (wanted : LineDef → List Entry → Actor → Type 0) (old new : JobSeen) → WorksOn board lines old now
+      → LeftIsSo wanted board now left → RoomLeft left old now → new ≡ record now { left = left }
+      → WorksJob wanted board lines old new
+  left_at wanted old new w is room same =
+      subst (λ (j : JobSeen). WorksJob wanted board lines old j) (sym same)
       (record {
         works = record {
           actor = w.actor;
           first = w.first;
           as_many = w.as_many;
           job = job_left w.job;
+          grew = w.grew;
         };
         left
-            = left_so left is;
+            = left_so wanted left is;
         room = room_left left old now (record now { left = left }) refl room;
       })
 
 -- ---- all jobs
 
-module _ (board : BoardSeen) (lines : List LockSeen) where
+module _ (wanted : LineDef → List Entry → Actor → Type 0) (board : BoardSeen) (lines : List LockSeen) where
   abbrev EachWorks : List JobSeen → List JobSeen → Type 0
-  EachWorks old new = (k : ℕ) (d : JobSeen) → k < length old → WorksJob board lines (get_or old k d) (get_or new k d)
+  EachWorks old new = (k : ℕ) (d : JobSeen) → k < length old → WorksJob wanted board lines (get_or old k d) (get_or new k d)
 
   later : (x y : JobSeen) (xs ys : List JobSeen) → EachWorks (x ∷ xs) (y ∷ ys) → EachWorks xs ys
   later x y xs ys each k d less = each (suc k) d (omega (arith, less))
@@ -220,36 +238,36 @@ module _ (board : BoardSeen) (lines : List LockSeen) where
       by_test false deeper = deeper
 
   each_at : (old new : List JobSeen) → length new ≡ length old → EachWorks old new → (i : ℕ) (j : JobSeen)
-      → slice_get new i ≡ Some j → IsJob board lines j × LeftIsSo board j j.left
+      → slice_get new i ≡ Some j → IsJob board lines j × LeftIsSo wanted board j j.left
   each_at old new long each i j at =
       let less : i < length old = let w = within new i j at in omega (arith, w, long) in
       let e = each i j less in
       let is : get_or new i j ≡ j = the_same (get_or new i j) j (sym (there_or new i j (within new i j at)) ∙ at) in
-      (subst (λ (x : JobSeen). IsJob board lines x) is e.works.job, subst (λ (x : JobSeen). LeftIsSo board x x.left) is e.left)
+      (subst (λ (x : JobSeen). IsJob board lines x) is e.works.job, subst (λ (x : JobSeen). LeftIsSo wanted board x x.left) is e.left)
 
 -- the jobs fit after a shift, as they did
-pub still_fit : (lines : List LockSeen) (old new : JobsSeen) → Fit lines old → new.board ≡ old.board
-    → new.firsts ≡ old.firsts → length new.jobs ≡ length old.jobs → KeepsJobs old.board lines old.jobs new.jobs
+pub still_fit : (wanted : LineDef → List Entry → Actor → Type 0) (lines : List LockSeen) (old new : JobsSeen) → Fit lines old → new.board ≡ old.board
+    → new.firsts ≡ old.firsts → length new.jobs ≡ length old.jobs → KeepsJobs wanted old.board lines old.jobs new.jobs
     → Fit lines new
-still_fit lines old new fit board firsts long each =
+still_fit wanted lines old new fit board firsts long each =
     record {
       defs = fit.defs ∙ ap defs_of (sym board);
       actors = subst (λ (b : BoardSeen). IsPermutation (workers_of b lines) (map (λ (j : JobSeen). j.actor) new.jobs)) (sym board)
           (subst (λ (ws : List Actor). IsPermutation (workers_of old.board lines) ws)
-          (sym (same_actors old.board lines old.jobs new.jobs long each)) fit.actors);
-      each = λ i j at. subst (λ (b : BoardSeen). IsJob b lines j) (sym board) (each_at old.board lines old.jobs new.jobs long each i j at).0;
+          (sym (same_actors wanted old.board lines old.jobs new.jobs long each)) fit.actors);
+      each = λ i j at. subst (λ (b : BoardSeen). IsJob b lines j) (sym board) (each_at wanted old.board lines old.jobs new.jobs long each i j at).0;
       firsts = subst (λ (ps : List PassSeen). AreFirsts lines new.jobs ps) (sym firsts)
           (record {
             as_many = fit.firsts.as_many;
             each
                 = λ k p at. subst (λ (whom : List Actor). IsSomeAnd (slice_get lines k) (λ l. IsFirst l whom p))
-                (sym (same_on old.board lines k old.jobs new.jobs long each)) (fit.firsts.each k p at);
+                (sym (same_on wanted old.board lines k old.jobs new.jobs long each)) (fit.firsts.each k p at);
           });
     }
 
-pub left_after : (lines : List LockSeen) (board : BoardSeen) (old new : List JobSeen) → length new ≡ length old
-    → KeepsJobs board lines old new → (i : ℕ) (j : JobSeen) → slice_get new i ≡ Some j → LeftIsSo board j j.left
-left_after lines board old new long each i j at = (each_at board lines old new long each i j at).1
+pub left_after : (wanted : LineDef → List Entry → Actor → Type 0) (lines : List LockSeen) (board : BoardSeen) (old new : List JobSeen) → length new ≡ length old
+    → KeepsJobs wanted board lines old new → (i : ℕ) (j : JobSeen) → slice_get new i ≡ Some j → LeftIsSo wanted board j j.left
+left_after wanted lines board old new long each i j at = (each_at wanted board lines old new long each i j at).1
 
 -- all of them may be worked on
 pub all_jobs : (lines : List LockSeen) (s : JobsSeen) → Fit lines s → All (IsJob s.board lines) s.jobs
@@ -267,17 +285,14 @@ module _ (jobs : List JobSeen) (n : ℕ) (job : JobSeen) (at : slice_get jobs n 
   ]
 
   -- none found a full line, and this job neither
-  abbrev NoneFull : ℕ → Type 0
-  NoneFull m = (k : ℕ) (j : JobSeen) (other : LineNo) (len : ℕ) → k < m → slice_get jobs k ≡ Some j → j.left ≡ lefts.Full other len → ⊥
-
-  none_more : NoneFull n → ((other : LineNo) (len : ℕ) → job.left ≡ lefts.Full other len → ⊥) → NoneFull (n + 1)
+  none_more : NoneFull jobs n → ((other : LineNo) (len : ℕ) → job.left ≡ lefts.Full other len → ⊥) → NoneFull jobs (n + 1)
   none_more old here k j other len less at_j = more {P = λ x. (other : LineNo) (len : ℕ) → x.left ≡ lefts.Full other len
       → ⊥} (λ k j less at other len. old k j other len less at) here k j less at_j other len
 
-  idle_none : ((k : ℕ) (j : JobSeen) → k < n → slice_get jobs k ≡ Some j → j.left ≡ lefts.Idle) → NoneFull n
+  idle_none : ((k : ℕ) (j : JobSeen) → k < n → slice_get jobs k ≡ Some j → j.left ≡ lefts.Idle) → NoneFull jobs n
   idle_none old k j other len less at_j is = let h : lefts.Idle ≡ lefts.Full other len = sym (old k j less at_j) ∙ is in cc
 
-  first_full : (b : LineNo) (m : ℕ) → job.left ≡ lefts.Full b m → NoneFull n → IsLowestFull jobs (n + 1) b m
+  first_full : (b : LineNo) (m : ℕ) → job.left ≡ lefts.Full b m → NoneFull jobs n → IsLowestFull jobs (n + 1) b m
   first_full b m is none =
       record {
         place = n;
@@ -323,6 +338,22 @@ module _ (jobs : List JobSeen) (n : ℕ) (job : JobSeen) (at : slice_get jobs n 
       → (other : LineNo) (len : ℕ) → job.left ≡ lefts.Full other len → ⊥
   no_full l is none other len h = none other len (sym is ∙ h)
 
+  -- nobody was refused
+  not_refused : NoneRefused jobs n → is_refused job.left ≡ false → NoneRefused jobs (n + 1)
+  not_refused old here = more {P = λ x. is_refused x.left ≡ false} old here
+
+  idle_not_refused : ((k : ℕ) (j : JobSeen) → k < n → slice_get jobs k ≡ Some j → j.left ≡ lefts.Idle) → NoneRefused jobs n
+  idle_not_refused old k j less at_j = ap is_refused (old k j less at_j)
+
+  refused_not_full : NoneRefused jobs n → NoneFull jobs n
+  refused_not_full old k j other len less at_j is = let h : true ≡ false = sym (ap is_refused is) ∙ old k j less at_j in cc
+
+  some_here : (l : Left) → job.left ≡ l → IsSomeLeft jobs (n + 1) l
+  some_here l is = record { place = n; job = job; below = omega arith; at = at; is = is }
+
+  some_before : (l : Left) → IsSomeLeft jobs n l → IsSomeLeft jobs (n + 1) l
+  some_before l s = record { place = s.place; job = s.job; below = let b = s.below in omega (arith, b); at = s.at; is = s.is }
+
   pub sums_more : (all l : Left) → job.left ≡ l → SumsUp jobs n all → SumsUp jobs (n + 1) (worse all l)
   sums_more (lefts.Full a m) (lefts.Full b k) is f = by_test (nat_lt b.0 a.0) refl
     where
@@ -337,66 +368,47 @@ module _ (jobs : List JobSeen) (n : ℕ) (job : JobSeen) (at : slice_get jobs n 
   sums_more (lefts.Full a m) lefts.Busy is f = full_on a m f (λ other len h. absurd (no_full lefts.Busy is (λ o k g. cc) other len h))
   sums_more (lefts.Full a m) lefts.NoMemory is f = full_on a m f (λ other len h. absurd (no_full lefts.NoMemory is (λ o k g. cc) other len h))
   sums_more lefts.Idle (lefts.Full b k) is f = first_full b k is (idle_none f)
-  sums_more lefts.Busy (lefts.Full b k) is f = first_full b k is f
-  sums_more lefts.NoMemory (lefts.Full b k) is f = first_full b k is f
+  sums_more lefts.Busy (lefts.Full b k) is f = first_full b k is (refused_not_full f.1)
+  sums_more lefts.NoMemory (lefts.Full b k) is f = first_full b k is f.1
   sums_more lefts.Idle lefts.Idle is f = more {P = λ x. x.left ≡ lefts.Idle} f is
-  sums_more lefts.Idle lefts.Busy is f = none_more (idle_none f) (no_full lefts.Busy is (λ o k g. cc))
-  sums_more lefts.Idle lefts.NoMemory is f = none_more (idle_none f) (no_full lefts.NoMemory is (λ o k g. cc))
-  sums_more lefts.Busy lefts.Idle is f = none_more f (no_full lefts.Idle is (λ o k g. cc))
-  sums_more lefts.Busy lefts.Busy is f = none_more f (no_full lefts.Busy is (λ o k g. cc))
-  sums_more lefts.Busy lefts.NoMemory is f = none_more f (no_full lefts.NoMemory is (λ o k g. cc))
-  sums_more lefts.NoMemory lefts.Idle is f = none_more f (no_full lefts.Idle is (λ o k g. cc))
-  sums_more lefts.NoMemory lefts.Busy is f = none_more f (no_full lefts.Busy is (λ o k g. cc))
-  sums_more lefts.NoMemory lefts.NoMemory is f = none_more f (no_full lefts.NoMemory is (λ o k g. cc))
-
--- a step was made
-module _ (jobs : List JobSeen) (n : ℕ) (job : JobSeen) (at : slice_get jobs n ≡ Some job) where
-  busy_on : BusyIsSo jobs n lefts.Busy → BusyIsSo jobs (n + 1) lefts.Busy
-  busy_on (k, j, less, is_at, is) = (k, j, omega (arith, less), is_at, is)
-
-  busy_here : job.left ≡ lefts.Busy → BusyIsSo jobs (n + 1) lefts.Busy
-  busy_here is = (n, job, omega arith, at, is)
-
-  pub busy_more : (all l : Left) → job.left ≡ l → BusyIsSo jobs n all → BusyIsSo jobs (n + 1) (worse all l)
-  busy_more (lefts.Full a m) (lefts.Full b k) is f = by_test (nat_lt b.0 a.0)
-    where
-      by_test : (t : Bool) → BusyIsSo jobs (n + 1) (cond t (lefts.Full b k) (lefts.Full a m))
-      by_test true = tt
-      by_test false = tt
-  busy_more (lefts.Full a m) lefts.Idle is f = tt
-  busy_more (lefts.Full a m) lefts.Busy is f = tt
-  busy_more (lefts.Full a m) lefts.NoMemory is f = tt
-  busy_more lefts.Idle (lefts.Full b k) is f = tt
-  busy_more lefts.Busy (lefts.Full b k) is f = tt
-  busy_more lefts.NoMemory (lefts.Full b k) is f = tt
-  busy_more lefts.Idle lefts.Idle is f = tt
-  busy_more lefts.Idle lefts.Busy is f = busy_here is
-  busy_more lefts.Idle lefts.NoMemory is f = tt
-  busy_more lefts.Busy lefts.Idle is f = busy_on f
-  busy_more lefts.Busy lefts.Busy is f = busy_on f
-  busy_more lefts.Busy lefts.NoMemory is f = tt
-  busy_more lefts.NoMemory lefts.Idle is f = tt
-  busy_more lefts.NoMemory lefts.Busy is f = tt
-  busy_more lefts.NoMemory lefts.NoMemory is f = tt
+  sums_more lefts.Idle lefts.Busy is f = (some_here lefts.Busy is, not_refused (idle_not_refused f) (ap is_refused is))
+  sums_more lefts.Idle lefts.NoMemory is f = (some_here lefts.NoMemory is, none_more (idle_none f) (no_full lefts.NoMemory is (λ o k g. cc)))
+  sums_more lefts.Busy lefts.Idle is f = (some_before lefts.Busy f.0, not_refused f.1 (ap is_refused is))
+  sums_more lefts.Busy lefts.Busy is f = (some_before lefts.Busy f.0, not_refused f.1 (ap is_refused is))
+  sums_more lefts.Busy lefts.NoMemory is f = (some_here lefts.NoMemory is, none_more (refused_not_full f.1) (no_full lefts.NoMemory is (λ o k g. cc)))
+  sums_more lefts.NoMemory lefts.Idle is f = (some_before lefts.NoMemory f.0, none_more f.1 (no_full lefts.Idle is (λ o k g. cc)))
+  sums_more lefts.NoMemory lefts.Busy is f = (some_before lefts.NoMemory f.0, none_more f.1 (no_full lefts.Busy is (λ o k g. cc)))
+  sums_more lefts.NoMemory lefts.NoMemory is f = (some_before lefts.NoMemory f.0, none_more f.1 (no_full lefts.NoMemory is (λ o k g. cc)))
 
 -- ---- how shifts end
 
-pub quiet : (s : JobsSeen) → EachLeftSo s → SumsUp s.jobs (length s.jobs) lefts.Idle → Ends s ends.Quiet
-quiet s left all i j at = subst (λ (l : Left). LeftIsSo s.board j l) (all i j (within s.jobs i j at) at) (left i j at)
+module _ (wanted : LineDef → List Entry → Actor → Type 0) (s : JobsSeen) (left : EachLeftSo wanted s) where
+  pub quiet : SumsUp s.jobs (length s.jobs) lefts.Idle → Ends wanted s ends.Quiet
+  quiet all i j at = subst (λ (l : Left). LeftIsSo wanted s.board j l) (all i j (within s.jobs i j at) at) (left i j at)
 
-pub full_for : (s : JobsSeen) (line : LineNo) (len : ℕ) → EachLeftSo s → SumsUp s.jobs (length s.jobs) (lefts.Full line len) → Ends s (ends.Full line len)
-full_for s line len left f =
-    record {
-      place = f.place;
-      job = f.job;
-      at = f.at;
-      is = subst (λ (l : Left). LeftIsSo s.board f.job l) f.left (left f.place f.job f.at);
-      lowest = λ k j other m at is. f.lowest k j other m (within s.jobs k j at) at is;
-    }
+  pub full_for : (line : LineNo) (len : ℕ) → SumsUp s.jobs (length s.jobs) (lefts.Full line len) → Ends wanted s (ends.Full line len)
+  full_for line len f =
+      record {
+        place = f.place;
+        job = f.job;
+        at = f.at;
+        is = subst (λ (l : Left). LeftIsSo wanted s.board f.job l) f.left (left f.place f.job f.at);
+        lowest = λ k j other m at is. f.lowest k j other m (within s.jobs k j at) at is;
+      }
+
+  pub wanted_for : SumsUp s.jobs (length s.jobs) lefts.NoMemory → Ends wanted s ends.NoMemory
+  wanted_for f =
+      record {
+        place = f.0.place;
+        job = f.0.job;
+        at = f.0.at;
+        is = subst (λ (l : Left). LeftIsSo wanted s.board f.0.job l) f.0.is (left f.0.place f.0.job f.0.at);
+        none_full = f.1;
+      }
 
 -- ---- one shift, as the code has it
 
-module _ (lines : List LockSeen) (s : JobsSeen) (fit : Fit lines s) (board : BoardSeen)
+module _ (wanted : LineDef → List Entry → Actor → Type 0) (lines : List LockSeen) (s : JobsSeen) (fit : Fit lines s) (board : BoardSeen)
     (jobs here new after : List JobSeen) (firsts : List PassSeen)
     (is : record { board = board; jobs = jobs; firsts = firsts } ≡ s) (same : here ≡ jobs) where
   here_is : here ≡ s.jobs
@@ -406,29 +418,39 @@ module _ (lines : List LockSeen) (s : JobsSeen) (fit : Fit lines s) (board : Boa
   shift_may = subst (λ (b : BoardSeen). All (IsJob b lines) here) (ap (λ (x : JobsSeen). x.board) (sym is))
       (subst (λ (js : List JobSeen). All (IsJob s.board lines) js) (sym here_is) (all_jobs lines s fit))
 
-  module _ (long : length new ≡ length here) (keeps : KeepsJobs board lines here new) (back : after ≡ new) where
-    keeps_s : KeepsJobs s.board lines s.jobs after
+  module _ (long : length new ≡ length here) (keeps : KeepsJobs wanted board lines here new) (back : after ≡ new) where
+    keeps_s : KeepsJobs wanted s.board lines s.jobs after
     keeps_s =
-        subst (λ (js : List JobSeen). KeepsJobs s.board lines s.jobs js) (sym back)
-        (subst (λ (js : List JobSeen). KeepsJobs s.board lines js new) here_is
-        (subst (λ (b : BoardSeen). KeepsJobs b lines here new) (ap (λ (x : JobsSeen). x.board) is) keeps))
+        subst (λ (js : List JobSeen). KeepsJobs wanted s.board lines s.jobs js) (sym back)
+        (subst (λ (js : List JobSeen). KeepsJobs wanted s.board lines js new) here_is
+        (subst (λ (b : BoardSeen). KeepsJobs wanted b lines here new) (ap (λ (x : JobsSeen). x.board) is) keeps))
 
     long_s : length after ≡ length s.jobs
     long_s = ap (λ (js : List JobSeen). length js) back ∙ (long ∙ ap (λ (js : List JobSeen). length js) here_is)
 
     pub shift_fit : Fit lines (record { board = board; jobs = after; firsts = firsts })
-    shift_fit = still_fit lines s (record { board = board; jobs = after; firsts = firsts }) fit
+    shift_fit = still_fit wanted lines s (record { board = board; jobs = after; firsts = firsts }) fit
         (ap (λ (x : JobsSeen). x.board) is) (ap (λ (x : JobsSeen). x.firsts) is) long_s keeps_s
 
-    pub shift_left : EachLeftSo (record { board = board; jobs = after; firsts = firsts })
-    shift_left i j at = subst (λ (b : BoardSeen). LeftIsSo b j j.left) (ap (λ (x : JobsSeen). x.board) (sym is))
-        (left_after lines s.board s.jobs after long_s keeps_s i j at)
+    pub shift_left : EachLeftSo wanted (record { board = board; jobs = after; firsts = firsts })
+    shift_left i j at = subst (λ (b : BoardSeen). LeftIsSo wanted b j j.left) (ap (λ (x : JobsSeen). x.board) (sym is))
+        (left_after wanted lines s.board s.jobs after long_s keeps_s i j at)
 
     pub shift_room : room_of_jobs after ≤ room_of_jobs s.jobs
     shift_room = all_no_more s.jobs after long_s (λ k d less. (keeps_s k d less).room)
 
-    pub shift_busy : BusyIsSo after (length after) lefts.Busy → room_of_jobs after < room_of_jobs s.jobs
-    shift_busy (k, j, less, at, is) = some_less s.jobs after k j long_s (λ k d less. (keeps_s k d less).room) at is
+    pub shift_busy : SumsUp after (length after) lefts.Busy → room_of_jobs after < room_of_jobs s.jobs
+    shift_busy f = some_less s.jobs after f.0.place f.0.job long_s (λ k d less. (keeps_s k d less).room) f.0.at f.0.is
+
+    pub shift_grew : JobsGrow s.jobs after
+    shift_grew = jobs_grew s.jobs after long_s (λ k d less. let v = (keeps_s k d less).works in
+        record { actor = v.actor; first = v.first; as_many = v.as_many; posts = v.grew })
+
+    pub shift_idle : SumsUp after (length after) lefts.Idle → MadeNone s.jobs after
+    shift_idle all k d less =
+        let here : k < length after = omega (arith, less, long_s) in
+        (subst (λ (l : Left). RoomLeft l (get_or s.jobs k d) (get_or after k d))
+        (all k (get_or after k d) here (there_or after k d here)) (keeps_s k d less).room).1
 
 pub whole_again : {A : Type 0} (n : ℕ) (xs ys : List A) → n ≡ length xs → take n (xs ++ drop (length xs) ys) ≡ xs
 whole_again n xs ys is = ap (λ (k : ℕ). take k (xs ++ drop (length xs) ys)) is ∙ front xs (drop (length xs) ys)

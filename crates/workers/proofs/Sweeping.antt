@@ -1,11 +1,15 @@
 -- One sweep of a shift after another.
-use Rattle.std.proofs.Common.{◌≡◌, ℕ, ◌+◌, ◌<◌, ◌≤◌, inl, inr, All, List, length, get_or, set, sym, ◌∙◌, subst, arith}
+use Rattle.std.proofs.Common.{◌≡◌, ℕ, ◌+◌, ◌<◌, ◌≤◌, inl, inr, false, All, List, length, get_or, set, sym, ◌∙◌, subst, arith}
 use Rattle.std.proofs.lemmas.List.{get_or-set_same, get_or-set_other, get_or_default}
+use Rattle.irq_base.specs.declared.entries.Actor.{Actor}
+use Rattle.irq_base.specs.declared.entries.Entry.{Entry}
+use Rattle.irq_base.specs.declared.lines.LineDef.{LineDef}
 use Rattle.board_def.specs.Seen.{BoardSeen}
 use Rattle.line_lock.specs.Passes.{LockSeen}
 use Rattle.workers.specs.Fit.{IsJob}
 use Rattle.workers.specs.Room.{RoomLeft, room_of_posts}
-use Rattle.workers.specs.Shifts.{WorksOn, LeftIsSo, with_earlier, GoesOn, GoOnJobs, KeepsJobs}
+use Rattle.workers.specs.Grown.{made_by}
+use Rattle.workers.specs.Shifts.{WorksOn, LeftIsSo, is_refused, with_earlier, GoesOn, GoOnJobs, KeepsJobs}
 use Rattle.workers.specs.Seen.{JobSeen}
 use Rattle.workers.specs.declared.job.Left.{Left}
 use Rattle.workers.specs.declared.job.Left.TheVariants as lefts
@@ -14,8 +18,31 @@ use Rattle.workers.proofs.Shifting.{works_first, works_more, job_left, left_at}
 
 -- ---- one job
 
-module _ (board : BoardSeen) (lines : List LockSeen) where
-  so : (now : JobSeen) (before left : Left) → LeftIsSo board now left → LeftIsSo board now (with_earlier before left)
+-- what is left to do goes on from here
+further : (start old now : JobSeen) (left : Left) → room_of_posts old.posts ≤ room_of_posts start.posts
+    → made_by start.posts ≡ made_by old.posts → RoomLeft left old now → RoomLeft left start now
+further start old now lefts.Idle a m r = let s = r.0 in (omega (arith, a, s), r.1 ∙ sym m)
+further start old now lefts.Busy a m r = let s = r.0 in let t = r.1 in (omega (arith, a, s), omega (arith, m, t))
+further start old now (lefts.Full line len) a m r = let s = r.0 in let t = r.1 in (omega (arith, a, s), omega (arith, m, t))
+further start old now lefts.NoMemory a m r = let s = r.0 in let t = r.1 in (omega (arith, a, s), omega (arith, m, t))
+
+-- the room that is left since the shift's start
+since_start : (start old now : JobSeen) (before left : Left) → is_refused before ≡ false → RoomLeft before start old
+    → RoomLeft left old now → RoomLeft (with_earlier before left) start now
+since_start start old now lefts.Busy lefts.Idle not a b = let c = a.0 in let d = a.1 in let s = b.0 in let t = b.1 in
+    (omega (arith, c, s), omega (arith, d, t))
+since_start start old now lefts.Busy lefts.Busy not a b = let c = a.0 in let d = a.1 in let s = b.0 in let t = b.1 in
+    (omega (arith, c, s), omega (arith, d, t))
+since_start start old now lefts.Busy (lefts.Full line len) not a b = let c = a.0 in let d = a.1 in let s = b.0 in let t = b.1 in
+    (omega (arith, c, s), omega (arith, d, t))
+since_start start old now lefts.Busy lefts.NoMemory not a b = let c = a.0 in let d = a.1 in let s = b.0 in let t = b.1 in
+    (omega (arith, c, s), omega (arith, d, t))
+since_start start old now lefts.Idle left not a b = further start old now left a.0 (sym a.1) b
+since_start start old now (lefts.Full line len) left not a b = cc
+since_start start old now lefts.NoMemory left not a b = cc
+
+module _ (wanted : LineDef → List Entry → Actor → Type 0) (board : BoardSeen) (lines : List LockSeen) where
+  so : (now : JobSeen) (before left : Left) → LeftIsSo wanted board now left → LeftIsSo wanted board now (with_earlier before left)
   so now lefts.Busy lefts.Idle is = tt
   so now lefts.Busy lefts.Busy is = is
   so now lefts.Busy (lefts.Full line len) is = is
@@ -24,27 +51,9 @@ module _ (board : BoardSeen) (lines : List LockSeen) where
   so now (lefts.Full line len) left is = is
   so now lefts.NoMemory left is = is
 
-  further : (start old now : JobSeen) (left : Left) → room_of_posts old.posts ≤ room_of_posts start.posts
-      → RoomLeft left old now → RoomLeft left start now
-  further start old now lefts.Idle a b = omega (arith, a, b)
-  further start old now lefts.Busy a b = omega (arith, a, b)
-  further start old now (lefts.Full line len) a b = omega (arith, a, b)
-  further start old now lefts.NoMemory a b = omega (arith, a, b)
-
-  -- the room that is left since the shift's start
-  since_start : (start old now : JobSeen) (before left : Left) → RoomLeft before start old → RoomLeft left old now
-      → RoomLeft (with_earlier before left) start now
-  since_start start old now lefts.Busy lefts.Idle a b = omega (arith, a, b)
-  since_start start old now lefts.Busy lefts.Busy a b = omega (arith, a, b)
-  since_start start old now lefts.Busy (lefts.Full line len) a b = omega (arith, a, b)
-  since_start start old now lefts.Busy lefts.NoMemory a b = omega (arith, a, b)
-  since_start start old now lefts.Idle left a b = further start old now left a b
-  since_start start old now (lefts.Full line len) left a b = further start old now left a b
-  since_start start old now lefts.NoMemory left a b = further start old now left a b
-
-  pub goes_on : (old now new : JobSeen) (left : Left) → WorksOn board lines old now → LeftIsSo board now left
-      → RoomLeft left old now → new ≡ record now { left = with_earlier old.left left } → GoesOn board lines old new
-  goes_on old now new left w is room same =
+  pub goes_on : (old now new : JobSeen) (left : Left) → is_refused old.left ≡ false → WorksOn board lines old now → LeftIsSo wanted board now left
+      → RoomLeft left old now → new ≡ record now { left = with_earlier old.left left } → GoesOn wanted board lines old new
+  goes_on old now new left not w is room same =
       record {
         works = subst (WorksOn board lines old) (sym same)
             (record {
@@ -52,34 +61,36 @@ module _ (board : BoardSeen) (lines : List LockSeen) where
               first = w.first;
               as_many = w.as_many;
               job = job_left board lines now (with_earlier old.left left) w.job;
+              grew = w.grew;
             });
-        since = λ start before. left_at board lines now (with_earlier old.left left) start new
+        since = λ start before. left_at board lines now (with_earlier old.left left) wanted start new
             (works_more board lines start old now before.works w) (so now old.left left is)
-            (since_start start old now old.left left before.room room) same;
+            (since_start start old now old.left left not before.room room) same;
       }
 
-  pub goes_first : (j : JobSeen) → IsJob board lines j → GoesOn board lines j j
+  pub goes_first : (j : JobSeen) → IsJob board lines j → GoesOn wanted board lines j j
   goes_first j job = record { works = works_first board lines j job; since = λ start before. before }
 
-  pub goes_more : (a b c : JobSeen) → GoesOn board lines a b → GoesOn board lines b c → GoesOn board lines a c
+  pub goes_more : (a b c : JobSeen) → GoesOn wanted board lines a b → GoesOn wanted board lines b c → GoesOn wanted board lines a c
   goes_more a b c v w = record { works = works_more board lines a b c v.works w.works; since = λ start before. w.since start (v.since start before) }
 
   -- ---- all jobs of a thread
 
-  pub all_first : (jobs : List JobSeen) → All (IsJob board lines) jobs → GoOnJobs board lines jobs jobs
+  pub all_first : (jobs : List JobSeen) → All (IsJob board lines) jobs → GoOnJobs wanted board lines jobs jobs
   all_first jobs all k d less = goes_first (get_or jobs k d) (all k d less)
 
-  pub all_more : (a b c : List JobSeen) → length b ≡ length a → GoOnJobs board lines a b → GoOnJobs board lines b c → GoOnJobs board lines a c
+  pub all_more : (a b c : List JobSeen) → length b ≡ length a → GoOnJobs wanted board lines a b
+      → GoOnJobs wanted board lines b c → GoOnJobs wanted board lines a c
   all_more a b c long v w k d less = goes_more (get_or a k d) (get_or b k d) (get_or c k d) (v k d less) (w k d (omega (arith, long, less)))
 
-  pub all_since : (start a b : List JobSeen) → length a ≡ length start → KeepsJobs board lines start a
-      → GoOnJobs board lines a b → KeepsJobs board lines start b
+  pub all_since : (start a b : List JobSeen) → length a ≡ length start → KeepsJobs wanted board lines start a
+      → GoOnJobs wanted board lines a b → KeepsJobs wanted board lines start b
   all_since start a b long v w k d less = (w k d (omega (arith, long, less))).since (get_or start k d) (v k d less)
 
-  pub all_jobs_on : (a b : List JobSeen) → length b ≡ length a → GoOnJobs board lines a b → All (IsJob board lines) b
+  pub all_jobs_on : (a b : List JobSeen) → length b ≡ length a → GoOnJobs wanted board lines a b → All (IsJob board lines) b
   all_jobs_on a b long v k d less = (v k d (omega (arith, long, less))).works.job
 
-  pub all_jobs_kept : (a b : List JobSeen) → length b ≡ length a → KeepsJobs board lines a b → All (IsJob board lines) b
+  pub all_jobs_kept : (a b : List JobSeen) → length b ≡ length a → KeepsJobs wanted board lines a b → All (IsJob board lines) b
   all_jobs_kept a b long v k d less = (v k d (omega (arith, long, less))).works.job
 
 -- a loop's step over the jobs: the job at k is done, those behind it are as they were

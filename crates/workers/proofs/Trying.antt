@@ -1,5 +1,6 @@
 -- One try of a worker: steps of the shared line until none of them needs an answer first.
-use Rattle.std.proofs.Common.{◌≡◌, ◌<◌, false, IsSome, Option, Some, None, Ok, Err, List, [], ◌∷◌, ◌++◌, length, refl, sym, ap, subst, ◌∙◌, append_assoc}
+use Rattle.std.proofs.Common.{◌≡◌, ◌<◌, false, IsSome, Option, Some, None, Result, Ok, Err, List, [], ◌∷◌, ◌++◌, length}
+use Rattle.std.proofs.Common.{refl, sym, ap, subst, arith, ◌∙◌, append_assoc}
 use Rattle.irq_base.specs.declared.devices.Run.{Run}
 use Rattle.irq_base.specs.declared.entries.Actor.{Actor}
 use Rattle.irq_base.specs.declared.entries.Actor.TheVariants as actors
@@ -9,8 +10,10 @@ use Rattle.irq_base.specs.declared.numbers.CpuNo.{CpuNo}
 use Rattle.irq_model.specs.Legal.{IsLegal}
 use Rattle.irq_model.specs.Next.{next}
 use Rattle.callbacks.specs.Seen.{SaidSeen}
+use Rattle.irq_line.specs.Seen.{LineSeen, IsSound}
 use Rattle.irq_line.specs.declared.answers.StepRefused.{StepRefused}
 use Rattle.irq_line.specs.declared.answers.StepRefused.TheVariants as refusals
+use Rattle.irq_line.specs.declared.answers.Stepped.{Stepped}
 use Rattle.irq_line.specs.declared.answers.Stepped.TheVariants as stepped
 use Rattle.line_lock.specs.Knows.{BeginsWith}
 use Rattle.line_lock.specs.Passes.{LockSeen, PassSeen, IsPassOf}
@@ -20,6 +23,7 @@ use Rattle.line_lock.proofs.Placing.{begins_self, begins_more}
 use Rattle.line_shared.specs.Stepping.{Steps}
 use Rattle.workers.specs.Fit.{IsInFlow}
 use Rattle.workers.specs.Tries.{IsIdle, Tries}
+use Rattle.workers.specs.Wanted.{Wanted}
 use Rattle.workers.proofs.InFlow.{moves_within}
 
 -- what stays while answers are asked for
@@ -44,78 +48,115 @@ module _ (def : LineDef) (who : Actor) (old mid new : Known) (begins : BeginsWit
       let b = begins_more entries mid.seen old.seen sees begins in
       subst (λ (h : List Entry). BeginsWith h old.seen) (sym is) (b.0 ++ e ∷ [], ap (λ (h : List Entry). h ++ e ∷ []) b.1 ∙ append_assoc old.seen b.0 (e ∷ []))
 
-module _ (line : LockSeen) (who : Actor) (old mid new : PassSeen) (said : Option SaidSeen) (w : Waits line old mid) where
-  pub tries_added : (e : Entry) → Steps line.def who mid.knows said (Ok (stepped.Added e)) new.knows → Tries line.def who old.knows (Ok (Some e)) new.knows
-  tries_added e s =
-      record {
-        begins = more_begins line.def who old.knows mid.knows new.knows w.begins s.line.entries s.begins e s.gains.0;
-        came = record {
-          history = s.line.entries;
-          onto = begins_more s.line.entries mid.knows.seen old.knows.seen s.begins w.begins;
-          own = sym w.mine ∙ s.mine;
-          due = subst (λ (d : LineDef). next d s.line.entries who ≡ Some e) s.def s.answer.due;
-          below = subst (λ (d : LineDef). length s.line.entries < d.log) s.def s.answer.below;
-          seen = s.gains.0;
-          mine = s.gains.1 ∙ ap (λ ps. ps ++ record { place = length s.line.entries; entry = e } ∷ []) w.mine;
-        };
-      }
+module _ {T : Type 0} (seen_of : T → LineSeen) (may_want : Option Entry → Type 0) where
+  module _ (line : LockSeen) (who : Actor) (old mid new : PassSeen) (said : Option SaidSeen) (w : Waits line old mid) where
+    -- what is seen is the line's history, which is legal, and the pass knows its actor's entries there
+    module _ (result : Result Stepped StepRefused) (s : Steps seen_of may_want line.def who mid.knows said result new.knows) where
+      seen_is : new.knows.seen ≡ s.after.entries
+      seen_is = ap (λ (k : Known). k.seen) s.seen
 
-  pub tries_not_yet : Steps line.def who mid.knows said (Ok stepped.NotYet) new.knows → Tries line.def who old.knows (Ok None) new.knows
-  tries_not_yet s =
-      record {
-        begins = same_begins line.def who old.knows mid.knows new.knows w.begins s.line.entries s.begins s.gains.0;
-        came = (
-          ap (λ (h : List Entry). next line.def h who) s.gains.0
-              ∙ subst (λ (d : LineDef). next d s.line.entries who ≡ None) s.def s.answer.0,
-          s.gains.1 ∙ w.mine,
-        );
-      }
+      is_legal : IsLegal line.def new.knows.seen
+      is_legal = subst (λ (h : List Entry). IsLegal line.def h) (sym seen_is)
+          (subst (λ (d : LineDef). IsLegal d s.after.entries) s.def_after s.sound_after.legal)
 
-  -- within a flow something was due
-  pub flow_not_yet : Steps line.def who mid.knows said (Ok stepped.NotYet) new.knows → (c : CpuNo) → who ≡ actors.Cpu c → IsInFlow line.def c old.knows → ⊥
-  flow_not_yet s c same own =
-      moves_within line.def c s.line.entries old.knows.mine (subst (λ (d : LineDef). IsLegal d s.line.entries) s.def s.sound.legal)
-      (sym w.mine ∙ (s.mine ∙ ap (λ (a : Actor). placed line.def.line a s.line.entries) same)) own
-      (ap (λ (a : Actor). next line.def s.line.entries a) (sym same) ∙ subst (λ (d : LineDef). next d s.line.entries who ≡ None) s.def s.answer.0)
+      is_own : new.knows.mine ≡ placed line.def.line who new.knows.seen
+      is_own = s.own ∙ ap (λ (h : List Entry). placed line.def.line who h) (sym seen_is)
 
-  pub tries_refused : (refused : StepRefused) → Steps line.def who mid.knows said (Err refused) new.knows → Tries line.def who old.knows (Err refused) new.knows
-  tries_refused (refusals.Full len) s =
-      record {
-        begins = same_begins line.def who old.knows mid.knows new.knows w.begins s.line.entries s.begins s.gains.0;
-        came = (
-          record {
-            due = subst (λ (h : List Entry). IsSome (next line.def h who)) (sym s.gains.0)
-                (subst (λ (d : LineDef). IsSome (next d s.line.entries who)) s.def s.answer.0.due);
-            length = ap length s.gains.0 ∙ full;
-          },
-          s.answer.0.told ∙ full,
-          s.gains.1 ∙ w.mine,
-        );
-      }
-    where
-      full : length s.line.entries ≡ line.def.log
-      full = s.answer.0.log ∙ ap (λ (d : LineDef). d.log) s.def
-  tries_refused refusals.NoMemory s =
-      record {
-        begins = same_begins line.def who old.knows mid.knows new.knows w.begins s.line.entries s.begins s.gains.0;
-        came = s.gains.1 ∙ w.mine;
-      }
+    pub tries_added : (e : Entry) → Steps seen_of may_want line.def who mid.knows said (Ok (stepped.Added e)) new.knows
+        → Tries (Wanted seen_of may_want) line.def who old.knows (Ok (Some e)) new.knows
+    tries_added e s =
+        record {
+          begins = more_begins line.def who old.knows mid.knows new.knows w.begins s.line.entries s.begins e s.gains.0;
+          legal = λ was. is_legal (Ok (stepped.Added e)) s;
+          own = λ was. is_own (Ok (stepped.Added e)) s;
+          came = record {
+            history = s.line.entries;
+            onto = begins_more s.line.entries mid.knows.seen old.knows.seen s.begins w.begins;
+            own = sym w.mine ∙ s.mine;
+            due = subst (λ (d : LineDef). next d s.line.entries who ≡ Some e) s.def s.answer.due;
+            below = subst (λ (d : LineDef). length s.line.entries < d.log) s.def s.answer.below;
+            seen = s.gains.0;
+            mine = s.gains.1 ∙ ap (λ ps. ps ++ record { place = length s.line.entries; entry = e } ∷ []) w.mine;
+          };
+        }
 
-  pub waits_on : (run : Run) → Steps line.def who mid.knows said (Ok (stepped.Run run)) new.knows → IsPassOf line new
-      → new.turn ≡ false → new.knows.actor ≡ mid.knows.actor → Waits line old new
-  waits_on run s of_line idle actor =
-      record {
-        of_line = of_line;
-        idle = idle;
-        actor = actor ∙ w.actor;
-        mine = s.gains.1 ∙ w.mine;
-        begins = same_begins line.def who old.knows mid.knows new.knows w.begins s.line.entries s.begins s.gains.0;
-      }
+    pub tries_not_yet : Steps seen_of may_want line.def who mid.knows said (Ok stepped.NotYet) new.knows
+        → Tries (Wanted seen_of may_want) line.def who old.knows (Ok None) new.knows
+    tries_not_yet s =
+        record {
+          begins = same_begins line.def who old.knows mid.knows new.knows w.begins s.line.entries s.begins s.gains.0;
+          legal = λ was. is_legal (Ok stepped.NotYet) s;
+          own = λ was. is_own (Ok stepped.NotYet) s;
+          came = (
+            ap (λ (h : List Entry). next line.def h who) s.gains.0
+                ∙ subst (λ (d : LineDef). next d s.line.entries who ≡ None) s.def s.answer.0,
+            s.gains.1 ∙ w.mine,
+          );
+        }
+
+    -- within a flow something was due
+    pub flow_not_yet : Steps seen_of may_want line.def who mid.knows said (Ok stepped.NotYet) new.knows → (c : CpuNo)
+        → who ≡ actors.Cpu c → IsInFlow line.def c old.knows → ⊥
+    flow_not_yet s c same own =
+        moves_within line.def c s.line.entries old.knows.mine (subst (λ (d : LineDef). IsLegal d s.line.entries) s.def s.sound.legal)
+        (sym w.mine ∙ (s.mine ∙ ap (λ (a : Actor). placed line.def.line a s.line.entries) same)) own
+        (ap (λ (a : Actor). next line.def s.line.entries a) (sym same) ∙ subst (λ (d : LineDef). next d s.line.entries who ≡ None) s.def s.answer.0)
+
+    pub tries_refused : (refused : StepRefused) → Steps seen_of may_want line.def who mid.knows said (Err refused)
+        new.knows → Tries (Wanted seen_of may_want) line.def who old.knows (Err refused) new.knows
+    tries_refused (refusals.Full len) s =
+        record {
+          begins = same_begins line.def who old.knows mid.knows new.knows w.begins s.line.entries s.begins s.gains.0;
+          legal = λ was. is_legal (Err (refusals.Full len)) s;
+          own = λ was. is_own (Err (refusals.Full len)) s;
+          came = (
+            record {
+              due = subst (λ (h : List Entry). IsSome (next line.def h who)) (sym s.gains.0)
+                  (subst (λ (d : LineDef). IsSome (next d s.line.entries who)) s.def s.answer.0.due);
+              length = ap length s.gains.0 ∙ full;
+            },
+            s.answer.0.told ∙ full,
+            s.gains.1 ∙ w.mine,
+          );
+        }
+      where
+        full : length s.line.entries ≡ line.def.log
+        full = s.answer.0.log ∙ ap (λ (d : LineDef). d.log) s.def
+    tries_refused refusals.NoMemory s =
+        record {
+          begins = same_begins line.def who old.knows mid.knows new.knows w.begins s.line.entries s.begins s.gains.0;
+          legal = λ was. is_legal (Err refusals.NoMemory) s;
+          own = λ was. is_own (Err refusals.NoMemory) s;
+          came = (
+            record {
+              line = s.held;
+              def = ap (λ (l : LineSeen). l.def) s.is ∙ s.def;
+              entries = ap (λ (l : LineSeen). l.entries) s.is ∙ sym s.gains.0;
+              sound = subst IsSound (sym s.is) s.sound;
+              wants = λ room. subst (λ (h : List Entry). may_want (next line.def h who)) (sym s.gains.0)
+                  (subst (λ (d : LineDef). may_want (next d s.line.entries who)) s.def
+                  (s.memory (let e = ap (λ (l : LineSeen). l.spare) s.is in omega (arith, room, e))));
+            },
+            s.gains.1 ∙ w.mine,
+          );
+        }
+
+    pub waits_on : (run : Run) → Steps seen_of may_want line.def who mid.knows said (Ok (stepped.Run run)) new.knows → IsPassOf line new
+        → new.turn ≡ false → new.knows.actor ≡ mid.knows.actor → Waits line old new
+    waits_on run s of_line idle actor =
+        record {
+          of_line = of_line;
+          idle = idle;
+          actor = actor ∙ w.actor;
+          mine = s.gains.1 ∙ w.mine;
+          begins = same_begins line.def who old.knows mid.knows new.knows w.begins s.line.entries s.begins s.gains.0;
+        }
 
 pub its_actor : (o : Option Actor) → IsSome o → (who : Actor) × (o ≡ Some who)
 its_actor None is = cc
 its_actor (Some who) is = (who, refl)
 
 -- when nothing happened since nothing was due
-pub tries_still : (def : LineDef) (who : Actor) (k : Known) → IsIdle def who k → Tries def who k (Ok None) k
-tries_still def who k idle = record { begins = begins_self k.seen; came = (idle, refl) }
+pub tries_still : (wanted : LineDef → List Entry → Actor → Type 0) (def : LineDef) (who : Actor) (k : Known) → IsIdle def who k
+    → Tries wanted def who k (Ok None) k
+tries_still wanted def who k idle = record { begins = begins_self k.seen; legal = λ was. was; own = λ was. was; came = (idle, refl) }

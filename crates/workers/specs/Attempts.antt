@@ -2,6 +2,7 @@
 use Rattle.std.specs.Prelude.{◌≡◌, ℕ, ◌+◌, ◌≤◌, ◌⊎◌, Bool, true, false, ◌&&◌, ◌||◌, Option, Some}
 use Rattle.std.specs.Prelude.{None, Result, Ok, Err, List, length, slice_get, slice_set}
 use Rattle.std.specs.Prelude.{if◌then◌else◌}
+use Rattle.irq_base.specs.declared.entries.Actor.{Actor}
 use Rattle.irq_base.specs.declared.entries.Actor.TheVariants as actors
 use Rattle.irq_base.specs.declared.entries.Entry.{Entry}
 use Rattle.irq_base.specs.declared.lines.FlowKind.{FlowKind}
@@ -19,6 +20,7 @@ use Rattle.line_lock.specs.Passes.{LockSeen}
 use Rattle.line_lock.specs.declared.view.Known.{Known}
 use Rattle.board_play.specs.Kept.{IsUpTo}
 use Rattle.workers.specs.Fit.{IsPost, ArePosted, HasOneFlow, IsInFlow, HasItsFlow, own_lines}
+use Rattle.workers.specs.Grown.{PostsGrow}
 use Rattle.workers.specs.Room.{RoomAfter}
 use Rattle.workers.specs.Seen.{PostSeen, JobSeen}
 use Rattle.workers.specs.Tries.{IsIdle, IsFull, Tries, rests_after}
@@ -36,22 +38,6 @@ abbrev pub FlowMoves : LineDef → Known → Result (Option Entry) StepRefused �
 FlowMoves def k tried = (c : CpuNo) → k.actor ≡ Some (actors.Cpu c) → IsInFlow def c k
     → tried ≡ Ok None → ⊥
 
--- a try with the pass at index `place`: the pass is right afterwards, and all else is as it was
-pub record StepsPost (lines : List LockSeen) (place : ℕ) (attempt : Attempt) (old new : JobSeen)
-    : Type 0 where
-  pub line : LockSeen
-  pub post : PostSeen
-  pub after : PostSeen
-  pub tried : Result (Option Entry) StepRefused
-  pub at_line : slice_get lines (old.first + place) ≡ Some line
-  pub at_post : slice_get old.posts place ≡ Some post
-  pub told : attempt ≡ attempt_of line.def.line tried
-  pub is : new ≡ record old { posts = slice_set old.posts place after }
-  pub is_post : IsPost line old.actor after
-  pub tries : Tries line.def old.actor post.pass.knows tried after.pass.knows
-  pub rests : after.rests ≡ rests_after tried
-  pub flows : post.rests ≡ false → FlowMoves line.def post.pass.knows tried
-
 -- the pass with which a processor has a flow in progress, after it added the entry with the pass at
 -- index `place`
 abbrev pub flow_after : FlowKind → Entry → ℕ → Option ℕ → Option ℕ
@@ -63,12 +49,14 @@ abbrev pub is_not_yet : Attempt → Bool
 is_not_yet attempts.NotYet = true
 is_not_yet _ = false
 
--- the job has the same actor, and as many passes of the same lines, all right
+-- the job has the same actor, and as many passes of the same lines, all right, which have seen as
+-- much or more
 pub record KeepsPosts (lines : List LockSeen) (old new : JobSeen) : Type 0 where
   pub actor : new.actor ≡ old.actor
   pub first : new.first ≡ old.first
   pub as_many : length new.posts ≡ length old.posts
   pub posted : ArePosted lines new
+  pub grew : PostsGrow old.posts new.posts
 
 -- a step is due with one of the passes on this line, and the line has the greatest length
 pub record IsFullOn (j : JobSeen) (line : LineNo) (len : ℕ) : Type 0 where
@@ -78,48 +66,6 @@ pub record IsFullOn (j : JobSeen) (line : LineNo) (len : ℕ) : Type 0 where
   pub number : post.pass.def.line ≡ line
   pub is : IsFull post.pass.def j.actor post.pass.knows
   pub log : len ≡ post.pass.def.log
-
-abbrev pub FullIsSo : JobSeen → Attempt → Type 0
-FullIsSo j (attempts.Full line len) = IsFullOn j line len
-FullIsSo j _ = Unit {0}
-
--- a processor's try: it has a flow on at most one line; if nothing was due, the post says so, and
--- the flow is as it was; the other passes are as they were; on the line of its flow something was
--- due
-pub record StepsCpu (lines : List LockSeen) (place : ℕ) (attempt : Attempt) (old new : JobSeen)
-    : Type 0 where
-  pub keeps : KeepsPosts lines old new
-  pub flow : HasOneFlow new
-  pub its : HasItsFlow new
-  pub moves : old.flow ≡ Some place → attempt ≡ attempts.NotYet → ⊥
-  pub rests : attempt ≡ attempts.NotYet → (s : PostSeen) → slice_get new.posts place ≡ Some s
-      → s.rests ≡ true
-  pub still : attempt ≡ attempts.NotYet → new.flow ≡ old.flow
-  pub others : (i : ℕ) (s : PostSeen) → (i ≡ place → ⊥) → slice_get new.posts i ≡ Some s
-      → slice_get old.posts i ≡ Some s
-  pub full : FullIsSo new attempt
-  pub room : RoomAfter attempt old new
-
--- a processor's try on the line of its last step, or none: it has a flow on at most one line; if
--- nothing was due, the flow is as it was
-pub record TriesLast (lines : List LockSeen) (attempt : Attempt) (old new : JobSeen) : Type 0 where
-  pub keeps : KeepsPosts lines old new
-  pub flow : HasOneFlow new
-  pub its : HasItsFlow new
-  pub still : attempt ≡ attempts.NotYet → new.flow ≡ old.flow
-  pub full : FullIsSo new attempt
-  pub room : RoomAfter attempt old new
-
--- a processor's attempt: if nothing was due, all its posts say so
-pub record AttemptsCpu (lines : List LockSeen) (attempt : Attempt) (old new : JobSeen)
-    : Type 0 where
-  pub keeps : KeepsPosts lines old new
-  pub flow : HasOneFlow new
-  pub its : HasItsFlow new
-  pub rests : attempt ≡ attempts.NotYet → (i : ℕ) (s : PostSeen) → slice_get new.posts i ≡ Some s
-      → s.rests ≡ true
-  pub full : FullIsSo new attempt
-  pub room : RoomAfter attempt old new
 
 -- ---- drivers
 
@@ -144,14 +90,86 @@ pub record WaitsAt (board : BoardSeen) (j : JobSeen) (r : DriverNo) : Type 0 whe
   pub line : post.pass.def.line ≡ call.line
   pub rests : IsIdle post.pass.def (actors.Driver r) post.pass.knows
 
--- a driver's attempt: its entries are its script's calls up to its place; if nothing was due, it is
--- past all calls, or waits at one
-pub record AttemptsDriver (board : BoardSeen) (lines : List LockSeen) (r : DriverNo)
-    (attempt : Attempt)
-    (old new : JobSeen) : Type 0 where
-  pub keeps : KeepsPosts lines old new
-  pub up_to : IsUpTo board.calls (own_lines new.posts) r new.at
-  pub within : new.at ≤ length board.calls
-  pub rests : attempt ≡ attempts.NotYet → (length board.calls ≤ new.at) ⊎ WaitsAt board new r
-  pub full : FullIsSo new attempt
-  pub room : RoomAfter attempt old new
+-- ---- what is left of the job
+
+-- `wanted` says on what history of a line an actor may be refused memory
+module _ (wanted : LineDef → List Entry → Actor → Type 0) where
+  -- a try with the pass at index `place`: the pass is right afterwards, and all else is as it was
+  pub record StepsPost (lines : List LockSeen) (place : ℕ) (attempt : Attempt) (old new : JobSeen)
+      : Type 0 where
+    pub line : LockSeen
+    pub post : PostSeen
+    pub after : PostSeen
+    pub tried : Result (Option Entry) StepRefused
+    pub at_line : slice_get lines (old.first + place) ≡ Some line
+    pub at_post : slice_get old.posts place ≡ Some post
+    pub told : attempt ≡ attempt_of line.def.line tried
+    pub is : new ≡ record old { posts = slice_set old.posts place after }
+    pub is_post : IsPost line old.actor after
+    pub tries : Tries wanted line.def old.actor post.pass.knows tried after.pass.knows
+    pub rests : after.rests ≡ rests_after tried
+    pub flows : post.rests ≡ false → FlowMoves line.def post.pass.knows tried
+
+  -- memory was refused to the actor on what one of the passes has seen
+  pub record IsWantedOn (j : JobSeen) : Type 0 where
+    pub place : ℕ
+    pub post : PostSeen
+    pub at : slice_get j.posts place ≡ Some post
+    pub is : wanted post.pass.def post.pass.knows.seen j.actor
+
+  abbrev pub RefusedIsSo : JobSeen → Attempt → Type 0
+  RefusedIsSo j (attempts.Full line len) = IsFullOn j line len
+  RefusedIsSo j attempts.NoMemory = IsWantedOn j
+  RefusedIsSo j _ = Unit {0}
+
+  -- a processor's try: it has a flow on at most one line; if nothing was due, the post says so, and
+  -- the flow is as it was; the other passes are as they were; on the line of its flow something was
+  -- due
+  pub record StepsCpu (lines : List LockSeen) (place : ℕ) (attempt : Attempt) (old new : JobSeen)
+      : Type 0 where
+    pub keeps : KeepsPosts lines old new
+    pub flow : HasOneFlow new
+    pub its : HasItsFlow new
+    pub moves : old.flow ≡ Some place → attempt ≡ attempts.NotYet → ⊥
+    pub rests : attempt ≡ attempts.NotYet → (s : PostSeen) → slice_get new.posts place ≡ Some s
+        → s.rests ≡ true
+    pub still : attempt ≡ attempts.NotYet → new.flow ≡ old.flow
+    pub others : (i : ℕ) (s : PostSeen) → (i ≡ place → ⊥) → slice_get new.posts i ≡ Some s
+        → slice_get old.posts i ≡ Some s
+    pub refused : RefusedIsSo new attempt
+    pub room : RoomAfter attempt old new
+
+  -- a processor's try on the line of its last step, or none: it has a flow on at most one line; if
+  -- nothing was due, the flow is as it was
+  pub record TriesLast (lines : List LockSeen) (attempt : Attempt) (old new : JobSeen)
+      : Type 0 where
+    pub keeps : KeepsPosts lines old new
+    pub flow : HasOneFlow new
+    pub its : HasItsFlow new
+    pub still : attempt ≡ attempts.NotYet → new.flow ≡ old.flow
+    pub refused : RefusedIsSo new attempt
+    pub room : RoomAfter attempt old new
+
+  -- a processor's attempt: if nothing was due, all its posts say so
+  pub record AttemptsCpu (lines : List LockSeen) (attempt : Attempt) (old new : JobSeen)
+      : Type 0 where
+    pub keeps : KeepsPosts lines old new
+    pub flow : HasOneFlow new
+    pub its : HasItsFlow new
+    pub rests : attempt ≡ attempts.NotYet → (i : ℕ) (s : PostSeen) → slice_get new.posts i ≡ Some s
+        → s.rests ≡ true
+    pub refused : RefusedIsSo new attempt
+    pub room : RoomAfter attempt old new
+
+  -- a driver's attempt: its entries are its script's calls up to its place; if nothing was due,
+  -- it is
+  -- past all calls, or waits at one
+  pub record AttemptsDriver (board : BoardSeen) (lines : List LockSeen) (r : DriverNo)
+      (attempt : Attempt)
+      (old new : JobSeen) : Type 0 where
+    pub keeps : KeepsPosts lines old new
+    pub up_to : IsUpTo board.calls (own_lines new.posts) r new.at
+    pub within : new.at ≤ length board.calls
+    pub rests : attempt ≡ attempts.NotYet → (length board.calls ≤ new.at) ⊎ WaitsAt board new r
+    pub refused : RefusedIsSo new attempt
+    pub room : RoomAfter attempt old new

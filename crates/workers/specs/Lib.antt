@@ -1,4 +1,6 @@
 pub mod Seen
+pub mod Wanted
+pub mod Grown
 pub mod Tries
 pub mod Room
 pub mod Fit

@@ -1,5 +1,6 @@
--- How many more entries the workers' passes can see.
-use Rattle.std.specs.Prelude.{ℕ, ◌+◌, ◌-◌, ◌<◌, ◌≤◌, List, [], ◌∷◌, length}
+-- How many more entries the workers' passes can see, and how many steps were made.
+use Rattle.std.specs.Prelude.{◌≡◌, ℕ, ◌+◌, ◌-◌, ◌<◌, ◌≤◌, List, [], ◌∷◌, length}
+use Rattle.workers.specs.Grown.{made_by}
 use Rattle.workers.specs.Seen.{PostSeen, JobSeen}
 use Rattle.workers.specs.declared.job.Left.{Left}
 use Rattle.workers.specs.declared.job.Left.TheVariants as lefts
@@ -19,13 +20,20 @@ abbrev pub room_of_jobs : List JobSeen → ℕ
 room_of_jobs [] = 0
 room_of_jobs (j ∷ rest) = room_of_posts j.posts + room_of_jobs rest
 
--- an attempt leaves no more room, and less if it added an entry
+-- an attempt that added an entry leaves less room, and one more step is made; another leaves no
+-- more room, and no step is made
 abbrev pub RoomAfter : Attempt → JobSeen → JobSeen → Type 0
-RoomAfter (attempts.Moved e) old new = room_of_posts new.posts < room_of_posts old.posts
-RoomAfter _ old new = room_of_posts new.posts ≤ room_of_posts old.posts
+RoomAfter (attempts.Moved e) old new = (room_of_posts new.posts < room_of_posts old.posts)
+    × (made_by old.posts < made_by new.posts)
+RoomAfter _ old new = (room_of_posts new.posts ≤ room_of_posts old.posts)
+    × (made_by new.posts ≡ made_by old.posts)
 
 -- a worker's part of a shift leaves no more room, and less if it made a step: some pass has seen
--- more then
+-- more then; it made none if it is left idle
 abbrev pub RoomLeft : Left → JobSeen → JobSeen → Type 0
-RoomLeft lefts.Busy old new = room_of_posts new.posts < room_of_posts old.posts
-RoomLeft _ old new = room_of_posts new.posts ≤ room_of_posts old.posts
+RoomLeft lefts.Busy old new = (room_of_posts new.posts < room_of_posts old.posts)
+    × (made_by old.posts < made_by new.posts)
+RoomLeft lefts.Idle old new = (room_of_posts new.posts ≤ room_of_posts old.posts)
+    × (made_by new.posts ≡ made_by old.posts)
+RoomLeft _ old new = (room_of_posts new.posts ≤ room_of_posts old.posts)
+    × (made_by old.posts ≤ made_by new.posts)

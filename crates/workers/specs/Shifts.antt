@@ -1,16 +1,20 @@
 -- What attempts, workers and shifts leave of jobs.
-use Rattle.std.specs.Prelude.{◌≡◌, ℕ, ◌<◌, ◌≤◌, ◌⊎◌, Some, List, length, slice_get}
+use Rattle.std.specs.Prelude.{◌≡◌, ℕ, ◌<◌, ◌≤◌, ◌⊎◌, Bool, true, false, Some, List, length}
+use Rattle.std.specs.Prelude.{slice_get}
 use Rattle.std.specs.Prelude.{slice_index_or, nat_lt, if◌then◌else◌}
 use Rattle.irq_base.specs.declared.entries.Actor.{Actor}
 use Rattle.irq_base.specs.declared.entries.Actor.TheVariants as actors
+use Rattle.irq_base.specs.declared.entries.Entry.{Entry}
+use Rattle.irq_base.specs.declared.lines.LineDef.{LineDef}
 use Rattle.irq_base.specs.declared.numbers.LineNo.{LineNo}
 use Rattle.board_def.specs.Seen.{BoardSeen}
 use Rattle.line_lock.specs.Passes.{LockSeen}
 use Rattle.workers.specs.Fit.{IsJob}
+use Rattle.workers.specs.Grown.{PostsGrow, made_by}
 use Rattle.workers.specs.Room.{RoomAfter, RoomLeft}
 use Rattle.workers.specs.Seen.{PostSeen, JobSeen, JobsSeen}
 use Rattle.workers.specs.Tries.{IsIdle}
-use Rattle.workers.specs.Attempts.{WaitsAt, IsFullOn}
+use Rattle.workers.specs.Attempts.{WaitsAt, IsFullOn, IsWantedOn}
 use Rattle.workers.specs.declared.job.Left.{Left}
 use Rattle.workers.specs.declared.job.Left.TheVariants as lefts
 use Rattle.workers.specs.declared.shifts.ShiftsEnd.{ShiftsEnd}
@@ -26,58 +30,69 @@ IsAtRest board j (actors.Driver r) = (length board.calls ≤ j.at) ⊎ WaitsAt b
 IsAtRest board j who =
     (i : ℕ) (s : PostSeen) → slice_get j.posts i ≡ Some s → IsIdle s.pass.def who s.pass.knows
 
--- the job is right; it has the same actor, and passes of the same lines
+-- the job is right; it has the same actor, and passes of the same lines, which have seen as much or
+-- more
 pub record WorksOn (board : BoardSeen) (lines : List LockSeen) (old new : JobSeen) : Type 0 where
   pub actor : new.actor ≡ old.actor
   pub first : new.first ≡ old.first
   pub as_many : length new.posts ≡ length old.posts
   pub job : IsJob board lines new
-
-abbrev pub ComesTo : BoardSeen → JobSeen → Attempt → Type 0
-ComesTo board j attempts.NotYet = IsAtRest board j j.actor
-ComesTo board j (attempts.Full line len) = IsFullOn j line len
-ComesTo board j _ = Unit {0}
-
-pub record AttemptsJob (board : BoardSeen) (lines : List LockSeen) (attempt : Attempt)
-    (old new : JobSeen)
-    : Type 0 where
-  pub works : WorksOn board lines old new
-  pub came : ComesTo board new attempt
-  pub room : RoomAfter attempt old new
-
--- how a worker left its job
-abbrev pub LeftIsSo : BoardSeen → JobSeen → Left → Type 0
-LeftIsSo board j lefts.Idle = IsAtRest board j j.actor
-LeftIsSo board j (lefts.Full line len) = IsFullOn j line len
-LeftIsSo board j _ = Unit {0}
-
-pub record WorksJob (board : BoardSeen) (lines : List LockSeen) (old new : JobSeen) : Type 0 where
-  pub works : WorksOn board lines old new
-  pub left : LeftIsSo board new new.left
-  pub room : RoomLeft new.left old new
+  pub grew : PostsGrow old.posts new.posts
 
 -- how a worker is left that was left so before in the shift and made this of its next attempts
 abbrev pub with_earlier : Left → Left → Left
 with_earlier lefts.Busy lefts.Idle = lefts.Busy
 with_earlier before left = left
 
--- a worker's later part of a shift: what was true of its shift before is true of it still
-pub record GoesOn (board : BoardSeen) (lines : List LockSeen) (old new : JobSeen) : Type 0 where
-  pub works : WorksOn board lines old new
-  pub since : (start : JobSeen) → WorksJob board lines start old → WorksJob board lines start new
+-- a full line or want of memory ended the worker's part
+abbrev pub is_refused : Left → Bool
+is_refused (lefts.Full line len) = true
+is_refused lefts.NoMemory = true
+is_refused _ = false
 
--- each job after a later sweep of a shift
-abbrev pub GoOnJobs : BoardSeen → List LockSeen → List JobSeen → List JobSeen → Type 0
-GoOnJobs board lines old new = (k : ℕ) (d : JobSeen) → k < length old
-    → GoesOn board lines (slice_index_or old k d) (slice_index_or new k d)
+-- `wanted` says on what history of a line an actor may be refused memory
+module _ (wanted : LineDef → List Entry → Actor → Type 0) where
+  abbrev pub ComesTo : BoardSeen → JobSeen → Attempt → Type 0
+  ComesTo board j attempts.NotYet = IsAtRest board j j.actor
+  ComesTo board j (attempts.Full line len) = IsFullOn j line len
+  ComesTo board j attempts.NoMemory = IsWantedOn wanted j
+  ComesTo board j (attempts.Moved e) = Unit {0}
 
--- each job after a shift
-abbrev pub KeepsJobs : BoardSeen → List LockSeen → List JobSeen → List JobSeen → Type 0
-KeepsJobs board lines old new = (k : ℕ) (d : JobSeen) → k < length old
-    → WorksJob board lines (slice_index_or old k d) (slice_index_or new k d)
+  pub record AttemptsJob (board : BoardSeen) (lines : List LockSeen) (attempt : Attempt)
+      (old new : JobSeen) : Type 0 where
+    pub works : WorksOn board lines old new
+    pub came : ComesTo board new attempt
+    pub room : RoomAfter attempt old new
 
-abbrev pub EachLeftSo : JobsSeen → Type 0
-EachLeftSo s = (i : ℕ) (j : JobSeen) → slice_get s.jobs i ≡ Some j → LeftIsSo s.board j j.left
+  -- how a worker left its job
+  abbrev pub LeftIsSo : BoardSeen → JobSeen → Left → Type 0
+  LeftIsSo board j lefts.Idle = IsAtRest board j j.actor
+  LeftIsSo board j lefts.Busy = Unit {0}
+  LeftIsSo board j (lefts.Full line len) = IsFullOn j line len
+  LeftIsSo board j lefts.NoMemory = IsWantedOn wanted j
+
+  pub record WorksJob (board : BoardSeen) (lines : List LockSeen) (old new : JobSeen) : Type 0 where
+    pub works : WorksOn board lines old new
+    pub left : LeftIsSo board new new.left
+    pub room : RoomLeft new.left old new
+
+  -- a worker's later part of a shift: what was true of its shift before is true of it still
+  pub record GoesOn (board : BoardSeen) (lines : List LockSeen) (old new : JobSeen) : Type 0 where
+    pub works : WorksOn board lines old new
+    pub since : (start : JobSeen) → WorksJob board lines start old → WorksJob board lines start new
+
+  -- each job after a later sweep of a shift
+  abbrev pub GoOnJobs : BoardSeen → List LockSeen → List JobSeen → List JobSeen → Type 0
+  GoOnJobs board lines old new = (k : ℕ) (d : JobSeen) → k < length old
+      → GoesOn board lines (slice_index_or old k d) (slice_index_or new k d)
+
+  -- each job after a shift
+  abbrev pub KeepsJobs : BoardSeen → List LockSeen → List JobSeen → List JobSeen → Type 0
+  KeepsJobs board lines old new = (k : ℕ) (d : JobSeen) → k < length old
+      → WorksJob board lines (slice_index_or old k d) (slice_index_or new k d)
+
+  abbrev pub EachLeftSo : JobsSeen → Type 0
+  EachLeftSo s = (i : ℕ) (j : JobSeen) → slice_get s.jobs i ≡ Some j → LeftIsSo s.board j j.left
 
 -- ---- how shifts end
 
@@ -102,20 +117,36 @@ pub record IsLowestFull (jobs : List JobSeen) (n : ℕ) (line : LineNo) (len : �
   pub lowest : (k : ℕ) (j : JobSeen) (other : LineNo) (m : ℕ) → k < n → slice_get jobs k ≡ Some j
       → j.left ≡ lefts.Full other m → line.0 ≤ other.0
 
--- the answer for the first n jobs: all are idle; or this is the lowest full line; or none found a
--- full line
+-- one of the first n jobs was left so
+pub record IsSomeLeft (jobs : List JobSeen) (n : ℕ) (left : Left) : Type 0 where
+  pub place : ℕ
+  pub job : JobSeen
+  pub below : place < n
+  pub at : slice_get jobs place ≡ Some job
+  pub is : job.left ≡ left
+
+-- none of the first n jobs was left at a full line; below, none was refused memory either
+abbrev pub NoneFull : List JobSeen → ℕ → Type 0
+NoneFull jobs n = (k : ℕ) (j : JobSeen) (other : LineNo) (m : ℕ) → k < n → slice_get jobs k ≡ Some j
+    → j.left ≡ lefts.Full other m → ⊥
+
+abbrev pub NoneRefused : List JobSeen → ℕ → Type 0
+NoneRefused jobs n =
+    (k : ℕ) (j : JobSeen) → k < n → slice_get jobs k ≡ Some j → is_refused j.left ≡ false
+
+-- The answer for the first n jobs: all are idle; or this is the lowest full line; or there is no
+-- full line, and one was refused memory; or none was refused, and one made a step.
 abbrev pub SumsUp : List JobSeen → ℕ → Left → Type 0
 SumsUp jobs n lefts.Idle =
     (k : ℕ) (j : JobSeen) → k < n → slice_get jobs k ≡ Some j → j.left ≡ lefts.Idle
 SumsUp jobs n (lefts.Full line len) = IsLowestFull jobs n line len
-SumsUp jobs n _ = (k : ℕ) (j : JobSeen) (other : LineNo) (m : ℕ) → k < n → slice_get jobs k ≡ Some j
-    → j.left ≡ lefts.Full other m → ⊥
+SumsUp jobs n lefts.NoMemory = IsSomeLeft jobs n lefts.NoMemory × NoneFull jobs n
+SumsUp jobs n lefts.Busy = IsSomeLeft jobs n lefts.Busy × NoneRefused jobs n
 
--- if the answer is that a step was made, one of the first n jobs made one
-abbrev pub BusyIsSo : List JobSeen → ℕ → Left → Type 0
-BusyIsSo jobs n lefts.Busy =
-    (k : ℕ) × (j : JobSeen) × (k < n) × (slice_get jobs k ≡ Some j) × (j.left ≡ lefts.Busy)
-BusyIsSo jobs n _ = Unit {0}
+-- no worker made a step
+abbrev pub MadeNone : List JobSeen → List JobSeen → Type 0
+MadeNone old new = (k : ℕ) (d : JobSeen) → k < length old
+    → made_by (slice_index_or new k d).posts ≡ made_by (slice_index_or old k d).posts
 
 -- a step is due on the line with one of the jobs' passes, and the line has the greatest length
 pub record IsFullFor (s : JobsSeen) (line : LineNo) (len : ℕ) : Type 0 where
@@ -127,9 +158,19 @@ pub record IsFullFor (s : JobsSeen) (line : LineNo) (len : ℕ) : Type 0 where
   pub lowest : (k : ℕ) (j : JobSeen) (other : LineNo) (m : ℕ) → slice_get s.jobs k ≡ Some j
       → j.left ≡ lefts.Full other m → line.0 ≤ other.0
 
+-- memory was refused to one of the workers, and none stopped at a full line
+pub record IsWantedFor (wanted : LineDef → List Entry → Actor → Type 0) (s : JobsSeen)
+    : Type 0 where
+  pub place : ℕ
+  pub job : JobSeen
+  pub at : slice_get s.jobs place ≡ Some job
+  pub is : IsWantedOn wanted job
+  pub none_full : NoneFull s.jobs (length s.jobs)
+
 -- Quiet: nothing is due of any actor. Full: a step is due on this line, the lowest at which a
--- worker stopped
-abbrev pub Ends : JobsSeen → ShiftsEnd → Type 0
-Ends s ends.Quiet = (i : ℕ) (j : JobSeen) → slice_get s.jobs i ≡ Some j → IsAtRest s.board j j.actor
-Ends s (ends.Full line len) = IsFullFor s line len
-Ends s ends.NoMemory = Unit {0}
+-- worker stopped. NoMemory: memory was refused, and the line may have wanted it.
+abbrev pub Ends : (wanted : LineDef → List Entry → Actor → Type 0) → JobsSeen → ShiftsEnd → Type 0
+Ends wanted s ends.Quiet =
+    (i : ℕ) (j : JobSeen) → slice_get s.jobs i ≡ Some j → IsAtRest s.board j j.actor
+Ends wanted s (ends.Full line len) = IsFullFor s line len
+Ends wanted s ends.NoMemory = IsWantedFor wanted s

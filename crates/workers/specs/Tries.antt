@@ -4,6 +4,7 @@ use Rattle.std.specs.Prelude.{Err, List, [], ◌∷◌, ◌++◌, length}
 use Rattle.irq_base.specs.declared.entries.Actor.{Actor}
 use Rattle.irq_base.specs.declared.entries.Entry.{Entry}
 use Rattle.irq_base.specs.declared.lines.LineDef.{LineDef}
+use Rattle.irq_model.specs.Legal.{IsLegal}
 use Rattle.irq_model.specs.Next.{next}
 use Rattle.irq_line.specs.declared.answers.StepRefused.{StepRefused}
 use Rattle.irq_line.specs.declared.answers.StepRefused.TheVariants as refusals
@@ -34,18 +35,23 @@ pub record IsFull (def : LineDef) (who : Actor) (k : Known) : Type 0 where
   pub due : IsSome (next def k.seen who)
   pub length : length k.seen ≡ def.log
 
-abbrev pub CameTo : LineDef → Actor → Known → Result (Option Entry) StepRefused → Known → Type 0
-CameTo def who old (Ok (Some e)) new = Gains def who old e new
-CameTo def who old (Ok None) new = IsIdle def who new × (new.mine ≡ old.mine)
-CameTo def who old (Err (refusals.Full len)) new =
-    IsFull def who new × (len ≡ def.log) × (new.mine ≡ old.mine)
-CameTo def who old (Err refusals.NoMemory) new = new.mine ≡ old.mine
+-- `wanted` says on what history of a line an actor may be refused memory
+module _ (wanted : LineDef → List Entry → Actor → Type 0) where
+  abbrev pub CameTo : LineDef → Actor → Known → Result (Option Entry) StepRefused → Known → Type 0
+  CameTo def who old (Ok (Some e)) new = Gains def who old e new
+  CameTo def who old (Ok None) new = IsIdle def who new × (new.mine ≡ old.mine)
+  CameTo def who old (Err (refusals.Full len)) new =
+      IsFull def who new × (len ≡ def.log) × (new.mine ≡ old.mine)
+  CameTo def who old (Err refusals.NoMemory) new = wanted def new.seen who × (new.mine ≡ old.mine)
 
--- what is seen afterwards begins with what was seen, and the answer is right
-pub record Tries (def : LineDef) (who : Actor) (old : Known)
-    (result : Result (Option Entry) StepRefused) (new : Known) : Type 0 where
-  pub begins : BeginsWith new.seen old.seen
-  pub came : CameTo def who old result new
+  -- what is seen afterwards begins with what was seen, and is legal; the pass's own entries are its
+  -- actor's; and the answer is right
+  pub record Tries (def : LineDef) (who : Actor) (old : Known)
+      (result : Result (Option Entry) StepRefused) (new : Known) : Type 0 where
+    pub begins : BeginsWith new.seen old.seen
+    pub legal : IsLegal def old.seen → IsLegal def new.seen
+    pub own : old.mine ≡ placed def.line who old.seen → new.mine ≡ placed def.line who new.seen
+    pub came : CameTo def who old result new
 
 abbrev pub rests_after : Result (Option Entry) StepRefused → Bool
 rests_after (Ok None) = true

@@ -3,6 +3,7 @@ ghost use Rattle.std.specs.Prelude.{◌≡◌, ◌<◌, ℕ, true, Some, None, l
 ghost use Rattle.workers.specs.Fit.{ArePosted, HasOneFlow, HasItsFlow};
 ghost use Rattle.workers.specs.Attempts.{StepsPost, StepsCpu, TriesLast, AttemptsCpu, attempt_of};
 ghost use Rattle.workers.specs.Attempts.{flow_after, is_not_yet};
+ghost use Rattle.workers.specs.Wanted.{Wanted};
 
 use crate::job::Job;
 use crate::lines::SharedLines;
@@ -35,7 +36,7 @@ impl<L: IrqLine> Job<L> {
     ) -> Attempt
         requires posted { ArePosted lines.now self.old }
         requires place { place < length self.old.posts }
-        ensures { StepsPost lines.now place result self.old self.new }
+        ensures { StepsPost (Wanted L.seen L.may_want) lines.now place result self.old self.new }
     {
         let numbers = lines.numbers.as_slice();
         let k = self.first + place;
@@ -60,7 +61,7 @@ impl<L: IrqLine> Job<L> {
         requires flow { HasOneFlow self.old }
         requires its { HasItsFlow self.old }
         requires free { (i : ℕ) → self.old.flow ≡ Some i → i ≡ place }
-        ensures { StepsCpu lines.now place result self.old self.new }
+        ensures { StepsCpu (Wanted L.seen L.may_want) lines.now place result self.old self.new }
     {
         let attempt = self.try_post(rt, lines, place, handlers);
         if let Attempt::Moved(entry) = attempt {
@@ -82,7 +83,7 @@ impl<L: IrqLine> Job<L> {
         requires posted { ArePosted lines.now self.old }
         requires flow { HasOneFlow self.old }
         requires its { HasItsFlow self.old }
-        ensures { AttemptsCpu lines.now result self.old self.new }
+        ensures { AttemptsCpu (Wanted L.seen L.may_want) lines.now result self.old self.new }
     {
         if let Some(place) = self.flow {
             return self.step_cpu(rt, lines, place, handlers);
@@ -113,7 +114,7 @@ impl<L: IrqLine> Job<L> {
         requires flow { HasOneFlow self.old }
         requires its { HasItsFlow self.old }
         requires none { self.old.flow ≡ None }
-        ensures { TriesLast lines.now result self.old self.new }
+        ensures { TriesLast (Wanted L.seen L.may_want) lines.now result self.old self.new }
     {
         let last = self.last;
         if last >= self.posts.len() {
@@ -149,7 +150,24 @@ pub(crate) fn flow_after(
             ..
         } => Some(place),
         Entry::End { again, .. } if !again || flow == FlowKind::Eoi => None,
-        _ => before,
+        Entry::Take { .. }
+        | Entry::End { .. }
+        | Entry::Ask { .. }
+        | Entry::Begin { .. }
+        | Entry::Return { .. }
+        | Entry::ThreadBegin { .. }
+        | Entry::ThreadReturn { .. }
+        | Entry::Finish { .. }
+        | Entry::Done { .. }
+        | Entry::Request { .. }
+        | Entry::Unlink { .. }
+        | Entry::Freed { .. }
+        | Entry::Disable { .. }
+        | Entry::HardClear { .. }
+        | Entry::Synced { .. }
+        | Entry::Enable { .. }
+        | Entry::Affinity { .. }
+        | Entry::Moment { .. } => before,
     }
 }
 

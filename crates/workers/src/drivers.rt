@@ -4,6 +4,7 @@ ghost use Rattle.board_def.specs.declared.rows.ScriptCall.{ScriptCall};
 ghost use Rattle.workers.specs.Fit.{IsPlaceOf};
 ghost use Rattle.workers.specs.Forks.{AreBoards};
 ghost use Rattle.workers.specs.Attempts.{IsDriven, AttemptsDriver};
+ghost use Rattle.workers.specs.Wanted.{Wanted};
 
 use crate::attempts::Attempt;
 use crate::job::Job;
@@ -27,7 +28,8 @@ impl<L: IrqLine> Job<L> {
     ) -> Attempt
         requires boards { AreBoards board.now lines.now }
         requires driven { IsDriven board.now lines.now driver self.old }
-        ensures { AttemptsDriver board.now lines.now driver result self.old self.new }
+        ensures { AttemptsDriver (Wanted L.seen L.may_want) board.now lines.now driver result
+            self.old self.new }
     {
         self.at = next_call(board.calls(), lines, driver, self.at);
         let Some(call) = board.call(self.at) else {
@@ -53,7 +55,8 @@ impl<L: IrqLine> Job<L> {
         requires driven { IsDriven board.now lines.now call.driver self.old }
         requires call { slice_get board.now.calls self.old.at ≡ Some call }
         requires place { IsPlaceOf lines.now call.line (Some place) }
-        ensures { AttemptsDriver board.now lines.now call.driver result self.old self.new }
+        ensures { AttemptsDriver (Wanted L.seen L.may_want) board.now lines.now call.driver result
+            self.old self.new }
     {
         board.is_board();
         let attempt = self.try_post(rt, lines, place, handlers);

@@ -8,6 +8,7 @@ ghost use Rattle.line_lock.specs.Knows.{is_among};
 ghost use Rattle.line_lock.specs.Passes.{LockSeen};
 ghost use Rattle.workers.specs.Fit.{AreFirsts, Fit, IsJob, workers_of, actors_on};
 ghost use Rattle.workers.specs.Forks.{Hires, AreBoards, IsThere};
+ghost use Rattle.workers.specs.Grown.{AreNew, HaveSeenNothing};
 
 use crate::crew::make_crew;
 use crate::dealing::{deal, jobs_a_thread};
@@ -59,6 +60,7 @@ pub fn share<'b, R: Threads, L: IrqLine>(
         → x.entries ≡ [] }
     ensures board { IfOk result (λ r. r.1.board ≡ board.now) }
     ensures fit { IfOk result (λ r. Fit r.0 r.1) }
+    ensures new { IfOk result (λ r. AreNew r.1) }
 {
     board.is_board();
     let (lines, firsts) = share_lines(alloc, lines)?;
@@ -88,6 +90,7 @@ fn share_lines<L: IrqLine>(
         (λ r. map (λ (l : LockSeen). l.def) r.0
         ≡ map (λ (x : LineSeen). x.def) (map L.seen all.items)) }
     ensures firsts { IfOk result (λ r. AreFirsts r.0 [] r.1.items) }
+    ensures new { IfOk result (λ r. HaveSeenNothing r.1.items) }
 {
     let mut lines = Vec::new(alloc);
     let mut numbers = Vec::new(alloc);
@@ -122,6 +125,7 @@ impl<'b, L: IrqLine> Jobs<'b, L> {
         requires there { IsThere lines.now actor }
         ensures board { OnOk result (self.new.board ≡ self.old.board) }
         ensures hires { OnOk result (Hires lines.now actor self.old self.new) }
+        ensures new { OnOk result (AreNew self.old → AreNew self.new) }
     {
         let (first, end) = lines.span_of(actor);
         let posts = fork_all(alloc, &lines.lines, &mut self.firsts, first, end, actor)?;

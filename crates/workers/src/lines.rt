@@ -75,7 +75,7 @@ impl<L: IrqLine> SharedLines<L> {
                 };
                 (place, place + 1)
             }
-            _ => (0, self.lines.len()),
+            Actor::Cpu(_) | Actor::Driver(_) => (0, self.lines.len()),
         }
     }
 }

@@ -4,6 +4,7 @@ ghost use Rattle.irq_base.specs.declared.entries.Actor.{Actor};
 ghost use Rattle.line_lock.specs.Passes.{IsPassOf};
 ghost use Rattle.workers.specs.Tries.{IsIdle, Tries, rests_after};
 ghost use Rattle.workers.specs.Attempts.{FlowMoves};
+ghost use Rattle.workers.specs.Wanted.{Wanted};
 
 use callbacks::{Callbacks, Handler};
 use irq_base::Entry;
@@ -47,7 +48,8 @@ impl<L: IrqLine> Post<L> {
         ensures actor { self.new.pass.knows.actor ≡ self.old.pass.knows.actor }
         ensures rests { self.new.rests ≡ rests_after result }
         ensures tries { (who : Actor) → self.old.pass.knows.actor ≡ Some who
-            → Tries line.now.def who self.old.pass.knows result self.new.pass.knows }
+            → Tries (Wanted L.seen L.may_want) line.now.def who self.old.pass.knows result
+            self.new.pass.knows }
         ensures flows { self.old.rests ≡ false → FlowMoves line.now.def self.old.pass.knows result }
     {
         if self.is_still(line) {
@@ -82,7 +84,7 @@ fn step_heard<L: IrqLine, R: Wait, H: Handler>(
     ensures idle { pass.new.turn ≡ false }
     ensures actor { pass.new.knows.actor ≡ pass.old.knows.actor }
     ensures tries { (who : Actor) → pass.old.knows.actor ≡ Some who
-        → Tries line.now.def who pass.old.knows result pass.new.knows }
+        → Tries (Wanted L.seen L.may_want) line.now.def who pass.old.knows result pass.new.knows }
     ensures flows { FlowMoves line.now.def pass.old.knows result }
 {
     let mut said = None;

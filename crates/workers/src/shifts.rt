@@ -3,9 +3,11 @@ ghost use Rattle.std.specs.Prelude.{◌≡◌, ◌<◌, ◌≤◌, ℕ, Some, Al
 ghost use Rattle.workers.specs.Fit.{Fit, IsJob};
 ghost use Rattle.workers.specs.Forks.{AreBoards};
 ghost use Rattle.workers.specs.Room.{room_of_jobs};
-ghost use Rattle.workers.specs.Shifts.{BusyIsSo, EachLeftSo, Ends, KeepsJobs, SumsUp, worse};
+ghost use Rattle.workers.specs.Grown.{JobsGrow};
+ghost use Rattle.workers.specs.Shifts.{EachLeftSo, Ends, KeepsJobs, MadeNone, SumsUp, worse};
 ghost use Rattle.workers.specs.Seen.{JobSeen};
 ghost use Rattle.workers.specs.declared.job.Left.TheVariants as lefts;
+ghost use Rattle.workers.specs.Wanted.{Wanted};
 
 use crate::gate::Gate;
 use crate::job::{Job, Left};
@@ -28,7 +30,7 @@ pub enum ShiftsEnd {
     /// A step was due on this line, and the line's history has the greatest length, `len`. Of
     /// several such lines it is the lowest.
     Full { line: LineNo, len: u32 },
-    /// Memory was needed and refused.
+    /// Memory was needed and refused, and no worker stopped at a full line.
     NoMemory,
 }
 
@@ -50,7 +52,9 @@ pub fn run_shifts<
     requires { Fit lines.now jobs.old }
     ensures board { jobs.new.board ≡ jobs.old.board }
     ensures fit { Fit lines.now jobs.new }
-    ensures end { Ends jobs.new result }
+    ensures end { Ends (Wanted L.seen L.may_want) jobs.new result }
+    ensures grew { JobsGrow jobs.old.jobs jobs.new.jobs }
+    ensures firsts { jobs.new.firsts ≡ jobs.old.firsts }
     ensures room { room_of_jobs jobs.new.jobs ≤ room_of_jobs jobs.old.jobs }
 {
     let mut size = jobs.size;
@@ -93,7 +97,7 @@ fn shift<R: Threads + Wait + Sync, L: IrqLine + Send + Sync, G: Gate + Sync, H: 
 )
     requires boards { AreBoards board.now lines.now }
     requires jobs { All (IsJob board.now lines.now) jobs.old }
-    ensures { KeepsJobs board.now lines.now jobs.old jobs.new }
+    ensures { KeepsJobs (Wanted L.seen L.may_want) board.now lines.now jobs.old jobs.new }
 {
     thread::for_each_chunk_mut(
         rt,
@@ -117,8 +121,11 @@ impl<'b, L: IrqLine + Send + Sync> Jobs<'b, L> {
         requires { Fit lines.now self.old }
         ensures board { self.new.board ≡ self.old.board }
         ensures fit { Fit lines.now self.new }
-        ensures left { EachLeftSo self.new }
+        ensures left { EachLeftSo (Wanted L.seen L.may_want) self.new }
         ensures all { SumsUp self.new.jobs (length self.new.jobs) result }
+        ensures grew { JobsGrow self.old.jobs self.new.jobs }
+        ensures firsts { self.new.firsts ≡ self.old.firsts }
+        ensures idle { result ≡ lefts.Idle → MadeNone self.old.jobs self.new.jobs }
         ensures room { room_of_jobs self.new.jobs ≤ room_of_jobs self.old.jobs }
         ensures busy { result ≡ lefts.Busy
             → room_of_jobs self.new.jobs < room_of_jobs self.old.jobs }
@@ -132,8 +139,7 @@ impl<'b, L: IrqLine + Send + Sync> Jobs<'b, L> {
 /// How the workers left their jobs, as one answer: a full line comes first, the lowest of several;
 /// then that memory was refused; then that a step was made; then that none was.
 fn left_of_all<L: IrqLine>(jobs: &[Job<L>]) -> Left
-    ensures all { SumsUp jobs.now (length jobs.now) result }
-    ensures busy { BusyIsSo jobs.now (length jobs.now) result }
+    ensures { SumsUp jobs.now (length jobs.now) result }
 {
     let mut all = Left::Idle;
     for i in 0..jobs.len() {

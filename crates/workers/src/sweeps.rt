@@ -5,7 +5,8 @@ ghost use Rattle.workers.specs.Forks.{AreBoards};
 ghost use Rattle.workers.specs.Room.{RoomLeft};
 ghost use Rattle.workers.specs.Shifts.{GoesOn, GoOnJobs, KeepsJobs, LeftIsSo, AttemptsJob};
 ghost use Rattle.workers.specs.Shifts.{WorksJob};
-ghost use Rattle.workers.specs.Shifts.{WorksOn, with_earlier};
+ghost use Rattle.workers.specs.Shifts.{WorksOn, is_refused, with_earlier};
+ghost use Rattle.workers.specs.Wanted.{Wanted};
 
 use crate::attempts::Attempt;
 use crate::gate::Gate;
@@ -51,7 +52,8 @@ impl<L: IrqLine> Job<L> {
     ) -> Attempt
         requires boards { AreBoards board.now lines.now }
         requires job { IsJob board.now lines.now self.old }
-        ensures { AttemptsJob board.now lines.now result self.old self.new }
+        ensures { AttemptsJob (Wanted L.seen L.may_want) board.now lines.now result self.old
+            self.new }
     {
         match self.actor {
             Actor::Thread(..) => self.try_post(rt, lines, 0, handlers),
@@ -71,7 +73,8 @@ impl<L: IrqLine> Job<L> {
     ) -> Attempt
         requires boards { AreBoards board.now lines.now }
         requires job { IsJob board.now lines.now self.old }
-        ensures { AttemptsJob board.now lines.now result self.old self.new }
+        ensures { AttemptsJob (Wanted L.seen L.may_want) board.now lines.now result self.old
+            self.new }
     {
         self.attempts = self.attempts.saturating_add(1);
         gate.pass(self.actor, self.attempts);
@@ -92,7 +95,7 @@ impl<L: IrqLine> Job<L> {
         requires job { IsJob board.now lines.now self.old }
         requires some { 0 < most }
         ensures works { WorksOn board.now lines.now self.old self.new }
-        ensures left { LeftIsSo board.now self.new result }
+        ensures left { LeftIsSo (Wanted L.seen L.may_want) board.now self.new result }
         ensures room { RoomLeft result self.old self.new }
     {
         for steps in 0..most {
@@ -120,13 +123,14 @@ impl<L: IrqLine> Job<L> {
         requires boards { AreBoards board.now lines.now }
         requires job { IsJob board.now lines.now self.old }
         requires some { 0 < most }
-        ensures { WorksJob board.now lines.now self.old self.new }
+        ensures { WorksJob (Wanted L.seen L.may_want) board.now lines.now self.old self.new }
     {
         self.left = self.make_attempts(rt, board, lines, most, gate, handlers);
     }
 
     /// What a worker does later in the shift, and how this went. If it made a step before, it is
-    /// left as one that made a step, also if there is nothing more to do.
+    /// left as one that made a step, also if there is nothing more to do. A worker whose part ended
+    /// at a full line or for want of memory does nothing more.
     fn go_on<R: Wait, G: Gate, H: Handler>(
         &mut self,
         rt: &R,
@@ -139,9 +143,12 @@ impl<L: IrqLine> Job<L> {
         requires boards { AreBoards board.now lines.now }
         requires job { IsJob board.now lines.now self.old }
         requires some { 0 < most }
-        ensures { GoesOn board.now lines.now self.old self.new }
+        ensures { GoesOn (Wanted L.seen L.may_want) board.now lines.now self.old self.new }
     {
         let before = self.left;
+        if is_refused(before) {
+            return before;
+        }
         let left = self.make_attempts(rt, board, lines, most, gate, handlers);
         self.left = with_earlier(before, left);
         left
@@ -155,6 +162,16 @@ fn with_earlier(before: Left, left: Left) -> Left
     match left {
         Left::Idle if before == Left::Busy => before,
         _ => left,
+    }
+}
+
+/// Whether a full line or want of memory ended the worker's part.
+fn is_refused(left: Left) -> bool
+    ensures { result ≡ is_refused left }
+{
+    match left {
+        Left::Full { .. } | Left::NoMemory => true,
+        Left::Idle | Left::Busy => false,
     }
 }
 
@@ -172,7 +189,7 @@ pub(crate) fn work_on<R: Wait, L: IrqLine, G: Gate, H: Handler>(
 )
     requires boards { AreBoards board.now lines.now }
     requires jobs { All (IsJob board.now lines.now) jobs.old }
-    ensures { KeepsJobs board.now lines.now jobs.old jobs.new }
+    ensures { KeepsJobs (Wanted L.seen L.may_want) board.now lines.now jobs.old jobs.new }
 {
     let most = (board.log() / SHARE).max(LEAST).min(MOST);
     let at_once = if jobs.len() > 1 {
@@ -202,7 +219,7 @@ fn look<R: Wait, L: IrqLine, G: Gate, H: Handler>(
     requires boards { AreBoards board.now lines.now }
     requires jobs { All (IsJob board.now lines.now) jobs.old }
     requires some { 0 < at_once }
-    ensures { GoOnJobs board.now lines.now jobs.old jobs.new }
+    ensures { GoOnJobs (Wanted L.seen L.may_want) board.now lines.now jobs.old jobs.new }
 {
     let looks = if jobs.len() > 1 {
         LOOKS_OVER_SEVERAL
@@ -232,7 +249,7 @@ fn sweep_first<R: Wait, L: IrqLine, G: Gate, H: Handler>(
     requires boards { AreBoards board.now lines.now }
     requires jobs { All (IsJob board.now lines.now) jobs.old }
     requires some { 0 < at_once }
-    ensures { KeepsJobs board.now lines.now jobs.old jobs.new }
+    ensures { KeepsJobs (Wanted L.seen L.may_want) board.now lines.now jobs.old jobs.new }
 {
     for i in 0..jobs.len() {
         jobs[i].work(rt, board, lines, at_once, gate, handlers);
@@ -252,7 +269,7 @@ fn sweep<R: Wait, L: IrqLine, G: Gate, H: Handler>(
     requires boards { AreBoards board.now lines.now }
     requires jobs { All (IsJob board.now lines.now) jobs.old }
     requires some { 0 < at_once }
-    ensures { GoOnJobs board.now lines.now jobs.old jobs.new }
+    ensures { GoOnJobs (Wanted L.seen L.may_want) board.now lines.now jobs.old jobs.new }
 {
     let mut all = Left::Idle;
     for i in 0..jobs.len() {

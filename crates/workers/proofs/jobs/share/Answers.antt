@@ -39,6 +39,7 @@ loop-i-preserved g c =
     let at = at_crew dealt c.loop-i.i c.index.result.now less c.index.ensures in
     hired_more c.args.board.now lines dealt c.loop-i.i c.index.result.now c.loop-i.jobs c.hire.new.self c.loop-i.invariant at c.in_ok-hire.ensures.board
     (subst (λ (ls : List LockSeen). Hires ls c.index.result.now c.loop-i.jobs c.hire.new.self) (sym c.lines.view_is) c.in_ok-hire.ensures.hires)
+    c.in_ok-hire.ensures.new
 
 pub returns-clause-fit : goal.returns-clause-fit
 returns-clause-fit g c =

@@ -8,34 +8,38 @@ use Rattle.workers.proofs.post.step_heard.Goals as goal
 
 pub returns-in-Ok-Added-clause-tries : goal.returns-in-Ok-Added-clause-tries
 returns-in-Ok-Added-clause-tries g c = λ who is.
-    tries_added c.args.line.now who c.args.pass.now c.loop.pass c.step.new.pass c.take.result c.loop.invariant c.in-Ok-Added.entry
-    (subst (λ (s : Stepped). Steps c.args.line.now.def who c.loop.pass.knows c.take.result (Ok s) c.step.new.pass.knows)
+    tries_added g.L.IrqLine.seen g.L.IrqLine.may_want c.args.line.now who c.args.pass.now c.loop.pass c.step.new.pass
+    c.take.result c.loop.invariant c.in-Ok-Added.entry
+    (subst (λ (s : Stepped). Steps g.L.IrqLine.seen g.L.IrqLine.may_want c.args.line.now.def who c.loop.pass.knows c.take.result (Ok s) c.step.new.pass.knows)
     c.in-Ok-Added.field-0-is (c.in-Ok-Added.ensures.steps who (c.loop.invariant.actor ∙ is)))
 
 pub returns-in-Ok-NotYet-clause-tries : goal.returns-in-Ok-NotYet-clause-tries
 returns-in-Ok-NotYet-clause-tries g c = λ who is.
-    tries_not_yet c.args.line.now who c.args.pass.now c.loop.pass c.step.new.pass c.take.result c.loop.invariant
-    (subst (λ (s : Stepped). Steps c.args.line.now.def who c.loop.pass.knows c.take.result (Ok s) c.step.new.pass.knows)
+    tries_not_yet g.L.IrqLine.seen g.L.IrqLine.may_want c.args.line.now who c.args.pass.now c.loop.pass c.step.new.pass c.take.result c.loop.invariant
+    (subst (λ (s : Stepped). Steps g.L.IrqLine.seen g.L.IrqLine.may_want c.args.line.now.def who c.loop.pass.knows c.take.result (Ok s) c.step.new.pass.knows)
     c.in-Ok-NotYet.field-0-is (c.in-Ok-NotYet.ensures.steps who (c.loop.invariant.actor ∙ is)))
 
 pub loop-preserved : goal.loop-preserved
 loop-preserved g c =
     let who = its_actor c.args.pass.now.knows.actor c.requires.actor in
-    waits_on c.args.line.now who.0 c.args.pass.now c.loop.pass c.step.new.pass c.take.result c.loop.invariant c.in-Ok-Run.run'
-    (subst (λ (s : Stepped). Steps c.args.line.now.def who.0 c.loop.pass.knows c.take.result (Ok s)
+    waits_on g.L.IrqLine.seen g.L.IrqLine.may_want c.args.line.now who.0 c.args.pass.now c.loop.pass c.step.new.pass
+    c.take.result c.loop.invariant c.in-Ok-Run.run'
+    (subst (λ (s : Stepped). Steps g.L.IrqLine.seen g.L.IrqLine.may_want c.args.line.now.def who.0 c.loop.pass.knows c.take.result (Ok s)
     c.step.new.pass.knows) c.in-Ok-Run.field-0-is (c.in-Ok-Run.ensures.steps who.0
     (c.loop.invariant.actor ∙ who.1)))
     c.step.ensures.pass c.step.ensures.idle c.step.ensures.same_actor
 
 pub returns-in-Err-clause-tries : goal.returns-in-Err-clause-tries
 returns-in-Err-clause-tries g c = λ who is.
-    tries_refused c.args.line.now who c.args.pass.now c.loop.pass c.step.new.pass c.take.result c.loop.invariant c.in-Err.refused
-    (subst (λ (r : StepRefused). Steps c.args.line.now.def who c.loop.pass.knows c.take.result (Err r)
+    tries_refused g.L.IrqLine.seen g.L.IrqLine.may_want c.args.line.now who c.args.pass.now c.loop.pass c.step.new.pass
+    c.take.result c.loop.invariant c.in-Err.refused
+    (subst (λ (r : StepRefused). Steps g.L.IrqLine.seen g.L.IrqLine.may_want c.args.line.now.def who c.loop.pass.knows c.take.result (Err r)
     c.step.new.pass.knows) c.in-Err.refused-is (c.in-Err.ensures.steps who (c.loop.invariant.actor ∙ is)))
 
 pub returns-in-Ok-NotYet-clause-flows : goal.returns-in-Ok-NotYet-clause-flows
 returns-in-Ok-NotYet-clause-flows g c = λ cpu is own none.
-    flow_not_yet c.args.line.now (actors.Cpu cpu) c.args.pass.now c.loop.pass c.step.new.pass c.take.result c.loop.invariant
-    (subst (λ (s : Stepped). Steps c.args.line.now.def (actors.Cpu cpu) c.loop.pass.knows c.take.result (Ok s)
+    flow_not_yet g.L.IrqLine.seen g.L.IrqLine.may_want c.args.line.now (actors.Cpu cpu) c.args.pass.now c.loop.pass
+    c.step.new.pass c.take.result c.loop.invariant
+    (subst (λ (s : Stepped). Steps g.L.IrqLine.seen g.L.IrqLine.may_want c.args.line.now.def (actors.Cpu cpu) c.loop.pass.knows c.take.result (Ok s)
     c.step.new.pass.knows) c.in-Ok-NotYet.field-0-is
     (c.in-Ok-NotYet.ensures.steps (actors.Cpu cpu) (c.loop.invariant.actor ∙ is))) cpu refl own

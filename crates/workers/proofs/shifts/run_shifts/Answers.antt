@@ -1,8 +1,43 @@
-use Rattle.workers.proofs.Shifting.{quiet, full_for}
+use Rattle.std.proofs.Common.{arith, ◌∙◌}
+use Rattle.workers.proofs.Growing.{jobs_more}
+use Rattle.workers.proofs.Shifting.{quiet, full_for, wanted_for}
+use Rattle.workers.specs.Wanted.{Wanted}
 use Rattle.workers.proofs.shifts.run_shifts.Goals as goal
 
 pub returns-in-Idle-clause-end : goal.returns-in-Idle-clause-end
-returns-in-Idle-clause-end g c = quiet c.one_shift.new.self c.one_shift.ensures.left c.in-Idle.ensures.all
+returns-in-Idle-clause-end g c = quiet (Wanted g.L.IrqLine.seen g.L.IrqLine.may_want) c.one_shift.new.self c.one_shift.ensures.left c.in-Idle.ensures.all
 
 pub returns-in-Full-clause-end : goal.returns-in-Full-clause-end
-returns-in-Full-clause-end g c = full_for c.one_shift.new.self c.in-Full.line c.in-Full.len c.one_shift.ensures.left c.in-Full.ensures.all
+returns-in-Full-clause-end g c = full_for (Wanted g.L.IrqLine.seen g.L.IrqLine.may_want) c.one_shift.new.self
+    c.one_shift.ensures.left c.in-Full.line c.in-Full.len c.in-Full.ensures.all
+
+pub returns-in-NoMemory-clause-end : goal.returns-in-NoMemory-clause-end
+returns-in-NoMemory-clause-end g c = wanted_for (Wanted g.L.IrqLine.seen g.L.IrqLine.may_want) c.one_shift.new.self
+    c.one_shift.ensures.left c.in-NoMemory.ensures.all
+
+pub returns-in-Idle-clause-grew : goal.returns-in-Idle-clause-grew
+returns-in-Idle-clause-grew g c =
+    jobs_more c.args.jobs.now.jobs c.loop-used_up.jobs.jobs c.one_shift.new.self.jobs
+    c.loop-used_up.invariant.grew c.one_shift.ensures.grew
+
+pub returns-in-Full-clause-grew : goal.returns-in-Full-clause-grew
+returns-in-Full-clause-grew g c =
+    jobs_more c.args.jobs.now.jobs c.loop-used_up.jobs.jobs c.one_shift.new.self.jobs
+    c.loop-used_up.invariant.grew c.one_shift.ensures.grew
+
+pub returns-in-NoMemory-clause-grew : goal.returns-in-NoMemory-clause-grew
+returns-in-NoMemory-clause-grew g c =
+    jobs_more c.args.jobs.now.jobs c.loop-used_up.jobs.jobs c.one_shift.new.self.jobs
+    c.loop-used_up.invariant.grew c.one_shift.ensures.grew
+
+pub loop-used_up-preserved : goal.loop-used_up-preserved
+loop-used_up-preserved g c =
+    let room = c.one_shift.ensures.room in
+    let before = c.loop-used_up.invariant.room in
+    record {
+      fit = c.one_shift.ensures.fit;
+      same = c.one_shift.ensures.board ∙ c.loop-used_up.invariant.same;
+      grew = jobs_more c.args.jobs.now.jobs c.loop-used_up.jobs.jobs c.one_shift.new.self.jobs c.loop-used_up.invariant.grew c.one_shift.ensures.grew;
+      firsts = c.one_shift.ensures.firsts ∙ c.loop-used_up.invariant.firsts;
+      room = omega (arith, room, before);
+    }

@@ -1,6 +1,6 @@
-use Rattle.std.proofs.Common.{◌≡◌, ℕ, ◌<◌, ◌≤◌, true, None, Some, slice_get}
+use Rattle.std.proofs.Common.{◌≡◌, ℕ, ◌<◌, true, None, Some, slice_get}
 use Rattle.workers.specs.Fit.{HasOneFlow}
-use Rattle.workers.specs.Room.{room_of_posts}
+use Rattle.workers.proofs.Rooms.{StaysSo}
 use Rattle.workers.specs.Seen.{PostSeen}
 use Rattle.workers.specs.Attempts.{KeepsPosts}
 use Rattle.workers.proofs.job.Job.attempt_cpu.Given as goal
@@ -11,5 +11,5 @@ invariant-loop-place g l = record {
   flow : HasOneFlow l.self;
   none : l.self.flow ≡ None;
   rests : (i : ℕ) (s : PostSeen) → i < l.place → slice_get l.self.posts i ≡ Some s → s.rests ≡ true;
-  room : room_of_posts l.self.posts ≤ room_of_posts l.fn.self.posts;
+  room : StaysSo l.fn.self l.self;
 }

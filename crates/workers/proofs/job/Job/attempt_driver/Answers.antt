@@ -3,6 +3,7 @@ use Rattle.board_def.specs.declared.rows.ScriptCall.{ScriptCall}
 use Rattle.irq_base.specs.declared.numbers.DriverNo.{DriverNo}
 use Rattle.workers.specs.Seen.{JobSeen}
 use Rattle.workers.specs.Attempts.{IsDriven}
+use Rattle.workers.specs.Wanted.{Wanted}
 use Rattle.workers.proofs.Driven.{next_driven, driver_done, driver_attempted}
 use Rattle.workers.proofs.Manning.{not_nowhere}
 use Rattle.workers.proofs.job.Job.attempt_driver.Goals as goal
@@ -44,7 +45,7 @@ returns-in_default g c =
       left = c.self.inside.left;
     }) c.requires.driven
     c.next_call-self-inside.result (ap (λ (x : JobSeen). record x { at = c.next_call-self-inside.result })
-    c.self.view_is)
+    c.self.view_is) (Wanted g.L.IrqLine.seen g.L.IrqLine.may_want)
     driven (sym c.call.ensures ∙ c.in_default.is)
 
 pub step_driver-requires-clause-driven : goal.step_driver-requires-clause-driven
@@ -96,5 +97,5 @@ returns g c =
       left = c.self.inside.left;
     }) c.requires.driven
     c.next_call-self-inside.result (ap (λ (x : JobSeen). record x { at = c.next_call-self-inside.result })
-    c.self.view_is)
+    c.self.view_is) (Wanted g.L.IrqLine.seen g.L.IrqLine.may_want)
     c.step_driver.result c.step_driver.new.self c.in-Some.call.driver own.0 c.step_driver.ensures

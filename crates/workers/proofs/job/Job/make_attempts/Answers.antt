@@ -1,10 +1,49 @@
-use Rattle.std.proofs.Common.{arith}
-use Rattle.workers.proofs.Shifting.{works_first}
+use Rattle.std.proofs.Common.{refl, arith}
+use Rattle.workers.proofs.Shifting.{works_first, works_more}
 use Rattle.workers.proofs.job.Job.make_attempts.Goals as goal
 
 pub loop-steps-init : goal.loop-steps-init
 loop-steps-init g c = record {
   works = works_first c.args.board.now c.args.lines.now c.args.self.now c.requires.job;
   room = omega arith;
+  made = omega arith;
+  none = λ zero. refl;
   less = λ some. omega (arith, some);
+  more = λ some. omega (arith, some);
 }
+
+pub returns-in-NotYet-clause-works : goal.returns-in-NotYet-clause-works
+returns-in-NotYet-clause-works g c =
+    works_more c.args.board.now c.args.lines.now c.args.self.now c.loop-steps.self c.attempt_at_gate.new.self
+    c.loop-steps.invariant.works c.attempt_at_gate.ensures.works
+
+pub returns-in-NotYet-2-clause-works : goal.returns-in-NotYet-2-clause-works
+returns-in-NotYet-2-clause-works g c =
+    works_more c.args.board.now c.args.lines.now c.args.self.now c.loop-steps.self c.attempt_at_gate.new.self
+    c.loop-steps.invariant.works c.attempt_at_gate.ensures.works
+
+pub returns-in-Full-clause-works : goal.returns-in-Full-clause-works
+returns-in-Full-clause-works g c =
+    works_more c.args.board.now c.args.lines.now c.args.self.now c.loop-steps.self c.attempt_at_gate.new.self
+    c.loop-steps.invariant.works c.attempt_at_gate.ensures.works
+
+pub returns-in-NoMemory-clause-works : goal.returns-in-NoMemory-clause-works
+returns-in-NoMemory-clause-works g c =
+    works_more c.args.board.now c.args.lines.now c.args.self.now c.loop-steps.self c.attempt_at_gate.new.self
+    c.loop-steps.invariant.works c.attempt_at_gate.ensures.works
+
+pub loop-steps-preserved : goal.loop-steps-preserved
+loop-steps-preserved g c =
+    let room = c.in-Moved.ensures.room.0 in
+    let made = c.in-Moved.ensures.room.1 in
+    let room_before = c.loop-steps.invariant.room in
+    let made_before = c.loop-steps.invariant.made in
+    record {
+      works = works_more c.args.board.now c.args.lines.now c.args.self.now c.loop-steps.self c.attempt_at_gate.new.self
+          c.loop-steps.invariant.works c.attempt_at_gate.ensures.works;
+      room = omega (arith, room, room_before);
+      made = omega (arith, made, made_before);
+      none = λ zero. absurd (omega (arith, zero));
+      less = λ some. omega (arith, room, room_before);
+      more = λ some. omega (arith, made, made_before);
+    }

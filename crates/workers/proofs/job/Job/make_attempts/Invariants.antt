@@ -1,4 +1,5 @@
-use Rattle.std.proofs.Common.{◌<◌, ◌≤◌}
+use Rattle.std.proofs.Common.{◌≡◌, ◌<◌, ◌≤◌}
+use Rattle.workers.specs.Grown.{made_by}
 use Rattle.workers.specs.Room.{room_of_posts}
 use Rattle.workers.specs.Shifts.{WorksOn}
 use Rattle.workers.proofs.job.Job.make_attempts.Given as goal
@@ -7,5 +8,8 @@ abbrev pub invariant-loop-steps : goal.invariant-loop-steps
 invariant-loop-steps g l = record {
   works : WorksOn l.board l.lines l.fn.self l.self;
   room : room_of_posts l.self.posts ≤ room_of_posts l.fn.self.posts;
+  made : made_by l.fn.self.posts ≤ made_by l.self.posts;
+  none : l.steps ≡ 0 → made_by l.self.posts ≡ made_by l.fn.self.posts;
   less : 0 < l.steps → room_of_posts l.self.posts < room_of_posts l.fn.self.posts;
+  more : 0 < l.steps → made_by l.fn.self.posts < made_by l.self.posts;
 }

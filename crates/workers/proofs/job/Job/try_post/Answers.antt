@@ -4,6 +4,7 @@ use Rattle.line_lock.specs.Passes.{LockSeen, IsPassOf}
 use Rattle.workers.specs.Seen.{PostSeen, JobSeen}
 use Rattle.workers.specs.Tries.{IsIdle, Tries}
 use Rattle.workers.specs.Attempts.{FlowMoves}
+use Rattle.workers.specs.Wanted.{Wanted}
 use Rattle.irq_laws.proofs.Chosen.{the_same}
 use Rattle.workers.proofs.Attempting.{at_place, in_here, in_numbers, line_is, post_is, number_is, steps_post}
 use Rattle.workers.proofs.job.Job.try_post.Goals as goal
@@ -78,7 +79,7 @@ returns g c =
     (ap (λ (j : JobSeen). j.posts) c.self.view_is) c.as_slice-numbers.result.now (record { 0 = 0 })
     (c.as_slice-numbers.ensures.value ∙ c.lines.invariant.0) in
     let e = c.step-tried.ensures in
-    steps_post c.args.lines.now c.args.self.now
+    steps_post (Wanted g.L.IrqLine.seen g.L.IrqLine.may_want) c.args.lines.now c.args.self.now
     (record {
       actor = c.self.inside.actor;
       first = c.self.inside.first;
@@ -93,9 +94,12 @@ returns g c =
     c.attempt_of.result c.step-tried.result c.step-tried.new.self c.attempt_of.ensures n
     (ap (λ (j : JobSeen). record j { posts = slice_set j.posts c.args.place c.step-tried.new.self }) c.self.view_is)
     (subst (λ (x : LockSeen). IsPassOf x c.step-tried.new.self.pass) l e.line) e.idle (e.actor ∙ ap (λ (x : PostSeen). x.pass.knows.actor) s) e.rests
-    (λ who. subst (λ (x : PostSeen). x.pass.knows.actor ≡ Some who → Tries a.line.def who x.pass.knows c.step-tried.result c.step-tried.new.self.pass.knows) s
+    (λ who. subst (λ (x : PostSeen). x.pass.knows.actor ≡ Some who
+    → Tries (Wanted g.L.IrqLine.seen g.L.IrqLine.may_want) a.line.def who x.pass.knows c.step-tried.result
+    c.step-tried.new.self.pass.knows) s
     (subst (λ (x : LockSeen). c.index_mut-post.result.now.pass.knows.actor ≡ Some who
-    → Tries x.def who c.index_mut-post.result.now.pass.knows c.step-tried.result c.step-tried.new.self.pass.knows) l
+    → Tries (Wanted g.L.IrqLine.seen g.L.IrqLine.may_want) x.def who c.index_mut-post.result.now.pass.knows
+    c.step-tried.result c.step-tried.new.self.pass.knows) l
     (e.tries who)))
     (subst (λ (x : PostSeen). x.rests ≡ false → FlowMoves a.line.def x.pass.knows c.step-tried.result) s
     (subst (λ (x : LockSeen). c.index_mut-post.result.now.rests ≡ false

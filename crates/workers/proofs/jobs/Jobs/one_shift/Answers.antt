@@ -1,21 +1,22 @@
 use Rattle.std.proofs.Common.{◌≡◌, List, ◌++◌, take, drop, length, subst, arith}
-use Rattle.workers.specs.Shifts.{BusyIsSo}
+use Rattle.workers.specs.Shifts.{SumsUp}
 use Rattle.workers.specs.Seen.{JobSeen}
+use Rattle.workers.specs.Wanted.{Wanted}
 use Rattle.workers.specs.declared.job.Left.{Left}
 use Rattle.workers.specs.declared.job.Left.TheVariants as lefts
-use Rattle.workers.proofs.Shifting.{shift_may, shift_fit, shift_left, shift_room, shift_busy, whole_again}
+use Rattle.workers.proofs.Shifting.{shift_may, shift_fit, shift_left, shift_room, shift_busy, shift_grew, shift_idle, whole_again}
 use Rattle.workers.proofs.jobs.Jobs.one_shift.Goals as goal
 
 pub shift-requires-clause-jobs : goal.shift-requires-clause-jobs
 shift-requires-clause-jobs g c = λ κs lives k d less.
-    shift_may c.args.lines.now c.args.self.now c.requires c.self.inside.board.now c.self.inside.jobs.items
+    shift_may (Wanted g.L.IrqLine.seen g.L.IrqLine.may_want) c.args.lines.now c.args.self.now c.requires c.self.inside.board.now c.self.inside.jobs.items
     c.as_mut_slice-jobs.result.now c.as_mut_slice-jobs.result.now c.as_mut_slice-jobs.result.now
     c.self.inside.firsts.items c.self.view_is c.as_mut_slice-jobs.ensures.value k d less
 
 pub returns-clause-fit : goal.returns-clause-fit
 returns-clause-fit g c =
     let long : length c.shift.new.jobs ≡ length c.as_mut_slice-jobs.result.now = c.shift.auto.jobs in
-    shift_fit c.args.lines.now c.args.self.now c.requires c.self.inside.board.now c.self.inside.jobs.items
+    shift_fit (Wanted g.L.IrqLine.seen g.L.IrqLine.may_want) c.args.lines.now c.args.self.now c.requires c.self.inside.board.now c.self.inside.jobs.items
     c.as_mut_slice-jobs.result.now c.shift.new.jobs
     (take c.self.inside.jobs.len (c.shift.new.jobs ++ drop (length c.shift.new.jobs) c.self.inside.jobs.items))
     c.self.inside.firsts.items c.self.view_is c.as_mut_slice-jobs.ensures.value long c.shift.ensures
@@ -24,7 +25,7 @@ returns-clause-fit g c =
 pub returns-clause-left : goal.returns-clause-left
 returns-clause-left g c =
     let long : length c.shift.new.jobs ≡ length c.as_mut_slice-jobs.result.now = c.shift.auto.jobs in
-    shift_left c.args.lines.now c.args.self.now c.requires c.self.inside.board.now c.self.inside.jobs.items
+    shift_left (Wanted g.L.IrqLine.seen g.L.IrqLine.may_want) c.args.lines.now c.args.self.now c.requires c.self.inside.board.now c.self.inside.jobs.items
     c.as_mut_slice-jobs.result.now c.shift.new.jobs
     (take c.self.inside.jobs.len (c.shift.new.jobs ++ drop (length c.shift.new.jobs) c.self.inside.jobs.items))
     c.self.inside.firsts.items c.self.view_is c.as_mut_slice-jobs.ensures.value long c.shift.ensures
@@ -33,7 +34,7 @@ returns-clause-left g c =
 pub returns-clause-room : goal.returns-clause-room
 returns-clause-room g c =
     let long : length c.shift.new.jobs ≡ length c.as_mut_slice-jobs.result.now = c.shift.auto.jobs in
-    shift_room c.args.lines.now c.args.self.now c.requires c.self.inside.board.now c.self.inside.jobs.items
+    shift_room (Wanted g.L.IrqLine.seen g.L.IrqLine.may_want) c.args.lines.now c.args.self.now c.requires c.self.inside.board.now c.self.inside.jobs.items
     c.as_mut_slice-jobs.result.now c.shift.new.jobs
     (take c.self.inside.jobs.len (c.shift.new.jobs ++ drop (length c.shift.new.jobs) c.self.inside.jobs.items))
     c.self.inside.firsts.items c.self.view_is c.as_mut_slice-jobs.ensures.value long c.shift.ensures
@@ -42,11 +43,30 @@ returns-clause-room g c =
 pub returns-clause-busy : goal.returns-clause-busy
 returns-clause-busy g c = λ is.
     let long : length c.shift.new.jobs ≡ length c.as_mut_slice-jobs.result.now = c.shift.auto.jobs in
-    shift_busy c.args.lines.now c.args.self.now c.requires c.self.inside.board.now c.self.inside.jobs.items
+    shift_busy (Wanted g.L.IrqLine.seen g.L.IrqLine.may_want) c.args.lines.now c.args.self.now c.requires c.self.inside.board.now c.self.inside.jobs.items
     c.as_mut_slice-jobs.result.now c.shift.new.jobs
     (take c.self.inside.jobs.len (c.shift.new.jobs ++ drop (length c.shift.new.jobs) c.self.inside.jobs.items))
     c.self.inside.firsts.items c.self.view_is c.as_mut_slice-jobs.ensures.value long c.shift.ensures
     (whole_again c.self.inside.jobs.len c.shift.new.jobs c.self.inside.jobs.items (let e = c.as_mut_slice-jobs.ensures.len in omega (arith, long, e)))
-    (subst (λ (js : List JobSeen). BusyIsSo js (length js) lefts.Busy) c.as_slice.ensures.value
-    (subst (λ (l : Left). BusyIsSo c.as_slice.result.now (length c.as_slice.result.now) l) is
-    c.left_of_all.ensures.busy))
+    (subst (λ (js : List JobSeen). SumsUp js (length js) lefts.Busy) c.as_slice.ensures.value
+    (subst (λ (l : Left). SumsUp c.as_slice.result.now (length c.as_slice.result.now) l) is c.left_of_all.ensures))
+
+pub returns-clause-grew : goal.returns-clause-grew
+returns-clause-grew g c =
+    let long : length c.shift.new.jobs ≡ length c.as_mut_slice-jobs.result.now = c.shift.auto.jobs in
+    shift_grew (Wanted g.L.IrqLine.seen g.L.IrqLine.may_want) c.args.lines.now c.args.self.now c.requires c.self.inside.board.now c.self.inside.jobs.items
+    c.as_mut_slice-jobs.result.now c.shift.new.jobs
+    (take c.self.inside.jobs.len (c.shift.new.jobs ++ drop (length c.shift.new.jobs) c.self.inside.jobs.items))
+    c.self.inside.firsts.items c.self.view_is c.as_mut_slice-jobs.ensures.value long c.shift.ensures
+    (whole_again c.self.inside.jobs.len c.shift.new.jobs c.self.inside.jobs.items (let e = c.as_mut_slice-jobs.ensures.len in omega (arith, long, e)))
+
+pub returns-clause-idle : goal.returns-clause-idle
+returns-clause-idle g c = λ is.
+    let long : length c.shift.new.jobs ≡ length c.as_mut_slice-jobs.result.now = c.shift.auto.jobs in
+    shift_idle (Wanted g.L.IrqLine.seen g.L.IrqLine.may_want) c.args.lines.now c.args.self.now c.requires c.self.inside.board.now c.self.inside.jobs.items
+    c.as_mut_slice-jobs.result.now c.shift.new.jobs
+    (take c.self.inside.jobs.len (c.shift.new.jobs ++ drop (length c.shift.new.jobs) c.self.inside.jobs.items))
+    c.self.inside.firsts.items c.self.view_is c.as_mut_slice-jobs.ensures.value long c.shift.ensures
+    (whole_again c.self.inside.jobs.len c.shift.new.jobs c.self.inside.jobs.items (let e = c.as_mut_slice-jobs.ensures.len in omega (arith, long, e)))
+    (subst (λ (js : List JobSeen). SumsUp js (length js) lefts.Idle) c.as_slice.ensures.value
+    (subst (λ (l : Left). SumsUp c.as_slice.result.now (length c.as_slice.result.now) l) is c.left_of_all.ensures))

@@ -7,4 +7,4 @@ use Rattle.workers.proofs.lines.SharedLines.span_of.Goals as goal
 pub unreachable-requires : goal.unreachable-requires
 unreachable-requires g c =
     not_there c.args.self.now c.in-Thread.line c.in-Thread.field-1
-    (subst (λ (a : Actor). IsThere c.args.self.now a) c.in-Thread.is c.requires) c.in_default-place_of.ensures.place
+    (subst (λ (a : Actor). IsThere c.args.self.now a) c.in-Thread.is c.requires) c.in_default.ensures.place
