@@ -6,16 +6,14 @@ use irq_base::{LineNo, Packed};
 /// How many rows are kept.
 pub const PLACES: usize = 512;
 
-/// The place of an entry's word on that line. Entries that come together in a log mostly differ in
-/// it: their tags, their answers, who made them, or of which device.
+/// Odd, and near to 2^64 divided by the golden ratio, so that its multiples lie apart.
+const SPREAD: u64 = 0x9E37_79B9_7F4A_7C15;
+
+/// The place of an entry's word on that line: the highest bits of a product, which each bit of the
+/// word and of the line's number changes.
 pub fn place_of(line: LineNo, word: Packed) -> usize
     ensures { result < 512 }
 {
-    let number = word.number();
-    let tag = number % 32;
-    let code = number / 32 % 256;
-    let first = number / 8192 % 65_536;
-    let second = number / 536_870_912;
-    let mark = tag * 5 + code * 31 + first * 41 + second * 13 + u64::from(line.0) * 97;
-    (mark % PLACES as u64) as usize
+    let number = word.number().wrapping_add(u64::from(line.0) << 40);
+    (number.wrapping_mul(SPREAD) >> 55) as usize
 }
