@@ -10,6 +10,7 @@ use Rattle.irq_base.specs.declared.entries.Actor.TheVariants as actors
 use Rattle.irq_base.specs.declared.entries.Entry.{Entry}
 use Rattle.irq_base.specs.declared.lines.LineDef.{LineDef}
 use Rattle.irq_base.specs.declared.numbers.DriverNo.{DriverNo}
+use Rattle.irq_base.specs.declared.numbers.LineNo.{LineNo}
 use Rattle.irq_line.specs.Seen.{LineSeen}
 use Rattle.irq_line.specs.declared.answers.StepRefused.{StepRefused}
 use Rattle.board_def.specs.Rules.{IsBoard}
@@ -23,16 +24,18 @@ use Rattle.board_core.specs.Numbers.{numbers_of_defs, numbers_of_lines}
 use Rattle.board_core.specs.Refreshed.{IsRefreshed}
 use Rattle.board_core.specs.Stands.{CanStepAt}
 use Rattle.board_core.specs.declared.stands.Stand.{Stand}
-use Rattle.board_core.specs.Places.{SteppedAt}
+use Rattle.board_core.specs.Pieces.{EndsPiece, IsPieced}
+use Rattle.board_core.specs.Places.{SteppedAt, StepWants}
+use Rattle.board_core.specs.Wanted.{HasSpare, WantedMemory, WantsOn}
 use Rattle.board_core.specs.Scripts.{ScriptSeen, advanced}
 use Rattle.board_core.specs.Seen.{SystemSeen, board_line, board_lines}
 use Rattle.board_core.specs.Turned.{IsScriptOf, StepsBy, script_after, scripts_after, turn_of}
 use Rattle.board_core.specs.declared.turns.Turn.{Turn}
 use Rattle.irq_line.specs.declared.answers.StepRefused.TheVariants as refusals
-use Rattle.board_core.proofs.TurnLaws.{set_other, turned}
+use Rattle.board_core.proofs.TurnLaws.{map_there, set_other, turned}
 use Rattle.board_core.proofs.Few.{few_lines}
 use Rattle.board_core.proofs.Readiness.{ready_after}
-use Rattle.board_core.proofs.Walking.{walk_after}
+use Rattle.board_core.proofs.Walking.{walk_after, walk_length}
 
 some_there : {A : Type 0} (xs : List A) (k : ℕ) (o : Option A) → slice_get xs k ≡ o → IsSome o → k < length xs
 some_there xs k None at some = cc
@@ -165,8 +168,9 @@ module _ {X : Type 0} (f : X → LineSeen) (xs : List X) (board : BoardSeen) (is
             by_place (Some j) h = let m = is.ready.all_drivers in omega (arith, h, m)
 
         pub kept_after : (ready : ReadySeen) → IsRefreshed new now stand.line stand.script parts.ready ready
-            → IsKept board new now longer (record parts { ready = ready })
-        kept_after ready refreshed =
+            → (capacity : ℕ) → IsPieced (length longer) capacity
+            → IsKept board new now longer (record parts { ready = ready; capacity = capacity })
+        kept_after ready refreshed capacity pieced =
             let system : IsSystem board new now = subst (λ (ss : List ScriptSeen). IsSystem board new ss) (sym same) all.0 in
             record {
               system = system;
@@ -179,6 +183,7 @@ module _ {X : Type 0} (f : X → LineSeen) (xs : List X) (board : BoardSeen) (is
               told = walk_after parts.begun order longer (map f xs) new stand.line a r stepped is.told;
               line_numbers = is.line_numbers ∙ (numbers_kept board (map f xs) scripts is.system ∙ sym (numbers_kept board new now system));
               driver_numbers = is.driver_numbers;
+              pieced = pieced;
             }
 
       pub steps_so : (turn : Turn) → turn ≡ turn_of d.line r
@@ -187,3 +192,24 @@ module _ {X : Type 0} (f : X → LineSeen) (xs : List X) (board : BoardSeen) (is
           subst (λ (t : Turn). StepsBy view (due_on (slice_get (board_lines view.lines) stand.line) a) t (seen_of board layout new longer)) (sym same)
           (subst (λ (s : SystemSeen). StepsBy s (due_on (slice_get (board_lines s.lines) stand.line) a) (turn_of d.line r)
           (seen_of board layout new longer)) (sym v) all.1)
+
+    -- a refusal of the place is one of the system
+    pub wants_so : (may_want : Option Entry → Type 0) (number : LineNo) (r : Result (Option Entry) StepRefused) (turn : Turn)
+        → turn ≡ turn_of number r → StepWants may_want (map f xs) (length order) stand.line a r
+        → WantsOn may_want view (slice_get (board_lines view.lines) stand.line) a turn
+    wants_so may_want number r turn same wants =
+        subst (λ (t : Turn). WantsOn may_want view (slice_get (board_lines view.lines) stand.line) a t) (sym same) (by_result r wants)
+      where
+        by_result : (r : Result (Option Entry) StepRefused) → StepWants may_want (map f xs) (length order) stand.line a r
+            → WantsOn may_want view (slice_get (board_lines view.lines) stand.line) a (turn_of number r)
+        by_result (Ok (Some e)) wants = tt
+        by_result (Ok None) wants = tt
+        by_result (Err (refusals.Full len)) wants = tt
+        by_result (Err refusals.NoMemory) wants =
+            subst (λ (s : SystemSeen). WantedMemory may_want (HasSpare s.lines) (length s.log) (slice_get (board_lines s.lines) stand.line) a) (sym v)
+            (record {
+              line = board_line wants.line;
+              is = map_there board_line (map f xs) stand.line wants.line wants.at;
+              wanted = λ room fits. wants.wanted (room stand.line wants.line wants.at refl)
+                  (subst (λ (n : ℕ). EndsPiece n → ⊥) (walk_length order parts.begun (map f xs) is.told) fits);
+            })

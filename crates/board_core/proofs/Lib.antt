@@ -1,5 +1,6 @@
 pub mod CutLaws
 pub mod ScriptLaws
+pub mod Pieces
 pub mod AtPlaces
 pub mod Searches
 pub mod TurnLaws
@@ -17,6 +18,7 @@ pub mod Standing
 pub mod OfProcessors
 pub mod FirstLaws
 pub mod Underway
+pub mod Wanting
 pub mod OwnScripts
 pub mod CutCounts
 pub mod Placed

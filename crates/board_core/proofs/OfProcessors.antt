@@ -1,5 +1,5 @@
 -- What a system answers of a processor: the lines on which a take of it is due, and the line of its flow.
-use Rattle.std.proofs.Common.{◌≡◌, ℕ, ◌<◌, ◌&&◌, cond, nat_lt, IsSome, Option, Some, None, List, map, length, slice_get, sym, ap, ◌∙◌, subst, arith}
+use Rattle.std.proofs.Common.{◌≡◌, ℕ, ◌<◌, ◌&&◌, cond, nat_lt, IsSome, Option, Some, None, List, length, slice_get, sym, ap, ◌∙◌, subst, arith}
 use Rattle.std.proofs.Math.ListN.{length-map}
 use Rattle.std.proofs.lemmas.Option.{slice_get_within}
 use Rattle.irq_base.specs.declared.numbers.CpuNo.{CpuNo}

@@ -75,7 +75,7 @@ more old new due m picks rest after u moves is =
 
 -- ---- picks
 
-with_move : (s : SystemSeen) (pick : Actor) (rest : List Actor) (m : Move) → move_of s pick ≡ Some m
+pub with_move : (s : SystemSeen) (pick : Actor) (rest : List Actor) (m : Move) → move_of s pick ≡ Some m
     → choice s.board (board_lines s.lines) (pick ∷ rest) ≡ Some (m, rest)
 with_move s pick rest m due = ap (λ (o : Option Move). or_choice (with_picks rest o) (choice s.board (board_lines s.lines) rest)) due
 
@@ -84,7 +84,7 @@ passed_over : (s : SystemSeen) (pick : Actor) (rest : List Actor) → move_of s 
 passed_over s pick rest due = ap (λ (o : Option Move). or_choice (with_picks rest o) (choice s.board (board_lines s.lines) rest)) due
 
 -- the pick of a place comes next
-at_pick : (s : SystemSeen) (picks : List Actor) (i : ℕ) (d : Actor) → i < length picks
+pub at_pick : (s : SystemSeen) (picks : List Actor) (i : ℕ) (d : Actor) → i < length picks
     → IsUnderway s picks (drop i picks) → IsUnderway s picks (get_or picks i d ∷ drop (i + 1) picks)
 at_pick s picks i d within u =
     let next : drop i picks ≡ get_or picks i d ∷ drop (i + 1) picks = drop-cons picks i d within
@@ -143,7 +143,7 @@ pick_full old new picks i d line len turn within u same t =
     (λ m due. with_move old (get_or picks i d) (drop (i + 1) picks) m due))
 
 -- if somebody can move there is a next move, whatever picks are left
-some_choice : (s : SystemSeen) (picks : List Actor) → IsSome (lowest_move s) → IsSome (choice s.board (board_lines s.lines) picks)
+pub some_choice : (s : SystemSeen) (picks : List Actor) → IsSome (lowest_move s) → IsSome (choice s.board (board_lines s.lines) picks)
 some_choice s [] some = by_move (lowest_move s) some
   where
     by_move : (o : Option Move) → IsSome o → IsSome (with_picks [] o)
@@ -173,7 +173,7 @@ pick_refused old new picks rest pick turn u same t =
 
 -- ---- the lowest
 
-lowest_next : (s : SystemSeen) (m : Move) → lowest_move s ≡ Some m → choice s.board (board_lines s.lines) [] ≡ Some (m, [])
+pub lowest_next : (s : SystemSeen) (m : Move) → lowest_move s ≡ Some m → choice s.board (board_lines s.lines) [] ≡ Some (m, [])
 lowest_next s m is = ap (λ (o : Option Move). with_picks [] o) is
 
 pub lowest_moved : (old new : SystemSeen) (picks : List Actor) (line : LineNo) (e : Entry) (turn : Turn)

@@ -1,11 +1,12 @@
 -- What a system keeps.
-use Rattle.std.specs.Prelude.{◌≡◌, ℕ, Some, List, map, slice_get}
+use Rattle.std.specs.Prelude.{◌≡◌, ℕ, Some, List, length, map, slice_get}
 use Rattle.irq_base.specs.declared.numbers.DriverNo.{DriverNo}
 use Rattle.board_def.specs.Seen.{BoardSeen}
 use Rattle.domain_rules.specs.declared.layouts.Placement.{Placement}
 use Rattle.irq_line.specs.Seen.{LineSeen, IsSound}
 use Rattle.board_play.specs.Kept.{AreKept}
 use Rattle.board_core.specs.Log.{IsWalk, moves_of}
+use Rattle.board_core.specs.Pieces.{IsPieced}
 use Rattle.board_core.specs.Scripts.{ScriptSeen, IsScript}
 use Rattle.board_ready.specs.Seen.{ReadySeen}
 use Rattle.board_core.specs.Numbers.{numbers_of_lines, numbers_of_drivers}
@@ -37,6 +38,8 @@ pub record Parts : Type 0 where
   pub begun : List ℕ
   pub line_numbers : List ℕ
   pub driver_numbers : List ℕ
+  -- for how many moves the log has taken memory
+  pub capacity : ℕ
 
 pub record IsKept (board : BoardSeen) (lines : List LineSeen) (scripts : List ScriptSeen)
     (order : List ℕ) (parts : Parts) : Type 0 where
@@ -46,3 +49,4 @@ pub record IsKept (board : BoardSeen) (lines : List LineSeen) (scripts : List Sc
   pub told : IsWalk parts.begun order lines
   pub line_numbers : parts.line_numbers ≡ numbers_of_lines lines
   pub driver_numbers : parts.driver_numbers ≡ numbers_of_drivers board.drivers
+  pub pieced : IsPieced (length order) parts.capacity

@@ -5,6 +5,8 @@ pub mod Refreshed
 pub mod Seen
 pub mod Log
 pub mod Turns
+pub mod Pieces
+pub mod Wanted
 pub mod Inside
 pub mod Places
 pub mod Turned

@@ -1,5 +1,6 @@
 -- Lines by their places, and a step of the one at a place.
-use Rattle.std.specs.Prelude.{◌≡◌, ℕ, IsSome, Option, Some, None, Result, Ok, Err, List, [], ◌∷◌}
+use Rattle.std.specs.Prelude.{◌≡◌, ◌≤◌, ℕ, IsSome, Option, Some, None, Result, Ok, Err, List, []}
+use Rattle.std.specs.Prelude.{◌∷◌}
 use Rattle.std.specs.Prelude.{◌++◌, slice_get, slice_set}
 use Rattle.irq_base.specs.declared.entries.Actor.{Actor}
 use Rattle.irq_base.specs.declared.entries.Entry.{Entry}
@@ -10,6 +11,7 @@ use Rattle.irq_line.specs.declared.answers.StepRefused.{StepRefused}
 use Rattle.irq_line.specs.declared.answers.StepRefused.TheVariants as refusals
 use Rattle.board_play.specs.Lines.{BoardLine}
 use Rattle.irq_line.specs.Heard.{Adds}
+use Rattle.board_core.specs.Pieces.{EndsPiece}
 
 abbrev pub line_at : List BoardLine → Option ℕ → Option BoardLine
 line_at lines None = None
@@ -55,3 +57,16 @@ SteppedAt old order k a (Ok None) new longer = RestsAt old k a × (new ≡ old) 
 SteppedAt old order k a (Err (refusals.Full len)) new longer =
     IsFullAt old k a len × (new ≡ old) × (longer ≡ order)
 SteppedAt old order k a (Err refusals.NoMemory) new longer = (new ≡ old) × (longer ≡ order)
+
+-- The step on the line at place k was refused memory, where the order tells of that many moves. If
+-- there was room for one more entry, the line may want memory for the entry that is due.
+pub record WantsAt (may_want : Option Entry → Type 0) (lines : List LineSeen) (moves k : ℕ)
+    (a : Actor) : Type 0 where
+  pub line : LineSeen
+  pub at : slice_get lines k ≡ Some line
+  pub wanted : 1 ≤ line.spare → (EndsPiece moves → ⊥) → may_want (next line.def line.entries a)
+
+abbrev pub StepWants : (Option Entry → Type 0) → List LineSeen → (moves k : ℕ) → Actor
+    → Result (Option Entry) StepRefused → Type 0
+StepWants may_want lines moves k a (Err refusals.NoMemory) = WantsAt may_want lines moves k a
+StepWants may_want lines moves k a stepped = Unit {0}

@@ -1,10 +1,11 @@
 -- What a turn of an actor comes to.
-use Rattle.std.specs.Prelude.{◌≡◌, ◌<◌, ◌≤◌, IsSome, IsSomeAnd, ℕ, Option, Some, None, [], ◌∷◌}
-use Rattle.std.specs.Prelude.{◌++◌, length}
+use Rattle.std.specs.Prelude.{◌≡◌, ◌<◌, ◌≤◌, IsSome, IsSomeAnd, ℕ, Option, Some, None, List, []}
+use Rattle.std.specs.Prelude.{◌∷◌, ◌++◌, length}
 use Rattle.irq_base.specs.declared.entries.Actor.{Actor}
 use Rattle.irq_base.specs.declared.entries.Actor.TheVariants as actors
 use Rattle.irq_base.specs.declared.numbers.DevNo.{DevNo}
 use Rattle.irq_base.specs.declared.numbers.LineNo.{LineNo}
+use Rattle.board_def.specs.Seen.{BoardSeen}
 use Rattle.board_play.specs.Lines.{BoardLine, Move, find_line, lines_after}
 use Rattle.board_play.specs.Order.{due_move, actors_of}
 use Rattle.board_play.specs.Play.{first_move}
@@ -47,10 +48,13 @@ TurnsBy old due turns.NoMemory new = IsSome due × (new ≡ old)
 
 -- The actor has a move. For a thread less is known: it, or the thread of a device with a lower
 -- number, has a move on its line; a line tells only the lowest of its threads.
+abbrev pub CanMove : BoardSeen → List BoardLine → Actor → Type 0
+CanMove b lines (actors.Thread line d) =
+    (lowest : DevNo) × (lowest.0 ≤ d.0) × IsSome (due_move b lines (actors.Thread line lowest))
+CanMove b lines a = IsSome (due_move b lines a)
+
 abbrev pub MayMove : SystemSeen → Actor → Type 0
-MayMove s (actors.Thread line d) =
-    (lowest : DevNo) × (lowest.0 ≤ d.0) × IsSome (move_of s (actors.Thread line lowest))
-MayMove s a = IsSome (move_of s a)
+MayMove s a = CanMove s.board (board_lines s.lines) a
 
 -- the move of the lowest actor that can move
 abbrev pub lowest_move : SystemSeen → Option Move

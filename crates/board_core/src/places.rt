@@ -1,10 +1,15 @@
 //! A step of the line at a place.
-ghost use Rattle.std.specs.Prelude.{◌≡◌, ◌<◌, ◌≤◌, ◌+◌, map, length, vec_len, vec_capacity};
-ghost use Rattle.board_core.specs.Places.{SteppedAt, told};
+ghost use Rattle.std.specs.Prelude.{◌≡◌, ◌<◌, ◌≤◌, ◌+◌, OnErr, OnOk, map, length, vec_len};
+ghost use Rattle.std.specs.Prelude.{vec_capacity};
+ghost use Rattle.board_core.specs.Pieces.{EndsPiece, IsPieced, piece_end};
+ghost use Rattle.board_core.specs.Places.{StepWants, SteppedAt, told};
 
 use callbacks::{Callbacks, Handler};
-use irq_base::{Actor, Entry};
+use irq_base::{Actor, Entry, NoMemory};
 use irq_line::{IrqLine, StepRefused, step_heard};
+
+/// For how many moves the log takes memory at once.
+const PIECE: usize = 256;
 
 /// A step of the line at `place`. If it adds an entry, `place` goes to the end of the order. Room
 /// in the order is taken first, so that nothing is refused after the step.
@@ -18,12 +23,14 @@ pub(crate) fn step_place<L: IrqLine, H: Handler>(
 ) -> Result<Option<Entry>, StepRefused>
     requires place { place < length lines.old.items }
     requires few { place < 65536 }
-    ensures { SteppedAt (map L.seen lines.old.items) order.old.items place actor result
+    requires pieced { IsPieced (length order.old.items) (vec_capacity order.old) }
+    ensures stepped { SteppedAt (map L.seen lines.old.items) order.old.items place actor result
         (map L.seen lines.new.items) order.new.items }
+    ensures memory { StepWants L.may_want (map L.seen lines.old.items) (length order.old.items)
+        place actor result }
+    ensures pieced { IsPieced (length order.new.items) (vec_capacity order.new) }
 {
-    if order.reserve(1).is_err() {
-        return Err(StepRefused::NoMemory);
-    }
+    make_room(order)?;
     let line = &mut lines[place];
     let stepped = step_heard(line, actor, handlers);
     line.is_sound();
@@ -31,11 +38,26 @@ pub(crate) fn step_place<L: IrqLine, H: Handler>(
     stepped
 }
 
+/// Makes room for one more move. Memory is taken only at the end of a piece, for the next one.
+#[inline(always)]
+fn make_room(order: &mut Vec<u16>) -> Result<(), NoMemory>
+    requires { IsPieced (length order.old.items) (vec_capacity order.old) }
+    ensures items { order.new.items ≡ order.old.items }
+    ensures room { OnOk result (piece_end (length order.new.items) ≤ vec_capacity order.new) }
+    ensures needed { OnErr result (EndsPiece (length order.old.items)) }
+{
+    if order.len() % PIECE == 0 {
+        order.reserve(PIECE)?;
+    }
+    Ok(())
+}
+
 /// Adds the place at the end of the order, if the step added an entry.
 fn tell(order: &mut Vec<u16>, place: usize, stepped: &Result<Option<Entry>, StepRefused>)
     requires few { place < 65536 }
     requires room { vec_len order.old + 1 ≤ vec_capacity order.old }
-    ensures { order.new.items ≡ told stepped.now order.old.items place }
+    ensures told { order.new.items ≡ told stepped.now order.old.items place }
+    ensures capacity { vec_capacity order.new ≡ vec_capacity order.old }
 {
     if let Ok(Some(_)) = stepped {
         order.push_reserved(place as u16);

@@ -95,7 +95,7 @@ fn place_of_actor(board: &Board, driver_numbers: &[u32], actor: Actor) -> Option
     board.is_board();
     match actor {
         Actor::Driver(driver) => place_of(driver_numbers, driver.0),
-        _ => None,
+        Actor::Thread(..) | Actor::Cpu(_) => None,
     }
 }
 

@@ -19,6 +19,7 @@ ghost use Rattle.board_core.specs.Stands.{CanStepAt, IsAt, IsCurrentOn, IsStand,
 ghost use Rattle.board_core.specs.Stands.{IsScriptPlace, IsStandOn};
 ghost use Rattle.board_core.specs.Turned.{StepsBy};
 ghost use Rattle.board_core.specs.Turns.{Turns, TurnsBy, move_of, lowest_move};
+ghost use Rattle.board_core.specs.Wanted.{EndWants, LowestWants, PlayWants, Wants, WantsOn};
 
 use crate::making::{are_sound, make_lines, make_scripts};
 use crate::moves::{LINES, Moves, lengths_of};
@@ -53,7 +54,7 @@ pub struct System<'b, L: IrqLine> {
 }
 
 impl<'b, L: IrqLine> Model for System<'b, L> {
-    ghost use Rattle.std.specs.Prelude.{map};
+    ghost use Rattle.std.specs.Prelude.{map, vec_capacity};
     ghost use Rattle.board_core.specs.Playing.{IsFresh, IsUnderway, IsPlay, Ends};
     ghost use Rattle.board_core.specs.Seen.{SystemSeen};
     ghost use Rattle.board_core.specs.Inside.{seen_of, IsKept};
@@ -68,6 +69,7 @@ impl<'b, L: IrqLine> Model for System<'b, L> {
           begun = s.begun;
           line_numbers = s.line_numbers.items;
           driver_numbers = s.driver_numbers.items;
+          capacity = vec_capacity s.order;
         }) };
 }
 
@@ -281,7 +283,8 @@ impl<'b, L: IrqLine> System<'b, L> {
     /// that handler is called. It takes the same time however many actors and entries there are,
     /// and no memory but the log's and the line's.
     pub fn turn<H: Handler>(&mut self, actor: Actor, handlers: &Callbacks<H>) -> Turn
-        ensures { Turns self.old actor result self.new }
+        ensures turns { Turns self.old actor result self.new }
+        ensures memory { Wants L.may_want self.old actor result }
     {
         match self.stand(actor) {
             Some(stand) => self.step_at(stand, actor, handlers),
@@ -407,8 +410,10 @@ impl<'b, L: IrqLine> System<'b, L> {
         handlers: &Callbacks<H>,
     ) -> Turn
         requires { IsCurrentOn self.old line actor }
-        ensures { StepsBy self.old (due_on (find_line (board_lines self.old.lines) line) actor)
-            result self.new }
+        ensures steps { StepsBy self.old
+            (due_on (find_line (board_lines self.old.lines) line) actor) result self.new }
+        ensures memory { WantsOn L.may_want self.old (find_line (board_lines self.old.lines) line)
+            actor result }
     {
         let Some(stand) = self.stand_on(line, actor) else {
             return Turn::NotYet;
@@ -437,7 +442,7 @@ impl<'b, L: IrqLine> System<'b, L> {
         self.board.is_board();
         match actor {
             Actor::Driver(driver) => place_of(&self.driver_numbers, driver.0),
-            _ => None,
+            Actor::Thread(..) | Actor::Cpu(_) => None,
         }
     }
 
@@ -445,7 +450,8 @@ impl<'b, L: IrqLine> System<'b, L> {
     #[inline(always)]
     fn step_at<H: Handler>(&mut self, stand: Stand, actor: Actor, handlers: &Callbacks<H>) -> Turn
         requires { IsAt self.old actor stand }
-        ensures { StepsBy self.old (move_of self.old actor) result self.new }
+        ensures steps { StepsBy self.old (move_of self.old actor) result self.new }
+        ensures memory { Wants L.may_want self.old actor result }
     {
         self.step_stand(stand, actor, handlers)
     }
@@ -459,8 +465,10 @@ impl<'b, L: IrqLine> System<'b, L> {
         handlers: &Callbacks<H>,
     ) -> Turn
         requires { CanStepAt self.old actor stand }
-        ensures { StepsBy self.old
+        ensures steps { StepsBy self.old
             (due_on (slice_get (board_lines self.old.lines) stand.line) actor) result self.new }
+        ensures memory { WantsOn L.may_want self.old
+            (slice_get (board_lines self.old.lines) stand.line) actor result }
     {
         self.board.is_board();
         let k = stand.line;
@@ -474,7 +482,8 @@ impl<'b, L: IrqLine> System<'b, L> {
     /// One step of the lowest actor that can move; `NotYet` if none can.
     #[inline(always)]
     pub fn turn_lowest<H: Handler>(&mut self, handlers: &Callbacks<H>) -> Turn
-        ensures { TurnsBy self.old (lowest_move self.old) result self.new }
+        ensures turns { TurnsBy self.old (lowest_move self.old) result self.new }
+        ensures memory { LowestWants L.may_want self.old result }
     {
         match self.lowest_stand() {
             Some((actor, stand)) => self.step_at(stand, actor, handlers),
@@ -488,6 +497,9 @@ impl<'b, L: IrqLine> System<'b, L> {
         ensures layout { self.new.layout ≡ self.old.layout }
         ensures moves { Settles self.old self.new }
         ensures end { Ends self.new result }
+        ensures memory { EndWants L.may_want self.new result }
+        ensures wanted { (picks : List Actor) → IsUnderway self.old picks []
+            → PlayWants L.may_want self.new picks result }
         ensures play { (picks : List Actor) → IsUnderway self.old picks []
             → IsPlay self.new picks result }
         ensures lines { (picks : List Actor) → IsUnderway self.old picks []
@@ -510,6 +522,7 @@ impl<'b, L: IrqLine> System<'b, L> {
         ensures board { self.new.board ≡ self.old.board }
         ensures layout { self.new.layout ≡ self.old.layout }
         ensures play { IsPlay self.new picks.now result }
+        ensures memory { PlayWants L.may_want self.new picks.now result }
         ensures lines { board_lines self.new.lines
             ≡ lines_of self.new.board (reverse self.new.log) }
     {

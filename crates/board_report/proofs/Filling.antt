@@ -12,6 +12,7 @@ use Rattle.irq_line.specs.Seen.{LineSeen}
 use Rattle.irq_model.specs.Kinds.{same_line}
 use Rattle.irq_steps.proofs.Same.{same_self_line, line_from_same}
 use Rattle.irq_laws.proofs.Chosen.{the_same}
+use Rattle.irq_laws.proofs.Lists.{both_ways}
 use Rattle.domain_rules.specs.Layout.{is_mapped}
 use Rattle.domain_rules.specs.declared.layouts.Placement.{Placement}
 use Rattle.board_def.specs.Layout.{layout_of}
@@ -34,7 +35,7 @@ dropped [] i x at = cc
 dropped (y ∷ ys) zero x at = ap (λ z. z ∷ ys) (the_same y x at)
 dropped (y ∷ ys) (suc i) x at = dropped ys i x at
 
-at_front : {A : Type 0} (xs : List A) (i : ℕ) (x : A) (rest : List A) → x ∷ rest ≡ drop i xs → (slice_get xs i ≡ Some x) × (rest ≡ drop (suc i) xs)
+pub at_front : {A : Type 0} (xs : List A) (i : ℕ) (x : A) (rest : List A) → x ∷ rest ≡ drop i xs → (slice_get xs i ≡ Some x) × (rest ≡ drop (suc i) xs)
 at_front [] zero x rest is = cc
 at_front [] (suc i) x rest is = cc
 at_front (y ∷ ys) zero x rest is = (ap (λ zs. slice_get zs 0) (sym is), ap (λ zs. drop 1 zs) is)
@@ -102,7 +103,7 @@ heads : (d e : LineDef) (ds es : List LineDef) → d ∷ ds ≡ e ∷ es → (d 
 heads d e ds es is = (cc, cc)
 
 module _ (b : BoardSeen) (board : IsBoard b) (all : List BoardLine) (are : AreOfBoard b all) (i : ℕ) (row : LineRow) (at : slice_get b.lines i ≡ Some row) where
-  apart : AreApart (map (λ (x : BoardLine). x.def) all)
+  pub apart : AreApart (map (λ (x : BoardLine). x.def) all)
   apart = subst AreApart (sym are) (apart_defs b board)
 
   after : List LineDef
@@ -152,6 +153,24 @@ module _ (b : BoardSeen) (board : IsBoard b) (all : List BoardLine) (are : AreOf
     where
       pair : (l m : LineNo) (es fs : List Entry) → l ≡ m → es ≡ fs → ◌≡◌ {A = LineHistory} (l, es) (m, fs)
       pair l m es fs p q = cc
+
+  -- if the first that is left is another, the row's line takes no part
+  pub not_among : (left : List BoardLine) (reports : List LineReport) → IsFilled b all left i reports
+      → is_first row.line left ≡ false → find_line all row.line ≡ None
+  not_among left reports f other = by_test (is_mapped_at (slice_get (layout_of b) i)) refl
+    where
+      first : (xs : List BoardLine) → is_mapped_at (slice_get (layout_of b) i) ≡ true
+          → map (λ (x : BoardLine). x.def) xs ≡ map (line_of_row b) (mapped (drop i b.lines) (drop i (layout_of b)))
+          → is_first row.line xs ≡ true
+      first [] test defs = let none = next_defs true [] test defs in cc
+      first (x ∷ xs) test defs =
+          let both = heads x.def (line_of_row b row) (map (λ (x : BoardLine). x.def) xs) after
+          (next_defs true (map (λ (x : BoardLine). x.def) (x ∷ xs)) test defs) in
+          ap (λ (d : LineDef). same_line row.line d.line) both.0 ∙ same_self_line row.line
+
+      by_test : (t : Bool) → is_mapped_at (slice_get (layout_of b) i) ≡ t → find_line all row.line ≡ None
+      by_test true test = both_ways (is_first row.line left) (first left test f.defs) other
+      by_test false test = takes_no_part b board all are i row at test
 
   module _ (new : List BoardLine) (reports now : List LineReport) (report : LineReport)
       (is : now ≡ reports ++ report ∷ []) (line : report.line ≡ row.line) where
@@ -217,7 +236,7 @@ all_filled b all left i reports end f = f.told ∙ ap (λ (rows : List LineRow).
 
 -- ---- the lines from the last one on
 
-map_turned : {A B : Type 0} (f : A → B) (xs : List A) → map f (reverse xs) ≡ reverse (map f xs)
+pub map_turned : {A B : Type 0} (f : A → B) (xs : List A) → map f (reverse xs) ≡ reverse (map f xs)
 map_turned f [] = refl
 map_turned f (x ∷ xs) =
     ap (λ ys. map f ys) (reverse-append (x ∷ []) xs)

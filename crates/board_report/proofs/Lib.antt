@@ -9,5 +9,6 @@ pub mod Printable
 pub mod Reported
 pub mod Handed
 pub mod Filling
+pub mod Rooms
 pub mod Summing
 pub mod Writing

@@ -1,9 +1,11 @@
 -- Reports of lines as they stand, the newest entry of a line first.
-use Rattle.std.specs.Prelude.{◌≡◌, ℕ, ◌≤◌, Bool, true, false, Option, Some, None, List, [], ◌∷◌}
+use Rattle.std.specs.Prelude.{◌≡◌, ℕ, ◌≤◌, Bool, true, false, IsSomeAnd, Option, Some, None, List}
+use Rattle.std.specs.Prelude.{[], ◌∷◌}
 use Rattle.std.specs.Prelude.{length, map, reverse, drop, slice_get, All}
 use Rattle.irq_base.specs.Seen.{HistorySeen}
 use Rattle.irq_base.specs.declared.entries.Entry.{Entry}
 use Rattle.irq_base.specs.declared.numbers.LineNo.{LineNo}
+use Rattle.irq_base.specs.declared.reporting.LineReport.{LineReport}
 use Rattle.irq_line.specs.Seen.{LineSeen}
 use Rattle.irq_model.specs.Kinds.{same_line}
 use Rattle.board_def.specs.Seen.{BoardSeen}
@@ -44,6 +46,25 @@ is_first number (x ∷ xs) = same_line number x.def.line
 abbrev pub TakesFirst : Bool → List BoardLine → List BoardLine → List Entry → Type 0
 TakesFirst true old new entries = (entries ≡ entries_of (slice_get old 0)) × (new ≡ drop 1 old)
 TakesFirst false old new entries = (entries ≡ []) × (new ≡ old)
+
+-- The first line was taken away, and its history's room is the answer; or none was, since the first
+-- line has another number.
+abbrev pub TakesRoom : Bool → (old new : List LineSeen) → ℕ → Type 0
+TakesRoom true old new spare = IsSomeAnd (slice_get old 0) (λ x. spare ≡ x.spare)
+    × (new ≡ drop 1 old)
+TakesRoom false old new spare = new ≡ old
+
+-- the report of each of these lines has the line's history with the room that it has there
+abbrev pub KeepRoom : List LineSeen → List LineReport → Type 0
+KeepRoom lines reports = (k i : ℕ) (line : LineSeen) (report : LineReport)
+    → slice_get lines k ≡ Some line → slice_get reports i ≡ Some report
+    → report.line ≡ line.def.line → report.history.spare ≡ line.spare
+
+-- the history that is handed out for the line of this number has room for one more entry
+abbrev pub IsHandedRoom : List LineReport → LineNo → Type 0
+IsHandedRoom reports number =
+    (i : ℕ) × (report : LineReport) × (slice_get reports i ≡ Some report)
+    × (report.line ≡ number) × (1 ≤ report.history.spare)
 
 abbrev pub IsEmptyHistory : HistorySeen → Type 0
 IsEmptyHistory h = h.entries ≡ []

@@ -5,7 +5,7 @@ ghost use Rattle.board_core.specs.Making.{AreSound};
 ghost use Rattle.board_core.specs.Seen.{board_lines};
 ghost use Rattle.board_report.specs.Headline.{FullLog, Headline, SoFar};
 ghost use Rattle.board_report.specs.Moving.{AreAtRest, HasNoRoom};
-ghost use Rattle.board_report.specs.Reporting.{HasRoom, entries_in};
+ghost use Rattle.board_report.specs.Reporting.{HasRoom, KeepRoom, entries_in};
 ghost use Rattle.board_report.specs.Rows.{HasRows};
 ghost use Rattle.board_report.specs.Summable.{IsSummable};
 
@@ -37,6 +37,7 @@ pub fn hand_out<L: IrqLine>(board: &Board, system: System<'_, L>, room: ReportRo
     ensures full { (line : LineNo) (len : ℕ)
         → HasNoRoom board.now (board_lines system.entry.lines) line len
         → FullLog board.now (entries_in (board_lines system.entry.lines)) result.reports line len }
+    ensures room { KeepRoom system.entry.lines result.reports }
     ensures rows { All HasRows result.reports }
     ensures few { length result.reports ≤ 64 }
     ensures summable { All IsSummable result.reports }

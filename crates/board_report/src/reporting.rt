@@ -1,9 +1,10 @@
 //! Reports of a board's lines.
-ghost use Rattle.std.specs.Prelude.{◌≡◌, ◌≤◌, ◌<◌, ◌+◌, [], IfOk, All, length, map};
+ghost use Rattle.std.specs.Prelude.{◌≡◌, ◌≤◌, ◌<◌, ◌+◌, [], IfOk, All, length, map, reverse};
 ghost use Rattle.board_core.specs.Seen.{board_lines};
 ghost use Rattle.board_report.specs.Headline.{told_by};
-ghost use Rattle.board_report.specs.Reporting.{AreOfBoard, HasRoom, IsEmptyHistory, TakesFirst};
-ghost use Rattle.board_report.specs.Reporting.{from_last, history_among, is_first};
+ghost use Rattle.board_report.specs.Reporting.{AreOfBoard, HasRoom, IsEmptyHistory, KeepRoom};
+ghost use Rattle.board_report.specs.Reporting.{TakesFirst, TakesRoom, from_last, history_among};
+ghost use Rattle.board_report.specs.Reporting.{is_first};
 
 use board_def::Board;
 use irq_base::{History, LineNo, LineReport, NoMemory, Reports};
@@ -35,8 +36,9 @@ impl ReportRoom {
     pub fn fill<L: IrqLine>(self, board: &Board, mut lines: Vec<L>) -> Reports
         requires room { HasRoom (length board.now.lines) self }
         requires lines { AreOfBoard board.now (board_lines (map L.seen lines.items)) }
-        ensures { map told_by result.reports
+        ensures told { map told_by result.reports
             ≡ map (history_among (board_lines (map L.seen lines.items))) board.now.lines }
+        ensures room { KeepRoom (map L.seen lines.items) result.reports }
     {
         board.is_board();
         let ReportRoom {
@@ -76,9 +78,12 @@ fn empty_histories(alloc: Global, n: usize) -> Result<Vec<History>, NoMemory>
 /// history.
 fn take_history<L: IrqLine>(lines: &mut Vec<L>, number: LineNo, empty: History) -> History
     requires { IsEmptyHistory empty }
-    ensures { TakesFirst (is_first number (from_last (map L.seen lines.old.items)))
+    ensures first { TakesFirst (is_first number (from_last (map L.seen lines.old.items)))
         (from_last (map L.seen lines.old.items)) (from_last (map L.seen lines.new.items))
         result.entries }
+    ensures room { TakesRoom (is_first number (from_last (map L.seen lines.old.items)))
+        (reverse (map L.seen lines.old.items)) (reverse (map L.seen lines.new.items))
+        result.spare }
 {
     if !is_last(lines, number) {
         return empty;

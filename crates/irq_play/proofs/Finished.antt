@@ -1,10 +1,11 @@
 -- A system whose play has ended, and what its reports hand out.
-use Rattle.std.proofs.Common.{◌≡◌, ℕ, All, IsSome, Option, Some, List, length, reverse, sym, ap, ◌∙◌, subst}
+use Rattle.std.proofs.Common.{◌≡◌, ◌≤◌, ℕ, All, IsSome, IsTrue, Option, Some, List, length, reverse, sym, ap, ◌∙◌, subst}
 use Rattle.irq_base.specs.declared.entries.Entry.{Entry}
 use Rattle.irq_base.specs.declared.numbers.LineNo.{LineNo}
 use Rattle.irq_base.specs.declared.reporting.LineReport.{LineReport}
 use Rattle.board_core.specs.Seen.{SystemSeen, board_lines}
 use Rattle.board_core.specs.Turns.{HasLength}
+use Rattle.board_core.specs.Wanted.{HasSpare, PlayWants, WantsNext}
 use Rattle.board_core.specs.declared.turns.PlayEnd.TheVariants as plays
 use Rattle.board_def.specs.LineOf.{line_of_row}
 use Rattle.board_def.specs.Rules.{IsBoard}
@@ -20,10 +21,14 @@ use Rattle.board_play.proofs.Rest.{done_rests}
 use Rattle.board_report.specs.Headline as report
 use Rattle.board_report.specs.Headline.{KeepsLaws, LineHeadline}
 use Rattle.board_report.specs.Moving.{AreAtRest, HasNoRoom}
-use Rattle.board_report.specs.Reporting.{entries_in}
+use Rattle.board_report.specs.Reporting.{IsHandedRoom, KeepRoom, entries_in}
 use Rattle.board_report.proofs.FullAt.{no_room}
-use Rattle.irq_play.specs.Headline.{CutShort, Headline, FullLog}
-use Rattle.irq_play.specs.Played.{IsPlayed}
+use Rattle.irq_play.specs.Headline.{CutShort, Headline, FullLog, RefusedStep}
+use Rattle.irq_play.specs.Ends.{is_printing}
+use Rattle.irq_play.specs.Played.{IsPlayed, TellsStep}
+use Rattle.irq_play.specs.declared.ending.PlayedEnd.{PlayedEnd}
+use Rattle.irq_play.specs.declared.ending.PlayedEnd.TheVariants as ends
+use Rattle.irq_play.specs.declared.ending.Wanted.TheVariants as wants
 use Rattle.irq_play.specs.Printing.{HasRow}
 use Rattle.irq_play.proofs.Parts.{its_part, mapped_parts, refused_parts, told_parts}
 use Rattle.irq_play.proofs.Printable.{moves_have_rows}
@@ -101,3 +106,35 @@ cut_done b board s p reports h =
       mapped = mapped_parts b board s.log left chosen (board_lines s.lines) p.lines (λ row es. KeepsLaws (line_of_row b row) es) h.mapped;
       refused = refused_parts b board s.log left chosen (board_lines s.lines) p.lines h.refused;
     }
+
+-- which step it was, by the room that is handed out
+pub step_done : (may_want : Option Entry → Type 0) (b : BoardSeen) (s : SystemSeen) → s.board ≡ b → (reports : List LineReport)
+    → KeepRoom s.lines reports → PlayWants may_want s b.picks plays.NoMemory → RefusedStep may_want b s.log reports
+step_done may_want b s of_board reports keep wants =
+    let w = subst (λ (c : BoardSeen). WantsNext may_want (HasSpare s.lines) c b.picks s.log) of_board wants in
+    record {
+      left = w.left;
+      so_far = w.so_far;
+      some = w.some;
+      actor = w.actor;
+      can = w.can;
+      next = w.next;
+      step = record {
+        line = w.step.line;
+        is = w.step.is;
+        wanted = λ room fits. w.step.wanted (spare w.step.line.def.line room) fits;
+      };
+    }
+  where
+    spare : (number : LineNo) → IsHandedRoom reports number → HasSpare s.lines number
+    spare number (i, report, at, its, room) k x at_x same =
+        subst (λ (n : ℕ). 1 ≤ n) (keep k i x report at_x at (its ∙ sym same)) room
+
+-- a play that was printed tells of no step
+pub printing_tells : (may_want : Option Entry → Type 0) (b : BoardSeen) (reports : List LineReport) (end : PlayedEnd)
+    → IsTrue (is_printing end) → TellsStep may_want b reports end
+printing_tells may_want b reports ends.Done printing = tt
+printing_tells may_want b reports ends.WriteFault printing = tt
+printing_tells may_want b reports (ends.LogFull line len) printing = tt
+printing_tells may_want b reports (ends.NoMemory wants.Making) printing = tt
+printing_tells may_want b reports (ends.NoMemory wants.Step) printing = cc

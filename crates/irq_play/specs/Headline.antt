@@ -2,10 +2,12 @@
 -- and of the reports that hand them out. What holds of one line is board_report's headline; here
 -- stands whose play it is. The moves of a play and the entries of a history stand oldest first
 -- here; `Plays` has the newest move first.
-use Rattle.std.specs.Prelude.{◌≡◌, ℕ, IsSome, List, [], length, map, reverse}
+use Rattle.std.specs.Prelude.{◌≡◌, ℕ, IsSome, Option, List, [], length, map, reverse}
 use Rattle.irq_base.specs.declared.entries.Actor.{Actor}
+use Rattle.irq_base.specs.declared.entries.Entry.{Entry}
 use Rattle.irq_base.specs.declared.numbers.LineNo.{LineNo}
 use Rattle.irq_base.specs.declared.reporting.LineReport.{LineReport}
+use Rattle.board_core.specs.Wanted.{WantsNext}
 use Rattle.board_def.specs.LineOf.{line_of_row}
 use Rattle.board_def.specs.Seen.{BoardSeen}
 use Rattle.board_def.specs.declared.rows.LineRow.{LineRow}
@@ -13,6 +15,7 @@ use Rattle.board_play.specs.Lines.{Move, lines_of, part}
 use Rattle.board_play.specs.Play.{Done, Full, IsChosen, Plays, choice}
 use Rattle.board_report.specs.Headline.{EachMapped, EachRefused, IsAmple, KeepsLaws, LineHeadline}
 use Rattle.board_report.specs.Headline.{LineHistory, told_by}
+use Rattle.board_report.specs.Reporting.{IsHandedRoom}
 
 -- the line's number, with its entries among the moves
 abbrev pub history_of : List Move → LineRow → LineHistory
@@ -54,3 +57,9 @@ pub record CutShort (b : BoardSeen) (g : List Move) (reports : List LineReport) 
   pub handed_out : map told_by reports ≡ histories_of b g
   pub mapped : EachMapped b (λ row. KeepsLaws (line_of_row b row) (part row.line g))
   pub refused : EachRefused b (λ row. part row.line g ≡ [])
+
+-- The step that was refused memory: whose it was, on which line, and that the line may want memory
+-- for the entry that is due there, unless there was no room left, in the history that is handed out
+-- for the line, or in the log.
+abbrev pub RefusedStep : (Option Entry → Type 0) → BoardSeen → List Move → List LineReport → Type 0
+RefusedStep may_want b g reports = WantsNext may_want (IsHandedRoom reports) b b.picks g

@@ -1,16 +1,19 @@
 -- What a board's play answers, and what is printed of it.
-use Rattle.std.specs.Prelude.{◌≡◌, ℕ, Bool, Option, List, [], reverse}
+use Rattle.std.specs.Prelude.{◌≡◌, ℕ, Bool, Option, List, [], length, reverse}
+use Rattle.irq_base.specs.declared.entries.Entry.{Entry}
 use Rattle.irq_base.specs.declared.reporting.LineReport.{LineReport}
 use Rattle.irq_io.specs.Whole.{WritesAll}
 use Rattle.irq_io.specs.declared.whole.WriteEnd.{WriteEnd}
 use Rattle.irq_io.specs.declared.whole.WriteEnd.TheVariants as writes
 use Rattle.board_def.specs.Layout.{layout_of}
 use Rattle.board_def.specs.Seen.{BoardSeen}
-use Rattle.board_core.specs.Playing.{IsPlay}
+use Rattle.board_core.specs.Playing.{IsFresh, IsPlay}
 use Rattle.board_core.specs.Seen.{SystemSeen, board_lines}
 use Rattle.board_core.specs.declared.turns.PlayEnd.{PlayEnd}
 use Rattle.board_play.specs.Lines.{Move, lines_of}
-use Rattle.irq_play.specs.Headline.{CutShort, Headline, FullLog}
+use Rattle.board_report.specs.Reporting.{HasRoom}
+use Rattle.board_report.specs.declared.reporting.ReportRoom.{ReportRoom}
+use Rattle.irq_play.specs.Headline.{CutShort, Headline, FullLog, RefusedStep}
 use Rattle.irq_play.specs.Report.{report_text}
 use Rattle.irq_play.specs.declared.ending.PlayedEnd.{PlayedEnd}
 use Rattle.irq_play.specs.declared.ending.PlayedEnd.TheVariants as ends
@@ -25,7 +28,8 @@ pub record IsPrinted (b : BoardSeen) (summary : Bool) (reports : List LineReport
   pub prints : WritesAll before now (report_text b summary moves) end
 
 -- What the play answers and prints, by how it ended. Nothing is printed unless the play came to its
--- end. Memory may be refused at any time; if a step was refused it, the board was played up to it.
+-- end. If a step was refused memory, the board was played up to it. Memory that was refused for
+-- anything else was refused before the first step.
 abbrev pub PlaysBoard : BoardSeen → Bool → List LineReport → Option (List ℕ) → Option (List ℕ)
     → PlayedEnd → Type 0
 PlaysBoard b summary reports before now ends.Done =
@@ -37,6 +41,20 @@ PlaysBoard b summary reports before now (ends.LogFull line len) =
 PlaysBoard b summary reports before now (ends.NoMemory wants.Step) =
     (moves : List Move) × CutShort b moves reports
 PlaysBoard b summary reports before now (ends.NoMemory wants.Making) = reports ≡ []
+
+-- If a step was refused memory, it is told which step it was; `may_want` says for which entry that
+-- is due a line may want memory though there is room.
+abbrev pub TellsStep : (Option Entry → Type 0) → BoardSeen → List LineReport → PlayedEnd → Type 0
+TellsStep may_want b reports (ends.NoMemory wants.Step) =
+    (moves : List Move) × CutShort b moves reports × RefusedStep may_want b moves reports
+TellsStep may_want b reports end = Unit {0}
+
+-- the board's lines, to which nothing has happened, and room for a report for each line
+pub record IsReady (b : BoardSeen) (s : SystemSeen) (for_reports : ReportRoom) : Type 0 where
+  pub board : s.board ≡ b
+  pub layout : s.layout ≡ layout_of b
+  pub fresh : IsFresh s
+  pub room : HasRoom (length b.lines) for_reports
 
 -- A system in which the board was played, and how the play ended. If memory was refused, the system
 -- is as the play so far left it, and a next move is due.

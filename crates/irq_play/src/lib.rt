@@ -15,6 +15,8 @@ pub mod printing;
 pub mod reporting;
 
 pub use ending::{PlayedEnd, Wanted};
-pub use playing::{PlayedBoard, PlayedSystem, play_and_print, play_system};
+pub use playing::{
+    PlayedBoard, PlayedSystem, ReadySystem, play_and_print, play_ready, play_system, ready_system,
+};
 pub use printing::print_moves;
 pub use reporting::{report_cut, report_done, report_full};

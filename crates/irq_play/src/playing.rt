@@ -1,9 +1,10 @@
 //! Plays a board, and prints it.
 ghost use Rattle.std.specs.Prelude.{◌≡◌, [], IfOk, IsTrue, false, length};
+ghost use Rattle.board_core.specs.Wanted.{PlayWants};
 ghost use Rattle.board_report.specs.Reporting.{HasRoom};
 ghost use Rattle.irq_io.specs.Faults.{Counts};
 ghost use Rattle.irq_play.specs.Ends.{is_printing, is_write_fault};
-ghost use Rattle.irq_play.specs.Played.{IsPlayed, PlaysBoard};
+ghost use Rattle.irq_play.specs.Played.{IsPlayed, IsReady, PlaysBoard, TellsStep};
 
 use crate::ending::{PlayedEnd, Wanted};
 use crate::finishing::{print_play, print_summary};
@@ -28,6 +29,15 @@ pub struct PlayedBoard {
     pub reports: Reports,
 }
 
+/// A board's lines, to which nothing has happened, and the room for their reports.
+#[derive(Drop)]
+pub struct ReadySystem<'b, L: IrqLine> {
+    /// The board's lines, without moves.
+    pub system: System<'b, L>,
+    /// Room for one report for each line of the board.
+    pub room: ReportRoom,
+}
+
 /// A board that was played, and the room for its reports.
 #[derive(Drop)]
 pub struct PlayedSystem<'b, L: IrqLine> {
@@ -42,7 +52,7 @@ pub struct PlayedSystem<'b, L: IrqLine> {
 /// Lays the board's lines over its domains, plays them by the stated order with the board's picks,
 /// and prints the play, or with `summary` a summary of it. The maker makes each line; handlers are
 /// called as they are due. Memory is taken before the first step, and by steps; none is taken once
-/// a row is printed.
+/// a row is printed. So `NoMemory(Making)` says that no step was made.
 pub fn play_and_print<O: Sink, M: MakesDomainLine, H: Handler>(
     alloc: Global,
     board: &Board,
@@ -53,18 +63,52 @@ pub fn play_and_print<O: Sink, M: MakesDomainLine, H: Handler>(
 ) -> PlayedBoard
     ensures plays { PlaysBoard board.now summary result.reports.reports (O.written out.old)
         (O.written out.new) result.end }
+    ensures step { TellsStep M.Line.may_want board.now result.reports.reports result.end }
     ensures emptied { result.end ≡ PlayedEnd.Done → O.kept out.new ≡ [] }
     ensures write_fault { Counts (O.faults out.old) (O.faults out.new) (is_write_fault result.end) }
     ensures silent { is_printing result.end ≡ false → out.new ≡ out.old }
 {
-    match play_system(alloc, board, maker, handlers) {
-        Ok(played) => report_play(board, summary, played, out),
+    match ready_system(alloc, board, maker) {
+        Ok(ready) => report_play(board, summary, play_ready(board, ready, handlers), out),
         Err(NoMemory) => unplayed(alloc),
     }
 }
 
+/// Lays the board's lines over its domains, has the maker make them, and takes the room for their
+/// reports: all that the play needs but for its steps. The only error is `NoMemory`.
+pub fn ready_system<'b, M: MakesDomainLine>(
+    alloc: Global,
+    board: &'b Board,
+    maker: &M,
+) -> Result<ReadySystem<'b, M::Line>, NoMemory>
+    ensures { IfOk result (λ ready. IsReady board.now ready.system ready.room) }
+{
+    let (domains, layout) = lay(alloc, board)?;
+    let room = ReportRoom::new(alloc, board)?;
+    let maker = OverDomains::of_board(maker, &domains, board);
+    let system = System::new(alloc, board, layout, &maker)?;
+    Ok(ReadySystem { system, room })
+}
+
+/// Plays the board by the stated order with its picks. It has no error: a step that is refused
+/// memory ends the play.
+pub fn play_ready<'b, L: IrqLine, H: Handler>(
+    board: &Board,
+    ready: ReadySystem<'b, L>,
+    handlers: &Callbacks<H>,
+) -> PlayedSystem<'b, L>
+    requires { IsReady board.now ready.system ready.room }
+    ensures played { IsPlayed board.now result.system result.end }
+    ensures room { HasRoom (length board.now.lines) result.room }
+    ensures memory { PlayWants L.may_want result.system board.now.picks result.end }
+{
+    let ReadySystem { mut system, room } = ready;
+    let end = system.play(board.picks(), handlers);
+    PlayedSystem { system, end, room }
+}
+
 /// Lays the board's lines over its domains, has the maker make them, and plays them by the stated
-/// order with the board's picks. The only error is `NoMemory` for all but the steps of the play.
+/// order with the board's picks. The only error is `NoMemory`, before the first step.
 pub fn play_system<'b, M: MakesDomainLine, H: Handler>(
     alloc: Global,
     board: &'b Board,
@@ -73,13 +117,11 @@ pub fn play_system<'b, M: MakesDomainLine, H: Handler>(
 ) -> Result<PlayedSystem<'b, M::Line>, NoMemory>
     ensures played { IfOk result (λ played. IsPlayed board.now played.system played.end) }
     ensures room { IfOk result (λ played. HasRoom (length board.now.lines) played.room) }
+    ensures memory { IfOk result (λ played.
+        PlayWants M.Line.may_want played.system board.now.picks played.end) }
 {
-    let (domains, layout) = lay(alloc, board)?;
-    let room = ReportRoom::new(alloc, board)?;
-    let maker = OverDomains::of_board(maker, &domains, board);
-    let mut system = System::new(alloc, board, layout, &maker)?;
-    let end = system.play(board.picks(), handlers);
-    Ok(PlayedSystem { system, end, room })
+    let ready = ready_system(alloc, board, maker)?;
+    Ok(play_ready(board, ready, handlers))
 }
 
 /// Hands out the reports of a play, and prints it if it came to its end.
@@ -91,8 +133,10 @@ fn report_play<O: Sink, L: IrqLine>(
 ) -> PlayedBoard
     requires played { IsPlayed board.now played.system played.end }
     requires room { HasRoom (length board.now.lines) played.room }
+    requires memory { PlayWants L.may_want played.system board.now.picks played.end }
     ensures plays { PlaysBoard board.now summary result.reports.reports (O.written out.old)
         (O.written out.new) result.end }
+    ensures step { TellsStep L.may_want board.now result.reports.reports result.end }
     ensures emptied { result.end ≡ PlayedEnd.Done → O.kept out.new ≡ [] }
     ensures write_fault { Counts (O.faults out.old) (O.faults out.new) (is_write_fault result.end) }
     ensures silent { is_printing result.end ≡ false → out.new ≡ out.old }

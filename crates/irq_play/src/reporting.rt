@@ -2,7 +2,8 @@
 ghost use Rattle.std.specs.Prelude.{◌≡◌, ◌≤◌, All, length};
 ghost use Rattle.board_report.specs.Reporting.{HasRoom};
 ghost use Rattle.board_report.specs.Summable.{IsSummable};
-ghost use Rattle.irq_play.specs.Headline.{CutShort, FullLog, Headline};
+ghost use Rattle.board_core.specs.Wanted.{PlayWants};
+ghost use Rattle.irq_play.specs.Headline.{CutShort, FullLog, Headline, RefusedStep};
 ghost use Rattle.irq_play.specs.Played.{IsPlayed};
 
 use board_core::{PlayEnd, System};
@@ -44,7 +45,9 @@ pub fn report_full<L: IrqLine>(
 pub fn report_cut<L: IrqLine>(board: &Board, system: System<'_, L>, room: ReportRoom) -> Reports
     requires played { IsPlayed board.now system PlayEnd.NoMemory }
     requires room { HasRoom (length board.now.lines) room }
-    ensures { CutShort board.now system.entry.log result.reports }
+    ensures cut { CutShort board.now system.entry.log result.reports }
+    ensures step { PlayWants L.may_want system.entry board.now.picks PlayEnd.NoMemory
+        → RefusedStep L.may_want board.now system.entry.log result.reports }
 {
     board.is_board();
     hand_out(board, system, room)

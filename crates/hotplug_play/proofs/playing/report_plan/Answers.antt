@@ -8,4 +8,4 @@ returns-in-Full-clause-plays g c b vectors es plan =
 
 pub returns-in-NoMemory-clause-plays : goal.returns-in-NoMemory-clause-plays
 returns-in-NoMemory-clause-plays g c b vectors es plan =
-    cut b vectors es c.args.plan.now.fleet c.args.plan.now.board plan c.args.played.system.log c.report_cut.result.reports c.report_cut.ensures
+    cut b vectors es c.args.plan.now.fleet c.args.plan.now.board plan c.args.played.system.log c.report_cut.result.reports c.report_cut.ensures.cut

@@ -6,6 +6,7 @@ use Rattle.board_core.specs.Placing.{HaveRoom, ArePlaced, AreLengths}
 use Rattle.board_core.specs.ReadyFor.{IsReadyFor}
 use Rattle.board_core.specs.Seen.{board_lines}
 use Rattle.board_core.proofs.Placed.{kept_numbers, kept_few_lines, kept_room, placed_few, placed_system, walk_now}
+use Rattle.board_core.proofs.Pieces.{none_begun}
 use Rattle.board_core.proofs.system.System.of_lines.Goals as goal
 
 pub make_scripts-requires-clause-lines : goal.make_scripts-requires-clause-lines
@@ -60,4 +61,5 @@ invariant_of-result g c =
           (subst (λ xs. AreLengths (map f xs) c.lengths_of-begun.result) c.deref-9.ensures.value c.lengths_of-begun.ensures) c.new.ensures.items;
       line_numbers = c.in_ok-line_numbers.ensures ∙ ap (λ xs. numbers_of_lines (map f xs)) c.deref-2.ensures.value;
       driver_numbers = c.in_ok-driver_numbers.ensures;
+      pieced = none_begun c.new.result.items _ c.new.ensures.items;
     }

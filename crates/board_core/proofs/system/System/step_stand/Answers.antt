@@ -1,7 +1,7 @@
 use Rattle.std.proofs.Common.{◌<◌, IfSome, map, length, sym, ap, subst, arith}
 use Rattle.std.proofs.Math.ListN.{length-map}
 use Rattle.board_core.specs.Refreshed.{IsRefreshed}
-use Rattle.board_core.proofs.InSystem.{within, few, script_within, line_within, part_within, scripts_within, driver_within, kept_after, steps_so}
+use Rattle.board_core.proofs.InSystem.{within, few, script_within, line_within, part_within, scripts_within, driver_within, kept_after, steps_so, wants_so}
 use Rattle.board_core.proofs.system.System.step_stand.Goals as goal
 
 pub index-requires : goal.index-requires
@@ -28,7 +28,7 @@ refresh-requires-clause-line g c =
     s.scripts.items _ c.self.invariant c.args.self.now (sym c.self.view_is) c.args.actor c.args.stand c.requires
     c.index.result.now c.index.ensures c.definition.result.now c.definition.ensures c.step_place-stepped.result
     (map g.L.IrqLine.seen c.step_place-stepped.new.lines.items) c.step_place-stepped.new.order.items
-    c.step_place-stepped.ensures in
+    c.step_place-stepped.ensures.stepped in
     let n = length-map c.step_place-stepped.new.lines.items g.L.IrqLine.seen in
     let v = ap (λ xs. length xs) c.deref.ensures.value in
     omega (arith, w, n, v)
@@ -39,7 +39,7 @@ refresh-requires-clause-line_part g c = let s = c.self.inside in
     s.scripts.items _ c.self.invariant c.args.self.now (sym c.self.view_is) c.args.actor c.args.stand c.requires
     c.index.result.now c.index.ensures c.definition.result.now c.definition.ensures c.step_place-stepped.result
     (map g.L.IrqLine.seen c.step_place-stepped.new.lines.items) c.step_place-stepped.new.order.items
-    c.step_place-stepped.ensures
+    c.step_place-stepped.ensures.stepped
 
 pub refresh-requires-clause-script : goal.refresh-requires-clause-script
 refresh-requires-clause-script g c =
@@ -49,7 +49,7 @@ refresh-requires-clause-script g c =
     s.scripts.items _ c.self.invariant c.args.self.now (sym c.self.view_is) c.args.actor c.args.stand c.requires
     c.index.result.now c.index.ensures c.definition.result.now c.definition.ensures c.step_place-stepped.result
     (map g.L.IrqLine.seen c.step_place-stepped.new.lines.items) c.step_place-stepped.new.order.items
-    c.step_place-stepped.ensures c.advance.new.scripts.items c.advance.ensures)
+    c.step_place-stepped.ensures.stepped c.advance.new.scripts.items c.advance.ensures)
 
 pub refresh-requires-clause-driver : goal.refresh-requires-clause-driver
 refresh-requires-clause-driver g c = let s = c.self.inside in
@@ -57,7 +57,7 @@ refresh-requires-clause-driver g c = let s = c.self.inside in
     s.scripts.items _ c.self.invariant c.args.self.now (sym c.self.view_is) c.args.actor c.args.stand c.requires
     c.index.result.now c.index.ensures c.definition.result.now c.definition.ensures c.step_place-stepped.result
     (map g.L.IrqLine.seen c.step_place-stepped.new.lines.items) c.step_place-stepped.new.order.items
-    c.step_place-stepped.ensures c.advance.new.scripts.items c.advance.ensures
+    c.step_place-stepped.ensures.stepped c.advance.new.scripts.items c.advance.ensures
 
 pub invariant_of-self : goal.invariant_of-self
 invariant_of-self g c =
@@ -66,17 +66,24 @@ invariant_of-self g c =
     s.scripts.items _ c.self.invariant c.args.self.now (sym c.self.view_is) c.args.actor c.args.stand c.requires
     c.index.result.now c.index.ensures c.definition.result.now c.definition.ensures c.step_place-stepped.result
     (map g.L.IrqLine.seen c.step_place-stepped.new.lines.items) c.step_place-stepped.new.order.items
-    c.step_place-stepped.ensures c.advance.new.scripts.items c.advance.ensures c.refresh.new.ready
+    c.step_place-stepped.ensures.stepped c.advance.new.scripts.items c.advance.ensures c.refresh.new.ready
     (subst (λ xs. IsRefreshed (map g.L.IrqLine.seen xs) c.advance.new.scripts.items c.args.stand.line
     c.args.stand.script s.ready c.refresh.new.ready) c.deref.ensures.value
     (subst (λ ss. IsRefreshed (map g.L.IrqLine.seen c.deref.result.now) ss c.args.stand.line c.args.stand.script s.ready
-    c.refresh.new.ready) c.deref-2.ensures.value c.refresh.ensures))
+    c.refresh.new.ready) c.deref-2.ensures.value c.refresh.ensures)) _ c.step_place-stepped.ensures.pieced
 
-pub returns : goal.returns
-returns g c =
+pub returns-clause-steps : goal.returns-clause-steps
+returns-clause-steps g c =
     let s = c.self.inside in
     steps_so g.L.IrqLine.seen s.lines.items s.board.now c.is_board.ensures.board s.layout s.order.items s.scripts.items
     _ c.self.invariant c.args.self.now (sym c.self.view_is) c.args.actor c.args.stand c.requires c.index.result.now
     c.index.ensures c.definition.result.now c.definition.ensures c.step_place-stepped.result
     (map g.L.IrqLine.seen c.step_place-stepped.new.lines.items) c.step_place-stepped.new.order.items
-    c.step_place-stepped.ensures c.turn_of.result c.turn_of.ensures
+    c.step_place-stepped.ensures.stepped c.turn_of.result c.turn_of.ensures
+
+pub returns-clause-memory : goal.returns-clause-memory
+returns-clause-memory g c =
+    let s = c.self.inside in
+    wants_so g.L.IrqLine.seen s.lines.items s.board.now c.is_board.ensures.board s.layout s.order.items s.scripts.items
+    _ c.self.invariant c.args.self.now (sym c.self.view_is) c.args.actor c.args.stand c.requires g.L.IrqLine.may_want
+    c.definition.result.now.line c.step_place-stepped.result c.turn_of.result c.turn_of.ensures c.step_place-stepped.ensures.memory

@@ -22,7 +22,7 @@ invariant_of-self g c =
     (subst (λ (d : DemuxSeen). AreKept d.board (board_lines d.lines)) v c.is_kept.ensures.kept) c.args.line
     c.step_on-turn.result
     (subst (λ (d : DemuxSeen). IsSome (open_status (reverse d.log))) v c.requires.open)
-    (subst (λ (d : DemuxSeen). number_of (flow_line (board_lines d.lines) cpu_0) ≡ Some c.args.line) v c.requires.flow) c.step_on-turn.ensures).0
+    (subst (λ (d : DemuxSeen). number_of (flow_line (board_lines d.lines) cpu_0) ≡ Some c.args.line) v c.requires.flow) c.step_on-turn.ensures.steps).0
 
 pub returns : goal.returns
 returns g c =
@@ -34,4 +34,4 @@ returns g c =
     (subst (λ (d : DemuxSeen). AreKept d.board (board_lines d.lines)) v c.is_kept.ensures.kept) c.args.line
     c.step_on-turn.result
     (subst (λ (d : DemuxSeen). IsSome (open_status (reverse d.log))) v c.requires.open)
-    (subst (λ (d : DemuxSeen). number_of (flow_line (board_lines d.lines) cpu_0) ≡ Some c.args.line) v c.requires.flow) c.step_on-turn.ensures).1
+    (subst (λ (d : DemuxSeen). number_of (flow_line (board_lines d.lines) cpu_0) ≡ Some c.args.line) v c.requires.flow) c.step_on-turn.ensures.steps).1

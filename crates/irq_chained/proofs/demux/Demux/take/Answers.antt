@@ -36,7 +36,7 @@ invariant_of-self g c =
     (subst (λ (d : DemuxSeen). IsTrue (is_take_due cpu_0 (slice_get (board_lines d.lines) c.args.place))) v c.requires.due)
     (subst (λ (d : DemuxSeen). next_of d (actors.Cpu cpu_0)
     ≡ child (due_on (slice_get (board_lines d.lines) c.args.place) (actors.Cpu cpu_0))) v c.requires.next)
-    c.number_at-line.ensures c.walk_after.ensures c.step_on-turn.ensures).0
+    c.number_at-line.ensures c.walk_after.ensures c.step_on-turn.ensures.steps).0
 
 pub returns : goal.returns
 returns g c =
@@ -52,4 +52,4 @@ returns g c =
     (subst (λ (d : DemuxSeen). IsTrue (is_take_due cpu_0 (slice_get (board_lines d.lines) c.args.place))) v c.requires.due)
     (subst (λ (d : DemuxSeen). next_of d (actors.Cpu cpu_0)
     ≡ child (due_on (slice_get (board_lines d.lines) c.args.place) (actors.Cpu cpu_0))) v c.requires.next)
-    c.number_at-line.ensures c.walk_after.ensures c.step_on-turn.ensures).1
+    c.number_at-line.ensures c.walk_after.ensures c.step_on-turn.ensures.steps).1

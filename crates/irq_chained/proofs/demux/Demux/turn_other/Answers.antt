@@ -16,7 +16,7 @@ invariant_of-self g c =
     (other_turn s.system c.turn-turn.new.self s.marks.items s.walk _ _ c.self.invariant c.show.ensures
     (subst (λ (d : DemuxSeen). IsBoard d.board) v c.is_kept.ensures.board)
     (subst (λ (d : DemuxSeen). AreKept d.board (board_lines d.lines)) v c.is_kept.ensures.kept) c.args.actor
-    c.turn-turn.result c.requires c.turn-turn.ensures).0
+    c.turn-turn.result c.requires c.turn-turn.ensures.turns).0
 
 pub returns : goal.returns
 returns g c =
@@ -26,4 +26,4 @@ returns g c =
     (other_turn s.system c.turn-turn.new.self s.marks.items s.walk _ _ c.self.invariant c.show.ensures
     (subst (λ (d : DemuxSeen). IsBoard d.board) v c.is_kept.ensures.board)
     (subst (λ (d : DemuxSeen). AreKept d.board (board_lines d.lines)) v c.is_kept.ensures.kept) c.args.actor
-    c.turn-turn.result c.requires c.turn-turn.ensures).1
+    c.turn-turn.result c.requires c.turn-turn.ensures.turns).1

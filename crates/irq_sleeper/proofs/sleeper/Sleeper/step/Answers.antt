@@ -10,4 +10,4 @@ returns g c =
     let s = c.self.inside in
     subst (λ (x : SleeperSeen). StepsBy x (move_of x.system c.args.actor) c.heed.result c.heed.new.self) c.self.view_is
     (step_is (record { system = s.system; watch = s.watch; asleep = s.asleep; wake = s.wake }) c.turn-turn.new.self
-    c.heed.new.self c.args.actor c.turn-turn.result c.heed.result c.turn-turn.ensures c.heed.ensures)
+    c.heed.new.self c.args.actor c.turn-turn.result c.heed.result c.turn-turn.ensures.turns c.heed.ensures)

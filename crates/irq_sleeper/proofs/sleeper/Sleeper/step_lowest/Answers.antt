@@ -10,5 +10,5 @@ returns g c =
     let s = c.self.inside in
     subst (λ (x : SleeperSeen). StepsBy x (lowest_move x.system) c.heed.result c.heed.new.self) c.self.view_is
     (lowest_is (record { system = s.system; watch = s.watch; asleep = s.asleep; wake = s.wake })
-    c.turn_lowest-turn.new.self c.heed.new.self c.turn_lowest-turn.result c.heed.result c.turn_lowest-turn.ensures
+    c.turn_lowest-turn.new.self c.heed.new.self c.turn_lowest-turn.result c.heed.result c.turn_lowest-turn.ensures.turns
     c.heed.ensures)

@@ -1,0 +1,90 @@
+-- For which step of a system memory was refused.
+use Rattle.std.proofs.Common.{◌≡◌, ℕ, ◌<◌, IsSome, Option, Some, List, [], ◌∷◌, length, reverse, get_or, drop, slice_get, sym, ◌∙◌}
+use Rattle.std.proofs.Common.{subst, arith, ◌+◌}
+use Rattle.irq_base.specs.declared.entries.Actor.{Actor}
+use Rattle.irq_base.specs.declared.entries.Actor.TheVariants as actors
+use Rattle.irq_base.specs.declared.entries.Entry.{Entry}
+use Rattle.board_play.specs.Lines.{BoardLine, Move}
+use Rattle.board_play.specs.Order.{due_move, line_for}
+use Rattle.board_play.specs.Play.{choice}
+use Rattle.board_core.specs.Playing.{IsUnderway}
+use Rattle.board_core.specs.Seen.{SystemSeen, board_lines}
+use Rattle.board_core.specs.Stands.{IsAt}
+use Rattle.board_core.specs.Turns.{CanMove, MayMove, Turns, TurnsBy, lowest_move, move_of}
+use Rattle.board_core.specs.Wanted.{HasSpare, LowestWants, WantedMemory, Wants, WantsLowest, WantsNext, WantsOn}
+use Rattle.board_core.specs.declared.stands.Stand.{Stand}
+use Rattle.board_core.specs.declared.turns.Turn.{Turn}
+use Rattle.board_core.specs.declared.turns.Turn.TheVariants as turns
+use Rattle.board_core.proofs.Underway.{at_pick, lowest_next, some_choice, with_move}
+
+module _ (may_want : Option Entry → Type 0) where
+  -- where the actor steps
+  pub wants_there : (s : SystemSeen) (a : Actor) (stand : Stand) (turn : Turn) → IsAt s a stand
+      → WantsOn may_want s (slice_get (board_lines s.lines) stand.line) a turn → Wants may_want s a turn
+  wants_there s a stand turn at wants = subst (λ (o : Option BoardLine). WantsOn may_want s o a turn) at.line.1 wants
+
+  pub lowest_wants : (s : SystemSeen) (a : Actor) (turn : Turn) → lowest_move s ≡ move_of s a → Wants may_want s a turn → LowestWants may_want s turn
+  lowest_wants s a (turns.Moved line e) lowest wants = tt
+  lowest_wants s a turns.NotYet lowest wants = tt
+  lowest_wants s a (turns.Full line len) lowest wants = tt
+  lowest_wants s a turns.NoMemory lowest wants = record { actor = a; lowest = lowest; step = wants }
+
+  -- the lowest actor's turn ends a settling
+  pub lowest_ends : (old new : SystemSeen) (turn : Turn) → turn ≡ turns.NoMemory → TurnsBy old (lowest_move old) turn new
+      → LowestWants may_want old turn → WantsLowest may_want new
+  lowest_ends old new turn same t wants =
+      let refused = subst (λ (x : Turn). TurnsBy old (lowest_move old) x new) same t in
+      subst (λ (s : SystemSeen). WantsLowest may_want s) (sym refused.1) (subst (λ (x : Turn). LowestWants may_want old x) same wants)
+
+  may_move : (s : SystemSeen) (a : Actor) → IsSome (move_of s a) → MayMove s a
+  may_move s (actors.Thread line d) some = (d, omega arith, some)
+  may_move s (actors.Cpu c) some = some
+  may_move s (actors.Driver r) some = some
+
+  -- there is a next move, whatever picks are left
+  still_some : (s : SystemSeen) (picks rest : List Actor) (u : IsUnderway s picks rest) → IsSome (lowest_move s)
+      → IsSome (choice s.board (board_lines s.lines) u.left)
+  still_some s picks rest u some = subst (λ (o : Option (Move × List Actor)). IsSome o) (sym u.next) (some_choice s rest some)
+
+  -- the next move as the lines of the moves so far have it
+  next_wants : (s : SystemSeen) (picks rest : List Actor) (u : IsUnderway s picks rest) → IsSome (lowest_move s) → (a : Actor)
+      → MayMove s a
+      → ((m : Move) → move_of s a ≡ Some m → (after : List Actor) × (choice s.board (board_lines s.lines) rest ≡ Some (m, after)))
+      → WantedMemory may_want (HasSpare s.lines) (length s.log) (line_for s.board (board_lines s.lines) a) a
+      → WantsNext may_want (HasSpare s.lines) s.board picks s.log
+  next_wants s picks rest u some a can next step =
+      let g = reverse s.log in
+      record {
+        left = u.left;
+        so_far = u.chosen;
+        some = subst (λ (ls : List BoardLine). IsSome (choice s.board ls u.left)) u.lines (still_some s picks rest u some);
+        actor = a;
+        can = subst (λ (ls : List BoardLine). CanMove s.board ls a) u.lines can;
+        next = subst (λ (ls : List BoardLine). (m : Move) → due_move s.board ls a ≡ Some m
+            → (after : List Actor) × (choice s.board ls u.left ≡ Some (m, after))) u.lines
+            (λ m due. ((next m due).0, u.next ∙ (next m due).1));
+        step = subst (λ (ls : List BoardLine). WantedMemory may_want (HasSpare s.lines) (length s.log) (line_for s.board ls a) a) u.lines step;
+      }
+
+  pub lowest_ends_play : (old new : SystemSeen) (picks : List Actor) (turn : Turn) → IsUnderway old picks []
+      → turn ≡ turns.NoMemory → TurnsBy old (lowest_move old) turn new → LowestWants may_want old turn
+      → WantsNext may_want (HasSpare new.lines) new.board picks new.log
+  lowest_ends_play old new picks turn u same t wants =
+      let refused = subst (λ (x : Turn). TurnsBy old (lowest_move old) x new) same t in
+      let low = subst (λ (x : Turn). LowestWants may_want old x) same wants in
+      subst (λ (s : SystemSeen). WantsNext may_want (HasSpare s.lines) s.board picks s.log) (sym refused.1)
+      (next_wants old picks [] u refused.0 low.actor
+      (may_move old low.actor (subst (λ (o : Option Move). IsSome o) low.lowest refused.0))
+      (λ m due. ([], lowest_next old m (low.lowest ∙ due))) low.step)
+
+  -- a pick's turn ends a play
+  pub pick_ends_play : (old new : SystemSeen) (picks : List Actor) (i : ℕ) (d : Actor) (turn : Turn) → i < length picks
+      → IsUnderway old picks (drop i picks) → turn ≡ turns.NoMemory → Turns old (get_or picks i d) turn new
+      → Wants may_want old (get_or picks i d) turn → WantsNext may_want (HasSpare new.lines) new.board picks new.log
+  pick_ends_play old new picks i d turn within u same t wants =
+      let pick : Actor = get_or picks i d in
+      let refused = subst (λ (x : Turn). Turns old pick x new) same t in
+      subst (λ (s : SystemSeen). WantsNext may_want (HasSpare s.lines) s.board picks s.log) (sym refused.1)
+      (next_wants old picks (pick ∷ drop (i + 1) picks) (at_pick old picks i d within u) refused.0.somebody pick refused.0.actor
+      (λ m due. (drop (i + 1) picks, with_move old pick (drop (i + 1) picks) m due))
+      (subst (λ (x : Turn). Wants may_want old pick x) same wants))
