@@ -1,11 +1,13 @@
 -- What a first pass knows of the actors that it met.
 use Rattle.std.proofs.Common.{◌≡◌, ℕ, suc, ◌+◌, Bool, true, false, cond, IfSome, Option, Some, List, [], ◌∷◌, All}
-use Rattle.std.proofs.Common.{Contains, slice_get, refl, sym, ap, subst, ◌∙◌, inl, inr, arith}
+use Rattle.std.proofs.Common.{Contains, length, nat_lt, slice_get, refl, sym, ap, subst, ◌∙◌, inl, inr, arith}
 use Rattle.std.proofs.lemmas.Bool.{false≢true}
 use Rattle.std.proofs.lemmas.List.Elements.{All-nil, All-cons, All-weaker, All-contains}
 use Rattle.std.proofs.lemmas.Option.{same_Some}
 use Rattle.irq_base.specs.Who.{actor_of}
 use Rattle.irq_base.specs.declared.numbers.LineNo.{LineNo}
+use Rattle.irq_base.specs.declared.lines.LineDef.{LineDef}
+use Rattle.irq_model.specs.Legal.{IsLegal}
 use Rattle.irq_base.specs.declared.entries.Actor.{Actor}
 use Rattle.irq_base.specs.declared.entries.Entry.{Entry}
 use Rattle.line_lock.specs.Knows.{is_among, without_of, forked, Meets, IsKnown}
@@ -49,6 +51,15 @@ module _ (line : LineNo) (k other new : Known) (who : Actor) (m : Meets line k o
   -- and is another
   pub others_met : (a : Actor) (first : Known) → other.actor ≡ Some who → HasMet line k a first → a ≡ who → ⊥
   others_met a first is h same = false≢true (sym h.back ∙ (ap (λ x. is_among x k.out) same ∙ was_out is))
+
+-- what is seen then was seen by one of the two
+pub met_legal : (def : LineDef) (k other new : Known) → Meets def.line k other new → IsLegal def k.seen → IsLegal def other.seen → IsLegal def new.seen
+met_legal def k other new m one two =
+    subst (λ (h : List Entry). IsLegal def h) (sym (ap (λ (x : Known). x.seen) m.whole)) (by_test (nat_lt (length k.seen) (length other.seen)))
+  where
+    by_test : (t : Bool) → IsLegal def (cond t other.seen k.seen)
+    by_test true = two
+    by_test false = one
 
 other_than : (k : Known) (who a : Actor) → is_among who k.given ≡ false → is_among a k.given ≡ true → same_actor a who ≡ false
 other_than k who a fresh given = elim (same_or_not a who) [

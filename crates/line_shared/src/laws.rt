@@ -65,3 +65,11 @@ pub fn free_is_final()
         → stands (is_freed d) (links_dev d) (reverse seen) ≡ true → is_run_of d e ≡ true
         → list_any (links_dev d) more ≡ true }
 {}
+
+/// What a first pass has seen is legal after it met a pass, if what either had seen was. A line's
+/// steps leave a legal history, so this holds of whatever passes have seen.
+#[tactic(auto, using(crate::proofs::MetLaws::met_legal))]
+pub fn met_stays_legal()
+    ensures law { (def : LineDef) (k other new : Known) → Meets def.line k other new
+        → IsLegal def k.seen → IsLegal def other.seen → IsLegal def new.seen }
+{}

@@ -111,6 +111,8 @@ module _ (wanted : LineDef → List Entry → Actor → Type 0) where
           idle = idle;
           actor = actor
               ∙ a.is_post.actor;
+          legal = t.legal a.is_post.legal;
+          own = t.own a.is_post.own;
           rests = λ h. rests_idle a.line.def j.actor a.post.pass.knows after.pass.knows tried t
               (sym rests ∙ h);
         };

@@ -21,6 +21,7 @@ use Rattle.irq_model.specs.Legal.{IsLegalPast}
 use Rattle.irq_steps.proofs.Same.{driver_from_same}
 use Rattle.std.specs.List.{list_any}
 use Rattle.std.proofs.lemmas.List.Sorted.{list_any-IsPermutation}
+use Rattle.irq_laws.proofs.Chosen.{the_same}
 use Rattle.irq_laws.proofs.Lists.{both_ways}
 use Rattle.board_def.specs.Rules.{IsBoard, has_driver}
 use Rattle.board_def.specs.Seen.{BoardSeen}
@@ -32,14 +33,15 @@ use Rattle.board_play.specs.Order.{cpus_of, drivers_of}
 use Rattle.board_play.proofs.Counting.{completed}
 use Rattle.board_play.proofs.Members.{def_there}
 use Rattle.board_play.proofs.OfBoard.{calls_fit}
-use Rattle.line_lock.specs.Knows.{is_among}
+use Rattle.line_lock.specs.Knows.{BeginsWith, is_among}
 use Rattle.line_lock.specs.Passes.{LockSeen, PassSeen}
 use Rattle.line_lock.specs.Placed.{same_actor}
 use Rattle.line_lock.proofs.Actors.{same_self_actor}
 use Rattle.workers.specs.Fit.{IsFirst, actors_on, has_worker, workers_of, Fit}
 use Rattle.workers.specs.Gathers.{board_line, board_lines, IsHome, AreHome, seen_line, seen_lines, AreOut, Gathers, IsFinal, AreFinal, AreSound}
-use Rattle.workers.specs.Seen.{JobSeen, JobsSeen}
-use Rattle.workers.proofs.Lists.{at_snoc, of_map, there_or, none_left, length_snoc}
+use Rattle.workers.specs.Gathers.{IsMetIn, HasAllOf, IsSeenIn, AreBack, IsSeenBy, AreGathered}
+use Rattle.workers.specs.Seen.{PostSeen, JobSeen, JobsSeen}
+use Rattle.workers.proofs.Lists.{at_map, at_snoc, of_map, there, there_or, within, none_left, length_snoc}
 use Rattle.workers.proofs.Manning.{map_more}
 
 -- the passes so far are back in their lines, and the others are left, the first of them last
@@ -247,6 +249,68 @@ are_kept board locks firsts lines isb defs home g are sound =
             none_is_none : ◌≡◌ {A = Option (Call × ℕ)} None (Some (c, suc n)) → ⊥
             none_is_none h = cc
 
+-- ---- the histories are what was seen
+
+module _ (s : JobsSeen) (firsts : List PassSeen) (lines : List LineSeen) (are : board_lines lines ≡ seen_lines firsts)
+    (b : AreBack s.board s.jobs s.firsts firsts) where
+  same_line_as : (x : LineSeen) (p : PassSeen) → seen_line p ≡ board_line x → (x.def ≡ p.def) × (x.entries ≡ p.knows.seen)
+  same_line_as x p is = (
+    sym (ap (λ (y : BoardLine). y.def) is),
+    sym (reverse-reverse x.entries) ∙ (sym (ap (λ (y : BoardLine). reverse y.past) is) ∙ reverse-reverse p.knows.seen),
+  )
+
+  pass_of : (k : ℕ) (x : LineSeen) → slice_get lines k ≡ Some x → (p : PassSeen) × (slice_get firsts k ≡ Some p) × (x.def ≡ p.def) × (x.entries ≡ p.knows.seen)
+  pass_of k x at =
+      let p = of_map seen_line firsts k (board_line x) (ap (λ (ls : List BoardLine). slice_get ls k) (sym are) ∙ at_map board_line lines k x at) in
+      let same = same_line_as x p.0 p.2 in (p.0, p.1, same.0, same.1)
+
+  line_of : (k : ℕ) (p : PassSeen) → slice_get firsts k ≡ Some p → (x : LineSeen) × (slice_get lines k ≡ Some x) × (x.def ≡ p.def) × (x.entries ≡ p.knows.seen)
+  line_of k p at =
+      let x = of_map board_line lines k (seen_line p) (ap (λ (ls : List BoardLine). slice_get ls k) are ∙ at_map seen_line firsts k p at) in
+      let same = same_line_as x.0 p (sym x.2) in (x.0, x.1, same.0, same.1)
+
+  seen_by : (k : ℕ) (x : LineSeen) → slice_get lines k ≡ Some x → IsSeenBy s k x.entries
+  seen_by k x at =
+      let p = pass_of k x at in
+      let q = b.lines k p.0 p.1 in
+      elim q.3 [
+        | inl first ↦ inl (q.0, q.1, p.3 ∙ first)
+        | inr its ↦ inr (subst (λ (es : List Entry). IsSeenIn s.jobs k es) (sym p.3) its)
+      ]
+
+  firsts_seen : length s.firsts ≡ length firsts → (k : ℕ) (q : PassSeen) → slice_get s.firsts k ≡ Some q
+      → IsSomeAnd (slice_get lines k) (λ x. BeginsWith x.entries q.knows.seen)
+  firsts_seen as_many k q at =
+      let w = within s.firsts k q at in
+      let p = there firsts k (omega (arith, w, as_many)) in
+      let x = line_of k p.0 p.1 in
+      let r = b.lines k p.0 p.1 in
+      subst (λ (o : Option LineSeen). IsSomeAnd o (λ x. BeginsWith x.entries q.knows.seen)) (sym x.1)
+      (subst (λ (es : List Entry). BeginsWith es q.knows.seen) (sym x.3)
+      (subst (λ (y : PassSeen). BeginsWith p.0.knows.seen y.knows.seen) (the_same r.0 q (sym r.1 ∙ at)) r.2))
+
+  each_has : (i place : ℕ) (j : JobSeen) (t : PostSeen) → slice_get s.jobs i ≡ Some j → slice_get j.posts place ≡ Some t
+      → IsSomeAnd (slice_get lines (j.first + place)) (λ x. HasAllOf x.def x.entries j.actor t.pass)
+  each_has i place j t at_job at_post = by_option (slice_get firsts (j.first + place)) refl (b.each i place j t at_job at_post)
+    where
+      by_option : (o : Option PassSeen) → slice_get firsts (j.first + place) ≡ o
+          → IsSomeAnd o (λ p. HasAllOf p.def p.knows.seen j.actor t.pass × IsMetIn j.actor p)
+          → IsSomeAnd (slice_get lines (j.first + place)) (λ x. HasAllOf x.def x.entries j.actor t.pass)
+      by_option None at all = absurd all
+      by_option (Some p) at all =
+          let x = line_of (j.first + place) p at in
+          subst (λ (o : Option LineSeen). IsSomeAnd o (λ x. HasAllOf x.def x.entries j.actor t.pass)) (sym x.1)
+          (subst (λ (d : LineDef). HasAllOf d x.0.entries j.actor t.pass) (sym x.2)
+          (subst (λ (es : List Entry). HasAllOf p.def es j.actor t.pass) (sym x.3) all.0))
+
+  pub are_gathered : length s.firsts ≡ length firsts → AreGathered s lines
+  are_gathered as_many = record {
+    seen = seen_by;
+    firsts = firsts_seen as_many;
+    each = each_has;
+    drivers = λ i j r at is. subst (λ (ls : List BoardLine). IsUpTo s.board.calls ls r j.at) (sym are) (b.drivers i j r at is).1;
+  }
+
 -- ---- the same, as the code has it
 
 pub home_at : (lines here : List LockSeen) (s : JobsSeen) (firsts : List PassSeen) → here ≡ lines → firsts ≡ s.firsts → Fit lines s → AreHome here firsts
@@ -269,3 +333,22 @@ pub kept_result : {A E : Type 0} (f : A → List LineSeen) (r : Result A E) (boa
 kept_result f (Ok all) board lines here firsts isb same defs home g are sound
     = are_kept board here firsts (f all) isb (ap (map (λ (l : LockSeen). l.def)) same ∙ defs) home g are sound
 kept_result f (Err e) board lines here firsts isb same defs home g are sound = tt
+
+pub back_of : (lines here : List LockSeen) (s : JobsSeen) (jobs : List JobSeen) (firsts new : List PassSeen)
+    → here ≡ lines → jobs ≡ s.jobs → firsts ≡ s.firsts → Fit lines s
+    → ((board : BoardSeen) → Gathers board here jobs firsts → AreBack board jobs firsts new) → AreBack s.board s.jobs s.firsts new
+back_of lines here s jobs firsts new same are_jobs are fit on =
+    subst (λ (ps : List PassSeen). AreBack s.board s.jobs ps new) are
+    (subst (λ (js : List JobSeen). AreBack s.board js firsts new) are_jobs
+    (on s.board
+    (subst (λ (ls : List LockSeen). Gathers s.board ls jobs firsts) (sym same)
+    (subst (λ (js : List JobSeen). Gathers s.board lines js firsts) (sym are_jobs)
+    (subst (λ (ps : List PassSeen). Gathers s.board lines s.jobs ps) (sym are) (gathers_first lines s fit))))))
+
+pub gathered_result : {A E : Type 0} (f : A → List LineSeen) (r : Result A E) (lines here : List LockSeen) (s : JobsSeen)
+    (firsts : List PassSeen) → here ≡ lines → Fit lines s → AreHome here firsts → AreBack s.board s.jobs s.firsts firsts
+    → IfOk r (λ all. board_lines (f all) ≡ seen_lines firsts) → IfOk r (λ all. AreGathered s (f all))
+gathered_result f (Ok all) lines here s firsts same fit home back are =
+    are_gathered s firsts (f all) are back
+    (fit.firsts.as_many ∙ (ap (λ (ls : List LockSeen). length ls) (sym same) ∙ sym home.as_many))
+gathered_result f (Err e) lines here s firsts same fit home back are = tt

@@ -1,28 +1,67 @@
 -- One job's passes come back.
-use Rattle.std.proofs.Common.{◌≡◌, ℕ, ◌+◌, ◌<◌, ◌≤◌, ◌⊎◌, inl, inr, Bool, true, false, ◌&&◌, cond, nat_le, nat_lt}
+use Rattle.std.proofs.Common.{◌≡◌, ℕ, zero, suc, ◌+◌, ◌<◌, ◌≤◌, ◌⊎◌, inl, inr, Bool, true, false, ◌&&◌, cond, nat_le, nat_lt}
 use Rattle.std.proofs.Common.{IfSome, ◌-◌, IsSomeAnd, Option, Some, None, List, [], ◌∷◌, ◌++◌, map, length, reverse}
-use Rattle.std.proofs.Common.{slice_get, refl, sym, ap, ◌∙◌, subst, arith}
+use Rattle.std.proofs.Common.{slice_get, refl, sym, ap, ◌∙◌, subst, arith, append-nil, append_assoc}
 use Rattle.std.proofs.lemmas.Bool.{false≢true, and_parts}
 use Rattle.irq_base.specs.declared.entries.Actor.{Actor}
 use Rattle.irq_base.specs.declared.entries.Actor.TheVariants as actors
 use Rattle.irq_base.specs.declared.numbers.DriverNo.{DriverNo}
+use Rattle.irq_base.specs.declared.entries.Entry.{Entry}
+use Rattle.irq_base.specs.declared.lines.LineDef.{LineDef}
+use Rattle.irq_laws.proofs.Chosen.{the_same}
 use Rattle.irq_model.specs.Due.{entries_by}
 use Rattle.board_def.specs.Rules.{has_driver}
 use Rattle.board_def.specs.Seen.{BoardSeen}
 use Rattle.board_play.specs.Kept.{IsUpTo}
 use Rattle.board_play.specs.Lines.{BoardLine}
-use Rattle.line_lock.specs.Knows.{is_among, without_of}
+use Rattle.line_lock.specs.Knows.{BeginsWith, is_among, longer, without_of}
 use Rattle.line_lock.specs.Passes.{LockSeen, PassSeen}
 use Rattle.line_lock.specs.Placed.{same_actor, placed, placed_of}
 use Rattle.line_lock.specs.declared.view.Known.{Known}
 use Rattle.line_lock.proofs.Actors.{same_self_actor, among_either, among_without}
+use Rattle.line_lock.proofs.Placing.{begins_self, begins_more}
 use Rattle.workers.specs.Fit.{IsPost, own_line, own_lines, IsManned, IsJob, works_on, actors_on}
-use Rattle.workers.specs.Gathers.{IsHome, AreHome, HasMetOne, HasMetNone, IsMet, seen_line, seen_lines, IsBack, AreOut, Gathers}
-use Rattle.workers.specs.Seen.{JobSeen}
+use Rattle.workers.specs.Gathers.{IsHome, AreHome, HasMetOne, HasMetNone, IsMet, seen_line, seen_lines, IsMetIn, IsBack, AreOut, Gathers}
+use Rattle.workers.specs.Gathers.{HasAllOf, IsSeenIn, AreBack}
+use Rattle.workers.specs.Seen.{PostSeen, JobSeen}
 use Rattle.workers.proofs.Hiring.{actors_more_on}
-use Rattle.workers.proofs.Lists.{at_old, at_end, at_map, of_map, within}
+use Rattle.workers.proofs.Lists.{at_old, at_end, at_map, of_map, there, within}
 use Rattle.workers.proofs.Manning.{map_more}
 use Rattle.workers.proofs.Own.{own_are_seen, same_places, AreAlike, same_script}
+
+-- the job's pass of a line, and the line's first pass before and after it met that pass
+record MetNow (lines : List LockSeen) (j : JobSeen) (old new : List PassSeen) (place : ℕ) (s : PostSeen) : Type 0 where
+  now : PassSeen
+  before : PassSeen
+  at : slice_get new (j.first + place) ≡ Some now
+  was : slice_get old (j.first + place) ≡ Some before
+  one : HasMetOne lines j (j.first + place) before now
+  same : one.post ≡ s
+
+some_there : {A : Type 0} (P : A → Type 0) (o : Option A) → IsSomeAnd o P → (x : A) × (o ≡ Some x)
+some_there P None is = absurd is
+some_there P (Some x) is = (x, refl)
+
+-- what is seen after a meeting is what was seen, or what the other has seen
+either_seen : (a b e : List Entry) → e ≡ longer a b → (e ≡ a) ⊎ (e ≡ b)
+either_seen a b e is = by_test (nat_lt (length a) (length b)) is
+  where
+    by_test : (t : Bool) → e ≡ cond t b a → (e ≡ a) ⊎ (e ≡ b)
+    by_test true is = inr is
+    by_test false is = inl is
+
+-- there is one more job
+seen_in_more : (j : JobSeen) (jobs : List JobSeen) (k : ℕ) (entries : List Entry) → IsSeenIn jobs k entries → IsSeenIn (j ∷ jobs) k entries
+seen_in_more j jobs k entries i = record {
+  number = suc i.number;
+  place = i.place;
+  job = i.job;
+  post = i.post;
+  at_job = i.at_job;
+  at_post = i.at_post;
+  is = i.is;
+  seen = i.seen;
+}
 
 among_seen : (who a : Actor) (xs : List Actor) → is_among who (xs ++ a ∷ []) ≡ true → (same_actor a who ≡ false) → is_among who xs ≡ true
 among_seen who a xs is other = elim (among_either who a xs is) [
@@ -137,9 +176,9 @@ module _ (board : BoardSeen) (lines : List LockSeen) (rest : List JobSeen) (j : 
 
   -- ---- drivers that were back
 
-  back_still : (r : DriverNo) → IsBack old r → ((place : ℕ) × IsUpTo board.calls (seen_lines old) r place)
-      → IsBack new r × ((place : ℕ) × IsUpTo board.calls (seen_lines new) r place)
-  back_still r back up = (back_new, (up.0, same_script board.calls (seen_lines new) (seen_lines old) r up.0 alike up.1))
+  back_still : (r : DriverNo) (place : ℕ) → IsBack old r → IsUpTo board.calls (seen_lines old) r place
+      → IsBack new r × IsUpTo board.calls (seen_lines new) r place
+  back_still r place back up = (back_new, same_script board.calls (seen_lines new) (seen_lines old) r place alike up)
     where
       back_new : IsBack new r
       back_new k p at = let e = m.each k p at in let was = back k e.0 e.1 in elim e.2 [
@@ -207,8 +246,8 @@ module _ (board : BoardSeen) (lines : List LockSeen) (rest : List JobSeen) (j : 
               (own_placed k p q one ∙ ap (λ (a : Actor). placed one.line.def.line a p.knows.seen) (sym its))),
         )
 
-    up_now : (place : ℕ) × IsUpTo board.calls (seen_lines new) r place
-    up_now = (j.at, same_script board.calls (seen_lines new) (own_lines j.posts) r j.at alike manned.2)
+    up_now : IsUpTo board.calls (seen_lines new) r j.at
+    up_now = same_script board.calls (seen_lines new) (own_lines j.posts) r j.at alike manned.2
       where
         alike : AreAlike r (seen_lines new) (own_lines j.posts)
         alike k x at =
@@ -234,7 +273,183 @@ module _ (board : BoardSeen) (lines : List LockSeen) (rest : List JobSeen) (j : 
             (ap (λ (xs : List Actor). is_among (actors.Driver r) xs) (sym (map_more (λ (j : JobSeen). j.actor) rest j))
             ∙ among)) [
               | inl left ↦ inl left
-              | inr its ↦ inr (back_now r its, up_now r its)
+              | inr its ↦ inr (back_now r its, (j.at, up_now r its))
             ]
-        | inr back ↦ inr (back_still r back.0 back.1)
+        | inr back ↦ let still = back_still r back.1.0 back.0 back.1.1 in inr (still.0, (back.1.0, still.1))
       ]
+
+  -- ---- what has come back
+
+  own_met : (place : ℕ) (s : PostSeen) → slice_get j.posts place ≡ Some s → MetNow lines j old new place s
+  own_met place s at =
+      let l = some_there (λ (l : LockSeen). IsPost l j.actor s) (slice_get lines (j.first + place)) (job.posted place s at) in
+      let w = within lines (j.first + place) l.0 l.1 in
+      let a = m.home.as_many in
+      let p = there new (j.first + place) (omega (arith, w, a)) in
+      let e = m.each (j.first + place) p.0 p.1 in
+      by_case p.0 e.0 p.1 e.1 e.2
+    where
+      same_post : (one_place : ℕ) (post : PostSeen) → slice_get j.posts one_place ≡ Some post → j.first + place ≡ j.first + one_place → post ≡ s
+      same_post one_place post at_post is =
+          let e : one_place ≡ place = omega (arith, is) in
+          the_same post s (sym at_post ∙ (ap (λ (n : ℕ). slice_get j.posts n) e ∙ at))
+
+      by_case : (p q : PassSeen) → slice_get new (j.first + place) ≡ Some p → slice_get old (j.first + place) ≡ Some q
+          → HasMetOne lines j (j.first + place) q p ⊎ HasMetNone j (j.first + place) q p → MetNow lines j old new place s
+      by_case p q at_p at_q (inl one) =
+          record { now = p; before = q; at = at_p; was = at_q; one = one; same = same_post one.place one.post one.at_post one.is }
+      by_case p q at_p at_q (inr none) = absurd (none.0 place (within j.posts place s at) refl)
+
+  line_def : (k : ℕ) (p q : PassSeen) → slice_get new k ≡ Some p → (one : HasMetOne lines j k q p) → p.def ≡ one.line.def
+  line_def k p q at one = (home_of k p one.line at one.at_line).of_line.1
+
+  own_all : (place : ℕ) (s : PostSeen) → slice_get j.posts place ≡ Some s → IsSomeAnd (slice_get new (j.first + place))
+      (λ p. HasAllOf p.def p.knows.seen j.actor s.pass × IsMetIn j.actor p)
+  own_all place s at = let x = own_met place s at in subst
+      (λ (o : Option PassSeen). IsSomeAnd o (λ p. HasAllOf p.def p.knows.seen j.actor s.pass × IsMetIn j.actor p))
+      (sym x.at) (all x)
+    where
+      all : (x : MetNow lines j old new place s) → HasAllOf x.now.def x.now.knows.seen j.actor s.pass × IsMetIn j.actor x.now
+      all x = (
+        record {
+          of_line = ap (λ (t : PostSeen). t.pass.def) (sym x.same)
+              ∙ ((is_post (j.first + place) x.now x.before x.one).of_line.1 ∙ sym (line_def (j.first + place) x.now x.before x.at x.one));
+          begins = subst (λ (t : PostSeen). BeginsWith x.now.knows.seen t.pass.knows.seen) x.same x.one.met.begins_other;
+          own = ap (λ (d : LineDef). placed d.line j.actor x.now.knows.seen) (line_def (j.first + place) x.now x.before x.at x.one)
+              ∙ (sym (own_placed (j.first + place) x.now x.before x.one) ∙ ap (λ (t : PostSeen). t.pass.knows.mine) x.same);
+        },
+        own_back (j.first + place) x.now x.before x.one (λ is. (g.out (j.first + place) x.before x.was).given j.actor is),
+      )
+
+  -- the first pass of a line afterwards
+  after_of : (k : ℕ) (q : PassSeen) → slice_get old k ≡ Some q
+      → (p : PassSeen) × (slice_get new k ≡ Some p) × (HasMetOne lines j k q p ⊎ HasMetNone j k q p)
+  after_of k q at =
+      let w = within old k q at in
+      let a = home.as_many in
+      let b = m.home.as_many in
+      let p = there new k (omega (arith, w, a, b)) in
+      let e = m.each k p.0 p.1 in
+      (p.0, p.1, subst (λ (x : PassSeen). HasMetOne lines j k x p.0 ⊎ HasMetNone j k x p.0) (the_same e.0 q (sym e.1 ∙ at)) e.2)
+
+  -- what was met before stays so
+  met_still : (who : Actor) (pass : PassSeen) (k : ℕ) (p q : PassSeen) → slice_get new k ≡ Some p → slice_get old k ≡ Some q
+      → HasMetOne lines j k q p ⊎ HasMetNone j k q p → HasAllOf q.def q.knows.seen who pass × IsMetIn who q
+      → HasAllOf p.def p.knows.seen who pass × IsMetIn who p
+  met_still who pass k p q at was (inl one) all = (
+    record {
+      of_line = all.0.of_line ∙ sym (same_def k p q at was);
+      begins = begins_more p.knows.seen q.knows.seen pass.knows.seen one.met.begins all.0.begins;
+      own = ap (λ (d : LineDef). placed d.line who p.knows.seen) (line_def k p q at one)
+          ∙ (one.met.settled who all.1.0 all.1.1
+          ∙ (ap (λ (d : LineDef). placed d.line who q.knows.seen) (sym (sym (same_def k p q at was) ∙ line_def k p q at one))
+          ∙ all.0.own));
+    },
+    (
+      ap (λ (xs : List Actor). is_among who xs) (given_same k p q one) ∙ all.1.0,
+      out_is k p q one who ∙ (ap (λ (b : Bool). cond (same_actor j.actor who) false b) all.1.1 ∙ either (same_actor j.actor who)),
+    ),
+  )
+    where
+      either : (b : Bool) → cond b false false ≡ false
+      either true = refl
+      either false = refl
+  met_still who pass k p q at was (inr none) all =
+      subst (λ (x : PassSeen). HasAllOf x.def x.knows.seen who pass × IsMetIn who x) (sym none.1) all
+
+  module _ (start : List PassSeen) (done : List JobSeen) (b : AreBack board done start old) where
+    lines_more : (k : ℕ) (p : PassSeen) → slice_get new k ≡ Some p
+        → (q : PassSeen) × (slice_get start k ≡ Some q) × BeginsWith p.knows.seen q.knows.seen
+        × ((p.knows.seen ≡ q.knows.seen) ⊎ IsSeenIn (j ∷ done) k p.knows.seen)
+    lines_more k p at =
+        let e = m.each k p at in
+        let s = b.lines k e.0 e.1 in
+        (s.0, s.1, begins e.0 s.0 e.2 s.2, seen e.0 s.0 e.2 s.3)
+      where
+        begins : (q s : PassSeen) → HasMetOne lines j k q p ⊎ HasMetNone j k q p → BeginsWith q.knows.seen s.knows.seen
+            → BeginsWith p.knows.seen s.knows.seen
+        begins q s (inl one) before = begins_more p.knows.seen q.knows.seen s.knows.seen one.met.begins before
+        begins q s (inr none) before = subst (λ (x : PassSeen). BeginsWith x.knows.seen s.knows.seen) (sym none.1) before
+
+        earlier : (q s : PassSeen) → p.knows.seen ≡ q.knows.seen → (q.knows.seen ≡ s.knows.seen) ⊎ IsSeenIn done k q.knows.seen
+            → (p.knows.seen ≡ s.knows.seen) ⊎ IsSeenIn (j ∷ done) k p.knows.seen
+        earlier q s same (inl first) = inl (same ∙ first)
+        earlier q s same (inr its) = inr (seen_in_more j done k p.knows.seen (subst (λ (es : List Entry). IsSeenIn done k es) (sym same) its))
+
+        seen : (q s : PassSeen) → HasMetOne lines j k q p ⊎ HasMetNone j k q p
+            → (q.knows.seen ≡ s.knows.seen) ⊎ IsSeenIn done k q.knows.seen
+            → (p.knows.seen ≡ s.knows.seen) ⊎ IsSeenIn (j ∷ done) k p.knows.seen
+        seen q s (inr none) before = earlier q s (ap (λ (x : PassSeen). x.knows.seen) none.1) before
+        seen q s (inl one) before =
+            elim (either_seen q.knows.seen one.post.pass.knows.seen p.knows.seen (ap (λ (x : Known). x.seen) one.met.whole)) [
+              | inl same ↦ earlier q s same before
+              | inr its ↦ inr (record {
+                number = 0;
+                place = one.place;
+                job = j;
+                post = one.post;
+                at_job = refl;
+                at_post = one.at_post;
+                is = one.is;
+                seen = its;
+              })
+            ]
+
+    each_more : (i place : ℕ) (x : JobSeen) (s : PostSeen) → slice_get (j ∷ done) i ≡ Some x → slice_get x.posts place ≡ Some s
+        → IsSomeAnd (slice_get new (x.first + place)) (λ p. HasAllOf p.def p.knows.seen x.actor s.pass × IsMetIn x.actor p)
+    each_more zero place x s at_job at_post =
+        subst (λ (y : JobSeen). slice_get y.posts place ≡ Some s → IsSomeAnd (slice_get new (y.first + place))
+        (λ p. HasAllOf p.def p.knows.seen y.actor s.pass × IsMetIn y.actor p)) (the_same j x at_job)
+        (λ at. own_all place s at) at_post
+    each_more (suc i) place x s at_job at_post = by_option (slice_get old (x.first + place)) refl (b.each i place x s at_job at_post)
+      where
+        by_option : (o : Option PassSeen) → slice_get old (x.first + place) ≡ o
+            → IsSomeAnd o (λ p. HasAllOf p.def p.knows.seen x.actor s.pass × IsMetIn x.actor p)
+            → IsSomeAnd (slice_get new (x.first + place)) (λ p. HasAllOf p.def p.knows.seen x.actor s.pass × IsMetIn x.actor p)
+        by_option None was all = absurd all
+        by_option (Some q) was all =
+            let p = after_of (x.first + place) q was in
+            subst (λ (o : Option PassSeen). IsSomeAnd o (λ p. HasAllOf p.def p.knows.seen x.actor s.pass × IsMetIn x.actor p))
+            (sym p.1) (met_still x.actor s.pass (x.first + place) p.0 q p.1 was p.2 all)
+
+    drivers_more : (i : ℕ) (x : JobSeen) (r : DriverNo) → slice_get (j ∷ done) i ≡ Some x → x.actor ≡ actors.Driver r
+        → IsBack new r × IsUpTo board.calls (seen_lines new) r x.at
+    drivers_more zero x r at is =
+        subst (λ (y : JobSeen). y.actor ≡ actors.Driver r → IsBack new r × IsUpTo board.calls (seen_lines new) r y.at) (the_same j x at)
+        (λ its. (back_now r (sym its), up_now r (sym its))) is
+    drivers_more (suc i) x r at is = let before = b.drivers i x r at is in back_still r x.at before.0 before.1
+
+    pub back_on : AreBack board (j ∷ done) start new
+    back_on = record { lines = lines_more; each = each_more; drivers = drivers_more }
+
+pub none_back : (board : BoardSeen) (firsts : List PassSeen) → AreBack board [] firsts firsts
+none_back board firsts = record {
+  lines = λ k p at. (p, at, begins_self p.knows.seen, inl refl);
+  each = λ i place j s at_job at_post. cc;
+  drivers = λ i j r at is. cc;
+}
+
+-- ---- the same, as the loop meets it
+
+-- some jobs are left, and the others have come back
+pub record HaveCome (board : BoardSeen) (all left : List JobSeen) (start now : List PassSeen) : Type 0 where
+  pub done : List JobSeen
+  pub split : all ≡ left ++ done
+  pub back : AreBack board done start now
+
+pub none_came : (board : BoardSeen) (all : List JobSeen) (start : List PassSeen) → HaveCome board all all start start
+none_came board all start = record { done = []; split = sym (append-nil all); back = none_back board start }
+
+pub one_came : (board : BoardSeen) (lines : List LockSeen) (all left before : List JobSeen) (j : JobSeen) (start old new : List PassSeen)
+    → left ≡ before ++ j ∷ [] → IsMet lines j old new → AreHome lines old → Gathers board lines (before ++ j ∷ []) old
+    → HaveCome board all left start old → HaveCome board all before start new
+one_came board lines all left before j start old new popped m home g h = record {
+  done = j ∷ h.done;
+  split = h.split ∙ (ap (λ (js : List JobSeen). js ++ h.done) popped ∙ append_assoc before (j ∷ []) h.done);
+  back = back_on board lines before j old new m home g start h.done h.back;
+}
+
+pub all_came : (board : BoardSeen) (all left : List JobSeen) (start now : List PassSeen) → left ≡ []
+    → HaveCome board all left start now → AreBack board all start now
+all_came board all left start now none h =
+    subst (λ (js : List JobSeen). AreBack board js start now) (sym (h.split ∙ ap (λ (js : List JobSeen). js ++ h.done) none)) h.back

@@ -7,6 +7,7 @@ use Rattle.irq_base.specs.declared.entries.Actor.TheVariants as actors
 use Rattle.irq_base.specs.declared.entries.Entry.{Entry}
 use Rattle.irq_base.specs.declared.numbers.DriverNo.{DriverNo}
 use Rattle.irq_model.specs.Due.{calls_by, due_call}
+use Rattle.irq_model.specs.Legal.{IsLegal}
 use Rattle.irq_model.specs.Rounds.{has_flow}
 use Rattle.irq_laws.proofs.Lists.{both_ways}
 use Rattle.irq_laws.proofs.Progress.{fresh}
@@ -18,7 +19,7 @@ use Rattle.board_play.specs.Lines.{BoardLine}
 use Rattle.board_play.proofs.Counting.{completed, none_complete}
 use Rattle.line_lock.specs.Knows.{is_among}
 use Rattle.line_lock.specs.Passes.{LockSeen, PassSeen}
-use Rattle.line_lock.specs.Placed.{same_actor}
+use Rattle.line_lock.specs.Placed.{same_actor, placed}
 use Rattle.line_lock.specs.declared.view.Known.{Known}
 use Rattle.line_lock.specs.declared.view.Placed.{Placed}
 use Rattle.workers.specs.Fit.{IsPlaceOf, IsPost, ArePosted, own_past, own_line, own_lines, IsManned, IsJob, works_on}
@@ -68,15 +69,18 @@ actors_more_on k (x ∷ xs) j = by_test (works_on k x) (works_on k j) (actors_mo
 
 module _ (board : BoardSeen) (lines : List LockSeen) (who : Actor) (first end : ℕ) (old new : List PassSeen)
     (posts : List PostSeen) (f : Forks lines first end who old new posts) where
-  posted : (j : JobSeen) → j.actor ≡ who → j.first ≡ first → j.posts ≡ posts → ArePosted lines j
-  posted j actor from are i s at =
+  posted : (j : JobSeen) → j.actor ≡ who → j.first ≡ first → j.posts ≡ posts → HaveSeenNothing old → ArePosted lines j
+  posted j actor from are nothing i s at =
       let k = f.each i s (ap (λ (ss : List PostSeen). slice_get ss i) (sym are) ∙ at) in
       let fork = k.4 in
+      let none : s.pass.knows.seen ≡ [] = ap (λ (x : Known). x.seen) fork.knows ∙ nothing (first + i) k.1 k.3 in
       subst (λ (o : Option LockSeen). IsSomeAnd o (λ l. IsPost l j.actor s)) (sym (ap (λ (n : ℕ). slice_get lines (n + i)) from ∙ k.2))
       (record {
         of_line = fork.of_line;
         idle = fork.idle;
         actor = ap (λ (x : Known). x.actor) fork.knows ∙ ap (λ (a : Actor). Some a) (sym actor);
+        legal = subst (λ (h : List Entry). IsLegal k.0.def h) (sym none) tt;
+        own = ap (λ (x : Known). x.mine) fork.knows ∙ ap (λ (h : List Entry). placed k.0.def.line j.actor h) (sym none);
         rests = λ h. both_ways s.rests h fork.rests;
       })
 
@@ -114,9 +118,10 @@ module _ (board : BoardSeen) (lines : List LockSeen) (who : Actor) (first end : 
     omega (arith, at),
   )
 
-  pub new_job : (j : JobSeen) → j.actor ≡ who → j.first ≡ first → j.posts ≡ posts → j.flow ≡ None → j.at ≡ 0 → IsSpan lines who first end → IsJob board lines j
-  new_job j actor from are none at span = record {
-    posted = posted j actor from are;
+  pub new_job : (j : JobSeen) → j.actor ≡ who → j.first ≡ first → j.posts ≡ posts → j.flow ≡ None → j.at ≡ 0 → IsSpan lines who first end
+      → HaveSeenNothing old → IsJob board lines j
+  new_job j actor from are none at span nothing = record {
+    posted = posted j actor from are nothing;
     manned
         = manned j from are none at j.actor (subst (λ (a : Actor). IsSpan lines a first end) (sym actor) span);
   }
@@ -140,6 +145,7 @@ module _ (board : BoardSeen) (lines : List LockSeen) (who : Actor) (first end : 
             of_line = (gave.table ∙ is.of_line.0, gave.def ∙ is.of_line.1);
             idle = gave.idle;
             actor = ap (λ (x : Known). x.actor) gave.knows ∙ is.actor;
+            nothing = ap (λ (x : Known). x.seen) gave.knows ∙ is.nothing;
             given = ap (λ (x : Known). x.given) gave.knows ∙ (ap (λ (ws : List Actor). ws ++ who ∷ []) is.given ∙ sym whom);
             out = ap (λ (x : Known). x.out) gave.knows ∙ (ap (λ (ws : List Actor). ws ++ who ∷ []) is.out ∙ sym whom);
           }
@@ -159,6 +165,13 @@ module _ (board : BoardSeen) (lines : List LockSeen) (who : Actor) (first end : 
 
       each : (k : ℕ) (p : PassSeen) → slice_get new k ≡ Some p → IsSomeAnd (slice_get lines k) (λ l. IsFirst l (actors_on k (jobs ++ j ∷ [])) p)
       each k p at = let q = f.left k p at in some_later k q.0 p (slice_get lines k) q.2 (firsts.each k q.0 q.1)
+
+pub have_seen_nothing : (lines : List LockSeen) (jobs : List JobSeen) (firsts : List PassSeen) → AreFirsts lines jobs firsts → HaveSeenNothing firsts
+have_seen_nothing lines jobs firsts are k p at = by_line (slice_get lines k) (are.each k p at)
+  where
+    by_line : (o : Option LockSeen) → IsSomeAnd o (λ l. IsFirst l (actors_on k jobs) p) → p.knows.seen ≡ []
+    by_line None is = absurd is
+    by_line (Some l) is = is.nothing
 
 -- a first pass can give one to an actor that has none
 pub can_give : (lines : List LockSeen) (jobs : List JobSeen) (firsts : List PassSeen) (who : Actor)
@@ -285,7 +298,8 @@ hires_one lines here s board jobs firsts new who first end posts same is are spa
       job = j;
       jobs = grown ∙ ap (λ (x : JobsSeen). x.jobs ++ j ∷ []) is;
       actor = refl;
-      is = new_job s.board lines who first end firsts new posts forks j refl refl refl refl refl span;
+      is = new_job s.board lines who first end firsts new posts forks j refl refl refl refl refl span
+          (subst HaveSeenNothing (ap (λ (x : JobsSeen). x.firsts) (sym is)) (have_seen_nothing lines s.jobs s.firsts are));
       firsts = subst (λ (js : List JobSeen). AreFirsts lines js new) (sym grown)
           (new_firsts s.board lines who first end firsts new posts forks jobs j refl refl refl
           (subst (λ (js : List JobSeen). AreFirsts lines js firsts) (ap (λ (x : JobsSeen). x.jobs) (sym is))

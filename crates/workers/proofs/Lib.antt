@@ -7,6 +7,7 @@ pub mod Hiring
 pub mod Sharing
 pub mod Meeting
 pub mod Own
+pub mod Scripted
 pub mod InFlow
 pub mod Gathering
 pub mod Finishing

@@ -54,7 +54,7 @@ same_driver_actor r (actors.Cpu c) = refl
 same_driver_actor r (actors.Driver s) = refl
 
 -- the driver's entries, by their places
-by_places : (line : LineNo) (r : DriverNo) (n : ℕ) (h : List Entry)
+pub by_places : (line : LineNo) (r : DriverNo) (n : ℕ) (h : List Entry)
     → map (λ (x : Placed). x.entry) (placed_from line (actors.Driver r) n h) ≡ filter (is_by_driver r) h
 by_places line r n [] = refl
 by_places line r n (e ∷ h) =
@@ -70,7 +70,7 @@ by_places line r n (e ∷ h) =
     by_test true false is deeper = cc
     by_test false true is deeper = cc
 
-entries_seen : (r : DriverNo) (h : List Entry) → entries_by r (reverse h) ≡ filter (is_by_driver r) h
+pub entries_seen : (r : DriverNo) (h : List Entry) → entries_by r (reverse h) ≡ filter (is_by_driver r) h
 entries_seen r h = ap reverse (filter-reverse (is_by_driver r) h) ∙ reverse-reverse (filter (is_by_driver r) h)
 
 -- what is the driver's own are its entries in what is seen

@@ -53,6 +53,7 @@ one_shared done lines numbers flows firsts x l n w p s def number flow of_line k
       of_line = of_line;
       idle = idle;
       actor = ap (λ (k : Known). k.actor) knows;
+      nothing = ap (λ (k : Known). k.seen) knows;
       given
           = ap (λ (k : Known). k.given) knows;
       out = ap (λ (k : Known). k.out) knows;

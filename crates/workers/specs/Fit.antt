@@ -1,6 +1,6 @@
 -- What it means that jobs fit their lines. Each part is a fact about one job.
 use Rattle.std.specs.Prelude.{◌≡◌, ℕ, ◌+◌, Bool, true, false, ◌≤◌, ◌&&◌, nat_le, nat_lt}
-use Rattle.std.specs.Prelude.{IsSomeAnd, Option, Some, None, List, ◌++◌, map, filter, reverse}
+use Rattle.std.specs.Prelude.{IsSomeAnd, Option, Some, None, List, [], ◌++◌, map, filter, reverse}
 use Rattle.std.specs.Prelude.{length, slice_get, IsPermutation}
 use Rattle.std.specs.List.{list_any}
 use Rattle.irq_base.specs.Handlers.{has_thread}
@@ -13,12 +13,14 @@ use Rattle.irq_base.specs.declared.entries.Entry.{Entry}
 use Rattle.irq_base.specs.declared.numbers.CpuNo.{CpuNo}
 use Rattle.irq_base.specs.declared.numbers.LineNo.{LineNo}
 use Rattle.irq_model.specs.Kinds.{same_line}
+use Rattle.irq_model.specs.Legal.{IsLegal}
 use Rattle.irq_model.specs.Rounds.{flow, has_flow}
 use Rattle.board_def.specs.Seen.{BoardSeen}
 use Rattle.board_play.specs.Kept.{IsUpTo}
 use Rattle.board_play.specs.Lines.{BoardLine, defs_of}
 use Rattle.board_play.specs.Order.{cpus_of, drivers_of}
 use Rattle.line_lock.specs.Passes.{LockSeen, PassSeen, IsPassOf}
+use Rattle.line_lock.specs.Placed.{placed}
 use Rattle.line_lock.specs.declared.view.Known.{Known}
 use Rattle.line_lock.specs.declared.view.Placed.{Placed}
 use Rattle.workers.specs.Seen.{PostSeen, JobSeen, JobsSeen}
@@ -39,12 +41,15 @@ IsPlaceOf lines number (Some k) = IsSomeAnd (slice_get lines k) (λ l. l.def.lin
 
 -- ---- one job
 
--- the pass is of this line and this actor, and doesn't have the turn; if the post rests, nothing is
--- due on what the pass has seen
+-- The pass is of this line and this actor, and doesn't have the turn. What it has seen is legal:
+-- each entry was due after those before it; and its own entries are the actor's among them. If the
+-- post rests, nothing is due on what the pass has seen.
 pub record IsPost (line : LockSeen) (who : Actor) (s : PostSeen) : Type 0 where
   pub of_line : IsPassOf line s.pass
   pub idle : s.pass.turn ≡ false
   pub actor : s.pass.knows.actor ≡ Some who
+  pub legal : IsLegal line.def s.pass.knows.seen
+  pub own : s.pass.knows.mine ≡ placed line.def.line who s.pass.knows.seen
   pub rests : s.rests ≡ true → IsIdle line.def who s.pass.knows
 
 -- the passes are of consecutive lines, from the job's first line on
@@ -79,8 +84,8 @@ HasItsFlow j = (i : ℕ) → j.flow ≡ Some i → (c : CpuNo) × (s : PostSeen)
     × (slice_get j.posts i ≡ Some s) × (s.rests ≡ false) × IsInFlow s.pass.def c s.pass.knows
 
 -- a thread has a pass of its device's line; a processor has a pass of each line, and a flow on at
--- most one; a driver has a pass of each line, and its entries are its script's calls up to its
--- place
+-- most one; a driver has a pass of each line, and its calls are made up to its place: its own
+-- entries are theirs (the law `own_are_made`)
 abbrev pub IsManned : BoardSeen → List LockSeen → JobSeen → Actor → Type 0
 IsManned board lines j (actors.Thread line dev) =
     (length j.posts ≡ 1) × IsPlaceOf lines line (Some j.first)
@@ -111,12 +116,13 @@ works_on k j = nat_le j.first k && nat_lt k (j.first + length j.posts)
 abbrev pub actors_on : ℕ → List JobSeen → List Actor
 actors_on k jobs = map (λ (j : JobSeen). j.actor) (filter (works_on k) jobs)
 
--- a first pass is of its line and doesn't have the turn; it has given passes to exactly the actors
--- whose jobs work on the line, and these passes are out
+-- a first pass is of its line and doesn't have the turn; it has seen nothing yet; and it has given
+-- passes to exactly the actors whose jobs work on the line, and these passes are out
 pub record IsFirst (line : LockSeen) (whom : List Actor) (p : PassSeen) : Type 0 where
   pub of_line : IsPassOf line p
   pub idle : p.turn ≡ false
   pub actor : p.knows.actor ≡ None
+  pub nothing : p.knows.seen ≡ []
   pub given : p.knows.given ≡ whom
   pub out : p.knows.out ≡ whom
 

@@ -3,16 +3,19 @@ use Rattle.std.specs.Prelude.{◌≡◌, ℕ, ◌+◌, ◌<◌, ◌⊎◌, false
 use Rattle.std.specs.Prelude.{map, length, slice_get, reverse}
 use Rattle.irq_base.specs.declared.entries.Actor.{Actor}
 use Rattle.irq_base.specs.declared.entries.Actor.TheVariants as actors
+use Rattle.irq_base.specs.declared.entries.Entry.{Entry}
+use Rattle.irq_base.specs.declared.lines.LineDef.{LineDef}
 use Rattle.irq_base.specs.declared.numbers.DriverNo.{DriverNo}
 use Rattle.irq_line.specs.Seen.{LineSeen, IsSound}
 use Rattle.board_def.specs.Rules.{has_driver}
 use Rattle.board_def.specs.Seen.{BoardSeen}
 use Rattle.board_play.specs.Kept.{IsUpTo}
 use Rattle.board_play.specs.Lines.{BoardLine}
-use Rattle.line_lock.specs.Knows.{is_among, Meets}
+use Rattle.line_lock.specs.Knows.{BeginsWith, is_among, Meets}
 use Rattle.line_lock.specs.Passes.{LockSeen, PassSeen, IsPassOf}
+use Rattle.line_lock.specs.Placed.{placed}
 use Rattle.workers.specs.Fit.{IsJob, actors_on}
-use Rattle.workers.specs.Seen.{PostSeen, JobSeen}
+use Rattle.workers.specs.Seen.{PostSeen, JobSeen, JobsSeen}
 
 -- a line as a board sees it
 abbrev pub board_line : LineSeen → BoardLine
@@ -63,11 +66,14 @@ seen_line p = record { def = p.def; past = reverse p.knows.seen }
 abbrev pub seen_lines : List PassSeen → List BoardLine
 seen_lines firsts = map seen_line firsts
 
+-- the actor was given a pass of the line, and it has come back
+abbrev pub IsMetIn : Actor → PassSeen → Type 0
+IsMetIn who p = (is_among who p.knows.given ≡ true) × (is_among who p.knows.out ≡ false)
+
 -- the driver's passes have all come back
 abbrev pub IsBack : List PassSeen → DriverNo → Type 0
-IsBack firsts r = (k : ℕ) (p : PassSeen) → slice_get firsts k ≡ Some p
-    → (is_among (actors.Driver r) p.knows.given ≡ true)
-    × (is_among (actors.Driver r) p.knows.out ≡ false)
+IsBack firsts r =
+    (k : ℕ) (p : PassSeen) → slice_get firsts k ≡ Some p → IsMetIn (actors.Driver r) p
 
 -- an actor that is out on the line has one of these jobs, and was given a pass
 pub record AreOut (jobs : List JobSeen) (k : ℕ) (p : PassSeen) : Type 0 where
@@ -97,3 +103,56 @@ pub record AreFinal (lines : List LockSeen) (firsts : List PassSeen) : Type 0 wh
 
 abbrev pub AreSound : List LineSeen → Type 0
 AreSound lines = (i : ℕ) (x : LineSeen) → slice_get lines i ≡ Some x → IsSound x
+
+-- ---- what is gathered
+
+-- the entries, of a line with this definition, have all of the actor's pass: they begin with what
+-- it has seen, and the actor's entries among them are those that it knows as its own
+pub record HasAllOf (def : LineDef) (entries : List Entry) (who : Actor) (pass : PassSeen)
+    : Type 0 where
+  pub of_line : pass.def ≡ def
+  pub begins : BeginsWith entries pass.knows.seen
+  pub own : placed def.line who entries ≡ pass.knows.mine
+
+-- a job's pass of the line at place k has seen exactly these entries
+pub record IsSeenIn (jobs : List JobSeen) (k : ℕ) (entries : List Entry) : Type 0 where
+  pub number : ℕ
+  pub place : ℕ
+  pub job : JobSeen
+  pub post : PostSeen
+  pub at_job : slice_get jobs number ≡ Some job
+  pub at_post : slice_get job.posts place ≡ Some post
+  pub is : k ≡ job.first + place
+  pub seen : entries ≡ post.pass.knows.seen
+
+-- These jobs' passes have come back, and the first passes, which were `old`, have met them: what
+-- they have seen now.
+pub record AreBack (board : BoardSeen) (jobs : List JobSeen) (old new : List PassSeen)
+    : Type 0 where
+  pub lines : (k : ℕ) (p : PassSeen) → slice_get new k ≡ Some p
+      → (q : PassSeen) × (slice_get old k ≡ Some q) × BeginsWith p.knows.seen q.knows.seen
+      × ((p.knows.seen ≡ q.knows.seen) ⊎ IsSeenIn jobs k p.knows.seen)
+  pub each : (i place : ℕ) (j : JobSeen) (s : PostSeen) → slice_get jobs i ≡ Some j
+      → slice_get j.posts place ≡ Some s → IsSomeAnd (slice_get new (j.first + place))
+      (λ p. HasAllOf p.def p.knows.seen j.actor s.pass × IsMetIn j.actor p)
+  pub drivers : (i : ℕ) (j : JobSeen) (r : DriverNo) → slice_get jobs i ≡ Some j
+      → j.actor ≡ actors.Driver r → IsBack new r × IsUpTo board.calls (seen_lines new) r j.at
+
+-- a pass of the line at place k, its first one or a job's, has seen exactly these entries
+abbrev pub IsSeenBy : JobsSeen → ℕ → List Entry → Type 0
+IsSeenBy s k entries =
+    ((p : PassSeen) × (slice_get s.firsts k ≡ Some p) × (entries ≡ p.knows.seen))
+    ⊎ IsSeenIn s.jobs k entries
+
+-- The lines have the histories that the jobs have seen, and nothing else: a line's history is what
+-- one of its passes has seen, and begins with what each other has.
+pub record AreGathered (s : JobsSeen) (lines : List LineSeen) : Type 0 where
+  pub seen : (k : ℕ) (x : LineSeen) → slice_get lines k ≡ Some x → IsSeenBy s k x.entries
+  pub firsts : (k : ℕ) (p : PassSeen) → slice_get s.firsts k ≡ Some p
+      → IsSomeAnd (slice_get lines k) (λ x. BeginsWith x.entries p.knows.seen)
+  pub each : (i place : ℕ) (j : JobSeen) (t : PostSeen) → slice_get s.jobs i ≡ Some j
+      → slice_get j.posts place ≡ Some t → IsSomeAnd (slice_get lines (j.first + place))
+      (λ x. HasAllOf x.def x.entries j.actor t.pass)
+  -- each driver's calls are made up to the place of its job
+  pub drivers : (i : ℕ) (j : JobSeen) (r : DriverNo) → slice_get s.jobs i ≡ Some j
+      → j.actor ≡ actors.Driver r → IsUpTo s.board.calls (board_lines lines) r j.at

@@ -6,8 +6,8 @@ ghost use Rattle.board_def.specs.Seen.{BoardSeen};
 ghost use Rattle.board_play.specs.Kept.{AreKept};
 ghost use Rattle.line_lock.specs.Passes.{LockSeen, PassSeen};
 ghost use Rattle.workers.specs.Fit.{ArePosted, Fit};
-ghost use Rattle.workers.specs.Gathers.{AreHome, IsHome, Gathers, IsMet, AreFinal, AreSound};
-ghost use Rattle.workers.specs.Gathers.{board_lines, seen_lines};
+ghost use Rattle.workers.specs.Gathers.{AreBack, AreFinal, AreGathered, AreHome, AreSound, Gathers};
+ghost use Rattle.workers.specs.Gathers.{IsHome, IsMet, board_lines, seen_lines};
 ghost use Rattle.workers.specs.Seen.{JobSeen};
 
 use crate::job::Job;
@@ -19,16 +19,19 @@ use line_shared::{Pass, SharedLine};
 use std::alloc::Global;
 
 /// Takes all passes back, and the lines out of their locks. They come in the same order, with the
-/// same definitions. Each history is legal, and the histories have the drivers' calls in the order
-/// of their scripts, each driver's up to its place. The only error is `NoMemory`; then the lines
-/// are gone.
+/// same definitions. Each history is the longest that a pass of the line has seen, and begins with
+/// what each other pass has seen. It is legal, and the histories have the drivers' calls in the
+/// order of their scripts, each driver's up to its job's place. The only error is `NoMemory`; then
+/// the lines are gone.
 pub fn gather<L: IrqLine>(
     alloc: Global,
     lines: SharedLines<L>,
     jobs: Jobs<'_, L>,
 ) -> Result<Vec<L>, NoMemory>
     requires { Fit lines jobs }
-    ensures { IfOk result (λ all. AreKept jobs.entry.board (board_lines (map L.seen all.items))) }
+    ensures kept { IfOk result
+        (λ all. AreKept jobs.entry.board (board_lines (map L.seen all.items))) }
+    ensures gathered { IfOk result (λ all. AreGathered jobs.entry (map L.seen all.items)) }
 {
     jobs.board.is_board();
     let Jobs {
@@ -49,6 +52,8 @@ fn meet_all<L: IrqLine>(lines: &[SharedLine<L>], firsts: &mut Vec<Pass<L>>, mut 
     ensures home { AreHome lines.now firsts.new.items }
     ensures gathers { (board : BoardSeen) → Gathers board lines.now jobs.items firsts.old.items
         → Gathers board lines.now [] firsts.new.items }
+    ensures back { (board : BoardSeen) → Gathers board lines.now jobs.items firsts.old.items
+        → AreBack board jobs.items firsts.old.items firsts.new.items }
 {
     while let Some(job) = jobs.pop() {
         meet_job(lines, firsts, job);

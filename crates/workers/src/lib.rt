@@ -17,6 +17,7 @@ pub mod gate;
 pub mod gathers;
 mod job;
 pub mod jobs;
+pub mod laws;
 pub mod lines;
 mod post;
 pub mod shifts;
