@@ -15,7 +15,7 @@ same_defs : (seen : List LineSeen) → map (λ (x : LineSeen). x.def) seen ≡ m
 same_defs [] = refl
 same_defs (x ∷ xs) = ap (λ (ds : List LineDef). x.def ∷ ds) (same_defs xs)
 
-stands_so : (seen : List LineSeen) (i : ℕ) (x : LineSeen) → slice_get seen i ≡ Some x → slice_get (board_lines seen) i ≡ Some (board_line x)
+pub stands_so : (seen : List LineSeen) (i : ℕ) (x : LineSeen) → slice_get seen i ≡ Some x → slice_get (board_lines seen) i ≡ Some (board_line x)
 stands_so [] i x at = cc
 stands_so (y ∷ ys) zero x at = ap (λ (z : LineSeen). Some (board_line z)) (the_same y x at)
 stands_so (y ∷ ys) (suc i) x at = stands_so ys i x at

@@ -1,3 +1,4 @@
+mod Coming
 mod Finished
 mod Fresh
 mod Rows

@@ -1,3 +1,4 @@
 pub mod Report
 pub mod Ends
+pub mod Came
 pub mod Ran

@@ -3,6 +3,7 @@ ghost use Rattle.std.specs.Prelude.{◌≡◌, [], IfOk, IsTrue, false, length};
 ghost use Rattle.board_def.specs.Layout.{layout_of};
 ghost use Rattle.board_report.specs.Reporting.{HasRoom};
 ghost use Rattle.irq_io.specs.Faults.{Counts};
+ghost use Rattle.irq_run.specs.Came.{AreOver};
 ghost use Rattle.irq_run.specs.Ends.{is_printing, is_write_fault};
 ghost use Rattle.irq_run.specs.Ran.{IsRun, IsRunFull, RunsBoard};
 ghost use Rattle.workers.specs.Fit.{Fit};
@@ -95,8 +96,8 @@ fn share_board<'b, R: Threads, M: MakesDomainLine>(
     Ok((layout, lines, jobs))
 }
 
-/// Takes the lines back from the workers, and makes the steps that are left. The only error is
-/// `NoMemory` for the lines and the order of steps.
+/// Takes the lines back from the workers, whose shifts have ended, and makes the steps that are
+/// left. The only error is `NoMemory` for the lines and the order of steps.
 fn settle<'b, L: IrqLine, H: Handler>(
     alloc: Global,
     board: &'b Board,
@@ -108,8 +109,10 @@ fn settle<'b, L: IrqLine, H: Handler>(
     requires layout { layout ≡ layout_of board.now }
     requires board { jobs.board ≡ board.now }
     requires fit { Fit lines jobs }
+    requires over { AreOver jobs }
     ensures { IfOk result (λ ran. IsRun board.now ran.0 ran.1) }
 {
+    board.is_board();
     let lines = gather(alloc, lines, jobs)?;
     let mut system = System::of_lines(alloc, board, layout, lines)?;
     let end = system.settle(handlers);

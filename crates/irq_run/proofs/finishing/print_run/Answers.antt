@@ -21,6 +21,7 @@ returns-clause-printed g c =
     let rows = rows_text c.args.summary (histories_of b entries) in
     record {
       entries = entries;
+      came = c.requires.ran.came;
       headline = headline;
       prints = elim c.match-laid.branch [
         | in-Done w ↦

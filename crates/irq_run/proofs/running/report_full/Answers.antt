@@ -7,6 +7,7 @@ pub returns-clause-full : goal.returns-clause-full
 returns-clause-full g c =
     let lines = board_lines c.args.system.lines in (
       entries_in lines,
+      c.requires.ran.came,
       c.hand_out.ensures.full c.args.line c.args.len
           (no_room_full c.args.board.now c.is_board.ensures.board c.args.system c.is_kept.ensures c.args.line c.args.len
           c.requires.ran),
