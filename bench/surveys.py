@@ -1,9 +1,10 @@
 #!/usr/bin/env python3
-"""surveys.py [ROW] < BOARD: what can come on each line of a board, over all its legal histories, by the rules of bench/second.py.
+"""surveys.py [[--play] ROW] < BOARD: what can come on each line of a board, over all its legal histories, by the rules of bench/second.py.
 
 It prints what `genirq-explore` prints: without a row totals, ways in which a line is left at rest, and rows that can come; of a
-row, which is words or one of them, a shortest log that ends so, or `never`. It searches over histories, and keeps one of those
-with equal futures; a line on which more than 3,000 states come isn't searched. Nothing is said of the layout.
+row, which is words or one of them, a shortest log that ends so, or `never`; with `--play` a play of the board that comes to it, and
+the picks that make it. It searches over histories, and keeps one of those with equal futures; a line on which more than 3,000
+states come isn't searched. Nothing is said of the layout.
 """
 
 import sys
@@ -11,10 +12,12 @@ from pathlib import Path
 
 sys.path.insert(0, str(Path(__file__).resolve().parent.parent / "tools"))
 from repository import say_help, stop  # noqa: E402
-from second import Board, Unread, after_last, by, goes_again, is_begin, is_kill, is_linked, is_return, is_start, since  # noqa: E402
+from second import Board, Play, Unread, after_last, by, goes_again, is_begin, is_kill, is_linked, is_return, is_start, since  # noqa: E402
 
 # A search of more states isn't made.
 MOST_STATES = 3_000
+# How many picks stand in a row.
+PICKS = 24
 
 
 def actors_of(line):
@@ -111,6 +114,36 @@ class Survey:
         return ["never"] if past is None else [" ".join((self.line.number, *e)) for e in past]
 
 
+class PlayTo(Play):
+    """A play of a board to which a history of one line comes. The actor of the history's next entry moves; if it can't, the first of
+    the others moves that can move on another line. `is_made` says whether the play came to it."""
+
+    def __init__(self, board, number, wanted):
+        self.wanted, self.line = wanted, next(line for line in board.lines if line.number == number)
+        self.movers, board.picks = [], []
+        super().__init__(board)
+        self.is_made = self.line.past == wanted
+
+    def next(self):
+        if self.line.past != self.wanted[: len(self.line.past)] or len(self.line.past) == len(self.wanted):
+            return None
+        actor = self.wanted[len(self.line.past)][0]
+        steps = [(actor, self.step_of(actor)), *((other, self.elsewhere(other)) for other in self.board.actors("tcd"))]
+        mover, step = next(((who, it) for who, it in steps if it), (None, None))
+        self.movers.append(mover)
+        return step
+
+    def elsewhere(self, actor):
+        """The actor's step, if it is on another line."""
+        step = self.step_of(actor)
+        return step if step and step[0] is not self.line else None
+
+    def told(self):
+        """The rows of the play, and those of its picks."""
+        rows = [self.movers[at : at + PICKS] for at in range(0, len(self.movers), PICKS)]
+        return [*self.rows, *(" ".join(["# picks", *row]) for row in rows)]
+
+
 def surveys_of(text):
     """The rows of all lines that take part."""
     return [row for line in Board(text).lines for row in Survey(line).told()]
@@ -121,14 +154,25 @@ def log_of(text, row):
     return next(Survey(line).log(row) for line in Board(text).lines if line.number == row.split(" ")[0])
 
 
+def play_to(text, row):
+    """A play of the board that comes to a shortest log of the row's line that ends with it, and its picks."""
+    log = log_of(text, row)
+    if log == ["never"]:
+        return log
+    play = PlayTo(Board(text), row.split(" ")[0], [tuple(entry.split(" ")[1:]) for entry in log])
+    return play.told() if play.is_made else ["play: none was found"]
+
+
 def main(words):
     if words == ["--help"]:
         say_help(__doc__)
-    if words and not words[0][:1].isdigit():
-        stop("bench/surveys.py [ROW] < BOARD")
+    answer = play_to if words[:1] == ["--play"] else log_of
+    row = words[1:] if words[:1] == ["--play"] else words
+    if words and not (row and row[0][:1].isdigit()):
+        stop("bench/surveys.py [[--play] ROW] < BOARD")
     text = sys.stdin.read()
     try:
-        print("\n".join(log_of(text, " ".join(words)) if words else surveys_of(text)))
+        print("\n".join(answer(text, " ".join(row)) if words else surveys_of(text)))
     except Unread as why:
         sys.exit(f"surveys.py: {why}")
     except StopIteration:

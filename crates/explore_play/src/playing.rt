@@ -4,7 +4,7 @@ ghost use Rattle.std.specs.Prelude.{IfOk, true};
 ghost use Rattle.irq_base.specs.declared.entries.Actor.{Actor};
 ghost use Rattle.board_def.specs.Seen.{BoardSeen};
 ghost use Rattle.board_play.specs.Lines.{Move};
-ghost use Rattle.board_play.specs.Play.{IsChosen};
+ghost use Rattle.board_play.specs.Play.{End, IsChosen, Plays};
 ghost use Rattle.board_core.specs.Playing.{IsFresh};
 ghost use Rattle.board_core.specs.Turns.{Turns};
 ghost use Rattle.explore_play.specs.Made.{ArePicked, IsMade};
@@ -100,8 +100,10 @@ pub fn play_to<L: IrqLine, H: Handler>(
 
 /// Put in place of a board's picks, the picks make each play begin with these moves, whatever picks
 /// come after them.
-#[tactic(auto, using(crate::proofs::Making::begins))]
 pub fn picks_begin_the_play()
     ensures law { (board : BoardSeen) (picks : List Actor) (g : List Move) (more : List Actor)
         → ArePicked board picks g → IsChosen board (reverse picks ++ more) g more }
+    ensures play { (board : BoardSeen) (picks : List Actor) (g : List Move) (more : List Actor)
+        (h : List Move) (end : End) → ArePicked board picks g
+        → Plays board (reverse picks ++ more) h end → (k : List Move) × (h ≡ k ++ g) }
 {}

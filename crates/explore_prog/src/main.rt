@@ -1,7 +1,8 @@
-//! The program `genirq-explore`: it hands its arguments and standard streams to the body, and ends
-//! with the body's status.
+//! The program `genirq-explore`: it hands its arguments, standard streams and the maker of its
+//! lines, those over the chips of their whole paths, to the body, and ends with the body's status.
 #![tactic(auto)]
 
+use board_lines::MakesChainLine;
 use explore_top::run;
 use std::env;
 use std::process::ExitCode;
@@ -14,6 +15,7 @@ fn main(rt: HostRuntime) -> ExitCode {
             rt.reader(),
             rt.stdout(),
             rt.stderr(),
+            &MakesChainLine,
         )
         .status,
     )

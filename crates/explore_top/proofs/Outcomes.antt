@@ -30,6 +30,7 @@ module _ (asked : Asked) (told left before now : Option (List ℕ)) (b : BoardSe
   by_end ends.Done done = input ends.Done done
   by_end ends.Never done = input ends.Never done
   by_end (ends.Cut line) done = input (ends.Cut line) done
+  by_end ends.NoPlay done = input ends.NoPlay done
   by_end ends.NotThere done = input ends.NotThere done
   by_end ends.WriteFault done = input ends.WriteFault done
   by_end ends.NoMemory done = tt
@@ -41,6 +42,7 @@ no_read_fault : (states : ℕ) (end : ExploreEnd) → is_read_fault_end (ending_
 no_read_fault states ends.Done = refl
 no_read_fault states ends.Never = refl
 no_read_fault states (ends.Cut line) = refl
+no_read_fault states ends.NoPlay = refl
 no_read_fault states ends.NotThere = refl
 no_read_fault states ends.WriteFault = refl
 no_read_fault states ends.NoMemory = refl

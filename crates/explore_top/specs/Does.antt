@@ -7,6 +7,7 @@ use Rattle.explore_words.specs.declared.Asked.{Asked}
 use Rattle.explore_words.specs.declared.What.{What}
 use Rattle.explore_words.specs.declared.What.TheVariants as whats
 use Rattle.irq_explore.specs.Explored.{ExploresLines, ExploresRow}
+use Rattle.irq_explore.specs.Played.{ExploresPlay}
 use Rattle.irq_explore.specs.declared.exploring.ExploreEnd.{ExploreEnd}
 use Rattle.program_io.specs.Reading.{IsStated, ReadsBoard}
 use Rattle.program_io.specs.declared.inputs.InputRefused.TheVariants as refusals
@@ -20,7 +21,7 @@ IsReadToEnd None left = Unit {0}
 IsReadToEnd (Some bytes) left = left ≡ Some []
 
 -- what was asked of the board's lines was done, with at most so many states a line: all that take
--- part were surveyed, or one, or a row was looked for
+-- part were surveyed, or one, or a row was looked for, or a play that comes to it
 abbrev pub ExploresWhat : ℕ → What → BoardSeen → Option (List ℕ) → Option (List ℕ) → ExploreEnd
     → Type 0
 ExploresWhat states whats.Survey b before now end = ExploresLines b states None before now end
@@ -28,6 +29,8 @@ ExploresWhat states (whats.Line line) b before now end =
     ExploresLines b states (Some line) before now end
 ExploresWhat states (whats.Row line wanted) b before now end =
     ExploresRow states b line wanted before now end
+ExploresWhat states (whats.Play line wanted) b before now end =
+    ExploresPlay states b line wanted before now end
 
 -- what was asked was done with the board, with this ending
 abbrev pub ExploresAs : Asked → BoardSeen → Option (List ℕ) → Option (List ℕ) → Ending → Type 0

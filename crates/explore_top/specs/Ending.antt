@@ -18,11 +18,13 @@ status_of endings.ReadFault = 4
 status_of endings.WriteFault = 5
 status_of endings.NoMemory = 7
 status_of (endings.Cut line states) = 8
+status_of endings.NoPlay = 8
 
 abbrev pub error_text : Ending → List ℕ
 error_text endings.Done = []
 error_text endings.Never = []
-error_text endings.Usage = codes "usage: genirq-explore [--states N] [--line L | ROW]\n"
+error_text endings.Usage =
+    codes "usage: genirq-explore [--states N] [--line L | [--play] ROW]\n"
 error_text (endings.Board fault) = fault_row fault
 error_text endings.NotThere = codes "board: line 0: not there\n"
 error_text endings.ReadFault = codes "read fault\n"
@@ -31,12 +33,14 @@ error_text endings.NoMemory = codes "out of memory\n"
 error_text (endings.Cut line states) =
     codes "states: line " ++ decimal line.0 ++ codes " has more than " ++ decimal states
     ++ codes "\n"
+error_text endings.NoPlay = codes "play: none was found\n"
 
 -- the ending of an exploring of at most so many states a line
 abbrev pub ending_of : ℕ → ExploreEnd → Ending
 ending_of states ends.Done = endings.Done
 ending_of states ends.Never = endings.Never
 ending_of states (ends.Cut line) = endings.Cut line states
+ending_of states ends.NoPlay = endings.NoPlay
 ending_of states ends.NotThere = endings.NotThere
 ending_of states ends.WriteFault = endings.WriteFault
 ending_of states ends.NoMemory = endings.NoMemory

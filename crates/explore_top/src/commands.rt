@@ -12,21 +12,25 @@ ghost use Rattle.explore_top.specs.Ending.{is_read_fault_end, is_write_fault_end
 
 use crate::ending::Ending;
 use crate::top::{end_early, explore_main};
+use callbacks::{ByKind, Callbacks};
 use irq_io::{Sink, Source};
+use line_makers::MakesDomainLine;
 use program_io::{ArgumentsRefused, lend, words_of};
 use std::alloc::Global;
 use std::env::Args;
 use std::io;
 
-/// Does what the arguments say: reads `src`, prints to `out`, and says on `err` what went wrong.
-/// Unless memory is refused, arguments that ask for nothing end as a fault of usage; so do
+/// Does what the arguments say: reads `src`, prints to `out`, and says on `err` what went wrong. The
+/// handlers answer by their devices' kinds, and the maker makes the lines that are played. Unless
+/// memory is refused, arguments that ask for nothing end as a fault of usage; so do
 /// arguments that aren't all UTF-8.
-pub fn command<S: Source, O: Sink, E: Sink>(
+pub fn command<S: Source, O: Sink, E: Sink, M: MakesDomainLine>(
     alloc: Global,
     args: io::Result<Args>,
     src: &mut S,
     out: &mut O,
     err: &mut E,
+    maker: &M,
 ) -> Ending
     ensures form { (asked : Asked) → IsForm args asked → result ≡ Ending.Usage → ⊥ }
     ensures usage { IsNoForm args → (result ≡ Ending.Usage) ⊎ (result ≡ Ending.NoMemory) }
@@ -48,19 +52,20 @@ pub fn command<S: Source, O: Sink, E: Sink>(
     ensures quiet { is_quiet result ≡ true → err.new ≡ err.old }
 {
     match words_of(alloc, args) {
-        Ok(words) => with_words(alloc, words.as_slice(), src, out, err),
+        Ok(words) => with_words(alloc, words.as_slice(), src, out, err, maker),
         Err(ArgumentsRefused::NotText) => ended(Ending::Usage, err),
         Err(ArgumentsRefused::NoMemory) => ended(Ending::NoMemory, err),
     }
 }
 
 /// The top call over these words.
-fn with_words<S: Source, O: Sink, E: Sink>(
+fn with_words<S: Source, O: Sink, E: Sink, M: MakesDomainLine>(
     alloc: Global,
     words: &[String],
     src: &mut S,
     out: &mut O,
     err: &mut E,
+    maker: &M,
 ) -> Ending
     ensures form { (asked : Asked) → Asks (map string_bytes words.now) asked
         → result ≡ Ending.Usage → ⊥ }
@@ -81,7 +86,15 @@ fn with_words<S: Source, O: Sink, E: Sink>(
     ensures quiet { is_quiet result ≡ true → err.new ≡ err.old }
 {
     match lend(alloc, words) {
-        Ok(lent) => explore_main(alloc, lent.as_slice(), src, out, err),
+        Ok(lent) => explore_main(
+            alloc,
+            lent.as_slice(),
+            src,
+            out,
+            err,
+            maker,
+            &Callbacks::new(ByKind),
+        ),
         Err(_) => ended(Ending::NoMemory, err),
     }
 }

@@ -29,6 +29,8 @@ pub enum Ending {
     /// The line has more than `states` states, which were to be visited at most. What is known of
     /// it is printed. If several lines have, it is the first.
     Cut { line: LineNo, states: u32 },
+    /// There is a log as wanted, but no play of the board that comes to it was found.
+    NoPlay,
 }
 
 impl Ending {
@@ -44,7 +46,7 @@ impl Ending {
             Ending::ReadFault => 4,
             Ending::WriteFault => 5,
             Ending::NoMemory => 7,
-            Ending::Cut { .. } => 8,
+            Ending::Cut { .. } | Ending::NoPlay => 8,
         }
     }
 
@@ -56,6 +58,7 @@ impl Ending {
             ExploreEnd::Done => Ending::Done,
             ExploreEnd::Never => Ending::Never,
             ExploreEnd::Cut(line) => Ending::Cut { line, states },
+            ExploreEnd::NoPlay => Ending::NoPlay,
             ExploreEnd::NotThere => Ending::NotThere,
             ExploreEnd::WriteFault => Ending::WriteFault,
             ExploreEnd::NoMemory => Ending::NoMemory,

@@ -16,7 +16,7 @@ pub fn error_row(row: &mut TextRow, ending: Ending)
     match ending {
         Ending::Done | Ending::Never => {}
         Ending::Usage => {
-            row.push_bytes(b"usage: genirq-explore [--states N] [--line L | ROW]\n");
+            row.push_bytes(b"usage: genirq-explore [--states N] [--line L | [--play] ROW]\n");
         }
         Ending::Board(fault) => push_fault(row, fault),
         Ending::NotThere => row.push_bytes(b"board: line 0: not there\n"),
@@ -24,6 +24,7 @@ pub fn error_row(row: &mut TextRow, ending: Ending)
         Ending::WriteFault => row.push_bytes(b"write fault\n"),
         Ending::NoMemory => row.push_bytes(b"out of memory\n"),
         Ending::Cut { line, states } => push_cut(row, line, states),
+        Ending::NoPlay => row.push_bytes(b"play: none was found\n"),
     }
 }
 

@@ -14,6 +14,7 @@ use crate::commands::{command, ended};
 use crate::ending::Ending;
 use irq_base::NoMemory;
 use irq_io::{StdSink, StdSource};
+use line_makers::MakesDomainLine;
 use program_io::{with_buffer, without_buffer};
 use std::alloc::Global;
 use std::env::Args;
@@ -36,13 +37,14 @@ pub struct Ended<R: Read + Drop, O: Write + Drop, E: Write + Drop> {
 
 /// Runs the program over its arguments as they come, its input, its output and its error stream.
 /// The output gets a buffer. If the status is 0, 1 or 8, nothing is kept back there, and the writer
-/// has all of the output.
-pub fn run<R: Read + Drop, O: Write + Drop, E: Write + Drop>(
+/// has all of the output. The maker makes the lines that are played.
+pub fn run<R: Read + Drop, O: Write + Drop, E: Write + Drop, M: MakesDomainLine>(
     alloc: Global,
     args: io::Result<Args>,
     input: R,
     output: O,
     error: E,
+    maker: &M,
 ) -> Ended<R, O, E>
     ensures status { result.status ≡ status_of result.ending }
     ensures buffer { result.output ≡ None → result.ending ≡ Ending.NoMemory }
@@ -79,7 +81,7 @@ pub fn run<R: Read + Drop, O: Write + Drop, E: Write + Drop>(
     let mut error = without_buffer(alloc, error);
     match with_buffer(alloc, output) {
         Ok(mut output) => {
-            let ending = command(alloc, args, &mut input, &mut output, &mut error);
+            let ending = command(alloc, args, &mut input, &mut output, &mut error, maker);
             Ended {
                 status: ending.status(),
                 ending,

@@ -13,24 +13,29 @@ ghost use Rattle.irq_explore.specs.Explored.{is_write_fault};
 use crate::ending::Ending;
 use crate::error_rows::error_row;
 use board_def::Board;
+use callbacks::{Callbacks, Handler};
 use explore_words::{Asked, What, read_words};
-use irq_explore::{ExploreEnd, explore_row, explore_survey};
+use irq_explore::{ExploreEnd, explore_play, explore_row, explore_survey};
 use irq_io::{Sink, Source};
+use line_makers::MakesDomainLine;
 use program_io::{read_input, tell_row};
 use std::alloc::Global;
 use text_row::TextRow;
 
 /// Does what the words ask for: reads a board from `src`, and looks through the states of its
 /// lines: it surveys all lines, or one, or looks for a shortest log of a line that ends with the
-/// row, or that leaves the line so. Other words are
-/// refused before anything is read. What went wrong is told on `err`, in one row; a fault of `err`
-/// itself changes nothing.
-pub fn explore_main<S: Source, O: Sink, E: Sink>(
+/// row, or that leaves the line so, and prints it, or a play of the board that comes to it: the
+/// maker makes the lines that are played, with these handlers. Other words are refused before
+/// anything is read. What went wrong is told on `err`, in one row; a fault of `err` itself changes
+/// nothing.
+pub fn explore_main<S: Source, O: Sink, E: Sink, M: MakesDomainLine, H: Handler>(
     alloc: Global,
     words: &[&str],
     src: &mut S,
     out: &mut O,
     err: &mut E,
+    maker: &M,
+    handlers: &Callbacks<H>,
 ) -> Ending
     ensures usage { (result ≡ Ending.Usage) ↔ AsksNothing (map (λ w. w.now) words.now) }
     ensures unread { AsksNothing (map (λ w. w.now) words.now) → src.new ≡ src.old }
@@ -49,7 +54,7 @@ pub fn explore_main<S: Source, O: Sink, E: Sink>(
         (E.faults err.old) (E.faults err.new) }
     ensures quiet { is_quiet result ≡ true → err.new ≡ err.old }
 {
-    let ending = work(alloc, words, src, out);
+    let ending = work(alloc, words, src, out, maker, handlers);
     if !is_quiet(ending) {
         end_early(ending, err);
     }
@@ -57,7 +62,14 @@ pub fn explore_main<S: Source, O: Sink, E: Sink>(
 }
 
 /// All but the row on the error sink.
-fn work<S: Source, O: Sink>(alloc: Global, words: &[&str], src: &mut S, out: &mut O) -> Ending
+fn work<S: Source, O: Sink, M: MakesDomainLine, H: Handler>(
+    alloc: Global,
+    words: &[&str],
+    src: &mut S,
+    out: &mut O,
+    maker: &M,
+    handlers: &Callbacks<H>,
+) -> Ending
     ensures usage { (result ≡ Ending.Usage) ↔ AsksNothing (map (λ w. w.now) words.now) }
     ensures unread { AsksNothing (map (λ w. w.now) words.now) → src.new ≡ src.old }
     ensures does { (asked : Asked) → Asks (map (λ w. w.now) words.now) asked
@@ -70,13 +82,20 @@ fn work<S: Source, O: Sink>(alloc: Global, words: &[&str], src: &mut S, out: &mu
     ensures silent { is_printing result ≡ false → out.new ≡ out.old }
 {
     match read_words(words) {
-        Some(asked) => act(alloc, asked, src, out),
+        Some(asked) => act(alloc, asked, src, out, maker, handlers),
         None => Ending::Usage,
     }
 }
 
 /// Does what is asked.
-fn act<S: Source, O: Sink>(alloc: Global, asked: Asked, src: &mut S, out: &mut O) -> Ending
+fn act<S: Source, O: Sink, M: MakesDomainLine, H: Handler>(
+    alloc: Global,
+    asked: Asked,
+    src: &mut S,
+    out: &mut O,
+    maker: &M,
+    handlers: &Callbacks<H>,
+) -> Ending
     requires { IsCount asked.states }
     ensures does { Does asked (S.left src.old) (S.left src.new) (O.written out.old)
         (O.written out.new) result }
@@ -89,14 +108,21 @@ fn act<S: Source, O: Sink>(alloc: Global, asked: Asked, src: &mut S, out: &mut O
     match read_input(alloc, src) {
         Ok(board) => {
             board.is_board();
-            explore(alloc, &board, asked, out)
+            explore(alloc, &board, asked, out, maker, handlers)
         }
         Err(refused) => Ending::from(refused),
     }
 }
 
 /// Does with the board what is asked.
-fn explore<O: Sink>(alloc: Global, board: &Board, asked: Asked, out: &mut O) -> Ending
+fn explore<O: Sink, M: MakesDomainLine, H: Handler>(
+    alloc: Global,
+    board: &Board,
+    asked: Asked,
+    out: &mut O,
+    maker: &M,
+    handlers: &Callbacks<H>,
+) -> Ending
     requires { IsCount asked.states }
     ensures does { ExploresAs asked board.now (O.written out.old) (O.written out.new) result }
     ensures emptied { is_printed result ≡ true → O.kept out.new ≡ [] }
@@ -104,17 +130,19 @@ fn explore<O: Sink>(alloc: Global, board: &Board, asked: Asked, out: &mut O) -> 
         (is_write_fault_end result) }
     ensures silent { is_printing result ≡ false → out.new ≡ out.old }
 {
-    let end = explore_what(alloc, board, asked.states, asked.what, out);
+    let end = explore_what(alloc, board, asked.states, asked.what, out, maker, handlers);
     Ending::of(end, asked.states)
 }
 
 /// Does with the board what is asked of its lines.
-fn explore_what<O: Sink>(
+fn explore_what<O: Sink, M: MakesDomainLine, H: Handler>(
     alloc: Global,
     board: &Board,
     states: u32,
     what: What,
     out: &mut O,
+    maker: &M,
+    handlers: &Callbacks<H>,
 ) -> ExploreEnd
     requires { IsCount states }
     ensures does { ExploresWhat states what board.now (O.written out.old) (O.written out.new)
@@ -127,6 +155,9 @@ fn explore_what<O: Sink>(
         What::Survey => explore_survey(alloc, board, states, None, out),
         What::Line(line) => explore_survey(alloc, board, states, Some(line), out),
         What::Row(line, wanted) => explore_row(alloc, board, states, line, wanted, out),
+        What::Play(line, wanted) => explore_play(
+            alloc, board, states, line, wanted, maker, handlers, out,
+        ),
     }
 }
 

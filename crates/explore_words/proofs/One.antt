@@ -17,7 +17,7 @@ use Rattle.log_text.specs.EntryWords.{entry_words}
 use Rattle.log_text.specs.Formed.{IsSmall}
 use Rattle.explore_words.specs.Rows.{Spells, joined, left_words, standing_word, waits_word}
 use Rattle.log_read.specs.Takes.{Reads}
-use Rattle.explore_words.specs.Words.{Asks, AsksNothing, AsksWhat, IsCount}
+use Rattle.explore_words.specs.Words.{Asks, AsksNothing, AsksWhat, IsCount, SpellsPlay}
 use Rattle.explore_words.specs.declared.Asked.{Asked}
 use Rattle.explore_words.specs.declared.What.{What}
 use Rattle.explore_words.specs.declared.What.TheVariants as whats
@@ -105,8 +105,8 @@ line_no n = record { 0 = n }
 
 -- a row says one thing
 
-abbrev row_of : LineNo → Wanted → What
-row_of line wanted = whats.Row line wanted
+abbrev row_of : LineNo → Wanted → LineNo × Wanted
+row_of line wanted = (line, wanted)
 
 module _ (bytes : List ℕ) where
   both_rows : (l m : LineNo) (e f : Entry) → Spells bytes l (wants.Row e) → Spells bytes m (wants.Row f) → row_of l (wants.Row e) ≡ row_of m (wants.Row f)
@@ -144,6 +144,9 @@ pub option_is_no_row : (first bs : List ℕ) (words rest : List (List ℕ)) (l :
     → Spells (joined words) l v → ⊥
 option_is_no_row first bs words rest l v dash are is = dashed first bs rest l v dash (subst (λ bytes. Spells bytes l v) (ap joined are) is)
 
+play_is_no_line : (words : List (List ℕ)) (l : LineNo) (v : Wanted) (m : LineNo) → SpellsPlay words l v → AsksWhat words (whats.Line m) → ⊥
+play_is_no_line words l v m a b = let same : codes "--play" ≡ codes "--line" = ap (λ ws. at ws 0) (sym a.words_are ∙ b.0) in cc
+
 what_one : (words : List (List ℕ)) (a b : What) → AsksWhat words a → AsksWhat words b → a ≡ b
 what_one words whats.Survey whats.Survey a b = refl
 what_one words whats.Survey (whats.Line m) a b = let same = sym a ∙ b.0 in cc
@@ -154,12 +157,23 @@ what_one words (whats.Line l) (whats.Line m) a b =
 what_one words (whats.Line l) (whats.Row m w) a b = absurd (option_is_no_row (codes "--line") _ words _ m w refl a.0 b)
 what_one words (whats.Row l v) whats.Survey a b = absurd (no_words_are_no_row words l v b a)
 what_one words (whats.Row l v) (whats.Line m) a b = absurd (option_is_no_row (codes "--line") _ words _ l v refl b.0 a)
-what_one words (whats.Row l v) (whats.Row m w) a b = spells_one (joined words) l m v w a b
+what_one words (whats.Row l v) (whats.Row m w) a b = ap (λ (x : LineNo × Wanted). whats.Row x.0 x.1) (spells_one (joined words) l m v w a b)
+what_one words (whats.Play l v) (whats.Play m w) a b =
+    let same : a.rest ≡ b.rest = ap (λ (ws : List (List ℕ)). drop 1 ws) (sym a.words_are ∙ b.words_are) in
+    ap (λ (x : LineNo × Wanted). whats.Play x.0 x.1)
+    (spells_one (joined b.rest) l m v w (subst (λ ws. Spells (joined ws) l v) same a.row) b.row)
+what_one words (whats.Play l v) whats.Survey a b = let same = sym b ∙ a.words_are in cc
+what_one words whats.Survey (whats.Play m w) a b = let same = sym a ∙ b.words_are in cc
+what_one words (whats.Play l v) (whats.Line m) a b = absurd (play_is_no_line words l v m a b)
+what_one words (whats.Line l) (whats.Play m w) a b = absurd (play_is_no_line words m w l b a)
+what_one words (whats.Play l v) (whats.Row m w) a b = absurd (option_is_no_row (codes "--play") _ words _ m w refl a.words_are b)
+what_one words (whats.Row l v) (whats.Play m w) a b = absurd (option_is_no_row (codes "--play") _ words _ l v refl b.words_are a)
 
 -- words that begin with the number of states ask for nothing without it
 pub not_without : (words rest : List (List ℕ)) (number : List ℕ) (what : What) → words ≡ codes "--states" ∷ number ∷ rest → AsksWhat words what → ⊥
 not_without words rest number whats.Survey are a = let same = sym a ∙ are in cc
 not_without words rest number (whats.Line l) are a = let same : codes "--line" ≡ codes "--states" = ap (λ ws. at ws 0) (sym a.0 ∙ are) in cc
+not_without words rest number (whats.Play l v) are a = let same : codes "--play" ≡ codes "--states" = ap (λ ws. at ws 0) (sym a.words_are ∙ are) in cc
 not_without words rest number (whats.Row l v) are a = option_is_no_row (codes "--states") _ words (number ∷ rest) l v refl are a
 
 abbrev asked_by : ℕ → What → Asked
@@ -196,3 +210,13 @@ pub no_line : (number : List ℕ) → Reads IsSmall decimal number None → (wha
 no_line number none whats.Survey a = cc
 no_line number none (whats.Line l) a = none l.0 a.1 (ap (λ ws. at ws 1) a.0)
 no_line number none (whats.Row l v) a = option_is_no_row (codes "--line") _ (codes "--line" ∷ number ∷ []) _ l v refl refl a
+no_line number none (whats.Play l v) a = let same : codes "--line" ≡ codes "--play" = ap (λ ws. at ws 0) a.words_are in cc
+
+pub no_play : (row : List (List ℕ)) → ((line : LineNo) (wanted : Wanted) → Spells (joined row) line wanted → ⊥) → (what : What)
+    → AsksWhat (codes "--play" ∷ row) what → ⊥
+no_play row none whats.Survey a = cc
+no_play row none (whats.Line l) a = let same : codes "--play" ≡ codes "--line" = ap (λ ws. at ws 0) a.0 in cc
+no_play row none (whats.Row l v) a = option_is_no_row (codes "--play") _ (codes "--play" ∷ row) row l v refl refl a
+no_play row none (whats.Play l v) a =
+    let same : row ≡ a.rest = ap (λ (ws : List (List ℕ)). drop 1 ws) a.words_are in
+    none l v (subst (λ ws. Spells (joined ws) l v) (sym same) a.row)

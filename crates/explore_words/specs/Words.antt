@@ -1,6 +1,8 @@
 -- The words of the command line, and what they ask for.
 use Rattle.std.specs.Prelude.{◌≡◌, ◌⊎◌, ℕ, ◌≤◌, Option, MatchOption, List, [], ◌∷◌, codes, decimal}
 use Rattle.log_text.specs.Formed.{IsSmall}
+use Rattle.irq_base.specs.declared.numbers.LineNo.{LineNo}
+use Rattle.line_wanted.specs.declared.wanted.Wanted.{Wanted}
 use Rattle.explore_words.specs.Rows.{Spells, joined}
 use Rattle.explore_words.specs.declared.Asked.{Asked}
 use Rattle.explore_words.specs.declared.What.{What}
@@ -14,12 +16,19 @@ usual_states = 1000000
 abbrev pub IsCount : ℕ → Type 0
 IsCount n = (1 ≤ n) × (n ≤ 100000000)
 
+-- the words behind `--play` are the row
+pub record SpellsPlay (words : List (List ℕ)) (line : LineNo) (wanted : Wanted) : Type 0 where
+  pub rest : List (List ℕ)
+  pub words_are : words ≡ codes "--play" ∷ rest
+  pub row : Spells (joined rest) line wanted
+
 -- No words: all lines are surveyed. `--line` and a number: that line. Other words are a row, in one
--- argument or in several.
+-- argument or in several, behind `--play` or without it.
 abbrev pub AsksWhat : List (List ℕ) → What → Type 0
 AsksWhat words whats.Survey = words ≡ []
 AsksWhat words (whats.Line line) = (words ≡ codes "--line" ∷ decimal line.0 ∷ []) × IsSmall line.0
 AsksWhat words (whats.Row line wanted) = Spells (joined words) line wanted
+AsksWhat words (whats.Play line wanted) = SpellsPlay words line wanted
 
 -- `--states` and a number stand before the words that say what is asked
 pub record HasStates (words : List (List ℕ)) (asked : Asked) : Type 0 where

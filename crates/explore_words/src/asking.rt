@@ -64,11 +64,22 @@ fn read_what(words: &[&str]) -> Option<What>
     match words {
         [] => Some(What::Survey),
         ["--line", line] => read_line(line),
+        ["--play", row @ ..] => read_play(row),
         _ => {
             let (line, wanted) = read_wanted_in(words)?;
             Some(What::Row(line, wanted))
         }
     }
+}
+
+/// The row behind `--play`, in one word or in several.
+fn read_play(row: &[&str]) -> Option<What>
+    ensures { FindsWhat (codes "--play" ∷ map (λ w. w.now) row.now) result }
+{
+    let Some((line, wanted)) = read_wanted_in(row) else {
+        return None;
+    };
+    Some(What::Play(line, wanted))
 }
 
 /// The line whose number the word behind `--line` is.

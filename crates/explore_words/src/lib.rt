@@ -1,5 +1,5 @@
 //! The words of the command line of `genirq-explore`, and what they ask for: a survey of all lines,
-//! or of one, or a row of a line, for which a shortest log is looked for.
+//! or of one, or a row of a line, for which a shortest log is looked for, or a play that comes to it.
 //!
 //! A row may be one argument or several. It is the row of an entry, as logs have it, or it says how
 //! a line is left at rest: `1 rest disabled 0 pending`.
@@ -26,6 +26,8 @@ pub enum What {
     Line(LineNo),
     /// A shortest log of the line that is as wanted.
     Row(LineNo, Wanted),
+    /// A play of the board that comes to a shortest log of the line that is as wanted.
+    Play(LineNo, Wanted),
 }
 
 /// What the program can be asked for.

@@ -1,5 +1,6 @@
 pub mod Answered
 pub mod Explored
+pub mod Played
 pub mod Present
 pub mod Printing
 pub mod Searched

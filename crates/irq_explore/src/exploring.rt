@@ -35,6 +35,9 @@ pub enum ExploreEnd {
     /// The line has more states than were to be visited, and what is known of it is printed. If
     /// several lines have, it is the first.
     Cut(LineNo),
+    /// There is a log as wanted, but no play of the board that comes to it was found. Nothing is
+    /// printed.
+    NoPlay,
     /// The board lacks the line, or someone or something that the row names.
     NotThere,
     /// A write or a flush of the output failed.
@@ -99,7 +102,7 @@ fn say<O: Sink>(
 }
 
 /// How the exploring ended whose answer is printed.
-fn end_of(line: LineNo, answer: &Answer) -> ExploreEnd
+pub(crate) fn end_of(line: LineNo, answer: &Answer) -> ExploreEnd
     ensures { result ≡ end_of line answer.now }
 {
     match answer {

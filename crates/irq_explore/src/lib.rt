@@ -1,5 +1,5 @@
 //! What `genirq-explore` does with a board: it looks for a shortest log of a line that is as
-//! wanted, and prints it, or that there is none.
+//! wanted, and prints it, or that there is none, or a play of the board that comes to it.
 //!
 //! Each line is searched by itself, through the states of all its legal histories: its definition
 //! with its calls, whatever the drivers do on other lines between. So what is said is said of every
@@ -8,6 +8,7 @@
 
 mod answering;
 pub mod exploring;
+mod playing;
 mod present;
 mod printing;
 mod small;
@@ -15,3 +16,4 @@ mod survey_printing;
 pub mod surveying;
 
 pub use exploring::{ExploreEnd, explore_row, explore_survey};
+pub use playing::explore_play;
