@@ -14,16 +14,11 @@ use Rattle.explore_picks.specs.declared.making.PlayToEnd.{PlayToEnd}
 use Rattle.explore_picks.specs.declared.making.PlayToEnd.TheVariants as ends
 use Rattle.explore_play.specs.Made.{ArePicked}
 
--- the board with these picks in place of its own
-abbrev pub with_picks : BoardSeen → List Actor → BoardSeen
-with_picks b picks = record b { picks = picks }
-
 -- with these picks in place of the board's, whatever picks come after them, each play of the board
 -- begins with these moves
 abbrev pub BeginPlays : BoardSeen → List Actor → List Move → Type 0
 BeginPlays b picks g = (more : List Actor) (h : List Move) (end : End)
-    → Plays (with_picks b (picks ++ more)) (picks ++ more) (reverse h) end
-    → (k : List Move) × (h ≡ g ++ k)
+    → Plays b (picks ++ more) (reverse h) end → (k : List Move) × (h ≡ g ++ k)
 
 -- These moves are a play of the board so far, each made by the pick at its place, and the line's
 -- part of them is this history. All oldest first.

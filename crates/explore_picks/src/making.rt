@@ -1,9 +1,9 @@
 //! The play and its printing.
-ghost use Rattle.std.specs.Prelude.{◌≡◌, ◌≤◌, ◌++◌, [], All, IfOk, IfSome, length};
+ghost use Rattle.std.specs.Prelude.{◌≡◌, ◌≤◌, ◌++◌, [], All, IfOk, IfSome, IsSome, length};
 ghost use Rattle.board_def.specs.Layout.{layout_of};
 ghost use Rattle.explore_picks.specs.Printed.{PlaysTo, is_write_fault};
 ghost use Rattle.explore_picks.specs.Rows.{picks_text};
-ghost use Rattle.explore_play.specs.Made.{IsMade};
+ghost use Rattle.explore_play.specs.Made.{IsAlone, IsMade};
 ghost use Rattle.irq_io.specs.Faults.{Counts};
 ghost use Rattle.irq_io.specs.Whole.{KeepsNone, WritesAll, writing_failed};
 ghost use Rattle.irq_play.specs.Printing.{HasRow};
@@ -56,6 +56,7 @@ fn make<'b, M: MakesDomainLine, H: Handler>(
     ensures made { IfOk result (λ found. IfSome found
         (λ p. IsMade p.system p.picks.items line wanted.now)) }
     ensures few { IfOk result (λ found. IfSome found (λ p. length p.picks.items ≤ 65536)) }
+    ensures alone { IsAlone board.now line wanted.now → IfOk result IsSome }
 {
     let (domains, layout) = lay(alloc, board)?;
     let maker = OverDomains::of_board(maker, &domains, board);
@@ -88,7 +89,8 @@ fn print_made<L: IrqLine, O: Sink>(play: &PlayTo<'_, L>, out: &mut O) -> WriteEn
 }
 
 /// Makes a play of the board to which the line's history `wanted` comes, and prints its moves and
-/// its picks. That one is found isn't promised.
+/// its picks. One is found if no other line takes part and there is room for the history; else that
+/// isn't promised.
 pub fn play_to_and_print<M: MakesDomainLine, H: Handler, O: Sink>(
     alloc: Global,
     board: &Board,
@@ -104,6 +106,7 @@ pub fn play_to_and_print<M: MakesDomainLine, H: Handler, O: Sink>(
     ensures write_fault { Counts (O.faults out.old) (O.faults out.new) (is_write_fault result) }
     ensures silent { result ≡ PlayToEnd.NoneFound → out.new ≡ out.old }
     ensures refused { result ≡ PlayToEnd.NoMemory → out.new ≡ out.old }
+    ensures alone { IsAlone board.now line wanted.now → result ≡ PlayToEnd.NoneFound → ⊥ }
 {
     match make(alloc, board, line, wanted, maker, handlers) {
         Ok(Some(play)) => match print_made(&play, out) {

@@ -11,7 +11,7 @@ use Rattle.explore_play.specs.Made.{ArePicked}
 use Rattle.explore_play.proofs.Making.{begins}
 
 -- a list without an item, or with a last one
-IsLast : {X : Type 0} → List X → Type 0
+abbrev IsLast : {X : Type 0} → List X → Type 0
 IsLast {X} xs = (ys : List X) × (y : X) × (xs ≡ ys ++ y ∷ [])
 
 last : {X : Type 0} (xs : List X) → (xs ≡ []) ⊎ IsLast xs

@@ -1,10 +1,12 @@
 -- A play that is made pick by pick, and its part on one line.
-use Rattle.std.specs.Prelude.{◌≡◌, ◌<◌, Some, List, [], ◌∷◌, length, reverse}
+use Rattle.std.specs.Prelude.{◌≡◌, ◌<◌, ◌≤◌, Some, List, [], ◌∷◌, length, reverse}
 use Rattle.irq_base.specs.declared.entries.Actor.{Actor}
 use Rattle.irq_base.specs.declared.entries.Entry.{Entry}
+use Rattle.irq_base.specs.declared.lines.LineDef.{LineDef}
 use Rattle.irq_base.specs.declared.numbers.LineNo.{LineNo}
+use Rattle.irq_model.specs.Legal.{IsLegal}
 use Rattle.board_def.specs.Seen.{BoardSeen}
-use Rattle.board_play.specs.Lines.{Move, part, lines_of}
+use Rattle.board_play.specs.Lines.{Move, part, defs_of, lines_of}
 use Rattle.board_play.specs.Order.{due_move}
 use Rattle.board_core.specs.Seen.{SystemSeen, board_lines}
 
@@ -17,6 +19,16 @@ ArePicked board (a ∷ picks) (m ∷ g) =
     × (length (part m.0 g) < board.log)
 ArePicked board [] (m ∷ g) = ⊥
 ArePicked board (a ∷ picks) [] = ⊥
+
+-- the line is the only one of the board that takes part, the entries, oldest first, are a legal
+-- history of it, and there is room for them in a line's history and among the picks
+pub record IsAlone (board : BoardSeen) (line : LineNo) (es : List Entry) : Type 0 where
+  pub def : LineDef
+  pub only : defs_of board ≡ def ∷ []
+  pub number : def.line ≡ line
+  pub legal : IsLegal def es
+  pub room : length es ≤ board.log
+  pub few : length es ≤ 65536
 
 -- The picks made the moves of the log, nothing else has happened, and the line's part of them are
 -- these entries. Picks and entries oldest first.

@@ -1,13 +1,17 @@
 //! The play.
 ghost use Rattle.std.specs.Prelude.{◌≡◌, ◌≤◌, ◌++◌, List, [], length, reverse, slice_get, Some};
-ghost use Rattle.std.specs.Prelude.{IfOk, true};
+ghost use Rattle.std.specs.Prelude.{◌∷◌, ◌↔◌, IfOk, IsSome, IsTrue, map, true};
+ghost use Rattle.irq_base.specs.Who.{actor_of};
 ghost use Rattle.irq_base.specs.declared.entries.Actor.{Actor};
+ghost use Rattle.irq_base.specs.declared.entries.Entry.{Entry};
+ghost use Rattle.irq_base.specs.declared.lines.LineDef.{LineDef};
+ghost use Rattle.irq_model.specs.Legal.{IsLegalPast};
 ghost use Rattle.board_def.specs.Seen.{BoardSeen};
-ghost use Rattle.board_play.specs.Lines.{Move};
+ghost use Rattle.board_play.specs.Lines.{Move, defs_of};
 ghost use Rattle.board_play.specs.Play.{End, IsChosen, Plays};
 ghost use Rattle.board_core.specs.Playing.{IsFresh};
-ghost use Rattle.board_core.specs.Turns.{Turns};
-ghost use Rattle.explore_play.specs.Made.{ArePicked, IsMade};
+ghost use Rattle.board_core.specs.Turns.{Turns, move_of};
+ghost use Rattle.explore_play.specs.Made.{ArePicked, IsAlone, IsMade};
 
 use crate::others::{is_elsewhere, others_of};
 use board_core::{System, Turn};
@@ -28,7 +32,8 @@ fn turn_of<L: IrqLine, H: Handler>(
     others: &[Actor],
     handlers: &Callbacks<H>,
 ) -> (Actor, Turn)
-    ensures { Turns system.old result.0 result.1 system.new }
+    ensures turns { Turns system.old result.0 result.1 system.new }
+    ensures first { IsSome (move_of system.old actor) → result.0 ≡ actor }
 {
     match system.turn(actor, handlers) {
         Turn::NotYet => {}
@@ -47,7 +52,7 @@ fn turn_of<L: IrqLine, H: Handler>(
 
 /// Whether the entry stands at index `place` of the history.
 fn is_at(wanted: &[Entry], place: usize, entry: Entry) -> bool
-    ensures { result ≡ true → slice_get wanted.now place ≡ Some entry }
+    ensures { IsTrue result ↔ (slice_get wanted.now place ≡ Some entry) }
 {
     match wanted.get(place) {
         Some(next) => *next == entry,
@@ -57,7 +62,8 @@ fn is_at(wanted: &[Entry], place: usize, entry: Entry) -> bool
 
 /// Makes moves until the line's history is `wanted`, and tells in `picks` whose moves they are.
 /// False if that wasn't done: nobody could move on, a log was full, or it took more than `PICKS`
-/// moves. The only error is `NoMemory`.
+/// moves. It is done if no other line takes part, and there is room for the history. The only error
+/// is `NoMemory`.
 pub fn play_to<L: IrqLine, H: Handler>(
     alloc: Global,
     system: &mut System<'_, L>,
@@ -73,6 +79,8 @@ pub fn play_to<L: IrqLine, H: Handler>(
     ensures play { IfOk result (λ found. found ≡ true
         → IsMade system.new picks.new.items line wanted.now) }
     ensures few { IfOk result (λ found. length picks.new.items ≤ 65536) }
+    ensures alone { IsAlone system.old.board line wanted.now
+        → IfOk result (λ found. found ≡ true) }
 {
     let others = others_of(alloc, system.board(), line)?;
     let mut made = 0;
@@ -91,12 +99,21 @@ pub fn play_to<L: IrqLine, H: Handler>(
                     made += 1;
                 }
             }
-            (_, Turn::NotYet) | (_, Turn::Full { .. }) => return Ok(false),
+            (_, Turn::NotYet) => return Ok(false),
+            (_, Turn::Full { .. }) => return Ok(false),
             (_, Turn::NoMemory) => return Err(NoMemory),
         }
     }
     Ok(true)
 }
+
+/// On a board of one line each legal history of the line is a play by itself, if the board's log has
+/// room for it: the actors of its entries make it. The newest entry comes first.
+pub fn alone_is_play()
+    ensures law { (board : BoardSeen) (def : LineDef) (past : List Entry)
+        → defs_of board ≡ def ∷ [] → IsLegalPast def past → length past ≤ board.log
+        → ArePicked board (map (actor_of def.line) past) (map (λ e. (def.line, e)) past) }
+{}
 
 /// Put in place of a board's picks, the picks make each play begin with these moves, whatever picks
 /// come after them.

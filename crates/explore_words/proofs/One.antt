@@ -144,8 +144,18 @@ pub option_is_no_row : (first bs : List ℕ) (words rest : List (List ℕ)) (l :
     → Spells (joined words) l v → ⊥
 option_is_no_row first bs words rest l v dash are is = dashed first bs rest l v dash (subst (λ bytes. Spells bytes l v) (ap joined are) is)
 
+-- words whose third bytes differ
+not_word : (m n : ℕ) (a b : List ℕ) → get_or a 2 0 ≡ m → get_or b 2 0 ≡ n → (m ≡ n → ⊥) → a ≡ b → ⊥
+not_word m n a b x y differ same = differ (sym x ∙ (ap (λ ds. get_or ds 2 0) same ∙ y))
+
+play_or_line : codes "--play" ≡ codes "--line" → ⊥
+play_or_line = not_word 112 108 (codes "--play") (codes "--line") refl refl (λ i. omega (arith, i))
+
+play_or_states : codes "--play" ≡ codes "--states" → ⊥
+play_or_states = not_word 112 115 (codes "--play") (codes "--states") refl refl (λ i. omega (arith, i))
+
 play_is_no_line : (words : List (List ℕ)) (l : LineNo) (v : Wanted) (m : LineNo) → SpellsPlay words l v → AsksWhat words (whats.Line m) → ⊥
-play_is_no_line words l v m a b = let same : codes "--play" ≡ codes "--line" = ap (λ ws. at ws 0) (sym a.words_are ∙ b.0) in cc
+play_is_no_line words l v m a b = play_or_line (ap (λ ws. at ws 0) (sym a.words_are ∙ b.0))
 
 what_one : (words : List (List ℕ)) (a b : What) → AsksWhat words a → AsksWhat words b → a ≡ b
 what_one words whats.Survey whats.Survey a b = refl
@@ -173,7 +183,7 @@ what_one words (whats.Row l v) (whats.Play m w) a b = absurd (option_is_no_row (
 pub not_without : (words rest : List (List ℕ)) (number : List ℕ) (what : What) → words ≡ codes "--states" ∷ number ∷ rest → AsksWhat words what → ⊥
 not_without words rest number whats.Survey are a = let same = sym a ∙ are in cc
 not_without words rest number (whats.Line l) are a = let same : codes "--line" ≡ codes "--states" = ap (λ ws. at ws 0) (sym a.0 ∙ are) in cc
-not_without words rest number (whats.Play l v) are a = let same : codes "--play" ≡ codes "--states" = ap (λ ws. at ws 0) (sym a.words_are ∙ are) in cc
+not_without words rest number (whats.Play l v) are a = play_or_states (ap (λ ws. at ws 0) (sym a.words_are ∙ are))
 not_without words rest number (whats.Row l v) are a = option_is_no_row (codes "--states") _ words (number ∷ rest) l v refl are a
 
 abbrev asked_by : ℕ → What → Asked
@@ -210,12 +220,12 @@ pub no_line : (number : List ℕ) → Reads IsSmall decimal number None → (wha
 no_line number none whats.Survey a = cc
 no_line number none (whats.Line l) a = none l.0 a.1 (ap (λ ws. at ws 1) a.0)
 no_line number none (whats.Row l v) a = option_is_no_row (codes "--line") _ (codes "--line" ∷ number ∷ []) _ l v refl refl a
-no_line number none (whats.Play l v) a = let same : codes "--line" ≡ codes "--play" = ap (λ ws. at ws 0) a.words_are in cc
+no_line number none (whats.Play l v) a = play_or_line (ap (λ ws. at ws 0) (sym a.words_are))
 
 pub no_play : (row : List (List ℕ)) → ((line : LineNo) (wanted : Wanted) → Spells (joined row) line wanted → ⊥) → (what : What)
     → AsksWhat (codes "--play" ∷ row) what → ⊥
 no_play row none whats.Survey a = cc
-no_play row none (whats.Line l) a = let same : codes "--play" ≡ codes "--line" = ap (λ ws. at ws 0) a.0 in cc
+no_play row none (whats.Line l) a = play_or_line (ap (λ ws. at ws 0) a.0)
 no_play row none (whats.Row l v) a = option_is_no_row (codes "--play") _ (codes "--play" ∷ row) row l v refl refl a
 no_play row none (whats.Play l v) a =
     let same : row ≡ a.rest = ap (λ (ws : List (List ℕ)). drop 1 ws) a.words_are in

@@ -1,9 +1,11 @@
 -- What the exploring of a board says when a play is asked for that comes to a log, by how it ended.
-use Rattle.std.specs.Prelude.{◌≡◌, ℕ, true, false, Option, List}
+use Rattle.std.specs.Prelude.{◌≡◌, ℕ, true, false, Option, Some, None, List}
 use Rattle.board_def.specs.Seen.{BoardSeen}
 use Rattle.explore_picks.specs.Printed.{PrintsPlayTo}
 use Rattle.explore_picks.specs.declared.making.PlayToEnd.{PlayToEnd}
 use Rattle.explore_picks.specs.declared.making.PlayToEnd.TheVariants as plays
+use Rattle.explore_play.specs.Made.{IsAlone}
+use Rattle.irq_base.specs.declared.entries.Entry.{Entry}
 use Rattle.irq_base.specs.declared.numbers.LineNo.{LineNo}
 use Rattle.irq_io.specs.Whole.{WritesAll}
 use Rattle.irq_io.specs.declared.whole.WriteEnd.{WriteEnd}
@@ -35,12 +37,20 @@ pub record SaysPlay (states : ℕ) (b : BoardSeen) (line : LineNo) (wanted : Wan
   pub answered : Answered states b line wanted answer
   pub written : WritesPlay b line before now write answer
 
--- a log as wanted was found
+-- the log that was found
+abbrev pub log_of : Answer → Option (List Entry)
+log_of (answers.Found es) = Some es.items
+log_of answers.Never = None
+log_of (answers.NotWithin n) = None
+
+-- a log as wanted was found; another line takes part, or there is no room for the log
 pub record FindsLog (states : ℕ) (b : BoardSeen) (line : LineNo) (wanted : Wanted) : Type 0 where
   pub there : has_all b line wanted ≡ true
   pub answer : Answer
   pub answered : Answered states b line wanted answer
-  pub found : end_of line answer ≡ ends.Done
+  pub entries : List Entry
+  pub found : log_of answer ≡ Some entries
+  pub not_alone : IsAlone b line entries → ⊥
 
 -- all of it is printed, with this end
 abbrev pub EndsPlay : ℕ → BoardSeen → LineNo → Wanted → Option (List ℕ) → Option (List ℕ)

@@ -1,19 +1,27 @@
-use Rattle.std.proofs.Common.{◌≡◌, ◌+◌, true, false, List, take, length, sym, ap, subst, ◌∙◌, arith}
+use Rattle.std.proofs.Common.{◌≡◌, ◌+◌, true, false, true≢false, Some, List, take, length, sym, ap, subst, ◌∙◌, arith}
+use Rattle.std.proofs.lemmas.Bool.{false≢true}
+use Rattle.std.proofs.lemmas.Option.{slice_get-get_or}
 use Rattle.std.proofs.lemmas.List.{length_push}
 use Rattle.irq_base.specs.declared.entries.Actor.{Actor}
+use Rattle.irq_base.specs.declared.numbers.LineNo.{LineNo}
 use Rattle.irq_model.specs.Kinds.{same_line}
+use Rattle.irq_steps.proofs.Same.{same_self_line}
+use Rattle.board_def.specs.Seen.{BoardSeen}
 use Rattle.board_core.specs.Turns.{Moves, Turns, move_of}
 use Rattle.board_core.specs.declared.turns.Turn.{Turn}
+use Rattle.board_core.specs.declared.turns.Turn.TheVariants as turns
+use Rattle.explore_play.specs.Made.{IsAlone}
+use Rattle.explore_play.proofs.Alone.{turns_next}
 use Rattle.explore_play.proofs.Making.{made_here, made_elsewhere, one_more}
 use Rattle.explore_play.proofs.playing.play_to.Goals as goal
 
-pub loop-made-preserved-else-not-is_at : goal.loop-made-preserved-else-not-is_at
-loop-made-preserved-else-not-is_at g c =
+pub loop-made-preserved-then-eq : goal.loop-made-preserved-then-eq
+loop-made-preserved-then-eq g c =
     let old = c.loop-made.system in
     let new = c.turn_of.new.system in
     let mover = c.turn_of.result.0 in
     let moves : Moves old (move_of old mover) (c.in_default-Moved.of, c.in_default-Moved.entry) new
-    = subst (λ (x : Turn). Turns old mover x new) c.in_default-Moved.is-1 c.turn_of.ensures in
+    = subst (λ (x : Turn). Turns old mover x new) c.in_default-Moved.is-1 c.turn_of.ensures.turns in
     let same : same_line c.args.line c.in_default-Moved.of ≡ true = sym c.eq.ensures ∙ c.if-eq.true in
     let count : length c.push.new.self.items ≡ length c.loop-made.picks.items + 1
     = ap (λ (ps : List Actor). length ps) c.in_ok-push-in_default-Moved.ensures.items ∙ length_push c.loop-made.picks.items mover in
@@ -23,9 +31,10 @@ loop-made-preserved-else-not-is_at g c =
       made = made_here old new c.loop-made.picks.items c.push.new.self.items mover c.args.line (take c.loop-made.made c.args.wanted.now)
           c.in_default-Moved.of c.in_default-Moved.entry c.loop-made.invariant.made moves c.in_ok-push-in_default-Moved.ensures.items same
           (take (c.loop-made.made + 1) c.args.wanted.now)
-          (one_more c.args.wanted.now c.loop-made.made c.in_default-Moved.entry (c.is_at.ensures c.if-not-is_at.false));
+          (one_more c.args.wanted.now c.loop-made.made c.in_default-Moved.entry (c.is_at.ensures.0 c.if-not-is_at.false));
       few = omega (arith, count, c.len.ensures, c.if-len-ge-PICKS.false);
       within = omega (arith, c.loop-made-test.true);
+      alone = λ alone. omega (arith, count, c.loop-made.invariant.alone alone);
     }
 
 pub loop-made-preserved : goal.loop-made-preserved
@@ -34,7 +43,7 @@ loop-made-preserved g c =
     let new = c.turn_of.new.system in
     let mover = c.turn_of.result.0 in
     let moves : Moves old (move_of old mover) (c.in_default-Moved.of, c.in_default-Moved.entry) new
-    = subst (λ (x : Turn). Turns old mover x new) c.in_default-Moved.is-1 c.turn_of.ensures in
+    = subst (λ (x : Turn). Turns old mover x new) c.in_default-Moved.is-1 c.turn_of.ensures.turns in
     let other : same_line c.args.line c.in_default-Moved.of ≡ false = sym c.eq.ensures ∙ c.if-eq.false in
     let count : length c.push.new.self.items ≡ length c.loop-made.picks.items + 1
     = ap (λ (ps : List Actor). length ps) c.in_ok-push-in_default-Moved.ensures.items ∙ length_push c.loop-made.picks.items mover in
@@ -45,4 +54,35 @@ loop-made-preserved g c =
           c.in_default-Moved.of c.in_default-Moved.entry c.loop-made.invariant.made moves c.in_ok-push-in_default-Moved.ensures.items other;
       few = omega (arith, count, c.len.ensures, c.if-len-ge-PICKS.false);
       within = c.loop-made.invariant.within;
+      alone = λ alone. absurd (
+          let next = turns_next old c.loop-made.picks.items c.args.line c.args.wanted.now c.loop-made.made c.loop-made.invariant.made
+          (subst (λ (b : BoardSeen). IsAlone b c.args.line c.args.wanted.now) (sym c.loop-made.invariant.board) alone)
+          _ (slice_get-get_or c.args.wanted.now c.loop-made.made _ c.loop-made-test.true) c.actor-actor.result mover
+          c.actor-actor.ensures c.turn_of.ensures.first (turns.Moved c.in_default-Moved.of c.in_default-Moved.entry) new moves in
+          false≢true (sym other ∙ (ap (λ (l : LineNo). same_line c.args.line l) next.0 ∙ same_self_line c.args.line)));
     }
+
+pub returns-then-not-is_at-clause-alone : goal.returns-then-not-is_at-clause-alone
+returns-then-not-is_at-clause-alone g c = λ alone.
+    let old = c.loop-made.system in
+    let new = c.turn_of.new.system in
+    let mover = c.turn_of.result.0 in
+    let next = turns_next old c.loop-made.picks.items c.args.line c.args.wanted.now c.loop-made.made c.loop-made.invariant.made
+    (subst (λ (b : BoardSeen). IsAlone b c.args.line c.args.wanted.now) (sym c.loop-made.invariant.board) alone)
+    _ (slice_get-get_or c.args.wanted.now c.loop-made.made _ c.loop-made-test.true) c.actor-actor.result mover
+    c.actor-actor.ensures c.turn_of.ensures.first (turns.Moved c.in_default-Moved.of c.in_default-Moved.entry) new
+    (subst (λ (x : Turn). Turns old mover x new) c.in_default-Moved.is-1 c.turn_of.ensures.turns) in
+    absurd (true≢false (sym (c.is_at.ensures.1 (slice_get-get_or c.args.wanted.now c.loop-made.made _ c.loop-made-test.true ∙ ap Some (sym next.1)))
+    ∙ c.if-not-is_at.true))
+
+pub returns-in_default-NotYet-clause-alone : goal.returns-in_default-NotYet-clause-alone
+returns-in_default-NotYet-clause-alone g c = λ alone.
+    let old = c.loop-made.system in
+    let new = c.turn_of.new.system in
+    let mover = c.turn_of.result.0 in
+    let next = turns_next old c.loop-made.picks.items c.args.line c.args.wanted.now c.loop-made.made c.loop-made.invariant.made
+    (subst (λ (b : BoardSeen). IsAlone b c.args.line c.args.wanted.now) (sym c.loop-made.invariant.board) alone)
+    _ (slice_get-get_or c.args.wanted.now c.loop-made.made _ c.loop-made-test.true) c.actor-actor.result mover
+    c.actor-actor.ensures c.turn_of.ensures.first turns.NotYet new
+    (subst (λ (x : Turn). Turns old mover x new) c.in_default-NotYet.is-1 c.turn_of.ensures.turns) in
+    absurd next

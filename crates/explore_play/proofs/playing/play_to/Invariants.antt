@@ -1,5 +1,5 @@
 use Rattle.std.proofs.Common.{length, ◌-◌, ◌≡◌, ◌≤◌, take}
-use Rattle.explore_play.specs.Made.{IsMade}
+use Rattle.explore_play.specs.Made.{IsAlone, IsMade}
 use Rattle.explore_play.proofs.playing.play_to.Given as goal
 
 abbrev pub invariant-loop-made : goal.invariant-loop-made
@@ -9,6 +9,7 @@ invariant-loop-made g l = record {
   made : IsMade l.system l.picks.items l.line (take l.made l.wanted);
   few : length l.picks.items ≤ 65536;
   within : l.made ≤ length l.wanted;
+  alone : IsAlone l.fn.system.board l.line l.wanted → length l.picks.items ≡ l.made;
 }
 
 abbrev pub decreases-loop-made : goal.decreases-loop-made

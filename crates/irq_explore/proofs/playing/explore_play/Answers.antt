@@ -1,0 +1,12 @@
+use Rattle.irq_explore.proofs.Placed.{answered_line}
+use Rattle.irq_explore.proofs.Said.{all_there}
+use Rattle.irq_explore.proofs.playing.explore_play.Goals as goal
+
+pub say_play-requires-clause-there : goal.say_play-requires-clause-there
+say_play-requires-clause-there g c =
+    all_there c.args.board.now c.args.line c.args.wanted c.in-Some.place c.has_named.result c.in-Some.ensures c.has_named.ensures c.if-not-has_named.false
+
+pub say_play-requires-clause-answered : goal.say_play-requires-clause-answered
+say_play-requires-clause-answered g c =
+    answered_line c.args.board.now c.is_board.ensures.board c.args.line c.in-Some.place c.in-Some.ensures c.args.states c.args.wanted
+    c.in-Ok.answer c.in-Ok.ensures.answered
