@@ -11,7 +11,6 @@ use Rattle.irq_base.specs.declared.entries.Actor.TheVariants as actors
 use Rattle.irq_base.specs.declared.entries.Entry.{Entry}
 use Rattle.irq_base.specs.declared.entries.Entry.TheVariants as entries
 use Rattle.irq_base.specs.declared.lines.LineDef.{LineDef}
-use Rattle.irq_base.specs.declared.numbers.CpuNo.{CpuNo}
 use Rattle.irq_base.specs.declared.numbers.DriverNo.{DriverNo}
 use Rattle.irq_base.specs.declared.numbers.LineNo.{LineNo}
 use Rattle.irq_laws.specs.Kept.{complete_by}
@@ -25,7 +24,7 @@ use Rattle.board_def.specs.Seen.{BoardSeen}
 use Rattle.board_def.specs.declared.rows.ScriptCall.{ScriptCall}
 use Rattle.board_play.specs.Current.{calls_on, current_from, is_open}
 use Rattle.board_play.specs.Lines.{BoardLine, Move, defs_of, find_line, lines_at, lines_of, part}
-use Rattle.board_play.specs.Order.{due_line, due_move, due_on, flow_line, line_for, move_on, or_line}
+use Rattle.board_play.specs.Order.{due_line, due_move, due_on, line_for, move_on, or_line}
 use Rattle.board_play.proofs.Counting.{not_all_complete}
 use Rattle.board_play.proofs.OfBoard.{calls_fit}
 use Rattle.board_core.specs.Seen.{SystemSeen, board_lines}

@@ -1,12 +1,12 @@
 -- Put in place of a board's picks, the picks make each play begin with their moves.
-use Rattle.std.proofs.Common.{◌≡◌, ◌⊎◌, inl, inr, ℕ, ◌<◌, Option, Some, None, List, [], ◌∷◌, ◌++◌, length, reverse}
+use Rattle.std.proofs.Common.{◌≡◌, ◌⊎◌, inl, inr, ◌<◌, Option, Some, List, [], ◌∷◌, ◌++◌, length, reverse}
 use Rattle.std.proofs.Common.{refl, sym, ap, subst, ◌∙◌, append-nil, append_assoc, arith}
 use Rattle.std.proofs.lemmas.Option.{same_Some, none-some}
 use Rattle.irq_base.specs.declared.entries.Actor.{Actor}
 use Rattle.irq_base.specs.declared.numbers.LineNo.{LineNo}
 use Rattle.board_def.specs.Seen.{BoardSeen}
 use Rattle.board_play.specs.Lines.{Move, part, lines_of}
-use Rattle.board_play.specs.Play.{End, Done, Full, IsChosen, IsEnd, IsFullAt, Plays, choice}
+use Rattle.board_play.specs.Play.{End, Done, Full, IsChosen, IsEnd, Plays, choice}
 use Rattle.explore_play.specs.Made.{ArePicked}
 use Rattle.explore_play.proofs.Making.{begins}
 

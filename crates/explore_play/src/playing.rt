@@ -107,8 +107,8 @@ pub fn play_to<L: IrqLine, H: Handler>(
     Ok(true)
 }
 
-/// On a board of one line each legal history of the line is a play by itself, if the board's log has
-/// room for it: the actors of its entries make it. The newest entry comes first.
+/// On a board of one line each legal history of the line is a play by itself, if the board's log
+/// has room for it: the actors of its entries make it. The newest entry comes first.
 pub fn alone_is_play()
     ensures law { (board : BoardSeen) (def : LineDef) (past : List Entry)
         → defs_of board ≡ def ∷ [] → IsLegalPast def past → length past ≤ board.log

@@ -20,9 +20,9 @@ use std::alloc::Global;
 use std::env::Args;
 use std::io;
 
-/// Does what the arguments say: reads `src`, prints to `out`, and says on `err` what went wrong. The
-/// handlers answer by their devices' kinds, and the maker makes the lines that are played. Unless
-/// memory is refused, arguments that ask for nothing end as a fault of usage; so do
+/// Does what the arguments say: reads `src`, prints to `out`, and says on `err` what went wrong.
+/// The handlers answer by their devices' kinds, and the maker makes the lines that are played.
+/// Unless memory is refused, arguments that ask for nothing end as a fault of usage; so do
 /// arguments that aren't all UTF-8.
 pub fn command<S: Source, O: Sink, E: Sink, M: MakesDomainLine>(
     alloc: Global,

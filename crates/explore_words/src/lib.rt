@@ -1,5 +1,6 @@
 //! The words of the command line of `genirq-explore`, and what they ask for: a survey of all lines,
-//! or of one, or a row of a line, for which a shortest log is looked for, or a play that comes to it.
+//! or of one, or a row of a line, for which a shortest log is looked for, or a play that comes to
+//! it.
 //!
 //! A row may be one argument or several. It is the row of an entry, as logs have it, or it says how
 //! a line is left at rest: `1 rest disabled 0 pending`.

@@ -29,18 +29,23 @@ module _ (states : ℕ) (b : BoardSeen) (line : LineNo) (wanted : Wanted) (befor
       → PlaysTo b line es before now end → (IsAlone b line es → end ≡ plays.NoneFound → ⊥) → ExploresPlay states b line wanted before now (end_of_play end)
   played answers.Never es log answered end plays alone = absurd log
   played (answers.NotWithin n) es log answered end plays alone = absurd log
-  played (answers.Found v) es log answered plays.Done is alone =
-      (answers.Found v, refl, record {
-        there = there;
-        answered = answered;
-        written = subst (λ (xs : List Entry). PlaysTo b line xs before now plays.Done) (sym log) is;
-      })
-  played (answers.Found v) es log answered plays.WriteFault is alone =
-      (answers.Found v, record {
-        there = there;
-        answered = answered;
-        written = subst (λ (xs : List Entry). PlaysTo b line xs before now plays.WriteFault) (sym log) is;
-      })
+  played (answers.Found v) es log answered plays.Done is alone = (
+    answers.Found v,
+    refl,
+    record {
+      there = there;
+      answered = answered;
+      written = subst (λ (xs : List Entry). PlaysTo b line xs before now plays.Done) (sym log) is;
+    },
+  )
+  played (answers.Found v) es log answered plays.WriteFault is alone = (
+    answers.Found v,
+    record {
+      there = there;
+      answered = answered;
+      written = subst (λ (xs : List Entry). PlaysTo b line xs before now plays.WriteFault) (sym log) is;
+    },
+  )
   played (answers.Found v) es log answered plays.NoneFound is alone = record {
     there = there;
     answer = answers.Found v;

@@ -84,9 +84,7 @@ fn say_play<M: MakesDomainLine, H: Handler, O: Sink>(
     match answer {
         Answer::Found(log) => {
             let log = log.as_slice();
-            end_of_play(play_to_and_print(
-                alloc, board, line, log, maker, handlers, out,
-            ))
+            end_of_play(play_to_and_print(alloc, board, line, log, maker, handlers, out))
         }
         Answer::Never | Answer::NotWithin(_) => match print_answer(out, line, answer) {
             WriteEnd::Done => end_of(line, answer),
