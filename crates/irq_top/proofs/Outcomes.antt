@@ -1,7 +1,9 @@
 -- What a command does that takes a board.
 use Rattle.std.proofs.Common.{◌≡◌, ℕ, Bool, false, inr, Option, Some, None, Ok, List, refl, sym, subst}
+use Rattle.irq_base.specs.declared.entries.Entry.{Entry}
 use Rattle.irq_base.specs.declared.reporting.LineReport.{LineReport}
 use Rattle.board_words.specs.declared.faults.FaultKind.{FaultKind}
+use Rattle.irq_play.specs.Played.{TellsStep}
 use Rattle.irq_play.specs.declared.ending.PlayedEnd.{PlayedEnd}
 use Rattle.irq_play.specs.declared.ending.PlayedEnd.TheVariants as plays
 use Rattle.board_def.specs.Rules.{IsBoard}
@@ -9,9 +11,11 @@ use Rattle.board_def.specs.Seen.{BoardSeen}
 use Rattle.irq_play.specs.declared.ending.Wanted.TheVariants as wants
 use Rattle.irq_top.specs.declared.ending.Ending.{Ending}
 use Rattle.irq_top.specs.declared.ending.Ending.TheVariants as endings
-use Rattle.irq_top.specs.Commands.{EndsAs, EndsIfFit, IsReadToEnd, IsSane, RunsAs, TakesBoard}
-use Rattle.irq_top.specs.Ending.{ending_of_play, is_read_fault_end}
+use Rattle.irq_top.specs.Commands.{EndsAs, EndsIfFit, IsReadToEnd, IsSane, RunsAs, TakesBoard, TellsPlay, TellsTaken}
+use Rattle.irq_top.specs.Ending.{ending_of_play, ending_of_refusal, is_read_fault_end}
 use Rattle.program_io.specs.Reading.{IsStated, ReadsBoard}
+use Rattle.program_io.specs.declared.inputs.InputRefused.{InputRefused}
+use Rattle.program_io.specs.declared.inputs.InputRefused.TheVariants as refusals
 
 read_to_end : (told left : Option (List ℕ)) (b : BoardSeen) → ReadsBoard told left (Ok b) → IsReadToEnd told left
 read_to_end None left b read = tt
@@ -94,3 +98,39 @@ module _ (Plays : BoardSeen → List LineReport → Option (List ℕ) → Option
   ends_as_any_play reports told end ending is handed played =
       subst (λ (e : Ending). EndsAs Plays b told before now e) (sym is)
       (subst (λ (rs : List LineReport). EndsAs Plays b rs before now (ending_of_play end)) (sym handed) (as_end reports end played))
+
+-- ---- what is told of a step that was refused memory
+
+module _ (Tells : BoardSeen → List LineReport → Ending → Type 0) (told : Option (List ℕ)) (reports : List LineReport) where
+  pub taken_tells : (ending : Ending) (b : BoardSeen) → IsStated told b → Tells b reports ending → TellsTaken Tells told reports ending
+  taken_tells (endings.NoMemory wants.Step) b stated tells = (b, stated, tells)
+  taken_tells (endings.NoMemory wants.Making) b stated tells = tt
+  taken_tells endings.Done b stated tells = tt
+  taken_tells (endings.Unlawful line entry) b stated tells = tt
+  taken_tells (endings.Malformed row) b stated tells = tt
+  taken_tells endings.Usage b stated tells = tt
+  taken_tells (endings.Board fault) b stated tells = tt
+  taken_tells endings.ReadFault b stated tells = tt
+  taken_tells endings.WriteFault b stated tells = tt
+  taken_tells (endings.LogFull line len) b stated tells = tt
+
+  by_refusal : (refused : InputRefused) → TellsTaken Tells told reports (ending_of_refusal refused)
+  by_refusal (refusals.Fault fault) = tt
+  by_refusal refusals.ReadFault = tt
+  by_refusal refusals.NoMemory = tt
+
+  pub refused_tells : (refused : InputRefused) (ending : Ending) → ending ≡ ending_of_refusal refused → TellsTaken Tells told reports ending
+  refused_tells refused ending is = subst (λ (e : Ending). TellsTaken Tells told reports e) (sym is) (by_refusal refused)
+
+module _ (may_want : Option Entry → Type 0) (b : BoardSeen) (reports : List LineReport) where
+  by_step : (end : PlayedEnd) → TellsStep may_want b reports end → TellsPlay may_want b reports (ending_of_play end)
+  by_step plays.Done tells = tt
+  by_step plays.WriteFault tells = tt
+  by_step (plays.LogFull line len) tells = tt
+  by_step (plays.NoMemory wanted) tells = tells
+
+  pub tells_as_played : (told : List LineReport) (end : PlayedEnd) (ending : Ending) → ending ≡ ending_of_play end
+      → told ≡ reports → TellsStep may_want b reports end → TellsPlay may_want b told ending
+  tells_as_played told end ending is handed tells =
+      subst (λ (e : Ending). TellsPlay may_want b told e) (sym is)
+      (subst (λ (rs : List LineReport). TellsPlay may_want b rs (ending_of_play end)) (sym handed) (by_step end tells))

@@ -2,6 +2,7 @@
 -- what it has left of them; `before` and `now` are what the output has; `reports` are the histories
 -- that are handed out.
 use Rattle.std.specs.Prelude.{◌≡◌, ◌⊎◌, ℕ, Bool, true, false, Option, Some, None, Err, List, []}
+use Rattle.irq_base.specs.declared.entries.Entry.{Entry}
 use Rattle.irq_base.specs.declared.numbers.LineNo.{LineNo}
 use Rattle.irq_base.specs.declared.reporting.LineReport.{LineReport}
 use Rattle.board_def.specs.Rules.{IsBoard}
@@ -20,7 +21,7 @@ use Rattle.irq_check.specs.Ends.{Reads, SaysOrNot}
 use Rattle.log_check.specs.declared.verdict.Verdict.TheVariants as verdicts
 use Rattle.irq_check.specs.declared.printing.CheckEnd.{CheckEnd}
 use Rattle.irq_check.specs.declared.printing.CheckEnd.TheVariants as checks
-use Rattle.irq_play.specs.Played.{PlaysBoard}
+use Rattle.irq_play.specs.Played.{PlaysBoard, TellsStep}
 use Rattle.irq_pm.specs.SleptBoard.{is_for_sleep}
 use Rattle.sleep_play.specs.Played.{SleepsBoard}
 use Rattle.irq_play.specs.declared.ending.PlayedEnd.{PlayedEnd}
@@ -193,6 +194,29 @@ Does (commands.Hotplug vectors events) told left reports before now ending =
     TakesBoard (HotplugsAs vectors events) told left reports before now ending
 Does (commands.Sleep armed) told left reports before now ending =
     TakesBoard (SleepsAs armed) told left reports before now ending
+
+-- which step of a play was refused memory; `may_want` says for which entry that is due a line may
+-- want memory, though its history has room
+abbrev pub TellsPlay : (Option Entry → Type 0) → BoardSeen → List LineReport → Ending → Type 0
+TellsPlay may_want b reports (endings.NoMemory wanted) =
+    TellsStep may_want b reports (plays.NoMemory wanted)
+TellsPlay may_want b reports ending = Unit {0}
+
+-- if a step was refused memory, this is told, of the board that the source told
+abbrev pub TellsTaken : (BoardSeen → List LineReport → Ending → Type 0) → Option (List ℕ)
+    → List LineReport → Ending → Type 0
+TellsTaken Tells told reports (endings.NoMemory wants.Step) =
+    (b : BoardSeen) × IsStated told b × Tells b reports (endings.NoMemory wants.Step)
+TellsTaken Tells told reports ending = Unit {0}
+
+-- what `play` and `gen N` tell of a step that was refused memory
+abbrev pub TellsWanted : (Option Entry → Type 0) → Command → Option (List ℕ) → List LineReport
+    → Ending → Type 0
+TellsWanted may_want (commands.Play summary) told reports ending =
+    TellsTaken (TellsPlay may_want) told reports ending
+TellsWanted may_want (commands.Gen n) told reports ending =
+    TellsPlay may_want (generated n) reports ending
+TellsWanted may_want asked told reports ending = Unit {0}
 
 -- whether the command reads the source
 abbrev pub reads : Command → Bool

@@ -3,7 +3,8 @@ ghost use Rattle.std.specs.Prelude.{◌≡◌, [], false, true};
 ghost use Rattle.board_gen.specs.Generated.{generated};
 ghost use Rattle.irq_io.specs.Faults.{Counts};
 ghost use Rattle.irq_words.specs.Words.{IsInRange};
-ghost use Rattle.irq_top.specs.Commands.{Checks, Does, PlaysAs, RunsAs, TakesBoard, reads};
+ghost use Rattle.irq_top.specs.Commands.{Checks, Does, PlaysAs, RunsAs, TakesBoard};
+ghost use Rattle.irq_top.specs.Commands.{TellsPlay, TellsWanted, reads};
 ghost use Rattle.irq_top.specs.Ending.{is_printed, is_printing, is_read_fault_end};
 ghost use Rattle.irq_top.specs.Ending.{is_write_fault_end};
 
@@ -53,6 +54,8 @@ where
     requires { IsInRange asked }
     ensures does { Does asked (S.left src.old) (S.left src.new) result.reports.reports
         (O.written out.old) (O.written out.new) result.ending }
+    ensures wanted { TellsWanted M.Line.may_want asked (S.left src.old) result.reports.reports
+        result.ending }
     ensures unread { reads asked ≡ false → src.new ≡ src.old }
     ensures read_fault { Counts (S.faults src.old) (S.faults src.new)
         (is_read_fault_end result.ending) }
@@ -166,6 +169,7 @@ fn play_generated<O: Sink, H: Handler, M: MakesDomainLine>(
 ) -> Outcome
     ensures generates { PlaysAs true (generated n) result.reports.reports (O.written out.old)
         (O.written out.new) result.ending }
+    ensures wanted { TellsPlay M.Line.may_want (generated n) result.reports.reports result.ending }
     ensures emptied { is_printed result.ending ≡ true → O.kept out.new ≡ [] }
     ensures write_fault { Counts (O.faults out.old) (O.faults out.new)
         (is_write_fault_end result.ending) }

@@ -24,9 +24,11 @@ pub(crate) struct Play {
 }
 
 impl OnBoard for Play {
-    ghost use Rattle.irq_top.specs.Commands.{PlaysAs};
+    ghost use Rattle.irq_top.specs.Commands.{PlaysAs, TellsPlay};
 
     ghost does = { λ way. PlaysAs way.summary };
+
+    ghost tells = { λ way may_want. TellsPlay may_want };
 
     fn play<O: Sink, H: Handler, M: MakesDomainLine>(
         self,
@@ -54,6 +56,8 @@ impl OnBoard for Chain {
     ghost use Rattle.irq_top.specs.Commands.{ChainsAs};
 
     ghost does = { λ way. ChainsAs };
+
+    ghost tells = { λ way may_want b reports ending. Unit {0} };
 
     fn play<O: Sink, H: Handler, M: MakesDomainLine>(
         self,
@@ -91,6 +95,8 @@ impl<N: Notifier> OnBoard for Plug<'_, N> {
 
     ghost does = { λ way. HotplugsAs way.vectors way.events.now };
 
+    ghost tells = { λ way may_want b reports ending. Unit {0} };
+
     fn play<O: Sink, H: Handler, M: MakesDomainLine>(
         self,
         alloc: Global,
@@ -126,6 +132,8 @@ impl OnBoard for Sleep<'_> {
     ghost use Rattle.irq_top.specs.Commands.{SleepsAs};
 
     ghost does = { λ way. SleepsAs way.armed.now };
+
+    ghost tells = { λ way may_want b reports ending. Unit {0} };
 
     fn play<O: Sink, H: Handler, M: MakesDomainLine>(
         self,

@@ -1,7 +1,7 @@
 //! The commands that play a board that they read.
 ghost use Rattle.std.specs.Prelude.{◌≡◌, [], false, true};
 ghost use Rattle.irq_io.specs.Faults.{Counts};
-ghost use Rattle.irq_top.specs.Commands.{TakesBoard};
+ghost use Rattle.irq_top.specs.Commands.{TakesBoard, TellsTaken};
 ghost use Rattle.irq_top.specs.Ending.{is_printed, is_printing, is_read_fault_end};
 ghost use Rattle.irq_top.specs.Ending.{is_write_fault_end};
 
@@ -17,6 +17,7 @@ use std::alloc::Global;
 /// A way to play a board and print it.
 pub(crate) trait OnBoard {
     ghost use Rattle.std.specs.Prelude.{◌≡◌, ℕ, [], false, true, List, Option};
+    ghost use Rattle.irq_base.specs.declared.entries.Entry.{Entry};
     ghost use Rattle.irq_base.specs.declared.reporting.LineReport.{LineReport};
     ghost use Rattle.irq_io.specs.Faults.{Counts};
     ghost use Rattle.board_def.specs.Seen.{BoardSeen};
@@ -29,6 +30,11 @@ pub(crate) trait OnBoard {
     ghost does: { Self → BoardSeen → List LineReport → Option (List ℕ) → Option (List ℕ)
         → Ending → Type 0 };
 
+    /// What it tells of a step that was refused memory, with lines that may want memory for these
+    /// entries that are due.
+    ghost tells: { Self → (Option Entry → Type 0) → BoardSeen → List LineReport → Ending
+        → Type 0 };
+
     /// Plays the board, and prints its log, or a summary.
     fn play<O: Sink, H: Handler, M: MakesDomainLine>(
         self,
@@ -40,6 +46,7 @@ pub(crate) trait OnBoard {
     ) -> Outcome
         ensures does { does self board result.reports.reports (O.written out.old)
             (O.written out.new) result.ending }
+        ensures wanted { tells self M.Line.may_want board result.reports.reports result.ending }
         ensures emptied { is_printed result.ending ≡ true → O.kept out.new ≡ [] }
         ensures write_fault { Counts (O.faults out.old) (O.faults out.new)
             (is_write_fault_end result.ending) }
@@ -60,6 +67,8 @@ pub(crate) fn take_board<S: Source, O: Sink, P: OnBoard + Drop, H: Handler, M: M
 ) -> Outcome
     ensures takes { TakesBoard (P.does way) (S.left src.old) (S.left src.new)
         result.reports.reports (O.written out.old) (O.written out.new) result.ending }
+    ensures wanted { TellsTaken (P.tells way M.Line.may_want) (S.left src.old)
+        result.reports.reports result.ending }
     ensures read_fault { Counts (S.faults src.old) (S.faults src.new)
         (is_read_fault_end result.ending) }
     ensures emptied { is_printed result.ending ≡ true → O.kept out.new ≡ [] }

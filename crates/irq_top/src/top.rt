@@ -4,7 +4,7 @@ ghost use Rattle.irq_io.specs.Faults.{Counts};
 ghost use Rattle.irq_words.specs.Words.{Asks, AsksNothing};
 ghost use Rattle.irq_words.specs.declared.Command.{Command};
 ghost use Rattle.program_io.specs.ErrorRows.{Tells};
-ghost use Rattle.irq_top.specs.Commands.{Does, ReadsNothing};
+ghost use Rattle.irq_top.specs.Commands.{Does, ReadsNothing, TellsWanted};
 ghost use Rattle.irq_top.specs.Ending.{error_text, is_printed, is_printing, is_read_fault_end};
 ghost use Rattle.irq_top.specs.Ending.{is_write_fault_end};
 
@@ -66,6 +66,8 @@ where
     ensures does { (asked : Command) → Asks (map (λ w. w.now) words.now) asked
         → Does asked (S.left src.old) (S.left src.new) result.reports.reports (O.written out.old)
         (O.written out.new) result.ending }
+    ensures wanted { (asked : Command) → Asks (map (λ w. w.now) words.now) asked
+        → TellsWanted M.Line.may_want asked (S.left src.old) result.reports.reports result.ending }
     ensures read_fault { Counts (S.faults src.old) (S.faults src.new)
         (is_read_fault_end result.ending) }
 
@@ -114,6 +116,8 @@ where
     ensures does { (asked : Command) → Asks (map (λ w. w.now) words.now) asked
         → Does asked (S.left src.old) (S.left src.new) result.reports.reports (O.written out.old)
         (O.written out.new) result.ending }
+    ensures wanted { (asked : Command) → Asks (map (λ w. w.now) words.now) asked
+        → TellsWanted M.Line.may_want asked (S.left src.old) result.reports.reports result.ending }
     ensures read_fault { Counts (S.faults src.old) (S.faults src.new)
         (is_read_fault_end result.ending) }
     ensures emptied { is_printed result.ending ≡ true → O.kept out.new ≡ [] }

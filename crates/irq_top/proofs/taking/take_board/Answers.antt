@@ -1,6 +1,6 @@
 use Rattle.std.proofs.Common.{Bool, sym, subst}
 use Rattle.irq_io.specs.Faults.{Counts}
-use Rattle.irq_top.proofs.Outcomes.{taken_unread, takes_board}
+use Rattle.irq_top.proofs.Outcomes.{taken_tells, taken_unread, takes_board}
 use Rattle.irq_top.proofs.taking.take_board.Goals as goal
 
 pub returns-in-Ok-clause-takes : goal.returns-in-Ok-clause-takes
@@ -17,3 +17,8 @@ returns-in-Ok-clause-read_fault g c =
     (g.S.Source.left c.read_input.new.src) (g.O.Sink.written c.args.out.now) (g.O.Sink.written c.play.new.out)
     c.play.result.reports.reports c.play.result.ending c.in-Ok.board c.play.ensures.does))
     c.in-Ok.ensures.cause
+
+pub returns-in-Ok-clause-wanted : goal.returns-in-Ok-clause-wanted
+returns-in-Ok-clause-wanted g c =
+    taken_tells (g.P.OnBoard.tells c.args.way g.M.Line.IrqLine.may_want) (g.S.Source.left c.args.src.now)
+    c.play.result.reports.reports c.play.result.ending c.in-Ok.board c.in-Ok.ensures.stated c.play.ensures.wanted

@@ -1,4 +1,4 @@
-use Rattle.irq_top.proofs.Asked.{is_asked, of_asked}
+use Rattle.irq_top.proofs.Asked.{is_asked, of_asked, wanted_of_asked}
 use Rattle.irq_top.proofs.top.work.Goals as goal
 
 pub returns-in-Some-clause-does : goal.returns-in-Some-clause-does
@@ -25,3 +25,11 @@ returns-in-Some-clause-unread g c = λ none. c.act.ensures.unread (none c.in-Som
 
 pub returns-in-None-clause-does : goal.returns-in-None-clause-does
 returns-in-None-clause-does g c = λ asked is. absurd (c.in-None.ensures asked is)
+
+pub returns-in-Some-clause-wanted : goal.returns-in-Some-clause-wanted
+returns-in-Some-clause-wanted g c =
+    wanted_of_asked g.M.Line.IrqLine.may_want (g.S.Source.left c.args.src.now) c.act.result.reports.reports c.act.result.ending
+    _ c.in-Some.asked c.in-Some.ensures c.act.ensures.wanted
+
+pub returns-in-None-clause-wanted : goal.returns-in-None-clause-wanted
+returns-in-None-clause-wanted g c = λ asked is. absurd (c.in-None.ensures asked is)
