@@ -129,6 +129,33 @@ impl<C: Chip> Line<C> {
         self.history.push(entry);
         Ok(entry)
     }
+
+    /// Makes the step, which is due of the actor, unless the history is full or an answer is
+    /// missing.
+    #[inline(always)]
+    fn make(
+        &mut self,
+        actor: Actor,
+        step: DueStep,
+        said: Option<Said>,
+    ) -> Result<Stepped, StepRefused>
+        requires due { next self.old.line.def self.old.line.entries actor
+            ≡ Some (entry_at self.old.line step) }
+        ensures def { self.new.line.def ≡ self.old.line.def }
+        ensures answer { Answers self.old.line actor said result self.new.line }
+        ensures memory { WantsMemory (λ due. links_next due ≡ true) self.old.line actor result }
+        ensures wiring { self.new.wiring ≡ self.old.wiring }
+    {
+        let len = self.history.len();
+        if len >= self.def.log as usize {
+            return Err(StepRefused::Full { len: len as u32 });
+        }
+        if let Some(run) = unanswered(&self.def, &self.state, step, &said) {
+            return Ok(Stepped::Run(run));
+        }
+        let entry = self.add(actor, step)?;
+        Ok(Stepped::Added(entry))
+    }
 }
 
 /// Whether it is that processor.
@@ -181,15 +208,19 @@ impl<C: Chip + Drop> IrqLine for Line<C> {
         let Some(step) = self.due(actor) else {
             return Ok(Stepped::NotYet);
         };
-        let len = self.history.len();
-        if len >= self.def.log as usize {
-            return Err(StepRefused::Full { len: len as u32 });
+        match step {
+            DueStep::Take { cpu, way } => self.make(actor, DueStep::Take { cpu, way }, said),
+            DueStep::Begin { cpu, dev } => self.make(actor, DueStep::Begin { cpu, dev }, said),
+            DueStep::Return { cpu, dev } => self.make(actor, DueStep::Return { cpu, dev }, said),
+            DueStep::End { cpu } => self.make(actor, DueStep::End { cpu }, said),
+            DueStep::ThreadBegin { dev } => self.make(actor, DueStep::ThreadBegin { dev }, said),
+            DueStep::ThreadReturn { dev } => {
+                self.make(actor, DueStep::ThreadReturn { dev }, said)
+            }
+            DueStep::Finish { dev } => self.make(actor, DueStep::Finish { dev }, said),
+            DueStep::Done { dev } => self.make(actor, DueStep::Done { dev }, said),
+            _ => self.make(actor, step, said),
         }
-        if let Some(run) = unanswered(&self.def, &self.state, step, &said) {
-            return Ok(Stepped::Run(run));
-        }
-        let entry = self.add(actor, step)?;
-        Ok(Stepped::Added(entry))
     }
 
     fn reserve(&mut self) -> Result<(), NoMemory>

@@ -23,11 +23,25 @@ pub(crate) fn make_room<C: Chip>(
     ensures needless { links_by state.old.state step ≡ false → 1 ≤ history.old.spare
         → IsOk result }
 {
-    if state.links(step) {
+    if links(state, step) {
         state.reserve()?;
     }
     if history.spare() == 0 {
         history.reserve(1)?;
     }
     Ok(())
+}
+
+/// Whether the step links an action. The state is asked for a request alone, so that no other step
+/// has to be told to it.
+#[inline(always)]
+fn links<C: Chip>(state: &LineState<C>, step: DueStep) -> bool
+    ensures { result ≡ links_by state.now.state step }
+{
+    match step {
+        DueStep::Request { driver, dev, flags } => {
+            state.links(DueStep::Request { driver, dev, flags })
+        }
+        _ => false,
+    }
 }
