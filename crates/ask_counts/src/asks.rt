@@ -79,6 +79,7 @@ impl Asks {
     }
 
     /// The device's handler is called. `serves`: this is its serving run.
+    #[inline(always)]
     pub fn called(&mut self, dev: DevNo, serves: bool)
         ensures { self.new ≡ change (called serves) self.old dev }
     {
@@ -94,6 +95,7 @@ impl Asks {
     }
 
     /// The device's thread begins a run. `serves`: this is its serving run.
+    #[inline(always)]
     pub fn begun(&mut self, dev: DevNo, serves: bool)
         ensures { self.new ≡ change (begun serves) self.old dev }
     {
@@ -112,6 +114,7 @@ impl Asks {
     /// since it began stay unserved. Answers the row as it was, so that what the run met needs no
     /// second look.
     #[tactic(auto, using(crate::proofs::Serving::served_stands))]
+    #[inline(always)]
     pub fn served(&mut self, dev: DevNo, serves: bool) -> Option<AskRow>
         ensures met { result ≡ at self.old dev }
         ensures rows { self.new ≡ change (served serves) self.old dev }

@@ -171,6 +171,7 @@ impl<C: Chip> LineState<C> {
     }
 
     /// The kind of the device; a device that the line lacks is a stuck one.
+    #[inline(always)]
     pub fn kind(&self, dev: DevNo) -> Kind
         ensures { result ≡ kind_at self.now.state.kinds dev }
     {
@@ -178,6 +179,7 @@ impl<C: Chip> LineState<C> {
     }
 
     /// The asks of the device that were unserved as its handler was last called.
+    #[inline(always)]
     pub fn met_by_handler(&self, dev: DevNo) -> u32
         ensures { result ≡ met_by (at self.now.state.asks dev) }
     {
@@ -185,6 +187,7 @@ impl<C: Chip> LineState<C> {
     }
 
     /// The asks of the device that were unserved as its thread's run last began.
+    #[inline(always)]
     pub fn met_by_thread(&self, dev: DevNo) -> u32
         ensures { result ≡ met_in (at self.now.state.asks dev) }
     {
