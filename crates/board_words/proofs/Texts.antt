@@ -6,6 +6,7 @@ use Rattle.std.proofs.lemmas.Bool.Decides.{nat_tests}
 use Rattle.std.proofs.lemmas.List.{take_all, drop_all}
 use Rattle.board_words.specs.TextLines.{text_lines, words_of, onto_first, is_line_feed, is_blank, is_hash, without_comment, split_at_blanks, is_within_word}
 use Rattle.board_words.specs.Ends.{starts_word, ends_word}
+use Rattle.board_words.specs.Seen.{are_none}
 
 take_front : (b : ℕ) (bs : List ℕ) (n : ℕ) → take (1 + n) (b ∷ bs) ≡ b ∷ take n bs
 take_front b bs n = let e : 1 + n ≡ suc n = omega arith in ap (λ m. take m (b ∷ bs)) e
@@ -139,6 +140,27 @@ none_if : (t : Bool) (b : ℕ) (bs : List ℕ) → is_blank b ≡ t → (positio
 none_if true b bs h rest none = blank_skips b bs h ∙ rest (ap (position_or_len ends_word) (sym (drop_front b bs (position_or_len starts_word bs))) ∙ none)
 none_if false b bs h rest none =
     comment_if (is_hash b) b bs refl (ap (λ t. cond (not (t || is_hash b)) (1 + position_or_len ends_word bs) 0) (sym h) ∙ none)
+
+-- no word begins at the first byte
+abbrev pub none_begins : List ℕ → Bool
+none_begins [] = true
+none_begins (b ∷ bs) = is_hash b
+
+none_at : (line : List ℕ) → are_none (words_of line) ≡ none_begins (drop (position_or_len starts_word line) line)
+none_at [] = refl
+none_at (b ∷ bs) = by (is_blank b) (is_hash b) refl refl (none_at bs)
+  where
+    by : (t h : Bool) → is_blank b ≡ t → is_hash b ≡ h → are_none (words_of bs) ≡ none_begins (drop (position_or_len starts_word bs) bs)
+        → are_none (words_of (b ∷ bs)) ≡ none_begins (drop (cond (not (not t)) (1 + position_or_len starts_word bs) 0) (b ∷ bs))
+    by true h blank hash rest =
+        ap are_none (blank_skips b bs blank) ∙ (rest ∙ ap none_begins (sym (drop_front b bs (position_or_len starts_word bs))))
+    by false true blank hash rest = ap are_none (comment_ends b bs hash) ∙ sym hash
+    by false false blank hash rest = ap are_none (word_begun b bs blank hash) ∙ sym hash
+
+-- whether there are no words, of what the reader of a word computes
+pub none_of : (line begun : List ℕ) (start : ℕ) → start ≡ position_or_len starts_word line → begun ≡ drop start line
+    → are_none (words_of line) ≡ none_begins begun
+none_of line begun start is_start is_begun = rw (is_begun, is_start) (none_at line)
 
 pub no_word : (line : List ℕ) → position_or_len ends_word (drop (position_or_len starts_word line) line) ≡ 0 → words_of line ≡ []
 no_word [] none = refl

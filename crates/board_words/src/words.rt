@@ -35,7 +35,11 @@ impl<'a> Words<'a> {
     pub fn is_empty(self) -> bool
         ensures { result ≡ are_none (words_left self.entry) }
     {
-        split_word(self.rest).is_none()
+        let (_, begun) = self.rest.split_at(word_start(self.rest));
+        match begun.first() {
+            Some(byte) => *byte == b'#',
+            None => true,
+        }
     }
 
     /// Whether the next word is `board`.
