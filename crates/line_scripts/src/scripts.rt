@@ -63,7 +63,9 @@ impl Scripts {
         ensures asks { OnOk result
             (asks_left self.new ≡ asks_left self.old + (if is_ask_call call then 1 else 0)) }
     {
-        if let Some(row) = self.rows.get_mut(&who) {
+        if let Some(index) = self.index_of(who)
+            && let Some(row) = self.rows.get_index_mut(index)
+        {
             return row.push(call);
         }
         let mut row = Row::new(alloc);
@@ -124,9 +126,22 @@ impl Scripts {
             ≡ asks_left self.old }
     {
         // A call is due, so the driver has a row.
-        let Some(row) = self.rows.get_mut(&who) else {
+        let Some(index) = self.index_of(who) else {
+            return;
+        };
+        let Some(row) = self.rows.get_index_mut(index) else {
             return;
         };
         row.advance(completes);
+    }
+
+    /// The index of the driver's row; none if it has no calls on the line.
+    fn index_of(&self, who: DriverNo) -> Option<usize> {
+        if let Some((first, _)) = self.rows.first()
+            && *first == who
+        {
+            return Some(0);
+        }
+        self.rows.get_index_of(&who)
     }
 }
