@@ -2,6 +2,7 @@ pub mod Left
 pub mod Places
 pub mod Room
 pub mod Owning
+pub mod Numbered
 pub mod Picking
 pub mod Drafts
 pub mod OneMore

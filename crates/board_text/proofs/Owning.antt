@@ -1,5 +1,5 @@
 -- One more call, and the owners of the devices.
-use Rattle.std.proofs.Common.{◌≡◌, ℕ, ◌==◌, Bool, true, false, cond, ◌&&◌, ◌||◌, Option, Some, None, List, [], ◌∷◌, ◌++◌, reverse, refl, sym, ap, ◌∙◌, arith}
+use Rattle.std.proofs.Common.{◌≡◌, ℕ, ◌==◌, Bool, true, false, cond, ◌&&◌, ◌||◌, Option, Some, None, List, [], ◌∷◌, ◌++◌, reverse, refl, sym, ap, subst, ◌∙◌, arith}
 use Rattle.std.specs.Option.{option_map}
 use Rattle.std.proofs.lemmas.Bool.Decides.{nat_tests}
 use Rattle.std.proofs.lemmas.List.{reverse-append}
@@ -13,7 +13,13 @@ use Rattle.irq_base.specs.declared.calls.Flags.{Flags}
 use Rattle.irq_model.specs.Valid.{requests_dev, frees_dev}
 use Rattle.board_def.specs.Rules.{is_owning, first_owning, is_a_request}
 use Rattle.board_def.specs.declared.rows.ScriptCall.{ScriptCall}
-use Rattle.board_text.specs.Owned.{owner_in, is_requested, Owns, owner_noted}
+use Rattle.board_def.specs.Seen.{BoardSeen}
+use Rattle.board_stated.specs.Stated.{script_call, with_statement}
+use Rattle.board_words.specs.declared.statements.CallWords.{CallWords}
+use Rattle.board_words.specs.declared.statements.CallWords.TheVariants as words
+use Rattle.board_words.specs.declared.statements.Statement.{Statement}
+use Rattle.board_words.specs.declared.statements.Statement.TheVariants as statements
+use Rattle.board_text.specs.Owned.{owner_in, is_requested, Owns, owner_noted, tells_owner}
 use Rattle.board_text.specs.declared.owners.Owner.{Owner}
 
 -- a look-up after an insertion, by the numbers
@@ -153,3 +159,19 @@ other_noted owners calls c request free h = unnoted owners calls c (λ d. by d c
     by d (kinds.Request k flags) e = absurd (request k flags e)
     by d (kinds.Free k) e = absurd (free k e)
     by d _ e = refl
+
+-- a call of a script that is no request and no free
+pub untold : (owners : List (DevNo × Owner)) (b : BoardSeen) (s : Statement) (call : CallWords)
+    → s ≡ statements.Call call → tells_owner call ≡ false → Owns owners b.calls → Owns owners (with_statement s b).calls
+untold owners b s call is none h = subst (λ (s : Statement). Owns owners (with_statement s b).calls) (sym is) (by call none)
+  where
+    by : (c : CallWords) → tells_owner c ≡ false → Owns owners (b.calls ++ script_call b c ∷ [])
+    by (words.Request dev flags twice) told = absurd cc
+    by (words.Free dev) told = absurd cc
+    by (words.Ask dev) told = other_noted owners b.calls (script_call b (words.Ask dev)) (λ k flags e. cc) (λ k e. cc) h
+    by (words.Disable line) told = other_noted owners b.calls (script_call b (words.Disable line)) (λ k flags e. cc) (λ k e. cc) h
+    by (words.DisableNosync line) told = other_noted owners b.calls (script_call b (words.DisableNosync line)) (λ k flags e. cc) (λ k e. cc) h
+    by (words.Enable line) told = other_noted owners b.calls (script_call b (words.Enable line)) (λ k flags e. cc) (λ k e. cc) h
+    by (words.Sync line) told = other_noted owners b.calls (script_call b (words.Sync line)) (λ k flags e. cc) (λ k e. cc) h
+    by (words.Affinity line mask) told = other_noted owners b.calls (script_call b (words.Affinity line mask)) (λ k flags e. cc) (λ k e. cc) h
+    by (words.Moment line at) told = other_noted owners b.calls (script_call b (words.Moment line at)) (λ k flags e. cc) (λ k e. cc) h

@@ -7,7 +7,7 @@ ghost use Rattle.board_stated.specs.Stated.{line_of_call, line_of_device, line_o
 ghost use Rattle.board_stated.specs.Stated.{actor_picked, actors_picked, mask_or_all};
 ghost use Rattle.board_text.specs.Kept.{drafted};
 
-use crate::faults::{domain_place, driver_writing, parent_place};
+use crate::faults::{device_of, domain_place, driver_writing, parent_place};
 use crate::masks::all_processors;
 use board_def::{Board, DomainRow, LineRow, ScriptCall};
 use board_words::{CallWords, DomainWords, LineWords, PickList, Picked, Statement};
@@ -124,7 +124,7 @@ fn line_of_call(board: &Board, call: CallWords) -> LineNo
 fn line_of_device(board: &Board, dev: DevNo) -> LineNo
     ensures { result ≡ line_of_device board.now.devices dev }
 {
-    match board.find_device(dev) {
+    match device_of(board, dev) {
         Some(device) => device.line,
         None => LineNo(0),
     }

@@ -1,7 +1,7 @@
 //! What is wrong with a statement on the board so far.
 ghost use Rattle.std.specs.Prelude.{◌≡◌, ◌<◌, not, nat_lt, ◌+◌, is_none, is_some};
 ghost use Rattle.std.specs.List.{list_any};
-ghost use Rattle.board_def.specs.Rules.{has_name, has_line, has_driver};
+ghost use Rattle.board_def.specs.Rules.{has_name, has_line, has_driver, find_device};
 ghost use Rattle.board_stated.specs.FaultsAfter.{is_misplaced, is_not_there, names_nothing};
 ghost use Rattle.board_stated.specs.FaultsAfter.{picks_nothing, has_no_device, has_bad_parent};
 ghost use Rattle.board_stated.specs.FaultsAfter.{has_bad_unlazy, has_bad_mask, is_mask_empty};
@@ -13,7 +13,7 @@ ghost use Rattle.board_stated.specs.Stated.{driver_writing, parent_place, place_
 use affinity::has_processor;
 use board_def::{Board, Name};
 use board_words::{CallWords, PickList, Picked, Statement};
-use irq_base::{DevNo, DriverNo, LineNo};
+use irq_base::{DevNo, DeviceDef, DriverNo, LineNo};
 
 /// The most domains of a board.
 const MOST_DOMAINS: usize = 32;
@@ -98,7 +98,22 @@ fn has_line(board: &Board, line: LineNo) -> bool
 fn has_no_device(board: &Board, dev: DevNo) -> bool
     ensures { result ≡ has_no_device board.now dev }
 {
-    board.find_device(dev).is_none()
+    device_of(board, dev).is_none()
+}
+
+/// The device with this number; none if there is no such device. Devices are mostly numbered from 1
+/// on, so before any search the row is looked at where it stands then.
+#[tactic(auto, using(crate::proofs::Numbered::device_near))]
+pub fn device_of(board: &Board, dev: DevNo) -> Option<DeviceDef>
+    ensures { result ≡ find_device board.now.devices dev }
+{
+    board.is_board();
+    if let Some(device) = board.device(dev.0.saturating_sub(1) as usize)
+        && device.dev == dev
+    {
+        return Some(device);
+    }
+    board.find_device(dev)
 }
 
 /// Whether the call names a device or a line that the board doesn't have.
@@ -137,7 +152,7 @@ fn picks_nothing(board: &Board, who: Picked) -> bool
     ensures { result ≡ picks_nothing board.now who }
 {
     match who {
-        Picked::Thread(dev) => match board.find_device(dev) {
+        Picked::Thread(dev) => match device_of(board, dev) {
             Some(device) => !device.kind.has_thread(),
             None => true,
         },
