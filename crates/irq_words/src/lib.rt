@@ -20,6 +20,7 @@ use irq_base::LineNo;
 use irq_hotplug::Event;
 
 /// What the program can be asked for.
+#[derive(Drop)]
 pub enum Command {
     /// Read a board and run it by threads. `summary`: print a row for each line in place of the
     /// entries.

@@ -1,5 +1,5 @@
 -- A play by an order that has ended, and what its reports hand out.
-use Rattle.std.proofs.Common.{◌≡◌, ℕ, IsSome, Option, Some, List, length, reverse, refl, sym, ap, ◌∙◌, subst}
+use Rattle.std.proofs.Common.{◌≡◌, ℕ, IsSome, Option, Some, List, [], length, reverse, refl, sym, ap, ◌∙◌, subst}
 use Rattle.irq_base.specs.declared.entries.Entry.{Entry}
 use Rattle.irq_base.specs.declared.numbers.LineNo.{LineNo}
 use Rattle.irq_base.specs.declared.reporting.LineReport.{LineReport}
@@ -97,3 +97,9 @@ of_some text HandsOut log reports before now ends.WriteFault h = (log, h)
 of_some text HandsOut log reports before now (ends.LogFull line len) h = (log, h)
 of_some text HandsOut log reports before now (ends.NoMemory wants.Step) h = (log, h)
 of_some text HandsOut log reports before now (ends.NoMemory wants.Making) h = h
+
+-- if memory was refused for anything but a step, nothing was played
+pub of_none : {E : Type 0} (text : List E → List ℕ) (HandsOut : List E → PlayEnd → List LineReport → Type 0) (reports : List LineReport)
+    (before now : Option (List ℕ)) (end : PlayedEnd) → end ≡ ends.NoMemory wants.Making → reports ≡ [] → AnswersOfSome text HandsOut reports before now end
+of_none text HandsOut reports before now end is none =
+    subst (λ (e : PlayedEnd). AnswersOfSome text HandsOut reports before now e) (sym is) none

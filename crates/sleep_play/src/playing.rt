@@ -1,26 +1,22 @@
 //! Puts a board to sleep, wakes it, and prints it.
-ghost use Rattle.std.specs.Prelude.{◌≡◌, [], List, IfOk, IsTrue, OnErr, OnOk, false, true, length};
-ghost use Rattle.board_def.specs.Seen.{BoardSeen};
-ghost use Rattle.board_report.specs.Reporting.{HasRoom};
-ghost use Rattle.irq_base.specs.declared.numbers.LineNo.{LineNo};
+ghost use Rattle.std.specs.Prelude.{◌≡◌, [], IfOk, OnErr, false};
 ghost use Rattle.irq_io.specs.Faults.{Counts};
 ghost use Rattle.irq_play.specs.Ends.{is_printing, is_write_fault};
 ghost use Rattle.irq_pm.specs.SleptBoard.{is_for_sleep};
-ghost use Rattle.sleep_play.specs.Played.{IsPlayedSleeper, IsSleepOf, SleepsBoard};
+ghost use Rattle.sleep_play.specs.Played.{SleepsBoard};
 
-use crate::printing::write_sleep;
-use board_core::PlayEnd;
+use crate::ended::SleepPlay;
 use board_def::Board;
 use board_layout::lay;
-use board_report::{ReportRoom, hand_out};
+use board_report::ReportRoom;
 use callbacks::{Callbacks, Handler};
-use irq_base::{LineNo, Reports};
+use irq_base::LineNo;
 use irq_io::Sink;
-use irq_line::IrqLine;
-use irq_play::{PlayedBoard, PlayedEnd, Wanted};
+use irq_play::{PlayedBoard, PlayedEnd};
 use irq_pm::{fits_sleep, with_sleep};
 use irq_sleeper::Sleeper;
 use line_makers::{MakesDomainLine, OverDomains};
+use play_report::{report, unplayed};
 use std::alloc::Global;
 
 /// The board can't sleep with these lines armed.
@@ -68,72 +64,5 @@ pub fn sleep_and_print<O: Sink, M: MakesDomainLine, H: Handler>(
         return Ok(unplayed(alloc));
     };
     let end = sleeper.play(longer.picks(), handlers);
-    Ok(report_sleep(&longer, sleeper, end, room, out))
-}
-
-/// Hands out the reports of a sleep, and prints it if it came to its end. The board has the
-/// system's driver.
-fn report_sleep<O: Sink, L: IrqLine>(
-    board: &Board,
-    sleeper: Sleeper<'_, L>,
-    end: PlayEnd,
-    room: ReportRoom,
-    out: &mut O,
-) -> PlayedBoard
-    requires played { IsPlayedSleeper board.now sleeper end }
-    requires room { HasRoom (length board.now.lines) room }
-    ensures plays { (b : BoardSeen) (armed : List LineNo)
-        → IsSleepOf b armed board.now sleeper.entry → SleepsBoard b armed result.reports.reports
-        (O.written out.old) (O.written out.new) result.end }
-    ensures emptied { result.end ≡ PlayedEnd.Done → O.kept out.new ≡ [] }
-    ensures write_fault { Counts (O.faults out.old) (O.faults out.new) (is_write_fault result.end) }
-    ensures silent { is_printing result.end ≡ false → out.new ≡ out.old }
-{
-    board.is_board();
-    match end {
-        PlayEnd::Done => print_done(board, sleeper, room, out),
-        PlayEnd::Full { line, len } => PlayedBoard {
-            end: PlayedEnd::LogFull { line, len },
-            reports: hand_out(board, sleeper.into_system(), room),
-        },
-        PlayEnd::NoMemory => PlayedBoard {
-            end: PlayedEnd::NoMemory(Wanted::Step),
-            reports: hand_out(board, sleeper.into_system(), room),
-        },
-    }
-}
-
-/// Prints a sleep that came to its end, and hands out its reports.
-fn print_done<O: Sink, L: IrqLine>(
-    board: &Board,
-    sleeper: Sleeper<'_, L>,
-    room: ReportRoom,
-    out: &mut O,
-) -> PlayedBoard
-    requires played { IsPlayedSleeper board.now sleeper PlayEnd.Done }
-    requires room { HasRoom (length board.now.lines) room }
-    ensures printing { IsTrue (is_printing result.end) }
-    ensures plays { (b : BoardSeen) (armed : List LineNo)
-        → IsSleepOf b armed board.now sleeper.entry → SleepsBoard b armed result.reports.reports
-        (O.written out.old) (O.written out.new) result.end }
-    ensures emptied { result.end ≡ PlayedEnd.Done → O.kept out.new ≡ [] }
-    ensures write_fault { Counts (O.faults out.old) (O.faults out.new) (is_write_fault result.end) }
-{
-    board.is_board();
-    let written = write_sleep(board, &sleeper, out);
-    PlayedBoard {
-        end: PlayedEnd::from(written),
-        reports: hand_out(board, sleeper.into_system(), room),
-    }
-}
-
-/// The result if memory was refused before the play.
-fn unplayed(alloc: Global) -> PlayedBoard
-    ensures end { result.end ≡ PlayedEnd.NoMemory Wanted.Making }
-    ensures reports { result.reports.reports ≡ [] }
-{
-    PlayedBoard {
-        end: PlayedEnd::NoMemory(Wanted::Making),
-        reports: Reports::new(alloc),
-    }
+    Ok(report(&longer, SleepPlay { sleeper, end }, room, out))
 }

@@ -1,25 +1,25 @@
-use Rattle.std.proofs.Common.{List, sym, ◌∙◌, subst}
+use Rattle.std.proofs.Common.{List, sym, ap, ◌∙◌, subst}
 use Rattle.irq_base.specs.declared.entries.Actor.{Actor}
+use Rattle.board_def.specs.Layout.{layout_of}
+use Rattle.board_def.specs.Seen.{BoardSeen}
 use Rattle.irq_sleeper.specs.Steps.{IsSleep}
+use Rattle.sleep_play.proofs.Finished.{answered}
 use Rattle.sleep_play.proofs.playing.sleep_and_print.Goals as goal
 
-pub report_sleep-requires-clause-played : goal.report_sleep-requires-clause-played
-report_sleep-requires-clause-played g c =
-    let new = c.in-Ok-new-2.ensures in
-    let play = c.play-end.ensures in
-    record {
-      board = play.stays.board ∙ new.board;
-      layout = play.stays.layout ∙ (new.layout ∙ (c.in-Ok.ensures.layout ∙ sym c.in-Ok-with_sleep.ensures.layout));
-      told = play.told;
-      sleep = subst (λ (picks : List Actor). IsSleep c.play-end.new.self picks c.play-end.result) c.picks.ensures play.sleep;
-    }
+pub report-requires-clause-board : goal.report-requires-clause-board
+report-requires-clause-board g c = c.play-end.ensures.stays.board ∙ c.in-Ok-new-2.ensures.board
 
 pub returns-clause-plays : goal.returns-clause-plays
 returns-clause-plays g c =
-    c.report_sleep.ensures.plays c.args.board c.args.armed.now
+    let told = g.O.Sink.written c.args.out.now in
+    let now = g.O.Sink.written c.report.new.out in
+    let played = c.report.result in
+    let board = c.play-end.ensures.stays.board ∙ c.in-Ok-new-2.ensures.board in
+    answered c.args.board c.args.armed.now c.play-end.new.self
     (record {
       board = c.is_board.ensures.board;
       fits = sym c.if-not-fits_sleep.ensures;
-      slept = c.in-Ok-with_sleep.ensures.board;
+      slept = board ∙ c.in-Ok-with_sleep.ensures.board;
       watched = c.play-end.ensures.stays.armed ∙ c.in-Ok-new-2.ensures.armed;
     })
+    _ board played.reports.reports told now played.end c.report.ensures.plays
