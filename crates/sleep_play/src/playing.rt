@@ -1,17 +1,21 @@
 //! Puts a board to sleep, wakes it, and prints it.
-ghost use Rattle.std.specs.Prelude.{◌≡◌, [], IfOk, OnErr, false};
+ghost use Rattle.std.specs.Prelude.{◌≡◌, [], IfOk, OnErr, false, length};
+ghost use Rattle.board_core.specs.Making.{MakesAll};
+ghost use Rattle.board_def.specs.Layout.{layout_of};
+ghost use Rattle.board_report.specs.Reporting.{HasRoom};
 ghost use Rattle.irq_io.specs.Faults.{Counts};
 ghost use Rattle.irq_play.specs.Ends.{is_printing, is_write_fault};
 ghost use Rattle.irq_pm.specs.SleptBoard.{is_for_sleep};
 ghost use Rattle.sleep_play.specs.Played.{SleepsBoard};
 
 use crate::ended::SleepPlay;
-use board_def::Board;
+use board_def::{Board, Layout};
 use board_layout::lay;
 use board_report::ReportRoom;
 use callbacks::{Callbacks, Handler};
-use irq_base::LineNo;
+use irq_base::{LineNo, NoMemory};
 use irq_io::Sink;
+use irq_line::{IrqLine, MakesLine};
 use irq_play::{PlayedBoard, PlayedEnd};
 use irq_pm::{fits_sleep, with_sleep};
 use irq_sleeper::Sleeper;
@@ -56,13 +60,31 @@ pub fn sleep_and_print<O: Sink, M: MakesDomainLine, H: Handler>(
     let Ok(longer) = with_sleep(alloc, board, &layout) else {
         return Ok(unplayed(alloc));
     };
-    let Ok(room) = ReportRoom::new(alloc, &longer) else {
-        return Ok(unplayed(alloc));
-    };
     let maker = OverDomains::of_board(maker, &domains, &longer);
-    let Ok(mut sleeper) = Sleeper::new(alloc, &longer, layout, armed, &maker) else {
-        return Ok(unplayed(alloc));
-    };
+    match play_sleep(alloc, &longer, layout, armed, &maker, handlers) {
+        Ok((play, room)) => Ok(report(&longer, play, room, out)),
+        Err(NoMemory) => Ok(unplayed(alloc)),
+    }
+}
+
+/// Has the maker make the lines of the board with the system's driver, and plays the sleep. The
+/// only error is `NoMemory` for all but the steps of the play.
+fn play_sleep<'b, L: IrqLine, M: MakesLine<L>, H: Handler>(
+    alloc: Global,
+    longer: &'b Board,
+    layout: Layout,
+    armed: &'b [LineNo],
+    maker: &M,
+    handlers: &Callbacks<H>,
+) -> Result<(SleepPlay<'b, L>, ReportRoom), NoMemory>
+    requires layout { layout ≡ layout_of longer.now }
+    requires makes { MakesAll (M.makes maker.now) longer.now (layout_of longer.now) }
+    ensures board { IfOk result (λ p. p.0.sleeper.system.board ≡ longer.now) }
+    ensures armed { IfOk result (λ p. p.0.sleeper.watch.armed ≡ armed.now) }
+    ensures room { IfOk result (λ p. HasRoom (length longer.now.lines) p.1) }
+{
+    let room = ReportRoom::new(alloc, longer)?;
+    let mut sleeper = Sleeper::new(alloc, longer, layout, armed, maker)?;
     let end = sleeper.play(longer.picks(), handlers);
-    Ok(report(&longer, SleepPlay { sleeper, end }, room, out))
+    Ok((SleepPlay { sleeper, end }, room))
 }
