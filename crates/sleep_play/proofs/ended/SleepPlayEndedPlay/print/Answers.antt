@@ -12,4 +12,5 @@ pub new-requires : goal.new-requires
 new-requires g c =
     let s = c.self.inside.sleeper in
     subst (λ (log : List SleepEntry). All (HasRow told) log) (sym c.entries.ensures)
-    (rows_done s (subst (λ (end : PlayEnd). IsSleep s s.system.board.picks end) (ap (λ (p : SleepPlaySeen). p.end) c.self.view_is ∙ c.requires) c.self.invariant.sleep))
+    (rows_done s (subst (λ (end : PlayEnd). IsSleep s s.system.board.picks end)
+    (ap (λ (p : SleepPlaySeen). p.end) c.self.view_is ∙ c.requires) c.self.invariant.sleep))
