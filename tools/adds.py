@@ -7,6 +7,36 @@ from repository import TOP, read_crates
 PAGE = TOP / "docs" / "ADDING.md"
 # What can be added, and the enum that gets a variant.
 LISTS = {"a flow": "FlowKind", "a driver's call": "Call", "a kind of entry": "Entry", "a kind of controller": "ControllerKind", "a command": "Command"}
+# Enums of which each variant is named wherever the program tells some of them apart.
+NAMED = ["Entry", "Call", "Actor"]
+# Where it may stand: the rest goes to a function that asks for a driver's entry, so the prover lists it; and in a summary
+# an entry that none of its counts names counts nothing.
+LEFT = ("irq_base/src/parts.rt", "log_summary/src/standing.rt")
+
+
+def hidden_variants():
+    """The places of the program at which `_ =>` stands for variants of one of these enums."""
+    for crate in read_crates().values():
+        for file in crate.files() if crate.group not in ("reference", "tests") else ():
+            if str(file).endswith(LEFT):
+                continue
+            rows = file.read_text(encoding="utf-8").splitlines() if file.suffix == ".rt" else []
+            for at, row in enumerate(rows):
+                if row.lstrip().startswith("_ =>") and (enum := enum_above(rows[:at], row)):
+                    yield f"{file.relative_to(TOP)}:{at + 1}: `_ =>` stands for some of {enum}: name them"
+
+
+def enum_above(rows, last):
+    """The enum of which the arms above the last one name a variant."""
+    pattern = re.compile(rf"[| (]*\b({'|'.join(NAMED)})::[A-Z]")
+    depth = len(last) - len(last.lstrip())
+    for row in reversed(rows):
+        indent = len(row) - len(row.lstrip())
+        if row.strip() and indent < depth:
+            return None
+        if indent == depth and (found := pattern.match(row)):
+            return found[1]
+    return None
 
 
 def head_of(file):
@@ -63,7 +93,9 @@ def in_pieces(names, most=500):
 
 
 def faults_of_page(write):
-    """Each list of the page that isn't what the sources say; with write they are put right."""
+    """Each list of the page that isn't what the sources say, and each variant that the program doesn't name; with write the
+    lists are put right."""
+    yield from hidden_variants()
     text = PAGE.read_text(encoding="utf-8")
     for what, enum in LISTS.items():
         begin, end = f"<!-- {what}: what names {enum} -->\n", f"<!-- end of {what} -->\n"

@@ -1,5 +1,5 @@
 -- One more call, and the owners of the devices.
-use Rattle.std.proofs.Common.{◌≡◌, ℕ, ◌==◌, Bool, true, false, cond, ◌&&◌, ◌||◌, Option, Some, None, List, [], ◌∷◌, ◌++◌, reverse, refl, sym, ap, ◌∙◌, arith}
+use Rattle.std.proofs.Common.{◌≡◌, ℕ, ◌==◌, ◌⊎◌, inl, inr, Bool, true, false, cond, ◌&&◌, ◌||◌, Option, Some, None, List, [], ◌∷◌, ◌++◌, reverse, refl, sym, ap, ◌∙◌, arith}
 use Rattle.std.specs.Option.{option_map}
 use Rattle.std.proofs.lemmas.Bool.Decides.{nat_tests}
 use Rattle.std.proofs.lemmas.List.{reverse-append}
@@ -144,12 +144,20 @@ free_noted owners more calls c k is now h = rw now (noted owners calls c k false
 abbrev owns : DevNo → Call → Bool
 owns d call = requests_dev d call || frees_dev d call
 
+-- a call that neither requests nor frees a device
+abbrev IsOther : Call → Type 0
+IsOther c = ((d : DevNo) × c ≡ kinds.Ask d) ⊎ ((c ≡ kinds.Disable) ⊎ ((c ≡ kinds.DisableNosync) ⊎ ((c ≡ kinds.Enable)
+    ⊎ ((c ≡ kinds.Sync) ⊎ (((mask : ℕ) × c ≡ kinds.Affinity mask) ⊎ ((at : ℕ) × c ≡ kinds.Moment at))))))
+
+owns_none : (d : DevNo) (c : Call) → IsOther c → owns d c ≡ false
+owns_none d c (inl (k, is)) = rw is refl
+owns_none d c (inr (inl is)) = rw is refl
+owns_none d c (inr (inr (inl is))) = rw is refl
+owns_none d c (inr (inr (inr (inl is)))) = rw is refl
+owns_none d c (inr (inr (inr (inr (inl is))))) = rw is refl
+owns_none d c (inr (inr (inr (inr (inr (inl (mask, is))))))) = rw is refl
+owns_none d c (inr (inr (inr (inr (inr (inr (at, is))))))) = rw is refl
+
 pub other_noted : (owners : List (DevNo × Owner)) (calls : List ScriptCall) (c : ScriptCall)
-    → ((k : DevNo) (flags : Flags) → c.call ≡ kinds.Request k flags → ⊥) → ((k : DevNo) → c.call ≡ kinds.Free k → ⊥)
-    → Owns owners calls → Owns owners (calls ++ c ∷ [])
-other_noted owners calls c request free h = unnoted owners calls c (λ d. by d c.call refl) h
-  where
-    by : (d : DevNo) (call : Call) → c.call ≡ call → owns d call ≡ false
-    by d (kinds.Request k flags) e = absurd (request k flags e)
-    by d (kinds.Free k) e = absurd (free k e)
-    by d _ e = refl
+    → IsOther c.call → Owns owners calls → Owns owners (calls ++ c ∷ [])
+other_noted owners calls c other h = unnoted owners calls c (λ d. owns_none d c.call other) h

@@ -70,7 +70,13 @@ impl Owners {
                 Some(owner) => owner.driver.0 != driver.0,
                 None => false,
             },
-            _ => false,
+            Call::Ask { .. }
+            | Call::Disable
+            | Call::DisableNosync
+            | Call::Enable
+            | Call::Sync
+            | Call::Affinity { .. }
+            | Call::Moment { .. } => false,
         }
     }
 
@@ -82,7 +88,13 @@ impl Owners {
         match call.call {
             Call::Request { dev, .. } => self.note_owner(dev, call.driver, true),
             Call::Free { dev } => self.note_owner(dev, call.driver, false),
-            _ => Ok(()),
+            Call::Ask { .. }
+            | Call::Disable
+            | Call::DisableNosync
+            | Call::Enable
+            | Call::Sync
+            | Call::Affinity { .. }
+            | Call::Moment { .. } => Ok(()),
         }
     }
 

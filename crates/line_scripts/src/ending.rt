@@ -29,6 +29,21 @@ fn ends_free(entry: &Entry) -> bool
     match *entry {
         Entry::Freed { .. } => true,
         Entry::Unlink { answer, .. } => answer == UnlinkAnswer::NotThere,
-        _ => false,
+        Entry::Take { .. }
+        | Entry::Begin { .. }
+        | Entry::Return { .. }
+        | Entry::End { .. }
+        | Entry::ThreadBegin { .. }
+        | Entry::ThreadReturn { .. }
+        | Entry::Finish { .. }
+        | Entry::Done { .. }
+        | Entry::Ask { .. }
+        | Entry::Request { .. }
+        | Entry::Disable { .. }
+        | Entry::HardClear { .. }
+        | Entry::Synced { .. }
+        | Entry::Enable { .. }
+        | Entry::Affinity { .. }
+        | Entry::Moment { .. } => false,
     }
 }

@@ -13,6 +13,14 @@ pub fn wait_of(call: Call, made: u32) -> WaitFor
         (Call::Free { .. } | Call::Disable, 1) | (Call::Sync, 0) => WaitFor::Flow,
         (Call::Disable, 2..) | (Call::Sync, _) => WaitFor::Threads,
         (Call::Free { .. }, _) => WaitFor::Freed,
-        _ => WaitFor::Nothing,
+        (
+            Call::Disable
+            | Call::Ask { .. }
+            | Call::DisableNosync
+            | Call::Enable
+            | Call::Affinity { .. }
+            | Call::Moment { .. },
+            _,
+        ) => WaitFor::Nothing,
     }
 }

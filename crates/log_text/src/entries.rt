@@ -58,7 +58,16 @@ fn push_entry(row: &mut TextRow, entry: &Entry)
         Entry::ThreadReturn { dev, served } => push_thread_return(row, dev, served),
         Entry::Finish { dev, kept, unmask } => push_finish(row, dev, kept, unmask),
         Entry::Done { dev } => push_thread_verb(row, dev, b"done"),
-        _ => push_driver_entry(row, entry),
+        Entry::Ask { .. }
+        | Entry::Request { .. }
+        | Entry::Unlink { .. }
+        | Entry::Freed { .. }
+        | Entry::Disable { .. }
+        | Entry::HardClear { .. }
+        | Entry::Synced { .. }
+        | Entry::Enable { .. }
+        | Entry::Affinity { .. }
+        | Entry::Moment { .. } => push_driver_entry(row, entry),
     }
 }
 
@@ -94,7 +103,14 @@ fn push_driver_entry(row: &mut TextRow, entry: &Entry)
             answer,
         } => push_affinity(row, driver, mask, answer),
         Entry::Moment { driver, at } => push_moment(row, driver, at),
-        _ => unreachable!(),
+        Entry::Take { .. }
+        | Entry::Begin { .. }
+        | Entry::Return { .. }
+        | Entry::End { .. }
+        | Entry::ThreadBegin { .. }
+        | Entry::ThreadReturn { .. }
+        | Entry::Finish { .. }
+        | Entry::Done { .. } => unreachable!(),
     }
 }
 

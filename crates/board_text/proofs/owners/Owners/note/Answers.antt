@@ -12,5 +12,5 @@ returns-in-Free c = λ calls h. on_ok_weaker c.note_owner-in-Free.result
     (λ now. free_noted c.args.self.now c.note_owner-in-Free.new.self calls c.args.call.now c.in-Free.dev c.in-Free.is
     now h) c.note_owner-in-Free.ensures
 
-pub returns-in_default : goal.returns-in_default
-returns-in_default c = λ calls h. other_noted c.args.self.now calls c.args.call.now c.in_default.not-Request c.in_default.not-Free h
+pub returns-in-Ask : goal.returns-in-Ask
+returns-in-Ask c = λ calls h. other_noted c.args.self.now calls c.args.call.now c.in-Ask.is h
