@@ -8,8 +8,6 @@ mod ends;
 #[cfg(test)]
 mod flaky;
 #[cfg(test)]
-mod handlers;
-#[cfg(test)]
 mod lines;
 #[cfg(test)]
 mod meeting;
