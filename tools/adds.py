@@ -9,17 +9,12 @@ PAGE = TOP / "docs" / "ADDING.md"
 LISTS = {"a flow": "FlowKind", "a driver's call": "Call", "a kind of entry": "Entry", "a kind of controller": "ControllerKind", "a command": "Command"}
 # Enums of which each variant is named wherever the program tells some of them apart.
 NAMED = ["Entry", "Call", "Actor"]
-# Where it may stand: the rest goes to a function that asks for a driver's entry, so the prover lists it; and in a summary
-# an entry that none of its counts names counts nothing.
-LEFT = ("irq_base/src/parts.rt", "log_summary/src/standing.rt")
 
 
 def hidden_variants():
     """The places of the program at which `_ =>` stands for variants of one of these enums."""
     for crate in read_crates().values():
         for file in crate.files() if crate.group not in ("reference", "tests") else ():
-            if str(file).endswith(LEFT):
-                continue
             rows = file.read_text(encoding="utf-8").splitlines() if file.suffix == ".rt" else []
             for at, row in enumerate(rows):
                 if row.lstrip().startswith("_ =>") and (enum := enum_above(rows[:at], row)):

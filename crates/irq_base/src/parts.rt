@@ -121,7 +121,16 @@ impl Parts {
                 of_thread(FINISH, finish_code(kept, unmask), dev, 0)
             }
             Entry::Done { dev } => of_thread(DONE, 0, dev, 0),
-            _ => Parts::of_driver(entry),
+            Entry::Ask { .. }
+            | Entry::Request { .. }
+            | Entry::Unlink { .. }
+            | Entry::Freed { .. }
+            | Entry::Disable { .. }
+            | Entry::HardClear { .. }
+            | Entry::Synced { .. }
+            | Entry::Enable { .. }
+            | Entry::Affinity { .. }
+            | Entry::Moment { .. } => Parts::of_driver(entry),
         }
     }
 
@@ -160,7 +169,14 @@ impl Parts {
                 answer,
             } => of_call(AFFINITY, affinity_number(answer), driver, mask),
             Entry::Moment { driver, at } => of_call(MOMENT, 0, driver, at),
-            _ => unreachable!(),
+            Entry::Take { .. }
+            | Entry::Begin { .. }
+            | Entry::Return { .. }
+            | Entry::End { .. }
+            | Entry::ThreadBegin { .. }
+            | Entry::ThreadReturn { .. }
+            | Entry::Finish { .. }
+            | Entry::Done { .. } => unreachable!(),
         }
     }
 

@@ -50,7 +50,21 @@ impl Standing {
                 answer: UnlinkAnswer::Unlinked { last },
                 ..
             } => self.unlink(last),
-            _ => {}
+            Entry::Take { .. }
+            | Entry::Begin { .. }
+            | Entry::Return { .. }
+            | Entry::End { .. }
+            | Entry::ThreadBegin { .. }
+            | Entry::ThreadReturn { .. }
+            | Entry::Finish { .. }
+            | Entry::Done { .. }
+            | Entry::Ask { .. }
+            | Entry::Unlink { .. }
+            | Entry::Freed { .. }
+            | Entry::HardClear { .. }
+            | Entry::Synced { .. }
+            | Entry::Affinity { .. }
+            | Entry::Moment { .. } => {}
         }
     }
 
