@@ -303,6 +303,11 @@ impl Board {
     pub fn find_line(&self, line: LineNo) -> Option<LineRow>
         ensures { result ≡ find_line self.now.lines line }
     {
+        if let Some(row) = self.lines.get(likely_place(line.0))
+            && row.line == line
+        {
+            return Some(row);
+        }
         self.lines.find(&line)
     }
 
@@ -310,6 +315,12 @@ impl Board {
     pub fn place_of_line(&self, line: LineNo) -> Option<usize>
         ensures { result ≡ place_of_line self.now.lines line }
     {
+        let likely = likely_place(line.0);
+        if let Some(row) = self.lines.get(likely)
+            && row.line == line
+        {
+            return Some(likely);
+        }
         self.lines.place_of(&line)
     }
 
@@ -317,6 +328,11 @@ impl Board {
     pub fn find_device(&self, dev: DevNo) -> Option<DeviceDef>
         ensures { result ≡ find_device self.now.devices dev }
     {
+        if let Some(device) = self.devices.get(likely_place(dev.0))
+            && device.dev == dev
+        {
+            return Some(device);
+        }
         self.devices.find(&dev)
     }
 
@@ -347,4 +363,10 @@ impl Board {
     {
         self.drivers.last()
     }
+}
+
+/// Where the row of a number is looked for before any search: lines and devices are mostly numbered
+/// from 1 on.
+fn likely_place(number: u32) -> usize {
+    number.saturating_sub(1) as usize
 }
