@@ -4,7 +4,6 @@ use Rattle.std.specs.declared.string.String.{String}
 use Rattle.irq_words.specs.Words.{AsksNothing}
 use Rattle.irq_top.specs.Commands.{ReadsNothing}
 use Rattle.irq_command.proofs.NoForm.{nothing_asked, nothing_read}
-use Rattle.irq_command.proofs.Untold.{making_untold, usage_untold}
 use Rattle.irq_command.proofs.commands.command.Goals as goal
 
 pub returns-in-Ok-clause-usage : goal.returns-in-Ok-clause-usage
