@@ -27,7 +27,7 @@ pub fn judge_by_line(alloc: Global, def: &LineDef, entries: &[Entry]) -> Result<
     judge_by(alloc, &MakesCellLine, def, entries)
 }
 
-/// The same by a line of any kind: over a line whose parts the proof can see it takes minutes.
+/// The same by a line of any kind: a proof over a known one sees all of its parts, and is long.
 fn judge_by<L: IrqLine, M: MakesLine<L>>(
     alloc: Global,
     lines: &M,
