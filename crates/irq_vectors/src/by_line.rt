@@ -1,11 +1,14 @@
 //! Judges the entries of a line by a line that is made of its definition.
-ghost use Rattle.std.specs.Prelude.{◌≡◌, ◌≤◌, length, IfOk};
+ghost use Rattle.std.specs.Prelude.{◌≡◌, ◌≤◌, List, length, IfOk};
+ghost use Rattle.irq_base.specs.declared.entries.Entry.{Entry};
+ghost use Rattle.irq_base.specs.declared.lines.LineDef.{LineDef};
 ghost use Rattle.irq_model.specs.Valid.{IsValid};
+ghost use Rattle.log_check.specs.Judged.{Judged};
 ghost use Rattle.irq_vectors.specs.Verdict.{IsVerdict};
 
 use crate::judging::Verdict;
 use irq_base::{Entry, History, LineDef, NoMemory};
-use irq_line::MakesLine;
+use irq_line::{IrqLine, MakesLine};
 use line_core::MakesCellLine;
 use std::alloc::Global;
 
@@ -21,13 +24,36 @@ pub fn judge_by_line(alloc: Global, def: &LineDef, entries: &[Entry]) -> Result<
     requires fits { length entries.now ≤ def.now.log }
     ensures { IfOk result (λ verdict. IsVerdict def.now entries.now verdict) }
 {
-    let mut line = MakesCellLine.make(alloc, 1, def)?;
+    judge_by(alloc, &MakesCellLine, def, entries)
+}
+
+/// The same by a line of any kind: a proof over a known one sees all of its parts, and is long.
+fn judge_by<L: IrqLine, M: MakesLine<L>>(
+    alloc: Global,
+    lines: &M,
+    def: &LineDef,
+    entries: &[Entry],
+) -> Result<Verdict, NoMemory>
+    requires lines { M.makes lines.now 1 def.now }
+    requires valid { IsValid def.now }
+    requires fits { length entries.now ≤ def.now.log }
+    ensures { IfOk result (λ verdict. IsVerdict def.now entries.now verdict) }
+{
+    let mut line = lines.make(alloc, 1, def)?;
     let history = history_of(alloc, entries)?;
-    match log_check::judge(&mut line, &history)? {
-        Some(entry) => Ok(Verdict::Unlawful {
+    Ok(verdict_of(log_check::judge(&mut line, &history)?))
+}
+
+/// The verdict where this is the number of the first entry that isn't due, or where there is none.
+fn verdict_of(first: Option<u32>) -> Verdict
+    ensures { (def : LineDef) (entries : List Entry) → Judged def entries first
+        → IsVerdict def entries result }
+{
+    match first {
+        Some(entry) => Verdict::Unlawful {
             entry: entry as usize,
-        }),
-        None => Ok(Verdict::Lawful),
+        },
+        None => Verdict::Lawful,
     }
 }
 
