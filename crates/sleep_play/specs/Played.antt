@@ -41,10 +41,10 @@ pub record IsLongerOf (b : BoardSeen) (armed : List LineNo) (longer : BoardSeen)
   pub slept : longer ≡ slept b
 
 -- the hierarchy has the board's domains and the paths of its lines, and this is its layout
-pub record IsLaidOut (b : BoardSeen) (h : HierarchySeen) (layout : List Placement) : Type 0 where
+pub record IsLaidOut (b : BoardSeen) (h : HierarchySeen) (laid : List Placement) : Type 0 where
   pub domains : h.domains ≡ defs_of b.domains
   pub paths : h.paths ≡ paths_of (layout_of b)
-  pub layout : layout ≡ layout_of b
+  pub layout : laid ≡ layout_of b
 
 -- it is board b that sleeps in it, with these lines armed
 pub record IsSleepOf (b : BoardSeen) (armed : List LineNo) (s : SleeperSeen) : Type 0 where

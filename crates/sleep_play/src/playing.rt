@@ -14,6 +14,7 @@ use crate::lengthening::{Longer, NoLonger, lengthen};
 use board_def::{Board, Layout};
 use board_report::ReportRoom;
 use callbacks::{Callbacks, Handler};
+use domain_hier::Hierarchy;
 use irq_base::{LineNo, NoMemory};
 use irq_io::Sink;
 use irq_line::{IrqLine, MakesLine};
@@ -79,9 +80,31 @@ fn play_longer<O: Sink, M: MakesDomainLine, H: Handler>(
         domains,
         layout,
     } = longer;
-    let maker = OverDomains::of_board(maker, &domains, &board);
-    match play_sleep(alloc, &board, layout, armed, &maker, handlers) {
-        Ok((play, room)) => report(&board, play, room, out),
+    play_laid(alloc, &board, &domains, layout, armed, maker, handlers, out)
+}
+
+/// The same of a board that is laid over these domains.
+fn play_laid<O: Sink, M: MakesDomainLine, H: Handler>(
+    alloc: Global,
+    board: &Board,
+    domains: &Hierarchy,
+    layout: Layout,
+    armed: &[LineNo],
+    maker: &M,
+    handlers: &Callbacks<H>,
+    out: &mut O,
+) -> PlayedBoard
+    requires { IsLaidOut board.now domains.now layout }
+    ensures plays { (b : BoardSeen) → IsLongerOf b armed.now board.now
+        → SleepsBoard b armed.now result.reports.reports (O.written out.old) (O.written out.new)
+        result.end }
+    ensures emptied { result.end ≡ PlayedEnd.Done → O.kept out.new ≡ [] }
+    ensures write_fault { Counts (O.faults out.old) (O.faults out.new) (is_write_fault result.end) }
+    ensures silent { is_printing result.end ≡ false → out.new ≡ out.old }
+{
+    let maker = OverDomains::of_board(maker, domains, board);
+    match play_sleep(alloc, board, layout, armed, &maker, handlers) {
+        Ok((play, room)) => report(board, play, room, out),
         Err(NoMemory) => unplayed(alloc),
     }
 }

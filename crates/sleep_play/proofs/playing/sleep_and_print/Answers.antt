@@ -22,7 +22,7 @@ pub play_longer-requires : goal.play_longer-requires
 play_longer-requires g c = c.in-Ok.ensures.laid
 
 pub returns-in-Err-NotForSleep-clause-refused : goal.returns-in-Err-NotForSleep-clause-refused
-returns-in-Err-NotForSleep-clause-refused g c = ?
+returns-in-Err-NotForSleep-clause-refused g c = c.in-Err-NotForSleep.ensures.refused c.in-Err-NotForSleep.field-0-is
 
 pub returns-in-Err-NoMemory-clause-plays : goal.returns-in-Err-NoMemory-clause-plays
 returns-in-Err-NoMemory-clause-plays g c =
