@@ -3,7 +3,7 @@ use Rattle.irq_io.specs.Faults.{Counts}
 use Rattle.irq_play.specs.Ends.{is_write_fault}
 use Rattle.irq_play.specs.declared.ending.PlayedEnd.{PlayedEnd}
 use Rattle.hotplug_play.specs.Played.{HotplugsBoard}
-use Rattle.hotplug_play.proofs.Finished.{answered}
+use Rattle.hotplug_play.proofs.Finished.{answered, not_done}
 use Rattle.hotplug_play.proofs.playing.play_plan.Goals as goal
 
 pub report-requires-clause-room : goal.report-requires-clause-room
@@ -11,7 +11,7 @@ report-requires-clause-room g c = c.in-Ok.ensures.room
 
 pub returns-in-Ok-clause-plays : goal.returns-in-Ok-clause-plays
 returns-in-Ok-clause-plays g c = λ b vectors es plan.
-    answered b vectors es c.args.plan.now.fleet c.args.plan.now.board plan c.in-Ok.system.log c.report.result.reports.reports
+    answered b vectors es c.args.plan.now.fleet c.args.plan.now.board plan c.in-Ok.field-0.system.log c.report.result.reports.reports
     (g.O.Sink.written c.args.out.now) (g.O.Sink.written c.report.new.out) c.report.result.end c.report.ensures.plays
 
 pub returns-in-Ok-clause-emptied : goal.returns-in-Ok-clause-emptied
@@ -36,3 +36,6 @@ returns-in-Err-clause-write_fault g c =
 
 pub returns-in-Err-clause-silent : goal.returns-in-Err-clause-silent
 returns-in-Err-clause-silent g c = λ not. refl
+
+pub returns-in-Err-clause-emptied : goal.returns-in-Err-clause-emptied
+returns-in-Err-clause-emptied g c = λ done. absurd (not_done c.unplayed.result.end c.unplayed.ensures.end done)
