@@ -1,22 +1,31 @@
 -- A planned board that was played, told of the board that it comes of.
-use Rattle.std.proofs.Common.{◌≡◌, ℕ, Option, List, ap, ◌∙◌, subst}
+use Rattle.std.proofs.Common.{◌≡◌, ℕ, ◌++◌, Option, List, ap, sym, ◌∙◌, subst, append_assoc}
 use Rattle.irq_base.specs.declared.numbers.LineNo.{LineNo}
 use Rattle.irq_base.specs.declared.reporting.LineReport.{LineReport}
-use Rattle.irq_io.specs.Whole.{WritesAll}
-use Rattle.irq_io.specs.declared.whole.WriteEnd.{WriteEnd}
-use Rattle.irq_io.specs.declared.whole.WriteEnd.TheVariants as writes
+use Rattle.board_core.specs.Seen.{SystemSeen, board_lines}
+use Rattle.board_core.specs.declared.turns.PlayEnd.{PlayEnd}
+use Rattle.board_core.specs.declared.turns.PlayEnd.TheVariants as plays
+use Rattle.board_def.specs.Rules.{IsBoard}
 use Rattle.board_def.specs.Seen.{BoardSeen}
 use Rattle.board_play.specs.Lines.{Move, part}
-use Rattle.irq_play.specs.Ends.{end_of_writing}
+use Rattle.log_text.specs.LayoutRows.{layout_rows}
 use Rattle.irq_play.specs.Headline.{CutShort, FullLog, Headline}
+use Rattle.irq_play.specs.Played.{IsPlayed}
+use Rattle.irq_play.specs.Report.{moves_text}
+use Rattle.irq_play.proofs.Finished.{cut_done, full_done, headline_done, no_room_full, rests}
+use Rattle.irq_play.specs.declared.ending.PlayedEnd.{PlayedEnd}
+use Rattle.irq_play.specs.declared.ending.PlayedEnd.TheVariants as ends
+use Rattle.irq_play.specs.declared.ending.Wanted.TheVariants as wants
 use Rattle.irq_hotplug.specs.Fleet.{FleetSeen, fleet_after}
 use Rattle.irq_hotplug.specs.declared.events.Event.{Event}
 use Rattle.hotplug_plan.specs.Planned.{planned}
 use Rattle.hotplug_laws.specs.Aims.{AimEach}
 use Rattle.hotplug_laws.proofs.Aims.{moves_aim, takes_part}
 use Rattle.hotplug_laws.proofs.Moments.{keep_places}
-use Rattle.hotplug_play.specs.Played.{HotplugsBoard, IsCut, IsFull, IsPlanOf, IsPrinted, planned_after}
-use Rattle.hotplug_play.specs.Texts.{hotplug_text}
+use Rattle.play_report.specs.Answers.{Answers}
+use Rattle.play_report.proofs.Handed.{Reported, answers_as, of_some}
+use Rattle.hotplug_play.specs.Played.{HandsOutPlan, HotplugCut, HotplugFull, HotplugHandsOut, HotplugHeadline, HotplugsBoard, IsPlanOf, planned_after}
+use Rattle.hotplug_play.specs.Texts.{fleet_text, hotplug_text}
 
 module _ (b : BoardSeen) (vectors : ℕ) (es : List Event) (f : FleetSeen) (longer : BoardSeen) (plan : IsPlanOf b vectors es f longer)
     (moves : List Move) (reports : List LineReport) where
@@ -29,27 +38,41 @@ module _ (b : BoardSeen) (vectors : ℕ) (es : List Event) (f : FleetSeen) (long
       let line = headline.mapped m.0 row m.1 m.2 m.3 m.4 in
       moves_aim b vectors es i row place (part row.line moves) plan.board plan.fits at is line.laws.legal line.settled
 
-  is_printed : (before now : Option (List ℕ)) (end : WriteEnd) → Headline longer moves reports
-      → WritesAll before now (hotplug_text longer f.said moves) end → IsPrinted b vectors es reports before now end
-  is_printed before now end headline prints =
-      let done : Headline (planned_after b vectors es) moves reports = subst (λ l. Headline l moves reports) same_board headline in
-      record {
-        fits = plan.fits;
-        moves = moves;
-        headline = done;
-        places = keep_places b vectors es;
-        aims = aim_each done;
-        prints = subst (λ text. WritesAll before now text end)
-            (ap (λ l. hotplug_text l f.said moves) same_board ∙ ap (λ (g : FleetSeen). hotplug_text b g.said moves) plan.fleet) prints;
-      }
+  pub done : Headline longer moves reports → HotplugHeadline b vectors es moves reports
+  done headline =
+      let of_planned : Headline (planned_after b vectors es) moves reports = subst (λ l. Headline l moves reports) same_board headline in
+      record { fits = plan.fits; headline = of_planned; places = keep_places b vectors es; aims = aim_each of_planned }
 
-  pub printed : (before now : Option (List ℕ)) (end : WriteEnd) → Headline longer moves reports
-      → WritesAll before now (hotplug_text longer f.said moves) end → HotplugsBoard b vectors es reports before now (end_of_writing end)
-  printed before now writes.Done headline prints = is_printed before now writes.Done headline prints
-  printed before now writes.Failed headline prints = is_printed before now writes.Failed headline prints
+  pub full : (line : LineNo) (len : ℕ) → FullLog longer moves reports line len → HotplugFull b vectors es moves reports line len
+  full line len is = record { fits = plan.fits; full = subst (λ l. FullLog l moves reports line len) same_board is }
 
-  pub full : (line : LineNo) (len : ℕ) → FullLog longer moves reports line len → IsFull b vectors es reports line len
-  full line len is = record { fits = plan.fits; moves = moves; full = subst (λ l. FullLog l moves reports line len) same_board is }
+  pub cut : CutShort longer moves reports → HotplugCut b vectors es moves reports
+  cut is = record { fits = plan.fits; cut = subst (λ l. CutShort l moves reports) same_board is }
 
-  pub cut : CutShort longer moves reports → IsCut b vectors es reports
-  cut is = record { fits = plan.fits; moves = moves; cut = subst (λ l. CutShort l moves reports) same_board is }
+  same_text : layout_rows longer ++ (fleet_text f.said ++ moves_text moves) ≡ hotplug_text b (fleet_after b vectors es).said moves
+  same_text =
+      sym (append_assoc (layout_rows longer) (fleet_text f.said) (moves_text moves))
+      ∙ (ap (λ l. hotplug_text l f.said moves) same_board ∙ ap (λ (g : FleetSeen). hotplug_text b g.said moves) plan.fleet)
+
+  pub answered : (before now : Option (List ℕ)) (end : PlayedEnd)
+      → Answers (layout_rows longer ++ (fleet_text f.said ++ moves_text moves)) (HandsOutPlan f longer moves) reports before now end
+      → HotplugsBoard b vectors es reports before now end
+  answered before now end told =
+      of_some (hotplug_text b (fleet_after b vectors es).said) (HotplugHandsOut b vectors es) moves reports before now end
+      (answers_as (layout_rows longer ++ (fleet_text f.said ++ moves_text moves)) (hotplug_text b (fleet_after b vectors es).said moves)
+      (HandsOutPlan f longer moves) (HotplugHandsOut b vectors es moves) same_text (λ end rs h. h b vectors es plan) reports before now end told)
+
+-- what the reports of the planned board's lines hand out, as the play left them
+module _ (f : FleetSeen) (longer : BoardSeen) (is : IsBoard longer) (s : SystemSeen) (reports : List LineReport)
+    (told : Reported longer (board_lines s.lines) reports) where
+  pub handed : (end : PlayEnd) → IsPlayed longer s end → HandsOutPlan f longer s.log end reports
+  handed plays.Done p b vectors es plan =
+      done b vectors es f longer plan s.log reports (headline_done longer s p is reports (told.done (rests longer s p)))
+  handed (plays.Full line len) p b vectors es plan =
+      full b vectors es f longer plan s.log reports line len
+      (full_done longer is s line len p reports (told.full line len (no_room_full longer is s line len p)))
+  handed plays.NoMemory p b vectors es plan = cut b vectors es f longer plan s.log reports (cut_done longer is s p reports told.so_far)
+
+-- a play that was refused memory before its first step isn't done
+pub not_done : (end : PlayedEnd) → end ≡ ends.NoMemory wants.Making → end ≡ ends.Done → ⊥
+not_done end made done = cc

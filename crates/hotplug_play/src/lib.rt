@@ -7,6 +7,7 @@
 //! come before the play: nothing is said of an interrupt that comes while a processor goes down.
 #![tactic(auto)]
 
+mod ended;
 mod planning;
 mod playing;
 mod printing;

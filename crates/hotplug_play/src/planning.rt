@@ -1,6 +1,7 @@
 //! The lines of a board with the events behind them, and the board with their moves.
 ghost use Rattle.std.specs.Prelude.{◌≡◌, ◌≤◌, IfOk, length};
 ghost use Rattle.hotplug_plan.specs.Planned.{IsForHotplug};
+ghost use Rattle.irq_hotplug.specs.Fleet.{fleet_after};
 ghost use Rattle.hotplug_play.specs.Played.{IsPlanOf};
 
 use board_def::Board;
@@ -33,9 +34,24 @@ pub(crate) fn make_plan<N: Notifier>(
     ensures { IfOk result (λ plan. IsPlanOf board vectors events.now plan.fleet plan.board) }
 {
     board.is_board();
-    let (_domains, layout) = lay(alloc, &board)?;
-    let mut fleet = Fleet::new(alloc, &board, &layout, vectors, notify)?;
-    take_events(alloc, &mut fleet, events, notify)?;
+    let fleet = placed(alloc, &board, vectors, events, notify)?;
     let board = planned(alloc, &fleet, board)?;
     Ok(Plan { fleet, board })
+}
+
+/// Places the lines of the board, and takes the events. The only error is `NoMemory`.
+fn placed<N: Notifier>(
+    alloc: Global,
+    board: &Board,
+    vectors: u32,
+    events: &[Event],
+    notify: &Notifiers<N>,
+) -> Result<Fleet, NoMemory>
+    requires { (1 ≤ vectors) × (vectors ≤ 64) }
+    ensures { IfOk result (λ fleet. fleet ≡ fleet_after board.now vectors events.now) }
+{
+    let (_domains, layout) = lay(alloc, board)?;
+    let mut fleet = Fleet::new(alloc, board, &layout, vectors, notify)?;
+    take_events(alloc, &mut fleet, events, notify)?;
+    Ok(fleet)
 }

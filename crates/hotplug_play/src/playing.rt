@@ -1,31 +1,24 @@
 //! Plays a board on processors that go offline and come online, and prints it.
-ghost use Rattle.std.specs.Prelude.{◌≡◌, ◌≤◌, ℕ, [], List, IfOk, IsTrue, OnErr, OnOk, false};
-ghost use Rattle.std.specs.Prelude.{length};
+ghost use Rattle.std.specs.Prelude.{◌≡◌, ◌≤◌, ℕ, [], List, IfOk, OnErr, OnOk, false, length};
 ghost use Rattle.board_def.specs.Seen.{BoardSeen};
-ghost use Rattle.board_report.specs.Reporting.{HasRoom};
 ghost use Rattle.irq_io.specs.Faults.{Counts};
 ghost use Rattle.irq_play.specs.Ends.{is_printing, is_write_fault};
-ghost use Rattle.irq_play.specs.Played.{IsPlayed};
 ghost use Rattle.irq_hotplug.specs.declared.events.Event.{Event};
 ghost use Rattle.hotplug_plan.specs.Planned.{IsForHotplug};
 ghost use Rattle.hotplug_play.specs.Played.{HotplugsBoard, IsPlanOf};
 
+use crate::ended::PlugPlay;
 use crate::planning::{Plan, make_plan};
-use crate::printing::write_hotplug;
-use board_core::{PlayEnd, System};
 use board_def::Board;
-use board_report::ReportRoom;
 use callbacks::{Callbacks, Handler};
 use hotplug_plan::fits_hotplug;
-use irq_base::{NoMemory, Reports};
+use irq_base::NoMemory;
 use irq_hotplug::Event;
 use irq_io::Sink;
-use irq_line::IrqLine;
-use irq_play::{
-    PlayedBoard, PlayedEnd, PlayedSystem, Wanted, play_system, report_cut, report_done, report_full,
-};
+use irq_play::{PlayedBoard, PlayedEnd, PlayedSystem, play_system};
 use line_makers::MakesDomainLine;
 use notifiers::{Notifier, Notifiers};
+use play_report::{report, unplayed};
 use std::alloc::Global;
 
 /// The lines of the board can't be placed and moved.
@@ -85,72 +78,9 @@ fn play_plan<O: Sink, M: MakesDomainLine, H: Handler>(
     ensures silent { is_printing result.end ≡ false → out.new ≡ out.old }
 {
     match play_system(alloc, &plan.board, maker, handlers) {
-        Ok(played) => report_plan(plan, played, out),
+        Ok(PlayedSystem { system, end, room }) => {
+            report(&plan.board, PlugPlay { plan, system, end }, room, out)
+        }
         Err(NoMemory) => unplayed(alloc),
-    }
-}
-
-/// Hands out the reports of a play of the planned board, and prints it if it came to its end.
-fn report_plan<O: Sink, L: IrqLine>(
-    plan: &Plan,
-    played: PlayedSystem<'_, L>,
-    out: &mut O,
-) -> PlayedBoard
-    requires played { IsPlayed plan.now.board played.system played.end }
-    requires room { HasRoom (length plan.now.board.lines) played.room }
-    ensures plays { (b : BoardSeen) (vectors : ℕ) (es : List Event)
-        → IsPlanOf b vectors es plan.now.fleet plan.now.board
-        → HotplugsBoard b vectors es result.reports.reports (O.written out.old)
-        (O.written out.new) result.end }
-    ensures emptied { result.end ≡ PlayedEnd.Done → O.kept out.new ≡ [] }
-    ensures write_fault { Counts (O.faults out.old) (O.faults out.new) (is_write_fault result.end) }
-    ensures silent { is_printing result.end ≡ false → out.new ≡ out.old }
-{
-    let PlayedSystem { system, end, room } = played;
-    match end {
-        PlayEnd::Done => print_done(plan, system, room, out),
-        PlayEnd::Full { line, len } => PlayedBoard {
-            end: PlayedEnd::LogFull { line, len },
-            reports: report_full(&plan.board, system, room, line, len),
-        },
-        PlayEnd::NoMemory => PlayedBoard {
-            end: PlayedEnd::NoMemory(Wanted::Step),
-            reports: report_cut(&plan.board, system, room),
-        },
-    }
-}
-
-/// Prints a play that came to its end, and hands out its reports.
-fn print_done<O: Sink, L: IrqLine>(
-    plan: &Plan,
-    system: System<'_, L>,
-    room: ReportRoom,
-    out: &mut O,
-) -> PlayedBoard
-    requires played { IsPlayed plan.now.board system PlayEnd.Done }
-    requires room { HasRoom (length plan.now.board.lines) room }
-    ensures printing { IsTrue (is_printing result.end) }
-    ensures plays { (b : BoardSeen) (vectors : ℕ) (es : List Event)
-        → IsPlanOf b vectors es plan.now.fleet plan.now.board
-        → HotplugsBoard b vectors es result.reports.reports (O.written out.old)
-        (O.written out.new) result.end }
-    ensures emptied { result.end ≡ PlayedEnd.Done → O.kept out.new ≡ [] }
-    ensures write_fault { Counts (O.faults out.old) (O.faults out.new) (is_write_fault result.end) }
-{
-    let written = write_hotplug(&plan.board, plan.fleet.said(), &system, out);
-    PlayedBoard {
-        end: PlayedEnd::from(written),
-        reports: report_done(&plan.board, system, room),
-    }
-}
-
-/// The result if memory was refused before the play.
-fn unplayed(alloc: Global) -> PlayedBoard
-    ensures end { result.end ≡ PlayedEnd.NoMemory Wanted.Making }
-    ensures reports { result.reports.reports ≡ [] }
-{
-    PlayedBoard {
-        end: PlayedEnd::NoMemory(Wanted::Making),
-        reports: Reports::new(alloc),
     }
 }

@@ -1,15 +1,12 @@
-//! Prints where lines are placed, row by row, and the play after it.
-ghost use Rattle.std.specs.Prelude.{◌≡◌, ◌++◌, All};
-ghost use Rattle.board_def.specs.Layout.{layout_of};
+//! Prints where lines are placed, row by row, and the moves after it.
+ghost use Rattle.std.specs.Prelude.{◌++◌, All};
 ghost use Rattle.irq_io.specs.Faults.{Counts};
-ghost use Rattle.irq_io.specs.Whole.{KeepsNone, WritesAll, writing_failed};
-ghost use Rattle.log_text.specs.LayoutRows.{layout_rows};
+ghost use Rattle.irq_io.specs.Whole.{WritesAll, writing_failed};
 ghost use Rattle.irq_play.specs.Printing.{HasRow};
-ghost use Rattle.hotplug_play.specs.Texts.{fleet_text, hotplug_text};
+ghost use Rattle.irq_play.specs.Report.{moves_text};
+ghost use Rattle.hotplug_play.specs.Texts.{fleet_text};
 
 use board_core::System;
-use board_def::Board;
-use board_report::{hand_on, print_layout};
 use hotplug_rows::fleet_row;
 use irq_hotplug::FleetRow;
 use irq_io::{Sink, WriteEnd, write_all};
@@ -17,14 +14,15 @@ use irq_line::IrqLine;
 use irq_play::print_moves;
 use text_row::TextRow;
 
-/// Prints what was said, in order; `row` is lent for the rows.
-fn print_fleet<O: Sink>(out: &mut O, row: &mut TextRow, said: &[FleetRow]) -> WriteEnd
+/// Prints what was said, in order.
+fn print_fleet<O: Sink>(out: &mut O, said: &[FleetRow]) -> WriteEnd
     ensures content { WritesAll (O.written out.old) (O.written out.new)
         (fleet_text said.now) result }
     ensures cause { Counts (O.faults out.old) (O.faults out.new) (writing_failed result) }
 {
+    let mut row = TextRow::new();
     for i in 0..said.len() {
-        fleet_row(row, said[i]);
+        fleet_row(&mut row, said[i]);
         match write_all(out, row.bytes()) {
             WriteEnd::Done => {}
             WriteEnd::Failed => return WriteEnd::Failed,
@@ -33,45 +31,19 @@ fn print_fleet<O: Sink>(out: &mut O, row: &mut TextRow, said: &[FleetRow]) -> Wr
     WriteEnd::Done
 }
 
-/// Prints the layout and what was said.
-fn print_places<O: Sink, L: IrqLine>(
-    board: &Board,
+/// Prints what was said, and the moves.
+pub(crate) fn print_plugged<O: Sink, L: IrqLine>(
     said: &[FleetRow],
     system: &System<'_, L>,
     out: &mut O,
 ) -> WriteEnd
-    requires { system.now.layout ≡ layout_of board.now }
+    requires { All HasRow system.now.log }
     ensures content { WritesAll (O.written out.old) (O.written out.new)
-        (layout_rows board.now ++ fleet_text said.now) result }
+        (fleet_text said.now ++ moves_text system.now.log) result }
     ensures cause { Counts (O.faults out.old) (O.faults out.new) (writing_failed result) }
 {
-    let mut row = TextRow::new();
-    match print_layout(out, &mut row, board, system.layout()) {
-        WriteEnd::Done => print_fleet(out, &mut row, said),
-        WriteEnd::Failed => WriteEnd::Failed,
-    }
-}
-
-/// Prints the layout, what was said, and the moves, and has them handed on.
-pub(crate) fn write_hotplug<O: Sink, L: IrqLine>(
-    board: &Board,
-    said: &[FleetRow],
-    system: &System<'_, L>,
-    out: &mut O,
-) -> WriteEnd
-    requires layout { system.now.layout ≡ layout_of board.now }
-    requires rows { All HasRow system.now.log }
-    ensures content { WritesAll (O.written out.old) (O.written out.new)
-        (hotplug_text board.now said.now system.now.log) result }
-    ensures emptied { KeepsNone (O.kept out.new) result }
-    ensures cause { Counts (O.faults out.old) (O.faults out.new) (writing_failed result) }
-{
-    match print_places(board, said, system, out) {
-        WriteEnd::Done => {}
-        WriteEnd::Failed => return WriteEnd::Failed,
-    }
-    match print_moves(out, &mut system.moves()) {
-        WriteEnd::Done => hand_on(out),
+    match print_fleet(out, said) {
+        WriteEnd::Done => print_moves(out, &mut system.moves()),
         WriteEnd::Failed => WriteEnd::Failed,
     }
 }

@@ -1,13 +1,11 @@
 -- A sleeper whose play has ended, and what its reports hand out.
-use Rattle.std.proofs.Common.{◌≡◌, ℕ, Bool, true, false, not, ◌&&◌, IsSome, All, Option, Some, None, List, length}
+use Rattle.std.proofs.Common.{◌≡◌, ◌++◌, ℕ, Bool, true, false, not, ◌&&◌, All, IsSome, Option, Some, None, List, length}
 use Rattle.std.proofs.Common.{reverse, slice_get, refl, sym, ap, ◌∙◌, subst}
 use Rattle.std.proofs.lemmas.Bool.{and_parts}
 use Rattle.std.proofs.lemmas.List.{reverse-reverse}
 use Rattle.irq_base.specs.declared.entries.Entry.{Entry}
 use Rattle.irq_base.specs.declared.numbers.LineNo.{LineNo}
 use Rattle.irq_base.specs.declared.reporting.LineReport.{LineReport}
-use Rattle.irq_io.specs.declared.whole.WriteEnd.{WriteEnd}
-use Rattle.irq_io.specs.declared.whole.WriteEnd.TheVariants as writes
 use Rattle.irq_line.specs.Seen.{LineSeen}
 use Rattle.domain_rules.specs.Layout.{is_mapped}
 use Rattle.domain_rules.specs.declared.layouts.Placement.{Placement}
@@ -18,40 +16,45 @@ use Rattle.board_def.specs.Seen.{BoardSeen}
 use Rattle.board_def.specs.declared.rows.LineRow.{LineRow}
 use Rattle.board_driver.specs.Longer.{last_driver}
 use Rattle.board_core.specs.Seen.{board_lines}
-use Rattle.board_core.specs.Turns.{HasLength}
+use Rattle.board_core.specs.declared.turns.PlayEnd.{PlayEnd}
 use Rattle.board_core.specs.declared.turns.PlayEnd.TheVariants as plays
 use Rattle.board_play.specs.Kept.{AreKept}
-use Rattle.board_play.specs.Lines.{BoardLine, Move, defs_of, find_line, lines_of, part}
+use Rattle.board_play.specs.Lines.{BoardLine, Move, defs_of, lines_of, part}
 use Rattle.board_play.specs.Order.{actors_of}
 use Rattle.board_play.specs.Play.{Done, Full, first_move}
-use Rattle.board_play.proofs.KeptAlways.{apart_kept}
 use Rattle.board_play.proofs.Listed.{def_at}
-use Rattle.board_play.proofs.Members.{find_there, past_at}
-use Rattle.board_play.proofs.Moves.{moves_on}
-use Rattle.board_report.specs.Headline.{FullLog, Headline, SoFar}
-use Rattle.board_report.specs.Moving.{AreAtRest, HasNoRoom}
+use Rattle.board_play.proofs.Members.{past_at}
+use Rattle.board_report.specs.Moving.{AreAtRest}
 use Rattle.board_report.specs.Reporting.{entries_in}
-use Rattle.board_report.proofs.FullAt.{no_room}
 use Rattle.board_report.proofs.Laid.{its_entries, line_laid}
-use Rattle.play_orders.specs.Orders.{IsFullAt, IsMade}
-use Rattle.irq_play.specs.Ends.{end_of_writing}
+use Rattle.play_orders.specs.Orders.{IsMade, Order}
+use Rattle.irq_play.specs.declared.ending.PlayedEnd.{PlayedEnd}
+use Rattle.irq_play.specs.declared.ending.PlayedEnd.TheVariants as ends
+use Rattle.irq_play.specs.declared.ending.Wanted.TheVariants as wants
+use Rattle.log_text.specs.LayoutRows.{layout_rows}
+use Rattle.play_report.specs.Answers.{Answers}
+use Rattle.play_report.specs.Ordered.{lines_after}
+use Rattle.play_report.proofs.Handed.{Reported, answers_as, handed_out, of_some}
+use Rattle.play_report.proofs.Scenario.{IsEnd, IsScenario, log_has_rows}
+use Rattle.play_report.specs.Rows.{HasRow}
 use Rattle.irq_pm.specs.Phases.{Next, Phase, Picking, sleep_next, sleep_order}
-use Rattle.irq_pm.specs.SleepLog.{moves_of}
+use Rattle.irq_pm.specs.SleepLog.{moves_of, told}
 use Rattle.irq_pm.specs.Slept.{Sleeps, SleepsThrough}
 use Rattle.irq_pm.specs.SleptBoard.{can_all_wake, has_room_for_sleep, is_for_sleep, slept}
 use Rattle.irq_pm.specs.declared.entries.SleepEntry.{SleepEntry}
 use Rattle.irq_pm.proofs.Order.{first_is}
 use Rattle.irq_pm.proofs.Through.{comes_to_rest, moves_are, names_waker, state, through}
 use Rattle.irq_sleeper.specs.Seen.{SleeperSeen, log_of}
-use Rattle.irq_sleeper.specs.Steps.{IsTold}
-use Rattle.sleep_play.specs.Headline.{KeepsSleep, SleepCut, SleepFull, SleepHeadline}
-use Rattle.sleep_play.specs.Played.{IsPlayedSleeper, IsPrinted, IsSleepOf, SleepsBoard}
-use Rattle.sleep_play.specs.Printing.{HasRow}
-use Rattle.sleep_play.proofs.Moved.{log_has_rows, mover}
+use Rattle.irq_sleeper.specs.Steps.{IsSleep, IsTold}
+use Rattle.sleep_play.specs.Headline.{KeepsSleep, SleepHandsOut}
+use Rattle.sleep_play.specs.Played.{HandsOutSleep, IsSleepOf, SleepsBoard}
+use Rattle.sleep_play.specs.Rows.{log_text, sleep_text}
+use Rattle.sleep_play.proofs.Moved.{moves_due}
 
--- a play that came to its end has rows
-pub rows_done : (b : BoardSeen) (s : SleeperSeen) → IsPlayedSleeper b s plays.Done → All HasRow (log_of s)
-rows_done b s p = log_has_rows s.system.board s.watch.armed (Picking b.picks) (log_of s) p.sleep.0 p.sleep.1
+-- each step and mark of a sleep that came to its end has a row
+pub rows_done : (s : SleeperSeen) → IsSleep s s.system.board.picks plays.Done → All (HasRow told) (log_of s)
+rows_done s p = log_has_rows s.system.board (sleep_order s.system.board s.watch.armed) (moves_due s.system.board s.watch.armed)
+    (Picking s.system.board.picks) (log_of s) p.0 p.1
 
 -- the system's driver is none of the board's
 not_free : (a c : Bool) → (not a && c) ≡ true → a ≡ false
@@ -115,124 +118,80 @@ module _ (b : BoardSeen) (armed : List LineNo) (is : IsBoard b) (long : IsBoard 
         by_next (Some next) is = refl
 
     pub keeps_sleep : KeepsSleep b armed log
-    keeps_sleep = record { lines = of_row; wake = names_waker (slept b) armed (Picking b.picks) (reverse log) at made }
+    keeps_sleep = record { fits = fits; lines = of_row; wake = names_waker (slept b) armed (Picking b.picks) (reverse log) at made }
 
 -- ---- as the sleeper stands
 
-module _ (b : BoardSeen) (armed : List LineNo) (longer : BoardSeen) (s : SleeperSeen) (of : IsSleepOf b armed longer s)
-    (is : IsBoard longer) (lines : List LineSeen) (out : lines ≡ s.system.lines) (reports : List LineReport) where
+module _ (b : BoardSeen) (armed : List LineNo) (s : SleeperSeen) (of : IsSleepOf b armed s) (is : IsBoard s.system.board) (t : IsTold s) where
   long : IsBoard (slept b)
-  long = subst IsBoard of.slept is
+  long = subst IsBoard of.longer.slept is
+
+  abbrev order : Order Phase SleepEntry
+  order = sleep_order (slept b) armed
 
   abbrev g : List SleepEntry
   g = reverse (log_of s)
 
-  module _ (of_longer : s.system.board ≡ longer) (t : IsTold s) where
-    its_board : s.system.board ≡ slept b
-    its_board = of_longer ∙ of.slept
+  abbrev now : List BoardLine
+  now = lines_after (slept b) order (log_of s)
 
-    are : board_lines lines ≡ lines_of (slept b) (moves_of (reverse (log_of s)))
-    are = ap board_lines out
-        ∙ (t.lines
-        ∙ (ap (λ (c : BoardSeen). lines_of c (reverse s.system.log)) its_board
-        ∙ ap (λ (ms : List Move). lines_of (slept b) ms) (sym t.told)))
+  -- the lines after the log's moves are those after the order's
+  same_lines : lines_of (slept b) (moves_of (reverse (log_of s))) ≡ now
+  same_lines = ap (λ (ms : List Move). lines_of (slept b) ms) (sym (moves_are (slept b) armed (reverse (log_of s))))
 
-    -- what was played of the longer board is played of the board that sleeps
-    of_board : (P : BoardSeen → List LineNo → Type 0) → P s.system.board s.watch.armed → P (slept b) armed
-    of_board P p = subst (λ (c : BoardSeen). P c armed) its_board (subst (P s.system.board) of.watched p)
+  are : board_lines s.system.lines ≡ now
+  are = t.lines
+      ∙ (ap (λ (c : BoardSeen). lines_of c (reverse s.system.log)) of.longer.slept
+      ∙ (ap (λ (ms : List Move). lines_of (slept b) ms) (sym t.told) ∙ same_lines))
 
-  -- when it was played to its end
-  module _ (p : IsPlayedSleeper longer s plays.Done) where
-    sleeps_done : Sleeps (slept b) armed b.picks (reverse (log_of s)) Done
-    sleeps_done = subst (λ (c : BoardSeen). Sleeps (slept b) armed c.picks (reverse (log_of s)) Done) of.slept
-        (of_board p.board p.told (λ c a. Sleeps c a longer.picks (reverse (log_of s)) Done) p.sleep)
+  scenario : IsScenario (slept b) order (Picking b.picks) (KeepsSleep b armed) (log_of s)
+  scenario = record {
+    board = long;
+    limit = refl;
+    moves = moves_due (slept b) armed;
+    kept = λ at made. subst (AreKept (slept b)) same_lines (state b of.longer.board long (is_free b armed of.longer.fits) armed g at made).kept;
+    keeps = λ at made. keeps_sleep b armed of.longer.board long of.longer.fits (log_of s) at made;
+    rests = λ played. subst (AreAtRest (slept b)) same_lines
+        (λ a at. comes_to_rest b of.longer.board long (is_free b armed of.longer.fits) armed g played a at);
+  }
 
-    pub rests : AreAtRest longer (board_lines lines)
-    rests = subst (λ (c : BoardSeen). AreAtRest c (board_lines lines)) (sym of.slept)
-        (subst (AreAtRest (slept b)) (sym (are p.board p.told))
-        (λ a at. comes_to_rest b of.board long (is_free b armed of.fits) armed (reverse (log_of s)) sleeps_done a at))
+  -- what was played of the sleeper's board is played of the board that sleeps
+  of_board : (P : BoardSeen → List LineNo → Type 0) → P s.system.board s.watch.armed → P (slept b) armed
+  of_board P p = subst (λ (c : BoardSeen). P c armed) of.longer.slept (subst (P s.system.board) of.watched p)
 
-    pub headline_done : (AreAtRest longer (board_lines lines) → Headline longer (entries_in (board_lines lines)) reports)
-        → SleepHeadline b armed (log_of s) reports
-    headline_done h = record {
-      fits = of.fits;
-      play = sleeps_done;
-      sleep = keeps_sleep b armed of.board long of.fits (log_of s) sleeps_done.0 sleeps_done.1;
-      lines = subst (λ (ls : List BoardLine). Headline (slept b) (entries_in ls) reports) (are p.board p.told)
-          (subst (λ (c : BoardSeen). Headline c (entries_in (board_lines lines)) reports) of.slept (h rests));
-    }
+  as_end : (end : PlayEnd) → IsSleep s s.system.board.picks end → IsEnd (slept b) order (Picking b.picks) (log_of s) end
+  as_end plays.Done p = of_board (λ c a. Sleeps c a c.picks (reverse (log_of s)) Done) p
+  as_end (plays.Full line len) p = (
+    of_board (λ c a. Sleeps c a c.picks (reverse (log_of s)) (Full line)) p.0,
+    ap (λ (ms : List Move). length (part line ms)) (moves_are (slept b) armed (reverse (log_of s)) ∙ t.told) ∙ p.1,
+  )
+  as_end plays.NoMemory p =
+      let made : IsMade order (Picking b.picks) (reverse (log_of s)) p.0 =
+      of_board (λ c a. IsMade (sleep_order c a) (Picking c.picks) (reverse (log_of s)) p.0) p.1 in (
+        p.0,
+        made,
+        next_due b armed of.longer.board long of.longer.fits (log_of s) p.0 made
+            (subst (λ (c : BoardSeen). IsSome (first_move c (lines_of (slept b) (moves_of (reverse (log_of s)))) (actors_of c))) of.longer.slept
+            (subst (λ (ls : List BoardLine). IsSome (first_move s.system.board ls (actors_of s.system.board))) (are ∙ sym same_lines) p.2)),
+      )
 
-  -- when a log was full
-  module _ (line : LineNo) (len : ℕ) (p : IsPlayedSleeper longer s (plays.Full line len)) where
-    sleeps_full : Sleeps (slept b) armed b.picks (reverse (log_of s)) (Full line)
-    sleeps_full = subst (λ (c : BoardSeen). Sleeps (slept b) armed c.picks (reverse (log_of s)) (Full line)) of.slept
-        (of_board p.board p.told (λ c a. Sleeps c a longer.picks (reverse (log_of s)) (Full line)) p.sleep.0)
+  -- the reports of the lines that were taken out of it
+  pub hands_out : (end : PlayEnd) → IsSleep s s.system.board.picks end → (lines : List LineSeen) → lines ≡ s.system.lines
+      → (reports : List LineReport) → Reported s.system.board (board_lines lines) reports → SleepHandsOut b armed (log_of s) end reports
+  unfolding SleepHandsOut
+  hands_out end sleep lines out reports told =
+      handed_out (slept b) order (Picking b.picks) (KeepsSleep b armed) (log_of s) scenario (board_lines lines) (ap board_lines out ∙ are) reports
+      (subst (λ (c : BoardSeen). Reported c (board_lines lines) reports) of.longer.slept told) end (as_end end sleep)
 
-    full_at : IsFullAt (sleep_order (slept b) armed) (reverse (log_of s)) sleeps_full.0 line
-    full_at = sleeps_full.2
+-- what is answered of the longer board is answered of the board that sleeps
+pub answered : (b : BoardSeen) (armed : List LineNo) (s : SleeperSeen) → IsSleepOf b armed s → (longer : BoardSeen) → s.system.board ≡ longer
+    → (reports : List LineReport) (before after : Option (List ℕ)) (end : PlayedEnd)
+    → Answers (layout_rows longer ++ log_text (log_of s)) (HandsOutSleep s) reports before after end → SleepsBoard b armed reports before after end
+answered b armed s of longer same reports before after end told =
+    of_some (sleep_text b) (SleepHandsOut b armed) (log_of s) reports before after end
+    (answers_as (layout_rows longer ++ log_text (log_of s)) (sleep_text b (log_of s)) (HandsOutSleep s) (SleepHandsOut b armed (log_of s))
+    (ap (λ (x : BoardSeen). sleep_text x (log_of s)) (sym same ∙ of.longer.slept)) (λ end rs h. h b armed of) reports before after end told)
 
-    abbrev now : List BoardLine
-    now = lines_of (slept b) (moves_of (reverse (log_of s)))
-
-    kept_now : AreKept (slept b) (lines_of (slept b) (moves_of (reverse (log_of s))))
-    kept_now = (state b of.board long (is_free b armed of.fits) armed (reverse (log_of s)) sleeps_full.0 sleeps_full.1).kept
-
-    -- its length
-    long_part : length (part line (moves_of (reverse (log_of s)))) ≡ len
-    long_part = ap (λ (ms : List Move). length (part line ms)) p.told.told ∙ p.sleep.1
-
-    limit : len ≡ (slept b).log
-    limit = sym long_part
-        ∙ (ap (λ (ms : List Move). length (part line ms)) (sym (moves_are (slept b) armed (reverse (log_of s)))) ∙ full_at.is_long)
-
-    pub no_room_full : HasNoRoom longer (board_lines lines) line len
-    no_room_full =
-        let f = full_at in
-        let who = mover (slept b) armed (moves_of (reverse (log_of s))) sleeps_full.0 f.step f.after f.move f.next_is f.tells in
-        let on = moves_on (slept b) now who.actor f.move who.moves in
-        let number : on.line.def.line ≡ line = sym on.number ∙ f.of_line in
-        let found : find_line now line ≡ Some on.line = ap (λ (l : LineNo). find_line now l) (sym number)
-        ∙ find_there now (apart_kept (slept b) long now kept_now) on.place on.line on.at in
-        let its : length on.line.past ≡ len =
-        ap (λ (es : List Entry). length es) (past_at (defs_of (slept b)) (moves_of (reverse (log_of s))) on.place on.line on.at
-        ∙ ap (λ (l : LineNo). part l (moves_of (reverse (log_of s)))) number) ∙ long_part in
-        subst (λ (c : BoardSeen). HasNoRoom c (board_lines lines) line len) (sym of.slept)
-        (subst (λ (ls : List BoardLine). HasNoRoom (slept b) ls line len) (sym (are p.board p.told))
-        (no_room (slept b) long now kept_now line len f.move f.of_line
-        (subst (λ (o : Option BoardLine). HasLength o len) (sym found) its) limit who.actor who.moves))
-
-    pub full_done : (HasNoRoom longer (board_lines lines) line len → FullLog longer (entries_in (board_lines lines)) reports line len)
-        → SleepFull b armed (log_of s) reports line len
-    full_done h = record {
-      fits = of.fits;
-      play = sleeps_full;
-      sleep = keeps_sleep b armed of.board long of.fits (log_of s) sleeps_full.0 sleeps_full.1;
-      lines = subst (λ (ls : List BoardLine). FullLog (slept b) (entries_in ls) reports line len) (are p.board p.told)
-          (subst (λ (c : BoardSeen). FullLog c (entries_in (board_lines lines)) reports line len) of.slept (h no_room_full));
-    }
-
-  -- when a step was refused memory
-  pub cut_done : IsPlayedSleeper longer s plays.NoMemory → SoFar longer (entries_in (board_lines lines)) reports → SleepCut b armed (log_of s) reports
-  cut_done p h =
-      let made : IsMade (sleep_order (slept b) armed) (Picking b.picks) (reverse (log_of s)) p.sleep.0 =
-      subst (λ (c : BoardSeen). IsMade (sleep_order (slept b) armed) (Picking c.picks) (reverse (log_of s)) p.sleep.0) of.slept
-      (of_board p.board p.told (λ c a. IsMade (sleep_order c a) (Picking longer.picks) (reverse (log_of s)) p.sleep.0) p.sleep.1) in
-      record {
-        fits = of.fits;
-        at = p.sleep.0;
-        so_far = made;
-        next = next_due b armed of.board long of.fits (log_of s) p.sleep.0 made
-            (subst (λ (c : BoardSeen). IsSome (first_move c (lines_of (slept b) (moves_of (reverse (log_of s)))) (actors_of c)))
-            (its_board p.board p.told)
-            (subst (λ (ls : List BoardLine). IsSome (first_move s.system.board ls (actors_of s.system.board)))
-            (sym (ap board_lines out) ∙ are p.board p.told) p.sleep.2));
-        sleep = keeps_sleep b armed of.board long of.fits (log_of s) p.sleep.0 made;
-        lines = subst (λ (ls : List BoardLine). SoFar (slept b) (entries_in ls) reports) (are p.board p.told)
-            (subst (λ (c : BoardSeen). SoFar c (entries_in (board_lines lines)) reports) of.slept h);
-      }
-
--- how the printing ended is how it all did
-pub printed : (b : BoardSeen) (armed : List LineNo) (reports : List LineReport) (before after : Option (List ℕ)) (end : WriteEnd)
-    → IsPrinted b armed reports before after end → SleepsBoard b armed reports before after (end_of_writing end)
-printed b armed reports before after writes.Done h = h
-printed b armed reports before after writes.Failed h = h
+-- a play that was refused memory before its first step isn't done
+pub not_done : (end : PlayedEnd) → end ≡ ends.NoMemory wants.Making → end ≡ ends.Done → ⊥
+not_done end made done = cc

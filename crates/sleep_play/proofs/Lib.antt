@@ -1,3 +1,2 @@
-mod StepRows
 mod Moved
 mod Finished

@@ -1,8 +1,5 @@
--- A step of a sleep is some actor's move, so its entry is due, and it has a row.
-use Rattle.std.proofs.Common.{◌≡◌, Bool, true, false, cond, Option, Some, None, List, [], ◌∷◌, ◌++◌, reverse, refl, sym, ap, ◌∙◌, subst, inl, inr}
-use Rattle.std.specs.List.{All}
-use Rattle.std.proofs.lemmas.List.{reverse-reverse}
-use Rattle.std.proofs.lemmas.List.Elements.{All-nil, All-cons}
+-- A step of a sleep is some actor's move, so its entry is due.
+use Rattle.std.proofs.Common.{◌≡◌, Bool, true, false, cond, Option, Some, None, List, ◌++◌, refl, sym, ap, ◌∙◌, subst, inl, inr}
 use Rattle.irq_base.specs.declared.entries.Actor.{Actor}
 use Rattle.irq_base.specs.declared.entries.Actor.TheVariants as actors
 use Rattle.irq_base.specs.declared.numbers.LineNo.{LineNo}
@@ -12,9 +9,7 @@ use Rattle.board_play.specs.Lines.{BoardLine, Move, lines_of}
 use Rattle.board_play.specs.Order.{actors_of, cpus_of, threads_of}
 use Rattle.board_play.specs.Play.{first_move, or_move}
 use Rattle.board_play.proofs.Moves.{IsActors, moves_on}
-use Rattle.board_play.proofs.Parts.{due_of}
-use Rattle.board_report.proofs.Printable.{printable, turned}
-use Rattle.play_orders.specs.Orders.{IsMade}
+use Rattle.play_report.proofs.Scenario.{IsOn, MovesDue}
 use Rattle.irq_pm.specs.Phases.{Next, Phase, Picking, Disabling, Asleep, Enabling, Going, ask_move, disabling, due_of as call_due, going}
 use Rattle.irq_pm.specs.Phases.{inner_move, is_disable_due, last_move, or_next, picked, sleep_next, sleep_order, sleeping, step_in}
 use Rattle.irq_pm.specs.SleepLog.{moves_of, told}
@@ -22,7 +17,7 @@ use Rattle.irq_pm.specs.Waking.{woken_by}
 use Rattle.irq_pm.specs.declared.entries.SleepEntry.{SleepEntry}
 use Rattle.irq_pm.specs.declared.entries.SleepEntry.TheVariants as sleeps
 use Rattle.irq_pm.proofs.Order.{ask_is, either_move, either_next, first_is, of_mark, of_step, pick_is}
-use Rattle.sleep_play.specs.Printing.{HasRow}
+use Rattle.irq_pm.proofs.Through.{moves_are}
 
 none_is_some : (m : Move) → ◌≡◌ {A = Option Move} None (Some m) → ⊥
 none_is_some m is = cc
@@ -104,20 +99,10 @@ mover b armed g Asleep e after m next tells = of_sleeping b (lines_of b g) m (wo
 mover b armed g Enabling e after m next tells = of_enabling b (lines_of b g) m e after next tells
 mover b armed g Going e after m next tells = of_going b (lines_of b g) m e after next tells
 
-module _ (b : BoardSeen) (armed : List LineNo) (first : Phase) where
-  has_row : (g : List Move) (phase : Phase) (e : SleepEntry) (after : Phase) → sleep_next b armed g phase ≡ Some (e, after) → HasRow e
-  has_row g phase (sleeps.Step line entry) after next =
-      let m : Move = (line, entry) in
-      let a = mover b armed g phase (sleeps.Step line entry) after m next refl in
-      let on = moves_on b (lines_of b g) a.actor m a.moves in
-      printable on.line.def on.line.past entry (due_of on.line.def on.line.past a.actor entry on.due)
-  has_row g phase sleeps.Asleep after next = tt
-  has_row g phase (sleeps.Wake line) after next = tt
-
-  made_rows : (g : List SleepEntry) (at : Phase) → IsMade (sleep_order b armed) first g at → All HasRow g
-  made_rows [] at made = All-nil HasRow
-  made_rows (e ∷ g) at made = All-cons HasRow e g (has_row (moves_of g) made.0 e at made.2) (made_rows g made.0 made.1)
-
-  -- each step and mark so far has a row
-  pub log_has_rows : (log : List SleepEntry) (at : Phase) → IsMade (sleep_order b armed) first (reverse log) at → All HasRow log
-  log_has_rows log at made = subst (All HasRow) (reverse-reverse log) (turned HasRow (reverse log) (made_rows (reverse log) at made))
+-- a next step that moves a line is an entry that is due on it
+pub moves_due : (b : BoardSeen) (armed : List LineNo) → MovesDue b (sleep_order b armed)
+moves_due b armed g at after e m next tells =
+    subst (λ (ms : List Move). IsOn (lines_of b ms) m.0 m.1) (sym (moves_are b armed g))
+    (let a = mover b armed (moves_of g) at e after m next tells in
+    let on = moves_on b (lines_of b (moves_of g)) a.actor m a.moves in
+    record { actor = a.actor; of = on.line; place = on.place; at = on.at; number = sym on.number; due = on.due })

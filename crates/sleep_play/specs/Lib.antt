@@ -1,4 +1,3 @@
 pub mod Rows
-pub mod Printing
 pub mod Headline
 pub mod Played

@@ -6,8 +6,11 @@
 //! `specs/Rows.antt`; how both come together in `specs/Played.antt`.
 #![tactic(auto)]
 
+pub mod ended;
+mod lengthening;
 pub mod playing;
 pub mod printing;
 pub mod rows;
 
+pub use ended::SleepPlay;
 pub use playing::{NotForSleep, sleep_and_print};

@@ -1,26 +1,27 @@
 //! Puts a board to sleep, wakes it, and prints it.
-ghost use Rattle.std.specs.Prelude.{◌≡◌, [], List, IfOk, IsTrue, OnErr, OnOk, false, true, length};
+ghost use Rattle.std.specs.Prelude.{◌≡◌, [], IfOk, OnErr, false, length};
+ghost use Rattle.board_core.specs.Making.{MakesAll};
+ghost use Rattle.board_def.specs.Layout.{layout_of};
 ghost use Rattle.board_def.specs.Seen.{BoardSeen};
 ghost use Rattle.board_report.specs.Reporting.{HasRoom};
-ghost use Rattle.irq_base.specs.declared.numbers.LineNo.{LineNo};
 ghost use Rattle.irq_io.specs.Faults.{Counts};
 ghost use Rattle.irq_play.specs.Ends.{is_printing, is_write_fault};
 ghost use Rattle.irq_pm.specs.SleptBoard.{is_for_sleep};
-ghost use Rattle.sleep_play.specs.Played.{IsPlayedSleeper, IsSleepOf, SleepsBoard};
+ghost use Rattle.sleep_play.specs.Played.{IsLaidOut, IsLongerOf, SleepsBoard};
 
-use crate::printing::write_sleep;
-use board_core::PlayEnd;
-use board_def::Board;
-use board_layout::lay;
-use board_report::{ReportRoom, hand_out};
+use crate::ended::SleepPlay;
+use crate::lengthening::{Longer, NoLonger, lengthen};
+use board_def::{Board, Layout};
+use board_report::ReportRoom;
 use callbacks::{Callbacks, Handler};
-use irq_base::{LineNo, Reports};
+use domain_hier::Hierarchy;
+use irq_base::{LineNo, NoMemory};
 use irq_io::Sink;
-use irq_line::IrqLine;
-use irq_play::{PlayedBoard, PlayedEnd, Wanted};
-use irq_pm::{fits_sleep, with_sleep};
+use irq_line::{IrqLine, MakesLine};
+use irq_play::{PlayedBoard, PlayedEnd};
 use irq_sleeper::Sleeper;
 use line_makers::{MakesDomainLine, OverDomains};
+use play_report::{report, unplayed};
 use std::alloc::Global;
 
 /// The board can't sleep with these lines armed.
@@ -50,90 +51,82 @@ pub fn sleep_and_print<O: Sink, M: MakesDomainLine, H: Handler>(
         (is_write_fault p.end)) }
     ensures silent { IfOk result (λ p. is_printing p.end ≡ false → out.new ≡ out.old) }
 {
-    board.is_board();
-    let Ok((domains, layout)) = lay(alloc, &board) else {
-        return Ok(unplayed(alloc));
-    };
-    if !fits_sleep(&board, &layout, armed) {
-        return Err(NotForSleep);
+    match lengthen(alloc, board, armed) {
+        Ok(longer) => Ok(play_longer(alloc, longer, armed, maker, handlers, out)),
+        Err(NoLonger::NotForSleep) => Err(NotForSleep),
+        Err(NoLonger::NoMemory) => Ok(unplayed(alloc)),
     }
-    let Ok(longer) = with_sleep(alloc, board, &layout) else {
-        return Ok(unplayed(alloc));
-    };
-    let Ok(room) = ReportRoom::new(alloc, &longer) else {
-        return Ok(unplayed(alloc));
-    };
-    let maker = OverDomains::of_board(maker, &domains, &longer);
-    let Ok(mut sleeper) = Sleeper::new(alloc, &longer, layout, armed, &maker) else {
-        return Ok(unplayed(alloc));
-    };
-    let end = sleeper.play(longer.picks(), handlers);
-    Ok(report_sleep(&longer, sleeper, end, room, out))
 }
 
-/// Hands out the reports of a sleep, and prints it if it came to its end. The board has the
-/// system's driver.
-fn report_sleep<O: Sink, L: IrqLine>(
-    board: &Board,
-    sleeper: Sleeper<'_, L>,
-    end: PlayEnd,
-    room: ReportRoom,
+/// Plays the sleep of the board, which has the system's driver, and prints it.
+fn play_longer<O: Sink, M: MakesDomainLine, H: Handler>(
+    alloc: Global,
+    longer: Longer,
+    armed: &[LineNo],
+    maker: &M,
+    handlers: &Callbacks<H>,
     out: &mut O,
 ) -> PlayedBoard
-    requires played { IsPlayedSleeper board.now sleeper end }
-    requires room { HasRoom (length board.now.lines) room }
-    ensures plays { (b : BoardSeen) (armed : List LineNo)
-        → IsSleepOf b armed board.now sleeper.entry → SleepsBoard b armed result.reports.reports
-        (O.written out.old) (O.written out.new) result.end }
+    requires { IsLaidOut longer.board longer.domains longer.layout }
+    ensures plays { (b : BoardSeen) → IsLongerOf b armed.now longer.board
+        → SleepsBoard b armed.now result.reports.reports (O.written out.old) (O.written out.new)
+        result.end }
     ensures emptied { result.end ≡ PlayedEnd.Done → O.kept out.new ≡ [] }
     ensures write_fault { Counts (O.faults out.old) (O.faults out.new) (is_write_fault result.end) }
     ensures silent { is_printing result.end ≡ false → out.new ≡ out.old }
 {
-    board.is_board();
-    match end {
-        PlayEnd::Done => print_done(board, sleeper, room, out),
-        PlayEnd::Full { line, len } => PlayedBoard {
-            end: PlayedEnd::LogFull { line, len },
-            reports: hand_out(board, sleeper.into_system(), room),
-        },
-        PlayEnd::NoMemory => PlayedBoard {
-            end: PlayedEnd::NoMemory(Wanted::Step),
-            reports: hand_out(board, sleeper.into_system(), room),
-        },
-    }
+    let Longer {
+        board,
+        domains,
+        layout,
+    } = longer;
+    play_laid(alloc, &board, &domains, layout, armed, maker, handlers, out)
 }
 
-/// Prints a sleep that came to its end, and hands out its reports.
-fn print_done<O: Sink, L: IrqLine>(
+/// The same of a board that is laid over these domains.
+fn play_laid<O: Sink, M: MakesDomainLine, H: Handler>(
+    alloc: Global,
     board: &Board,
-    sleeper: Sleeper<'_, L>,
-    room: ReportRoom,
+    domains: &Hierarchy,
+    layout: Layout,
+    armed: &[LineNo],
+    maker: &M,
+    handlers: &Callbacks<H>,
     out: &mut O,
 ) -> PlayedBoard
-    requires played { IsPlayedSleeper board.now sleeper PlayEnd.Done }
-    requires room { HasRoom (length board.now.lines) room }
-    ensures printing { IsTrue (is_printing result.end) }
-    ensures plays { (b : BoardSeen) (armed : List LineNo)
-        → IsSleepOf b armed board.now sleeper.entry → SleepsBoard b armed result.reports.reports
-        (O.written out.old) (O.written out.new) result.end }
+    requires { IsLaidOut board.now domains.now layout }
+    ensures plays { (b : BoardSeen) → IsLongerOf b armed.now board.now
+        → SleepsBoard b armed.now result.reports.reports (O.written out.old) (O.written out.new)
+        result.end }
     ensures emptied { result.end ≡ PlayedEnd.Done → O.kept out.new ≡ [] }
     ensures write_fault { Counts (O.faults out.old) (O.faults out.new) (is_write_fault result.end) }
+    ensures silent { is_printing result.end ≡ false → out.new ≡ out.old }
 {
-    board.is_board();
-    let written = write_sleep(board, &sleeper, out);
-    PlayedBoard {
-        end: PlayedEnd::from(written),
-        reports: hand_out(board, sleeper.into_system(), room),
+    let maker = OverDomains::of_board(maker, domains, board);
+    match play_sleep(alloc, board, layout, armed, &maker, handlers) {
+        Ok((play, room)) => report(board, play, room, out),
+        Err(NoMemory) => unplayed(alloc),
     }
 }
 
-/// The result if memory was refused before the play.
-fn unplayed(alloc: Global) -> PlayedBoard
-    ensures end { result.end ≡ PlayedEnd.NoMemory Wanted.Making }
-    ensures reports { result.reports.reports ≡ [] }
+/// Has the maker make the lines of the board with the system's driver, and plays the sleep. The
+/// only error is `NoMemory` for all but the steps of the play.
+fn play_sleep<'b, L: IrqLine, M: MakesLine<L>, H: Handler>(
+    alloc: Global,
+    board: &'b Board,
+    layout: Layout,
+    armed: &'b [LineNo],
+    maker: &M,
+    handlers: &Callbacks<H>,
+) -> Result<(SleepPlay<'b, L>, ReportRoom), NoMemory>
+    requires layout { layout ≡ layout_of board.now }
+    requires makes { MakesAll (M.makes maker.now) board.now (layout_of board.now) }
+    ensures board { IfOk result (λ p. p.0.sleeper.system.board ≡ board.now) }
+    ensures armed { IfOk result (λ p. p.0.sleeper.watch.armed ≡ armed.now) }
+    ensures room { IfOk result (λ p. HasRoom (length board.now.lines) p.1) }
 {
-    PlayedBoard {
-        end: PlayedEnd::NoMemory(Wanted::Making),
-        reports: Reports::new(alloc),
-    }
+    let room = ReportRoom::new(alloc, board)?;
+    let mut sleeper = Sleeper::new(alloc, board, layout, armed, maker)?;
+    let end = sleeper.play(board.picks(), handlers);
+    Ok((SleepPlay { sleeper, end }, room))
 }

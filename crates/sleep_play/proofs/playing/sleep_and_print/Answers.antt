@@ -1,25 +1,42 @@
-use Rattle.std.proofs.Common.{List, sym, ◌∙◌, subst}
-use Rattle.irq_base.specs.declared.entries.Actor.{Actor}
-use Rattle.irq_sleeper.specs.Steps.{IsSleep}
+use Rattle.std.proofs.Common.{refl, sym, subst}
+use Rattle.irq_io.specs.Faults.{Counts}
+use Rattle.irq_play.specs.Ends.{is_write_fault}
+use Rattle.irq_play.specs.declared.ending.PlayedEnd.{PlayedEnd}
+use Rattle.sleep_play.specs.Played.{SleepsBoard}
+use Rattle.sleep_play.proofs.Finished.{not_done}
 use Rattle.sleep_play.proofs.playing.sleep_and_print.Goals as goal
 
-pub report_sleep-requires-clause-played : goal.report_sleep-requires-clause-played
-report_sleep-requires-clause-played g c =
-    let new = c.in-Ok-new-2.ensures in
-    let play = c.play-end.ensures in
-    record {
-      board = play.stays.board ∙ new.board;
-      layout = play.stays.layout ∙ (new.layout ∙ (c.in-Ok.ensures.layout ∙ sym c.in-Ok-with_sleep.ensures.layout));
-      told = play.told;
-      sleep = subst (λ (picks : List Actor). IsSleep c.play-end.new.self picks c.play-end.result) c.picks.ensures play.sleep;
-    }
+pub returns-in-Ok-clause-plays : goal.returns-in-Ok-clause-plays
+returns-in-Ok-clause-plays g c = c.play_longer.ensures.plays c.args.board c.in-Ok.ensures.longer
 
-pub returns-clause-plays : goal.returns-clause-plays
-returns-clause-plays g c =
-    c.report_sleep.ensures.plays c.args.board c.args.armed.now
-    (record {
-      board = c.is_board.ensures.board;
-      fits = sym c.if-not-fits_sleep.ensures;
-      slept = c.in-Ok-with_sleep.ensures.board;
-      watched = c.play-end.ensures.stays.armed ∙ c.in-Ok-new-2.ensures.armed;
-    })
+pub returns-in-Ok-clause-emptied : goal.returns-in-Ok-clause-emptied
+returns-in-Ok-clause-emptied g c = c.play_longer.ensures.emptied
+
+pub returns-in-Ok-clause-write_fault : goal.returns-in-Ok-clause-write_fault
+returns-in-Ok-clause-write_fault g c = c.play_longer.ensures.write_fault
+
+pub returns-in-Ok-clause-silent : goal.returns-in-Ok-clause-silent
+returns-in-Ok-clause-silent g c = c.play_longer.ensures.silent
+
+pub play_longer-requires : goal.play_longer-requires
+play_longer-requires g c = c.in-Ok.ensures.laid
+
+pub returns-in-Err-NotForSleep-clause-refused : goal.returns-in-Err-NotForSleep-clause-refused
+returns-in-Err-NotForSleep-clause-refused g c = c.in-Err-NotForSleep.ensures.refused c.in-Err-NotForSleep.field-0-is
+
+pub returns-in-Err-NoMemory-clause-plays : goal.returns-in-Err-NoMemory-clause-plays
+returns-in-Err-NoMemory-clause-plays g c =
+    let told = g.O.Sink.written c.args.out.now in
+    subst (λ (e : PlayedEnd). SleepsBoard c.args.board c.args.armed.now c.unplayed.result.reports.reports told told e)
+    (sym c.unplayed.ensures.end) c.unplayed.ensures.reports
+
+pub returns-in-Err-NoMemory-clause-emptied : goal.returns-in-Err-NoMemory-clause-emptied
+returns-in-Err-NoMemory-clause-emptied g c = λ done. absurd (not_done c.unplayed.result.end c.unplayed.ensures.end done)
+
+pub returns-in-Err-NoMemory-clause-write_fault : goal.returns-in-Err-NoMemory-clause-write_fault
+returns-in-Err-NoMemory-clause-write_fault g c =
+    let faults = g.O.Sink.faults c.args.out.now in
+    subst (λ (e : PlayedEnd). Counts faults faults (is_write_fault e)) (sym c.unplayed.ensures.end) refl
+
+pub returns-in-Err-NoMemory-clause-silent : goal.returns-in-Err-NoMemory-clause-silent
+returns-in-Err-NoMemory-clause-silent g c = λ not. refl

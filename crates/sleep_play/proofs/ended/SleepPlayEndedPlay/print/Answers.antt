@@ -1,0 +1,28 @@
+use Rattle.std.proofs.Common.{All, List, sym, ap, ◌∙◌, subst}
+use Rattle.board_core.specs.declared.turns.PlayEnd.{PlayEnd}
+use Rattle.irq_pm.specs.SleepLog.{told}
+use Rattle.irq_pm.specs.declared.entries.SleepEntry.{SleepEntry}
+use Rattle.irq_io.specs.Whole.{WritesAll}
+use Rattle.irq_sleeper.specs.Seen.{log_of}
+use Rattle.irq_sleeper.specs.Steps.{IsSleep}
+use Rattle.play_report.specs.Rows.{HasRow}
+use Rattle.sleep_play.specs.Played.{SleepPlaySeen}
+use Rattle.sleep_play.specs.Rows.{log_text}
+use Rattle.sleep_play.proofs.Finished.{rows_done}
+use Rattle.sleep_play.proofs.ended.SleepPlayEndedPlay.print.Goals as goal
+
+pub new-requires : goal.new-requires
+new-requires g c =
+    let s = c.self.inside.sleeper in
+    subst (λ (log : List SleepEntry). All (HasRow told) log) (sym c.entries.ensures)
+    (rows_done s (subst (λ (end : PlayEnd). IsSleep s s.system.board.picks end)
+    (ap (λ (p : SleepPlaySeen). p.end) c.self.view_is ∙ c.requires) c.self.invariant.sleep))
+
+pub returns-clause-content : goal.returns-clause-content
+returns-clause-content g c =
+    let sink = g.O.Sink.written in
+    subst (λ (log : List SleepEntry). WritesAll (sink c.args.out.now) (sink c.print_rows.new.out) (log_text log) c.print_rows.result)
+    (c.new.ensures ∙ (c.entries.ensures ∙ ap (λ (p : SleepPlaySeen). log_of p.sleeper) c.self.view_is)) c.print_rows.ensures.content
+
+pub returns-clause-cause : goal.returns-clause-cause
+returns-clause-cause g c = c.print_rows.ensures.cause

@@ -1,0 +1,62 @@
+use Rattle.std.proofs.Common.{refl, sym, ◌∙◌, subst}
+use Rattle.irq_io.specs.Faults.{Counts}
+use Rattle.irq_play.specs.Ends.{is_write_fault}
+use Rattle.irq_play.specs.declared.ending.PlayedEnd.{PlayedEnd}
+use Rattle.sleep_play.specs.Played.{SleepsBoard}
+use Rattle.sleep_play.proofs.Finished.{answered, not_done}
+use Rattle.sleep_play.proofs.playing.play_laid.Goals as goal
+
+pub of_board-maker-requires-clause-domains : goal.of_board-maker-requires-clause-domains
+of_board-maker-requires-clause-domains g c = c.requires.domains
+
+pub of_board-maker-requires-clause-paths : goal.of_board-maker-requires-clause-paths
+of_board-maker-requires-clause-paths g c = c.requires.paths
+
+pub play_sleep-requires-clause-layout : goal.play_sleep-requires-clause-layout
+play_sleep-requires-clause-layout g c = c.requires.layout
+
+pub play_sleep-requires-clause-makes : goal.play_sleep-requires-clause-makes
+play_sleep-requires-clause-makes g c = c.of_board-maker.ensures.makes
+
+pub report-requires-clause-board : goal.report-requires-clause-board
+report-requires-clause-board g c = c.in-Ok.ensures.board
+
+pub report-requires-clause-room : goal.report-requires-clause-room
+report-requires-clause-room g c = c.in-Ok.ensures.room
+
+pub returns-in-Ok-clause-plays : goal.returns-in-Ok-clause-plays
+returns-in-Ok-clause-plays g c = λ b of.
+    let played = c.report.result in
+    answered b c.args.armed.now c.in-Ok.play.sleeper
+    (record {
+      longer = record { board = of.board; fits = of.fits; slept = c.in-Ok.ensures.board ∙ of.slept };
+      watched = c.in-Ok.ensures.armed;
+    })
+    c.args.board.now c.in-Ok.ensures.board played.reports.reports (g.O.Sink.written c.args.out.now)
+    (g.O.Sink.written c.report.new.out) played.end c.report.ensures.plays
+
+pub returns-in-Ok-clause-emptied : goal.returns-in-Ok-clause-emptied
+returns-in-Ok-clause-emptied g c = c.report.ensures.emptied
+
+pub returns-in-Ok-clause-write_fault : goal.returns-in-Ok-clause-write_fault
+returns-in-Ok-clause-write_fault g c = c.report.ensures.write_fault
+
+pub returns-in-Ok-clause-silent : goal.returns-in-Ok-clause-silent
+returns-in-Ok-clause-silent g c = c.report.ensures.silent
+
+pub returns-in-Err-clause-plays : goal.returns-in-Err-clause-plays
+returns-in-Err-clause-plays g c = λ b of.
+    let told = g.O.Sink.written c.args.out.now in
+    subst (λ (e : PlayedEnd). SleepsBoard b c.args.armed.now c.unplayed.result.reports.reports told told e)
+    (sym c.unplayed.ensures.end) c.unplayed.ensures.reports
+
+pub returns-in-Err-clause-emptied : goal.returns-in-Err-clause-emptied
+returns-in-Err-clause-emptied g c = λ done. absurd (not_done c.unplayed.result.end c.unplayed.ensures.end done)
+
+pub returns-in-Err-clause-write_fault : goal.returns-in-Err-clause-write_fault
+returns-in-Err-clause-write_fault g c =
+    let faults = g.O.Sink.faults c.args.out.now in
+    subst (λ (e : PlayedEnd). Counts faults faults (is_write_fault e)) (sym c.unplayed.ensures.end) refl
+
+pub returns-in-Err-clause-silent : goal.returns-in-Err-clause-silent
+returns-in-Err-clause-silent g c = λ not. refl
