@@ -35,7 +35,7 @@ pub struct LineLog {
 /// If the text lacks a part, if the board doesn't have exactly one line, if something is larger
 /// than what can be judged, or if memory is refused.
 pub fn read_line_log(alloc: Global, text: &str) -> Result<LineLog> {
-    match parts_of(text) {
+    match parts_of(text, "---\n") {
         Some((head, rows)) => read_parts(alloc, head, rows),
         None => bail!("no row `---`"),
     }
@@ -57,9 +57,9 @@ fn entries_in(alloc: Global, board: &Board, rows: &str) -> Result<Vec<Entry>> {
     }
 }
 
-/// The text before the first row `---`, and the text after it.
-fn parts_of(text: &str) -> Option<(&str, &str)> {
-    text.split_once("---\n")
+/// The text before the first such row, and the text after it.
+fn parts_of<'a>(text: &'a str, row: &str) -> Option<(&'a str, &'a str)> {
+    text.split_once(row)
 }
 
 fn board_of(alloc: Global, text: &str) -> Result<Board> {
