@@ -8,6 +8,7 @@ use board_text::read_board;
 use irq_base::{Entry, LineDef, Logs, NoMemory};
 use log_read::read_log;
 use std::alloc::Global;
+use std::fmt;
 
 /// The most processors of a line that is judged.
 const MOST_CPUS: u32 = 32;
@@ -63,8 +64,13 @@ fn parts_of<'a>(text: &'a str, row: &str) -> Option<(&'a str, &'a str)> {
 }
 
 fn board_of(alloc: Global, text: &str) -> Result<Board> {
-    match read_board(alloc, text.as_bytes()) {
-        Ok(board) => Ok(board),
+    or_told(read_board(alloc, text.as_bytes()))
+}
+
+/// What was read, or an error with the text of the refusal.
+fn or_told<T, E: fmt::Display + Drop>(read: Result<T, E>) -> Result<T> {
+    match read {
+        Ok(value) => Ok(value),
         Err(refused) => bail!("{refused}"),
     }
 }
