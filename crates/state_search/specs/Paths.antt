@@ -44,10 +44,6 @@ module _ {L : Type 0} (can : L → List L → Type 0) where
     pub all : (l : L) → can l g → Contains labels l
     pub many : length labels ≡ n
 
-  -- after the path at the place, if there is one, some label may come
-  abbrev pub GoesOn : List (List L) → ℕ → Type 0
-  GoesOn paths k = (p : List L) → slice_get paths k ≡ Some p → (l : L) × can l p
-
   -- for each of the first paths, how many labels may come after it
   abbrev pub AreCounted : List (List L) → List ℕ → Type 0
   AreCounted paths counts = (k : ℕ) (p : List L) (n : ℕ) → slice_get paths k ≡ Some p
@@ -59,6 +55,12 @@ module _ {L : Type 0} (can : L → List L → Type 0) (node : List L → List �
     pub each : All (λ f. can f.0 g × (node (f.0 ∷ g) ≡ f.1)) found
     pub all : (l : L) → can l g → Contains (map (λ f. f.0) found) l
     pub once : IsEachOnce (map (λ f. f.0) found)
+
+  -- after the path at the place, if there is one, a label may come that leads to a state to which
+  -- none of the paths leads
+  abbrev pub LeavesOut : List (List L) → ℕ → Type 0
+  LeavesOut paths k = (p : List L) → slice_get paths k ≡ Some p
+      → (l : L) × can l p × (Contains (map node paths) (node (l ∷ p)) → ⊥)
 
   -- a path of fewer than n labels leads to these numbers
   abbrev pub IsReached : ℕ → List ℕ → Type 0
