@@ -95,7 +95,8 @@ module _ {L : Type 0} (eq : L → L → Bool) (can : L → List L → Type 0) (n
         let out : Contains (map node (paths_of es')) (node (left.1 ∷ p)) → ⊥ = λ has.
         let k = contains_at (map node (paths_of es')) (node (left.1 ∷ p)) has in
         left.4 (k.0, ap (λ t. slice_get t k.0) grown.0.states ∙ (k.1 ∙ ap Some of.1)) in
-        (left.1, subst (λ t. can left.1 t × (Contains (map node (paths_of es')) (node (left.1 ∷ t)) → ⊥)) same (of.0, out))
+        let next = subst (λ t. can left.1 t × (Contains (map node (paths_of es')) (node (left.1 ∷ t)) → ⊥)) same (of.0, out) in
+        (left.1, next.0, next.1)
 
     one_more : length cs + 1 ≡ length (cs ++ length found ∷ [])
     one_more = sym (length_push cs (length found))

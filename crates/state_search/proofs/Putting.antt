@@ -5,7 +5,7 @@ use Rattle.std.proofs.lemmas.Bool.{cases_lt}
 use Rattle.std.proofs.lemmas.List.{map-append, append-nil}
 use Rattle.std.proofs.lemmas.Option.{none-some}
 use Rattle.state_search.specs.declared.states.Came.{Came}
-use Rattle.state_search.specs.Growing.{IsIn, IsPut, ArePut, LeavesOne}
+use Rattle.state_search.specs.Growing.{IsIn, IsPut, ArePut}
 use Rattle.state_search.specs.Paths.{IsEachOnce, states_of}
 use Rattle.state_search.proofs.Kept.{same_row}
 use Rattle.state_search.proofs.Places.{one_at, push_cases, at_old, at_seam}
@@ -89,14 +89,6 @@ module _ {L : Type 0} (from : ℕ) (found : List (L × List ℕ)) where
     put_next most new (inl a) = subst (ArePut from found (i + 1) old) (sym a.2) (put_known a.1)
     put_next most new (inr (inl a)) = absurd (true≢false a.0)
     put_next most new (inr (inr a)) = subst (ArePut from found (i + 1) old) (sym a.3) (put_new (record { from = from; label = l }) refl a.2)
-
-    -- it doesn't fit, and isn't there
-    pub put_left : (most : ℕ) (new : List (List ℕ × Option (Came L))) (fits : Bool) → fits ≡ false
-        → IsPut (record { from = from; label = l }) ws most mid new fits → LeavesOne found new
-    put_left most new fits no (inl a) = absurd (true≢false (sym a.0 ∙ no))
-    put_left most new fits no (inr (inl a)) =
-        (i, l, ws, here, λ is. a.2 (subst (λ (es : List (List ℕ × Option (Came L))). IsIn (states_of es) ws) a.3 is))
-    put_left most new fits no (inr (inr a)) = absurd (true≢false (sym a.0 ∙ no))
 
 -- how long the list is then
 module _ {L : Type 0} (came : Came L) (ws : List ℕ) (most : ℕ) (mid new : List (List ℕ × Option (Came L))) where
