@@ -67,8 +67,8 @@ module _ {L : Type 0} (can : L → List L → Type 0) (node : List L → List �
   IsReached n words = (g : List L) × IsPath can g × (node g ≡ words) × (length g < n)
 
   -- There is one path to each state, and no path to it is shorter. The first `looked` states were
-  -- looked at for what comes next, and the states that come next are there: these are all states, or
-  -- at least all with paths shorter than the cut; no path is more than one longer than the cut.
+  -- looked at for what comes next, and what comes next is there: they are all states, or at least
+  -- all with paths shorter than the cut; no path is more than one longer than the cut.
   pub record Searches (paths : List (List L)) (looked : ℕ) (cut : Option ℕ) : Type 0 where
     pub paths_are : All (IsPath can) paths
     pub apart : IsEachOnce (map node paths)
