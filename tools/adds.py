@@ -1,4 +1,5 @@
-"""The lists of docs/ADDING.md: which files name a variant of an enum, and so have to be looked at when one is added."""
+"""The lists of docs/ADDING.md: which files name a variant of an enum, or ask for one by a word of the definitions, and so have to
+be looked at when one is added."""
 
 import re
 
@@ -7,6 +8,8 @@ from repository import TOP, read_crates
 PAGE = TOP / "docs" / "ADDING.md"
 # What can be added, and the enum that gets a variant.
 LISTS = {"a flow": "FlowKind", "a driver's call": "Call", "a kind of entry": "Entry", "a kind of controller": "ControllerKind", "a command": "Command"}
+# Tests of single variants, by which files ask for them without naming any.
+TESTS = {"FlowKind": ["is_edge_flow", "is_level_flow", "is_eoi_flow"]}
 # Enums of which each variant is named wherever the program tells some of them apart.
 NAMED = ["Entry", "Call", "Actor"]
 
@@ -48,8 +51,10 @@ def head_of(file):
 
 
 def naming(enum):
-    """The files that name a variant of the enum, in the order of the crates: those of src/ and specs/, and those of proofs/."""
-    pattern = re.compile(rf"\b{enum}(?:::[A-Z]|\.TheVariants)|\benum {enum}\b")
+    """The files that name a variant of the enum, or a test of one, in the order of the crates: those of src/ and specs/, and
+    those of proofs/."""
+    words = "".join(rf"|\b{it}\b" for it in TESTS.get(enum, ()))
+    pattern = re.compile(rf"\b{enum}(?:::[A-Z]|\.TheVariants)|\benum {enum}\b{words}")
     found = [
         (crate, file)
         for crate in read_crates().values()

@@ -8,7 +8,7 @@ import re
 
 from repository import TOP, read_crates
 
-PAGES = ["docs/ARCHITECTURE.md", "docs/PROMISES.md"]
+PAGES = [f"docs/{it}.md" for it in ("ARCHITECTURE", "DEFINITIONS", "GLOSSARY", "PROMISES", "TOUR")]
 MARK = "\n<!-- the files that this page links, by tools/cited --links -->\n"
 HEAD = "| kernel | entry | definition | program | law |\n"
 LAWS = "crates/irq_laws/src/lib.rt"

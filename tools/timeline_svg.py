@@ -91,6 +91,9 @@ def lane_of(picture, actor, top, bars, rows):
         for begin, end, line, dev in bars.get(kind, ()):
             what = said_of(name, line, dev)
             picture.box(begin, end, top + inset, LANE - 2 * inset, COLOURS[name], f"{what}: rows {begin} to {end}")
+            # (the first handler begins a row behind the take, and covers what comes after)
+            if name == "flow" and 7 * len(str(line)) + 6 <= picture.step:
+                picture.text(picture.across(begin) + 4, top + 16, str(line), "#3730a3")
             if name == "handler" and (end - begin) * picture.step > 56:
                 picture.text(picture.across(begin) + 4, top + 17, f"device {dev}", "#ffffff")
             if name in OF_ALL_LINES and (end - begin) * picture.step > 7 * len(what):

@@ -7,4 +7,4 @@
 
 pub mod making;
 
-pub use making::MakesChainLine;
+pub use making::{MakesChainLine, wants_to_link};

@@ -1,11 +1,14 @@
 //! What makes lines over chains.
-ghost use Rattle.std.specs.Prelude.{◌≡◌, IfOk, Some, []};
+ghost use Rattle.std.specs.Prelude.{◌≡◌, IfOk, Option, Some, [], true};
+ghost use Rattle.irq_base.specs.declared.entries.Entry.{Entry};
+ghost use Rattle.line_core.specs.Room.{links_next};
 ghost use Rattle.board_lines.specs.Wirings.{wiring_at};
 ghost use Rattle.line_makers.specs.Chips.{HasChips};
 
 use domain_chain::Chain;
 use domain_hier::Hierarchy;
 use irq_base::{LineDef, NoMemory};
+use irq_line::IrqLine;
 use line_core::Line;
 use line_makers::MakesDomainLine;
 use std::alloc::Global;
@@ -33,3 +36,9 @@ impl MakesDomainLine for MakesChainLine {
         Line::new(alloc, def, domains.chain(virq))
     }
 }
+
+/// A step of such a line wants memory, though its history has room, only to link an action.
+pub fn wants_to_link()
+    ensures law { (due : Option Entry) → ⟦<Line<Chain> as IrqLine>⟧.may_want due
+        → links_next due ≡ true }
+{}

@@ -5,7 +5,7 @@ ghost use Rattle.irq_words.specs.Words.{Asks, AsksNothing};
 ghost use Rattle.irq_words.specs.declared.Command.{Command};
 ghost use Rattle.program_io.specs.Arguments.{IsNotText};
 ghost use Rattle.program_io.specs.ErrorRows.{Tells};
-ghost use Rattle.irq_top.specs.Commands.{Does, ReadsNothing};
+ghost use Rattle.irq_top.specs.Commands.{Does, ReadsNothing, TellsWanted};
 ghost use Rattle.irq_top.specs.Ending.{error_text, is_printed, is_printing, is_read_fault_end};
 ghost use Rattle.irq_top.specs.Ending.{is_write_fault_end};
 ghost use Rattle.irq_command.specs.Arguments.{FormReadsNothing, IsForm, IsNoForm};
@@ -47,6 +47,8 @@ where
     ensures does { (asked : Command) → IsForm args asked
         → Does asked (S.left src.old) (S.left src.new) result.reports.reports (O.written out.old)
         (O.written out.new) result.ending }
+    ensures wanted { (asked : Command) → IsForm args asked
+        → TellsWanted M.Line.may_want asked (S.left src.old) result.reports.reports result.ending }
     ensures read_fault { Counts (S.faults src.old) (S.faults src.new)
         (is_read_fault_end result.ending) }
 
@@ -90,6 +92,8 @@ where
     ensures does { (asked : Command) → Asks (map string_bytes words.now) asked
         → Does asked (S.left src.old) (S.left src.new) result.reports.reports (O.written out.old)
         (O.written out.new) result.ending }
+    ensures wanted { (asked : Command) → Asks (map string_bytes words.now) asked
+        → TellsWanted M.Line.may_want asked (S.left src.old) result.reports.reports result.ending }
     ensures read_fault { Counts (S.faults src.old) (S.faults src.new)
         (is_read_fault_end result.ending) }
     ensures emptied { is_printed result.ending ≡ true → O.kept out.new ≡ [] }

@@ -5,7 +5,7 @@ ghost use Rattle.irq_io.specs.Faults.{Counts};
 ghost use Rattle.irq_words.specs.declared.Command.{Command};
 ghost use Rattle.program_io.specs.Arguments.{IsNotText};
 ghost use Rattle.program_io.specs.ErrorRows.{Tells};
-ghost use Rattle.irq_top.specs.Commands.{Does};
+ghost use Rattle.irq_top.specs.Commands.{Does, TellsWanted};
 ghost use Rattle.irq_top.specs.Ending.{error_text, is_printed, is_printing, is_read_fault_end};
 ghost use Rattle.irq_top.specs.Ending.{is_write_fault_end, status_of};
 ghost use Rattle.irq_command.specs.Arguments.{FormReadsNothing, IsForm, IsNoForm};
@@ -73,6 +73,9 @@ where
         (λ out. Does asked (R.remaining input) (R.remaining result.input.reader)
         result.outcome.reports.reports (O.contents output)
         (writer_contents O.contents out.writer) result.outcome.ending) }
+    ensures wanted { (asked : Command) → IsForm args asked
+        → TellsWanted M.Line.may_want asked (R.remaining input) result.outcome.reports.reports
+        result.outcome.ending }
     ensures read_fault { Counts 0 result.input.faults (is_read_fault_end result.outcome.ending) }
 
     ensures emptied { is_printed result.outcome.ending ≡ true

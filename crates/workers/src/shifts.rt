@@ -58,6 +58,7 @@ pub fn run_shifts<
     ensures room { room_of_jobs jobs.new.jobs ≤ room_of_jobs jobs.old.jobs }
 {
     let mut size = jobs.size;
+    let mut pause = Pause { left: 0, next: 1 };
     loop {
         let used_up = AtomicU64::new(0);
         match jobs.one_shift(rt, lines, size, &used_up, gate, handlers) {
@@ -66,22 +67,57 @@ pub fn run_shifts<
             Left::Full { line, len } => return ShiftsEnd::Full { line, len },
             Left::NoMemory => return ShiftsEnd::NoMemory,
         }
-        let was_long = used_up.load(Ordering::SeqCst) > 0;
-        size = next_size(size, jobs.size, jobs.jobs.len(), was_long);
+        let all = jobs.jobs.len();
+        let paid = pays(used_up.load(Ordering::SeqCst), all.div_ceil(size.max(1)));
+        size = next_size(size, jobs.size, all, paid, pause.left > 0);
+        pause = next_pause(pause, paid);
     }
 }
 
+/// For how many shifts no more threads are tried.
+#[derive(Clone, Copy)]
+struct Pause {
+    /// So many are left.
+    left: u32,
+    /// So many come after the next shift that doesn't pay.
+    next: u32,
+}
+
+/// Whether so many threads are worth their cost in a shift, if so many of them used their part up:
+/// at least half did, and two. The others soon waited for steps of another thread.
+fn pays(used_up: u64, threads: usize) -> bool {
+    threads <= 1 || (used_up > 1 && used_up.saturating_mul(2) >= threads as u64)
+}
+
 /// How many jobs share a thread in the next shift, if `size` did in this one: at least `least`, and
-/// at most all. If no thread used its part up, each soon waited for steps of another one, and half
-/// as many threads lose less time so. Jobs that have a thread each keep it.
-fn next_size(size: usize, least: usize, all: usize, was_long: bool) -> usize {
+/// at most all. If this shift didn't pay, half as many threads lose less time. If it did, twice as
+/// many are tried, unless such tries pause. Jobs that have a thread each keep it.
+fn next_size(size: usize, least: usize, all: usize, paid: bool, pauses: bool) -> usize {
     if least <= 1 {
         return least;
     }
-    if was_long {
-        return (size / 2).max(least);
+    if !paid {
+        return size.saturating_mul(2).min(all);
     }
-    size.saturating_mul(2).min(all)
+    if pauses {
+        return size;
+    }
+    (size / 2).max(least)
+}
+
+/// After a shift that doesn't pay more threads are tried again only after a pause, and each pause is
+/// twice as long as the one before. So actors that wait for one another pay for few tries.
+fn next_pause(pause: Pause, paid: bool) -> Pause {
+    if paid {
+        return Pause {
+            left: pause.left.saturating_sub(1),
+            next: pause.next,
+        };
+    }
+    Pause {
+        left: pause.next,
+        next: pause.next.saturating_mul(2),
+    }
 }
 
 /// One shift: so many jobs each are worked on in a thread of their own, if it can be made.
