@@ -5,7 +5,7 @@ use Rattle.irq_base.specs.declared.lines.LineDef.{LineDef}
 use Rattle.irq_model.specs.Legal.{IsDue}
 use Rattle.line_words.specs.Node.{node}
 use Rattle.state_search.specs.Firsts.{AreFirsts}
-use Rattle.state_search.specs.Paths.{Searches, AreCounted, GoesOn}
+use Rattle.state_search.specs.Paths.{Searches, AreCounted, LeavesOut}
 use Rattle.state_search.specs.Seen.{SearchSeen, cut_of}
 use Rattle.line_survey.specs.Kept.{same_entry, IsOfLine}
 
@@ -16,16 +16,16 @@ module _ {E : Type 0} (def : LineDef) where
       → IfOk r (λ f. AreFirsts same_entry (IsDue def) f.paths (cut_of f) f.firsts)
       → IfOk r (λ f. length f.counts ≡ f.looked)
       → IfOk r (λ f. AreCounted (IsDue def) f.paths f.counts)
-      → IfOk r (λ f. GoesOn (IsDue def) f.paths f.looked)
+      → IfOk r (λ f. LeavesOut (IsDue def) (node def) f.paths f.looked)
       → IfOk r (λ f. length f.paths ≤ most)
       → IfOk r (IsOfLine def)
-  of_line (Ok f) most small searches states firsts counted counts goes_on few = record {
+  of_line (Ok f) most small searches states firsts counted counts left_out few = record {
     searches = searches;
     states = states;
     firsts = firsts;
     counted = counted;
     counts = counts;
-    goes_on = goes_on;
+    left_out = left_out;
     few = omega (arith, small, few);
   }
-  of_line (Err e) most small searches states firsts counted counts goes_on few = tt
+  of_line (Err e) most small searches states firsts counted counts left_out few = tt

@@ -24,7 +24,7 @@ use Rattle.line_wanted.specs.declared.wanted.Wanted.TheVariants as wants
 use Rattle.line_words.specs.Node.{node}
 use Rattle.play_laws.proofs.Rest.{rest_is_settled}
 use Rattle.state_search.proofs.Places.{all_at, one_at, same_some, contains_at, map_at, map_from, there}
-use Rattle.state_search.specs.Paths.{IsPath, IsBelow, IsCount, GoesOn}
+use Rattle.state_search.specs.Paths.{IsPath, IsBelow, IsCount, LeavesOut}
 use Rattle.state_search.specs.Seen.{SearchSeen, cut_of}
 use Rattle.line_survey.proofs.Lefts.{left_alike}
 use Rattle.line_survey.proofs.Lists.{taken, no_items}
@@ -188,14 +188,14 @@ module _ (def : LineDef) (valid : IsValid def) where
           let B : Option ℕ → Type 0 = λ o. IsBelow o (length h) in
           unknown h meets.0 (meets.1, meets.2) (subst B (sym whole) tt)
 
-      pub rest_not_within : (d : ℕ) → GoesOn (IsDue def) s.paths s.looked → cut_of s ≡ Some d → IsNotWithin def (wants.Rest left) (d - 1)
-      rest_not_within d goes_on cut h meets = by_cut (cut_cases h)
+      pub rest_not_within : (d : ℕ) → LeavesOut (IsDue def) (node def) s.paths s.looked → cut_of s ≡ Some d → IsNotWithin def (wants.Rest left) (d - 1)
+      rest_not_within d left_out cut h meets = by_cut (cut_cases h)
         where
           long_enough : (q : List Entry) → slice_get s.paths s.looked ≡ Some q → length q ≤ length h → (n : ℕ) → length h ≡ n → d - 1 < n
           long_enough q is long zero none =
               let empty : q ≡ [] = no_items q (omega (arith, long, none)) in
               let here : h ≡ [] = no_items h none in
-              let on = goes_on q is in
+              let on = left_out q is in
               absurd (settled_none h meets.1 on.0 (subst (IsDue def on.0) (empty ∙ sym here) on.1))
           long_enough q is long (suc n) many = let same
               : length q ≡ d = same_some (length q) d (ap (option_map length) (sym is) ∙ cut) in

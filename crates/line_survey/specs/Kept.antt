@@ -7,7 +7,7 @@ use Rattle.irq_model.specs.Legal.{IsDue}
 use Rattle.irq_model.specs.Valid.{IsValid}
 use Rattle.line_words.specs.Node.{node, drivers_in}
 use Rattle.state_search.specs.Firsts.{AreFirsts}
-use Rattle.state_search.specs.Paths.{Searches, AreCounted, GoesOn}
+use Rattle.state_search.specs.Paths.{Searches, AreCounted, LeavesOut}
 use Rattle.state_search.specs.Seen.{SearchSeen, cut_of}
 use Rattle.line_survey.specs.declared.searching.LineSearch.TheInside.{Inside}
 
@@ -23,7 +23,7 @@ pub record IsOfLine (def : LineDef) (s : SearchSeen Entry) : Type 0 where
   pub firsts : AreFirsts same_entry (IsDue def) s.paths (cut_of s) s.firsts
   pub counted : length s.counts ≡ s.looked
   pub counts : AreCounted (IsDue def) s.paths s.counts
-  pub goes_on : GoesOn (IsDue def) s.paths s.looked
+  pub left_out : LeavesOut (IsDue def) (node def) s.paths s.looked
   pub few : length s.paths ≤ 100000000
 
 pub record IsSearch (s : Inside) : Type 0 where

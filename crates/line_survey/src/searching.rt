@@ -6,7 +6,7 @@ ghost use Rattle.line_survey.specs.Answers.{IsAnswer};
 ghost use Rattle.line_survey.specs.Kept.{IsOfLine};
 ghost use Rattle.line_survey.specs.Seen.{depth_at};
 ghost use Rattle.line_words.specs.Node.{node};
-ghost use Rattle.state_search.specs.Paths.{Searches, AreCounted};
+ghost use Rattle.state_search.specs.Paths.{Searches, AreCounted, LeavesOut};
 ghost use Rattle.state_search.specs.Seen.{cut_of};
 
 use crate::answer::Answer;
@@ -68,6 +68,8 @@ impl LineSearch {
         ensures within { IfOk result (λ s. length s.searched.paths ≤ most) }
         ensures cut { IfOk result (λ s.
             IfSome (cut_of s.searched) (λ _. length s.searched.paths ≡ most)) }
+        ensures left_out { IfOk result (λ s.
+            LeavesOut (IsDue def.now) (node def.now) s.searched.paths s.searched.looked) }
     {
         let searched = search_states(alloc, def, most)?;
         let drivers = drivers_of(alloc, &def.calls)?;

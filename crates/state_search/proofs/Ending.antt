@@ -1,5 +1,5 @@
 -- What a search says at its end, from what held all the time.
-use Rattle.std.proofs.Common.{◌≡◌, ◌≤◌, ◌<◌, ◌+◌, ℕ, ◌⊎◌, inl, inr, Bool, true, Option, Some, None, List, map, length}
+use Rattle.std.proofs.Common.{◌≡◌, ◌≤◌, ◌<◌, ◌+◌, ℕ, ◌⊎◌, inl, inr, Bool, true, Option, Some, None, List, ◌∷◌, map, length}
 use Rattle.std.proofs.Common.{take, slice_get, refl, ap, sym, subst, ◌∙◌, arith}
 use Rattle.std.proofs.lemmas.Bool.{cases_lt}
 use Rattle.std.proofs.lemmas.Option.{slice_get_within}
@@ -80,6 +80,9 @@ module _ {L : Type 0} (can : L → List L → Type 0) (node : List L → List �
     short = u.short;
     near = u.near;
     within = u.within;
+    closed = λ k p l lt at c.
+        let next = u.closed k p lt at p l (u.paths_are k p at) refl c in
+        contains_from (map node ps) next.0 (node (l ∷ p)) (map_at node ps next.0 next.1 next.2 ∙ ap Some next.3);
     whole = λ none. whole none (cases_lt i (length ps));
     all = λ h path below.
         let m = looked h path below in

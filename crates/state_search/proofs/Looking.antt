@@ -1,12 +1,12 @@
 -- One state is looked at.
 use Rattle.std.proofs.Common.{◌≡◌, ◌≤◌, ◌<◌, ◌+◌, ℕ, suc, zero, Bool, Option, Some, List, [], ◌∷◌, ◌++◌, map, length}
-use Rattle.std.proofs.Common.{slice_get, refl, ap, sym, subst, ◌∙◌, arith}
+use Rattle.std.proofs.Common.{slice_get, Contains, refl, ap, sym, subst, ◌∙◌, arith}
 use Rattle.std.proofs.lemmas.List.{length_push}
 use Rattle.std.proofs.lemmas.Option.{slice_get_within, none-some}
 use Rattle.state_search.specs.declared.firsts.First.{First}
 use Rattle.state_search.specs.declared.states.Came.{Came}
-use Rattle.state_search.specs.Growing.{ArePut, AreNoted}
-use Rattle.state_search.specs.Paths.{IsPath, IsEachOnce, IsReached, AreSteps, GoesOn, AreCounted, paths_of, states_of}
+use Rattle.state_search.specs.Growing.{ArePut, AreNoted, LeavesOne}
+use Rattle.state_search.specs.Paths.{IsPath, IsEachOnce, IsReached, AreSteps, LeavesOut, AreCounted, paths_of, states_of}
 use Rattle.state_search.specs.Seen.{SearchSeen, search_seen}
 use Rattle.state_search.specs.Steps.{AreUnder, AreNotedUnder, IsUnder, IsStart}
 use Rattle.state_search.proofs.Closing.{close, close_noted}
@@ -87,12 +87,16 @@ module _ {L : Type 0} (eq : L → L → Bool) (can : L → List L → Type 0) (n
     pub look_cut : IsUnder eq can node (search_seen es' gs cs)
     look_cut = record { paths = grown.0.under; states = grown.0.states; firsts = grown.0.noted; counts = kept; counted = refl }
 
-    -- something comes after the state, if not all that was found fits
-    pub look_goes_on : 1 ≤ length found → GoesOn can (paths_of es') (length cs)
-    look_goes_on some q at =
-        let f = there found 0 (omega (arith, some)) in
+    -- a state that comes after it is left out, if not all that was found fits
+    pub look_leaves : LeavesOne found es' → LeavesOut can node (paths_of es') (length cs)
+    look_leaves left q at =
         let same : p ≡ q = one_at (paths_of es') i p q grown.1 at in
-        (f.0.0, subst (can f.0.0) same (of_p 0 f.0.0 f.0.1 f.1).0)
+        let of = of_p left.0 left.1 left.2 left.3 in
+        let out : Contains (map node (paths_of es')) (node (left.1 ∷ p)) → ⊥ = λ has.
+        let k = contains_at (map node (paths_of es')) (node (left.1 ∷ p)) has in
+        left.4 (k.0, ap (λ t. slice_get t k.0) grown.0.states ∙ (k.1 ∙ ap Some of.1)) in
+        let next = subst (λ t. can left.1 t × (Contains (map node (paths_of es')) (node (left.1 ∷ t)) → ⊥)) same (of.0, out) in
+        (left.1, next.0, next.1)
 
     one_more : length cs + 1 ≡ length (cs ++ length found ∷ [])
     one_more = sym (length_push cs (length found))
@@ -163,8 +167,8 @@ module _ {L : Type 0} (eq : L → L → Bool) (can : L → List L → Type 0) (n
       pub looks_cut : IsUnder eq can node (search_seen es' gs cs)
       looks_cut = look_cut cs es es' fs gs found n under next_path.0 next_path.1 steps_of d put
 
-      pub goes_on : 1 ≤ length found → GoesOn can (paths_of es') (length cs)
-      goes_on some = look_goes_on cs es es' fs gs found n under next_path.0 next_path.1 steps_of d put some
+      pub leaves_out : LeavesOne found es' → LeavesOut can node (paths_of es') (length cs)
+      leaves_out left = look_leaves cs es es' fs gs found n under next_path.0 next_path.1 steps_of d put left
 
       pub looks_whole : length found ≤ n → IsUnder eq can node (search_seen es' gs (cs ++ length found ∷ []))
       looks_whole le = look_whole cs es es' fs gs found n under next_path.0 next_path.1 steps_of d put le

@@ -1,5 +1,5 @@
 -- The states that one state leads to are added one by one.
-use Rattle.std.proofs.Common.{◌≡◌, ◌≤◌, ◌<◌, ◌+◌, ℕ, inl, inr, ◌⊎◌, true, false, true≢false, Option, Some, List, []}
+use Rattle.std.proofs.Common.{◌≡◌, ◌≤◌, ◌<◌, ◌+◌, ℕ, inl, inr, ◌⊎◌, Bool, true, false, true≢false, Option, Some, List, []}
 use Rattle.std.proofs.Common.{◌∷◌, ◌++◌, length, slice_get, refl, ap, sym, subst, ◌∙◌, arith, append_assoc}
 use Rattle.std.proofs.lemmas.Bool.{cases_lt}
 use Rattle.std.proofs.lemmas.List.{map-append, append-nil}
@@ -89,14 +89,6 @@ module _ {L : Type 0} (from : ℕ) (found : List (L × List ℕ)) where
     put_next most new (inl a) = subst (ArePut from found (i + 1) old) (sym a.2) (put_known a.1)
     put_next most new (inr (inl a)) = absurd (true≢false a.0)
     put_next most new (inr (inr a)) = subst (ArePut from found (i + 1) old) (sym a.3) (put_new (record { from = from; label = l }) refl a.2)
-
-    -- it doesn't fit
-    pub put_full : (most : ℕ) (new : List (List ℕ × Option (Came L)))
-        → IsPut (record { from = from; label = l }) ws most mid new false
-        → ArePut from found i old new × (length new ≡ most)
-    put_full most new (inl a) = absurd (true≢false (sym a.0))
-    put_full most new (inr (inl a)) = (subst (ArePut from found i old) (sym a.2) put, ap length a.2 ∙ a.1)
-    put_full most new (inr (inr a)) = absurd (true≢false (sym a.0))
 
 -- how long the list is then
 module _ {L : Type 0} (came : Came L) (ws : List ℕ) (most : ℕ) (mid new : List (List ℕ × Option (Came L))) where

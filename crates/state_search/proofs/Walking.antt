@@ -4,7 +4,7 @@ use Rattle.std.proofs.lemmas.Bool.{cases_lt}
 use Rattle.std.proofs.lemmas.Option.{slice_get-get_or, slice_get_within, slice_get_past}
 use Rattle.std.specs.Option.{option_map}
 use Rattle.state_search.specs.declared.states.Came.{Came}
-use Rattle.state_search.specs.Paths.{GoesOn, path_by, paths_of}
+use Rattle.state_search.specs.Paths.{LeavesOut, path_by, paths_of}
 use Rattle.state_search.specs.Seen.{SearchSeen, cut_of}
 use Rattle.state_search.proofs.Places.{one_at}
 use Rattle.state_search.proofs.Rooted.{paths_long}
@@ -28,8 +28,9 @@ module _ {L : Type 0} (es : List (List ℕ × Option (Came L))) where
   pub path_first : (k : ℕ) → slice_get (paths_of es) k ≡ Some (path_by (paths_of es) None) → path_to k ≡ []
   path_first k at = one_at (paths_of es) k (path_to k) [] (path_there k (slice_get_within (paths_of es) k [] at)) at
 
-pub goes_nowhere : {L : Type 0} (can : L → List L → Type 0) (s : SearchSeen L) → (s.looked < length s.paths → ⊥) → GoesOn can s.paths s.looked
-goes_nowhere can s closed p at = absurd (closed (slice_get_within s.paths s.looked p at))
+pub leaves_none : {L : Type 0} (can : L → List L → Type 0) (node : List L → List ℕ) (s : SearchSeen L) → (s.looked < length s.paths → ⊥)
+    → LeavesOut can node s.paths s.looked
+leaves_none can node s closed p at = absurd (closed (slice_get_within s.paths s.looked p at))
 
 -- nothing is cut once there is no state left
 pub cut_none : {L : Type 0} (s : SearchSeen L) → (s.looked < length s.paths → ⊥) → cut_of s ≡ None

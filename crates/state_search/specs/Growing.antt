@@ -21,9 +21,14 @@ module _ {L : Type 0} where
       → List (List ℕ × Option (Came L)) → Bool → Type 0
   IsPut came words most old new fits =
       ((fits ≡ true) × IsIn (states_of old) words × (new ≡ old))
-      ⊎ ((fits ≡ false) × (length old ≡ most) × (new ≡ old))
+      ⊎ ((fits ≡ false) × (length old ≡ most) × (IsIn (states_of old) words → ⊥) × (new ≡ old))
       ⊎ ((fits ≡ true) × (length old ≢ most) × (IsIn (states_of old) words → ⊥)
       × (new ≡ old ++ (words, Some came) ∷ []))
+
+  -- a label was found that leads to a state that isn't there
+  abbrev pub LeavesOne : List (L × List ℕ) → List (List ℕ × Option (Came L)) → Type 0
+  LeavesOne found es = (m : ℕ) × (l : L) × (words : List ℕ)
+      × (slice_get found m ≡ Some (l, words)) × (IsIn (states_of es) words → ⊥)
 
   -- the states of the first n labels found after the state at `from` are there, each once; nothing
   -- else was added

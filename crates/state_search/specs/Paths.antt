@@ -44,10 +44,6 @@ module _ {L : Type 0} (can : L → List L → Type 0) where
     pub all : (l : L) → can l g → Contains labels l
     pub many : length labels ≡ n
 
-  -- after the path at the place, if there is one, some label may come
-  abbrev pub GoesOn : List (List L) → ℕ → Type 0
-  GoesOn paths k = (p : List L) → slice_get paths k ≡ Some p → (l : L) × can l p
-
   -- for each of the first paths, how many labels may come after it
   abbrev pub AreCounted : List (List L) → List ℕ → Type 0
   AreCounted paths counts = (k : ℕ) (p : List L) (n : ℕ) → slice_get paths k ≡ Some p
@@ -60,13 +56,19 @@ module _ {L : Type 0} (can : L → List L → Type 0) (node : List L → List �
     pub all : (l : L) → can l g → Contains (map (λ f. f.0) found) l
     pub once : IsEachOnce (map (λ f. f.0) found)
 
+  -- after the path at the place, if there is one, a label may come that leads to a state to which
+  -- none of the paths leads
+  abbrev pub LeavesOut : List (List L) → ℕ → Type 0
+  LeavesOut paths k = (p : List L) → slice_get paths k ≡ Some p
+      → (l : L) × can l p × (Contains (map node paths) (node (l ∷ p)) → ⊥)
+
   -- a path of fewer than n labels leads to these numbers
   abbrev pub IsReached : ℕ → List ℕ → Type 0
   IsReached n words = (g : List L) × IsPath can g × (node g ≡ words) × (length g < n)
 
   -- There is one path to each state, and no path to it is shorter. The first `looked` states were
-  -- looked at for what comes next: all states, or at least all with paths shorter than the cut; no
-  -- path is more than one longer than the cut.
+  -- looked at for what comes next, and what comes next is there: they are all states, or at least
+  -- all with paths shorter than the cut; no path is more than one longer than the cut.
   pub record Searches (paths : List (List L)) (looked : ℕ) (cut : Option ℕ) : Type 0 where
     pub paths_are : All (IsPath can) paths
     pub apart : IsEachOnce (map node paths)
@@ -77,6 +79,8 @@ module _ {L : Type 0} (can : L → List L → Type 0) (node : List L → List �
     pub near : (k : ℕ) (p q : List L) → slice_get paths looked ≡ Some p
         → slice_get paths k ≡ Some q → length q ≤ length p + 1
     pub within : looked ≤ length paths
+    pub closed : (k : ℕ) (p : List L) (l : L) → k < looked → slice_get paths k ≡ Some p → can l p
+        → Contains (map node paths) (node (l ∷ p))
     pub whole : cut ≡ None → looked ≡ length paths
     pub all : (h : List L) → IsPath can h → IsBelow cut (length h)
         → Contains (map node (take looked paths)) (node h)

@@ -3,7 +3,7 @@ ghost use Rattle.std.specs.Prelude.{◌≡◌, ◌≤◌, ◌<◌, ℕ, ◌+◌,
 ghost use Rattle.std.specs.Prelude.{OnOk, IsTrue, ◌↔◌, length, reverse, slice_get, Some};
 ghost use Rattle.std.specs.Option.{option_map};
 ghost use Rattle.state_search.specs.Firsts.{IsNoted, IsNotedAt};
-ghost use Rattle.state_search.specs.Paths.{GoesOn};
+ghost use Rattle.state_search.specs.Paths.{LeavesOut};
 ghost use Rattle.state_search.specs.Seen.{cut_of};
 ghost use Rattle.state_search.specs.Steps.{IsUnder, IsStart};
 
@@ -170,8 +170,8 @@ impl<L: Copy> Searched<L> {
         ensures under { OnOk result (IsUnder L.eq (S.can space.old) (S.node space.old) self.new) }
         ensures on { IfOk result (λ whole. whole ≡ true → self.new.looked ≡ self.old.looked + 1) }
         ensures cut { IfOk result (λ whole. whole ≡ false → length self.new.paths ≡ most) }
-        ensures goes_on { IfOk result (λ whole. whole ≡ false
-            → GoesOn (S.can space.old) self.new.paths self.new.looked) }
+        ensures left_out { IfOk result (λ whole. whole ≡ false
+            → LeavesOut (S.can space.old) (S.node space.old) self.new.paths self.new.looked) }
     {
         let place = self.looked();
         found.clear();

@@ -1,7 +1,7 @@
 //! The search.
 ghost use Rattle.std.specs.Prelude.{◌≡◌, ◌≤◌, ℕ, IfOk, IfSome, OnOk, map, length};
 ghost use Rattle.state_search.specs.Firsts.{AreFirsts};
-ghost use Rattle.state_search.specs.Paths.{Searches, GoesOn, AreCounted};
+ghost use Rattle.state_search.specs.Paths.{Searches, LeavesOut, AreCounted};
 ghost use Rattle.state_search.specs.Seen.{cut_of};
 
 use crate::found::Found;
@@ -11,8 +11,8 @@ use irq_base::NoMemory;
 use std::alloc::Global;
 
 /// Searches the space, breadth first, for at most `most` states. If there are more, the search is
-/// cut: only the first `looked` states were looked at for what comes next, and something comes
-/// after the next one. The only error is `NoMemory`.
+/// cut: only the first `looked` states were looked at for what comes next, and after the next one
+/// comes a state that is left out. The only error is `NoMemory`.
 pub fn search<L: Copy + Eq, S: Space<L>>(
     alloc: Global,
     space: &mut S,
@@ -30,8 +30,8 @@ pub fn search<L: Copy + Eq, S: Space<L>>(
     ensures counts { IfOk result (λ found.
         AreCounted (S.can space.old) found.paths found.counts) }
     ensures within { IfOk result (λ found. length found.paths ≤ most) }
-    ensures goes_on { IfOk result (λ found.
-        GoesOn (S.can space.old) found.paths found.looked) }
+    ensures left_out { IfOk result (λ found.
+        LeavesOut (S.can space.old) (S.node space.old) found.paths found.looked) }
     ensures cut { IfOk result (λ found. IfSome (cut_of found) (λ _. length found.paths ≡ most)) }
 {
     let mut searched = Searched::start(alloc, space)?;

@@ -1,7 +1,7 @@
 //! The states that were found.
 ghost use Rattle.std.specs.Prelude.{◌≡◌, ◌<◌, ◌≤◌, ℕ, true, false, [], ◌∷◌, ◌++◌, ◌↔◌, IsTrue};
 ghost use Rattle.std.specs.Prelude.{IfSome, IfOk, OnOk, length, slice_get, Some};
-ghost use Rattle.state_search.specs.Growing.{IsIn, IsPut, ArePut};
+ghost use Rattle.state_search.specs.Growing.{IsIn, IsPut, ArePut, LeavesOne};
 ghost use Rattle.state_search.specs.Paths.{path_by, paths_of, states_of};
 
 use crate::found::Found;
@@ -139,7 +139,7 @@ impl<L: Copy> States<L> {
         ensures put { IfOk result (λ whole. (n : ℕ) × ArePut from found.now n self.old self.new
             × (whole ≡ true → length found.now ≤ n)) }
         ensures full { IfOk result (λ whole. whole ≡ false → length self.new ≡ most) }
-        ensures some { IfOk result (λ whole. whole ≡ false → 1 ≤ length found.now) }
+        ensures left { IfOk result (λ whole. whole ≡ false → LeavesOne found.now self.new) }
         ensures few { OnOk result (length self.new ≤ most) }
     {
         for i in 0..found.len() {

@@ -12,7 +12,7 @@ returns-clause-answered c =
     let there = def_at c.args.board.now c.args.place c.in_ok-defs.defs.items c.index.result.now c.in_ok-defs.ensures.defs c.requires.line c.index.ensures in
     let found = c.in_ok-search.ensures in
     let search : IsSearchOf c.args.states c.index.result.now c.in_ok-search.search =
-    record { of = found.def; searches = found.searches; within = found.within; cut = found.cut } in
+    record { of = found.def; searches = found.searches; within = found.within; cut = found.cut; left_out = found.left_out } in
     answered c.args.states c.args.board.now c.args.place placement.field-0-0 placement.field-0-1 placed c.index.result.now there
     c.in_ok-search.search search c.args.wanted c.shortest.result c.shortest.ensures
 

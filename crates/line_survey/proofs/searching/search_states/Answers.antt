@@ -8,4 +8,4 @@ pub returns-clause-line : goal.returns-clause-line
 returns-clause-line c =
     let e = c.search.ensures in
     subst (λ (d : LineDef). IfOk c.search.result (IsOfLine d)) c.in_ok-space.ensures
-    (of_line c.in_ok-space.space c.search.result c.args.most c.requires.most e.paths e.states e.firsts e.counted e.counts e.goes_on e.within)
+    (of_line c.in_ok-space.space c.search.result c.args.most c.requires.most e.paths e.states e.firsts e.counted e.counts e.left_out e.within)

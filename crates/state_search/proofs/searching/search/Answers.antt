@@ -1,9 +1,9 @@
 use Rattle.std.proofs.Common.{◌≡◌, ◌<◌, true≢false, IfSome, length, ap, sym, subst, ◌∙◌, arith}
-use Rattle.state_search.specs.Paths.{GoesOn, AreCounted}
+use Rattle.state_search.specs.Paths.{LeavesOut, AreCounted}
 use Rattle.state_search.specs.Steps.{IsUnder}
 use Rattle.state_search.proofs.Ending.{searches, firsts}
 use Rattle.state_search.proofs.Looking.{starts}
-use Rattle.state_search.proofs.Walking.{cut_none, goes_nowhere}
+use Rattle.state_search.proofs.Walking.{cut_none, leaves_none}
 use Rattle.state_search.proofs.searching.search.Goals as goal
 
 pub loop-alloc-init : goal.loop-alloc-init
@@ -35,10 +35,11 @@ returns-then-not-branch-clause-counts g c =
     let s = c.look.new.self in
     subst (λ t. AreCounted (g.S.Space.can t) s.paths s.counts) c.loop-alloc.invariant.same c.in_ok-look.ensures.under.counts
 
-pub returns-then-not-branch-clause-goes_on : goal.returns-then-not-branch-clause-goes_on
-returns-then-not-branch-clause-goes_on g c =
+pub returns-then-not-branch-clause-left_out : goal.returns-then-not-branch-clause-left_out
+returns-then-not-branch-clause-left_out g c =
     let s = c.look.new.self in
-    subst (λ t. GoesOn (g.S.Space.can t) s.paths s.looked) c.loop-alloc.invariant.same (c.in_ok-look.ensures.goes_on c.if-not-branch.true)
+    subst (λ t. LeavesOut (g.S.Space.can t) (g.S.Space.node t) s.paths s.looked) c.loop-alloc.invariant.same
+    (c.in_ok-look.ensures.left_out c.if-not-branch.true)
 
 pub returns-clause-counted : goal.returns-clause-counted
 returns-clause-counted g c = c.loop-alloc.invariant.under.counted
@@ -46,9 +47,9 @@ returns-clause-counted g c = c.loop-alloc.invariant.under.counted
 pub returns-clause-counts : goal.returns-clause-counts
 returns-clause-counts g c = c.loop-alloc.invariant.under.counts
 
-pub returns-clause-goes_on : goal.returns-clause-goes_on
-returns-clause-goes_on g c =
-    goes_nowhere (g.S.Space.can c.args.space.now) c.loop-alloc.searched
+pub returns-clause-left_out : goal.returns-clause-left_out
+returns-clause-left_out g c =
+    leaves_none (g.S.Space.can c.args.space.now) (g.S.Space.node c.args.space.now) c.loop-alloc.searched
     (λ lt. true≢false (sym (c.is_open.ensures.1 lt) ∙ c.loop-alloc-test.false))
 
 pub returns-clause-paths : goal.returns-clause-paths

@@ -24,7 +24,7 @@ returns-in_default c =
     elim c.match-cut.branch [
       | in-Some-cut w ↦
           let cut = sym c.cut.ensures ∙ w.in-Some-cut.is in
-          let within = rest_not_within v.def valid v.searched line left none w.in-Some-cut.cut line.goes_on cut in
+          let within = rest_not_within v.def valid v.searched line left none w.in-Some-cut.cut line.left_out cut in
           let told : Some (w.in-Some-cut.cut - 1) ≡ option_map (known_within (wants.Rest left)) (cut_of v.searched) =
           sym (ap (option_map (known_within (wants.Rest left))) cut) in
           let so : IsAnswer v (wants.Rest left) (answers.NotWithin (w.in-Some-cut.cut - 1)) = (within, told) in

@@ -2,7 +2,7 @@ use Rattle.std.proofs.Common.{◌≡◌, ◌<◌, ◌≤◌, [], ◌∷◌, ◌+
 use Rattle.state_search.specs.Paths.{paths_of}
 use Rattle.state_search.specs.Seen.{search_seen}
 use Rattle.state_search.specs.Steps.{IsUnder}
-use Rattle.state_search.proofs.Looking.{next_reached, looks_cut, looks_whole, goes_on}
+use Rattle.state_search.proofs.Looking.{next_reached, looks_cut, looks_whole, leaves_out}
 use Rattle.state_search.proofs.Walking.{paths_len}
 use Rattle.state_search.proofs.searched.Searched.look.Goals as goal
 
@@ -44,15 +44,15 @@ returns-then-not-branch-clause-under g c =
 pub returns-then-not-branch-clause-cut : goal.returns-then-not-branch-clause-cut
 returns-then-not-branch-clause-cut g c = λ h. paths_len c.put_all.new.self ∙ c.in_ok-put_all.ensures.full c.if-not-branch.true
 
-pub returns-then-not-branch-clause-goes_on : goal.returns-then-not-branch-clause-goes_on
-returns-then-not-branch-clause-goes_on g c = λ h.
+pub returns-then-not-branch-clause-left_out : goal.returns-then-not-branch-clause-left_out
+returns-then-not-branch-clause-left_out g c = λ h.
     let put = c.in_ok-put_all.ensures.put in
-    goes_on g.L.PartialEq.eq (g.S.Space.can c.args.space.now) (g.S.Space.node c.args.space.now) c.self.inside.counts.items
+    leaves_out g.L.PartialEq.eq (g.S.Space.can c.args.space.now) (g.S.Space.node c.args.space.now) c.self.inside.counts.items
     c.self.inside.states c.put_all.new.self c.self.inside.firsts.items
     c.note.new.firsts.items c.steps.new.found c.args.self.now c.self.view_is c.requires.under c.requires.open
     c.words.result.now c.looked-place.result (c.looked-place.ensures ∙ sym (ap (λ s. s.looked) c.self.view_is))
     c.words.ensures c.in_ok-steps.ensures.steps c.in_ok-note.ensures
-    put.0 put.1 (c.in_ok-put_all.ensures.some c.if-not-branch.true)
+    put.0 put.1 (c.in_ok-put_all.ensures.left c.if-not-branch.true)
 
 pub returns-clause-few : goal.returns-clause-few
 returns-clause-few g c = omega (arith, paths_len c.put_all.new.self, c.in_ok-put_all.ensures.few)
