@@ -70,6 +70,6 @@ cleared (e ∷ es) = (e.0, false) ∷ cleared es
 abbrev pub after_begin_round : ListSeen → ListSeen
 after_begin_round l = record l { begun = cleared l.begun; rounds = l.rounds + 1 }
 
--- the list of the same devices of which nothing was linked yet
+-- the list of the same devices, before any of them was linked
 abbrev pub unlinked : ListSeen → ListSeen
 unlinked l = record { actions = []; begun = cleared l.begun; rounds = 0 }

@@ -193,13 +193,6 @@ impl ActList {
         self.hint = 0;
     }
 
-    /// How many rounds have begun.
-    pub fn rounds(&self) -> u32
-        ensures { result ≡ self.now.list.rounds }
-    {
-        self.rounds
-    }
-
     /// The device's handler is called.
     #[inline(always)]
     pub fn begin(&mut self, dev: DevNo)

@@ -274,7 +274,7 @@ module _ (board : BoardSeen) (isb : IsBoard board) (lines : List LineSeen) (scri
     ]
   ]
 
-  -- a processor of which an entry is due is the board's
+  -- a processor for which an entry is due is the board's
   due_below : (c : CpuNo) (k : ℕ) (x : LineSeen) (e : Entry) → slice_get lines k ≡ Some x → next x.def x.entries (actors.Cpu c) ≡ Some e → c.0 < board.cpus
   due_below c k x e at due =
       let l = only_cpu c x.def (mover_listed x.def (reverse x.entries) (actors.Cpu c) e (valid k x at) (legal k x at) due) in

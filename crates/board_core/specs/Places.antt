@@ -58,8 +58,8 @@ SteppedAt old order k a (Err (refusals.Full len)) new longer =
     IsFullAt old k a len × (new ≡ old) × (longer ≡ order)
 SteppedAt old order k a (Err refusals.NoMemory) new longer = (new ≡ old) × (longer ≡ order)
 
--- The step on the line at place k was refused memory, where the order tells of that many moves. If
--- there was room for one more entry, the line may want memory for the entry that is due.
+-- The step on the line at place k was refused memory, after this many moves. If there was room for
+-- one more entry, the line may want memory for the entry that is due.
 pub record WantsAt (may_want : Option Entry → Type 0) (lines : List LineSeen) (moves k : ℕ)
     (a : Actor) : Type 0 where
   pub line : LineSeen

@@ -40,7 +40,7 @@ Ends s ends.Done = lowest_move s ≡ None
 Ends s (ends.Full line len) = IsFullFor s (lowest_move s) line len
 Ends s ends.NoMemory = IsSome (lowest_move s)
 
--- the lines after all these moves, of which the newest comes first
+-- the lines after all these moves; the list begins with the newest
 abbrev pub lines_after_all : List Move → List BoardLine → List BoardLine
 lines_after_all [] lines = lines
 lines_after_all (m ∷ g) lines = lines_after m (lines_after_all g lines)

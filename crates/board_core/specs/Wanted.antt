@@ -18,8 +18,8 @@ use Rattle.board_core.specs.declared.turns.Turn.{Turn}
 use Rattle.board_core.specs.declared.turns.Turn.TheVariants as turns
 
 -- A step of the actor on this line was refused memory. If there was room for one more entry, both
--- in the line's history, as `room` says, and in the log of that many moves, then the line may want
--- memory for the entry that is due of the actor there.
+-- in the line's history, as `room` says, and in the log, which has this many moves, then the line
+-- may want memory for the entry that is due of the actor there.
 pub record WantedMemory (may_want : Option Entry → Type 0) (room : LineNo → Type 0) (moves : ℕ)
     (on : Option BoardLine) (a : Actor) : Type 0 where
   pub line : BoardLine

@@ -20,7 +20,7 @@ abbrev pub IsReadToEnd : Option (List ℕ) → Option (List ℕ) → Type 0
 IsReadToEnd None left = Unit {0}
 IsReadToEnd (Some bytes) left = left ≡ Some []
 
--- what was asked of the board's lines was done, with at most so many states a line: all that take
+-- what was asked of the board's lines was done, with this limit of states a line: all that take
 -- part were surveyed, or one, or a row was looked for, or a play that comes to it
 abbrev pub ExploresWhat : ℕ → What → BoardSeen → Option (List ℕ) → Option (List ℕ) → ExploreEnd
     → Type 0

@@ -35,7 +35,7 @@ error_text (endings.Cut line states) =
     ++ codes "\n"
 error_text endings.NoPlay = codes "play: none was found\n"
 
--- the ending of an exploring of at most so many states a line
+-- the ending of an exploring with this limit of states a line
 abbrev pub ending_of : ℕ → ExploreEnd → Ending
 ending_of states ends.Done = endings.Done
 ending_of states ends.Never = endings.Never

@@ -157,7 +157,7 @@ fn entries_of(reports: &Reports, actor: Actor) -> u64 {
     found
 }
 
-/// Whether the actor made so many entries, and had a turn for each.
+/// Whether the actor made `entries` entries, and had a turn for each.
 fn has_made(reports: &Reports, actor: Actor, turns: &AtomicU64, entries: u64) -> bool {
     entries_of(reports, actor) == entries && turns.load(Ordering::SeqCst) >= entries
 }

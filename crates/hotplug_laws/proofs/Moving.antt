@@ -56,7 +56,7 @@ in_force pre m (e ∷ past) now = in_force (λ a. pre (e ∷ a)) m past now.1
 
 -- ---- calls that are moves
 
--- the mask after so many of the calls
+-- the mask after the first n of the calls
 abbrev mask_before : ℕ → ℕ → List Call → ℕ
 mask_before zero m cs = m
 mask_before (suc n) m [] = m
@@ -105,7 +105,7 @@ due_some : (cs : List Call) (c : Call) (n : ℕ) → first_due cs ≡ Some (c, n
 due_some [] c n is = absurd cc
 due_some (d ∷ ds) c n is = (ds, ap (λ x. x ∷ ds) (same_call d c 0 n is))
 
--- the call moves a line to one of so many processors
+-- the call moves a line to one of the machine's processors
 abbrev pub Fits : ℕ → Call → Type 0
 Fits cpus (calls.Affinity mask) = is_some (lowest_in cpus mask) ≡ true
 Fits cpus _ = ⊥

@@ -53,8 +53,8 @@ HotplugHandsOut b vectors es moves (plays.Full line len) reports =
     HotplugFull b vectors es moves reports line len
 HotplugHandsOut b vectors es moves plays.NoMemory reports = HotplugCut b vectors es moves reports
 
--- What the play answers and prints, by how it ended, where each processor has so many vectors, and
--- these are the events. What was said of the lines is printed between the layout and the play.
+-- What the play of these events answers and prints, by how it ended; the number is that of each
+-- processor's vectors. What was said of the lines is printed between the layout and the play.
 abbrev pub HotplugsBoard : BoardSeen → ℕ → List Event → List LineReport → Option (List ℕ)
     → Option (List ℕ) → PlayedEnd → Type 0
 HotplugsBoard b vectors es = AnswersOfSome (hotplug_text b (fleet_after b vectors es).said)

@@ -60,8 +60,8 @@ const PRINTED: &[u8] = b"# irq 1 virq 1 intc:2
 2 d65535 affinity 2 now
 ";
 
-/// A notifier that counts how often it is called, and adds up of which lines and processors: a call
-/// is 1, a line's number counts hundreds, a processor's ten thousands.
+/// A notifier that counts how often it is called, and adds up the lines and processors that it is
+/// told of: a call is 1, a line's number counts hundreds, a processor's ten thousands.
 fn counting(alloc: Global, calls: Arc<AtomicU64>) -> Result<BoxedNotifier, AllocError> {
     let notifying = Box::new(
         alloc,

@@ -296,7 +296,7 @@ not_some : {A : Type 0} (o : Option A) → is_some o ≡ false → o ≡ None
 not_some None h = refl
 not_some (Some x) h = cc
 
--- none for a processor without a flow of which no take is due
+-- none for a processor without a flow and without a take that is due
 idle_cpu : (b : BoardSeen) (lines : List BoardLine) (c : CpuNo)
     → ((i : ℕ) (x : BoardLine) → slice_get lines i ≡ Some x
     → (is_cpu c (flow x.def x.past) ≡ false) × (is_some_take (next_past x.def x.past (actors.Cpu c)) ≡ false))

@@ -22,11 +22,11 @@ use Rattle.log_text.specs.Rows.{history_text}
 use Rattle.state_search.specs.Seen.{cut_of}
 use Rattle.irq_explore.specs.Searched.{IsSearchOf}
 
--- by a search through at most so many states of the line
+-- by a search through at most `states` states of the line
 module _ (states : ℕ) where
   -- the answer for a line: a shortest history as wanted, its oldest entry first; or that there is
-  -- none; or that there is none of at most so many entries, all that a search knows that was cut
-  -- after so many states
+  -- none; or that there is none up to a length, all that a search knows that was cut after this
+  -- many states
   abbrev pub Says : LineDef → Wanted → Answer → Type 0
   Says def wanted (answers.Found es) = IsShortest def wanted (reverse es.items)
   Says def wanted answers.Never = IsNever def wanted
@@ -55,7 +55,7 @@ module _ (states : ℕ) where
       → AnsweredLine b row placement wanted answer
 
 -- what is printed: the rows of the log that was found; or that there is none; or that there is none
--- of at most so many entries
+-- up to a length
 abbrev pub answer_text : LineNo → Answer → List ℕ
 answer_text line (answers.Found es) = history_text line es.items
 answer_text line answers.Never = codes "never\n"

@@ -15,8 +15,8 @@ use Rattle.irq_explore.specs.declared.surveying.LineSurvey.{LineSurvey}
 use Rattle.irq_explore.specs.declared.exploring.ExploreEnd.{ExploreEnd}
 use Rattle.irq_explore.specs.declared.exploring.ExploreEnd.TheVariants as ends
 
--- the end with this answer: a log was found; or there is none; or there is none of at most so many
--- entries, and the line has further states
+-- the end with this answer: a log was found; or there is none; or there is none up to a length, and
+-- the line has further states
 abbrev pub end_of : LineNo → Answer → ExploreEnd
 end_of line (answers.Found es) = ends.Done
 end_of line answers.Never = ends.Never
@@ -37,7 +37,7 @@ EndsWith states b line wanted before now end =
     (answer : Answer) × (end ≡ end_of line answer)
     × SaysAnswer states b line wanted before now writes.Done answer
 
--- What is wanted of a line was looked for, through at most so many of its states. The answer is
+-- What is wanted of a line was looked for, through its states up to a limit. The answer is
 -- printed, or after a fault of the output a beginning of it; or the board lacks what the row names;
 -- or memory was refused.
 abbrev pub ExploresRow : ℕ → BoardSeen → LineNo → Wanted → Option (List ℕ) → Option (List ℕ)
@@ -53,8 +53,8 @@ abbrev pub end_by : Option LineNo → ExploreEnd
 end_by None = ends.Done
 end_by (Some line) = ends.Cut line
 
--- these are the surveys of the lines that are asked for, by searches through at most so many states
--- a line, and the output gained their text behind the layout
+-- These are the surveys of the lines that are asked for, each by a search through at most `states`
+-- states, and the output gained their text behind the layout.
 pub record SaysSurveys (b : BoardSeen) (states : ℕ) (asked : Option LineNo)
     (before now : Option (List ℕ)) (write : WriteEnd) (said : List LineSurvey) : Type 0 where
   pub there : has_asked b asked ≡ true

@@ -59,7 +59,7 @@ EndsPlay states b line wanted before now end =
     (answer : Answer) × (end ≡ end_of line answer)
     × SaysPlay states b line wanted before now writes.Done answer
 
--- What is wanted of a line was looked for, through at most so many of its states, and of a log that
+-- What is wanted of a line was looked for, through its states up to a limit, and of a log that
 -- was found a play. It is printed, or after a fault of the output a beginning of it; or no play was
 -- found; or the board lacks what the row names; or memory was refused.
 abbrev pub ExploresPlay : ℕ → BoardSeen → LineNo → Wanted → Option (List ℕ) → Option (List ℕ)

@@ -7,8 +7,8 @@ use Rattle.line_words.specs.Node.{node}
 use Rattle.state_search.specs.Paths.{LeavesOut, Searches}
 use Rattle.state_search.specs.Seen.{cut_of}
 
--- The search went through the states of the line's legal histories: all of them, of which there are
--- at most so many; or, if it was cut, as many as this. Then a state that comes after one of these
+-- The search went through the states of the line's legal histories: all of them, and there are at
+-- most `most`; or, if it was cut, `most` of them. Then a state that comes after one of these
 -- is left out, and none that is left out has a past shorter than the cut.
 pub record IsSearchOf (most : ℕ) (def : LineDef) (search : LineSearchSeen) : Type 0 where
   pub of : search.def ≡ def

@@ -16,7 +16,7 @@ use Rattle.survey_rows.specs.Texts.{HasRow, survey_text}
 use Rattle.irq_explore.specs.Searched.{IsSearchOf}
 use Rattle.irq_explore.specs.declared.surveying.LineSurvey.{LineSurvey}
 
--- the survey is of a search through at most so many states of the line
+-- the survey is of a search through at most `most` states of the line
 abbrev pub Surveys : ℕ → LineDef → Survey → Type 0
 Surveys most def v = (search : LineSearchSeen) × IsSearchOf most def search × IsSurvey search v
 

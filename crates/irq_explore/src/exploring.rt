@@ -47,7 +47,7 @@ pub enum ExploreEnd {
 }
 
 /// Looks for a shortest log of the board's line that is as wanted, through at most `states` states
-/// of the line, and prints it; or prints that there is none, or none of at most so many entries.
+/// of the line, and prints it; or prints that there is none, or none up to a length.
 pub fn explore_row<O: Sink>(
     alloc: Global,
     board: &Board,

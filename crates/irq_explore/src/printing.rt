@@ -32,7 +32,7 @@ fn print_log<O: Sink>(out: &mut O, line: LineNo, entries: &[Entry]) -> WriteEnd
     WriteEnd::Done
 }
 
-/// Prints that no log of at most so many entries is as wanted.
+/// Prints that no log of at most `n` entries is as wanted.
 fn print_not_within<O: Sink>(out: &mut O, n: u32) -> WriteEnd
     ensures content { WritesAll (O.written out.old) (O.written out.new)
         (codes "not within " ++ decimal n ++ codes "\n") result }

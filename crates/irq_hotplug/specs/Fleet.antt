@@ -66,7 +66,7 @@ berths_from (def ∷ defs) (place ∷ places) =
 abbrev pub berths_of : BoardSeen → List Berth
 berths_of b = berths_from (line_defs_of b) (layout_of b)
 
--- these lines, each of which is placed
+-- these lines, each placed
 abbrev pub placed_fleet : ℕ → List Bool → List Berth → FleetSeen
 placed_fleet vectors online berths =
     let found = all_found moving.All vectors online berths [] berths in

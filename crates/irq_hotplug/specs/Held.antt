@@ -4,7 +4,7 @@ use Rattle.vector_matrix.specs.Claims.{ClaimSeen, MatrixSeen, IsClaimOf, IsWhole
 use Rattle.vector_matrix.specs.Vectors.{is_in}
 use Rattle.vector_matrix.specs.declared.view.Vector.{Vector}
 
--- so many processors, so many vectors of each, and those that are held
+-- the number of processors, that of the vectors of each, and the vectors that are held
 pub record HeldSeen : Type 0 where
   pub cpus : ℕ
   pub vectors : ℕ

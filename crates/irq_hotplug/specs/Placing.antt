@@ -15,7 +15,7 @@ lowest_free taken cpu (suc n) =
     else Some (vector_of (record { 0 = cpu }) n))
 
 -- the vector that the lowest of the processors below n gives that are asked and have one; each
--- processor has so many vectors
+-- processor has `vectors` vectors
 abbrev pub first_free : (Vector → Bool) → ℕ → (ℕ → Bool) → ℕ → Option Vector
 first_free taken vectors asked zero = None
 first_free taken vectors asked (suc n) =

@@ -32,8 +32,8 @@ pub enum Command {
     Gen { n: u32 },
     /// Read a board, and play it with all its lines behind one demultiplexer.
     Chained,
-    /// Read a board, give its lines vectors of processors, of which each has 1 to 64, take the
-    /// events, at most 64, and play the board with the moves that follow.
+    /// Read a board, give its lines vectors, of which each processor has `vectors` (1 to 64), take
+    /// the events, at most 64, and play the board with the moves that follow.
     Hotplug { vectors: u32, events: Few<Event> },
     /// Read a board, and play it with a sleep in it, in which interrupts of the armed lines wake
     /// the machine.

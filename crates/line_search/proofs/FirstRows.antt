@@ -1,4 +1,4 @@
--- The states of `boards/first.board`, worked out by hand: nineteen, of which two are reached on two
+-- The states of `boards/first.board`, worked out by hand: nineteen, two of them reached on two
 -- ways each, and twenty entries that are due in them.
 use Rattle.std.specs.Prelude.{◌≡◌, List, [], ◌∷◌, ℕ, ◌+◌, ◌==◌, ◌&&◌, not, Bool, refl, true, false, is_some, map}
 use Rattle.std.specs.List.{list_any}

@@ -30,7 +30,7 @@ abbrev pub all_steps : LineDef → List Entry → List Actor → List (Entry × 
 all_steps def past [] = []
 all_steps def past (a ∷ xs) = steps_of def past a ++ all_steps def past xs
 
--- ---- the actors of which something may be due
+-- ---- the actors for whom something may be due
 
 abbrev pub cpus_in : Option CpuNo → List Actor
 cpus_in None = []

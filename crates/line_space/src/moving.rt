@@ -106,7 +106,7 @@ fn push_drivers(actors: &mut Vec<Actor>, drivers: &[DriverNo]) -> Result<(), NoM
     Ok(())
 }
 
-/// Puts the actors of which something may be due in the state into the list, which is empty: the
+/// Puts the actors for whom something may be due in the state into the list, which is empty: the
 /// threads, the processor of the flow in progress, the one that takes, and the drivers. The only
 /// error is `NoMemory`.
 pub(crate) fn push_actors(

@@ -1,4 +1,4 @@
--- The target is one of the machine's processors, of which there are at most 32.
+-- The target is one of the machine's processors, and there are at most 32.
 use Rattle.std.proofs.Common.{◌≡◌, ℕ, ◌<◌, ◌≤◌, Some, sym, arith}
 use Rattle.irq_base.specs.declared.numbers.CpuNo.{CpuNo}
 use Rattle.irq_model.specs.Signal.{lowest_in}

@@ -24,7 +24,7 @@ abbrev pub unless_in_flow : StateSeen → Option CpuNo → Option CpuNo
 unless_in_flow s None = None
 unless_in_flow s (Some c) = if is_cpu c s.desc.flow then None else Some c
 
--- the processor of which a take is due: there is something to take, and the target isn't in the
+-- the processor for which a take is due: there is something to take, and the target isn't in the
 -- flow
 abbrev pub taker_of : StateSeen → Option CpuNo
 taker_of s =

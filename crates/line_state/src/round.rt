@@ -29,7 +29,7 @@ impl Model for Round {
 }
 
 impl Round {
-    /// The round of which that is so: the device whose handler is at work, whether some handler of
+    /// The round with these facts: the device whose handler is at work, whether some handler of
     /// it woke its thread, whether some handled the interrupt, and the greatest moment that was
     /// handed in.
     pub fn of(working: Option<DevNo>, wakes: bool, handles: bool, moment: u32) -> Round

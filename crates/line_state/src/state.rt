@@ -125,7 +125,7 @@ impl<C: Chip> LineState<C> {
         self.desc.flow()
     }
 
-    /// The one processor of which a take is due, if there is one: the line's target, if the line
+    /// The one processor for which a take is due, if there is one: the line's target, if the line
     /// signals or the software resends, unless the flow in progress is its own.
     pub fn taker(&self) -> Option<CpuNo>
         ensures { result ≡ taker_of self.now.state }

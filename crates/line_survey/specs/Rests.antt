@@ -22,7 +22,7 @@ abbrev pub MovesAt : LineDef → List (List Entry) → ℕ → Type 0
 MovesAt def paths k =
     (p : List Entry) → slice_get paths k ≡ Some p → IsSettled def (reverse p) → ⊥
 
--- it is the first place of which that holds
+-- it is the first such place
 pub record IsFirstAt (def : LineDef) (paths : List (List Entry)) (left : Left) (k : ℕ)
     : Type 0 where
   pub there : LeavesAt def paths left k

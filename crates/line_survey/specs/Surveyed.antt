@@ -18,7 +18,7 @@ use Rattle.line_survey.specs.declared.survey.EntryRow.{EntryRow}
 use Rattle.line_survey.specs.declared.survey.RestRow.{RestRow}
 use Rattle.line_survey.specs.declared.survey.Survey.{Survey}
 
--- so many of the items pass
+-- as many of the items pass as the number says
 abbrev pub AreSoMany : {X : Type 0} → (X → Type 0) → List X → ℕ → Type 0
 AreSoMany P [] n = n ≡ 0
 AreSoMany P (x ∷ xs) n =

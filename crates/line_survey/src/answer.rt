@@ -9,6 +9,6 @@ pub enum Answer {
     Found(Vec<Entry>),
     /// No legal history is as wanted.
     Never,
-    /// The search was cut, and no legal history of at most so many entries is as wanted.
+    /// The search was cut, and no legal history of at most this many entries is as wanted.
     NotWithin(u32),
 }

@@ -127,7 +127,7 @@ ask_in ws = record {
   met_by_thread = word_at ws 3;
 }
 
--- the row of each device is put; a row has that many numbers
+-- the row of each device is put; a row has `width` numbers
 abbrev pub put_rows : {R : Type 0} → (List ℕ → R) → ℕ → List DeviceDef → List ℕ → List (DevNo × R)
     → List (DevNo × R)
 put_rows row width [] ws t = t

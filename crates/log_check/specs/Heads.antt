@@ -1,4 +1,4 @@
--- The first row of a text, and its head: of which line it is, and who made its entry.
+-- The first row of a text, and its head: whose line it tells of, and who made its entry.
 use Rattle.std.specs.Prelude.{◌≡◌, ℕ, ◌+◌, ◌≤◌, ◌==◌, if◌then◌else◌, Option, Some, None, List}
 use Rattle.std.specs.Prelude.{◌∷◌, ◌++◌, decimal, length}
 use Rattle.board_def.specs.declared.rows.LineRow.{LineRow}

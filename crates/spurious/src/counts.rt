@@ -83,13 +83,6 @@ impl Counts {
         noted.note
     }
 
-    /// How many runs of threads have served.
-    pub fn threads_handled(&self) -> u32
-        ensures { result ≡ self.now.counts.threads_handled }
-    {
-        self.tally.threads_handled
-    }
-
     /// A thread has served (`irq_thread_fn`, `kernel/irq/manage.c`).
     pub fn thread_handled(&mut self)
         requires { self.old.counts.threads_handled < 2 ^ 32 - 1 }

@@ -33,7 +33,7 @@ no_flags = record { shared = false; oneshot = false; noauto = false }
 abbrev pub oneshot_flag : Flags
 oneshot_flag = record { shared = false; oneshot = true; noauto = false }
 
--- a domain with so many hardware numbers, over controllers of this kind
+-- a domain with `size` hardware numbers, over controllers of this kind
 abbrev pub domain : ℕ → ControllerKind → DomainRow
 domain size kind = record {
   name = name_of (codes "intc");

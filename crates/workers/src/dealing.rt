@@ -8,7 +8,7 @@ use std::thread::{self, Threads};
 /// So many jobs have a thread each. Of more, several share a thread.
 const APART: usize = 64;
 
-/// How many of so many jobs share a thread: up to 64 jobs have one each; more are dealt to as many
+/// How many of `jobs` jobs share a thread: up to 64 jobs have one each; more are dealt to as many
 /// threads as there are processors to run them.
 pub(crate) fn jobs_a_thread<R: Threads>(rt: &R, jobs: usize) -> usize
     ensures { 0 < result }
@@ -42,7 +42,7 @@ pub(crate) fn deal(alloc: Global, crew: &[Actor], size: usize) -> Result<Vec<Act
     Ok(dealt)
 }
 
-/// The thread to which the actor at index `i` of so many comes. The last thread may get fewer than
+/// The thread to which the actor at index `i` comes. The last thread may get fewer than
 /// the others; once it has all of its own, the others go on without it.
 fn hand_of(i: usize, crew: usize, size: usize) -> usize
     requires { 0 < size }

@@ -62,7 +62,7 @@ impl<L: IrqLine> SharedLines<L> {
         device.kind.has_thread() && self.place_of(device.line).is_some()
     }
 
-    /// The lines of which the actor has passes, as the index of the first and the index after the
+    /// The lines that the actor has passes of, as the index of the first and the index after the
     /// last: a thread has a pass of its device's line, a processor or a driver of each line.
     pub(crate) fn span_of(&self, actor: Actor) -> (usize, usize)
         requires { IsThere self.now actor }

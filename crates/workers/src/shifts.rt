@@ -83,8 +83,8 @@ struct Pause {
     next: u32,
 }
 
-/// Whether so many threads are worth their cost in a shift, if so many of them used their part up:
-/// at least half did, and two. The others soon waited for steps of another thread.
+/// Whether this many threads are worth their cost in a shift, if `used_up` of them used their part
+/// up: at least half did, and two. The others soon waited for steps of another thread.
 fn pays(used_up: u64, threads: usize) -> bool {
     threads <= 1 || (used_up > 1 && used_up.saturating_mul(2) >= threads as u64)
 }
@@ -120,7 +120,7 @@ fn next_pause(pause: Pause, paid: bool) -> Pause {
     }
 }
 
-/// One shift: so many jobs each are worked on in a thread of their own, if it can be made.
+/// One shift: each `size` jobs are worked on in a thread of their own, if it can be made.
 fn shift<R: Threads + Wait + Sync, L: IrqLine + Send + Sync, G: Gate + Sync, H: Handler + Sync>(
     rt: &R,
     board: &Board,
